@@ -1,0 +1,11 @@
+pub mod Pieces
+pub mod Fields
+pub mod Cutting
+pub mod Breaking
+pub mod Places
+pub mod Collecting
+pub mod Cuts
+pub mod Files
+pub mod Once
+pub mod Appending
+pub mod Written

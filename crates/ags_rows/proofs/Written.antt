@@ -1,0 +1,339 @@
+-- A file that is written is read as what was written.
+use Rattle.std.proofs.Common.{◌≡◌, ◌≢◌, ℕ, zero, suc, ◌+◌, ◌<◌, true, false, ltb, ◌&&◌, List, [], ◌∷◌, ◌++◌, length, map, flat_map, Option, Some, None, refl, sym, ap, subst, ◌∙◌, arith, inl, inr}
+use Rattle.std.specs.Prelude.{◌⊎◌, MatchOption, codes as bytes}
+use Rattle.std.specs.List.{AllByRecursion, list_all}
+use Rattle.std.proofs.lemmas.Bool.{cases_eq, eq-eqb, ne_eqb, and_parts, ltb-true}
+use Rattle.std.proofs.lemmas.List.{append-nil, length-append}
+use Rattle.std.proofs.lemmas.List.Elements.{All-from_recursion, All-contains}
+use Rattle.ags_rows.specs.declared.rows.Ending.TheVariants.{CrLf, Lf, Nothing}
+use Rattle.ags_rows.specs.declared.rows.Ending.{Ending}
+use Rattle.ags_rows.specs.declared.rows.Descriptor.{Descriptor}
+use Rattle.ags_rows.specs.declared.rows.Descriptor.TheVariants as kinds
+use Rattle.ags_rows.specs.declared.rows.FileRow.{FileRow}
+use Rattle.ags_rows.specs.declared.rows.Row.{Row}
+use Rattle.ags_rows.specs.declared.rows.Group.{Group}
+use Rattle.ags_rows.specs.declared.rows.Reading.TheVariants as readings
+use Rattle.ags_rows.specs.declared.codes.Code.{Code}
+use Rattle.ags_rows.specs.declared.codes.Finding.{Finding}
+use Rattle.ags_rows.specs.Bytes.{Lacks}
+use Rattle.ags_rows.specs.Spelling.{Spells, doubled, quoted, line_of}
+use Rattle.ags_rows.specs.Lines.{TextLine, AreLines, IsFirstLine, line_bytes, ending_bytes, after_mark}
+use Rattle.ags_rows.specs.Rows.{descriptor_text, IsRow, AreRowsFrom, may_follow, is_header, data_row, rows_of}
+use Rattle.ags_rows.specs.Order.{MayStandBehind}
+use Rattle.ags_rows.specs.Findings.{At, File, IsFile, LineBreaks, OutOfPlace, RowBreaks, StandsInOrder, FirstFound, phases, AreFindings, AreGroupsOf}
+use Rattle.ags_rows.specs.Contents.{Contents, contents_of, group_contents}
+use Rattle.ags_rows.specs.Writing.{written_row, group_lines, empty_line, written_lines, text_of, written_file, IsPlainByte, ArePlain, IsPlainGroup, IsWellFormed}
+use Rattle.ags_rows.proofs.Fields.{same_fields, line_spells}
+use Rattle.ags_rows.proofs.Breaking.{breaks_which, late_is_read, blank_no_row, rows_join}
+use Rattle.ags_rows.proofs.Places.{row_which}
+use Rattle.ags_rows.proofs.Once.{one_grouping}
+
+-- ---- a line
+
+pub line_is_read : (fields : List (List ℕ)) (found : Option (List (List ℕ))) → fields ≢ [] → AllByRecursion (λ f. Lacks 13 f × Lacks 10 f) fields
+    → MatchOption found ((others : List (List ℕ)) → Spells (line_of fields) others → ⊥) (λ others. Spells (line_of fields) others) → found ≡ Some fields
+line_is_read fields None ne h m = absurd (m fields (line_spells fields ne h))
+line_is_read fields (Some others) ne h m = ap Some (same_fields (line_of fields) others fields m (line_spells fields ne h))
+
+-- ---- lists whose elements have a property
+
+all_append : {X : Type 0} (P : X → Type 0) (a b : List X) → AllByRecursion P a → AllByRecursion P b → AllByRecursion P (a ++ b)
+all_append P [] b h k = k
+all_append P (x ∷ a) b h k = (h.0, all_append P a b h.1 k)
+
+all_weaker : {X : Type 0} {P Q : X → Type 0} → ((x : X) → P x → Q x) → (xs : List X) → AllByRecursion P xs → AllByRecursion Q xs
+all_weaker f [] h = tt
+all_weaker f (x ∷ xs) h = (f x h.0, all_weaker f xs h.1)
+
+all_at : {X : Type 0} (P : X → Type 0) (xs : List X) (k : ℕ) (x : X) → AllByRecursion P xs → At xs k x → P x
+all_at P [] k x h e = absurd cc
+all_at P (y ∷ xs) zero x h e = let z : y ≡ x = cc in subst P z h.0
+all_at P (y ∷ xs) (suc k) x h e = all_at P xs k x h.1 e
+
+-- ---- the bytes of a line
+
+doubled_all : (P : ℕ → Type 0) (f : List ℕ) → P 34 → AllByRecursion P f → AllByRecursion P (doubled f)
+doubled_all P [] q h = tt
+doubled_all P (b ∷ f) q h =
+    elim (cases_eq b 34) [
+      | inl e ↦ rw (eq-eqb b 34 e) (q, (q, doubled_all P f q h.1))
+      | inr ne ↦ rw (ne_eqb b 34 ne) (h.0, doubled_all P f q h.1)
+    ]
+
+quoted_all : (P : ℕ → Type 0) (f : List ℕ) → P 34 → AllByRecursion P f → AllByRecursion P (quoted f)
+quoted_all P f q h = (q, all_append P (doubled f) (34 ∷ []) (doubled_all P f q h) (q, tt))
+
+line_all : (P : ℕ → Type 0) (fields : List (List ℕ)) → P 34 → P 44 → AllByRecursion (λ f. AllByRecursion P f) fields → AllByRecursion P (line_of fields)
+line_all P [] q c h = tt
+line_all P (f ∷ []) q c h = quoted_all P f q h.0
+line_all P (f ∷ g ∷ fields) q c h = all_append P (quoted f) (44 ∷ line_of (g ∷ fields)) (quoted_all P f q h.0) (c, line_all P (g ∷ fields) q c h.1)
+
+plain_byte : (b : ℕ) → 13 < b → b < 128 → IsPlainByte b
+plain_byte b more less = record { ascii = less; no_return = λ e. omega (arith, e, more); no_feed = λ e. omega (arith, e, more) }
+
+plain_from : (t : List ℕ) → list_all (λ b. ltb 13 b && ltb b 128) t ≡ true → AllByRecursion IsPlainByte t
+plain_from [] e = tt
+plain_from (b ∷ t) e =
+    let p = and_parts (ltb 13 b && ltb b 128) (list_all (λ b. ltb 13 b && ltb b 128) t) e in
+    let q = and_parts (ltb 13 b) (ltb b 128) p.0 in
+    (plain_byte b (ltb-true 13 b q.0) (ltb-true b 128 q.1), plain_from t p.1)
+
+descriptor_plain : (k : Descriptor) → AllByRecursion IsPlainByte (descriptor_text k)
+descriptor_plain kinds.Group = plain_from (bytes "GROUP") refl
+descriptor_plain kinds.Heading = plain_from (bytes "HEADING") refl
+descriptor_plain kinds.Unit = plain_from (bytes "UNIT") refl
+descriptor_plain kinds.Type = plain_from (bytes "TYPE") refl
+descriptor_plain kinds.Data = plain_from (bytes "DATA") refl
+
+no_return : (t : List ℕ) → AllByRecursion IsPlainByte t → Lacks 13 t
+no_return t h = all_weaker (λ b p. p.no_return) t h
+
+no_feed : (t : List ℕ) → AllByRecursion IsPlainByte t → Lacks 10 t
+no_feed t h = all_weaker (λ b p. p.no_feed) t h
+
+-- ---- each line
+
+-- a line that breaks nothing
+pub record IsClean (line : TextLine) : Type 0 where
+  pub whole : line.ending ≡ CrLf
+  pub plain : AllByRecursion IsPlainByte line.content
+  pub kind : (line.content ≡ []) ⊎ ((row : FileRow) × IsRow line row)
+
+spelled : (k : Descriptor) (items : List (List ℕ)) → ArePlain items → Spells (line_of (descriptor_text k ∷ items)) (descriptor_text k ∷ items)
+spelled k items h = line_spells (descriptor_text k ∷ items) (λ e. absurd cc) (all_weaker (λ f p. (no_return f p, no_feed f p)) (descriptor_text k ∷ items) (descriptor_plain k, h))
+
+row_clean : (k : Descriptor) (items : List (List ℕ)) → ArePlain items → IsClean (written_row k items)
+row_clean k items h = record {
+  whole = refl;
+  plain = line_all IsPlainByte (descriptor_text k ∷ items) (plain_byte 34 (omega arith) (omega arith)) (plain_byte 44 (omega arith) (omega arith)) (descriptor_plain k, h);
+  kind = inr (record { line = 0; descriptor = k; items = items }, spelled k items h);
+}
+
+data_clean : (rows : List (List (List ℕ))) → AllByRecursion ArePlain rows → AllByRecursion IsClean (map (written_row kinds.Data) rows)
+data_clean [] h = tt
+data_clean (row ∷ rows) h = (row_clean kinds.Data row h.0, data_clean rows h.1)
+
+group_clean : (g : Contents) → IsPlainGroup g → AllByRecursion IsClean (group_lines g)
+group_clean g h =
+    (row_clean kinds.Group (g.name ∷ []) (h.name, tt), (row_clean kinds.Heading g.headings h.headings, (row_clean kinds.Unit g.units h.units, (row_clean kinds.Type g.types h.types, data_clean g.rows h.rows))))
+
+empty_clean : IsClean empty_line
+empty_clean = record { whole = refl; plain = tt; kind = inl refl }
+
+lines_clean : (gs : List Contents) → AllByRecursion IsPlainGroup gs → AllByRecursion IsClean (written_lines gs)
+lines_clean [] h = tt
+lines_clean (g ∷ []) h = group_clean g h.0
+lines_clean (g ∷ k ∷ gs) h = all_append IsClean (group_lines g) (empty_line ∷ written_lines (k ∷ gs)) (group_clean g h.0) (empty_clean, lines_clean (k ∷ gs) h.1)
+
+clean_breaks_none : (line : TextLine) → IsClean line → (code : Code) → LineBreaks line code → ⊥
+clean_breaks_none line c code h =
+    elim (breaks_which line code h) [
+      | inl e ↦
+          let q = subst (LineBreaks line) e h in
+          let p = All-contains IsPlainByte line.content q.1 (All-from_recursion IsPlainByte line.content c.plain) (q.0, q.2, q.3) in
+          omega (arith, p.ascii, q.4)
+      | inr (inl e) ↦ let z : Lf ≡ CrLf = sym (subst (LineBreaks line) e h) ∙ c.whole in absurd cc
+      | inr (inr late) ↦ elim c.kind [
+        | inl e ↦
+            let z : readings.Blank ≡ readings.Broken code = late_is_read line 0 readings.Blank code (subst (AllByRecursion (λ b. b ≡ 32)) (sym e) tt, no_return line.content c.plain) h late in
+            absurd cc
+        | inr k ↦ let z : readings.Row k.0 ≡ readings.Broken code = late_is_read line k.0.line (readings.Row k.0) code (k.1, refl) h late in absurd cc
+      ]
+    ]
+
+-- ---- the lines of the text
+
+line_first : (line : TextLine) (rest : List ℕ) → IsClean line → IsFirstLine (line_bytes line ++ rest) line rest
+line_first line rest c = record {
+  parts = refl;
+  whole = record {
+    one_feed = no_feed line.content c.plain;
+    whole_ending = λ e. let z : CrLf ≡ Lf = sym c.whole ∙ e in absurd cc;
+    not_empty = λ e.
+        let z : line.content ++ 13 ∷ 10 ∷ [] ≡ [] = subst (λ (x : Ending). line.content ++ ending_bytes x ≡ []) c.whole e in
+        omega (arith, ap length z, length-append line.content (13 ∷ 10 ∷ []));
+  };
+  last = λ e. let z : CrLf ≡ Nothing = sym c.whole ∙ e in absurd cc;
+}
+
+pub lines_written : (lines : List TextLine) → AllByRecursion IsClean lines → AreLines (text_of lines) lines
+lines_written [] h = refl
+lines_written (line ∷ lines) h = (text_of lines, line_first line (text_of lines) h.0, lines_written lines h.1)
+
+-- ---- the rows of the lines
+
+pub data_from : ℕ → List (List (List ℕ)) → List Row
+data_from n [] = []
+data_from n (cells ∷ rows) = record { line = n; cells = cells } ∷ data_from (n + 1) rows
+
+-- the group, where its first line has this number
+abbrev pub group_from : ℕ → Contents → Group
+group_from n g = record {
+  name = g.name;
+  line = n;
+  heading_line = n + 1;
+  headings = g.headings;
+  unit_line = n + 1 + 1;
+  units = g.units;
+  type_line = n + 1 + 1 + 1;
+  types = g.types;
+  rows = data_from (n + 1 + 1 + 1 + 1) g.rows;
+}
+
+pub groups_from : ℕ → List Contents → List Group
+groups_from n [] = []
+groups_from n (g ∷ gs) = group_from n g ∷ groups_from (n + length (group_lines g) + 1) gs
+
+data_rows : (n : ℕ) (rows : List (List (List ℕ))) → AllByRecursion ArePlain rows → AreRowsFrom n (map (written_row kinds.Data) rows) (map data_row (data_from n rows))
+unfolding data_from
+data_rows n [] h = refl
+data_rows n (row ∷ rows) h =
+    inl (record { line = n; descriptor = kinds.Data; items = row }, map data_row (data_from (n + 1) rows), refl, refl, spelled kinds.Data row h.0, data_rows (n + 1) rows h.1)
+
+group_rows : (n : ℕ) (g : Contents) → IsPlainGroup g → AreRowsFrom n (group_lines g) (rows_of (group_from n g))
+group_rows n g h =
+    inl (
+      _,
+      _,
+      refl,
+      refl,
+      spelled kinds.Group (g.name ∷ []) (h.name, tt),
+      inl (
+        _,
+        _,
+        refl,
+        refl,
+        spelled kinds.Heading g.headings h.headings,
+        inl (
+          _,
+          _,
+          refl,
+          refl,
+          spelled kinds.Unit g.units h.units,
+          inl (_, _, refl, refl, spelled kinds.Type g.types h.types, data_rows (n + 1 + 1 + 1 + 1) g.rows h.rows),
+        ),
+      ),
+    )
+
+pub rows_written : (n : ℕ) (gs : List Contents) → AllByRecursion IsPlainGroup gs → AreRowsFrom n (written_lines gs) (flat_map rows_of (groups_from n gs))
+unfolding groups_from
+rows_written n [] h = refl
+rows_written n (g ∷ []) h = subst (AreRowsFrom n (group_lines g)) (sym (append-nil (rows_of (group_from n g)))) (group_rows n g h.0)
+rows_written n (g ∷ k ∷ gs) h =
+    let next = n + length (group_lines g) in
+    let rest = flat_map rows_of (groups_from (next + 1) (k ∷ gs)) in
+    rows_join n (group_lines g) (empty_line ∷ written_lines (k ∷ gs)) (rows_of (group_from n g)) rest (group_rows n g h.0) (inr (blank_no_row empty_line tt, rows_written (next + 1) (k ∷ gs) h.1))
+
+-- ---- what stands in the groups
+
+data_contents : (n : ℕ) (rows : List (List (List ℕ))) → map (λ row. row.cells) (data_from n rows) ≡ rows
+unfolding data_from
+data_contents n [] = refl
+data_contents n (row ∷ rows) = ap (λ (z : List (List (List ℕ))). row ∷ z) (data_contents (n + 1) rows)
+
+pub contents_written : (n : ℕ) (gs : List Contents) → map group_contents (groups_from n gs) ≡ gs
+unfolding groups_from
+contents_written n [] = refl
+contents_written n (g ∷ gs) =
+    let rest = contents_written (n + length (group_lines g) + 1) gs in
+    ap (λ (z : List Contents). group_contents (group_from n g) ∷ z) rest
+    ∙ ap (λ (z : List (List (List ℕ))). record { name = g.name; headings = g.headings; units = g.units; types = g.types; rows = z } ∷ gs) (data_contents (n + 1 + 1 + 1 + 1) g.rows)
+
+-- ---- the order of the rows
+
+-- a group may end with such a row
+record MayEnd (d : Descriptor) : Type 0 where
+  header : is_header d ≡ false
+  more : may_follow d kinds.Data ≡ true
+  next : may_follow d kinds.Group ≡ true
+
+type_ends : MayEnd kinds.Type
+type_ends = record { header = refl; more = refl; next = refl }
+
+data_ends : MayEnd kinds.Data
+data_ends = record { header = refl; more = refl; next = refl }
+
+groups_behind : (gs : List Group) (d : Descriptor) → MayEnd d → (rows : List Row) → MayStandBehind d (map data_row rows ++ flat_map rows_of gs)
+groups_behind [] d m [] = m.header
+groups_behind (g ∷ gs) d m [] = (m.next, λ e. refl, (refl, λ e. absurd cc, (refl, λ e. absurd cc, (refl, λ e. absurd cc, groups_behind gs kinds.Type type_ends g.rows))))
+groups_behind gs d m (row ∷ rows) = (m.more, λ e. absurd cc, groups_behind gs kinds.Data data_ends rows)
+
+-- ---- rows in order break nothing
+
+follows : (d : Descriptor) (rows : List FileRow) → MayStandBehind d rows → (k : ℕ) (a b : FileRow) → At rows k a → At rows (suc k) b → may_follow a.descriptor b.descriptor ≡ true
+follows d [] m k a b p q = absurd cc
+follows d (x ∷ []) m zero a b p q = absurd cc
+follows d (x ∷ []) m (suc k) a b p q = absurd cc
+follows d (x ∷ y ∷ rows) m zero a b p q =
+    let e : x ≡ a = cc in
+    let f : y ≡ b = cc in
+    subst (λ (z : FileRow). may_follow z.descriptor b.descriptor ≡ true) e (subst (λ (z : FileRow). may_follow x.descriptor z.descriptor ≡ true) f m.2.0)
+follows d (x ∷ y ∷ rows) m (suc k) a b p q = follows x.descriptor (y ∷ rows) m.2 k a b p q
+
+ends_whole : (d : Descriptor) (rows : List FileRow) → MayStandBehind d rows → (k : ℕ) (a : FileRow) → At rows k a → k + 1 ≡ length rows → is_header a.descriptor ≡ false
+ends_whole d [] m k a p e = absurd cc
+ends_whole d (x ∷ []) m zero a p e = let z : x ≡ a = cc in subst (λ (r : FileRow). is_header r.descriptor ≡ false) z m.2
+ends_whole d (x ∷ []) m (suc k) a p e = absurd cc
+ends_whole d (x ∷ y ∷ rows) m zero a p e = absurd (omega (arith, e))
+ends_whole d (x ∷ y ∷ rows) m (suc k) a p e = ends_whole x.descriptor (y ∷ rows) m.2 k a p (omega (arith, e))
+
+named : (d : Descriptor) (rows : List FileRow) → MayStandBehind d rows → (k : ℕ) (a : FileRow) → At rows k a → a.descriptor ≡ kinds.Group → length a.items ≡ 1
+named d [] m k a p e = absurd cc
+named d (x ∷ rows) m zero a p e = let z : x ≡ a = cc in subst (λ (r : FileRow). r.descriptor ≡ kinds.Group → length r.items ≡ 1) z m.1 e
+named d (x ∷ rows) m (suc k) a p e = named x.descriptor rows m.2 k a p e
+
+place_clear : (x : FileRow) (rows : List FileRow) → x.descriptor ≡ kinds.Group → MayStandBehind kinds.Type (x ∷ rows) → (place : ℕ) (row : FileRow) → At (x ∷ rows) place row → OutOfPlace (x ∷ rows) place row → ⊥
+place_clear x rows first m place row at (inl h) =
+    let here : At (x ∷ rows) 0 row = subst (λ (k : ℕ). At (x ∷ rows) k row) h.0 at in
+    let z : x ≡ row = cc in
+    h.1 (subst (λ (r : FileRow). r.descriptor ≡ kinds.Group) z first)
+place_clear x rows first m place row at (inr (inl h)) =
+    let second : place ≡ suc h.1 = omega (arith, h.2) in
+    let here : At (x ∷ rows) (suc h.1) row = subst (λ (k : ℕ). At (x ∷ rows) k row) second at in
+    let z : true ≡ false = sym (follows kinds.Type (x ∷ rows) m h.1 h.0 row h.3 here) ∙ h.4 in cc
+place_clear x rows first m place row at (inr (inr h)) =
+    let z : true ≡ false = sym h.1 ∙ ends_whole kinds.Type (x ∷ rows) m place row at h.0 in cc
+
+order_clear : (x : FileRow) (rows : List FileRow) → x.descriptor ≡ kinds.Group → MayStandBehind kinds.Type (x ∷ rows) → (f : Finding) → StandsInOrder (x ∷ rows) f → ⊥
+order_clear x rows first m f (inl h) = let z : x ∷ rows ≡ [] = h.0 in cc
+order_clear x rows first m f (inr h) =
+    elim (row_which (x ∷ rows) h.0 h.1.0 f.code h.1.2) [
+      | inl e ↦ place_clear x rows first m h.0 h.1.0 h.1.1 (subst (RowBreaks (x ∷ rows) h.0 h.1.0) e h.1.2)
+      | inr e ↦ let q = subst (RowBreaks (x ∷ rows) h.0 h.1.0) e h.1.2 in q.1 (named kinds.Type (x ∷ rows) m h.0 h.1.0 h.1.1 q.0)
+    ]
+
+-- ---- the file
+
+no_mark : (gs : List Contents) → after_mark (written_file gs) ≡ written_file gs
+no_mark [] = refl
+no_mark (g ∷ []) = refl
+no_mark (g ∷ k ∷ gs) = refl
+
+abbrev file_of : List Contents → File
+file_of gs = record { lines = written_lines gs; rows = flat_map rows_of (groups_from 1 gs) }
+
+file_is : (gs : List Contents) → AllByRecursion IsPlainGroup gs → IsFile (written_file gs) (file_of gs)
+file_is gs h = record {
+  lines = subst (λ (t : List ℕ). AreLines t (written_lines gs)) (sym (no_mark gs)) (lines_written (written_lines gs) (lines_clean gs h));
+  rows = rows_written 1 gs h;
+}
+
+no_findings : (gs : List Contents) → IsWellFormed gs → FirstFound (phases (file_of gs)) []
+unfolding groups_from
+no_findings [] h = absurd (h.some refl)
+no_findings (g ∷ gs) h =
+    let all = lines_clean (g ∷ gs) h.plain in
+    let order = groups_behind (groups_from 1 (g ∷ gs)) kinds.Type type_ends [] in
+    inr (
+      λ f s. clean_breaks_none s.1 (all_at IsClean (written_lines (g ∷ gs)) s.0 s.1 all s.2) f.code s.3.0,
+      inr (order_clear _ _ refl order, refl),
+    )
+
+groups_are : (gs : List Contents) → IsWellFormed gs → AreGroupsOf (written_file gs) (groups_from 1 gs)
+groups_are gs h = ((file_of gs, file_is gs h.plain, no_findings gs h), file_of gs, file_is gs h.plain, refl)
+
+pub file_is_read : (gs : List Contents) → IsWellFormed gs → AreFindings (written_file gs) [] × ((groups : List Group) → AreGroupsOf (written_file gs) groups → contents_of groups ≡ gs)
+file_is_read gs h = (
+  (file_of gs, file_is gs h.plain, no_findings gs h),
+  λ groups is. ap (λ (l : List Group). contents_of l) (one_grouping (written_file gs) groups (groups_from 1 gs) is (groups_are gs h)) ∙ contents_written 1 gs,
+)

@@ -1,0 +1,15 @@
+pub mod Bytes
+pub mod Codes
+pub mod Text
+pub mod Lines
+pub mod Spelling
+pub mod Parsing
+pub mod Rows
+pub mod Order
+pub mod FindingOrder
+pub mod Names
+pub mod Contents
+pub mod Findings
+pub mod Collecting
+pub mod Writing
+pub mod Laws

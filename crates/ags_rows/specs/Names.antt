@@ -1,0 +1,37 @@
+-- The names that groups and headings may have (Rules 19 and 19a), and the groups that define.
+use Rattle.std.specs.Prelude.{ℕ, List, [], ◌∷◌, ◌==◌, length, nat_le, Bool, ◌&&◌, ◌||◌, codes}
+use Rattle.std.specs.List.{list_all, list_any}
+use Rattle.std.specs.Str.{bytes_eq}
+
+-- A to Z
+abbrev pub is_capital : ℕ → Bool
+is_capital b = nat_le 65 b && nat_le b 90
+
+-- 0 to 9
+abbrev pub is_digit : ℕ → Bool
+is_digit b = nat_le 48 b && nat_le b 57
+
+-- the low line
+abbrev pub low_line : ℕ
+low_line = 95
+
+abbrev pub is_group_letter : ℕ → Bool
+is_group_letter b = is_capital b || is_digit b
+
+abbrev pub is_heading_letter : ℕ → Bool
+is_heading_letter b = is_group_letter b || b == low_line
+
+-- Rule 19: 1 to 4 of A to Z and 0 to 9.
+abbrev pub is_group_name : List ℕ → Bool
+is_group_name name = (nat_le 1 (length name) && nat_le (length name) 4) && list_all is_group_letter name
+
+-- Rule 19a: 1 to 9 of A to Z, 0 to 9 and the low line.
+abbrev pub is_heading_name : List ℕ → Bool
+is_heading_name name = (nat_le 1 (length name) && nat_le (length name) 9) && list_all is_heading_letter name
+
+-- the groups that define what the others use
+abbrev pub definition_groups : List (List ℕ)
+definition_groups = codes "TRAN" ∷ codes "ABBR" ∷ codes "UNIT" ∷ codes "TYPE" ∷ codes "DICT" ∷ []
+
+abbrev pub is_definition : List ℕ → Bool
+is_definition group = list_any (bytes_eq group) definition_groups

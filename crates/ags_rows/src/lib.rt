@@ -1,0 +1,28 @@
+//! Lines, rows and groups of an AGS4 file.
+#![tactic(auto)]
+
+mod codes;
+mod contents;
+mod grouping;
+pub mod laws;
+mod names;
+mod ordering;
+mod rows;
+mod scanning;
+mod seen;
+mod spelling;
+#[cfg(test)]
+mod tests;
+mod writing;
+
+pub use codes::{Code, Finding};
+pub use contents::{copy, note, place_in, under};
+pub use names::{is_definition, is_group_name, is_heading_name};
+pub use rows::{Group, Row};
+pub use scanning::{RowsError, Scan};
+pub use seen::{Bytes, Cell, Sequence};
+pub use spelling::cells;
+pub use writing::{quote, write_group};
+
+/// The greatest length of a deposited file.
+pub const LIMIT: usize = 4_194_304;

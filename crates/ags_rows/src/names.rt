@@ -1,0 +1,61 @@
+//! Names of groups and headings.
+
+ghost use Rattle.std.specs.Prelude.{◌≡◌, ◌&&◌, nat_le, length};
+ghost use Rattle.std.specs.List.{list_all};
+ghost use Rattle.ags_rows.specs.Names.{is_group_letter, is_heading_letter, is_group_name, is_heading_name, is_definition};
+
+/// Whether a byte may stand in a group's name.
+fn is_group_letter(letter: u8) -> bool
+    ensures { result ≡ is_group_letter letter }
+{
+    letter.is_ascii_uppercase() || letter.is_ascii_digit()
+}
+
+/// Whether a byte may stand in a heading's name.
+fn is_heading_letter(letter: u8) -> bool
+    ensures { result ≡ is_heading_letter letter }
+{
+    is_group_letter(letter) || letter == b'_'
+}
+
+/// Whether each byte may stand in a group's name.
+fn has_group_letters(name: &[u8]) -> bool
+    ensures { result ≡ list_all is_group_letter name.now }
+{
+    name.iter().all(|letter| is_group_letter(*letter))
+}
+
+/// Whether each byte may stand in a heading's name.
+fn has_heading_letters(name: &[u8]) -> bool
+    ensures { result ≡ list_all is_heading_letter name.now }
+{
+    name.iter().all(|letter| is_heading_letter(*letter))
+}
+
+/// Whether a name has at least one byte and at most so many.
+fn is_within(name: &[u8], most: usize) -> bool
+    ensures { result ≡ (nat_le 1 (length name.now) && nat_le (length name.now) most) }
+{
+    1 <= name.len() && name.len() <= most
+}
+
+/// Whether a group may have this name: 1 to 4 of `A` to `Z` and `0` to `9` (Rule 19).
+pub fn is_group_name(name: &[u8]) -> bool
+    ensures { result ≡ is_group_name name.now }
+{
+    is_within(name, 4) && has_group_letters(name)
+}
+
+/// Whether a heading may have this name: 1 to 9 of `A` to `Z`, `0` to `9` and `_` (Rule 19a).
+pub fn is_heading_name(name: &[u8]) -> bool
+    ensures { result ≡ is_heading_name name.now }
+{
+    is_within(name, 9) && has_heading_letters(name)
+}
+
+/// Whether the group defines what the others use: TRAN, ABBR, UNIT, TYPE and DICT do.
+pub fn is_definition(group: &[u8]) -> bool
+    ensures { result ≡ is_definition group.now }
+{
+    matches!(group, b"TRAN" | b"ABBR" | b"UNIT" | b"TYPE" | b"DICT")
+}
