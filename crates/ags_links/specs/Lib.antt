@@ -1,3 +1,10 @@
+pub mod DataRows
+pub mod Keys
+pub mod Parents
+pub mod RecordLinks
+pub mod Steps
 pub mod Walks
 pub mod Turns
 pub mod Work
+pub mod KeyTexts
+pub mod Lookups

@@ -1,6 +1,5 @@
 -- Walks over numbered rows: what a row reaches, and which rows lead to permitted rows alone.
--- A row of an AGS4 file steps to its parent rows (Rule 10c), to the rows that its record links name (Rule 11)
--- and to the rows of FILE that it belongs to (Rule 20). What is said here holds of any steps, rings included.
+-- What is said here holds of any steps, rings included.
 use Rattle.std.specs.Prelude.{◌≡◌, ℕ, ◌<◌, List, [], ◌∷◌, Bool, true, false, Contains, slice_index_or, All}
 
 -- a graph as contracts see it: how many rows there are, and the steps as they were given

@@ -3,6 +3,7 @@
 
 mod closure;
 mod graph;
+mod lookup;
 #[cfg(test)]
 mod plain;
 #[cfg(test)]
