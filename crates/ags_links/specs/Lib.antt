@@ -8,3 +8,7 @@ pub mod Turns
 pub mod Work
 pub mod KeyTexts
 pub mod Lookups
+pub mod Placing
+pub mod Families
+pub mod Targets
+pub mod Indexing

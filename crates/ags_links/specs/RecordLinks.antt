@@ -5,13 +5,9 @@ use Rattle.std.specs.Str.{bytes_eq}
 use Rattle.ags_rows.specs.Contents.{Contents, under}
 use Rattle.ags_dict.specs.Entries.{Entries, plus}
 use Rattle.ags_dict.specs.Parts.{parts_at}
+use Rattle.ags_links.specs.declared.separators.Separators.{Separators}
 use Rattle.ags_links.specs.DataRows.{DataRow, entry_of, IsRow}
 use Rattle.ags_links.specs.Keys.{key_of}
-
--- what stands between the pieces of a part, and between the parts of a record link
-pub record Separators : Type 0 where
-  pub delimiter : ℕ
-  pub concatenator : ℕ
 
 -- `|`, which stands between pieces where TRAN does not say otherwise
 abbrev pub bar : ℕ

@@ -6,7 +6,8 @@ use Rattle.ags_rows.specs.Names.{is_definition}
 use Rattle.ags_dict.specs.Entries.{Entries}
 use Rattle.ags_links.specs.DataRows.{File, DataRow, entry_of, data_rows, Between}
 use Rattle.ags_links.specs.Parents.{IsParentRow}
-use Rattle.ags_links.specs.RecordLinks.{Separators, separators_of, IsLinkRow}
+use Rattle.ags_links.specs.RecordLinks.{separators_of, IsLinkRow}
+use Rattle.ags_links.specs.declared.separators.Separators.{Separators}
 
 -- a heading of type RL under which the row has an entry that is not null
 abbrev pub IsRecordLink : DataRow → List ℕ → Type 0

@@ -2,12 +2,19 @@
 #![tactic(auto)]
 
 mod closure;
+mod families;
 mod graph;
+mod index;
 mod lookup;
+mod placed;
 #[cfg(test)]
 mod plain;
+mod separators;
 #[cfg(test)]
 mod tests;
+mod texts;
 
 pub use closure::{reached, shown};
 pub use graph::Graph;
+pub use index::{Index, Targets};
+pub use separators::Separators;
