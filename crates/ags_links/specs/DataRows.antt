@@ -28,9 +28,13 @@ group_rows group = map (row_in group) group.rows
 abbrev pub data_rows : List Contents → List DataRow
 data_rows contents = flat_map group_rows contents
 
+-- x stands at this place of the list, counted from 0
+abbrev pub IsAt : {X : Type 0} → List X → ℕ → X → Type 0
+IsAt xs place x = (place < length xs) × (slice_index_or xs place x ≡ x)
+
 -- row n of these is r
 abbrev pub IsRow : List DataRow → ℕ → DataRow → Type 0
-IsRow rows n r = (n < length rows) × (slice_index_or rows n r ≡ r)
+IsRow rows n r = IsAt rows n r
 
 -- what stands in the row under a heading; null where the heading is absent
 abbrev pub entry_of : DataRow → List ℕ → List ℕ

@@ -1,11 +1,12 @@
 -- What the index keeps: which row has which text, and what it keeps for each group.
-use Rattle.std.specs.Prelude.{◌≡◌, ◌<◌, ℕ, List, ◌∷◌, Option, Some, None, map, filter, length, is_some, codes, slice_index_or}
-use Rattle.ags_rows.specs.Contents.{place_in}
+use Rattle.std.specs.Prelude.{◌≡◌, ℕ, List, ◌∷◌, Option, Some, None, Bool, map, filter, length, codes}
+use Rattle.std.specs.List.{list_any}
+use Rattle.std.specs.Str.{bytes_eq}
 use Rattle.ags_rows.specs.declared.rows.Group.{Group}
 use Rattle.ags_dict.specs.Entries.{Entries, keys_of, parent_of}
 use Rattle.ags_links.specs.declared.families.Family.{Family}
 use Rattle.ags_links.specs.declared.families.ParentLinks.{ParentLinks}
-use Rattle.ags_links.specs.DataRows.{DataRow, IsRow, entry_of}
+use Rattle.ags_links.specs.DataRows.{DataRow, IsAt, IsRow, entry_of}
 use Rattle.ags_links.specs.Keys.{key_of}
 use Rattle.ags_links.specs.KeyTexts.{key_text}
 use Rattle.ags_links.specs.Lookups.{Finds}
@@ -34,9 +35,13 @@ HasEntries headings r text = key_text (map (entry_of r) headings) ≡ text
 abbrev pub HasEntriesIn : List ℕ → List (List ℕ) → DataRow → List ℕ → Type 0
 HasEntriesIn group headings r text = (r.group ≡ group) × HasEntries headings r text
 
+-- the heading stands in a HEADING row
+abbrev pub has_heading : List (List ℕ) → List ℕ → Bool
+has_heading headings heading = list_any (λ h. bytes_eq h heading) headings
+
 -- the link headings of a group: the KEY headings of the parent group that stand in its HEADING row
 abbrev pub link_headings : Entries → List ℕ → List (List ℕ) → List (List ℕ)
-link_headings entries parent headings = filter (λ h. is_some (place_in headings h)) (keys_of entries parent)
+link_headings entries parent headings = filter (has_heading headings) (keys_of entries parent)
 
 -- the rows of the group's parent group are found by their entries under the link headings
 abbrev pub IsParentIndex : Entries → List DataRow → Group → Option ParentLinks → Type 0
@@ -54,5 +59,4 @@ pub record IsFamily (entries : Entries) (rows : List DataRow) (group : Group) (f
 -- what is kept for each group, in the order of the groups
 pub record AreFamilies (entries : Entries) (rows : List DataRow) (groups : List Group) (families : List Family) : Type 0 where
   pub each_has : length families ≡ length groups
-  pub each : (place : ℕ) (group : Group) (family : Family) → place < length groups
-      → IsFamily entries rows (slice_index_or groups place group) (slice_index_or families place family)
+  pub each : (place : ℕ) (group : Group) (family : Family) → IsAt groups place group → IsAt families place family → IsFamily entries rows group family

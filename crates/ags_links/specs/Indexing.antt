@@ -15,7 +15,7 @@ use Rattle.ags_links.specs.Lookups.{Finds}
 use Rattle.ags_links.specs.Parents.{IsParentRow}
 use Rattle.ags_links.specs.Placing.{IsPlaced, row_of}
 use Rattle.ags_links.specs.RecordLinks as links
-use Rattle.ags_links.specs.Steps.{IsFileRow}
+use Rattle.ags_links.specs.Steps.{IsFileRow, Linked, LinkStep, FileStep}
 use Rattle.ags_links.specs.Targets.{AreTargets}
 
 -- the index of these groups under these entries
@@ -47,6 +47,22 @@ IsFileRowAt file = Between (rows_in file) IsFileRow
 -- the part names row n
 abbrev pub NamesAt : File → List ℕ → ℕ → Type 0
 NamesAt file = links.NamesAt file.entries (links.separators_of file.contents) (rows_in file)
+
+-- some part of row n's entry under the heading names row m
+abbrev pub IsLinkAt : File → List ℕ → ℕ → ℕ → Type 0
+IsLinkAt file heading = Between (rows_in file) (links.IsLinkRow file.entries (links.separators_of file.contents) heading)
+
+-- one of row n's record links names row m
+abbrev pub IsLinkedAt : File → ℕ → ℕ → Type 0
+IsLinkedAt file = Between (rows_in file) (Linked file.entries (links.separators_of file.contents))
+
+-- row n has a step to row m by its record links, if it is in a data group
+abbrev pub IsLinkStepAt : File → ℕ → ℕ → Type 0
+IsLinkStepAt file = Between (rows_in file) (LinkStep file.entries (links.separators_of file.contents))
+
+-- row n has a step to row m, a row of FILE
+abbrev pub IsFileStepAt : File → ℕ → ℕ → Type 0
+IsFileStepAt file = Between (rows_in file) FileStep
 
 -- these are the targets of row n under the heading
 abbrev pub AreTargetsAt : File → ℕ → List ℕ → Targets → Type 0

@@ -12,3 +12,4 @@ pub mod Placing
 pub mod Families
 pub mod Targets
 pub mod Indexing
+pub mod Adding

@@ -13,10 +13,13 @@ use Rattle.ags_links.specs.declared.separators.Separators.{Separators}
 abbrev pub IsRecordLink : DataRow → List ℕ → Type 0
 IsRecordLink row heading = Contains row.headings heading × (under row.headings row.types heading ≡ codes "RL") × (entry_of row heading ≢ [])
 
--- r is in a data group, and one of its record links names s in some part
+-- one of r's record links names s in some part
+abbrev pub Linked : Entries → Separators → DataRow → DataRow → Type 0
+Linked entries separators r s = (heading : List ℕ) × IsRecordLink r heading × IsLinkRow entries separators heading r s
+
+-- r is in a data group, and one of its record links names s
 abbrev pub LinkStep : Entries → Separators → DataRow → DataRow → Type 0
-LinkStep entries separators r s = (is_definition r.group ≡ false)
-    × ((heading : List ℕ) × IsRecordLink r heading × IsLinkRow entries separators heading r s)
+LinkStep entries separators r s = (is_definition r.group ≡ false) × Linked entries separators r s
 
 -- s is a row of FILE with r's FILE_FSET, which is not null
 abbrev pub IsFileRow : DataRow → DataRow → Type 0

@@ -1,11 +1,10 @@
 //! What the index keeps for each group: its KEY headings, and the rows of its parent group by their link entries.
 
-ghost use Rattle.std.specs.Prelude.{◌≡◌, ◌<◌, ◌^◌, ℕ, List, Contains, IfOk, OnOk, All, length, map, filter, is_some, slice_index_or};
-ghost use Rattle.ags_rows.specs.Contents.{place_in};
+ghost use Rattle.std.specs.Prelude.{◌≡◌, ◌<◌, ◌^◌, Contains, IfOk, All, length, map, filter};
 ghost use Rattle.ags_rows.specs.declared.rows.Group.{Group};
 ghost use Rattle.ags_links.specs.DataRows.{DataRow, ListsRows};
 ghost use Rattle.ags_links.specs.Lookups.{Finds};
-ghost use Rattle.ags_links.specs.Families.{HasText, HasGroup, HasKeyText, HasFileSet, HasEntries, IsParentIndex, IsFamily, AreFamilies};
+ghost use Rattle.ags_links.specs.Families.{HasText, HasGroup, HasKeyText, HasFileSet, HasEntries, IsParentIndex, AreFamilies, has_heading};
 ghost use Rattle.std.specs.List.Sorted.{IsStrictlyIncreasing};
 ghost use Rattle.ags_links.specs.Placing.{IsPlaced, row_of};
 
@@ -13,7 +12,7 @@ use crate::lookup::{Lookup, add_row, no_rows, rows_with};
 use crate::placed::{PlacedRow, entry};
 use crate::texts::{entries_text, group_text};
 use ags_dict::Dictionary;
-use ags_rows::{Group, place_in};
+use ags_rows::Group;
 use std::alloc::{AllocError, Global};
 
 /// The link headings of a group, and the rows of its parent group by their entries under them.
@@ -85,17 +84,24 @@ pub(crate) fn rows_by_file_set(
     Ok(lookup)
 }
 
+/// Whether the heading stands in the group's HEADING row.
+fn has_heading(group: &Group<'_>, heading: &[u8]) -> bool
+    ensures { result ≡ has_heading group.now.headings heading.now }
+{
+    group.headings.as_slice().iter().any(|h| h.as_slice() == heading)
+}
+
 /// Those of the headings that stand in the group's HEADING row.
 fn headings_in<'d>(
     alloc: Global,
     group: &Group<'_>,
     headings: &[&'d [u8]],
 ) -> Result<Vec<&'d [u8]>, AllocError>
-    ensures { IfOk result (λ found. map (λ h. h.now) found.items ≡ filter (λ h. is_some (place_in group.now.headings h)) (map (λ h. h.now) headings.now)) }
+    ensures { IfOk result (λ found. map (λ h. h.now) found.items ≡ filter (has_heading group.now.headings) (map (λ h. h.now) headings.now)) }
 {
     let mut found = Vec::new(alloc);
     for heading in headings {
-        if place_in(group.headings.as_slice(), heading).is_some() {
+        if has_heading(group, heading) {
             found.push(*heading)?;
         }
     }

@@ -1,7 +1,10 @@
 //! Numbered rows and the steps between them.
 
-ghost use Rattle.std.specs.Prelude.{◌≡◌, ◌<◌, ◌↔◌, ◌^◌, IfSome, IsSome};
+ghost use Rattle.std.specs.Prelude.{◌≡◌, ◌<◌, ◌↔◌, ◌^◌, ◌++◌, IfOk, IfSome, IsSome, OnOk, length, map};
 
+use crate::index::Index;
+use crate::steps::targets;
+use std::alloc::{AllocError, Global};
 use std::marker::Model;
 
 /// Rows numbered from 0, and the steps between them: from a row to its parents, and to what its links name.
@@ -21,7 +24,19 @@ impl Model for Graph {
     ghost invariant = { λ g. InRange g.rows g.steps.items };
 }
 
+/// Adds a step from the row to each target.
+fn add_steps(steps: &mut Vec<(u32, u32)>, row: u32, targets: &[u32]) -> Result<(), AllocError>
+    ensures { OnOk result (steps.new.items ≡ steps.old.items ++ map (λ target. (row, target)) targets.now) }
+{
+    for target in targets {
+        steps.push((row, *target))?;
+    }
+    Ok(())
+}
+
 impl Graph {
+    ghost use Rattle.ags_links.specs.Indexing.{rows_in};
+    ghost use Rattle.ags_links.specs.Steps.{ListsSteps, StepAt};
     ghost use Rattle.ags_links.specs.Walks.{InRange};
 
     /// The rows below `rows` with these steps, each from its first row to its second; None where a number is
@@ -36,6 +51,19 @@ impl Graph {
             }
         }
         Some(Graph { rows, steps })
+    }
+
+    /// The rows of a file, and all steps between them, sorted, each once.
+    pub fn of(alloc: Global, index: &Index<'_>) -> Result<Graph, AllocError>
+        ensures rows { IfOk result (λ g. g.rows ≡ length (rows_in index.now)) }
+        ensures steps { IfOk result (λ g. ListsSteps g.steps (StepAt index.now)) }
+    {
+        let rows = index.row_count();
+        let mut steps = Vec::new(alloc);
+        for row in 0..rows {
+            add_steps(&mut steps, row, &targets(alloc, index, row)?)?;
+        }
+        Ok(Graph { rows, steps })
     }
 
     /// How many rows there are.

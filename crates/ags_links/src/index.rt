@@ -49,7 +49,7 @@ impl<'a> Model for Index<'a> {
 }
 
 /// The numbers rising, each once.
-fn each_once(numbers: Vec<u32>) -> Vec<u32>
+pub(crate) fn each_once(numbers: Vec<u32>) -> Vec<u32>
     ensures rising { IsStrictlyIncreasing result.items }
     ensures same { (n : ℕ) → Contains result.items n ↔ Contains numbers.items n }
 {
@@ -63,6 +63,8 @@ impl<'a> Index<'a> {
     ghost use Rattle.ags_dict.specs.Parts.{parts_at};
     ghost use Rattle.ags_links.specs.DataRows.{DataRow, data_rows, ListsRows, IsRow, entry_of};
     ghost use Rattle.ags_links.specs.RecordLinks.{separators_of};
+    ghost use Rattle.ags_links.specs.Families.{IsFamily};
+    ghost use Rattle.ags_links.specs.Placing.{row_of};
     ghost use Rattle.ags_links.specs.Indexing.{rows_in, IsParentAt, IsFirstOfKeyAt, IsFileRowAt, NamesAt, AreTargetsAt};
 
     /// The index of a file under its dictionary.
@@ -93,15 +95,32 @@ impl<'a> Index<'a> {
         })
     }
 
+    /// How many DATA rows the file has.
+    pub(crate) fn row_count(&self) -> u32
+        ensures { result ≡ length (rows_in self.now) }
+    {
+        self.rows.len() as u32
+    }
+
+    /// The row, and what is kept for its group.
+    pub(crate) fn kept(&self, row: u32) -> (&PlacedRow<'a>, &Family<'a>)
+        requires { row < length (rows_in self.now) }
+        ensures row { IsRow (rows_in self.now) row (row_of result.0.now) }
+        ensures family { IsFamily self.now.entries (rows_in self.now) result.0.now.group.now result.1.now }
+    {
+        let kept = &self.rows[row as usize];
+        (kept, &self.families[kept.place])
+    }
+
     /// The parent rows of a row (Rule 10c).
-    fn parent_rows(&self, row: u32) -> Result<&[u32], AllocError>
+    pub(crate) fn parent_rows(&self, row: u32) -> Result<&[u32], AllocError>
         requires { row < length (rows_in self.now) }
         ensures { IfOk result (λ rows. ListsRows rows.now (IsParentAt self.now row)) }
     {
-        let row = &self.rows[row as usize];
-        match &self.families[row.place].parent {
+        let (kept, family) = self.kept(row);
+        match &family.parent {
             Some(links) => {
-                let text = entries_text(self.alloc, row, &links.headings)?;
+                let text = entries_text(self.alloc, kept, &links.headings)?;
                 Ok(rows_with(&links.rows, &text))
             }
             None => Ok(&[]),
@@ -113,7 +132,8 @@ impl<'a> Index<'a> {
         requires { row < length (rows_in self.now) }
         ensures { IfOk result (λ rows. ListsRows rows.items (IsParentAt self.now row)) }
     {
-        Vec::from_slice(self.alloc, self.parent_rows(row)?)
+        let rows = self.parent_rows(row)?;
+        Vec::from_slice(self.alloc, rows)
     }
 
     /// Whether the row has a parent row (Rule 10c).
@@ -121,7 +141,8 @@ impl<'a> Index<'a> {
         requires { row < length (rows_in self.now) }
         ensures { IfOk result (λ has. IsTrue has ↔ ((m : ℕ) × IsParentAt self.now row m)) }
     {
-        Ok(!self.parent_rows(row)?.is_empty())
+        let rows = self.parent_rows(row)?;
+        Ok(!rows.is_empty())
     }
 
     /// The first row of the row's group with an equal key (Rule 10a).
@@ -129,8 +150,8 @@ impl<'a> Index<'a> {
         requires { row < length (rows_in self.now) }
         ensures { IfOk result (IsFirstOfKeyAt self.now row) }
     {
-        let row = &self.rows[row as usize];
-        let text = group_text(self.alloc, row, &self.families[row.place].keys)?;
+        let (kept, family) = self.kept(row);
+        let text = group_text(self.alloc, kept, &family.keys)?;
         Ok(rows_with(&self.by_key, &text)[0])
     }
 
@@ -139,7 +160,8 @@ impl<'a> Index<'a> {
         requires { row < length (rows_in self.now) }
         ensures { ListsRows result.now (IsFileRowAt self.now row) }
     {
-        let file_set = entry(&self.rows[row as usize], b"FILE_FSET");
+        let (kept, _) = self.kept(row);
+        let file_set = entry(kept, b"FILE_FSET");
         if file_set.is_empty() {
             return &[];
         }
@@ -167,8 +189,8 @@ impl<'a> Index<'a> {
         requires { row < length (rows_in self.now) }
         ensures { IfOk result (λ parts. (r : DataRow) → IsRow (rows_in self.now) row r → map (λ p. p.now) parts.items ≡ parts_at (separators_of self.now.contents).concatenator (entry_of r heading.now)) }
     {
-        let text = entry(&self.rows[row as usize], heading);
-        parts(self.alloc, self.separators.concatenator, text)
+        let (kept, _) = self.kept(row);
+        parts(self.alloc, self.separators.concatenator, entry(kept, heading))
     }
 
     /// What stands in the row under a heading, read as a record link (Rule 11): the rows that its parts name,

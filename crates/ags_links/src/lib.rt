@@ -10,6 +10,7 @@ mod placed;
 #[cfg(test)]
 mod plain;
 mod separators;
+mod steps;
 #[cfg(test)]
 mod tests;
 mod texts;
