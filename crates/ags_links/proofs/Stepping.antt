@@ -65,7 +65,7 @@ file_steps file n r old new rows row may lists e =
     adds_same old new (IsFileRowAt file n) (IsFileStepAt file n) (adds_listed old new rows (IsFileRowAt file n) e lists)
     (λ m h.
       let is : r ≡ h.0 = one_at (rows_in file) n r h.0 row h.2 in
-      (h.0, h.1, h.2, h.3, subst (λ (q : DataRow). is_definition q.group ≡ false) is data_group, subst (λ (q : DataRow). q.group ≡ codes "FILE" → ⊥) is other, h.4))
+      (h.0, h.1, h.2, h.3, (subst (λ (q : DataRow). is_definition q.group ≡ false) is data_group, subst (λ (q : DataRow). q.group ≡ codes "FILE" → ⊥) is other, h.4)))
     (λ m h. (h.0, h.1, h.2, h.3, h.4.2))
 
 pub no_file_steps : (file : File) (n : ℕ) (r : DataRow) (old : List ℕ) → IsRow (rows_in file) n r → may_have_files r.group ≡ false → AddsRows old old (IsFileStepAt file n)
