@@ -18,4 +18,4 @@ mod texts;
 pub use closure::{reached, shown};
 pub use graph::Graph;
 pub use index::{Index, Targets};
-pub use separators::Separators;
+pub use separators::{Separators, separators_in};
