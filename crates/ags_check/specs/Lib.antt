@@ -1,0 +1,3 @@
+pub mod Header
+pub mod Placing
+pub mod Phases
