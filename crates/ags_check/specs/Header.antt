@@ -1,7 +1,7 @@
 -- What the GROUP rows, HEADING rows and rules on single groups of AGS4 ask of a file: the fourth phase.
 -- No rule here knows a line: `file` is what the file holds, `given` are the entries of the dictionary
 -- handed in, `entries` those of it and of the file's DICT.
-use Rattle.std.specs.Prelude.{◌≡◌, ◌≢◌, ℕ, ◌<◌, List, ◌++◌, ◌∷◌, length, codes, true, false, Some, Contains}
+use Rattle.std.specs.Prelude.{◌≡◌, ◌≢◌, ℕ, ◌<◌, List, ◌++◌, ◌∷◌, length, codes, true, false, Option, Some, Contains}
 use Rattle.ags_rows.specs.Findings.{At}
 use Rattle.ags_rows.specs.Names.{low_line}
 use Rattle.ags_rows.specs.Contents.{Contents, place_in, under}
@@ -23,38 +23,38 @@ pub record LacksParentGroup (entries : Entries) (file : List Contents) (group : 
   pub is_parent : parent_of entries group.name ≡ Some parent
   pub absent : HasGroup file parent → ⊥
 
--- ---- of a HEADING row: the subject is a heading. Of a group without an entry none of these stands.
+-- ---- of a HEADING row, where the dictionary has an entry for the group: the subject is a heading
 
 -- Rules 9 and 18: the heading is not in the group's order.
 pub record IsUnknownHeading (entries : Entries) (group : Contents) (heading : List ℕ) : Type 0 where
-  pub known_group : has_group entries group.name ≡ true
   pub stands : Contains group.headings heading
   pub unknown : Contains (order_of entries group.name) heading → ⊥
 
--- Rule 7: an earlier heading of the row has a later place in the group's order.
-pub record IsMisplaced (entries : Entries) (group : Contents) (heading : List ℕ) : Type 0 where
-  pub known_group : has_group entries group.name ≡ true
-  pub place : ℕ
+-- an earlier name of the list ranks behind this one, the name at the place
+pub record IsOvertaken (rank : List ℕ → Option ℕ) (names : List (List ℕ)) (place : ℕ) (name : List ℕ) : Type 0 where
   pub earlier : ℕ
   pub other : List ℕ
-  pub stands : At group.headings place heading
-  pub other_stands : At group.headings earlier other
   pub before : earlier < place
-  pub rank : ℕ
+  pub other_stands : At names earlier other
+  pub this_rank : ℕ
   pub other_rank : ℕ
-  pub ranked : place_in (order_of entries group.name) heading ≡ Some rank
-  pub other_ranked : place_in (order_of entries group.name) other ≡ Some other_rank
-  pub behind : rank < other_rank
+  pub ranked : rank name ≡ Some this_rank
+  pub other_ranked : rank other ≡ Some other_rank
+  pub behind : this_rank < other_rank
+
+-- Rule 7: the heading is in the group's order, and an earlier heading of the row stands later in that order.
+pub record IsMisplaced (entries : Entries) (group : Contents) (heading : List ℕ) : Type 0 where
+  pub place : ℕ
+  pub stands : At group.headings place heading
+  pub overtaken : IsOvertaken (place_in (order_of entries group.name)) group.headings place heading
 
 -- Rule 10a: a KEY heading of the group is not in the row.
 pub record LacksKey (entries : Entries) (group : Contents) (heading : List ℕ) : Type 0 where
-  pub known_group : has_group entries group.name ≡ true
   pub key : Contains (keys_of entries group.name) heading
   pub absent : Contains group.headings heading → ⊥
 
 -- Rule 10b: a REQUIRED heading of the group is not in the row.
 pub record LacksRequired (entries : Entries) (group : Contents) (heading : List ℕ) : Type 0 where
-  pub known_group : has_group entries group.name ≡ true
   pub required : Contains (required_of entries group.name) heading
   pub absent : Contains group.headings heading → ⊥
 
@@ -65,7 +65,6 @@ pub record IsUserDefined (given entries : Entries) (group heading : List ℕ) : 
 
 -- Rule 19b: a user-defined heading that does not begin with the group's name and a low line, and that no other group has.
 pub record IsMisnamed (given entries : Entries) (group : Contents) (heading : List ℕ) : Type 0 where
-  pub known_group : has_group entries group.name ≡ true
   pub stands : Contains group.headings heading
   pub user_defined : IsUserDefined given entries group.name heading
   pub other_name : (rest : List ℕ) → heading ≢ group.name ++ low_line ∷ rest

@@ -1,3 +1,6 @@
 pub mod Header
+pub mod RowRules
 pub mod Placing
-pub mod Phases
+pub mod HeaderPhase
+pub mod RowPhase
+pub mod Places
