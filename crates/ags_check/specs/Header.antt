@@ -1,7 +1,7 @@
 -- What the GROUP rows, HEADING rows and rules on single groups of AGS4 ask of a file: the fourth phase.
 -- No rule here knows a line: `file` is what the file holds, `given` are the entries of the dictionary
 -- handed in, `entries` those of it and of the file's DICT.
-use Rattle.std.specs.Prelude.{◌≡◌, ◌≢◌, ℕ, ◌<◌, List, ◌++◌, ◌∷◌, length, codes, true, false, Option, Some, Contains}
+use Rattle.std.specs.Prelude.{◌≡◌, ℕ, ◌<◌, List, ◌++◌, ◌∷◌, length, codes, true, false, Option, Some, Contains}
 use Rattle.ags_rows.specs.Findings.{At}
 use Rattle.ags_rows.specs.Names.{low_line}
 use Rattle.ags_rows.specs.Contents.{Contents, place_in, under}
@@ -63,11 +63,15 @@ pub record IsUserDefined (given entries : Entries) (group heading : List ℕ) : 
   pub known : Contains (order_of entries group) heading
   pub own : Contains (order_of given group) heading → ⊥
 
+-- the heading begins with the group's name and a low line
+abbrev pub BeginsWithName : List ℕ → List ℕ → Type 0
+BeginsWithName group heading = (rest : List ℕ) × (heading ≡ group ++ low_line ∷ rest)
+
 -- Rule 19b: a user-defined heading that does not begin with the group's name and a low line, and that no other group has.
 pub record IsMisnamed (given entries : Entries) (group : Contents) (heading : List ℕ) : Type 0 where
   pub stands : Contains group.headings heading
   pub user_defined : IsUserDefined given entries group.name heading
-  pub other_name : (rest : List ℕ) → heading ≢ group.name ++ low_line ∷ rest
+  pub other_name : BeginsWithName group.name heading → ⊥
   pub nowhere_else : elsewhere entries group.name heading ≡ false
 
 -- ---- of a DATA row, by its place in the group

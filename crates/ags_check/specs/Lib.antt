@@ -1,4 +1,5 @@
 pub mod Header
+pub mod HeaderSteps
 pub mod RowRules
 pub mod Placing
 pub mod HeaderPhase

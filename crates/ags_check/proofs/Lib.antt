@@ -1,0 +1,4 @@
+pub mod FirstPlaces
+pub mod Naming
+pub mod Fronts
+pub mod Ranks

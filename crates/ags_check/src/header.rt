@@ -1,0 +1,3 @@
+//! The fourth phase: the groups of a file against its dictionary.
+
+pub mod headings;

@@ -1,0 +1,5 @@
+//! What an AGS4 file breaks of the rules, phase by phase.
+#![tactic(auto)]
+
+pub mod header;
+pub mod places;
