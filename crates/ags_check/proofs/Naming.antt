@@ -8,7 +8,7 @@ use Rattle.std.proofs.lemmas.Option.{slice_get-get_or, slice_get-map, slice_get_
 use Rattle.ags_rows.specs.declared.codes.Code.{Code}
 use Rattle.ags_rows.specs.declared.codes.Finding.{Finding}
 use Rattle.ags_rows.specs.declared.rows.Group.{Group}
-use Rattle.ags_rows.specs.Findings.{At, Adds}
+use Rattle.ags_rows.specs.Collecting.{At, Adds}
 use Rattle.ags_rows.specs.Collecting.{Notes, AmongBefore}
 use Rattle.ags_rows.proofs.Collecting.{adds_note, adds_same, among_more, among_all}
 use Rattle.ags_check.specs.Placing.{AtNames, AtHeading}
