@@ -1,5 +1,5 @@
 -- The groups of a file and their names.
-use Rattle.std.proofs.Common.{◌≡◌, ℕ, Bool, true, false, not, Option, Some, None, List, [], ◌∷◌, length, get_or, map, refl, sym, ap, subst, ◌∙◌, inl, inr}
+use Rattle.std.proofs.Common.{◌≡◌, ℕ, Bool, true, false, not, Option, Some, None, List, [], ◌∷◌, map, refl, sym, ap, subst, ◌∙◌, inl, inr}
 use Rattle.std.specs.Prelude.{◌↔◌, ◌||◌, IsTrue, Contains, is_some, option_map, codes, slice_get}
 use Rattle.std.specs.List.{list_any}
 use Rattle.std.specs.Str.{bytes_eq}
@@ -85,6 +85,6 @@ pub lacks_parent : (entries : Entries) (file : List Contents) (group : Contents)
 lacks_parent entries file group parent b is means = (
   λ e. record { parent = parent; is_parent = is; absent = is_not_there b (HasGroup file parent) means e },
   λ rule.
-  let same : rule.parent ≡ parent = same_Some rule.parent parent (sym rule.is_parent ∙ is) in
-  not_there b (HasGroup file parent) means (λ h. rule.absent (subst (HasGroup file) (sym same) h)),
+      let same : rule.parent ≡ parent = same_Some rule.parent parent (sym rule.is_parent ∙ is) in
+      not_there b (HasGroup file parent) means (λ h. rule.absent (subst (HasGroup file) (sym same) h)),
 )

@@ -1,5 +1,5 @@
 -- From what is noted of names to the rules of the HEADING row.
-use Rattle.std.proofs.Common.{◌≡◌, ℕ, ◌<◌, ◌≤◌, Bool, true, false, cond, ltb, Option, Some, None, List, length, get_or, refl, sym, ap, subst, ◌∙◌, arith, inl, inr}
+use Rattle.std.proofs.Common.{◌≡◌, ℕ, Bool, true, false, cond, ltb, Option, Some, None, List, length, get_or, refl, sym, ap, subst, ◌∙◌, arith, inl, inr}
 use Rattle.std.specs.Prelude.{◌⊎◌, Contains, IsSome}
 use Rattle.std.specs.List.{position_or_len}
 use Rattle.std.specs.Str.{bytes_eq}
@@ -165,11 +165,14 @@ misnamed_rule given entries group code held own names old new same first first_g
       nowhere_else = m.nowhere_else;
     })
     (λ name rule.
-    let h = subst (λ (l : List (List ℕ)). Contains l name) (sym same) rule.stands in
-    (h.0, at_contained names name h, record {
-      known = subst IsSome (sym (first name)) (has_some (order_of entries group.name) name rule.user_defined.known);
-      own = first_given name ∙ unplaced (order_of given group.name) name rule.user_defined.own;
-      other_name = rule.other_name;
-      nowhere_else = rule.nowhere_else;
-    }))
+    let h = subst (λ (l : List (List ℕ)). Contains l name) (sym same) rule.stands in (
+      h.0,
+      at_contained names name h,
+      record {
+        known = subst IsSome (sym (first name)) (has_some (order_of entries group.name) name rule.user_defined.known);
+        own = first_given name ∙ unplaced (order_of given group.name) name rule.user_defined.own;
+        other_name = rule.other_name;
+        nowhere_else = rule.nowhere_else;
+      },
+    ))
     x

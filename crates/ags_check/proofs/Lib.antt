@@ -4,3 +4,4 @@ pub mod Fronts
 pub mod Ranks
 pub mod HeaderRules
 pub mod Groups
+pub mod Whole

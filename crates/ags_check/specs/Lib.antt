@@ -4,3 +4,4 @@ pub mod Placing
 pub mod HeaderPhase
 pub mod Places
 pub mod Known
+pub mod Findings

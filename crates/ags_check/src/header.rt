@@ -13,7 +13,9 @@ pub mod known;
 pub mod only_rows;
 
 use crate::file::File;
-use crate::header::groups::{note_absent_group, note_lacking_parent, note_unknown_group, unknown_code};
+use crate::header::groups::{
+    note_absent_group, note_lacking_parent, note_unknown_group, unknown_code,
+};
 use crate::header::headings::{names_of, note_misnamed, note_misplaced, note_missing};
 use crate::header::known::Known;
 use crate::header::only_rows::{note_further_rows, note_long_sign};
@@ -41,9 +43,32 @@ fn note_headings(
     let row = Places::of(alloc, headings)?;
     note_missing(alloc, headings, line, code, &known.order, findings)?;
     note_misplaced(alloc, headings, line, &known.order, findings)?;
-    note_missing(alloc, known.keys.as_slice(), line, Code::Rule10a, &row, findings)?;
-    note_missing(alloc, known.required.as_slice(), line, Code::Rule10b, &row, findings)?;
-    note_misnamed(alloc, name, headings, line, &known.given, &known.order, extended, findings)?;
+    note_missing(
+        alloc,
+        known.keys.as_slice(),
+        line,
+        Code::Rule10a,
+        &row,
+        findings,
+    )?;
+    note_missing(
+        alloc,
+        known.required.as_slice(),
+        line,
+        Code::Rule10b,
+        &row,
+        findings,
+    )?;
+    note_misnamed(
+        alloc,
+        name,
+        headings,
+        line,
+        &known.given,
+        &known.order,
+        extended,
+        findings,
+    )?;
     Ok(())
 }
 

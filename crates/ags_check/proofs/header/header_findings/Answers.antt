@@ -1,10 +1,10 @@
-use Rattle.std.proofs.Common.{[], ◌∷◌, List, ap, subst, sym, ◌∙◌}
+use Rattle.std.proofs.Common.{[], ◌∷◌, List, ap, subst, ◌∙◌}
 use Rattle.ags_rows.specs.declared.codes.Code.{Code}
 use Rattle.ags_rows.specs.declared.codes.Finding.{Finding}
 use Rattle.ags_rows.specs.Collecting.{Adds, OneOf}
 use Rattle.ags_rows.specs.Contents.{contents_of}
 use Rattle.ags_rows.proofs.Collecting.{one_more, one_none, listed}
-use Rattle.ags_check.specs.HeaderPhase.{unknown_code, group_rules, file_rules, header_rules}
+use Rattle.ags_check.specs.HeaderPhase.{unknown_code, group_rules, file_rules}
 use Rattle.ags_check.specs.Placing.{InGroups}
 use Rattle.ags_check.proofs.header.header_findings.Goals as goal
 
