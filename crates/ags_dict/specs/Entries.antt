@@ -2,6 +2,7 @@
 -- All of it speaks of a file's contents, not of its lines. A heading that DICT does not have reads as null.
 use Rattle.std.specs.Prelude.{ℕ, List, [], ◌∷◌, ◌++◌, map, flat_map, codes, Bool, true, false, not, ◌&&◌, Option, Some, None, if◌then◌else◌}
 use Rattle.std.specs.List.{filter, find, list_any, list_all}
+use Rattle.std.specs.Option.{option_map_or}
 use Rattle.std.specs.Str.{bytes_eq}
 use Rattle.ags_rows.specs.Contents.{Contents, under}
 use Rattle.ags_dict.specs.Parts.{has_part}
@@ -134,9 +135,13 @@ abbrev pub is_file : Origin → Bool
 is_file Standard = false
 is_file File = true
 
--- Rule 19b: the group's heading is user-defined: its entry came from the file's own DICT
+-- the entry for a heading of a group
+abbrev pub entry_of : Entries → List ℕ → List ℕ → Option HeadingEntry
+entry_of entries group heading = find (λ e. of_group group e && bytes_eq e.heading heading) entries.headings
+
+-- Rule 19b: a heading is user-defined where its entry came from the file's own DICT
 abbrev pub is_user_defined : Entries → List ℕ → List ℕ → Bool
-is_user_defined entries group heading = list_any (λ e. bytes_eq e.heading heading && of_group group e && is_file e.origin) entries.headings
+is_user_defined entries group heading = option_map_or (λ e. is_file e.origin) (entry_of entries group heading) false
 
 -- the groups that have no parent, whatever their entries say
 abbrev pub has_no_parent : List ℕ → Bool

@@ -4,7 +4,10 @@
 mod dictionary;
 mod entries;
 mod extending;
+mod groups;
+mod headings;
 mod parts;
+mod places;
 
 pub use dictionary::Dictionary;
 pub use entries::{GroupEntry, HeadingEntry, Origin};
