@@ -33,7 +33,7 @@ def change(data, chance):
         lines[k], lines[other] = lines[other], lines[k]
     elif kind in (3, 4, 5):
         fields = lines[k].split(b",")
-        fields[chance.randrange(len(fields))] = chance.choice(WORDS)
+        fields[chance.randrange(1, len(fields)) if len(fields) > 1 else 0] = chance.choice(WORDS)
         lines[k] = b",".join(fields)
     elif kind == 6:
         fields = lines[k].split(b",")
@@ -54,7 +54,7 @@ def main():
     for turn in range(count):
         with open(chance.choice(names), "rb") as file:
             data = file.read()
-        for _ in range(chance.randrange(1, 4)):
+        for _ in range(chance.choice((1, 1, 1, 2, 3))):
             data = change(data, chance)
         want = reference.printed(reference.findings(data, phases))
         run = subprocess.run([program], input=data, capture_output=True)
