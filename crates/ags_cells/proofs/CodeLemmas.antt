@@ -2,9 +2,9 @@
 use Rattle.std.proofs.Common.{◌≡◌, ℕ, ◌-◌, cond, List, [], ◌∷◌, codes, refl, sym, ap, ◌∙◌, subst, arith}
 use Rattle.std.specs.Str.{bytes_eq}
 use Rattle.ags_cells.specs.Bytes.{digit}
-use Rattle.ags_cells.specs.CellTypes.{IsListedCode, IsCodeOf}
-use Rattle.ags_cells.specs.Fits.{Fits, FitsCode}
-use Rattle.ags_cells.specs.Laws.{OneType, FitsItsCode}
+use Rattle.ags_cells.specs.CellTypes.{IsListedTypeCode, IsTypeCodeOf}
+use Rattle.ags_cells.specs.Fits.{Fits, FitsTypeCode}
+use Rattle.ags_cells.specs.Laws.{OneType, FitsItsTypeCode}
 use Rattle.ags_cells.specs.declared.cell_type.CellType.{CellType}
 use Rattle.ags_cells.specs.declared.cell_type.CellType.TheVariants.{DecimalPlaces, SignificantFigures, Scientific, MoistureContent, YesNo, DegreesMinutesSeconds, DateTime, ElapsedTime, Any}
 
@@ -26,7 +26,7 @@ type_of (first ∷ rest) = type_by first rest
 number_of : (n : ℕ) → digit n - digit 0 ≡ n
 number_of n = omega arith
 
-type_of-code : (code : List ℕ) (t : CellType) → IsListedCode code t → type_of code ≡ t
+type_of-code : (code : List ℕ) (t : CellType) → IsListedTypeCode code t → type_of code ≡ t
 type_of-code code (DecimalPlaces n) w = rw w.1 (ap DecimalPlaces (number_of n))
 type_of-code code (SignificantFigures n) w = rw w.1 (ap SignificantFigures (number_of n))
 type_of-code code (Scientific n) w = rw w.1 (ap Scientific (number_of n))
@@ -38,7 +38,7 @@ type_of-code code ElapsedTime e = rw e
 type_of-code code Any e = absurd e
 
 -- a type whose code is listed, and one of the same code
-listed_type : (code : List ℕ) (t u : CellType) → IsListedCode code t → IsCodeOf code u → t ≡ u
+listed_type : (code : List ℕ) (t u : CellType) → IsListedTypeCode code t → IsTypeCodeOf code u → t ≡ u
 listed_type code t (DecimalPlaces n) h w = sym (type_of-code code t h) ∙ type_of-code code (DecimalPlaces n) w
 listed_type code t (SignificantFigures n) h w = sym (type_of-code code t h) ∙ type_of-code code (SignificantFigures n) w
 listed_type code t (Scientific n) h w = sym (type_of-code code t h) ∙ type_of-code code (Scientific n) w
@@ -49,7 +49,7 @@ listed_type code t DateTime h w = sym (type_of-code code t h) ∙ type_of-code c
 listed_type code t ElapsedTime h w = sym (type_of-code code t h) ∙ type_of-code code ElapsedTime w
 listed_type code t Any h w = absurd (w t h)
 
-unlisted_type : (code : List ℕ) (u : CellType) → IsCodeOf code Any → IsCodeOf code u → Any ≡ u
+unlisted_type : (code : List ℕ) (u : CellType) → IsTypeCodeOf code Any → IsTypeCodeOf code u → Any ≡ u
 unlisted_type code (DecimalPlaces n) none w = absurd (none (DecimalPlaces n) w)
 unlisted_type code (SignificantFigures n) none w = absurd (none (SignificantFigures n) w)
 unlisted_type code (Scientific n) none w = absurd (none (Scientific n) w)
@@ -71,8 +71,8 @@ one_type code DateTime u h w = listed_type code DateTime u h w
 one_type code ElapsedTime u h w = listed_type code ElapsedTime u h w
 one_type code Any u h w = unlisted_type code u h w
 
-pub fits_its_code : FitsItsCode
-fits_its_code code unit text t h =
-    let back : FitsCode code unit text → Fits t unit text =
+pub fits_its_type_code : FitsItsTypeCode
+fits_its_type_code code unit text t h =
+    let back : FitsTypeCode code unit text → Fits t unit text =
     λ w. subst (λ u. Fits u unit text) (one_type code w.0 t w.1 h) w.2 in
     (λ fit. (t, h, fit), back)

@@ -5,18 +5,18 @@ use Rattle.ags_cells.specs.declared.cell_type.CellType.{CellType}
 use Rattle.ags_cells.specs.declared.cell_type.CellType.TheVariants.{DecimalPlaces, SignificantFigures, Scientific, MoistureContent, YesNo, DegreesMinutesSeconds, DateTime, ElapsedTime, Any}
 
 -- the code of a type whose texts are restricted
-abbrev pub IsListedCode : List ℕ → CellType → Type 0
-IsListedCode code (DecimalPlaces n) = (n ≤ 9) × (code ≡ digit n ∷ codes "DP")
-IsListedCode code (SignificantFigures n) = (n ≤ 9) × (code ≡ digit n ∷ codes "SF")
-IsListedCode code (Scientific n) = (n ≤ 9) × (code ≡ digit n ∷ codes "SCI")
-IsListedCode code MoistureContent = code ≡ codes "MC"
-IsListedCode code YesNo = code ≡ codes "YN"
-IsListedCode code DegreesMinutesSeconds = code ≡ codes "DMS"
-IsListedCode code DateTime = code ≡ codes "DT"
-IsListedCode code ElapsedTime = code ≡ codes "T"
-IsListedCode code Any = ⊥
+abbrev pub IsListedTypeCode : List ℕ → CellType → Type 0
+IsListedTypeCode code (DecimalPlaces n) = (n ≤ 9) × (code ≡ digit n ∷ codes "DP")
+IsListedTypeCode code (SignificantFigures n) = (n ≤ 9) × (code ≡ digit n ∷ codes "SF")
+IsListedTypeCode code (Scientific n) = (n ≤ 9) × (code ≡ digit n ∷ codes "SCI")
+IsListedTypeCode code MoistureContent = code ≡ codes "MC"
+IsListedTypeCode code YesNo = code ≡ codes "YN"
+IsListedTypeCode code DegreesMinutesSeconds = code ≡ codes "DMS"
+IsListedTypeCode code DateTime = code ≡ codes "DT"
+IsListedTypeCode code ElapsedTime = code ≡ codes "T"
+IsListedTypeCode code Any = ⊥
 
 -- the code of a type. `Any` has every code that no other type has: ID, PA, PT, PU, X, XN, U, RL and all else
-abbrev pub IsCodeOf : List ℕ → CellType → Type 0
-IsCodeOf code Any = (other : CellType) → ¬ (IsListedCode code other)
-IsCodeOf code cell_type = IsListedCode code cell_type
+abbrev pub IsTypeCodeOf : List ℕ → CellType → Type 0
+IsTypeCodeOf code Any = (other : CellType) → ¬ (IsListedTypeCode code other)
+IsTypeCodeOf code cell_type = IsListedTypeCode code cell_type

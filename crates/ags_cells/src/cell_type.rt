@@ -1,5 +1,5 @@
 //! The types of the cells.
-ghost use Rattle.ags_cells.specs.CellTypes.{IsCodeOf};
+ghost use Rattle.ags_cells.specs.CellTypes.{IsTypeCodeOf};
 
 /// The type of a heading's entries, as the TYPE row says it.
 #[derive(Clone, Copy, Debug, PartialEq, Eq)]
@@ -27,7 +27,7 @@ pub enum CellType {
 impl CellType {
     /// The type of that code: `Any` for a text that is no code of the others.
     pub fn of(text: &[u8]) -> CellType
-        ensures { IsCodeOf text.now result }
+        ensures { IsTypeCodeOf text.now result }
     {
         match text {
             [n @ b'0'..=b'9', b'D', b'P'] => CellType::DecimalPlaces(*n - b'0'),

@@ -1,13 +1,13 @@
 //! Laws over the definitions alone.
 
-ghost use Rattle.ags_cells.specs.Laws.{OneType, FitsItsCode};
+ghost use Rattle.ags_cells.specs.Laws.{OneType, FitsItsTypeCode};
 
-/// A text is the code of one type.
+/// A text is the code of one type at most.
 pub fn one_type()
     ensures { OneType }
 {}
 
-/// An entry fits the type that a code is of exactly where it fits the code.
-pub fn fits_its_code()
-    ensures { FitsItsCode }
+/// What fits the type that a code is of is what fits the code.
+pub fn fits_its_type_code()
+    ensures { FitsItsTypeCode }
 {}

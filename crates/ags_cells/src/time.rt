@@ -97,11 +97,11 @@ fn after_time_seconds(text: &[u8]) -> Option<&[u8]>
 fn after_day_minutes(text: &[u8]) -> Option<&[u8]>
     ensures { option_map (λ r. r.now) result ≡ read.after_day_minutes text.now }
 {
-    let rest = after_day(text)?;
-    if rest.is_empty() {
-        return Some(rest);
+    let minutes = after_day(text)?;
+    if minutes.is_empty() {
+        return Some(minutes);
     }
-    after_time_minutes(rest)
+    after_time_minutes(minutes)
 }
 
 /// The text after a day and, if anything follows it, `T` and `hh:mm:ss`.
@@ -109,11 +109,11 @@ fn after_day_minutes(text: &[u8]) -> Option<&[u8]>
 fn after_day_seconds(text: &[u8]) -> Option<&[u8]>
     ensures { option_map (λ r. r.now) result ≡ read.after_day_seconds text.now }
 {
-    let rest = after_day(text)?;
-    if rest.is_empty() {
-        return Some(rest);
+    let seconds = after_day(text)?;
+    if seconds.is_empty() {
+        return Some(seconds);
     }
-    after_time_seconds(rest)
+    after_time_seconds(seconds)
 }
 
 /// Whether the text fits a unit that has a date, or one that has no form.

@@ -1,5 +1,0 @@
-use Rattle.ags_cells.proofs.CodeLemmas.{fits_its_code}
-use Rattle.ags_cells.proofs.laws.fits_its_code.Goals as goal
-
-pub returns : goal.returns
-returns c = fits_its_code
