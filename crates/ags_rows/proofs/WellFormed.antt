@@ -1,5 +1,5 @@
 -- What stands in a file without findings is well formed.
-use Rattle.std.proofs.Common.{◌≡◌, ℕ, zero, suc, ◌+◌, ◌<◌, ◌≤◌, true, false, List, [], ◌∷◌, ◌++◌, get_or, map, flat_map, refl, sym, ap, subst, ◌∙◌, arith, inl, inr}
+use Rattle.std.proofs.Common.{◌≡◌, ◌≢◌, ℕ, zero, suc, ◌+◌, ◌<◌, ◌≤◌, true, false, List, [], ◌∷◌, ◌++◌, get_or, map, flat_map, refl, sym, ap, subst, ◌∙◌, arith, inl, inr}
 use Rattle.std.specs.Prelude.{Any, nat_le, option_map, replicate}
 use Rattle.std.specs.List.{AllByRecursion, list_any}
 use Rattle.std.proofs.lemmas.Bool.{cases_eq, cases_Bool, eq-eqb, ne_eqb, or_parts, leb-true, leb-false}
@@ -8,16 +8,19 @@ use Rattle.std.proofs.lemmas.List.Folds.{Any-from_list_any}
 use Rattle.ags_rows.specs.declared.rows.FileRow.{FileRow}
 use Rattle.ags_rows.specs.declared.rows.Row.{Row}
 use Rattle.ags_rows.specs.declared.rows.Group.{Group}
+use Rattle.ags_rows.specs.declared.codes.Code.{Code}
 use Rattle.ags_rows.specs.declared.codes.Code.TheVariants as codes
 use Rattle.ags_rows.specs.declared.codes.Finding.{Finding}
-use Rattle.ags_rows.specs.Bytes.{Lacks, ascii_end, carriage_return, line_feed}
+use Rattle.ags_rows.specs.Bytes.{Lacks}
 use Rattle.ags_rows.specs.Spelling.{Spells, IsPiece, doubled, quoted}
 use Rattle.ags_rows.specs.Lines.{TextLine}
-use Rattle.ags_rows.specs.Rows.{descriptor_text, IsRow, AreRowsFrom, data_row, rows_of}
-use Rattle.ags_rows.specs.Findings.{At, StandsIn}
-use Rattle.ags_rows.specs.Contents.{Contents, contents_of, fields_of, group_contents}
+use Rattle.ags_rows.specs.Rows.{descriptor_text, IsRow, RowsFrom}
+use Rattle.ags_rows.specs.Groups.{data_row, rows_of}
+use Rattle.ags_rows.specs.Collecting.{At}
+use Rattle.ags_rows.specs.Stands.{StandsInLines, StandsInOrder}
+use Rattle.ags_rows.specs.Findings.{FirstFound, later_phases, FileGroups}
+use Rattle.ags_rows.specs.Contents.{contents_of, fields_of}
 use Rattle.ags_rows.specs.Writing.{IsPlainByte, ArePlain, StandOnce}
-use Rattle.ags_rows.proofs.Breaking.{noted}
 use Rattle.ags_rows.proofs.Written.{IsPlainGroup}
 
 -- ---- lists whose elements have a property
@@ -98,10 +101,14 @@ low_text t none = elim (cases_Bool (list_any (λ b. nat_le 128 b) t)) [
   | inr e ↦ none_high t e
 ]
 
-low_lines : (lines : List TextLine) → ((f : Finding) → StandsIn lines f → ⊥) → AllByRecursion (λ l. IsLow l.content) lines
-low_lines lines clear = all_from_at (λ l. IsLow l.content) lines (λ k l at. low_text l.content (λ any. clear (noted (k + 1) codes.Rule1) (k, l, at, (any, refl, refl))))
+-- a finding about a line or a file
+abbrev noted : ℕ → Code → Finding
+noted line code = record { line = line; code = code; subject = [] }
 
-rows_plain : (n : ℕ) (lines : List TextLine) (rows : List FileRow) → AreRowsFrom n lines rows → AllByRecursion (λ l. IsLow l.content) lines → AllByRecursion (λ r. ArePlain r.items) rows
+low_lines : (lines : List TextLine) → ((f : Finding) → StandsInLines lines f → ⊥) → AllByRecursion (λ l. IsLow l.content) lines
+low_lines lines clear = all_from_at (λ l. IsLow l.content) lines (λ k l at. low_text l.content (λ any. clear (noted (k + 1) codes.Rule1) (k, l, at, inl (any, refl, refl, refl))))
+
+rows_plain : (n : ℕ) (lines : List TextLine) (rows : List FileRow) → RowsFrom n lines rows → AllByRecursion (λ l. IsLow l.content) lines → AllByRecursion (λ r. ArePlain r.items) rows
 rows_plain n [] rows h low = subst (AllByRecursion (λ (r : FileRow). ArePlain r.items)) (sym h) tt
 rows_plain n (l ∷ lines) rows (inl h) low = subst (AllByRecursion (λ (r : FileRow). ArePlain r.items)) (sym h.2) (row_plain l h.0 h.4 low.0, rows_plain (n + 1) lines h.1 h.5 low.1)
 rows_plain n (l ∷ lines) rows (inr h) low = rows_plain (n + 1) lines rows h.1 low.1
@@ -146,3 +153,22 @@ pub at_map : {X Y : Type 0} (f : X → Y) (xs : List X) (k : ℕ) (y : Y) → At
 at_map f [] k y e = absurd cc
 at_map f (x ∷ xs) zero y e = (x, refl, cc)
 at_map f (x ∷ xs) (suc k) y e = at_map f xs k y e
+
+-- ---- a file without findings
+
+-- nothing stands in the first phase, and the later ones give none
+pub clear_first : (Stands : Finding → Type 0) (later : List (Finding → Type 0)) → FirstFound (Stands ∷ later) [] → ((f : Finding) → Stands f → ⊥) × FirstFound later []
+clear_first Stands later (inl h) = absurd (h.1 refl)
+clear_first Stands later (inr h) = h
+
+some_groups : (rows : List FileRow) (groups : List Group) → flat_map rows_of groups ≡ rows → ((f : Finding) → StandsInOrder rows f → ⊥) → groups ≢ []
+some_groups rows groups cut clear e =
+    let none : rows ≡ [] = sym cut ∙ ap (λ (l : List Group). flat_map rows_of l) e in
+    clear (noted 0 codes.Rule2) (inl (none, refl, refl, refl))
+
+pub read_plain : (bytes : List ℕ) (groups : List Group) → FileGroups bytes groups → (groups ≢ []) × AllByRecursion IsPlainGroup (contents_of groups)
+read_plain bytes groups h =
+    let lines = clear_first (StandsInLines h.0.lines) (later_phases h.0.rows) h.2 in
+    let order = clear_first (StandsInOrder h.0.rows) [] lines.1 in
+    let plain = rows_plain 1 h.0.lines h.0.rows h.1.rows (low_lines h.0.lines lines.0) in
+    (some_groups h.0.rows groups h.3 order.0, contents_plain groups (subst (AllByRecursion (λ (r : FileRow). ArePlain r.items)) (sym h.3) plain))
