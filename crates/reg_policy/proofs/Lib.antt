@@ -1,0 +1,5 @@
+pub mod Chosen
+pub mod Entry
+pub mod Days
+pub mod Keys
+pub mod Items
