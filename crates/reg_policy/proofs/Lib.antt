@@ -3,3 +3,4 @@ pub mod Entry
 pub mod Days
 pub mod Keys
 pub mod Items
+pub mod Tokens

@@ -31,7 +31,7 @@ pub record IsCaller (table : Members) (l : Listing) : Type 0 where
 
 -- one of the callers has the token
 abbrev pub has_token : List ℕ → List Listing → Bool
-has_token token callers = list_any (λ l. bytes_eq l.token token) callers
+has_token token callers = list_any (λ l. bytes_eq token l.token) callers
 
 -- no token stands twice
 abbrev pub are_unique : List Listing → Bool
@@ -41,7 +41,7 @@ are_unique (l ∷ callers) = not (has_token l.token callers) && are_unique calle
 -- Who has the token.
 abbrev pub caller_of : List ℕ → List Listing → Option Caller
 caller_of token [] = None
-caller_of token (l ∷ callers) = if bytes_eq l.token token then Some l.caller else caller_of token callers
+caller_of token (l ∷ callers) = if bytes_eq token l.token then Some l.caller else caller_of token callers
 
 -- The text is a document with these callers.
 abbrev pub HasCallers : List ℕ → List Listing → Type 0

@@ -1,9 +1,9 @@
 //! The callers, each known by a token.
-ghost use Rattle.std.specs.Prelude.{◌≡◌, List, codes, option_map};
+ghost use Rattle.std.specs.Prelude.{◌≡◌, List, IfErr, IfOk, codes, option_map};
 ghost use Rattle.std.specs.List.{list_all};
 ghost use Rattle.toml.specs.Data.{get_member};
 ghost use Rattle.toml.specs.View.{table_view};
-ghost use Rattle.reg_policy.specs.Callers.{IsCaller, IsText, ReadsCallers, are_unique, caller_key, caller_keys, caller_of, callers_error, has_token};
+ghost use Rattle.reg_policy.specs.Callers.{IsCaller, IsText, ReadsCallers, are_unique, caller_key, caller_keys, caller_of, callers_error};
 ghost use Rattle.reg_policy.specs.Names.{is_name, is_token, is_token_byte};
 ghost use Rattle.reg_policy.specs.Readers.{Gives};
 ghost use Rattle.reg_policy.specs.declared.callers.Listing.{Listing as ListingValue};
@@ -13,6 +13,7 @@ use crate::name::is_within;
 use crate::{Name, NameError};
 use ags_rows::Bytes;
 use std::alloc::Global;
+use std::collections::BTreeSet;
 use std::marker::Model;
 use thiserror::Error;
 use toml::Table;
@@ -82,7 +83,7 @@ impl Callers {
         ensures { ReadsCallers text.now result }
     {
         let listings = read_list(alloc, text)?;
-        if !are_unique(&listings) {
+        if !are_unique(alloc, &listings)? {
             return Err(CallersError::DuplicateToken);
         }
         Ok(Callers { listings })
@@ -93,7 +94,7 @@ impl Callers {
         ensures { option_map (λ c. c.now) result ≡ caller_of token.now self.now }
     {
         for listing in &self.listings {
-            if listing.token.as_slice() == token {
+            if token == listing.token.as_slice() {
                 return Some(&listing.caller);
             }
         }
@@ -174,26 +175,20 @@ fn is_token_byte(b: u8) -> bool
     b'!' <= b && b <= b'~'
 }
 
-/// Whether no token stands twice.
-fn are_unique(listings: &[Listing]) -> bool
-    ensures { result ≡ are_unique listings.now }
+/// Whether no token stands twice: none is that of a later caller.
+fn are_unique(alloc: Global, listings: &[Listing]) -> Result<bool, ReadError>
+    ensures unique { IfOk result (λ unique. unique ≡ are_unique listings.now) }
+    ensures memory { IfErr result (λ error. error ≡ ReadError.NoMemory) }
 {
-    for i in 0..listings.len() {
-        if has_token(&listings[i + 1..], listings[i].token.as_slice()) {
-            return false;
+    let mut later = BTreeSet::new(alloc);
+    let mut i = listings.len();
+    while i > 0 {
+        i -= 1;
+        match later.insert(listings[i].token.as_slice()) {
+            Ok(true) => {}
+            Ok(false) => return Ok(false),
+            Err(_) => return Err(ReadError::NoMemory),
         }
     }
-    true
-}
-
-/// Whether one of the callers has the token.
-fn has_token(listings: &[Listing], wanted: &[u8]) -> bool
-    ensures { result ≡ has_token wanted.now listings.now }
-{
-    for listing in listings {
-        if listing.token.as_slice() == wanted {
-            return true;
-        }
-    }
-    false
+    Ok(true)
 }
