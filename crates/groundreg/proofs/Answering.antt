@@ -13,8 +13,14 @@ pub report_answers : (known out out_after err : Option (List ℕ)) (report : Rep
     → Tells out out_after report.text report.status status → IfSome known (λ bytes. AnswersOn bytes out out_after err err status)
 report_answers None out out_after err report status about told = tt
 report_answers (Some bytes) out out_after err report status (few, (found, right, is)) (inl (taken, same)) =
-    inl (report.text, [], subst (λ s. Answers bytes report.text [] s) (sym same)
-        (subst (λ r. Answers bytes r.text [] r.status) (sym is) (reported found few right)), taken, appends_none err)
+    inl (
+      report.text,
+      [],
+      subst (λ s. Answers bytes report.text [] s) (sym same)
+          (subst (λ r. Answers bytes r.text [] r.status) (sym is) (reported found few right)),
+      taken,
+      appends_none err,
+    )
 report_answers (Some bytes) out out_after err report status about (inr failed) = inr failed
 
 -- a fault that is told whole is the answer

@@ -26,7 +26,8 @@ pub takes_within : (most room : ℕ) (a b c : Option (List ℕ)) (first : List �
 takes_within most room a b c first one two few = record {
   taken = first ++ two.taken;
   few = let e : length (first ++ two.taken) ≡ length first + length two.taken = length-append first two.taken in omega (arith, e, two.few, few);
-  first = takes_both a b c first two.taken one two.first }
+  first = takes_both a b c first two.taken one two.first;
+}
 
 -- the first piece, when nothing was read
 pub takes_start : (known : Option (List ℕ)) (bytes : List ℕ) → bytes ≡ [] → Consumes known known bytes

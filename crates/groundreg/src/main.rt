@@ -11,26 +11,27 @@ mod tests;
 use check::check_stream;
 use fault::Fault;
 use std::env;
+use std::io::ErrorKind;
 use std::process::ExitCode;
 
-/// Whether the run was given a word; words that cannot be had count as one.
-fn has_words(rt: &HostRuntime) -> bool {
+/// Refuses a command line that has words. A word that is not UTF-8 is a word.
+fn refuse_words(rt: &HostRuntime) -> Result<(), Fault> {
     match env::args(rt) {
-        Ok(words) => words.count() > 1,
-        Err(_) => true,
+        Ok(words) if words.len() <= 1 => Ok(()),
+        Err(error) if error.kind() == ErrorKind::OutOfMemory => Err(Fault::NoMemory),
+        _ => Err(Fault::WordsRefused),
     }
 }
 
 fn main(rt: HostRuntime) -> ExitCode {
-    let status = if has_words(&rt) {
-        Fault::WordsRefused.tell(&mut rt.stderr())
-    } else {
-        check_stream(
+    let status = match refuse_words(&rt) {
+        Ok(()) => check_stream(
             rt.alloc(),
             &mut rt.stdin(),
             &mut rt.stdout(),
             &mut rt.stderr(),
-        )
+        ),
+        Err(fault) => fault.tell(&mut rt.stderr()),
     };
     ExitCode::from(status)
 }

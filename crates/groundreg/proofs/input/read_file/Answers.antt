@@ -6,7 +6,8 @@ pub reading-init : goal.reading-init
 reading-init g c = record {
   within = omega (arith, c.new-bytes.ensures.len);
   wide = search rules;
-  taken = takes_start _ _ c.new-bytes.ensures.items }
+  taken = takes_start _ _ c.new-bytes.ensures.items;
+}
 
 pub returns-in_err-count-clause-taken : goal.returns-in_err-count-clause-taken
 returns-in_err-count-clause-taken g c =
@@ -19,16 +20,17 @@ returns-then-count-eq0-clause-taken g c =
 pub returns-then-count-eq0-clause-file : goal.returns-then-count-eq0-clause-file
 returns-then-count-eq0-clause-file g c =
     takes_all _ _ _ (takes_piece _ _ _ _ _ _ c.reading.invariant.taken c.in_ok-count.ensures.appended)
-        (c.in_ok-count.ensures.appended.at_end c.if-count-eq0.true)
+    (c.in_ok-count.ensures.appended.at_end c.if-count-eq0.true)
 
 pub reading-preserved : goal.reading-preserved
 reading-preserved g c =
     let longer : length c.read_piece.new.bytes.items ≡ length c.reading.bytes.items + c.in_ok-count.count
-        = length-appended _ _ _ _ _ c.in_ok-count.ensures.appended in
+    = length-appended _ _ _ _ _ c.in_ok-count.ensures.appended in
     record {
       within = search rules;
       wide = c.reading.invariant.wide;
-      taken = takes_piece _ _ _ _ _ _ c.reading.invariant.taken c.in_ok-count.ensures.appended }
+      taken = takes_piece _ _ _ _ _ _ c.reading.invariant.taken c.in_ok-count.ensures.appended;
+    }
 
 pub returns-clause-file : goal.returns-clause-file
 returns-clause-file g c = takes_part _ _ _ _ c.reading.invariant.taken (search rules)
