@@ -1,9 +1,8 @@
+pub mod Collecting
 pub mod Pieces
 pub mod Fields
 pub mod Cutting
 pub mod Breaking
-pub mod Places
-pub mod Collecting
 pub mod Cuts
 pub mod Files
 pub mod Once

@@ -15,8 +15,8 @@ mod spelling;
 mod tests;
 mod writing;
 
-pub use codes::{Code, Finding};
-pub use contents::{copy, note, place_in, under};
+pub use codes::{Code, Finding, in_order, note};
+pub use contents::{copy, place_in, under};
 pub use names::{is_definition, is_group_name, is_heading_name};
 pub use rows::{Group, Row};
 pub use scanning::{RowsError, Scan};
