@@ -1,7 +1,8 @@
 -- Which texts are names of firms, roles and projects, which are tokens, and the words of the verbs.
 use Rattle.std.specs.Prelude.{ℕ, List, length, nat_le, Bool, ◌&&◌, ◌||◌, ◌==◌, codes}
 use Rattle.std.specs.List.{list_all}
-use Rattle.ags_rows.specs.Names.{is_capital, is_digit, low_line}
+use Rattle.ags_rows.specs.Bytes.{low_line}
+use Rattle.ags_rows.specs.Names.{is_capital, is_digit}
 use Rattle.reg_policy.specs.declared.subject.Verb.{Verb}
 use Rattle.reg_policy.specs.declared.subject.Verb.TheVariants.{Deposit, Check, List as Listing, Extract, See}
 
