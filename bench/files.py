@@ -22,14 +22,17 @@ FRONT = (
 
 def largest(size, text_of):
     """The longest text of text_of(1), text_of(2), .. that has at most `size` bytes."""
-    low, high = 1, size
-    while low < high:
-        middle = (low + high + 1) // 2
-        text = text_of(middle) if middle * 10 <= size else None
-        if text is not None and len(text) <= size:
-            low = middle
-        else:
-            high = middle - 1
+    sample = 1000
+    each = (len(text_of(2 * sample)) - len(text_of(sample))) / sample
+    low, high = 1, int(size / each) + 1
+    while len(text_of(high)) <= size:
+        low, high = high, high + high // 20 + 1
+    low = max(low, high - high // 5 - 1)
+    while len(text_of(low)) > size:
+        low //= 2
+    while low + 1 < high:
+        middle = (low + high) // 2
+        low, high = (middle, high) if len(text_of(middle)) <= size else (low, middle)
     return text_of(low).encode()
 
 

@@ -1,11 +1,10 @@
 -- From what is told to the answer of a run.
-use Rattle.std.proofs.Common.{◌≡◌, ℕ, ◌⊎◌, inl, inr, [], List, Option, None, Some, Ok, Err, IfSome, refl, sym, subst}
+use Rattle.std.proofs.Common.{ℕ, inl, inr, [], List, Option, None, Some, Ok, Err, IfSome, sym, subst}
 use Rattle.groundreg.specs.declared.fault.Fault.{Fault}
 use Rattle.groundreg.specs.declared.fault.Fault.TheVariants.{WordsRefused, TooLarge, NoMemory, Stream}
 use Rattle.groundreg.specs.declared.report.Report.{Report}
 use Rattle.groundreg.specs.Answers.{Answers, reported, too_large, no_memory, AnswersOn, ReportsOn}
 use Rattle.groundreg.specs.Faults.{Tells, fault_text, fault_status}
-use Rattle.groundreg.specs.Report.{report_of}
 use Rattle.groundreg.proofs.Taking.{appends_none}
 
 -- a report that is printed whole is the answer

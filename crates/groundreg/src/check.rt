@@ -1,7 +1,7 @@
 //! The check of the file that a stream carries.
 
 ghost use Rattle.std.specs.Prelude.{◌≡◌, ◌+◌, ◌≤◌, IfOk, IfErr, IfSome, length};
-ghost use Rattle.ags_rows.specs.Findings.{AreFindings};
+ghost use Rattle.groundreg.specs.Findings.{FileFindings};
 ghost use Rattle.groundreg.specs.Answers.{AnswersOn, ReportsOn};
 ghost use Rattle.groundreg.specs.Reading.{TakesAtMost};
 
@@ -15,7 +15,7 @@ use std::io::{Read, Write};
 /// The findings of a file, none where it is clean.
 fn findings_of(alloc: Global, bytes: &[u8]) -> Result<Sequence<Finding>, AllocError>
     requires { length bytes.now ≤ LIMIT }
-    ensures { IfOk result (λ found. AreFindings bytes.now found) }
+    ensures { IfOk result (λ found. FileFindings bytes.now found) }
 {
     match Scan::read(alloc, bytes) {
         Ok(_) => Ok(Sequence::from_vec(Vec::new(alloc))),

@@ -4,3 +4,4 @@ pub mod Days
 pub mod Keys
 pub mod Items
 pub mod Tokens
+pub mod Once

@@ -1,5 +1,5 @@
 -- Days by their numbers, counted from 1970-01-01, and by their texts.
-use Rattle.std.specs.Prelude.{◌≡◌, ℕ, ◌+◌, ◌-◌, ◌*◌, ◌/◌, ◌%◌, ◌<◌, nat_lt, nat_le, List, [], ◌∷◌, ◌++◌, take, drop, Bool, ◌&&◌, if◌then◌else◌, Option, Some, None, ℤ, pos, int_le, IsTrue}
+use Rattle.std.specs.Prelude.{◌≡◌, ℕ, ◌+◌, ◌-◌, ◌*◌, ◌/◌, ◌%◌, ◌<◌, nat_lt, nat_le, List, [], ◌∷◌, ◌++◌, take, drop, Bool, ◌&&◌, if◌then◌else◌, Option, Some, None, ℤ, pos, int_le}
 use Rattle.std.specs.List.{fold}
 use Rattle.std.specs.Str.{bytes_eq}
 use Rattle.jiff.specs.Words.{IsDate, days_in_month}

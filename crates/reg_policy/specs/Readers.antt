@@ -1,5 +1,5 @@
 -- What the readers of the parts of a document give.
-use Rattle.std.specs.Prelude.{◌≡◌, List, ℕ, Bool, true, false, codes, if◌then◌else◌, Option, Some, None, Result, Ok, Err, Vec, IfOk, IsOk, option_map}
+use Rattle.std.specs.Prelude.{◌≡◌, List, ℕ, false, codes, if◌then◌else◌, Option, Some, None, Result, Ok, Err, Vec, IfOk, IsOk, option_map}
 use Rattle.std.specs.Borrow.{Bor}
 use Rattle.std.specs.BTreeMap.{BTreeMap}
 use Rattle.std.specs.Str.{bytes_eq}

@@ -25,7 +25,7 @@ impl Model for Day {
 
 impl Day {
     /// The number of 9999-12-31.
-    pub const LAST: i32 = 2_932_896;
+    const LAST: i32 = 2_932_896;
 
     /// The day with that number, counted from 1970-01-01, which is 0.
     pub fn new(number: i32) -> Option<Day>

@@ -1,4 +1,4 @@
-use Rattle.std.proofs.Common.{rules, ◌≡◌, ◌+◌, ◌≤◌, length, arith}
+use Rattle.std.proofs.Common.{rules, ◌≡◌, ◌+◌, length, arith}
 use Rattle.groundreg.proofs.Taking.{takes_start, takes_piece, takes_all, takes_part, takes_within, length-appended}
 use Rattle.groundreg.proofs.input.read_file.Goals as goal
 

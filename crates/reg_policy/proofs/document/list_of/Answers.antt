@@ -1,7 +1,5 @@
-use Rattle.std.proofs.Common.{ap, ◌∙◌, Some, None}
 use Rattle.toml.proofs.Views.{table_get}
-use Rattle.toml.specs.Data.{get_member}
-use Rattle.toml.specs.View.{array_view, table_view, view}
+use Rattle.toml.specs.View.{array_view, view}
 use Rattle.reg_policy.proofs.Items.{array_is, no_array}
 use Rattle.reg_policy.proofs.document.list_of.Goals as goal
 

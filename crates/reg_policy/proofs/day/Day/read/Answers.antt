@@ -1,4 +1,4 @@
-use Rattle.std.proofs.Common.{◌≡◌, List, ℕ, ℤ, Option, true, sym}
+use Rattle.std.proofs.Common.{◌≡◌, true}
 use Rattle.reg_policy.specs.Days.{Writes, day_of, is_day_number}
 use Rattle.reg_policy.proofs.Days.{day_of-Writes, same_option}
 use Rattle.reg_policy.proofs.day.Day.read.Goals as goal
