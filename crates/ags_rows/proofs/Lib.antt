@@ -1,11 +1,12 @@
+pub mod Collecting
 pub mod Pieces
 pub mod Fields
 pub mod Cutting
 pub mod Breaking
-pub mod Places
-pub mod Collecting
 pub mod Cuts
 pub mod Files
 pub mod Once
 pub mod Appending
 pub mod Written
+pub mod WellFormed
+pub mod Texts

@@ -1,8 +1,8 @@
 -- A file that is written is read as what was written.
-use Rattle.std.proofs.Common.{◌≡◌, ◌≢◌, ℕ, zero, suc, ◌+◌, ◌<◌, true, false, ltb, ◌&&◌, List, [], ◌∷◌, ◌++◌, length, map, flat_map, Option, Some, None, refl, sym, ap, subst, ◌∙◌, arith, inl, inr}
-use Rattle.std.specs.Prelude.{◌⊎◌, MatchOption, codes as bytes}
+use Rattle.std.proofs.Common.{◌≡◌, ◌≢◌, ℕ, zero, suc, ◌+◌, ◌<◌, true, false, eqb, ltb, ◌&&◌, List, [], ◌∷◌, ◌++◌, length, map, flat_map, Option, Some, None, refl, sym, ap, subst, ◌∙◌, arith, inl, inr}
+use Rattle.std.specs.Prelude.{◌⊎◌, nat_le, Bool, MatchOption, codes as bytes}
 use Rattle.std.specs.List.{AllByRecursion, list_all}
-use Rattle.std.proofs.lemmas.Bool.{cases_eq, eq-eqb, ne_eqb, and_parts, ltb-true}
+use Rattle.std.proofs.lemmas.Bool.{cases_eq, eq-eqb, eqb-true, ne_eqb, and_parts, or_cases, ltb-true, leb-true}
 use Rattle.std.proofs.lemmas.List.{append-nil, length-append}
 use Rattle.std.proofs.lemmas.List.Elements.{All-from_recursion, All-contains}
 use Rattle.ags_rows.specs.declared.rows.Ending.TheVariants.{CrLf, Lf, Nothing}
@@ -12,20 +12,23 @@ use Rattle.ags_rows.specs.declared.rows.Descriptor.TheVariants as kinds
 use Rattle.ags_rows.specs.declared.rows.FileRow.{FileRow}
 use Rattle.ags_rows.specs.declared.rows.Row.{Row}
 use Rattle.ags_rows.specs.declared.rows.Group.{Group}
-use Rattle.ags_rows.specs.declared.rows.Reading.TheVariants as readings
-use Rattle.ags_rows.specs.declared.codes.Code.{Code}
 use Rattle.ags_rows.specs.declared.codes.Finding.{Finding}
 use Rattle.ags_rows.specs.Bytes.{Lacks}
 use Rattle.ags_rows.specs.Spelling.{Spells, doubled, quoted, line_of}
-use Rattle.ags_rows.specs.Lines.{TextLine, AreLines, IsFirstLine, line_bytes, ending_bytes, after_mark}
-use Rattle.ags_rows.specs.Rows.{descriptor_text, IsRow, AreRowsFrom, may_follow, is_header, data_row, rows_of}
-use Rattle.ags_rows.specs.Order.{MayStandBehind}
-use Rattle.ags_rows.specs.Findings.{At, File, IsFile, LineBreaks, OutOfPlace, RowBreaks, StandsInOrder, FirstFound, phases, AreFindings, AreGroupsOf}
+use Rattle.ags_rows.specs.Lines.{TextLine, line_bytes, ending_bytes, after_mark}
+use Rattle.ags_rows.specs.Rows.{descriptor_text, IsRow, RowsFrom}
+use Rattle.ags_rows.specs.Order.{may_follow, is_header, OutOfPlace}
+use Rattle.ags_rows.specs.Groups.{data_row, rows_of}
+use Rattle.ags_rows.specs.Collecting.{At, OneOf}
+use Rattle.ags_rows.specs.Stands.{line_rules, StandsInOrder}
+use Rattle.ags_rows.specs.Parsing.{IsFirstLine, MayStandBehind}
+use Rattle.ags_rows.specs.Findings.{File, IsFile, FirstFound, phases, RowFindings, FileGroups}
 use Rattle.ags_rows.specs.Contents.{Contents, contents_of, group_contents}
-use Rattle.ags_rows.specs.Writing.{written_row, group_lines, empty_line, written_lines, text_of, written_file, IsPlainByte, ArePlain, IsPlainGroup, IsWellFormed}
+use Rattle.ags_rows.specs.Writing.{written_row, group_lines, empty_line, written_lines, text_of, written_file, IsPlainByte, ArePlain, IsWellFormedGroup, IsWellFormed}
+use Rattle.ags_rows.specs.Names.{is_capital, is_digit, is_group_letter, is_heading_letter, is_group_name, is_heading_name}
 use Rattle.ags_rows.proofs.Fields.{same_fields, line_spells}
-use Rattle.ags_rows.proofs.Breaking.{breaks_which, late_is_read, blank_no_row, rows_join}
-use Rattle.ags_rows.proofs.Places.{row_which}
+use Rattle.ags_rows.proofs.Cutting.{AreCut, lines_from_cut}
+use Rattle.ags_rows.proofs.Breaking.{blank_clear, row_clear, blank_no_row, rows_join}
 use Rattle.ags_rows.proofs.Once.{one_grouping}
 
 -- ---- a line
@@ -91,6 +94,55 @@ no_return t h = all_weaker (λ b p. p.no_return) t h
 no_feed : (t : List ℕ) → AllByRecursion IsPlainByte t → Lacks 10 t
 no_feed t h = all_weaker (λ b p. p.no_feed) t h
 
+-- ---- what is well formed can be written
+
+between : (low high b : ℕ) → nat_le low b && nat_le b high ≡ true → 13 < low → high < 128 → IsPlainByte b
+between low high b e more less =
+    let p = and_parts (nat_le low b) (nat_le b high) e in
+    plain_byte b (omega (arith, leb-true low b p.0, more)) (omega (arith, leb-true b high p.1, less))
+
+group_letter_plain : (b : ℕ) → is_group_letter b ≡ true → IsPlainByte b
+group_letter_plain b e = elim (or_cases (is_capital b) (is_digit b) e) [
+  | inl p ↦ between 65 90 b p (omega arith) (omega arith)
+  | inr p ↦ between 48 57 b p (omega arith) (omega arith)
+]
+
+heading_letter_plain : (b : ℕ) → is_heading_letter b ≡ true → IsPlainByte b
+heading_letter_plain b e = elim (or_cases (is_group_letter b) (eqb b 95) e) [
+  | inl p ↦ group_letter_plain b p
+  | inr p ↦ let q = eqb-true b 95 p in plain_byte b (omega (arith, q)) (omega (arith, q))
+]
+
+all_tested : (P : ℕ → Type 0) (p : ℕ → Bool) → ((b : ℕ) → p b ≡ true → P b) → (t : List ℕ) → list_all p t ≡ true → AllByRecursion P t
+all_tested P p each [] e = tt
+all_tested P p each (b ∷ t) e = let q = and_parts (p b) (list_all p t) e in (each b q.0, all_tested P p each t q.1)
+
+group_name_plain : (name : List ℕ) → is_group_name name ≡ true → AllByRecursion IsPlainByte name
+group_name_plain name e = all_tested IsPlainByte is_group_letter group_letter_plain name (and_parts (nat_le 1 (length name) && nat_le (length name) 4) (list_all is_group_letter name) e).1
+
+heading_name_plain : (name : List ℕ) → is_heading_name name ≡ true → AllByRecursion IsPlainByte name
+heading_name_plain name e = all_tested IsPlainByte is_heading_letter heading_letter_plain name (and_parts (nat_le 1 (length name) && nat_le (length name) 9) (list_all is_heading_letter name) e).1
+
+-- a group of bytes that can be written
+pub record IsPlainGroup (group : Contents) : Type 0 where
+  pub name : AllByRecursion IsPlainByte group.name
+  pub headings : ArePlain group.headings
+  pub units : ArePlain group.units
+  pub types : ArePlain group.types
+  pub rows : AllByRecursion ArePlain group.rows
+
+group_plain : (g : Contents) → IsWellFormedGroup g → IsPlainGroup g
+group_plain g h = record {
+  name = group_name_plain g.name h.name;
+  headings = all_weaker (λ f e. heading_name_plain f e) g.headings h.headings;
+  units = h.units.plain;
+  types = h.types.plain;
+  rows = all_weaker (λ r u. u.plain) g.rows h.rows;
+}
+
+pub groups_plain : (gs : List Contents) → IsWellFormed gs → AllByRecursion IsPlainGroup gs
+groups_plain gs h = all_weaker (λ g w. group_plain g w) gs h.each
+
 -- ---- each line
 
 -- a line that breaks nothing
@@ -125,21 +177,16 @@ lines_clean [] h = tt
 lines_clean (g ∷ []) h = group_clean g h.0
 lines_clean (g ∷ k ∷ gs) h = all_append IsClean (group_lines g) (empty_line ∷ written_lines (k ∷ gs)) (group_clean g h.0) (empty_clean, lines_clean (k ∷ gs) h.1)
 
-clean_breaks_none : (line : TextLine) → IsClean line → (code : Code) → LineBreaks line code → ⊥
-clean_breaks_none line c code h =
-    elim (breaks_which line code h) [
-      | inl e ↦
-          let q = subst (LineBreaks line) e h in
-          let p = All-contains IsPlainByte line.content q.1 (All-from_recursion IsPlainByte line.content c.plain) (q.0, q.2, q.3) in
-          omega (arith, p.ascii, q.4)
-      | inr (inl e) ↦ let z : Lf ≡ CrLf = sym (subst (LineBreaks line) e h) ∙ c.whole in absurd cc
-      | inr (inr late) ↦ elim c.kind [
-        | inl e ↦
-            let z : readings.Blank ≡ readings.Broken code = late_is_read line 0 readings.Blank code (subst (AllByRecursion (λ b. b ≡ 32)) (sym e) tt, no_return line.content c.plain) h late in
-            absurd cc
-        | inr k ↦ let z : readings.Row k.0 ≡ readings.Broken code = late_is_read line k.0.line (readings.Row k.0) code (k.1, refl) h late in absurd cc
-      ]
-    ]
+clean_breaks_none : (n : ℕ) (line : TextLine) → IsClean line → (f : Finding) → OneOf (line_rules n line) f → ⊥
+clean_breaks_none n line c f (inl h) =
+    let q = h.0 in
+    let p = All-contains IsPlainByte line.content q.1 (All-from_recursion IsPlainByte line.content c.plain) (q.0, q.2, q.3) in
+    omega (arith, p.ascii, q.4)
+clean_breaks_none n line c f (inr (inl h)) = let z : Lf ≡ CrLf = sym h.0 ∙ c.whole in absurd cc
+clean_breaks_none n line c f (inr (inr h)) = elim c.kind [
+  | inl e ↦ blank_clear n line (subst (AllByRecursion (λ b. b ≡ 32)) (sym e) tt) (no_return line.content c.plain) f h
+  | inr k ↦ row_clear n line k.0 k.1 f h
+]
 
 -- ---- the lines of the text
 
@@ -156,7 +203,7 @@ line_first line rest c = record {
   last = λ e. let z : CrLf ≡ Nothing = sym c.whole ∙ e in absurd cc;
 }
 
-pub lines_written : (lines : List TextLine) → AllByRecursion IsClean lines → AreLines (text_of lines) lines
+pub lines_written : (lines : List TextLine) → AllByRecursion IsClean lines → AreCut (text_of lines) lines
 lines_written [] h = refl
 lines_written (line ∷ lines) h = (text_of lines, line_first line (text_of lines) h.0, lines_written lines h.1)
 
@@ -184,13 +231,13 @@ pub groups_from : ℕ → List Contents → List Group
 groups_from n [] = []
 groups_from n (g ∷ gs) = group_from n g ∷ groups_from (n + length (group_lines g) + 1) gs
 
-data_rows : (n : ℕ) (rows : List (List (List ℕ))) → AllByRecursion ArePlain rows → AreRowsFrom n (map (written_row kinds.Data) rows) (map data_row (data_from n rows))
+data_rows : (n : ℕ) (rows : List (List (List ℕ))) → AllByRecursion ArePlain rows → RowsFrom n (map (written_row kinds.Data) rows) (map data_row (data_from n rows))
 unfolding data_from
 data_rows n [] h = refl
 data_rows n (row ∷ rows) h =
     inl (record { line = n; descriptor = kinds.Data; items = row }, map data_row (data_from (n + 1) rows), refl, refl, spelled kinds.Data row h.0, data_rows (n + 1) rows h.1)
 
-group_rows : (n : ℕ) (g : Contents) → IsPlainGroup g → AreRowsFrom n (group_lines g) (rows_of (group_from n g))
+group_rows : (n : ℕ) (g : Contents) → IsPlainGroup g → RowsFrom n (group_lines g) (rows_of (group_from n g))
 group_rows n g h =
     inl (
       _,
@@ -215,10 +262,10 @@ group_rows n g h =
       ),
     )
 
-pub rows_written : (n : ℕ) (gs : List Contents) → AllByRecursion IsPlainGroup gs → AreRowsFrom n (written_lines gs) (flat_map rows_of (groups_from n gs))
+pub rows_written : (n : ℕ) (gs : List Contents) → AllByRecursion IsPlainGroup gs → RowsFrom n (written_lines gs) (flat_map rows_of (groups_from n gs))
 unfolding groups_from
 rows_written n [] h = refl
-rows_written n (g ∷ []) h = subst (AreRowsFrom n (group_lines g)) (sym (append-nil (rows_of (group_from n g)))) (group_rows n g h.0)
+rows_written n (g ∷ []) h = subst (RowsFrom n (group_lines g)) (sym (append-nil (rows_of (group_from n g)))) (group_rows n g h.0)
 rows_written n (g ∷ k ∷ gs) h =
     let next = n + length (group_lines g) in
     let rest = flat_map rows_of (groups_from (next + 1) (k ∷ gs)) in
@@ -296,11 +343,12 @@ place_clear x rows first m place row at (inr (inr h)) =
 
 order_clear : (x : FileRow) (rows : List FileRow) → x.descriptor ≡ kinds.Group → MayStandBehind kinds.Type (x ∷ rows) → (f : Finding) → StandsInOrder (x ∷ rows) f → ⊥
 order_clear x rows first m f (inl h) = let z : x ∷ rows ≡ [] = h.0 in cc
-order_clear x rows first m f (inr h) =
-    elim (row_which (x ∷ rows) h.0 h.1.0 f.code h.1.2) [
-      | inl e ↦ place_clear x rows first m h.0 h.1.0 h.1.1 (subst (RowBreaks (x ∷ rows) h.0 h.1.0) e h.1.2)
-      | inr e ↦ let q = subst (RowBreaks (x ∷ rows) h.0 h.1.0) e h.1.2 in q.1 (named kinds.Type (x ∷ rows) m h.0 h.1.0 h.1.1 q.0)
-    ]
+order_clear x rows first m f (inr (inl h)) = elim h.3 [
+  | inl k ↦ place_clear x rows first m h.0 h.1 h.2 k.0
+  | inr (inl k) ↦ k.0.1 (named kinds.Type (x ∷ rows) m h.0 h.1 h.2 k.0.0)
+  | inr (inr k) ↦ k
+]
+order_clear x rows first m f (inr (inr h)) = h
 
 -- ---- the file
 
@@ -314,7 +362,7 @@ file_of gs = record { lines = written_lines gs; rows = flat_map rows_of (groups_
 
 file_is : (gs : List Contents) → AllByRecursion IsPlainGroup gs → IsFile (written_file gs) (file_of gs)
 file_is gs h = record {
-  lines = subst (λ (t : List ℕ). AreLines t (written_lines gs)) (sym (no_mark gs)) (lines_written (written_lines gs) (lines_clean gs h));
+  lines = lines_from_cut _ (written_lines gs) (subst (λ (t : List ℕ). AreCut t (written_lines gs)) (sym (no_mark gs)) (lines_written (written_lines gs) (lines_clean gs h)));
   rows = rows_written 1 gs h;
 }
 
@@ -322,18 +370,18 @@ no_findings : (gs : List Contents) → IsWellFormed gs → FirstFound (phases (f
 unfolding groups_from
 no_findings [] h = absurd (h.some refl)
 no_findings (g ∷ gs) h =
-    let all = lines_clean (g ∷ gs) h.plain in
+    let all = lines_clean (g ∷ gs) (groups_plain (g ∷ gs) h) in
     let order = groups_behind (groups_from 1 (g ∷ gs)) kinds.Type type_ends [] in
     inr (
-      λ f s. clean_breaks_none s.1 (all_at IsClean (written_lines (g ∷ gs)) s.0 s.1 all s.2) f.code s.3.0,
+      λ f s. clean_breaks_none (s.0 + 1) s.1 (all_at IsClean (written_lines (g ∷ gs)) s.0 s.1 all s.2) f s.3,
       inr (order_clear _ _ refl order, refl),
     )
 
-groups_are : (gs : List Contents) → IsWellFormed gs → AreGroupsOf (written_file gs) (groups_from 1 gs)
-groups_are gs h = ((file_of gs, file_is gs h.plain, no_findings gs h), file_of gs, file_is gs h.plain, refl)
+groups_are : (gs : List Contents) → IsWellFormed gs → FileGroups (written_file gs) (groups_from 1 gs)
+groups_are gs h = (file_of gs, file_is gs (groups_plain gs h), no_findings gs h, refl)
 
-pub file_is_read : (gs : List Contents) → IsWellFormed gs → AreFindings (written_file gs) [] × ((groups : List Group) → AreGroupsOf (written_file gs) groups → contents_of groups ≡ gs)
+pub file_is_read : (gs : List Contents) → IsWellFormed gs → RowFindings (written_file gs) [] × ((groups : List Group) → FileGroups (written_file gs) groups → contents_of groups ≡ gs)
 file_is_read gs h = (
-  (file_of gs, file_is gs h.plain, no_findings gs h),
+  (file_of gs, file_is gs (groups_plain gs h), no_findings gs h),
   λ groups is. ap (λ (l : List Group). contents_of l) (one_grouping (written_file gs) groups (groups_from 1 gs) is (groups_are gs h)) ∙ contents_written 1 gs,
 )

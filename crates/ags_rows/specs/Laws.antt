@@ -1,10 +1,10 @@
 -- Laws over the definitions alone.
-use Rattle.std.specs.Prelude.{◌≡◌, ◌≢◌, ◌↔◌, ℕ, List, [], map, Contains, Option, Some, MatchOption}
+use Rattle.std.specs.Prelude.{◌≡◌, ◌≢◌, ◌↔◌, ℕ, List, [], Contains, Option, Some, MatchOption}
 use Rattle.std.specs.List.{AllByRecursion}
-use Rattle.ags_rows.specs.Bytes.{Lacks}
+use Rattle.ags_rows.specs.Bytes.{carriage_return, line_feed, Lacks}
 use Rattle.ags_rows.specs.Spelling.{Spells, line_of}
 use Rattle.ags_rows.specs.declared.codes.Finding.{Finding}
-use Rattle.ags_rows.specs.Findings.{AreFindings, AreGroupsOf}
+use Rattle.ags_rows.specs.Findings.{RowFindings, LooseFindings, FileGroups, LooseGroups}
 use Rattle.ags_rows.specs.declared.rows.Group.{Group}
 use Rattle.ags_rows.specs.Contents.{Contents, contents_of}
 use Rattle.ags_rows.specs.Writing.{IsWellFormed, written_file}
@@ -15,27 +15,30 @@ use Rattle.std.specs.List.Sorted.{IsStrictlySortedBy}
 abbrev pub OneSpelling : Type 0
 OneSpelling =
     ((text : List ℕ) (fields others : List (List ℕ)) → Spells text fields → Spells text others → fields ≡ others)
-    × ((fields : List (List ℕ)) → fields ≢ [] → AllByRecursion (λ f. Lacks 13 f × Lacks 10 f) fields → Spells (line_of fields) fields)
+    × ((fields : List (List ℕ)) → fields ≢ [] → AllByRecursion (λ f. Lacks carriage_return f × Lacks line_feed f) fields → Spells (line_of fields) fields)
 
--- Two lists of findings in order that have the same members are one list, and a file has one list of findings.
+-- Two lists of findings in order that have the same members are one list, and a file has one list of findings, read loosely or not.
 abbrev pub OneListOfFindings : Type 0
 OneListOfFindings =
     ((found others : List Finding) → IsStrictlySortedBy finding_cmp found → IsStrictlySortedBy finding_cmp others → ((f : Finding) → Contains found f ↔ Contains others f) → found ≡ others)
-    × ((bytes : List ℕ) (found others : List Finding) → AreFindings bytes found → AreFindings bytes others → found ≡ others)
+    × ((bytes : List ℕ) (found others : List Finding) → RowFindings bytes found → RowFindings bytes others → found ≡ others)
+    × ((bytes : List ℕ) (found others : List Finding) → LooseFindings bytes found → LooseFindings bytes others → found ≡ others)
 
 -- What reads a written line as `cells` does finds its fields.
 abbrev pub WrittenLineIsRead : Type 0
 WrittenLineIsRead =
-    (fields : List (List ℕ)) (found : Option (List (List ℕ))) → fields ≢ [] → AllByRecursion (λ f. Lacks 13 f × Lacks 10 f) fields
+    (fields : List (List ℕ)) (found : Option (List (List ℕ))) → fields ≢ [] → AllByRecursion (λ f. Lacks carriage_return f × Lacks line_feed f) fields
     → MatchOption found ((others : List (List ℕ)) → Spells (line_of fields) others → ⊥) (λ others. Spells (line_of fields) others)
     → found ≡ Some fields
 
--- A file has one list of groups.
+-- A file has one list of groups, read loosely or not.
 abbrev pub OneListOfGroups : Type 0
-OneListOfGroups = (bytes : List ℕ) (groups others : List Group) → AreGroupsOf bytes groups → AreGroupsOf bytes others → groups ≡ others
+OneListOfGroups =
+    ((bytes : List ℕ) (groups others : List Group) → FileGroups bytes groups → FileGroups bytes others → groups ≡ others)
+    × ((bytes : List ℕ) (groups others : List Group) → LooseGroups bytes groups → LooseGroups bytes others → groups ≡ others)
 
 -- A written file has no findings, and what stands in its groups is what was written.
 abbrev pub WrittenFileIsRead : Type 0
 WrittenFileIsRead =
     (contents : List Contents) → IsWellFormed contents
-    → AreFindings (written_file contents) [] × ((groups : List Group) → AreGroupsOf (written_file contents) groups → contents_of groups ≡ contents)
+    → RowFindings (written_file contents) [] × ((groups : List Group) → FileGroups (written_file contents) groups → contents_of groups ≡ contents)

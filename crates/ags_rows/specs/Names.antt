@@ -2,18 +2,15 @@
 use Rattle.std.specs.Prelude.{ℕ, List, [], ◌∷◌, ◌==◌, length, nat_le, Bool, ◌&&◌, ◌||◌, codes}
 use Rattle.std.specs.List.{list_all, list_any}
 use Rattle.std.specs.Str.{bytes_eq}
+use Rattle.ags_rows.specs.Bytes.{first_capital, last_capital, first_digit, last_digit, low_line}
 
 -- A to Z
 abbrev pub is_capital : ℕ → Bool
-is_capital b = nat_le 65 b && nat_le b 90
+is_capital b = nat_le first_capital b && nat_le b last_capital
 
 -- 0 to 9
 abbrev pub is_digit : ℕ → Bool
-is_digit b = nat_le 48 b && nat_le b 57
-
--- the low line
-abbrev pub low_line : ℕ
-low_line = 95
+is_digit b = nat_le first_digit b && nat_le b last_digit
 
 abbrev pub is_group_letter : ℕ → Bool
 is_group_letter b = is_capital b || is_digit b

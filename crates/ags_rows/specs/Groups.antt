@@ -1,0 +1,23 @@
+-- The groups of a file (Rule 2): a GROUP row and all rows before the next one.
+use Rattle.std.specs.Prelude.{◌≡◌, List, [], ◌∷◌, map, flat_map}
+use Rattle.ags_rows.specs.declared.rows.Descriptor.TheVariants as kinds
+use Rattle.ags_rows.specs.declared.rows.FileRow.{FileRow}
+use Rattle.ags_rows.specs.declared.rows.Row.{Row}
+use Rattle.ags_rows.specs.declared.rows.Group.{Group}
+
+-- a DATA row among the others
+abbrev pub data_row : Row → FileRow
+data_row row = record { line = row.line; descriptor = kinds.Data; items = row.cells }
+
+-- the rows of a group: one of each kind, and its DATA rows
+abbrev pub rows_of : Group → List FileRow
+rows_of group =
+    record { line = group.line; descriptor = kinds.Group; items = group.name ∷ [] }
+    ∷ record { line = group.heading_line; descriptor = kinds.Heading; items = group.headings }
+    ∷ record { line = group.unit_line; descriptor = kinds.Unit; items = group.units }
+    ∷ record { line = group.type_line; descriptor = kinds.Type; items = group.types }
+    ∷ map data_row group.rows
+
+-- The rows are cut into these groups: the groups' rows, one group after the other, are the rows.
+abbrev pub Groups : List FileRow → List Group → Type 0
+Groups rows groups = flat_map rows_of groups ≡ rows

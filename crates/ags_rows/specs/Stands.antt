@@ -1,0 +1,74 @@
+-- What stands against a file: for each phase its sentences, one for each rule.
+use Rattle.std.specs.Prelude.{◌≡◌, ◌≢◌, ℕ, ◌+◌, ◌≤◌, List, [], ◌∷◌, ◌++◌, Any, Contains, length}
+use Rattle.std.specs.List.{AllByRecursion}
+use Rattle.ags_rows.specs.declared.rows.Ending.TheVariants.{Lf}
+use Rattle.ags_rows.specs.declared.rows.Descriptor.{Descriptor}
+use Rattle.ags_rows.specs.declared.rows.Descriptor.TheVariants as kinds
+use Rattle.ags_rows.specs.declared.rows.FileRow.{FileRow}
+use Rattle.ags_rows.specs.declared.codes.Finding.{Finding}
+use Rattle.ags_rows.specs.declared.codes.Code.TheVariants.{Rule1, Rule2, Rule2a, Rule2b, Rule3, Rule4, Rule5, Rule6}
+use Rattle.ags_rows.specs.Bytes.{space, carriage_return, ascii_end, Lacks}
+use Rattle.ags_rows.specs.Collecting.{Notes, Among, OneOf}
+use Rattle.ags_rows.specs.Lines.{TextLine}
+use Rattle.ags_rows.specs.Spelling.{Spells}
+use Rattle.ags_rows.specs.Rows.{descriptor_text}
+use Rattle.ags_rows.specs.Order.{OutOfPlace}
+
+-- ---- the first phase: each line by itself
+
+-- no byte, or spaces only
+abbrev pub IsBlank : List ℕ → Type 0
+IsBlank content = AllByRecursion (λ b. b ≡ space) content
+
+-- a byte that is no ASCII
+abbrev pub HasHighByte : List ℕ → Type 0
+HasHighByte content = Any (λ b. ascii_end ≤ b) content
+
+-- no fields spell it
+abbrev pub NoFields : List ℕ → Type 0
+NoFields content = (fields : List (List ℕ)) → Spells content fields → ⊥
+
+abbrev pub IsDescriptor : List ℕ → Type 0
+IsDescriptor field = (kind : Descriptor) × (field ≡ descriptor_text kind)
+
+-- fields spell it, and the first is no descriptor
+abbrev pub LacksDescriptor : List ℕ → Type 0
+LacksDescriptor content = (first : List ℕ) × (fields : List (List ℕ)) × Spells content (first ∷ fields) × (IsDescriptor first → ⊥)
+
+-- Rules 6, 5, 3: how a line spells its fields.
+abbrev pub spelling_rules : ℕ → TextLine → List (Finding → Type 0)
+spelling_rules number line =
+    Notes number Rule6 [] (Contains line.content carriage_return)
+    ∷ Notes number Rule5 [] ((IsBlank line.content → ⊥) × Lacks carriage_return line.content × NoFields line.content)
+    ∷ Notes number Rule3 [] (LacksDescriptor line.content)
+    ∷ []
+
+-- Rules 1, 2a: ASCII alone, and CR LF at the end.
+abbrev pub byte_rules : ℕ → TextLine → List (Finding → Type 0)
+byte_rules number line = Notes number Rule1 [] (HasHighByte line.content) ∷ Notes number Rule2a [] (line.ending ≡ Lf) ∷ []
+
+-- all rules of a line
+abbrev pub line_rules : ℕ → TextLine → List (Finding → Type 0)
+line_rules number line = byte_rules number line ++ spelling_rules number line
+
+-- what stands in the lines, which are numbered from 1
+abbrev pub StandsInLines : List TextLine → Finding → Type 0
+StandsInLines lines = Among lines (λ place line. OneOf (line_rules (place + 1) line))
+
+-- the same with Rules 1 and 2a struck out
+abbrev pub StandsInSpelling : List TextLine → Finding → Type 0
+StandsInSpelling lines = Among lines (λ place line. OneOf (spelling_rules (place + 1) line))
+
+-- ---- the second phase: each row among the rows
+
+-- a GROUP row without exactly one item
+abbrev pub IsUnnamed : FileRow → Type 0
+IsUnnamed row = (row.descriptor ≡ kinds.Group) × (length row.items ≢ 1)
+
+-- Rules 2b, 4: the order of rows, and the one name of a group.
+abbrev pub row_rules : List FileRow → ℕ → FileRow → List (Finding → Type 0)
+row_rules rows place row = Notes row.line Rule2b [] (OutOfPlace rows place row) ∷ Notes row.line Rule4 [] (IsUnnamed row) ∷ []
+
+-- Rule 2: there is a row; then each row.
+abbrev pub StandsInOrder : List FileRow → Finding → Type 0
+StandsInOrder rows = OneOf (Notes 0 Rule2 [] (rows ≡ []) ∷ Among rows (λ place row. OneOf (row_rules rows place row)) ∷ [])
