@@ -1,5 +1,5 @@
 -- Groups against which nothing stands, and contents that are well formed, are one.
-use Rattle.std.proofs.Common.{◌≡◌, ◌≢◌, ℕ, ◌+◌, ◌<◌, Bool, true, false, List, [], ◌∷◌, length, map, refl, sym, ap, subst, ◌∙◌, arith, inl, inr}
+use Rattle.std.proofs.Common.{◌≡◌, ◌≢◌, ℕ, Bool, true, false, List, [], ◌∷◌, length, map, refl, sym, ap, subst, ◌∙◌, inl, inr}
 use Rattle.std.specs.List.{AllByRecursion}
 use Rattle.std.proofs.lemmas.Bool.{cases_eq, true_from_ne_false}
 use Rattle.ags_rows.specs.declared.rows.Row.{Row}
@@ -9,8 +9,8 @@ use Rattle.ags_rows.specs.declared.codes.Code.TheVariants.{Rule2, Rule4, Rule19,
 use Rattle.ags_rows.specs.declared.codes.Finding.{Finding}
 use Rattle.ags_rows.specs.Names.{is_group_name, is_heading_name}
 use Rattle.ags_rows.specs.Collecting.{At, OneOf}
-use Rattle.ags_rows.specs.Stands.{shape_rules, name_rules, group_rules, StandsInHeadings, StandsInGroups}
-use Rattle.ags_rows.specs.Contents.{Contents, contents_of, fields_of, group_contents}
+use Rattle.ags_rows.specs.Stands.{shape_rules, name_rules, StandsInHeadings, StandsInGroups}
+use Rattle.ags_rows.specs.Contents.{contents_of, fields_of, group_contents}
 use Rattle.ags_rows.specs.Writing.{ArePlain, AreUnder, AreHeadings, StandOnce, names_of, IsWellFormedGroup, IsWellFormed}
 use Rattle.ags_rows.proofs.Written.{IsPlainGroup, all_at}
 use Rattle.ags_rows.proofs.WellFormed.{all_from_at, once_apart, once_from, map_at, at_map}
@@ -82,11 +82,11 @@ no_rows (row ∷ rows) e = absurd cc
 rows_formed : (groups : List Group) → Clear groups → (k : ℕ) (g : Group) → At groups k g → AllByRecursion ArePlain (map fields_of g.rows) → AllByRecursion (AreUnder g.headings) (map fields_of g.rows)
 rows_formed groups clear k g at plain =
     all_from_at (AreUnder g.headings) (map fields_of g.rows) (λ j fields here.
-        let row = at_map fields_of g.rows j fields here in
-        subst (AreUnder g.headings) row.2 (record {
-          count = same_count (length row.0.cells) (length g.headings) (λ ne. clear (found_at row.0.line Rule4 g.name) (k, g, at, inl (inr (inr (inr (inr (inl (j, row.0, row.1, (ne, refl, refl, refl)))))))));
-          plain = all_at ArePlain (map fields_of g.rows) j row.0.cells plain (map_at fields_of g.rows j row.0 row.1);
-        }))
+    let row = at_map fields_of g.rows j fields here in
+    subst (AreUnder g.headings) row.2 (record {
+      count = same_count (length row.0.cells) (length g.headings) (λ ne. clear (found_at row.0.line Rule4 g.name) (k, g, at, inl (inr (inr (inr (inr (inl (j, row.0, row.1, (ne, refl, refl, refl)))))))));
+      plain = all_at ArePlain (map fields_of g.rows) j row.0.cells plain (map_at fields_of g.rows j row.0 row.1);
+    }))
 
 headings_formed : (groups : List Group) → Clear groups → (k : ℕ) (g : Group) → At groups k g → AreHeadings g.headings
 headings_formed groups clear k g at = record {
@@ -116,9 +116,9 @@ group_formed groups clear k g at plain = record {
 names_formed : (groups : List Group) → Clear groups → StandOnce (group_names groups)
 names_formed groups clear =
     once_from (group_names groups) (λ i j x y lt a b e.
-        let group = at_map (λ (g : Group). g.name) groups j y b in
-        let earlier : At (group_names groups) i group.0.name = subst (At (group_names groups) i) (e ∙ sym group.2) a in
-        clear (found_at group.0.line P1 group.0.name) (j, group.0, group.1, inr (inl (inr (inl ((i, lt, earlier), refl, refl, refl))))))
+    let group = at_map (λ (g : Group). g.name) groups j y b in
+    let earlier : At (group_names groups) i group.0.name = subst (At (group_names groups) i) (e ∙ sym group.2) a in
+    clear (found_at group.0.line P1 group.0.name) (j, group.0, group.1, inr (inl (inr (inl ((i, lt, earlier), refl, refl, refl))))))
 
 pub clear_formed : (groups : List Group) → groups ≢ [] → AllByRecursion IsPlainGroup (contents_of groups) → ((f : Finding) → StandsInGroups groups f → ⊥) → IsWellFormed (contents_of groups)
 clear_formed groups some plain clear = record {

@@ -4,7 +4,7 @@ use Rattle.ags_rows.specs.declared.rows.Group.{Group}
 use Rattle.ags_rows.specs.declared.codes.Finding.{Finding}
 use Rattle.ags_rows.specs.Groups.{rows_of}
 use Rattle.ags_rows.specs.Stands.{StandsInLines, StandsInOrder, StandsInGroups}
-use Rattle.ags_rows.specs.Findings.{File, IsFile, FirstFound, phases, later_phases, RowFindings, FileGroups}
+use Rattle.ags_rows.specs.Findings.{File, IsFile, FirstFound, phases, later_phases, FileGroups}
 use Rattle.ags_rows.specs.Contents.{Contents, contents_of}
 use Rattle.ags_rows.specs.Writing.{written_lines, written_file, IsWellFormed}
 use Rattle.ags_rows.specs.Laws.{WrittenFileIsRead}

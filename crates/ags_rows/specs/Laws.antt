@@ -42,7 +42,7 @@ OneListOfGroups =
 abbrev pub WrittenFileIsRead : Type 0
 WrittenFileIsRead =
     ((contents : List Contents) → IsWellFormed contents
-        → RowFindings (written_file contents) []
-        × ((groups : List Group) × FileGroups (written_file contents) groups)
-        × ((groups : List Group) → FileGroups (written_file contents) groups → contents_of groups ≡ contents))
+    → RowFindings (written_file contents) []
+    × ((groups : List Group) × FileGroups (written_file contents) groups)
+    × ((groups : List Group) → FileGroups (written_file contents) groups → contents_of groups ≡ contents))
     × ((bytes : List ℕ) (groups : List Group) → FileGroups bytes groups → IsWellFormed (contents_of groups))
