@@ -3,6 +3,7 @@ pub mod Pieces
 pub mod Fields
 pub mod Cutting
 pub mod Breaking
+pub mod Repeats
 pub mod Cuts
 pub mod Files
 pub mod Once
