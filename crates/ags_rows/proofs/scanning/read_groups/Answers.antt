@@ -1,4 +1,4 @@
-use Rattle.std.proofs.Common.{◌≡◌, ◌≢◌, List, [], refl, sym, subst, inl, inr}
+use Rattle.std.proofs.Common.{◌≡◌, ◌≢◌, List, [], refl, subst, inl, inr}
 use Rattle.ags_rows.specs.declared.rows.FileRow.{FileRow}
 use Rattle.ags_rows.specs.declared.rows.Group.{Group}
 use Rattle.ags_rows.specs.declared.codes.Finding.{Finding}
@@ -6,7 +6,7 @@ use Rattle.ags_rows.specs.Groups.{Groups}
 use Rattle.ags_rows.specs.Stands.{StandsInOrder, StandsInGroups}
 use Rattle.ags_rows.specs.Findings.{Lists, FirstFound, GroupsOrNone, later_phases}
 use Rattle.ags_rows.proofs.Files.{is_nil, is_some}
-use Rattle.ags_rows.proofs.Collecting.{none_listed, lists_last}
+use Rattle.ags_rows.proofs.Collecting.{none_listed}
 use Rattle.ags_rows.proofs.Cuts.{clear_begins}
 use Rattle.ags_rows.proofs.Once.{same_cutting}
 use Rattle.ags_rows.proofs.scanning.read_groups.Goals as goal
