@@ -62,75 +62,51 @@ fn refusal(alloc: Global, text: &str) -> Option<PolicyError> {
 const RULE: &str = "[[rule]]\nnumber = 1\neffect = \"permit\"\n";
 
 #[test]
-fn policies_refused(rt: HostRuntime) -> Result<(), Fail> {
+fn unreadable_policies_refused(rt: HostRuntime) -> Result<(), Fail> {
     let alloc = rt.alloc();
-    let cases = [
-        (
-            "an array that does not close",
-            "[[rule",
-            PolicyError::Syntax,
-        ),
-        (
-            "a number beyond 64 bits",
-            "[[rule]]\nnumber = 99999999999999999999\neffect = \"deny\"\n",
-            PolicyError::Syntax,
-        ),
-        (
-            "another key at the top",
-            "other = 1\n",
-            PolicyError::UnknownKey,
-        ),
-        (
-            "an unknown key after a bad value",
-            "[[rule]]\nnumber = 0\neffect = \"deny\"\n[[rule]]\ncolour = 1\n",
-            PolicyError::UnknownKey,
-        ),
-        (
-            "an unknown key beside a number",
-            "rule = [3, { colour = 1 }]\n",
-            PolicyError::UnknownKey,
-        ),
-        ("one table", "[rule]\ncolour = 1\n", PolicyError::BadValue),
-        ("no array", "rule = 3\n", PolicyError::BadValue),
-        ("no effect", "[[rule]]\nnumber = 1\n", PolicyError::BadValue),
-        (
-            "no number",
-            "[[rule]]\neffect = \"deny\"\n",
-            PolicyError::BadValue,
-        ),
-        (
-            "number 0",
-            "[[rule]]\nnumber = 0\neffect = \"deny\"\n",
-            PolicyError::BadValue,
-        ),
-        (
-            "number 10000",
-            "[[rule]]\nnumber = 10000\neffect = \"deny\"\n",
-            PolicyError::BadValue,
-        ),
-        (
-            "effect *",
-            "[[rule]]\nnumber = 1\neffect = \"*\"\n",
-            PolicyError::BadValue,
-        ),
-        (
-            "a bad value before the order",
-            "[[rule]]\nnumber = 2\neffect = \"deny\"\n[[rule]]\nnumber = 1\n",
-            PolicyError::BadValue,
-        ),
-        (
-            "falling",
-            "[[rule]]\nnumber = 20\neffect = \"deny\"\n[[rule]]\nnumber = 10\neffect = \"deny\"\n",
-            PolicyError::Order,
-        ),
-        (
-            "equal",
-            "[[rule]]\nnumber = 1\neffect = \"deny\"\n[[rule]]\nnumber = 1\neffect = \"deny\"\n",
-            PolicyError::Order,
-        ),
-    ];
-    for (name, text, want) in cases {
-        assert!(rt; refusal(alloc, text) == Some(want), "{name}");
+    for text in [
+        "[[rule",
+        "[[rule]]\nnumber = 99999999999999999999\neffect = \"deny\"\n",
+    ] {
+        assert!(rt; refusal(alloc, text) == Some(PolicyError::Syntax), "{text}");
+    }
+    for text in [
+        "other = 1\n",
+        "[[rule]]\nnumber = 0\neffect = \"deny\"\n[[rule]]\ncolour = 1\n",
+        "rule = [3, { colour = 1 }]\n",
+    ] {
+        assert!(rt;
+            refusal(alloc, text) == Some(PolicyError::UnknownKey),
+            "{text}"
+        );
+    }
+    Ok(())
+}
+
+#[test]
+fn bad_policies_refused(rt: HostRuntime) -> Result<(), Fail> {
+    let alloc = rt.alloc();
+    for text in [
+        "[rule]\ncolour = 1\n",
+        "rule = 3\n",
+        "rule = [3]\n",
+        "[[rule]]\nnumber = 1\n",
+        "[[rule]]\neffect = \"deny\"\n",
+        "[[rule]]\nnumber = 0\neffect = \"deny\"\n",
+        "[[rule]]\nnumber = 10000\neffect = \"deny\"\n",
+        "[[rule]]\nnumber = 1\neffect = \"*\"\n",
+        "[[rule]]\nnumber = 2\neffect = \"deny\"\n[[rule]]\nnumber = 1\n",
+    ] {
+        assert!(rt;
+            refusal(alloc, text) == Some(PolicyError::BadValue),
+            "{text}"
+        );
+    }
+    for text in [
+        "[[rule]]\nnumber = 20\neffect = \"deny\"\n[[rule]]\nnumber = 10\neffect = \"deny\"\n",
+        "[[rule]]\nnumber = 1\neffect = \"deny\"\n[[rule]]\nnumber = 1\neffect = \"deny\"\n",
+    ] {
+        assert!(rt; refusal(alloc, text) == Some(PolicyError::Order), "{text}");
     }
     Ok(())
 }
@@ -314,6 +290,9 @@ fn callers_refusal(alloc: Global, text: &str) -> Option<CallersError> {
     }
 }
 
+const WHO: &str = "firm = \"A\"\nrole = \"b\"\n";
+
+/// 64 characters.
 const LONGEST: &str = "1234567890123456789012345678901234567890123456789012345678901234";
 
 #[test]
@@ -341,25 +320,28 @@ fn callers_refused(rt: HostRuntime) -> Result<(), Fail> {
     ] {
         assert!(rt; callers_refusal(alloc, text) == Some(want), "{text}");
     }
-    for (token, want) in [
-        ("", true),
-        ("a b", true),
-        ("é", true),
-        ("!~", false),
-        (LONGEST, false),
+    Ok(())
+}
+
+#[test]
+fn tokens_read(rt: HostRuntime) -> Result<(), Fail> {
+    let alloc = rt.alloc();
+    for token in ["!~", LONGEST] {
+        let text = format!(in alloc; "[[caller]]\ntoken = \"{token}\"\n{WHO}")?;
+        assert!(rt; callers_refusal(alloc, text.as_str()).is_none(), "{token}");
+    }
+    for token in [
+        "",
+        "a b",
+        "é",
+        "12345678901234567890123456789012345678901234567890123456789012345",
     ] {
-        let text = format!(in alloc;
-            "[[caller]]\ntoken = \"{token}\"\nfirm = \"A\"\nrole = \"b\"\n"
-        )?;
+        let text = format!(in alloc; "[[caller]]\ntoken = \"{token}\"\n{WHO}")?;
         assert!(rt;
-            callers_refusal(alloc, text.as_str()).is_some() == want,
+            callers_refusal(alloc, text.as_str()) == Some(CallersError::BadValue),
             "{token}"
         );
     }
-    let text = format!(in alloc;
-        "[[caller]]\ntoken = \"{LONGEST}5\"\nfirm = \"A\"\nrole = \"b\"\n"
-    )?;
-    assert!(rt; callers_refusal(alloc, text.as_str()) == Some(CallersError::BadValue));
     Ok(())
 }
 
