@@ -51,11 +51,12 @@ fn days(rt: HostRuntime) -> Result<(), Fail> {
     Ok(())
 }
 
-/// What reading a policy refuses; none where it is read.
-fn refusal(alloc: Global, text: &str) -> Option<PolicyError> {
+/// What reading a policy refuses; none where it is read. Want of memory ends the test.
+fn refusal(alloc: Global, text: &str) -> Result<Option<PolicyError>, PolicyError> {
     match Policy::read(alloc, text) {
-        Ok(_) => None,
-        Err(error) => Some(error),
+        Ok(_) => Ok(None),
+        Err(PolicyError::NoMemory) => Err(PolicyError::NoMemory),
+        Err(error) => Ok(Some(error)),
     }
 }
 
@@ -68,17 +69,16 @@ fn unreadable_policies_refused(rt: HostRuntime) -> Result<(), Fail> {
         "[[rule",
         "[[rule]]\nnumber = 99999999999999999999\neffect = \"deny\"\n",
     ] {
-        assert!(rt; refusal(alloc, text) == Some(PolicyError::Syntax), "{text}");
+        let answer = refusal(alloc, text)?;
+        assert!(rt; answer == Some(PolicyError::Syntax), "{text}");
     }
     for text in [
         "other = 1\n",
         "[[rule]]\nnumber = 0\neffect = \"deny\"\n[[rule]]\ncolour = 1\n",
         "rule = [3, { colour = 1 }]\n",
     ] {
-        assert!(rt;
-            refusal(alloc, text) == Some(PolicyError::UnknownKey),
-            "{text}"
-        );
+        let answer = refusal(alloc, text)?;
+        assert!(rt; answer == Some(PolicyError::UnknownKey), "{text}");
     }
     Ok(())
 }
@@ -97,16 +97,15 @@ fn bad_policies_refused(rt: HostRuntime) -> Result<(), Fail> {
         "[[rule]]\nnumber = 1\neffect = \"*\"\n",
         "[[rule]]\nnumber = 2\neffect = \"deny\"\n[[rule]]\nnumber = 1\n",
     ] {
-        assert!(rt;
-            refusal(alloc, text) == Some(PolicyError::BadValue),
-            "{text}"
-        );
+        let answer = refusal(alloc, text)?;
+        assert!(rt; answer == Some(PolicyError::BadValue), "{text}");
     }
     for text in [
         "[[rule]]\nnumber = 20\neffect = \"deny\"\n[[rule]]\nnumber = 10\neffect = \"deny\"\n",
         "[[rule]]\nnumber = 1\neffect = \"deny\"\n[[rule]]\nnumber = 1\neffect = \"deny\"\n",
     ] {
-        assert!(rt; refusal(alloc, text) == Some(PolicyError::Order), "{text}");
+        let answer = refusal(alloc, text)?;
+        assert!(rt; answer == Some(PolicyError::Order), "{text}");
     }
     Ok(())
 }
@@ -129,7 +128,8 @@ fn keys_refused(rt: HostRuntime) -> Result<(), Fail> {
         ("heading = \"*\"\nvalue = \"x\"", PolicyError::BadValue),
     ] {
         let text = format!(in alloc; "{RULE}{line}\n")?;
-        assert!(rt; refusal(alloc, text.as_str()) == Some(want), "{line}");
+        let answer = refusal(alloc, text.as_str())?;
+        assert!(rt; answer == Some(want), "{line}");
     }
     for line in [
         "firm = \"*\"",
@@ -137,7 +137,8 @@ fn keys_refused(rt: HostRuntime) -> Result<(), Fail> {
         "heading = \"LOCA_ID\"\nvalue = \"\"",
     ] {
         let text = format!(in alloc; "{RULE}{line}\n")?;
-        assert!(rt; refusal(alloc, text.as_str()).is_none(), "{line}");
+        let answer = refusal(alloc, text.as_str())?;
+        assert!(rt; answer.is_none(), "{line}");
     }
     Ok(())
 }
@@ -282,11 +283,12 @@ fn facts_of_rows_match_no_request(rt: HostRuntime) -> Result<(), Fail> {
     Ok(())
 }
 
-/// What reading callers refuses; none where they are read.
-fn callers_refusal(alloc: Global, text: &str) -> Option<CallersError> {
+/// What reading callers refuses; none where they are read. Want of memory ends the test.
+fn callers_refusal(alloc: Global, text: &str) -> Result<Option<CallersError>, CallersError> {
     match Callers::read(alloc, text) {
-        Ok(_) => None,
-        Err(error) => Some(error),
+        Ok(_) => Ok(None),
+        Err(CallersError::NoMemory) => Err(CallersError::NoMemory),
+        Err(error) => Ok(Some(error)),
     }
 }
 
@@ -318,7 +320,8 @@ fn callers_refused(rt: HostRuntime) -> Result<(), Fail> {
             CallersError::DuplicateToken,
         ),
     ] {
-        assert!(rt; callers_refusal(alloc, text) == Some(want), "{text}");
+        let answer = callers_refusal(alloc, text)?;
+        assert!(rt; answer == Some(want), "{text}");
     }
     Ok(())
 }
@@ -328,7 +331,8 @@ fn tokens_read(rt: HostRuntime) -> Result<(), Fail> {
     let alloc = rt.alloc();
     for token in ["!~", LONGEST] {
         let text = format!(in alloc; "[[caller]]\ntoken = \"{token}\"\n{WHO}")?;
-        assert!(rt; callers_refusal(alloc, text.as_str()).is_none(), "{token}");
+        let answer = callers_refusal(alloc, text.as_str())?;
+        assert!(rt; answer.is_none(), "{token}");
     }
     for token in [
         "",
@@ -337,10 +341,8 @@ fn tokens_read(rt: HostRuntime) -> Result<(), Fail> {
         "12345678901234567890123456789012345678901234567890123456789012345",
     ] {
         let text = format!(in alloc; "[[caller]]\ntoken = \"{token}\"\n{WHO}")?;
-        assert!(rt;
-            callers_refusal(alloc, text.as_str()) == Some(CallersError::BadValue),
-            "{token}"
-        );
+        let answer = callers_refusal(alloc, text.as_str())?;
+        assert!(rt; answer == Some(CallersError::BadValue), "{token}");
     }
     Ok(())
 }
