@@ -4,7 +4,8 @@ use Rattle.std.specs.List.{filter, find, list_any, filter_map, cons_option}
 use Rattle.std.specs.Str.{bytes_eq}
 use Rattle.std.specs.Option.{option_and_then, option_map_or, is_some, option_to_list}
 use Rattle.std.proofs.lemmas.Bool.{cases_Bool}
-use Rattle.std.proofs.lemmas.List.{append-nil, length-map, map-append, take_more}
+use Rattle.std.proofs.lemmas.List.{append-nil, length-map, map-append, take_more, take_all}
+use Rattle.std.proofs.lemmas.List.Folds.{list_any_more, list_any_at}
 use Rattle.std.proofs.lemmas.List.Elements.{filter-append, filter_map-append}
 use Rattle.ags_dict.specs.Index.{ArePlaces}
 
@@ -127,3 +128,27 @@ leads_more {X} xs places i found r lt at before =
     map-append (λ (e : Bor X). e.now) found (option_to_list r) ∙ ap (λ (l : List X). l ++ map (λ e. e.now) (option_to_list r)) before
     ∙ ap (λ (l : List X). filter_map (slice_get xs) (take i places) ++ l) one
     ∙ sym (filter_map-append (slice_get xs) (take i places) (get_or places i 0 ∷ [])) ∙ ap (filter_map (slice_get xs)) (sym (take_more places i 0 lt))
+
+-- ---- a loop that tests what is seen of each item
+
+pub any_map : {X Y : Type 0} (seen : X → Y) (test : Y → Bool) (xs : List X) → list_any test (map seen xs) ≡ list_any (λ x. test (seen x)) xs
+any_map seen test [] = refl
+any_map seen test (x ∷ xs) = rw (any_map seen test xs) refl
+
+-- one more, which fails
+pub seen_more : {X Y : Type 0} (seen : X → Y) (test : Y → Bool) (xs : List X) (i : ℕ) (x : X) → i < length xs → x ≡ get_or xs i x → test (seen x) ≡ false
+    → list_any test (map seen (take i xs)) ≡ false → list_any test (map seen (take (i + 1) xs)) ≡ false
+seen_more seen test xs i x lt is fails before =
+    any_map seen test (take (i + 1) xs) ∙ list_any_more (λ y. test (seen y)) xs i x lt
+    ∙ (let here : test (seen (get_or xs i x)) ≡ false = rw (← is) fails in rw (here, ← any_map seen test (take i xs), before) refl)
+
+-- one that passes
+pub seen_at : {X Y : Type 0} (seen : X → Y) (test : Y → Bool) (xs : List X) (i : ℕ) (x : X) → i < length xs → x ≡ get_or xs i x → test (seen x) ≡ true
+    → list_any test (map seen xs) ≡ true
+seen_at seen test xs i x lt is passes =
+    let here : test (seen (get_or xs i x)) ≡ true = rw (← is) passes in
+    any_map seen test xs ∙ list_any_at (λ y. test (seen y)) xs i x lt here
+
+-- all of them
+pub seen_all : {X Y : Type 0} (seen : X → Y) (test : Y → Bool) (xs : List X) (i : ℕ) → length xs ≤ i → list_any test (map seen (take i xs)) ≡ false → list_any test (map seen xs) ≡ false
+seen_all seen test xs i le before = rw (take_all i xs le) at before

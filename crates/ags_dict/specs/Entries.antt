@@ -90,9 +90,12 @@ dict_headings = codes "DICT_TYPE" ∷ codes "DICT_GRP" ∷ codes "DICT_HDNG" ∷
 abbrev pub has_dict_headings : List (List ℕ) → Bool
 has_dict_headings headings = list_all (λ wanted. list_any (λ h. bytes_eq h wanted) headings) dict_headings
 
--- whether some DICT lacks one
+abbrev pub is_incomplete : Contents → Bool
+is_incomplete group = is_dict group && not (has_dict_headings group.headings)
+
+-- whether DICT lacks one
 abbrev pub lacks_heading : List Contents → Bool
-lacks_heading contents = list_any (λ group. is_dict group && not (has_dict_headings group.headings)) contents
+lacks_heading contents = list_any is_incomplete contents
 
 -- ---- what is asked of the entries
 

@@ -2,7 +2,7 @@
 
 ghost use Rattle.std.specs.Prelude.{◌≡◌, IfOk, flat_map};
 ghost use Rattle.ags_rows.specs.Contents.{group_contents, contents_of};
-ghost use Rattle.ags_dict.specs.Entries.{group_entries, heading_entries, group_entries_in, heading_entries_in, same_group, same_heading, with_unstated, with_entries, extended};
+ghost use Rattle.ags_dict.specs.Entries.{is_dict, group_entries, heading_entries, group_entries_in, heading_entries_in, same_group, same_heading, with_unstated, with_entries, extended};
 
 use crate::dictionary::Dictionary;
 use crate::entries::{GroupEntry, HeadingEntry, Origin};
@@ -75,6 +75,13 @@ fn take_rows(
     Ok(Dictionary { groups, headings })
 }
 
+/// Whether the group is DICT.
+pub(crate) fn is_dict(group: &Group) -> bool
+    ensures { result ≡ is_dict (group_contents group.now) }
+{
+    group.name.as_slice() == b"DICT".as_slice()
+}
+
 /// The entries with the new ones of a group, if it is DICT.
 fn take_dict(
     alloc: Global,
@@ -85,7 +92,7 @@ fn take_dict(
     ensures groups { IfOk result (λ taken. taken.groups ≡ with_unstated same_group dictionary.groups (group_entries_in (group_contents group.now))) }
     ensures headings { IfOk result (λ taken. taken.headings ≡ with_unstated same_heading dictionary.headings (heading_entries_in origin (group_contents group.now))) }
 {
-    if group.name.as_slice() != b"DICT".as_slice() {
+    if !is_dict(group) {
         return Ok(dictionary);
     }
     take_rows(alloc, origin, group, dictionary)

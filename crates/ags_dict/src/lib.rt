@@ -8,7 +8,9 @@ mod groups;
 mod headings;
 mod parts;
 mod places;
+mod reading;
 
 pub use dictionary::Dictionary;
 pub use entries::{GroupEntry, HeadingEntry, Origin};
 pub use parts::has_part;
+pub use reading::DictError;

@@ -1,0 +1,11 @@
+//! What an AGS4 file breaks of the rules, phase by phase.
+#![tactic(auto)]
+
+mod checking;
+mod clean;
+mod file;
+mod header;
+mod places;
+
+pub use checking::{CheckError, check};
+pub use clean::Checked;
