@@ -5,3 +5,4 @@ pub mod HeaderPhase
 pub mod Places
 pub mod Known
 pub mod Findings
+pub mod Laws

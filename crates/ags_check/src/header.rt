@@ -11,6 +11,8 @@ pub mod groups;
 pub mod headings;
 pub mod known;
 pub mod only_rows;
+#[cfg(test)]
+mod tests;
 
 use crate::file::File;
 use crate::header::groups::{
