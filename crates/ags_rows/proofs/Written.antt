@@ -26,6 +26,7 @@ use Rattle.ags_rows.specs.Contents.{Contents, group_contents}
 use Rattle.ags_rows.specs.Writing.{written_row, group_lines, empty_line, written_lines, text_of, written_file, IsPlainByte, ArePlain, IsWellFormedGroup, IsWellFormed}
 use Rattle.ags_rows.specs.Names.{is_capital, is_digit, is_group_letter, is_heading_letter, is_group_name, is_heading_name}
 use Rattle.ags_rows.proofs.Fields.{same_fields, line_spells}
+use Rattle.ags_rows.proofs.Cuts.{type_ends, groups_behind}
 use Rattle.ags_rows.proofs.Cutting.{AreCut, lines_from_cut}
 use Rattle.ags_rows.proofs.Breaking.{blank_clear, row_clear, blank_no_row, rows_join}
 
@@ -283,25 +284,6 @@ contents_written n (g ∷ gs) =
     let rest = contents_written (n + length (group_lines g) + 1) gs in
     ap (λ (z : List Contents). group_contents (group_from n g) ∷ z) rest
     ∙ ap (λ (z : List (List (List ℕ))). record { name = g.name; headings = g.headings; units = g.units; types = g.types; rows = z } ∷ gs) (data_contents (n + 1 + 1 + 1 + 1) g.rows)
-
--- ---- the order of the rows
-
--- a group may end with such a row
-record MayEnd (d : Descriptor) : Type 0 where
-  header : is_header d ≡ false
-  more : may_follow d kinds.Data ≡ true
-  next : may_follow d kinds.Group ≡ true
-
-type_ends : MayEnd kinds.Type
-type_ends = record { header = refl; more = refl; next = refl }
-
-data_ends : MayEnd kinds.Data
-data_ends = record { header = refl; more = refl; next = refl }
-
-groups_behind : (gs : List Group) (d : Descriptor) → MayEnd d → (rows : List Row) → MayStandBehind d (map data_row rows ++ flat_map rows_of gs)
-groups_behind [] d m [] = m.header
-groups_behind (g ∷ gs) d m [] = (m.next, λ e. refl, (refl, λ e. absurd cc, (refl, λ e. absurd cc, (refl, λ e. absurd cc, groups_behind gs kinds.Type type_ends g.rows))))
-groups_behind gs d m (row ∷ rows) = (m.more, λ e. absurd cc, groups_behind gs kinds.Data data_ends rows)
 
 -- ---- rows in order break nothing
 
