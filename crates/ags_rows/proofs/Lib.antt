@@ -11,3 +11,5 @@ pub mod Appending
 pub mod Written
 pub mod WellFormed
 pub mod Texts
+pub mod Formed
+pub mod RoundTrip

@@ -32,11 +32,7 @@ fn note_repeat<'g>(
 }
 
 /// Notes rows of a group with another number of items than its HEADING row (Rule 4).
-fn note_rows(
-    alloc: Global,
-    group: &Group,
-    findings: &mut Vec<Finding>,
-) -> Result<(), AllocError>
+fn note_rows(alloc: Global, group: &Group, findings: &mut Vec<Finding>) -> Result<(), AllocError>
     ensures { OnOk result (Adds (StandsInRows group.now) findings.old.items findings.new.items) }
 {
     let width = group.headings.len();
@@ -49,11 +45,7 @@ fn note_rows(
 }
 
 /// Notes a group without DATA rows, and rows with a wrong number of items (Rules 2 and 4).
-fn note_shape(
-    alloc: Global,
-    group: &Group,
-    findings: &mut Vec<Finding>,
-) -> Result<(), AllocError>
+fn note_shape(alloc: Global, group: &Group, findings: &mut Vec<Finding>) -> Result<(), AllocError>
     ensures { OnOk result (Adds (OneOf (shape_rules group.now)) findings.old.items findings.new.items) }
 {
     let width = group.headings.len();
@@ -152,8 +144,8 @@ fn note_group<'g>(
 ) -> Result<(), AllocError>
     ensures noted { OnOk result (Adds
         (OneOf (OneOf (shape_rules group.now)
-            ∷ OneOf (met_rules group.now.line Rule19 P1 group.now.name (is_group_name group.now.name) (IsMet met.old group.now.name))
-            ∷ StandsInHeadings group.now ∷ []))
+        ∷ OneOf (met_rules group.now.line Rule19 P1 group.now.name (is_group_name group.now.name) (IsMet met.old group.now.name))
+        ∷ StandsInHeadings group.now ∷ []))
         findings.old.items findings.new.items) }
     ensures met { OnOk result ((other : List ℕ) → IsMet met.new other ↔ ((group.now.name ≡ other) ⊎ IsMet met.old other)) }
 {

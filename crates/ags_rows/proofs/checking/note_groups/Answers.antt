@@ -1,4 +1,4 @@
-use Rattle.std.proofs.Common.{ℕ, List, map, Option, refl, ap, ◌∙◌}
+use Rattle.std.proofs.Common.{ℕ, List, map, refl, ap, ◌∙◌}
 use Rattle.std.specs.Prelude.{option_map}
 use Rattle.std.proofs.lemmas.Option.{slice_get_read, slice_get-map}
 use Rattle.ags_rows.specs.declared.rows.Group.{Group}

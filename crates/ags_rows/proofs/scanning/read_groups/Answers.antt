@@ -1,4 +1,4 @@
-use Rattle.std.proofs.Common.{◌≡◌, ◌≢◌, List, [], refl, sym, subst, inl, inr}
+use Rattle.std.proofs.Common.{◌≡◌, ◌≢◌, List, [], refl, subst, inl, inr}
 use Rattle.ags_rows.specs.declared.rows.FileRow.{FileRow}
 use Rattle.ags_rows.specs.declared.rows.Group.{Group}
 use Rattle.ags_rows.specs.declared.codes.Finding.{Finding}
@@ -6,15 +6,16 @@ use Rattle.ags_rows.specs.Groups.{Groups}
 use Rattle.ags_rows.specs.Stands.{StandsInOrder, StandsInGroups}
 use Rattle.ags_rows.specs.Findings.{Lists, FirstFound, GroupsOrNone, later_phases}
 use Rattle.ags_rows.proofs.Files.{is_nil, is_some}
-use Rattle.ags_rows.proofs.Collecting.{none_listed, lists_last}
-use Rattle.ags_rows.proofs.Cuts.{clear_begins}
+use Rattle.ags_rows.proofs.Collecting.{none_listed}
+use Rattle.ags_rows.proofs.Cuts.{none_clear}
 use Rattle.ags_rows.proofs.Once.{same_cutting}
 use Rattle.ags_rows.proofs.scanning.read_groups.Goals as goal
 
 pub groups-requires : goal.groups-requires
 groups-requires c =
     let lists = subst (λ (r : List FileRow). Lists (StandsInOrder r) c.in_ok-found.found) c.as_slice.ensures.value c.in_ok-found.ensures in
-    clear_begins c.args.rows.items (none_listed c.in_ok-found.found lists (is_nil c.in_ok-found.found c.if-not-is_empty.ensures))
+    let clear = none_clear c.args.rows.items (none_listed c.in_ok-found.found lists (is_nil c.in_ok-found.found c.if-not-is_empty.ensures)) in
+    record { order = clear.0; named = clear.1 }
 
 pub returns-then-not-is_empty-clause-findings : goal.returns-then-not-is_empty-clause-findings
 returns-then-not-is_empty-clause-findings c = λ found is.

@@ -14,10 +14,10 @@ returns-clause-groups c =
     let file = c.in_ok-rows.ensures in
     let clear = none_listed c.in_ok-rows.found file.3 (is_nil c.in_ok-rows.found c.if-not-is_empty.ensures) in
     IfOk-weaker c.read_groups.result _ _ (λ scan h.
-        let cut = subst (λ (r : List FileRow). Groups r scan) (sym file.2) h.0 in
-        let same = same_cutting file.0.rows file.0.groups scan file.1.groups (inl cut) in
-        let none = subst (λ (r : List FileRow). FirstFound (later_phases r scan) []) (sym file.2) h.1 in
-        (file.0, file.1, inr (clear, subst (λ (g : List Group). FirstFound (later_phases file.0.rows g) []) (sym same) none), cut, same)) c.read_groups.ensures.groups
+    let cut = subst (λ (r : List FileRow). Groups r scan) (sym file.2) h.0 in
+    let same = same_cutting file.0.rows file.0.groups scan file.1.groups (inl cut) in
+    let none = subst (λ (r : List FileRow). FirstFound (later_phases r scan) []) (sym file.2) h.1 in
+    (file.0, file.1, inr (clear, subst (λ (g : List Group). FirstFound (later_phases file.0.rows g) []) (sym same) none), cut, same)) c.read_groups.ensures.groups
 
 pub returns-clause-findings : goal.returns-clause-findings
 returns-clause-findings c = λ found is.
