@@ -9,6 +9,8 @@ mod headings;
 mod parts;
 mod places;
 mod reading;
+#[cfg(test)]
+mod tests;
 
 pub use dictionary::Dictionary;
 pub use entries::{GroupEntry, HeadingEntry, Origin};
