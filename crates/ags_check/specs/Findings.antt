@@ -8,14 +8,17 @@ use Rattle.ags_rows.specs.Findings.{File, IsFile, phases, FirstFound, FileGroups
 use Rattle.ags_dict.specs.Entries.{Entries, extended}
 use Rattle.ags_check.specs.HeaderPhase.{header_rules}
 
--- the phases behind those of the rows, for a file of these groups
-abbrev pub dictionary_phases : Entries → List Group → List (Finding → Type 0)
-dictionary_phases given groups = OneOf (header_rules given (extended given (contents_of groups)) groups) ∷ []
+-- The phases behind those of the rows: a file's groups, against the dictionary given and its extended entries.
+abbrev pub dictionary_phases : Entries → Entries → List Group → List (Finding → Type 0)
+dictionary_phases given entries groups = OneOf (header_rules given entries groups) ∷ []
+
+-- All phases of a file under a dictionary, which the file's own DICT extends.
+abbrev pub all_phases : Entries → File → List (Finding → Type 0)
+all_phases given file = phases file ++ dictionary_phases given (extended given (contents_of file.groups)) file.groups
 
 -- The findings of a file under a dictionary.
 abbrev pub Findings : Entries → List ℕ → List Finding → Type 0
-Findings given bytes found =
-    (file : File) × IsFile bytes file × FirstFound (phases file ++ dictionary_phases given file.groups) found
+Findings given bytes found = (file : File) × IsFile bytes file × FirstFound (all_phases given file) found
 
 -- What is kept of a file that was checked: its bytes, its groups and the entries of the extended dictionary.
 pub record CheckedFile : Type 0 where
