@@ -9,10 +9,11 @@ use std::fmt::Write;
 use std::test::Fail;
 
 /// New lines in place of those from the first to the last.
+#[derive(Drop)]
 struct Edit {
     first: usize,
     last: usize,
-    lines: &'static [u8],
+    lines: &'static str,
 }
 
 /// A file with lines of its own in place of others; the edits stand in the order of the lines.
@@ -23,7 +24,7 @@ fn edited(alloc: Global, file: &[u8], edits: &[Edit]) -> Result<Vec<u8>, AllocEr
     for byte in file {
         for edit in edits {
             if begins && edit.first == line {
-                text.extend_from_slice(edit.lines)?;
+                text.extend_from_slice(edit.lines.as_bytes())?;
             }
         }
         if !edits
@@ -39,7 +40,7 @@ fn edited(alloc: Global, file: &[u8], edits: &[Edit]) -> Result<Vec<u8>, AllocEr
     }
     for edit in edits {
         if edit.first == line {
-            text.extend_from_slice(edit.lines)?;
+            text.extend_from_slice(edit.lines.as_bytes())?;
         }
     }
     Ok(text)
@@ -84,246 +85,270 @@ fn checked(alloc: Global, file: &[u8], edits: &[Edit]) -> Result<String, Fail> {
     }
 }
 
-#[test]
-fn clean_files(rt: HostRuntime) -> Result<(), Fail> {
-    let alloc = rt.alloc();
-    // the file as it is
-    let found = checked(alloc, FILE_A, &[])?;
-    assert_eq!(rt; found.as_str(), "clean");
-    // a file with three data groups
-    let found = checked(alloc, FILE_B, &[])?;
-    assert_eq!(rt; found.as_str(), "clean");
-    // a file with record links
-    let found = checked(alloc, FILE_C, &[])?;
-    assert_eq!(rt; found.as_str(), "clean");
-    // no row
-    let found = checked(alloc, b"", &[])?;
-    assert_eq!(rt; found.as_str(), "2 0 -;");
-    Ok(())
+/// The file that is edited.
+#[derive(Clone, Copy)]
+enum Base {
+    A,
+    B,
+    C,
+    Empty,
 }
 
-#[test]
-fn unknown_groups_and_headings(rt: HostRuntime) -> Result<(), Fail> {
-    let alloc = rt.alloc();
-    // a group that no dictionary has
-    let found = checked(
-        alloc,
-        FILE_A,
-        &[Edit {
+/// The bytes of the file.
+fn bytes_of(base: Base) -> &'static [u8] {
+    match base {
+        Base::A => FILE_A,
+        Base::B => FILE_B,
+        Base::C => FILE_C,
+        Base::Empty => b"",
+    }
+}
+
+/// A file with edits, and what is printed of it.
+#[derive(Drop)]
+struct Case {
+    name: &'static str,
+    file: Base,
+    edits: &'static [Edit],
+    want: &'static str,
+}
+
+const CASES: [Case; 23] = [
+    Case {
+        name: "a file of five groups",
+        file: Base::A,
+        edits: &[],
+        want: "clean",
+    },
+    Case {
+        name: "a file with parents",
+        file: Base::B,
+        edits: &[],
+        want: "clean",
+    },
+    Case {
+        name: "a file with record links",
+        file: Base::C,
+        edits: &[],
+        want: "clean",
+    },
+    Case {
+        name: "a group that no dictionary has",
+        file: Base::A,
+        edits: &[Edit {
             first: 26,
             last: 26,
-            lines: b"\"GROUP\",\"XYZ\"\r\n",
+            lines: "\"GROUP\",\"XYZ\"\r\n",
         }],
-    )?;
-    assert_eq!(rt; found.as_str(), "18 26 XYZ;");
-    // the same in a file with a DICT
-    let found = checked(
-        alloc,
-        FILE_A,
-        &[
+        want: "18 26 XYZ;",
+    },
+    Case {
+        name: "the same in a file with a DICT",
+        file: Base::A,
+        edits: &[
             Edit {
                 first: 26,
                 last: 26,
-                lines: b"\"GROUP\",\"XYZ\"\r\n",
+                lines: "\"GROUP\",\"XYZ\"\r\n",
             },
             Edit {
                 first: 31,
                 last: 30,
-                lines: b"\r\n\"GROUP\",\"DICT\"\r\n\"HEADING\",\"DICT_TYPE\",\"DICT_GRP\",\"DICT_HDNG\",\"DICT_STAT\",\"DICT_PGRP\"\r\n\"UNIT\",\"\",\"\",\"\",\"\",\"\"\r\n\"TYPE\",\"X\",\"X\",\"X\",\"X\",\"X\"\r\n\"DATA\",\"GROUP\",\"ABC\",\"\",\"\",\"\"\r\n",
+                lines: "\r\n\"GROUP\",\"DICT\"\r\n\"HEADING\",\"DICT_TYPE\",\"DICT_GRP\",\"DICT_HDNG\",\"DICT_STAT\",\"DICT_PGRP\"\r\n\"UNIT\",\"\",\"\",\"\",\"\",\"\"\r\n\"TYPE\",\"X\",\"X\",\"X\",\"X\",\"X\"\r\n\"DATA\",\"GROUP\",\"ABC\",\"\",\"\",\"\"\r\n",
             },
         ],
-    )?;
-    assert_eq!(rt; found.as_str(), "9 26 XYZ;");
-    // a heading that no dictionary has
-    let found = checked(
-        alloc,
-        FILE_A,
-        &[Edit {
+        want: "9 26 XYZ;",
+    },
+    Case {
+        name: "a heading that no dictionary has",
+        file: Base::A,
+        edits: &[Edit {
             first: 27,
             last: 30,
-            lines: b"\"HEADING\",\"LOCA_XTRA\",\"LOCA_ID\"\r\n\"UNIT\",\"\",\"\"\r\n\"TYPE\",\"X\",\"ID\"\r\n\"DATA\",\"x\",\"BH1\"\r\n",
+            lines: "\"HEADING\",\"LOCA_XTRA\",\"LOCA_ID\"\r\n\"UNIT\",\"\",\"\"\r\n\"TYPE\",\"X\",\"ID\"\r\n\"DATA\",\"x\",\"BH1\"\r\n",
         }],
-    )?;
-    assert_eq!(rt; found.as_str(), "18 27 LOCA_XTRA;");
-    // the file's DICT has it, behind the standard headings
-    let found = checked(
-        alloc,
-        FILE_A,
-        &[Edit {
+        want: "18 27 LOCA_XTRA;",
+    },
+    Case {
+        name: "the file's DICT has it, behind the standard headings",
+        file: Base::A,
+        edits: &[Edit {
             first: 27,
             last: 30,
-            lines: b"\"HEADING\",\"LOCA_XTRA\",\"LOCA_ID\"\r\n\"UNIT\",\"\",\"\"\r\n\"TYPE\",\"X\",\"ID\"\r\n\"DATA\",\"x\",\"BH1\"\r\n\r\n\"GROUP\",\"DICT\"\r\n\"HEADING\",\"DICT_TYPE\",\"DICT_GRP\",\"DICT_HDNG\",\"DICT_STAT\"\r\n\"UNIT\",\"\",\"\",\"\",\"\"\r\n\"TYPE\",\"X\",\"X\",\"X\",\"X\"\r\n\"DATA\",\"HEADING\",\"LOCA\",\"LOCA_XTRA\",\"OTHER\"\r\n",
+            lines: "\"HEADING\",\"LOCA_XTRA\",\"LOCA_ID\"\r\n\"UNIT\",\"\",\"\"\r\n\"TYPE\",\"X\",\"ID\"\r\n\"DATA\",\"x\",\"BH1\"\r\n\r\n\"GROUP\",\"DICT\"\r\n\"HEADING\",\"DICT_TYPE\",\"DICT_GRP\",\"DICT_HDNG\",\"DICT_STAT\"\r\n\"UNIT\",\"\",\"\",\"\",\"\"\r\n\"TYPE\",\"X\",\"X\",\"X\",\"X\"\r\n\"DATA\",\"HEADING\",\"LOCA\",\"LOCA_XTRA\",\"OTHER\"\r\n",
         }],
-    )?;
-    assert_eq!(rt; found.as_str(), "7 27 LOCA_ID;");
-    // the file's DICT has another one
-    let found = checked(
-        alloc,
-        FILE_A,
-        &[Edit {
+        want: "7 27 LOCA_ID;",
+    },
+    Case {
+        name: "the file's DICT has another one",
+        file: Base::A,
+        edits: &[Edit {
             first: 27,
             last: 30,
-            lines: b"\"HEADING\",\"LOCA_XTRA\",\"LOCA_ID\"\r\n\"UNIT\",\"\",\"\"\r\n\"TYPE\",\"X\",\"ID\"\r\n\"DATA\",\"x\",\"BH1\"\r\n\r\n\"GROUP\",\"DICT\"\r\n\"HEADING\",\"DICT_TYPE\",\"DICT_GRP\",\"DICT_HDNG\",\"DICT_STAT\"\r\n\"UNIT\",\"\",\"\",\"\",\"\"\r\n\"TYPE\",\"X\",\"X\",\"X\",\"X\"\r\n\"DATA\",\"HEADING\",\"LOCA\",\"LOCA_OTHR\",\"OTHER\"\r\n",
+            lines: "\"HEADING\",\"LOCA_XTRA\",\"LOCA_ID\"\r\n\"UNIT\",\"\",\"\"\r\n\"TYPE\",\"X\",\"ID\"\r\n\"DATA\",\"x\",\"BH1\"\r\n\r\n\"GROUP\",\"DICT\"\r\n\"HEADING\",\"DICT_TYPE\",\"DICT_GRP\",\"DICT_HDNG\",\"DICT_STAT\"\r\n\"UNIT\",\"\",\"\",\"\",\"\"\r\n\"TYPE\",\"X\",\"X\",\"X\",\"X\"\r\n\"DATA\",\"HEADING\",\"LOCA\",\"LOCA_OTHR\",\"OTHER\"\r\n",
         }],
-    )?;
-    assert_eq!(rt; found.as_str(), "9 27 LOCA_XTRA;");
-    // an unknown heading in place of the KEY heading
-    let found = checked(
-        alloc,
-        FILE_A,
-        &[Edit {
+        want: "9 27 LOCA_XTRA;",
+    },
+    Case {
+        name: "an unknown heading in place of the KEY heading",
+        file: Base::A,
+        edits: &[Edit {
             first: 27,
             last: 27,
-            lines: b"\"HEADING\",\"FOO_BAR\"\r\n",
+            lines: "\"HEADING\",\"FOO_BAR\"\r\n",
         }],
-    )?;
-    assert_eq!(rt;
-        found.as_str(),
-        "10a 27 LOCA_ID;10b 27 LOCA_ID;18 27 FOO_BAR;"
-    );
-    Ok(())
-}
-
-#[test]
-fn order_keys_and_names(rt: HostRuntime) -> Result<(), Fail> {
-    let alloc = rt.alloc();
-    // another heading in place of the KEY heading
-    let found = checked(
-        alloc,
-        FILE_A,
-        &[Edit {
+        want: "10a 27 LOCA_ID;10b 27 LOCA_ID;18 27 FOO_BAR;",
+    },
+    Case {
+        name: "another heading in place of the KEY heading",
+        file: Base::A,
+        edits: &[Edit {
             first: 27,
             last: 27,
-            lines: b"\"HEADING\",\"LOCA_STAT\"\r\n",
+            lines: "\"HEADING\",\"LOCA_STAT\"\r\n",
         }],
-    )?;
-    assert_eq!(rt; found.as_str(), "10a 27 LOCA_ID;10b 27 LOCA_ID;");
-    // an unknown heading between two in the wrong order
-    let found = checked(
-        alloc,
-        FILE_A,
-        &[Edit {
+        want: "10a 27 LOCA_ID;10b 27 LOCA_ID;",
+    },
+    Case {
+        name: "an unknown heading between two in the wrong order",
+        file: Base::A,
+        edits: &[Edit {
             first: 27,
             last: 30,
-            lines: b"\"HEADING\",\"LOCA_STAT\",\"FOO_BAR\",\"LOCA_ID\"\r\n\"UNIT\",\"\",\"\",\"\"\r\n\"TYPE\",\"X\",\"X\",\"ID\"\r\n\"DATA\",\"a\",\"b\",\"BH1\"\r\n",
+            lines: "\"HEADING\",\"LOCA_STAT\",\"FOO_BAR\",\"LOCA_ID\"\r\n\"UNIT\",\"\",\"\",\"\"\r\n\"TYPE\",\"X\",\"X\",\"ID\"\r\n\"DATA\",\"a\",\"b\",\"BH1\"\r\n",
         }],
-    )?;
-    assert_eq!(rt; found.as_str(), "7 27 LOCA_ID;18 27 FOO_BAR;");
-    // a user-defined heading with another group's name
-    let found = checked(
-        alloc,
-        FILE_A,
-        &[Edit {
+        want: "7 27 LOCA_ID;18 27 FOO_BAR;",
+    },
+    Case {
+        name: "a user-defined heading with another group's name",
+        file: Base::A,
+        edits: &[Edit {
             first: 27,
             last: 30,
-            lines: b"\"HEADING\",\"LOCA_ID\",\"FOO_BAR\"\r\n\"UNIT\",\"\",\"\"\r\n\"TYPE\",\"ID\",\"X\"\r\n\"DATA\",\"BH1\",\"x\"\r\n\r\n\"GROUP\",\"DICT\"\r\n\"HEADING\",\"DICT_TYPE\",\"DICT_GRP\",\"DICT_HDNG\",\"DICT_STAT\",\"DICT_PGRP\"\r\n\"UNIT\",\"\",\"\",\"\",\"\",\"\"\r\n\"TYPE\",\"X\",\"X\",\"X\",\"X\",\"X\"\r\n\"DATA\",\"HEADING\",\"LOCA\",\"FOO_BAR\",\"OTHER\",\"\"\r\n",
+            lines: "\"HEADING\",\"LOCA_ID\",\"FOO_BAR\"\r\n\"UNIT\",\"\",\"\"\r\n\"TYPE\",\"ID\",\"X\"\r\n\"DATA\",\"BH1\",\"x\"\r\n\r\n\"GROUP\",\"DICT\"\r\n\"HEADING\",\"DICT_TYPE\",\"DICT_GRP\",\"DICT_HDNG\",\"DICT_STAT\",\"DICT_PGRP\"\r\n\"UNIT\",\"\",\"\",\"\",\"\",\"\"\r\n\"TYPE\",\"X\",\"X\",\"X\",\"X\",\"X\"\r\n\"DATA\",\"HEADING\",\"LOCA\",\"FOO_BAR\",\"OTHER\",\"\"\r\n",
         }],
-    )?;
-    assert_eq!(rt; found.as_str(), "19b 27 FOO_BAR;");
-    // the same where another group has it
-    let found = checked(
-        alloc,
-        FILE_A,
-        &[Edit {
+        want: "19b 27 FOO_BAR;",
+    },
+    Case {
+        name: "the same where another group has it",
+        file: Base::A,
+        edits: &[Edit {
             first: 27,
             last: 30,
-            lines: b"\"HEADING\",\"LOCA_ID\",\"FOO_BAR\"\r\n\"UNIT\",\"\",\"\"\r\n\"TYPE\",\"ID\",\"X\"\r\n\"DATA\",\"BH1\",\"x\"\r\n\r\n\"GROUP\",\"DICT\"\r\n\"HEADING\",\"DICT_TYPE\",\"DICT_GRP\",\"DICT_HDNG\",\"DICT_STAT\",\"DICT_PGRP\"\r\n\"UNIT\",\"\",\"\",\"\",\"\",\"\"\r\n\"TYPE\",\"X\",\"X\",\"X\",\"X\",\"X\"\r\n\"DATA\",\"HEADING\",\"LOCA\",\"FOO_BAR\",\"OTHER\",\"\"\r\n\"DATA\",\"HEADING\",\"ZZZ\",\"FOO_BAR\",\"OTHER\",\"\"\r\n",
+            lines: "\"HEADING\",\"LOCA_ID\",\"FOO_BAR\"\r\n\"UNIT\",\"\",\"\"\r\n\"TYPE\",\"ID\",\"X\"\r\n\"DATA\",\"BH1\",\"x\"\r\n\r\n\"GROUP\",\"DICT\"\r\n\"HEADING\",\"DICT_TYPE\",\"DICT_GRP\",\"DICT_HDNG\",\"DICT_STAT\",\"DICT_PGRP\"\r\n\"UNIT\",\"\",\"\",\"\",\"\",\"\"\r\n\"TYPE\",\"X\",\"X\",\"X\",\"X\",\"X\"\r\n\"DATA\",\"HEADING\",\"LOCA\",\"FOO_BAR\",\"OTHER\",\"\"\r\n\"DATA\",\"HEADING\",\"ZZZ\",\"FOO_BAR\",\"OTHER\",\"\"\r\n",
         }],
-    )?;
-    assert_eq!(rt; found.as_str(), "clean");
-    // a user-defined heading with its group's name
-    let found = checked(
-        alloc,
-        FILE_A,
-        &[Edit {
+        want: "clean",
+    },
+    Case {
+        name: "a user-defined heading with its group's name",
+        file: Base::A,
+        edits: &[Edit {
             first: 27,
             last: 30,
-            lines: b"\"HEADING\",\"LOCA_ID\",\"LOCA_BAR\"\r\n\"UNIT\",\"\",\"\"\r\n\"TYPE\",\"ID\",\"X\"\r\n\"DATA\",\"BH1\",\"x\"\r\n\r\n\"GROUP\",\"DICT\"\r\n\"HEADING\",\"DICT_TYPE\",\"DICT_GRP\",\"DICT_HDNG\",\"DICT_STAT\",\"DICT_PGRP\"\r\n\"UNIT\",\"\",\"\",\"\",\"\",\"\"\r\n\"TYPE\",\"X\",\"X\",\"X\",\"X\",\"X\"\r\n\"DATA\",\"HEADING\",\"LOCA\",\"LOCA_BAR\",\"OTHER\",\"\"\r\n",
+            lines: "\"HEADING\",\"LOCA_ID\",\"LOCA_BAR\"\r\n\"UNIT\",\"\",\"\"\r\n\"TYPE\",\"ID\",\"X\"\r\n\"DATA\",\"BH1\",\"x\"\r\n\r\n\"GROUP\",\"DICT\"\r\n\"HEADING\",\"DICT_TYPE\",\"DICT_GRP\",\"DICT_HDNG\",\"DICT_STAT\",\"DICT_PGRP\"\r\n\"UNIT\",\"\",\"\",\"\",\"\",\"\"\r\n\"TYPE\",\"X\",\"X\",\"X\",\"X\",\"X\"\r\n\"DATA\",\"HEADING\",\"LOCA\",\"LOCA_BAR\",\"OTHER\",\"\"\r\n",
         }],
-    )?;
-    assert_eq!(rt; found.as_str(), "clean");
-    Ok(())
-}
-
-#[test]
-fn parents_and_single_rows(rt: HostRuntime) -> Result<(), Fail> {
-    let alloc = rt.alloc();
-    // no group LOCA over SAMP
-    let found = checked(
-        alloc,
-        FILE_B,
-        &[Edit {
+        want: "clean",
+    },
+    Case {
+        name: "no group LOCA over SAMP",
+        file: Base::B,
+        edits: &[Edit {
             first: 28,
             last: 34,
-            lines: b"",
+            lines: "",
         }],
-    )?;
-    assert_eq!(rt; found.as_str(), "10c 28 SAMP;");
-    // a delimiter and a concatenator of two characters
-    let found = checked(
-        alloc,
-        FILE_A,
-        &[Edit {
+        want: "10c 28 SAMP;",
+    },
+    Case {
+        name: "a delimiter and a concatenator of two characters",
+        file: Base::A,
+        edits: &[Edit {
             first: 11,
             last: 11,
-            lines: b"\"DATA\",\"1\",\"||\",\"++\"\r\n",
+            lines: "\"DATA\",\"1\",\"||\",\"++\"\r\n",
         }],
-    )?;
-    assert_eq!(rt; found.as_str(), "11a 11 TRAN_DLIM;11b 11 TRAN_RCON;");
-    // two rows of TRAN
-    let found = checked(
-        alloc,
-        FILE_A,
-        &[Edit {
+        want: "11a 11 TRAN_DLIM;11b 11 TRAN_RCON;",
+    },
+    Case {
+        name: "two rows of TRAN",
+        file: Base::A,
+        edits: &[Edit {
             first: 12,
             last: 11,
-            lines: b"\"DATA\",\"1\",\"|\",\"+\"\r\n",
+            lines: "\"DATA\",\"1\",\"|\",\"+\"\r\n",
         }],
-    )?;
-    assert_eq!(rt; found.as_str(), "14 12 TRAN;");
-    // two rows of PROJ
-    let found = checked(
-        alloc,
-        FILE_A,
-        &[Edit {
+        want: "14 12 TRAN;",
+    },
+    Case {
+        name: "two rows of PROJ",
+        file: Base::A,
+        edits: &[Edit {
             first: 6,
             last: 5,
-            lines: b"\"DATA\",\"P7\",\"North bank\"\r\n",
+            lines: "\"DATA\",\"P7\",\"North bank\"\r\n",
         }],
-    )?;
-    assert_eq!(rt; found.as_str(), "13 6 PROJ;");
-    // no PROJ
-    let found = checked(
-        alloc,
-        FILE_A,
-        &[Edit {
+        want: "13 6 PROJ;",
+    },
+    Case {
+        name: "no PROJ",
+        file: Base::A,
+        edits: &[Edit {
             first: 1,
             last: 6,
-            lines: b"",
+            lines: "",
         }],
-    )?;
-    assert_eq!(rt; found.as_str(), "13 0 PROJ;10c 20 LOCA;");
-    // no TRAN
-    let found = checked(
-        alloc,
-        FILE_A,
-        &[Edit {
+        want: "13 0 PROJ;10c 20 LOCA;",
+    },
+    Case {
+        name: "no TRAN",
+        file: Base::A,
+        edits: &[Edit {
             first: 7,
             last: 12,
-            lines: b"",
+            lines: "",
         }],
-    )?;
-    assert_eq!(rt; found.as_str(), "14 0 TRAN;");
-    // no UNIT and no TYPE
-    let found = checked(
-        alloc,
-        FILE_A,
-        &[Edit {
+        want: "14 0 TRAN;",
+    },
+    Case {
+        name: "no UNIT and no TYPE",
+        file: Base::A,
+        edits: &[Edit {
             first: 13,
             last: 25,
-            lines: b"",
+            lines: "",
         }],
-    )?;
-    assert_eq!(rt; found.as_str(), "15 0 UNIT;17 0 TYPE;");
+        want: "15 0 UNIT;17 0 TYPE;",
+    },
+    Case {
+        name: "no TRAN, and a row that is too long",
+        file: Base::A,
+        edits: &[
+            Edit {
+                first: 7,
+                last: 12,
+                lines: "",
+            },
+            Edit {
+                first: 30,
+                last: 30,
+                lines: "\"DATA\",\"BH1\",\"x\"\r\n",
+            },
+        ],
+        want: "4 24 LOCA;",
+    },
+    Case {
+        name: "no row",
+        file: Base::Empty,
+        edits: &[],
+        want: "2 0 -;",
+    },
+];
+
+#[test]
+fn headers_are_checked(rt: HostRuntime) -> Result<(), Fail> {
+    for case in CASES {
+        let found = checked(rt.alloc(), bytes_of(case.file), case.edits)?;
+        assert_eq!(rt; found.as_str(), case.want, "{}", case.name);
+    }
     Ok(())
 }
