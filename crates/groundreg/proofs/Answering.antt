@@ -1,12 +1,17 @@
 -- From what is told to the answer of a run.
-use Rattle.std.proofs.Common.{◌≡◌, ◌≤◌, ◌∷◌, ◌↔◌, ◌||◌, ℕ, Bool, true, false, IsTrue, inl, inr, [], List, Option, None, Some, Ok, Err, IfSome, refl, sym, subst, ◌∙◌, arith, rules}
+use Rattle.std.proofs.Common.{ap, length, ◌≡◌, ◌≤◌, ◌∷◌, ◌↔◌, ◌||◌, ℕ, Bool, true, false, IsTrue, inl, inr, [], List, Option, None, Some, Ok, Err, IfSome, refl, sym, subst, ◌∙◌, arith, rules}
 use Rattle.groundreg.specs.declared.fault.Fault.{Fault}
-use Rattle.groundreg.specs.declared.fault.Fault.TheVariants.{WordsRefused, TooLarge, NoMemory, Stream}
+use Rattle.groundreg.specs.declared.fault.Fault.TheVariants.{WordsRefused, TooLarge, DictionaryRefused, NoMemory, Stream}
 use Rattle.ags_rows.specs.declared.codes.Finding.{Finding}
 use Rattle.groundreg.specs.declared.report.Report.{Report}
-use Rattle.groundreg.specs.Answers.{Answers, reported, too_large, no_memory, AnswersOn, ReportsOn}
+use Rattle.groundreg.specs.Answers.{Answers, reported, too_large, no_dictionary, no_memory, AnswersOn, ReportsOn}
 use Rattle.groundreg.specs.Faults.{Tells, fault_text, fault_status, is_stream}
 use Rattle.groundreg.specs.Report.{report_of}
+use Rattle.std.specs.Prelude.{Vec}
+use Rattle.std.specs.Global.{Global}
+use Rattle.ags_rows.specs.declared.TheConstants.{LIMIT}
+use Rattle.groundreg.specs.Findings.{FileFindings}
+use Rattle.groundreg.specs.Reading.{ReadsFile}
 use Rattle.groundreg.proofs.Taking.{appends_none}
 
 -- a report that is printed whole is the answer
@@ -34,6 +39,8 @@ fault_answers (Some bytes) out err err_after fault before after status about (in
 fault_answers (Some bytes) out err err_after WordsRefused before after status about (inl told) = absurd about
 fault_answers (Some bytes) out err err_after TooLarge before after status about (inl (taken, kept, same)) =
     inl ([], fault_text TooLarge, subst (λ s. Answers bytes [] (fault_text TooLarge) s) (sym same) (too_large about), appends_none out, taken)
+fault_answers (Some bytes) out err err_after DictionaryRefused before after status about (inl (taken, kept, same)) =
+    inl ([], fault_text DictionaryRefused, subst (λ s. Answers bytes [] (fault_text DictionaryRefused) s) (sym same) (no_dictionary about), appends_none out, taken)
 fault_answers (Some bytes) out err err_after NoMemory before after status about (inl (taken, kept, same)) =
     inl ([], fault_text NoMemory, subst (λ s. Answers bytes [] (fault_text NoMemory) s) (sym same) no_memory, appends_none out, taken)
 fault_answers (Some bytes) out err err_after Stream before after status about (inl (taken, kept, same)) = inr same
@@ -83,7 +90,17 @@ fault_fails err err_after in_failed out_failed before after WordsRefused ended e
     none_failed in_failed out_failed after ended ei eo (kept ∙ eb) (omega (arith, same))
 fault_fails err err_after in_failed out_failed before after TooLarge ended ei eo eb (inl (taken, kept, same)) =
     none_failed in_failed out_failed after ended ei eo (kept ∙ eb) (omega (arith, same))
+fault_fails err err_after in_failed out_failed before after DictionaryRefused ended ei eo eb (inl (taken, kept, same)) =
+    none_failed in_failed out_failed after ended ei eo (kept ∙ eb) (omega (arith, same))
 fault_fails err err_after in_failed out_failed before after NoMemory ended ei eo eb (inl (taken, kept, same)) =
     none_failed in_failed out_failed after ended ei eo (kept ∙ eb) (omega (arith, same))
 fault_fails err err_after true out_failed before after Stream ended ei eo eb (inl (taken, kept, same)) = one_failed true out_failed after ended refl same
 fault_fails err err_after false out_failed before after Stream ended ei eo eb (inl (taken, kept, same)) = absurd (search rules)
+
+-- a report on what was found in all bytes of the stream
+pub reports : (known : Option (List ℕ)) (bytes : Vec ℕ Global) (read : List ℕ) (found given : List Finding) (report : Report)
+    → IfSome known (λ all. ReadsFile all (Ok bytes)) → length bytes.items ≤ LIMIT → read ≡ bytes.items → FileFindings read found → given ≡ found
+    → report ≡ report_of given → IfSome known (λ all. ReportsOn all (Ok report))
+reports None bytes read found given report is few lent right same made = tt
+reports (Some all) bytes read found given report is few lent right same made =
+    (subst (λ b. length b ≤ LIMIT) is few, (found, subst (λ b. FileFindings b found) (lent ∙ is) right, made ∙ ap report_of same))

@@ -4,7 +4,7 @@ use Rattle.std.specs.Global.{Global}
 use Rattle.std.specs.Io.KnownBytes.{Consumes, IsAtEnd}
 use Rattle.ags_rows.specs.declared.TheConstants.{LIMIT}
 use Rattle.groundreg.specs.declared.fault.Fault.{Fault}
-use Rattle.groundreg.specs.declared.fault.Fault.TheVariants.{WordsRefused, TooLarge, NoMemory, Stream}
+use Rattle.groundreg.specs.declared.fault.Fault.TheVariants.{WordsRefused, TooLarge, DictionaryRefused, NoMemory, Stream}
 
 -- the bytes that were taken are the first ones, and no more than `most`
 pub record TakesAtMost (most : ℕ) (old new : Option (List ℕ)) : Type 0 where
@@ -29,5 +29,6 @@ abbrev pub ReadsFile : List ℕ → Result (Vec ℕ Global) Fault → Type 0
 ReadsFile all (Ok bytes) = bytes.items ≡ all
 ReadsFile all (Err TooLarge) = LIMIT < length all
 ReadsFile all (Err WordsRefused) = ⊥
+ReadsFile all (Err DictionaryRefused) = ⊥
 ReadsFile all (Err NoMemory) = ⊤
 ReadsFile all (Err Stream) = ⊤

@@ -1,7 +1,8 @@
 //! The check of the file that a stream carries.
 
 ghost use Rattle.std.specs.Prelude.{◌≡◌, ◌↔◌, ◌||◌, IsTrue, false, ◌+◌, ◌≤◌, IfOk, IfErr, IfSome, length};
-ghost use Rattle.groundreg.specs.Findings.{FileFindings};
+ghost use Rattle.ags_check.specs.Findings.{Findings};
+ghost use Rattle.groundreg.specs.Findings.{FileFindings, ReadsBuiltIn, FindsIn};
 ghost use Rattle.groundreg.specs.Answers.{AnswersOn, ReportsOn};
 ghost use Rattle.groundreg.specs.declared.fault.Fault.TheVariants.{Stream};
 ghost use Rattle.groundreg.specs.Faults.{fault_status, is_stream_fault};
@@ -11,20 +12,54 @@ use crate::fault::Fault;
 use crate::input::read_file;
 use crate::report::{Report, findings_report};
 use crate::watched::Watched;
-use ags_rows::{Finding, LIMIT, RowsError, Scan, Sequence};
+use ags_check::{CheckError, check};
+use ags_dict::laws::one_dictionary;
+use ags_dict::{DictError, Dictionary};
+use ags_rows::laws::one_list_of_findings;
+use ags_rows::vectors::MINI;
+use ags_rows::{Finding, LIMIT, Sequence};
 use std::alloc::{AllocError, Global};
 use std::io::{Read, Write};
 
-/// The findings of a file, none where it is clean.
-fn findings_of(alloc: Global, bytes: &[u8]) -> Result<Sequence<Finding>, AllocError>
-    requires { length bytes.now ≤ LIMIT }
-    ensures { IfOk result (λ found. FileFindings bytes.now found) }
+/// The dictionary that is built into the program.
+fn built_in(alloc: Global) -> Result<Dictionary, Fault>
+    ensures { ReadsBuiltIn result }
 {
-    match Scan::read(alloc, bytes) {
-        Ok(_) => Ok(Sequence::from_vec(Vec::new(alloc))),
-        Err(RowsError::Findings(found)) => Ok(found),
-        Err(RowsError::NoMemory) => Err(AllocError),
+    one_list_of_findings();
+    one_dictionary();
+    match Dictionary::read(alloc, MINI) {
+        Ok(dictionary) => Ok(dictionary),
+        Err(DictError::NotDictionary(_found)) => Err(Fault::DictionaryRefused),
+        Err(DictError::NoDict) => Err(Fault::DictionaryRefused),
+        Err(DictError::MissingHeading) => Err(Fault::DictionaryRefused),
+        Err(DictError::NoMemory) => Err(Fault::NoMemory),
     }
+}
+
+/// The findings of a file under a dictionary, none where it is clean.
+fn findings_under(
+    alloc: Global,
+    dictionary: &Dictionary,
+    bytes: &[u8],
+) -> Result<Sequence<Finding>, AllocError>
+    requires { length bytes.now ≤ LIMIT }
+    ensures { IfOk result (λ found. Findings dictionary.now bytes.now found) }
+{
+    match check(alloc, dictionary, bytes) {
+        Ok(_) => Ok(Sequence::from_vec(Vec::new(alloc))),
+        Err(CheckError::Findings(found)) => Ok(found),
+        Err(CheckError::NoMemory) => Err(AllocError),
+    }
+}
+
+/// The findings of a file under the built-in dictionary.
+fn findings_of(alloc: Global, bytes: &[u8]) -> Result<Sequence<Finding>, Fault>
+    requires { length bytes.now ≤ LIMIT }
+    ensures found { IfOk result (λ found. FileFindings bytes.now found) }
+    ensures fault { FindsIn bytes.now result }
+{
+    let dictionary = built_in(alloc)?;
+    Ok(findings_under(alloc, &dictionary, bytes)?)
 }
 
 /// What is printed for the file that the stream carries.
