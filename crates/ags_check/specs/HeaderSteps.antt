@@ -1,0 +1,32 @@
+-- What the functions of the fourth phase compute on the way.
+use Rattle.std.specs.Prelude.{◌≡◌, ℕ, ◌<◌, ◌≤◌, List, Bool, false, nat_lt, max, Option, Some, None, IsSome}
+use Rattle.ags_rows.specs.Collecting.{At}
+use Rattle.ags_rows.specs.Contents.{place_in}
+use Rattle.ags_dict.specs.Entries.{Entries, order_of, elsewhere}
+use Rattle.ags_check.specs.Header.{BeginsWithName}
+
+-- the later of two places
+abbrev pub later : Option ℕ → Option ℕ → Option ℕ
+later None other = other
+later (Some place) None = Some place
+later (Some place) (Some other) = Some (max place other)
+
+-- whether a place stands before the latest one so far
+abbrev pub is_behind : Option ℕ → Option ℕ → Bool
+is_behind None latest = false
+is_behind (Some place) None = false
+is_behind (Some place) (Some latest) = nat_lt place latest
+
+-- the latest place of the names before the end, none where none has a place
+abbrev pub IsLatest : (List ℕ → Option ℕ) → List (List ℕ) → ℕ → Option ℕ → Type 0
+IsLatest rank names end None = (place : ℕ) (name : List ℕ) → place < end → At names place name → rank name ≡ None
+IsLatest rank names end (Some latest) =
+    ((place : ℕ) (name : List ℕ) (this : ℕ) → place < end → At names place name → rank name ≡ Some this → this ≤ latest)
+    × ((place : ℕ) × (name : List ℕ) × (place < end) × At names place name × (rank name ≡ Some latest))
+
+-- the heading is in the group's order, it is not in the order given, it is not named for the group, and no other group has it
+pub record IsMisnamedBy (given entries : Entries) (group heading : List ℕ) : Type 0 where
+  pub known : IsSome (place_in (order_of entries group) heading)
+  pub own : place_in (order_of given group) heading ≡ None
+  pub other_name : BeginsWithName group heading → ⊥
+  pub nowhere_else : elsewhere entries group heading ≡ false

@@ -1,0 +1,153 @@
+//! What the HEADING row of a group breaks.
+
+ghost use Rattle.std.specs.Prelude.{◌≡◌, ◌↔◌, ◌∷◌, ◌++◌, ℕ, List, IsTrue, IfOk, OnOk, Option, None, IsSome, MatchOption, Contains, map, false};
+ghost use Rattle.ags_rows.specs.declared.codes.Code.TheVariants.{Rule7, Rule19b};
+ghost use Rattle.ags_rows.specs.Collecting.{Adds};
+ghost use Rattle.ags_rows.specs.Bytes.{low_line};
+ghost use Rattle.ags_rows.specs.Contents.{place_in};
+ghost use Rattle.ags_dict.specs.Entries.{order_of};
+ghost use Rattle.ags_check.specs.Places.{place_at};
+ghost use Rattle.ags_check.specs.Placing.{AtNames};
+ghost use Rattle.ags_check.specs.Header.{IsOvertaken, BeginsWithName};
+ghost use Rattle.ags_check.specs.HeaderSteps.{later, is_behind, IsMisnamedBy};
+
+use crate::places::Places;
+use ags_dict::Dictionary;
+use ags_rows::{Cell, Code, Finding, note};
+use std::alloc::{AllocError, Global};
+
+/// The names in a row's cells.
+pub fn names_of<'c>(alloc: Global, cells: &'c [Cell]) -> Result<Vec<&'c [u8]>, AllocError>
+    ensures { IfOk result (λ names. map (λ name. name.now) names.items ≡ cells.now) }
+{
+    let mut names = Vec::new(alloc);
+    for (i, cell) in cells.iter().enumerate() {
+        names.push(cell.as_slice())?;
+    }
+    Ok(names)
+}
+
+/// Rules 9 and 18: notes the headings that are not in the group's order.
+pub fn note_unknown(
+    alloc: Global,
+    dictionary: &Dictionary,
+    group: &[u8],
+    headings: &[&[u8]],
+    line: u32,
+    code: Code,
+    findings: &mut Vec<Finding>,
+) -> Result<(), AllocError>
+    ensures { OnOk result (Adds (AtNames line code (map (λ name. name.now) headings.now) (λ _ name. place_in (order_of dictionary.now group.now) name ≡ None)) findings.old.items findings.new.items) }
+{
+    for (i, heading) in headings.iter().enumerate() {
+        let is_unknown = dictionary.place_in_order(group, heading).is_none();
+        note(alloc, findings, line, code, heading, is_unknown)?;
+    }
+    Ok(())
+}
+
+/// Rules 10a and 10b: notes the listed headings that are not in the row.
+pub fn note_absent(
+    alloc: Global,
+    listed: &[&[u8]],
+    row: &Places,
+    line: u32,
+    code: Code,
+    findings: &mut Vec<Finding>,
+) -> Result<(), AllocError>
+    ensures { OnOk result (Adds (AtNames line code (map (λ name. name.now) listed.now) (λ _ name. place_at row.now.held name ≡ None)) findings.old.items findings.new.items) }
+{
+    for (i, heading) in listed.iter().enumerate() {
+        let is_absent = row.find(heading).is_none();
+        note(alloc, findings, line, code, heading, is_absent)?;
+    }
+    Ok(())
+}
+
+/// The later of two places.
+fn later(one: Option<usize>, other: Option<usize>) -> Option<usize>
+    ensures { result ≡ later one other }
+{
+    match (one, other) {
+        (Some(one), Some(other)) => Some(one.max(other)),
+        (None, place) => place,
+        (place, None) => place,
+    }
+}
+
+/// Whether a place stands before the latest one so far.
+fn is_behind(place: Option<usize>, latest: Option<usize>) -> bool
+    ensures { result ≡ is_behind place latest }
+{
+    match (place, latest) {
+        (Some(place), Some(latest)) => place < latest,
+        _ => false,
+    }
+}
+
+/// Rule 7: notes the headings before which the row has one that stands later in the group's order.
+pub fn note_misplaced(
+    alloc: Global,
+    dictionary: &Dictionary,
+    group: &[u8],
+    headings: &[&[u8]],
+    line: u32,
+    findings: &mut Vec<Finding>,
+) -> Result<(), AllocError>
+    ensures { OnOk result (Adds (AtNames line Rule7 (map (λ name. name.now) headings.now) (IsOvertaken (place_in (order_of dictionary.now group.now)) (map (λ name. name.now) headings.now))) findings.old.items findings.new.items) }
+{
+    let mut latest = None;
+    for (i, heading) in headings.iter().enumerate() {
+        let place = dictionary.place_in_order(group, heading);
+        let breaks = is_behind(place, latest);
+        note(alloc, findings, line, Code::Rule7, heading, breaks)?;
+        latest = later(latest, place);
+    }
+    Ok(())
+}
+
+/// What stands behind the front of a text, if the text begins with it.
+fn behind<'t>(text: &'t [u8], front: &[u8]) -> Option<&'t [u8]>
+    ensures { MatchOption result ((rest : List ℕ) → text.now ≡ front.now ++ rest → ⊥) (λ rest. text.now ≡ front.now ++ rest.now) }
+{
+    text.strip_prefix(front)
+}
+
+/// Whether the heading begins with the group's name and a low line.
+fn begins_with_name(heading: &[u8], group: &[u8]) -> bool
+    ensures { IsTrue result ↔ BeginsWithName group.now heading.now }
+{
+    match behind(heading, group) {
+        Some(rest) => behind(rest, b"_").is_some(),
+        None => false,
+    }
+}
+
+/// Whether the heading is user-defined, and neither named for the group nor another group's.
+fn is_misnamed(given: &Dictionary, extended: &Dictionary, group: &[u8], heading: &[u8]) -> bool
+    ensures { IsTrue result ↔ IsMisnamedBy given.now extended.now group.now heading.now }
+{
+    extended.place_in_order(group, heading).is_some()
+        && given.place_in_order(group, heading).is_none()
+        && !begins_with_name(heading, group)
+        && !extended.elsewhere(group, heading)
+}
+
+/// Rule 19b: notes the user-defined headings that are neither named for the group nor another group's.
+pub fn note_misnamed(
+    alloc: Global,
+    given: &Dictionary,
+    extended: &Dictionary,
+    group: &[u8],
+    headings: &[&[u8]],
+    line: u32,
+    findings: &mut Vec<Finding>,
+) -> Result<(), AllocError>
+    ensures { OnOk result (Adds (AtNames line Rule19b (map (λ name. name.now) headings.now) (λ _ name. IsMisnamedBy given.now extended.now group.now name)) findings.old.items findings.new.items) }
+{
+    for (i, heading) in headings.iter().enumerate() {
+        let breaks = is_misnamed(given, extended, group, heading);
+        note(alloc, findings, line, Code::Rule19b, heading, breaks)?;
+    }
+    Ok(())
+}

@@ -1,0 +1,161 @@
+-- The entries of a dictionary (the group DICT, Rules 7, 9, 10 and 18), and what is read from them.
+-- All of it speaks of a file's contents, not of its lines. A heading that DICT does not have reads as null.
+use Rattle.std.specs.Prelude.{ℕ, List, [], ◌∷◌, ◌++◌, map, flat_map, codes, Bool, true, false, not, ◌&&◌, Option, Some, None, if◌then◌else◌}
+use Rattle.std.specs.List.{filter, find, list_any, list_all}
+use Rattle.std.specs.Option.{option_map_or}
+use Rattle.std.specs.Str.{bytes_eq}
+use Rattle.ags_rows.specs.Contents.{Contents, under}
+use Rattle.ags_dict.specs.Parts.{has_part}
+use Rattle.ags_dict.specs.declared.entries.GroupEntry.{GroupEntry}
+use Rattle.ags_dict.specs.declared.entries.HeadingEntry.{HeadingEntry}
+use Rattle.ags_dict.specs.declared.entries.Origin.{Origin}
+use Rattle.ags_dict.specs.declared.entries.Origin.TheVariants.{Standard, File}
+
+-- The entries of a dictionary, each list in its order: for groups, and for headings of groups.
+pub record Entries : Type 0 where
+  pub groups : List GroupEntry
+  pub headings : List HeadingEntry
+
+-- ---- what the rows of DICT say
+
+-- a row of DICT_TYPE `GROUP` makes an entry for a group, with its parent
+abbrev pub group_entries : List (List ℕ) → List (List ℕ) → List GroupEntry
+group_entries headings fields =
+    if bytes_eq (under headings fields (codes "DICT_TYPE")) (codes "GROUP") then record {
+      group = under headings fields (codes "DICT_GRP");
+      parent = under headings fields (codes "DICT_PGRP");
+    } ∷ [] else []
+
+-- a row of DICT_TYPE `HEADING` makes an entry for a heading of a group, with its status
+abbrev pub heading_entries : Origin → List (List ℕ) → List (List ℕ) → List HeadingEntry
+heading_entries origin headings fields =
+    if bytes_eq (under headings fields (codes "DICT_TYPE")) (codes "HEADING") then record {
+      group = under headings fields (codes "DICT_GRP");
+      heading = under headings fields (codes "DICT_HDNG");
+      status = under headings fields (codes "DICT_STAT");
+      origin = origin;
+    } ∷ [] else []
+
+abbrev pub is_dict : Contents → Bool
+is_dict group = bytes_eq group.name (codes "DICT")
+
+abbrev pub group_entries_in : Contents → List GroupEntry
+group_entries_in group = if is_dict group then flat_map (group_entries group.headings) group.rows else []
+
+abbrev pub heading_entries_in : Origin → Contents → List HeadingEntry
+heading_entries_in origin group = if is_dict group then flat_map (heading_entries origin group.headings) group.rows else []
+
+-- ---- an earlier entry is kept, a later one ignored
+
+abbrev pub same_group : GroupEntry → GroupEntry → Bool
+same_group new old = bytes_eq old.group new.group
+
+abbrev pub same_heading : HeadingEntry → HeadingEntry → Bool
+same_heading new old = bytes_eq old.group new.group && bytes_eq old.heading new.heading
+
+-- the entries that restate none before them
+abbrev pub unstated : {X : Type 0} → (X → X → Bool) → List X → List X → List X
+unstated same before [] = []
+unstated same before (x ∷ xs) = if list_any (same x) before then unstated same before xs else x ∷ unstated same (before ++ x ∷ []) xs
+
+-- a list of entries, then the new ones that restate none, in their order
+abbrev pub with_unstated : {X : Type 0} → (X → X → Bool) → List X → List X → List X
+with_unstated same old new = old ++ unstated same old new
+
+-- entries, and the new ones of a file's DICT
+abbrev pub with_entries : Origin → Entries → List Contents → Entries
+with_entries origin old contents = record {
+  groups = with_unstated same_group old.groups (flat_map group_entries_in contents);
+  headings = with_unstated same_heading old.headings (flat_map (heading_entries_in origin) contents);
+}
+
+-- the entries of the dictionary that a file is
+abbrev pub standard_entries : List Contents → Entries
+standard_entries contents = with_entries Standard (record { groups = []; headings = [] }) contents
+
+-- the extended dictionary: the standard entries, then the new ones of the file's own DICT
+abbrev pub extended : Entries → List Contents → Entries
+extended standard contents = with_entries File standard contents
+
+-- ---- what a dictionary has to have
+
+abbrev pub has_dict : List Contents → Bool
+has_dict contents = list_any is_dict contents
+
+-- the headings without which a file is no dictionary
+abbrev pub dict_headings : List (List ℕ)
+dict_headings = codes "DICT_TYPE" ∷ codes "DICT_GRP" ∷ codes "DICT_HDNG" ∷ codes "DICT_STAT" ∷ codes "DICT_PGRP" ∷ []
+
+-- whether a HEADING row has all of them
+abbrev pub has_dict_headings : List (List ℕ) → Bool
+has_dict_headings headings = list_all (λ wanted. list_any (λ h. bytes_eq h wanted) headings) dict_headings
+
+abbrev pub is_incomplete : Contents → Bool
+is_incomplete group = is_dict group && not (has_dict_headings group.headings)
+
+-- whether DICT lacks one
+abbrev pub lacks_heading : List Contents → Bool
+lacks_heading contents = list_any is_incomplete contents
+
+-- ---- what is asked of the entries
+
+abbrev pub heading_of : HeadingEntry → List ℕ
+heading_of entry = entry.heading
+
+abbrev pub of_group : List ℕ → HeadingEntry → Bool
+of_group group entry = bytes_eq entry.group group
+
+-- where statuses are joined, as in KEY+REQUIRED
+abbrev pub plus : ℕ
+plus = 43
+
+-- an entry of the group whose status, cut at `+`, has this word
+abbrev pub of_status : List ℕ → List ℕ → HeadingEntry → Bool
+of_status group word entry = of_group group entry && has_part plus word entry.status
+
+-- Rule 7: the group's headings in the order of the dictionary
+abbrev pub order_of : Entries → List ℕ → List (List ℕ)
+order_of entries group = map heading_of (filter (of_group group) entries.headings)
+
+-- Rule 10a: the group's KEY headings, in that order
+abbrev pub keys_of : Entries → List ℕ → List (List ℕ)
+keys_of entries group = map heading_of (filter (of_status group (codes "KEY")) entries.headings)
+
+-- Rule 10b: the group's REQUIRED headings, in that order
+abbrev pub required_of : Entries → List ℕ → List (List ℕ)
+required_of entries group = map heading_of (filter (of_status group (codes "REQUIRED")) entries.headings)
+
+-- Rule 9: the group has an entry
+abbrev pub has_group : Entries → List ℕ → Bool
+has_group entries group = list_any (λ e. bytes_eq e.group group) entries.groups
+
+-- Rule 19b: another group has a heading of this name
+abbrev pub elsewhere : Entries → List ℕ → List ℕ → Bool
+elsewhere entries group heading = list_any (λ e. bytes_eq e.heading heading && not (of_group group e)) entries.headings
+
+-- an entry of the file's own DICT
+abbrev pub is_file : Origin → Bool
+is_file Standard = false
+is_file File = true
+
+-- the entry for a heading of a group
+abbrev pub entry_of : Entries → List ℕ → List ℕ → Option HeadingEntry
+entry_of entries group heading = find (λ e. of_group group e && bytes_eq e.heading heading) entries.headings
+
+-- Rule 19b: a heading is user-defined where its entry came from the file's own DICT
+abbrev pub is_user_defined : Entries → List ℕ → List ℕ → Bool
+is_user_defined entries group heading = option_map_or (λ e. is_file e.origin) (entry_of entries group heading) false
+
+-- the groups that have no parent, whatever their entries say
+abbrev pub has_no_parent : List ℕ → Bool
+has_no_parent group =
+    list_any (bytes_eq group) (codes "PROJ" ∷ codes "TRAN" ∷ codes "ABBR" ∷ codes "DICT" ∷ codes "UNIT" ∷ codes "TYPE" ∷ codes "FILE" ∷ [])
+
+-- the parent that an entry names: none where it is null or `-`
+abbrev pub named_parent : Option GroupEntry → Option (List ℕ)
+named_parent None = None
+named_parent (Some entry) = if list_any (bytes_eq entry.parent) ([] ∷ codes "-" ∷ []) then None else Some entry.parent
+
+-- Rule 10c: the parent of a group
+abbrev pub parent_of : Entries → List ℕ → Option (List ℕ)
+parent_of entries group = if has_no_parent group then None else named_parent (find (λ e. bytes_eq e.group group) entries.groups)

@@ -1,0 +1,5 @@
+pub mod Parts
+pub mod Entries
+pub mod Index
+pub mod Reading
+pub mod Laws

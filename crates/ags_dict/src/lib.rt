@@ -1,0 +1,19 @@
+//! The dictionary: which headings a group may have, which are its keys, and which group is its parent.
+#![tactic(auto)]
+
+mod dictionary;
+mod entries;
+mod extending;
+mod groups;
+mod headings;
+pub mod laws;
+mod parts;
+mod places;
+mod reading;
+#[cfg(test)]
+mod tests;
+
+pub use dictionary::Dictionary;
+pub use entries::{GroupEntry, HeadingEntry, Origin};
+pub use parts::has_part;
+pub use reading::DictError;
