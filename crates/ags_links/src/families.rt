@@ -92,7 +92,7 @@ fn has_heading(group: &Group<'_>, heading: &[u8]) -> bool
 }
 
 /// Those of the headings that stand in the group's HEADING row.
-fn headings_in<'d>(
+pub(crate) fn headings_in<'d>(
     alloc: Global,
     group: &Group<'_>,
     headings: &[&'d [u8]],

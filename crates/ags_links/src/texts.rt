@@ -63,18 +63,18 @@ pub(crate) fn entries_text(
     Ok(text)
 }
 
-/// The row's group, then its entries under the headings, as one text.
+/// The row's group, then its entries under its KEY headings, as one text.
 pub(crate) fn group_text(
     alloc: Global,
     row: &PlacedRow<'_>,
-    headings: &[&[u8]],
+    keys: &[&[u8]],
 ) -> Result<Vec<u8>, AllocError>
-    ensures { IfOk result (λ text. text.items ≡ key_text ((row_of row.now).group ∷ map (entry_of (row_of row.now)) (map (λ h. h.now) headings.now))) }
+    ensures { IfOk result (λ text. text.items ≡ key_text ((row_of row.now).group ∷ map (entry_of (row_of row.now)) (map (λ h. h.now) keys.now))) }
 {
     let mut text = Vec::new(alloc);
     let group = row.group;
     push_text(&mut text, group.name.as_slice())?;
-    push_entries(&mut text, row, headings)?;
+    push_entries(&mut text, row, keys)?;
     Ok(text)
 }
 
