@@ -35,8 +35,15 @@ few_rows_from number (line ∷ lines) rows h = elim h [
 few_of_groups : (groups : List Group) → length (data_rows (contents_of groups)) ≤ length (flat_map rows_of groups)
 few_of_groups [] = omega arith
 few_of_groups (g ∷ groups) =
-    omega (arith, few_of_groups groups, length-append (group_rows (group_contents g)) (data_rows (contents_of groups)), length-append (rows_of g) (flat_map rows_of groups),
-      length-map (map fields_of g.rows) (row_in (group_contents g)), length-map g.rows fields_of, length-map g.rows data_row)
+    omega (
+      arith,
+      few_of_groups groups,
+      length-append (group_rows (group_contents g)) (data_rows (contents_of groups)),
+      length-append (rows_of g) (flat_map rows_of groups),
+      length-map (map fields_of g.rows) (row_in (group_contents g)),
+      length-map g.rows fields_of,
+      length-map g.rows data_row,
+    )
 
 unmarked : (file : List ℕ) → length (after_mark file) ≤ length file
 unmarked file = by_test (starts_with nat_eq file byte_order_mark) where

@@ -5,5 +5,4 @@ ghost use Rattle.ags_links.specs.Limits.{FewRows};
 /// A file that the scanner takes has few enough rows to be indexed.
 pub fn few_rows()
     ensures { FewRows }
-{
-}
+{}

@@ -14,7 +14,7 @@ use ags_dict::Dictionary;
 use std::alloc::{AllocError, Global};
 
 /// Whether two rows have equal entries under each of the headings.
-fn entries_equal(row: &PlacedRow<'_>, other: &PlacedRow<'_>, headings: &[&[u8]]) -> bool
+fn entries_equal(row: &PlacedRow<'_, '_>, other: &PlacedRow<'_, '_>, headings: &[&[u8]]) -> bool
     ensures { result ≡ list_all (λ h. bytes_eq (entry_of (row_of row.now) h.now) (entry_of (row_of other.now) h.now)) headings.now }
 {
     headings
@@ -26,8 +26,8 @@ fn entries_equal(row: &PlacedRow<'_>, other: &PlacedRow<'_>, headings: &[&[u8]])
 fn is_parent(
     alloc: Global,
     dictionary: &Dictionary,
-    row: &PlacedRow<'_>,
-    other: &PlacedRow<'_>,
+    row: &PlacedRow<'_, '_>,
+    other: &PlacedRow<'_, '_>,
 ) -> Result<bool, AllocError>
     ensures { IfOk result (λ is. IsTrue is ↔ IsParentRow dictionary.now (row_of row.now) (row_of other.now)) }
 {
@@ -48,7 +48,7 @@ fn is_parent(
 pub fn parents_by_search(
     alloc: Global,
     dictionary: &Dictionary,
-    rows: &[PlacedRow<'_>],
+    rows: &[PlacedRow<'_, '_>],
     row: u32,
 ) -> Result<Vec<u32>, AllocError>
     requires few { length rows.now < 2 ^ 32 }
@@ -69,8 +69,8 @@ pub fn parents_by_search(
 fn has_key_of(
     alloc: Global,
     dictionary: &Dictionary,
-    row: &PlacedRow<'_>,
-    other: &PlacedRow<'_>,
+    row: &PlacedRow<'_, '_>,
+    other: &PlacedRow<'_, '_>,
 ) -> Result<bool, AllocError>
     ensures { IfOk result (λ has. IsTrue has ↔ HasKeyOf dictionary.now (row_of row.now) (row_of other.now)) }
 {
@@ -87,7 +87,7 @@ fn has_key_of(
 pub fn first_of_key_by_search(
     alloc: Global,
     dictionary: &Dictionary,
-    rows: &[PlacedRow<'_>],
+    rows: &[PlacedRow<'_, '_>],
     row: u32,
 ) -> Result<u32, AllocError>
     requires { row < length rows.now }
