@@ -60,26 +60,27 @@ entries_equal r s (h ∷ headings) e =
 pub parent_by_test : (entries : Entries) (r s : DataRow) (parent : List ℕ) (headings : List (Bor (List ℕ))) (t : Bool) → parent_of entries r.group ≡ Some parent → parent ≡ s.group
     → texts headings ≡ link_headings entries parent r.headings → t ≡ all_equal r s headings → IsTrue t ↔ IsParentRow entries r s
 parent_by_test entries r s parent headings t named same listed test = (
-    λ is.
+  λ is.
       let made : map (entry_of r) (link_headings entries parent r.headings) ≡ map (entry_of s) (link_headings entries parent r.headings) =
-        subst (λ hs. map (entry_of r) hs ≡ map (entry_of s) hs) listed (equal_entries r s headings (sym test ∙ is)) in
-      (named ∙ ap (λ p. Some p) same, λ heading link.
-        made_same (entry_of r) (entry_of s) (link_headings entries parent r.headings) made heading
-        (in_link_headings entries parent r.headings heading (subst (λ p. Contains (keys_of entries p) heading) (sym same) link.0) link.1)),
-    λ is.
+      subst (λ hs. map (entry_of r) hs ≡ map (entry_of s) hs) listed (equal_entries r s headings (sym test ∙ is)) in (
+        named ∙ ap (λ p. Some p) same,
+        λ heading link.
+            made_same (entry_of r) (entry_of s) (link_headings entries parent r.headings) made heading
+            (in_link_headings entries parent r.headings heading (subst (λ p. Contains (keys_of entries p) heading) (sym same) link.0) link.1),
+      ),
+  λ is.
       let made : map (entry_of r) (link_headings entries parent r.headings) ≡ map (entry_of s) (link_headings entries parent r.headings) =
-        same_made (entry_of r) (entry_of s) (link_headings entries parent r.headings) (λ heading in_list.
-          let link = link_heading_in entries parent r.headings heading in_list in
-          is.1 heading (subst (λ p. Contains (keys_of entries p) heading) same link.0, link.1)) in
-      test ∙ entries_equal r s headings (subst (λ hs. map (entry_of r) hs ≡ map (entry_of s) hs) (sym listed) made)
-  )
+      same_made (entry_of r) (entry_of s) (link_headings entries parent r.headings) (λ heading in_list.
+      let link = link_heading_in entries parent r.headings heading in_list in
+      is.1 heading (subst (λ p. Contains (keys_of entries p) heading) same link.0, link.1)) in
+      test ∙ entries_equal r s headings (subst (λ hs. map (entry_of r) hs ≡ map (entry_of s) hs) (sym listed) made),
+)
 
 pub key_by_test : (entries : Entries) (r s : DataRow) (keys : List (Bor (List ℕ))) (t : Bool) → s.group ≡ r.group → texts keys ≡ keys_of entries r.group → t ≡ all_equal r s keys → IsTrue t ↔ HasKeyOf entries r s
 key_by_test entries r s keys t same listed test =
-    let of_group : map (entry_of s) (keys_of entries r.group) ≡ key_of entries s = ap (λ g. map (entry_of s) (keys_of entries g)) (sym same) in
-    (
+    let of_group : map (entry_of s) (keys_of entries r.group) ≡ key_of entries s = ap (λ g. map (entry_of s) (keys_of entries g)) (sym same) in (
       λ is. (same, sym (subst (λ ks. map (entry_of r) ks ≡ map (entry_of s) ks) listed (equal_entries r s keys (sym test ∙ is)) ∙ of_group)),
-      λ is. test ∙ entries_equal r s keys (subst (λ ks. map (entry_of r) ks ≡ map (entry_of s) ks) (sym listed) (sym (of_group ∙ is.1)))
+      λ is. test ∙ entries_equal r s keys (subst (λ ks. map (entry_of r) ks ≡ map (entry_of s) ks) (sym listed) (sym (of_group ∙ is.1))),
     )
 
 -- ---- the rows before the next
@@ -106,7 +107,7 @@ listed_more found new i IsOne so_far is e = subst (λ l. ListsRows l (λ m. (m <
     λ h. elim (cases_lt m i) [
       | inl old ↦ Contains-append_left found (i ∷ []) m ((so_far.exact m).1 (old, h.1))
       | inr last ↦ let same : i ≡ m = omega (arith, last, h.0) in subst (Contains (found ++ i ∷ [])) same (Contains-push found i)
-    ]
+    ],
   );
 })
 
@@ -118,7 +119,7 @@ listed_over found i IsOne so_far none = record {
     λ h. elim (cases_lt m i) [
       | inl old ↦ (so_far.exact m).1 (old, h.1)
       | inr last ↦ let same : m ≡ i = omega (arith, last, h.0) in absurd (none (subst IsOne same h.1))
-    ]
+    ],
   );
 }
 

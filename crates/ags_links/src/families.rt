@@ -64,7 +64,10 @@ pub(crate) fn rows_by_key(
 }
 
 /// The rows of FILE by their FILE_FSET.
-pub(crate) fn rows_by_file_set(alloc: Global, rows: &[PlacedRow<'_, '_>]) -> Result<Lookup, AllocError>
+pub(crate) fn rows_by_file_set(
+    alloc: Global,
+    rows: &[PlacedRow<'_, '_>],
+) -> Result<Lookup, AllocError>
     requires { length rows.now < 2 ^ 32 }
     ensures { IfOk result (λ lookup. Finds lookup (HasText (map row_of rows.now) HasFileSet)) }
 {

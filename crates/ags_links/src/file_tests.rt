@@ -128,33 +128,46 @@ fn broken_links_step_by_their_sound_parts(rt: HostRuntime) -> Result<(), Fail> {
     Ok(())
 }
 
+/// What row 9 of the third file names with another record link, as text.
+fn named_by(rt: &(impl Abort + AllocGlobal), link: &str) -> Result<String, Fail> {
+    let file = edited(rt, FILE_C, b"SAMP|BH1|3.00|S9", link.as_bytes())?;
+    let mut text = String::new(rt.alloc());
+    match linked(rt, &file, 9, b"SAMP_LINK")? {
+        Some(rows) => {
+            for row in &rows {
+                write!(text, "{row};")?;
+            }
+        }
+        None => text.push_str("broken")?,
+    }
+    Ok(text)
+}
+
 #[test]
 fn what_links_name(rt: HostRuntime) -> Result<(), Fail> {
-    let cases: [(&[u8], Option<&[u32]>); 7] = [
-        (b"SAMP|BH1|3.00|S9", Some(&[11])),
-        (b"SAMP|BH1|9.00|S9", None),
-        (b"SAMP|BH1|3.00|S9+SAMP|BH1|9.00|S9", None),
-        (b"SAMP|BH1|3.00|S9+", None),
-        (b"SAMP|BH1|3.00", None),
-        (b"PROJ|P7", Some(&[0])),
-        (b"SAMP|BH1|3.00|S9+PROJ|P7+SAMP|BH1|3.00|S9", Some(&[0, 11])),
-    ];
-    for (text, want) in cases {
-        let file = edited(&rt, FILE_C, b"SAMP|BH1|3.00|S9", text)?;
-        let found = linked(&rt, &file, 9, b"SAMP_LINK")?;
-        let found = found.as_ref().map(|rows| rows.as_slice());
-        assert!(rt; found == want);
+    for (link, want) in [
+        ("SAMP|BH1|3.00|S9", "11;"),
+        ("SAMP|BH1|9.00|S9", "broken"),
+        ("SAMP|BH1|3.00|S9+SAMP|BH1|9.00|S9", "broken"),
+        ("SAMP|BH1|3.00|S9+", "broken"),
+        ("SAMP|BH1|3.00", "broken"),
+        ("", "broken"),
+        ("PROJ|P7", "0;"),
+        ("SAMP|BH1|3.00|S9+PROJ|P7+SAMP|BH1|3.00|S9", "0;11;"),
+    ] {
+        assert_eq!(rt; named_by(&rt, link)?.as_str(), want, "{link}");
     }
-    assert!(rt; linked(&rt, FILE_C, 10, b"SAMP_LINK")?.is_none());
     Ok(())
 }
 
 #[test]
 fn separators_of_tran(rt: HostRuntime) -> Result<(), Fail> {
-    let file = edited(&rt, FILE_C, b"\"1\",\"|\",\"+\"", b"\"1\",\"/\",\"\"")?;
-    let file = edited(&rt, &file, b"SAMP|BH1|3.00|S9", b"SAMP/BH1/3.00/S9+PROJ/P7")?;
-    let found = linked(&rt, &file, 9, b"SAMP_LINK")?;
-    assert!(rt; found.as_ref().map(|rows| rows.as_slice()) == Some([0, 11].as_slice()));
+    let file = edited(&rt, FILE_C, b"\"|\",\"+\"", b"\"/\",\"\"")?;
+    let file = edited(&rt, &file, b"SAMP|BH1|3.00|S9", b"SAMP/BH1/3.00/S9")?;
+    let Some(rows) = linked(&rt, &file, 9, b"SAMP_LINK")? else {
+        panic!(rt; "the link is broken");
+    };
+    assert!(rt; rows.as_slice() == [11].as_slice());
     Ok(())
 }
 
@@ -184,26 +197,37 @@ fn index_and_search_agree(rt: HostRuntime) -> Result<(), Fail> {
     Ok(())
 }
 
+/// The first row with the row's key, and the rows of FILE with its FILE_FSET.
+fn asked(rt: &(impl Abort + AllocGlobal), file: &[u8], row: u32) -> Result<(u32, Vec<u32>), Fail> {
+    let dictionary = dictionary(rt);
+    let scan = scanned(rt, file);
+    let index = Index::build(rt.alloc(), &scan, &dictionary)?;
+    assert!(rt; row < Graph::of(rt.alloc(), &index)?.rows());
+    Ok((index.first_of_key(row)?, index.files(row)?))
+}
+
 #[test]
-fn equal_keys_and_files(rt: HostRuntime) -> Result<(), Fail> {
-    let twice = edited(
+fn equal_keys(rt: HostRuntime) -> Result<(), Fail> {
+    let file = edited(
         &rt,
         FILE_B,
-        b"\"DATA\",\"BH2\",\"2.00\",\"S2\",\"\"",
-        b"\"DATA\",\"BH1\",\"1.50\",\"S1\",\"\"",
+        b"\"BH2\",\"2.00\",\"S2\",\"\"",
+        b"\"BH1\",\"1.50\",\"S1\",\"\"",
     )?;
-    compare(&rt, &twice)?;
-    let dictionary = dictionary(&rt);
-    let scan = scanned(&rt, &twice);
-    let index = Index::build(rt.alloc(), &scan, &dictionary)?;
-    assert_eq!(rt; Graph::of(rt.alloc(), &index)?.rows(), 13);
-    assert_eq!(rt; index.first_of_key(10)?, 9);
-    assert!(rt; index.parents(11)?.as_slice() == [9, 10].as_slice());
-    let scan = scanned(&rt, FILES);
-    let index = Index::build(rt.alloc(), &scan, &dictionary)?;
-    assert_eq!(rt; Graph::of(rt.alloc(), &index)?.rows(), 4);
-    assert!(rt; index.files(0)?.as_slice() == [1, 2].as_slice());
-    assert!(rt; index.files(3)?.as_slice() == [3].as_slice());
+    compare(&rt, &file)?;
+    let (first, files) = asked(&rt, &file, 10)?;
+    assert_eq!(rt; first, 9);
+    assert_eq!(rt; files.len(), 0);
+    Ok(())
+}
+
+#[test]
+fn rows_of_a_set(rt: HostRuntime) -> Result<(), Fail> {
+    let (_, files) = asked(&rt, FILES, 0)?;
+    assert!(rt; files.as_slice() == [1, 2].as_slice());
+    let (first, files) = asked(&rt, FILES, 3)?;
+    assert_eq!(rt; first, 3);
+    assert!(rt; files.as_slice() == [3].as_slice());
     Ok(())
 }
 
@@ -236,9 +260,14 @@ fn closures_of_files_agree(rt: HostRuntime) -> Result<(), Fail> {
 }
 
 /// The header rows of the groups that the large file has.
-const HOLES: &str = "\"GROUP\",\"LOCA\"\r\n\"HEADING\",\"LOCA_ID\"\r\n\"UNIT\",\"\"\r\n\"TYPE\",\"ID\"\r\n";
-const SAMPLES: &str = "\"GROUP\",\"SAMP\"\r\n\"HEADING\",\"LOCA_ID\",\"SAMP_TOP\",\"SAMP_REF\"\r\n\"UNIT\",\"\",\"m\",\"\"\r\n\"TYPE\",\"ID\",\"2DP\",\"X\"\r\n";
-const TESTS: &str = "\"GROUP\",\"LNMC\"\r\n\"HEADING\",\"LOCA_ID\",\"SAMP_TOP\",\"SAMP_REF\"\r\n\"UNIT\",\"\",\"m\",\"\"\r\n\"TYPE\",\"ID\",\"2DP\",\"X\"\r\n";
+const HOLES: &str =
+    "\"GROUP\",\"LOCA\"\r\n\"HEADING\",\"LOCA_ID\"\r\n\"UNIT\",\"\"\r\n\"TYPE\",\"ID\"\r\n";
+
+const SAMPLES: &str =
+    "\"GROUP\",\"SAMP\"\r\n\"HEADING\",\"LOCA_ID\",\"SAMP_TOP\",\"SAMP_REF\"\r\n\"UNIT\",\"\",\"m\",\"\"\r\n\"TYPE\",\"ID\",\"2DP\",\"X\"\r\n";
+
+const TESTS: &str =
+    "\"GROUP\",\"LNMC\"\r\n\"HEADING\",\"LOCA_ID\",\"SAMP_TOP\",\"SAMP_REF\"\r\n\"UNIT\",\"\",\"m\",\"\"\r\n\"TYPE\",\"ID\",\"2DP\",\"X\"\r\n";
 
 /// A group of 20,000 rows, of 1,000 boreholes in turn.
 fn add_samples(text: &mut String, header: &str) -> Result<(), Fail> {

@@ -59,7 +59,11 @@ fn add_links(index: &Index<'_, '_, '_>, row: u32, found: &mut Vec<u32>) -> Resul
 }
 
 /// Adds the rows that the row steps to by its record links, if it is in a data group.
-fn add_link_steps(index: &Index<'_, '_, '_>, row: u32, found: &mut Vec<u32>) -> Result<(), AllocError>
+fn add_link_steps(
+    index: &Index<'_, '_, '_>,
+    row: u32,
+    found: &mut Vec<u32>,
+) -> Result<(), AllocError>
     requires { row < length (rows_in index.now) }
     ensures { OnOk result (AddsRows found.old.items found.new.items (IsLinkStepAt index.now row)) }
 {
@@ -79,7 +83,11 @@ fn may_have_files(group: &[u8]) -> bool
 }
 
 /// Adds the rows of FILE that the row steps to, if it is in a data group other than FILE.
-fn add_file_steps(index: &Index<'_, '_, '_>, row: u32, found: &mut Vec<u32>) -> Result<(), AllocError>
+fn add_file_steps(
+    index: &Index<'_, '_, '_>,
+    row: u32,
+    found: &mut Vec<u32>,
+) -> Result<(), AllocError>
     requires { row < length (rows_in index.now) }
     ensures { OnOk result (AddsRows found.old.items found.new.items (IsFileStepAt index.now row)) }
 {
@@ -92,7 +100,11 @@ fn add_file_steps(index: &Index<'_, '_, '_>, row: u32, found: &mut Vec<u32>) -> 
 }
 
 /// The rows that a row steps to, rising, each once.
-pub(crate) fn targets(alloc: Global, index: &Index<'_, '_, '_>, row: u32) -> Result<Vec<u32>, AllocError>
+pub(crate) fn targets(
+    alloc: Global,
+    index: &Index<'_, '_, '_>,
+    row: u32,
+) -> Result<Vec<u32>, AllocError>
     requires { row < length (rows_in index.now) }
     ensures { IfOk result (λ rows. ListsRows rows.items (StepAt index.now row)) }
 {

@@ -26,7 +26,7 @@ loop-number-preserved c =
           rw w.found-is (listed_more found w.push.new.self.items i (Between rows (IsParentRow entries) n) c.loop-number.invariant (row, other, at_row, at_other, c.in_ok-is_parent.ensures.0 w.if-branch.true) w.in_ok-push.ensures.items)
       | else-branch w ↦
           rw w.found-is (listed_over found i (Between rows (IsParentRow entries) n) c.loop-number.invariant
-            (λ h. true≢false (sym (c.in_ok-is_parent.ensures.1 (between_is rows (IsParentRow entries) n i row other at_row at_other h)) ∙ w.if-branch.false)))
+          (λ h. true≢false (sym (c.in_ok-is_parent.ensures.1 (between_is rows (IsParentRow entries) n i row other at_row at_other h)) ∙ w.if-branch.false)))
     ]
 
 pub returns : goal.returns
