@@ -67,7 +67,7 @@ lists_found lookup Has text numbers IsOne finds e to from = record {
   rising = subst IsStrictlyIncreasing (sym e) (finds.rising text);
   exact = λ n. (
     λ h. to n ((finds.exact text n).0 (subst (λ l. Contains l n) e h)),
-    λ h. subst (λ l. Contains l n) (sym e) ((finds.exact text n).1 (from n h))
+    λ h. subst (λ l. Contains l n) (sym e) ((finds.exact text n).1 (from n h)),
   );
 }
 
@@ -79,18 +79,18 @@ lists_none IsOne none = record {
 
 -- ---- parents
 
-some_same : (p q : List ℕ) → Some p ≡ Some q → p ≡ q
+pub some_same : (p q : List ℕ) → Some p ≡ Some q → p ≡ q
 some_same p q e = cc
 
 none_some : (p : List ℕ) → None ≡ Some p → ⊥
 none_some p e = cc
 
-link_heading_in : (entries : Entries) (parent : List ℕ) (headings : List (List ℕ)) (heading : List ℕ) → Contains (link_headings entries parent headings) heading → Contains (keys_of entries parent) heading × Contains headings heading
+pub link_heading_in : (entries : Entries) (parent : List ℕ) (headings : List (List ℕ)) (heading : List ℕ) → Contains (link_headings entries parent headings) heading → Contains (keys_of entries parent) heading × Contains headings heading
 link_heading_in entries parent headings heading h =
     let k = filter_contains (has_heading headings) (keys_of entries parent) heading h in
     (k.0, heading_stands headings heading k.1)
 
-in_link_headings : (entries : Entries) (parent : List ℕ) (headings : List (List ℕ)) (heading : List ℕ) → Contains (keys_of entries parent) heading → Contains headings heading → Contains (link_headings entries parent headings) heading
+pub in_link_headings : (entries : Entries) (parent : List ℕ) (headings : List (List ℕ)) (heading : List ℕ) → Contains (keys_of entries parent) heading → Contains headings heading → Contains (link_headings entries parent headings) heading
 in_link_headings entries parent headings heading key stood = contains_filter (has_heading headings) (keys_of entries parent) heading key (stands_heading headings heading stood)
 
 pub parents_listed : (entries : Entries) (rows : List DataRow) (n : ℕ) (r : DataRow) (parent : List ℕ) (lookup : Lookup) (text numbers : List ℕ) → IsRow rows n r → parent_of entries r.group ≡ Some parent
@@ -100,19 +100,26 @@ parents_listed entries rows n r parent lookup text numbers row named finds e spe
     let headings = link_headings entries parent r.headings in
     lists_found lookup (HasText rows (HasEntriesIn parent headings)) text numbers (Between rows (IsParentRow entries) n) finds e
     (λ m h.
-      let s = h.0 in
-      let same : map (entry_of s) headings ≡ map (entry_of r) headings = key_text_same (map (entry_of s) headings) (map (entry_of r) headings) (h.2.1 ∙ spelled) in
-      (r, s, row, h.1, (named ∙ ap (λ p. Some p) (sym h.2.0),
-        λ heading link. sym (made_same (entry_of s) (entry_of r) headings same heading (in_link_headings entries parent r.headings heading (subst (λ p. Contains (keys_of entries p) heading) h.2.0 link.0) link.1)))))
+    let s = h.0 in
+    let same : map (entry_of s) headings ≡ map (entry_of r) headings = key_text_same (map (entry_of s) headings) (map (entry_of r) headings) (h.2.1 ∙ spelled) in (
+      r,
+      s,
+      row,
+      h.1,
+      (
+        named ∙ ap (λ p. Some p) (sym h.2.0),
+        λ heading link. sym (made_same (entry_of s) (entry_of r) headings same heading (in_link_headings entries parent r.headings heading (subst (λ p. Contains (keys_of entries p) heading) h.2.0 link.0) link.1)),
+      ),
+    ))
     (λ m h.
-      let s = h.1 in
-      let is : h.0 ≡ r = one_at rows n h.0 r h.2 row in
-      let parent_row : IsParentRow entries r s = subst (λ q. IsParentRow entries q s) is h.4 in
-      let group : s.group ≡ parent = some_same (s.group) parent (sym parent_row.0 ∙ named) in
-      let same : map (entry_of r) headings ≡ map (entry_of s) headings = same_made (entry_of r) (entry_of s) headings (λ heading in_list.
-        let link = link_heading_in entries parent r.headings heading in_list in
-        parent_row.1 heading (subst (λ p. Contains (keys_of entries p) heading) (sym group) link.0, link.1)) in
-      (s, h.3, (group, ap key_text (sym same) ∙ sym spelled)))
+    let s = h.1 in
+    let is : h.0 ≡ r = one_at rows n h.0 r h.2 row in
+    let parent_row : IsParentRow entries r s = subst (λ q. IsParentRow entries q s) is h.4 in
+    let group : s.group ≡ parent = some_same (s.group) parent (sym parent_row.0 ∙ named) in
+    let same : map (entry_of r) headings ≡ map (entry_of s) headings = same_made (entry_of r) (entry_of s) headings (λ heading in_list.
+    let link = link_heading_in entries parent r.headings heading in_list in
+    parent_row.1 heading (subst (λ p. Contains (keys_of entries p) heading) (sym group) link.0, link.1)) in
+    (s, h.3, (group, ap key_text (sym same) ∙ sym spelled)))
 
 pub no_parents : (entries : Entries) (rows : List DataRow) (n : ℕ) (r : DataRow) → IsRow rows n r → parent_of entries r.group ≡ None → ListsRows [] (Between rows (IsParentRow entries) n)
 no_parents entries rows n r row none = lists_none (Between rows (IsParentRow entries) n) (λ m h.
@@ -145,13 +152,14 @@ first_found entries rows n r lookup text numbers row finds spelled e some =
     let first = get_or numbers 0 0 in
     let at_text = (finds.exact text first).0 (subst (λ l. Contains l first) e (contains_first numbers some)) in
     let s = at_text.0 in
-    let same = key_text_same (s.group ∷ key_of entries s) (r.group ∷ key_of entries r) (at_text.2 ∙ spelled) in
-    ((r, s, row, at_text.1, (head_same s.group r.group (key_of entries s) (key_of entries r) same, tail_same s.group r.group (key_of entries s) (key_of entries r) same)),
+    let same = key_text_same (s.group ∷ key_of entries s) (r.group ∷ key_of entries r) (at_text.2 ∙ spelled) in (
+      (r, s, row, at_text.1, (head_same s.group r.group (key_of entries s) (key_of entries r) same, tail_same s.group r.group (key_of entries s) (key_of entries r) same)),
       λ k h.
-        let is : h.0 ≡ r = one_at rows n h.0 r h.2 row in
-        let key : HasKeyOf entries r h.1 = subst (λ q. HasKeyOf entries q h.1) is h.4 in
-        let text_of : key_text (h.1.group ∷ key_of entries h.1) ≡ text = ap key_text (cons_same h.1.group r.group (key_of entries h.1) (key_of entries r) key.0 key.1) ∙ sym spelled in
-        first_is_least numbers k (subst IsStrictlyIncreasing (sym e) (finds.rising text)) (subst (λ l. Contains l k) (sym e) ((finds.exact text k).1 (h.1, h.3, text_of))))
+          let is : h.0 ≡ r = one_at rows n h.0 r h.2 row in
+          let key : HasKeyOf entries r h.1 = subst (λ q. HasKeyOf entries q h.1) is h.4 in
+          let text_of : key_text (h.1.group ∷ key_of entries h.1) ≡ text = ap key_text (cons_same h.1.group r.group (key_of entries h.1) (key_of entries r) key.0 key.1) ∙ sym spelled in
+          first_is_least numbers k (subst IsStrictlyIncreasing (sym e) (finds.rising text)) (subst (λ l. Contains l k) (sym e) ((finds.exact text k).1 (h.1, h.3, text_of))),
+    )
 
 -- ---- parts of record links
 
@@ -170,9 +178,9 @@ files_listed rows n r lookup text numbers row finds spelled some e =
     lists_found lookup (HasText rows HasFileSet) text numbers (Between rows IsFileRow n) finds e
     (λ m h. (r, h.0, row, h.1, (h.2.0, λ null. some (spelled ∙ null), h.2.1 ∙ spelled)))
     (λ m h.
-      let is : h.0 ≡ r = one_at rows n h.0 r h.2 row in
-      let file : IsFileRow r h.1 = subst (λ q. IsFileRow q h.1) is h.4 in
-      (h.1, h.3, (file.0, file.2 ∙ sym spelled)))
+    let is : h.0 ≡ r = one_at rows n h.0 r h.2 row in
+    let file : IsFileRow r h.1 = subst (λ q. IsFileRow q h.1) is h.4 in
+    (h.1, h.3, (file.0, file.2 ∙ sym spelled)))
 
 pub no_files : (rows : List DataRow) (n : ℕ) (r : DataRow) → IsRow rows n r → entry_of r (codes "FILE_FSET") ≡ [] → ListsRows [] (Between rows IsFileRow n)
 no_files rows n r row null = lists_none (Between rows IsFileRow n) (λ m h.

@@ -35,8 +35,8 @@ by_test false new here there yes' no' = no' refl
 -- what a change at the bytes bs leaves at any bytes cs
 pub updated : (bs : List ℕ) (m n : Rows) (w : Option (Vec ℕ Global)) → UpdatesBy (λ (x y : Vec ℕ Global). slice_cmp nat_cmp x.items y.items) (λ (k : Vec ℕ Global). slice_cmp nat_cmp bs k.items) m n w → (cs : List ℕ) → at_bytes n cs ≡ cond (bytes_eq bs cs) w (at_bytes m cs)
 updated bs m n w h cs = by_test (bytes_eq bs cs) (at_bytes n cs) w (at_bytes m cs)
-  (λ y. subst (λ l. at_bytes n l ≡ w) ((bytes_eq-Decides bs cs).0 y) h.1)
-  (λ e. other_entries _ _ _ _ h.3 _ (λ x y. (eq_by_cmp_equiv nat_list_cmp_total).congr cs x.items y.items) (λ k. apart_in_order bs cs k.items e))
+    (λ y. subst (λ l. at_bytes n l ≡ w) ((bytes_eq-Decides bs cs).0 y) h.1)
+    (λ e. other_entries _ _ _ _ h.3 _ (λ x y. (eq_by_cmp_equiv nat_list_cmp_total).congr cs x.items y.items) (λ k. apart_in_order bs cs k.items e))
 
 unfoldable pub items_of : Option (Vec ℕ Global) → List ℕ
 items_of o = option_map_or (λ (g : Vec ℕ Global). g.items) o []

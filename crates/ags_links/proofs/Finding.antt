@@ -60,7 +60,7 @@ finds_more old new Had Has n text so_far added below kept here cases = record {
     λ h. elim (cases m q h) [
       | inl was ↦ contains_kept (bytes_eq text q) (found old q) (found new q) n m (added q) ((so_far.exact q m).1 was)
       | inr is ↦ subst (Contains (found new q)) is.0 (contains_added (bytes_eq text q) (found old q) (found new q) n (added q) (eq_bytes text q is.1))
-    ]
+    ],
   );
 }
 

@@ -72,10 +72,10 @@ pub entries_in : (by_group lookup : Lookup) (rows : List DataRow) (group : List 
     → Finds lookup (λ n text. Contains numbers n × HasText rows (HasEntries headings) n text) → Finds lookup (HasText rows (HasEntriesIn group headings))
 entries_in by_group lookup rows group numbers headings finds e so_far = finds_same lookup (λ n text. Contains numbers n × HasText rows (HasEntries headings) n text) (HasText rows (HasEntriesIn group headings)) so_far
     (λ n text h.
-      let in_group = (finds.exact group n).0 (subst (λ l. Contains l n) e h.0) in
-      let r = h.1.0 in
-      let same = one_at rows n in_group.0 r in_group.1 h.1.1 in
-      (r, h.1.1, (subst (λ s. HasGroup s group) same in_group.2, h.1.2)))
+    let in_group = (finds.exact group n).0 (subst (λ l. Contains l n) e h.0) in
+    let r = h.1.0 in
+    let same = one_at rows n in_group.0 r in_group.1 h.1.1 in
+    (r, h.1.1, (subst (λ s. HasGroup s group) same in_group.2, h.1.2)))
     (λ n text h. (subst (λ l. Contains l n) (sym e) ((finds.exact group n).1 (h.0, h.1, h.2.0)), (h.0, h.1, h.2.1)))
 
 -- ---- the headings of a list that stand in a HEADING row

@@ -92,9 +92,9 @@ pub link_rows : (file : File) (n : ℕ) (r : DataRow) (heading : List ℕ) (part
 link_rows file n r heading parts old new row e adds = adds_same old new (NamedAmong file parts) (IsLinkAt file heading n) adds
     (λ m h. (r, h.2.0, row, h.2.1, (h.0, subst (λ ps. Contains ps h.0) e h.1, h.2.2)))
     (λ m h.
-      let is = one_at (rows_in file) n h.0 r h.2 row in
-      let link : IsLinkRow file.entries (separators_of file.contents) heading r h.1 = subst (λ q. IsLinkRow file.entries (separators_of file.contents) heading q h.1) is h.4 in
-      (link.0, subst (λ ps. Contains ps link.0) (sym e) link.1, (h.1, h.3, link.2)))
+    let is = one_at (rows_in file) n h.0 r h.2 row in
+    let link : IsLinkRow file.entries (separators_of file.contents) heading r h.1 = subst (λ q. IsLinkRow file.entries (separators_of file.contents) heading q h.1) is h.4 in
+    (link.0, subst (λ ps. Contains ps link.0) (sym e) link.1, (h.1, h.3, link.2)))
 
 nothing : (n : ℕ) → Contains {X = ℕ} [] n → ⊥
 nothing n h = omega (arith, h.1)
@@ -108,7 +108,7 @@ once_lists old new once IsOne empty adds same rises = record {
       | inl was ↦ absurd (nothing n (subst (λ l. Contains l n) empty was))
       | inr is ↦ is
     ],
-    λ h. (same n).1 (adds.all n h)
+    λ h. (same n).1 (adds.all n h),
   );
 }
 
@@ -120,6 +120,6 @@ link_lists file r heading parts found once e adds same rises =
     let IsOne = λ (m : ℕ). (s : DataRow) × IsRow (rows_in file) m s × IsLinkRow file.entries (separators_of file.contents) heading r s in
     once_lists [] found once IsOne refl
     (adds_same [] found (NamedAmong file parts) IsOne adds
-      (λ m h. (h.2.0, h.2.1, (h.0, subst (λ ps. Contains ps h.0) e h.1, h.2.2)))
-      (λ m h. (h.2.0, subst (λ ps. Contains ps h.2.0) (sym e) h.2.1, (h.0, h.1, h.2.2))))
+    (λ m h. (h.2.0, h.2.1, (h.0, subst (λ ps. Contains ps h.0) e h.1, h.2.2)))
+    (λ m h. (h.2.0, subst (λ ps. Contains ps h.2.0) (sym e) h.2.1, (h.0, h.1, h.2.2))))
     same rises

@@ -64,8 +64,8 @@ file_steps file n r old new rows row may lists e =
     let other = bytes_differ r.group (codes "FILE") tests.1 in
     adds_same old new (IsFileRowAt file n) (IsFileStepAt file n) (adds_listed old new rows (IsFileRowAt file n) e lists)
     (λ m h.
-      let is : r ≡ h.0 = one_at (rows_in file) n r h.0 row h.2 in
-      (h.0, h.1, h.2, h.3, (subst (λ (q : DataRow). is_definition q.group ≡ false) is data_group, subst (λ (q : DataRow). q.group ≡ codes "FILE" → ⊥) is other, h.4)))
+    let is : r ≡ h.0 = one_at (rows_in file) n r h.0 row h.2 in
+    (h.0, h.1, h.2, h.3, (subst (λ (q : DataRow). is_definition q.group ≡ false) is data_group, subst (λ (q : DataRow). q.group ≡ codes "FILE" → ⊥) is other, h.4)))
     (λ m h. (h.0, h.1, h.2, h.3, h.4.2))
 
 pub no_file_steps : (file : File) (n : ℕ) (r : DataRow) (old : List ℕ) → IsRow (rows_in file) n r → may_have_files r.group ≡ false → AddsRows old old (IsFileStepAt file n)
@@ -115,26 +115,38 @@ linked_over file n r headings heading old found row so_far is =
 pub linked_ends : (file : File) (n : ℕ) (r : DataRow) (old new : List ℕ) → IsRow (rows_in file) n r → AddsRows old new (LinkedAmong file n r.headings) → AddsRows old new (IsLinkedAt file n)
 linked_ends file n r old new row adds = adds_same old new (LinkedAmong file n r.headings) (IsLinkedAt file n) adds
     (λ m h.
-      let heading = h.0 in
-      let link = h.5 in
-      let is : h.1 ≡ r = one_at (rows_in file) n h.1 r h.3 row in
-      let same : link.0 ≡ r = one_at (rows_in file) n link.0 r link.2 row in
-      let tests = both_true (bytes_eq (under r.headings r.types heading) (codes "RL")) (not (eqb (length (entry_of r heading)) 0)) (subst (λ q. is_link q heading ≡ true) is h.4) in
-      (r, link.1, row, link.3, (heading, (h.2, (bytes_eq-Decides (under r.headings r.types heading) (codes "RL")).0 tests.0, not_null (entry_of r heading) tests.1),
-        subst (λ q. IsLinkRow file.entries (separators_of file.contents) heading q link.1) same link.4)))
+    let heading = h.0 in
+    let link = h.5 in
+    let is : h.1 ≡ r = one_at (rows_in file) n h.1 r h.3 row in
+    let same : link.0 ≡ r = one_at (rows_in file) n link.0 r link.2 row in
+    let tests = both_true (bytes_eq (under r.headings r.types heading) (codes "RL")) (not (eqb (length (entry_of r heading)) 0)) (subst (λ q. is_link q heading ≡ true) is h.4) in (
+      r,
+      link.1,
+      row,
+      link.3,
+      (
+        heading,
+        (h.2, (bytes_eq-Decides (under r.headings r.types heading) (codes "RL")).0 tests.0, not_null (entry_of r heading) tests.1),
+        subst (λ q. IsLinkRow file.entries (separators_of file.contents) heading q link.1) same link.4,
+      ),
+    ))
     (λ m h.
-      let heading = h.4.0 in
-      let record_link : IsRecordLink h.0 heading = h.4.1 in
-      let is : h.0 ≡ r = one_at (rows_in file) n h.0 r h.2 row in
-      (heading, h.0, subst (λ (q : DataRow). Contains q.headings heading) is record_link.0, h.2,
-        true_both (bytes_eq (under h.0.headings h.0.types heading) (codes "RL")) (not (eqb (length (entry_of h.0 heading)) 0)) ((bytes_eq-Decides (under h.0.headings h.0.types heading) (codes "RL")).1 record_link.1) (null_not (entry_of h.0 heading) record_link.2),
-        (h.0, h.1, h.2, h.3, h.4.2)))
+    let heading = h.4.0 in
+    let record_link : IsRecordLink h.0 heading = h.4.1 in
+    let is : h.0 ≡ r = one_at (rows_in file) n h.0 r h.2 row in (
+      heading,
+      h.0,
+      subst (λ (q : DataRow). Contains q.headings heading) is record_link.0,
+      h.2,
+      true_both (bytes_eq (under h.0.headings h.0.types heading) (codes "RL")) (not (eqb (length (entry_of h.0 heading)) 0)) ((bytes_eq-Decides (under h.0.headings h.0.types heading) (codes "RL")).1 record_link.1) (null_not (entry_of h.0 heading) record_link.2),
+      (h.0, h.1, h.2, h.3, h.4.2),
+    ))
 
 pub link_steps : (file : File) (n : ℕ) (r : DataRow) (old new : List ℕ) → IsRow (rows_in file) n r → is_definition r.group ≡ false → AddsRows old new (IsLinkedAt file n) → AddsRows old new (IsLinkStepAt file n)
 link_steps file n r old new row data_group adds = adds_same old new (IsLinkedAt file n) (IsLinkStepAt file n) adds
     (λ m h.
-      let is : r ≡ h.0 = one_at (rows_in file) n r h.0 row h.2 in
-      (h.0, h.1, h.2, h.3, (subst (λ (q : DataRow). is_definition q.group ≡ false) is data_group, h.4)))
+    let is : r ≡ h.0 = one_at (rows_in file) n r h.0 row h.2 in
+    (h.0, h.1, h.2, h.3, (subst (λ (q : DataRow). is_definition q.group ≡ false) is data_group, h.4)))
     (λ m h. (h.0, h.1, h.2, h.3, h.4.1))
 
 pub no_link_steps : (file : File) (n : ℕ) (r : DataRow) (old : List ℕ) → IsRow (rows_in file) n r → is_definition r.group ≡ true → AddsRows old old (IsLinkStepAt file n)
@@ -151,20 +163,20 @@ all_steps file n parents first second third once e lists links files same rises 
     let IsEither = λ (m : ℕ). IsParentAt file n m ⊎ IsLinkStepAt file n m in
     once_lists [] third once (StepAt file n) refl
     (adds_then [] second third IsEither (IsFileStepAt file n) (StepAt file n)
-      (adds_then [] first second (IsParentAt file n) (IsLinkStepAt file n) IsEither (adds_listed [] first parents (IsParentAt file n) e lists) links (λ m h. inl h) (λ m h. inr h) (λ m h. h))
-      files
-      (λ m h. elim h [
-        | inl parent ↦ (parent.0, parent.1, parent.2, parent.3, inl parent.4)
-        | inr link ↦ (link.0, link.1, link.2, link.3, inr (inl link.4))
-      ])
-      (λ m h. (h.0, h.1, h.2, h.3, inr (inr h.4)))
-      (λ m h. elim h.4 [
-        | inl parent ↦ inl (inl (h.0, h.1, h.2, h.3, parent))
-        | inr more ↦ elim more [
-          | inl link ↦ inl (inr (h.0, h.1, h.2, h.3, link))
-          | inr to_file ↦ inr (h.0, h.1, h.2, h.3, to_file)
-        ]
-      ]))
+    (adds_then [] first second (IsParentAt file n) (IsLinkStepAt file n) IsEither (adds_listed [] first parents (IsParentAt file n) e lists) links (λ m h. inl h) (λ m h. inr h) (λ m h. h))
+    files
+    (λ m h. elim h [
+      | inl parent ↦ (parent.0, parent.1, parent.2, parent.3, inl parent.4)
+      | inr link ↦ (link.0, link.1, link.2, link.3, inr (inl link.4))
+    ])
+    (λ m h. (h.0, h.1, h.2, h.3, inr (inr h.4)))
+    (λ m h. elim h.4 [
+      | inl parent ↦ inl (inl (h.0, h.1, h.2, h.3, parent))
+      | inr more ↦ elim more [
+        | inl link ↦ inl (inr (h.0, h.1, h.2, h.3, link))
+        | inr to_file ↦ inr (h.0, h.1, h.2, h.3, to_file)
+      ]
+    ]))
     same rises
 
 -- ---- the steps of all rows
@@ -233,7 +245,7 @@ steps_more file row targets steps new so_far lists e =
               let is : n ≡ row = omega (arith, h.0, now') in
               subst (λ x. Contains (steps ++ map (from_row row) targets) (x, m)) (sym is)
               (Contains-append_right steps (map (from_row row) targets) (row, m) (contains_map (from_row row) targets m ((lists.exact m).1 (subst (λ x. StepAt file x m) is h.1))))
-        ]
+        ],
       );
     })
 

@@ -13,3 +13,4 @@ pub mod Families
 pub mod Targets
 pub mod Indexing
 pub mod Adding
+pub mod Limits

@@ -17,23 +17,20 @@ use std::alloc::{AllocError, Global};
 
 /// The link headings of a group, and the rows of its parent group by their entries under them.
 #[derive(Drop)]
-pub(crate) struct ParentLinks<'a> {
-    pub(crate) headings: Vec<&'a [u8]>,
+pub(crate) struct ParentLinks<'d> {
+    pub(crate) headings: Vec<&'d [u8]>,
     pub(crate) rows: Lookup,
 }
 
 /// A group's KEY headings, and its parent group's rows; none where it has no parent group.
 #[derive(Drop)]
-pub(crate) struct Family<'a> {
-    pub(crate) keys: Vec<&'a [u8]>,
-    pub(crate) parent: Option<ParentLinks<'a>>,
+pub(crate) struct Family<'d> {
+    pub(crate) keys: Vec<&'d [u8]>,
+    pub(crate) parent: Option<ParentLinks<'d>>,
 }
 
 /// The rows by the names of their groups.
-pub(crate) fn rows_by_group(
-    alloc: Global,
-    rows: &[PlacedRow<'_>],
-) -> Result<Lookup, AllocError>
+pub(crate) fn rows_by_group(alloc: Global, rows: &[PlacedRow<'_, '_>]) -> Result<Lookup, AllocError>
     requires { length rows.now < 2 ^ 32 }
     ensures { IfOk result (λ lookup. Finds lookup (HasText (map row_of rows.now) HasGroup)) }
 {
@@ -46,12 +43,12 @@ pub(crate) fn rows_by_group(
 }
 
 /// The rows by their groups and key entries.
-pub(crate) fn rows_by_key<'a>(
+pub(crate) fn rows_by_key(
     alloc: Global,
-    groups: &'a [Group<'a>],
+    groups: &[Group<'_>],
     dictionary: &Dictionary,
-    rows: &[PlacedRow<'a>],
-    families: &[Family<'a>],
+    rows: &[PlacedRow<'_, '_>],
+    families: &[Family<'_>],
 ) -> Result<Lookup, AllocError>
     requires few { length rows.now < 2 ^ 32 }
     requires placed { All (IsPlaced groups.now) rows.now }
@@ -69,7 +66,7 @@ pub(crate) fn rows_by_key<'a>(
 /// The rows of FILE by their FILE_FSET.
 pub(crate) fn rows_by_file_set(
     alloc: Global,
-    rows: &[PlacedRow<'_>],
+    rows: &[PlacedRow<'_, '_>],
 ) -> Result<Lookup, AllocError>
     requires { length rows.now < 2 ^ 32 }
     ensures { IfOk result (λ lookup. Finds lookup (HasText (map row_of rows.now) HasFileSet)) }
@@ -88,11 +85,15 @@ pub(crate) fn rows_by_file_set(
 fn has_heading(group: &Group<'_>, heading: &[u8]) -> bool
     ensures { result ≡ has_heading group.now.headings heading.now }
 {
-    group.headings.as_slice().iter().any(|h| h.as_slice() == heading)
+    group
+        .headings
+        .as_slice()
+        .iter()
+        .any(|h| h.as_slice() == heading)
 }
 
 /// Those of the headings that stand in the group's HEADING row.
-fn headings_in<'d>(
+pub(crate) fn headings_in<'d>(
     alloc: Global,
     group: &Group<'_>,
     headings: &[&'d [u8]],
@@ -111,7 +112,7 @@ fn headings_in<'d>(
 /// These rows, by their entries under the headings.
 fn rows_by_entries(
     alloc: Global,
-    rows: &[PlacedRow<'_>],
+    rows: &[PlacedRow<'_, '_>],
     numbers: &[u32],
     headings: &[&[u8]],
 ) -> Result<Lookup, AllocError>
@@ -129,13 +130,13 @@ fn rows_by_entries(
 }
 
 /// The rows of the group's parent group, by their entries under the link headings.
-fn parent_links<'a>(
+fn parent_links<'d>(
     alloc: Global,
     group: &Group<'_>,
-    dictionary: &'a Dictionary,
-    rows: &[PlacedRow<'_>],
+    dictionary: &'d Dictionary,
+    rows: &[PlacedRow<'_, '_>],
     by_group: &Lookup,
-) -> Result<Option<ParentLinks<'a>>, AllocError>
+) -> Result<Option<ParentLinks<'d>>, AllocError>
     requires few { length rows.now < 2 ^ 32 }
     requires by_group { Finds by_group.now (HasText (map row_of rows.now) HasGroup) }
     ensures { IfOk result (λ parent. IsParentIndex dictionary.now (map row_of rows.now) group.now parent) }
@@ -153,13 +154,13 @@ fn parent_links<'a>(
 }
 
 /// What is kept for each group.
-pub(crate) fn families<'a>(
+pub(crate) fn families<'d>(
     alloc: Global,
-    groups: &'a [Group<'a>],
-    dictionary: &'a Dictionary,
-    rows: &[PlacedRow<'a>],
+    groups: &[Group<'_>],
+    dictionary: &'d Dictionary,
+    rows: &[PlacedRow<'_, '_>],
     by_group: &Lookup,
-) -> Result<Vec<Family<'a>>, AllocError>
+) -> Result<Vec<Family<'d>>, AllocError>
     requires few { length rows.now < 2 ^ 32 }
     requires by_group { Finds by_group.now (HasText (map row_of rows.now) HasGroup) }
     ensures { IfOk result (λ families. AreFamilies dictionary.now (map row_of rows.now) groups.now families.items) }

@@ -54,7 +54,7 @@ impl Graph {
     }
 
     /// The rows of a file, and all steps between them, sorted, each once.
-    pub fn of(alloc: Global, index: &Index<'_>) -> Result<Graph, AllocError>
+    pub fn of(alloc: Global, index: &Index<'_, '_, '_>) -> Result<Graph, AllocError>
         ensures rows { IfOk result (λ g. g.rows ≡ length (rows_in index.now)) }
         ensures steps { IfOk result (λ g. ListsSteps g.steps (StepAt index.now)) }
     {

@@ -25,18 +25,18 @@ pub enum Targets {
 
 /// A file's rows, to be found by key, by parent link and by file set.
 #[derive(Drop)]
-pub struct Index<'a> {
+pub struct Index<'s, 'f, 'd> {
     alloc: Global,
-    groups: &'a [Group<'a>],
-    dictionary: &'a Dictionary,
-    rows: Vec<PlacedRow<'a>>,
-    families: Vec<Family<'a>>,
+    groups: &'s [Group<'f>],
+    dictionary: &'d Dictionary,
+    rows: Vec<PlacedRow<'s, 'f>>,
+    families: Vec<Family<'d>>,
     by_key: Lookup,
     by_file_set: Lookup,
     separators: Separators,
 }
 
-impl<'a> Model for Index<'a> {
+impl<'s, 'f, 'd> Model for Index<'s, 'f, 'd> {
     ghost use Rattle.ags_rows.specs.Contents.{contents_of};
     ghost use Rattle.ags_links.specs.DataRows.{File};
     ghost use Rattle.ags_links.specs.Indexing.{Indexes};
@@ -59,7 +59,7 @@ pub(crate) fn each_once(numbers: Vec<u32>) -> Vec<u32>
     sorted
 }
 
-impl<'a> Index<'a> {
+impl<'s, 'f, 'd> Index<'s, 'f, 'd> {
     ghost use Rattle.ags_dict.specs.Parts.{parts_at};
     ghost use Rattle.ags_links.specs.DataRows.{DataRow, data_rows, ListsRows, IsRow, entry_of};
     ghost use Rattle.ags_links.specs.RecordLinks.{separators_of};
@@ -70,9 +70,9 @@ impl<'a> Index<'a> {
     /// The index of a file under its dictionary.
     pub fn build(
         alloc: Global,
-        scan: &'a Scan<'a>,
-        dictionary: &'a Dictionary,
-    ) -> Result<Index<'a>, AllocError>
+        scan: &'s Scan<'f>,
+        dictionary: &'d Dictionary,
+    ) -> Result<Index<'s, 'f, 'd>, AllocError>
         requires { length (data_rows (contents_of scan.now)) < 2 ^ 32 }
         ensures contents { IfOk result (λ index. index.contents ≡ contents_of scan.now) }
         ensures entries { IfOk result (λ index. index.entries ≡ dictionary.now) }
@@ -103,7 +103,7 @@ impl<'a> Index<'a> {
     }
 
     /// The row, and what is kept for its group.
-    pub(crate) fn kept(&self, row: u32) -> (&PlacedRow<'a>, &Family<'a>)
+    pub(crate) fn kept(&self, row: u32) -> (&PlacedRow<'s, 'f>, &Family<'d>)
         requires { row < length (rows_in self.now) }
         ensures row { IsRow (rows_in self.now) row (row_of result.0.now) }
         ensures family { IsFamily self.now.entries (rows_in self.now) result.0.now.group.now result.1.now }
@@ -185,12 +185,16 @@ impl<'a> Index<'a> {
     }
 
     /// The parts of what stands in the row under a heading.
-    pub(crate) fn link_parts(&self, row: u32, heading: &[u8]) -> Result<Vec<&'a [u8]>, AllocError>
+    pub(crate) fn link_parts(&self, row: u32, heading: &[u8]) -> Result<Vec<&'s [u8]>, AllocError>
         requires { row < length (rows_in self.now) }
         ensures { IfOk result (λ parts. (r : DataRow) → IsRow (rows_in self.now) row r → map (λ p. p.now) parts.items ≡ parts_at (separators_of self.now.contents).concatenator (entry_of r heading.now)) }
     {
         let (kept, _) = self.kept(row);
-        parts(self.alloc, self.separators.concatenator, entry(kept, heading))
+        parts(
+            self.alloc,
+            self.separators.concatenator,
+            entry(kept, heading),
+        )
     }
 
     /// What stands in the row under a heading, read as a record link (Rule 11): the rows that its parts name,

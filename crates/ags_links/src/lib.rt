@@ -3,8 +3,11 @@
 
 mod closure;
 mod families;
+#[cfg(test)]
+mod file_tests;
 mod graph;
 mod index;
+pub mod laws;
 mod lookup;
 mod placed;
 #[cfg(test)]

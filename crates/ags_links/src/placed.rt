@@ -11,14 +11,14 @@ use std::alloc::{AllocError, Global};
 
 /// A DATA row, its group, and the group's place in the file.
 #[derive(Drop)]
-pub(crate) struct PlacedRow<'a> {
+pub(crate) struct PlacedRow<'s, 'f> {
     pub(crate) place: usize,
-    pub(crate) group: &'a Group<'a>,
-    pub(crate) row: &'a Row<'a>,
+    pub(crate) group: &'s Group<'f>,
+    pub(crate) row: &'s Row<'f>,
 }
 
 /// What stands in the row under a heading; null where the heading is absent.
-pub(crate) fn entry<'a>(row: &PlacedRow<'a>, heading: &[u8]) -> &'a [u8]
+pub(crate) fn entry<'s>(row: &PlacedRow<'s, '_>, heading: &[u8]) -> &'s [u8]
     ensures { result.now ≡ entry_of (row_of row.now) heading.now }
 {
     let group = row.group;
@@ -27,10 +27,10 @@ pub(crate) fn entry<'a>(row: &PlacedRow<'a>, heading: &[u8]) -> &'a [u8]
 }
 
 /// Adds the rows of one group.
-fn place_group<'a>(
-    groups: &'a [Group<'a>],
+fn place_group<'s, 'f>(
+    groups: &'s [Group<'f>],
     place: usize,
-    rows: &mut Vec<PlacedRow<'a>>,
+    rows: &mut Vec<PlacedRow<'s, 'f>>,
 ) -> Result<(), AllocError>
     requires place { place < length groups.now }
     requires placed { All (IsPlaced groups.now) rows.old.items }
@@ -45,10 +45,10 @@ fn place_group<'a>(
 }
 
 /// The DATA rows of the groups, numbered from 0 over the whole file.
-pub(crate) fn place_rows<'a>(
+pub(crate) fn place_rows<'s, 'f>(
     alloc: Global,
-    groups: &'a [Group<'a>],
-) -> Result<Vec<PlacedRow<'a>>, AllocError>
+    groups: &'s [Group<'f>],
+) -> Result<Vec<PlacedRow<'s, 'f>>, AllocError>
     ensures placed { IfOk result (λ rows. All (IsPlaced groups.now) rows.items) }
     ensures rows { IfOk result (λ rows. map row_of rows.items ≡ data_rows (contents_of groups.now)) }
 {

@@ -17,7 +17,7 @@ use ags_rows::{is_definition, under};
 use std::alloc::{AllocError, Global};
 
 /// Whether the heading is of type RL, and the row's entry under it is not null.
-fn is_record_link(row: &PlacedRow<'_>, heading: &[u8]) -> bool
+fn is_record_link(row: &PlacedRow<'_, '_>, heading: &[u8]) -> bool
     ensures { result ≡ (bytes_eq (under (row_of row.now).headings (row_of row.now).types heading.now) (codes "RL") && not (length (entry_of (row_of row.now) heading.now) == 0)) }
 {
     let group = row.group;
@@ -27,7 +27,7 @@ fn is_record_link(row: &PlacedRow<'_>, heading: &[u8]) -> bool
 
 /// Adds the rows that the parts of one record link name; a part that names none adds none.
 fn add_link(
-    index: &Index<'_>,
+    index: &Index<'_, '_, '_>,
     row: u32,
     heading: &[u8],
     found: &mut Vec<u32>,
@@ -44,7 +44,7 @@ fn add_link(
 }
 
 /// Adds the rows that the row's record links name.
-fn add_links(index: &Index<'_>, row: u32, found: &mut Vec<u32>) -> Result<(), AllocError>
+fn add_links(index: &Index<'_, '_, '_>, row: u32, found: &mut Vec<u32>) -> Result<(), AllocError>
     requires { row < length (rows_in index.now) }
     ensures { OnOk result (AddsRows found.old.items found.new.items (IsLinkedAt index.now row)) }
 {
@@ -59,7 +59,11 @@ fn add_links(index: &Index<'_>, row: u32, found: &mut Vec<u32>) -> Result<(), Al
 }
 
 /// Adds the rows that the row steps to by its record links, if it is in a data group.
-fn add_link_steps(index: &Index<'_>, row: u32, found: &mut Vec<u32>) -> Result<(), AllocError>
+fn add_link_steps(
+    index: &Index<'_, '_, '_>,
+    row: u32,
+    found: &mut Vec<u32>,
+) -> Result<(), AllocError>
     requires { row < length (rows_in index.now) }
     ensures { OnOk result (AddsRows found.old.items found.new.items (IsLinkStepAt index.now row)) }
 {
@@ -79,7 +83,11 @@ fn may_have_files(group: &[u8]) -> bool
 }
 
 /// Adds the rows of FILE that the row steps to, if it is in a data group other than FILE.
-fn add_file_steps(index: &Index<'_>, row: u32, found: &mut Vec<u32>) -> Result<(), AllocError>
+fn add_file_steps(
+    index: &Index<'_, '_, '_>,
+    row: u32,
+    found: &mut Vec<u32>,
+) -> Result<(), AllocError>
     requires { row < length (rows_in index.now) }
     ensures { OnOk result (AddsRows found.old.items found.new.items (IsFileStepAt index.now row)) }
 {
@@ -92,7 +100,11 @@ fn add_file_steps(index: &Index<'_>, row: u32, found: &mut Vec<u32>) -> Result<(
 }
 
 /// The rows that a row steps to, rising, each once.
-pub(crate) fn targets(alloc: Global, index: &Index<'_>, row: u32) -> Result<Vec<u32>, AllocError>
+pub(crate) fn targets(
+    alloc: Global,
+    index: &Index<'_, '_, '_>,
+    row: u32,
+) -> Result<Vec<u32>, AllocError>
     requires { row < length (rows_in index.now) }
     ensures { IfOk result (λ rows. ListsRows rows.items (StepAt index.now row)) }
 {

@@ -1,4 +1,4 @@
-use crate::plain::{reached_by_passes, shown_by_passes};
+use crate::plain::passes::{reached_by_passes, shown_by_passes};
 use crate::{Graph, reached, shown};
 use std::process::Abort;
 use std::test::Fail;

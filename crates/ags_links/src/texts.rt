@@ -39,7 +39,7 @@ fn push_text(out: &mut Vec<u8>, text: &[u8]) -> Result<(), AllocError>
 /// Adds the row's entries under the headings.
 fn push_entries(
     out: &mut Vec<u8>,
-    row: &PlacedRow<'_>,
+    row: &PlacedRow<'_, '_>,
     headings: &[&[u8]],
 ) -> Result<(), AllocError>
     ensures { OnOk result (out.new.items ≡ out.old.items ++ key_text (map (entry_of (row_of row.now)) (map (λ h. h.now) headings.now))) }
@@ -53,7 +53,7 @@ fn push_entries(
 /// The row's entries under the headings, as one text.
 pub(crate) fn entries_text(
     alloc: Global,
-    row: &PlacedRow<'_>,
+    row: &PlacedRow<'_, '_>,
     headings: &[&[u8]],
 ) -> Result<Vec<u8>, AllocError>
     ensures { IfOk result (λ text. text.items ≡ key_text (map (entry_of (row_of row.now)) (map (λ h. h.now) headings.now))) }
@@ -63,18 +63,18 @@ pub(crate) fn entries_text(
     Ok(text)
 }
 
-/// The row's group, then its entries under the headings, as one text.
+/// The row's group, then its entries under its KEY headings, as one text.
 pub(crate) fn group_text(
     alloc: Global,
-    row: &PlacedRow<'_>,
-    headings: &[&[u8]],
+    row: &PlacedRow<'_, '_>,
+    keys: &[&[u8]],
 ) -> Result<Vec<u8>, AllocError>
-    ensures { IfOk result (λ text. text.items ≡ key_text ((row_of row.now).group ∷ map (entry_of (row_of row.now)) (map (λ h. h.now) headings.now))) }
+    ensures { IfOk result (λ text. text.items ≡ key_text ((row_of row.now).group ∷ map (entry_of (row_of row.now)) (map (λ h. h.now) keys.now))) }
 {
     let mut text = Vec::new(alloc);
     let group = row.group;
     push_text(&mut text, group.name.as_slice())?;
-    push_entries(&mut text, row, headings)?;
+    push_entries(&mut text, row, keys)?;
     Ok(text)
 }
 

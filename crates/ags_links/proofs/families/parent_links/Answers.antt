@@ -23,7 +23,7 @@ returns c =
     let stood = c.args.group.now.headings in
     let named : parent_of entries c.args.group.now.name ≡ Some parent = ap (parent_of entries) (sym c.as_slice.ensures) ∙ sym c.parent.ensures ∙ ap option_copied c.in-Some.is in
     let kept : texts c.in_ok-headings.headings.items ≡ link_headings entries parent stood =
-        c.in_ok-headings.ensures ∙ ap (filter (has_heading stood)) (ap texts c.deref.ensures.value ∙ c.in_ok-keys.ensures) in
+    c.in_ok-headings.ensures ∙ ap (filter (has_heading stood)) (ap texts c.deref.ensures.value ∙ c.in_ok-keys.ensures) in
     let finds : Finds c.in_ok-found.found (HasText rows (HasEntriesIn parent (texts c.deref-2.result.now))) =
-        entries_in c.args.by_group.now c.in_ok-found.found rows parent c.rows_with.result.now (texts c.deref-2.result.now) c.requires.by_group c.rows_with.ensures c.in_ok-found.ensures in
+    entries_in c.args.by_group.now c.in_ok-found.found rows parent c.rows_with.result.now (texts c.deref-2.result.now) c.requires.by_group c.rows_with.ensures c.in_ok-found.ensures in
     (parent, named, kept, subst (λ hs. Finds c.in_ok-found.found (HasText rows (HasEntriesIn parent hs))) (ap texts c.deref-2.ensures.value ∙ kept) finds)

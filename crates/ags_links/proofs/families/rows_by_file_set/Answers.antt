@@ -19,8 +19,8 @@ loop-number-preserved c =
       | then-eq+in_ok-add_row w ↦
           let is_file : name ≡ codes "FILE" = (bytes_eq-Decides name (codes "FILE")).0 (sym tested ∙ w.if-eq.true) in
           rw w.lookup-is (finds_row c.loop-number.lookup w.add_row.new.lookup HasFileSet c.args.rows.now c.loop-number.number row w.entry.result.now c.loop-number-test.true c.index-rows-number.is
-            c.loop-number.invariant w.in_ok-add_row.ensures (is_file, sym w.entry.ensures) (λ q h. w.entry.ensures ∙ h.1))
+          c.loop-number.invariant w.in_ok-add_row.ensures (is_file, sym w.entry.ensures) (λ q h. w.entry.ensures ∙ h.1))
       | else-eq w ↦
           rw w.lookup-is (finds_over c.loop-number.lookup HasFileSet c.args.rows.now c.loop-number.number row c.loop-number-test.true c.index-rows-number.is
-            c.loop-number.invariant (λ q h. true≢false (sym ((bytes_eq-Decides name (codes "FILE")).1 h.0) ∙ sym tested ∙ w.if-eq.false)))
+          c.loop-number.invariant (λ q h. true≢false (sym ((bytes_eq-Decides name (codes "FILE")).1 h.0) ∙ sym tested ∙ w.if-eq.false)))
     ]

@@ -18,8 +18,8 @@ loop-number-preserved c =
     let family = c.index-families-row.result in
     let placed : IsAt c.args.groups.now row.place row.group.now = placed_at c.args.groups.now c.args.rows.now c.loop-number.number row c.requires.placed (c.loop-number-test.true, sym c.index-rows-number.is) in
     let kept : IsFamily c.args.dictionary.now (map row_of c.args.rows.now) row.group.now family =
-        c.requires.families.each row.place row.group.now family placed (omega (arith, placed.0, c.requires.families.each_has), sym c.index-families-row.is) in
+    c.requires.families.each row.place row.group.now family placed (omega (arith, placed.0, c.requires.families.each_has), sym c.index-families-row.is) in
     let text : c.deref-in-loop-number.result.now ≡ key_text (row.group.now.name ∷ key_of c.args.dictionary.now (row_of row)) =
-        c.deref-in-loop-number.ensures.value ∙ c.in_ok-text.ensures ∙ ap (λ ks. key_text (row.group.now.name ∷ map (entry_of (row_of row)) ks)) (ap texts c.deref.ensures.value ∙ ap (λ (f : Family). texts f.keys.items) (sym c.index-families-row.is) ∙ kept.keys) in
+    c.deref-in-loop-number.ensures.value ∙ c.in_ok-text.ensures ∙ ap (λ ks. key_text (row.group.now.name ∷ map (entry_of (row_of row)) ks)) (ap texts c.deref.ensures.value ∙ ap (λ (f : Family). texts f.keys.items) (sym c.index-families-row.is) ∙ kept.keys) in
     finds_row c.loop-number.lookup c.add_row.new.lookup (HasKeyText c.args.dictionary.now) c.args.rows.now c.loop-number.number row c.deref-in-loop-number.result.now c.loop-number-test.true c.index-rows-number.is
     c.loop-number.invariant c.in_ok-add_row.ensures (sym text) (λ q h. text ∙ h)

@@ -14,8 +14,7 @@ pub returns-clause-same : goal.returns-clause-same
 returns-clause-same c = λ n.
     let sorted = c.sort_unstable.new.self.items in
     let is = dedup_is eqb sorted c.dedup.new.self.items c.dedup.ensures.filtered in
-    let moved = c.sort_unstable.ensures.permutation in
-    (
+    let moved = c.sort_unstable.ensures.permutation in (
       λ h. Contains-permutation sorted c.args.numbers.items n (IsPermutation-sym c.args.numbers.items sorted moved) (Contains-from_dedup eqb sorted n (subst (λ l. Contains l n) is h)),
-      λ h. subst (λ l. Contains l n) (sym is) (Contains-dedup_nat sorted n (Contains-permutation c.args.numbers.items sorted n moved h))
+      λ h. subst (λ l. Contains l n) (sym is) (Contains-dedup_nat sorted n (Contains-permutation c.args.numbers.items sorted n moved h)),
     )

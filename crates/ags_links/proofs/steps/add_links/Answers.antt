@@ -26,10 +26,10 @@ loop-heading-preserved c =
       | then-is_record_link+in_ok-add_link w ↦
           let adds = subst (λ g. AddsRows found w.add_link.new.found.items (IsLinkAt file g n)) w.as_slice-then-is_record_link.ensures w.in_ok-add_link.ensures in
           rw w.found-is (subst (λ hs. AddsRows old w.add_link.new.found.items (LinkedAmong file n hs)) next
-            (linked_next file n row (take i items) heading old found w.add_link.new.found.items c.kept.ensures.row c.loop-heading.invariant (tested ∙ w.if-is_record_link.true) adds))
+          (linked_next file n row (take i items) heading old found w.add_link.new.found.items c.kept.ensures.row c.loop-heading.invariant (tested ∙ w.if-is_record_link.true) adds))
       | else-is_record_link w ↦
           rw w.found-is (subst (λ hs. AddsRows old found (LinkedAmong file n hs)) next
-            (linked_over file n row (take i items) heading old found c.kept.ensures.row c.loop-heading.invariant (tested ∙ w.if-is_record_link.false)))
+          (linked_over file n row (take i items) heading old found c.kept.ensures.row c.loop-heading.invariant (tested ∙ w.if-is_record_link.false)))
     ]
 
 pub returns : goal.returns

@@ -25,9 +25,9 @@ loop-part-preserved c =
     let found = c.loop-part.found.items in
     record {
       named = subst (λ ps. AddsRows [] c.extend_from_slice.new.self.items (NamedAmong file ps)) next
-        (among_next file [] found c.extend_from_slice.new.self.items c.in_ok-rows.rows.now (texts (take i items)) part c.loop-part.invariant.named c.in_ok-rows.ensures c.in_ok-extend_from_slice.ensures.items);
+          (among_next file [] found c.extend_from_slice.new.self.items c.in_ok-rows.rows.now (texts (take i items)) part c.loop-part.invariant.named c.in_ok-rows.ensures c.in_ok-extend_from_slice.ensures.items);
       each = subst (EachNames file) next
-        (each_next file (texts (take i items)) part c.in_ok-rows.rows.now c.loop-part.invariant.each c.in_ok-rows.ensures c.is_empty.result c.is_empty.ensures c.if-is_empty.false);
+          (each_next file (texts (take i items)) part c.in_ok-rows.rows.now c.loop-part.invariant.each c.in_ok-rows.ensures c.is_empty.result c.is_empty.ensures c.if-is_empty.false);
     }
 
 pub returns-then-is_empty : goal.returns-then-is_empty
@@ -37,10 +37,11 @@ returns-then-is_empty c = λ r row.
     let items = c.deref-part-items.result.now in
     let i = c.loop-part.part-index in
     let part = (get_or items i no_text).now in
-    let cut : texts items ≡ parts_at (separators_of file.contents).concatenator (entry_of r c.args.heading.now) = ap texts c.deref-part-items.ensures.value ∙ c.in_ok-parts.ensures r row in
-    (part,
+    let cut : texts items ≡ parts_at (separators_of file.contents).concatenator (entry_of r c.args.heading.now) = ap texts c.deref-part-items.ensures.value ∙ c.in_ok-parts.ensures r row in (
+      part,
       subst (λ ps. Contains ps part) cut (contains_map (λ (p : Bor (List ℕ)). p.now) items (get_or items i no_text) (Contains-get_or items i no_text c.loop-part-test.true)),
-      none_listed c.in_ok-rows.rows.now (NamesAt file part) c.in_ok-rows.ensures c.is_empty.result c.is_empty.ensures c.if-is_empty.true)
+      none_listed c.in_ok-rows.rows.now (NamesAt file part) c.in_ok-rows.ensures c.is_empty.result c.is_empty.ensures c.if-is_empty.true,
+    )
 
 pub returns : goal.returns
 returns c = λ r row.
@@ -50,6 +51,7 @@ returns c = λ r row.
     let all = take_all i items c.loop-part-test.false in
     let cut : texts items ≡ parts_at (separators_of file.contents).concatenator (entry_of r c.args.heading.now) = ap texts c.deref-part-items.ensures.value ∙ c.in_ok-parts.ensures r row in
     let named : AddsRows [] c.loop-part.found.items (NamedAmong file (texts items)) = subst (λ ps. AddsRows [] c.loop-part.found.items (NamedAmong file (texts ps))) all c.loop-part.invariant.named in
-    let each : EachNames file (texts items) = subst (λ ps. EachNames file (texts ps)) all c.loop-part.invariant.each in
-    (link_lists file r c.args.heading.now (texts items) c.loop-part.found.items c.each_once.result.items cut named c.each_once.ensures.same c.each_once.ensures.rising,
-      λ part h. each part (subst (λ ps. Contains ps part) (sym cut) h))
+    let each : EachNames file (texts items) = subst (λ ps. EachNames file (texts ps)) all c.loop-part.invariant.each in (
+      link_lists file r c.args.heading.now (texts items) c.loop-part.found.items c.each_once.result.items cut named c.each_once.ensures.same c.each_once.ensures.rising,
+      λ part h. each part (subst (λ ps. Contains ps part) (sym cut) h),
+    )

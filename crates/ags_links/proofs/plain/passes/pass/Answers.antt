@@ -2,8 +2,8 @@ use Rattle.std.proofs.Common.{◌≡◌, ℕ, length, true, false, List, Bool, s
 use Rattle.std.proofs.lemmas.Bool.{true≢false}
 use Rattle.ags_links.specs.Walks.{InRange, HasStep, Reaches, IsMarked, IsShown, IsReached}
 use Rattle.ags_links.proofs.Passes.{PassSoFar, pass_begins, pass_over, pass_marks, pass_closed}
-use Rattle.ags_links.proofs.plain.pass.Goals as goal
-use Rattle.ags_links.proofs.plain.pass.Goals.{then-marks-r+then-not-marks-s, else-marks-r, else-marks-r-via-then-marks-r+else-not-marks-s, else-marks-r-via-else-marks-r}
+use Rattle.ags_links.proofs.plain.passes.pass.Goals as goal
+use Rattle.ags_links.proofs.plain.passes.pass.Goals.{then-marks-r+then-not-marks-s, else-marks-r, else-marks-r-via-then-marks-r+else-not-marks-s, else-marks-r-via-else-marks-r}
 
 pub loop-r-init : goal.loop-r-init
 loop-r-init c = pass_begins _ _

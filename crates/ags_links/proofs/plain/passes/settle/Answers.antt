@@ -1,6 +1,6 @@
 use Rattle.std.proofs.Common.{refl}
 use Rattle.ags_links.proofs.Passes.{pass_falls, spread_more, marks_are_reached}
-use Rattle.ags_links.proofs.plain.settle.Goals as goal
+use Rattle.ags_links.proofs.plain.passes.settle.Goals as goal
 
 pub loop-changed-smaller : goal.loop-changed-smaller
 loop-changed-smaller c = pass_falls c.loop-changed.marks c.pass-changed.new.marks c.loop-changed.changed c.pass-changed.result c.loop-changed-test.true c.pass-changed.ensures.fewer c.pass-changed.ensures.no_more

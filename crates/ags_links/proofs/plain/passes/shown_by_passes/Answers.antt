@@ -3,8 +3,8 @@ use Rattle.std.proofs.lemmas.List.{length-map}
 use Rattle.ags_links.specs.Walks.{InRange, HasStep, IsMarked, IsReached}
 use Rattle.ags_links.specs.Work.{swapped}
 use Rattle.ags_links.proofs.Shows.{back_range, shown_iff}
-use Rattle.ags_links.proofs.plain.shown_by_passes.Goals as goal
-use Rattle.ags_links.proofs.plain.shown_by_passes.Goals.{After-deref-2, After-drop-back-2}
+use Rattle.ags_links.proofs.plain.passes.shown_by_passes.Goals as goal
+use Rattle.ags_links.proofs.plain.passes.shown_by_passes.Goals.{After-deref-2, After-drop-back-2}
 
 back_is : (c : After-deref-2) → c.deref.result.now ≡ map swapped c.args.graph.now.steps
 back_is c = c.deref.ensures.value ∙ c.in_ok-back.ensures ∙ ap (map swapped) c.steps.ensures.steps

@@ -1,6 +1,6 @@
 use Rattle.std.proofs.Common.{◌+◌, not, count_by, cond}
 use Rattle.ags_links.proofs.Passes.{Spreading}
-use Rattle.ags_links.proofs.plain.settle.Given as goal
+use Rattle.ags_links.proofs.plain.passes.settle.Given as goal
 
 abbrev pub invariant-loop-changed : goal.invariant-loop-changed
 invariant-loop-changed l = Spreading l.steps l.fn.marks l.marks l.changed

@@ -1,0 +1,295 @@
+ghost use Rattle.std.specs.Prelude.{◌<◌, ◌^◌, length};
+ghost use Rattle.ags_rows.specs.Contents.{contents_of};
+ghost use Rattle.ags_links.specs.DataRows.{data_rows};
+
+use crate::placed::place_rows;
+use crate::plain::passes::{reached_by_passes, shown_by_passes};
+use crate::plain::search::{first_of_key_by_search, parents_by_search};
+use crate::{Graph, Index, Targets, reached, shown};
+use ags_dict::Dictionary;
+use ags_rows::Scan;
+use ags_rows::vectors::{FILE_A, FILE_B, FILE_C, MINI};
+use std::fmt::Write;
+use std::process::Abort;
+use std::test::Fail;
+
+/// A file whose PROJ row has a set of two files; a third file is of another set.
+const FILES: &[u8] = b"\
+\"GROUP\",\"PROJ\"\r\n\
+\"HEADING\",\"PROJ_ID\",\"FILE_FSET\"\r\n\
+\"UNIT\",\"\",\"\"\r\n\
+\"TYPE\",\"ID\",\"X\"\r\n\
+\"DATA\",\"P7\",\"F1\"\r\n\
+\r\n\
+\"GROUP\",\"FILE\"\r\n\
+\"HEADING\",\"FILE_FSET\",\"FILE_NAME\"\r\n\
+\"UNIT\",\"\",\"\"\r\n\
+\"TYPE\",\"X\",\"X\"\r\n\
+\"DATA\",\"F1\",\"a.pdf\"\r\n\
+\"DATA\",\"F1\",\"b.pdf\"\r\n\
+\"DATA\",\"F2\",\"c.pdf\"\r\n\
+";
+
+/// The dictionary that the files are read under.
+fn dictionary(rt: &(impl Abort + AllocGlobal)) -> Dictionary {
+    assert!(rt; MINI.len() <= 67_108_864);
+    match Dictionary::read(rt.alloc(), MINI) {
+        Ok(dictionary) => dictionary,
+        Err(_) => panic!(rt; "no dictionary"),
+    }
+}
+
+/// The groups of a file.
+fn scanned<'f>(rt: &(impl Abort + AllocGlobal), file: &'f [u8]) -> Scan<'f>
+    ensures { length (data_rows (contents_of result)) < 2 ^ 32 }
+{
+    assert!(rt; file.len() <= 67_108_864);
+    match Scan::read(rt.alloc(), file) {
+        Ok(scan) => scan,
+        Err(_) => panic!(rt; "the file has findings"),
+    }
+}
+
+/// The graph of a file.
+fn graph_of(rt: &(impl Abort + AllocGlobal), file: &[u8]) -> Result<Graph, Fail> {
+    let dictionary = dictionary(rt);
+    let scan = scanned(rt, file);
+    let index = Index::build(rt.alloc(), &scan, &dictionary)?;
+    Ok(Graph::of(rt.alloc(), &index)?)
+}
+
+/// What stands in a row under a heading, read as a record link; none where it is broken.
+fn linked(
+    rt: &(impl Abort + AllocGlobal),
+    file: &[u8],
+    row: u32,
+    heading: &[u8],
+) -> Result<Option<Vec<u32>>, Fail> {
+    let dictionary = dictionary(rt);
+    let scan = scanned(rt, file);
+    let index = Index::build(rt.alloc(), &scan, &dictionary)?;
+    let graph = Graph::of(rt.alloc(), &index)?;
+    assert!(rt; row < graph.rows());
+    match index.link_targets(row, heading)? {
+        Targets::Rows(rows) => Ok(Some(rows)),
+        Targets::Broken => Ok(None),
+    }
+}
+
+/// The file with the first place of a text replaced.
+fn edited(rt: &impl AllocGlobal, file: &[u8], old: &[u8], new: &[u8]) -> Result<Vec<u8>, Fail> {
+    let mut text = Vec::new(rt.alloc());
+    for (place, byte) in file.iter().enumerate() {
+        if let Some(behind) = file[place..].strip_prefix(old) {
+            text.extend_from_slice(new)?;
+            text.extend_from_slice(behind)?;
+            return Ok(text);
+        }
+        text.push(*byte)?;
+    }
+    Ok(text)
+}
+
+#[test]
+fn steps_of_files(rt: HostRuntime) -> Result<(), Fail> {
+    let graph = graph_of(&rt, FILE_A)?;
+    assert_eq!(rt; graph.rows(), 6);
+    assert!(rt; graph.steps() == [(5, 0)].as_slice());
+    let graph = graph_of(&rt, FILE_B)?;
+    assert_eq!(rt; graph.rows(), 13);
+    let parents = [(7, 0), (8, 0), (9, 7), (10, 8), (11, 9), (12, 10)];
+    assert!(rt; graph.steps() == parents.as_slice());
+    let graph = graph_of(&rt, FILE_C)?;
+    let parents_and_links = [
+        (7, 0),
+        (8, 0),
+        (9, 7),
+        (9, 11),
+        (10, 8),
+        (11, 7),
+        (11, 9),
+        (12, 7),
+        (12, 9),
+        (13, 9),
+        (14, 10),
+    ];
+    assert!(rt; graph.steps() == parents_and_links.as_slice());
+    let graph = graph_of(&rt, FILES)?;
+    assert!(rt; graph.steps() == [(0, 1), (0, 2)].as_slice());
+    Ok(())
+}
+
+#[test]
+fn broken_links_step_by_their_sound_parts(rt: HostRuntime) -> Result<(), Fail> {
+    let file = edited(&rt, FILE_C, b"|3.00|S9\"", b"|3.00|S9+SAMP|BH1|9.00|S9\"")?;
+    assert!(rt; linked(&rt, &file, 9, b"SAMP_LINK")?.is_none());
+    let graph = graph_of(&rt, &file)?;
+    assert!(rt; graph.steps().contains(&(9, 11)));
+    Ok(())
+}
+
+/// What row 9 of the third file names with another record link, as text.
+fn named_by(rt: &(impl Abort + AllocGlobal), link: &str) -> Result<String, Fail> {
+    let file = edited(rt, FILE_C, b"SAMP|BH1|3.00|S9", link.as_bytes())?;
+    let mut text = String::new(rt.alloc());
+    match linked(rt, &file, 9, b"SAMP_LINK")? {
+        Some(rows) => {
+            for row in &rows {
+                write!(text, "{row};")?;
+            }
+        }
+        None => text.push_str("broken")?,
+    }
+    Ok(text)
+}
+
+#[test]
+fn what_links_name(rt: HostRuntime) -> Result<(), Fail> {
+    for (link, want) in [
+        ("SAMP|BH1|3.00|S9", "11;"),
+        ("SAMP|BH1|9.00|S9", "broken"),
+        ("SAMP|BH1|3.00|S9+SAMP|BH1|9.00|S9", "broken"),
+        ("SAMP|BH1|3.00|S9+", "broken"),
+        ("SAMP|BH1|3.00", "broken"),
+        ("", "broken"),
+        ("PROJ|P7", "0;"),
+        ("SAMP|BH1|3.00|S9+PROJ|P7+SAMP|BH1|3.00|S9", "0;11;"),
+    ] {
+        assert_eq!(rt; named_by(&rt, link)?.as_str(), want, "{link}");
+    }
+    Ok(())
+}
+
+#[test]
+fn separators_of_tran(rt: HostRuntime) -> Result<(), Fail> {
+    let file = edited(&rt, FILE_C, b"\"|\",\"+\"", b"\"/\",\"\"")?;
+    let file = edited(&rt, &file, b"SAMP|BH1|3.00|S9", b"SAMP/BH1/3.00/S9")?;
+    let Some(rows) = linked(&rt, &file, 9, b"SAMP_LINK")? else {
+        panic!(rt; "the link is broken");
+    };
+    assert!(rt; rows.as_slice() == [11].as_slice());
+    Ok(())
+}
+
+/// Asks the index for each row, and the plain programs beside it.
+fn compare(rt: &(impl Abort + AllocGlobal), file: &[u8]) -> Result<(), Fail> {
+    let dictionary = dictionary(rt);
+    let scan = scanned(rt, file);
+    let index = Index::build(rt.alloc(), &scan, &dictionary)?;
+    let graph = Graph::of(rt.alloc(), &index)?;
+    let rows = place_rows(rt.alloc(), scan.groups())?;
+    assert_eq!(rt; rows.len(), graph.rows() as usize);
+    for row in 0..graph.rows() {
+        let parents = index.parents(row)?;
+        assert!(rt; parents == parents_by_search(rt.alloc(), &dictionary, &rows, row)?);
+        assert_eq!(rt; index.has_parent(row)?, !parents.is_empty());
+        let first = first_of_key_by_search(rt.alloc(), &dictionary, &rows, row)?;
+        assert_eq!(rt; index.first_of_key(row)?, first);
+    }
+    Ok(())
+}
+
+#[test]
+fn index_and_search_agree(rt: HostRuntime) -> Result<(), Fail> {
+    for file in [FILE_A, FILE_B, FILE_C, FILES] {
+        compare(&rt, file)?;
+    }
+    Ok(())
+}
+
+/// The first row with the row's key, and the rows of FILE with its FILE_FSET.
+fn asked(rt: &(impl Abort + AllocGlobal), file: &[u8], row: u32) -> Result<(u32, Vec<u32>), Fail> {
+    let dictionary = dictionary(rt);
+    let scan = scanned(rt, file);
+    let index = Index::build(rt.alloc(), &scan, &dictionary)?;
+    assert!(rt; row < Graph::of(rt.alloc(), &index)?.rows());
+    Ok((index.first_of_key(row)?, index.files(row)?))
+}
+
+#[test]
+fn equal_keys(rt: HostRuntime) -> Result<(), Fail> {
+    let file = edited(
+        &rt,
+        FILE_B,
+        b"\"BH2\",\"2.00\",\"S2\",\"\"",
+        b"\"BH1\",\"1.50\",\"S1\",\"\"",
+    )?;
+    compare(&rt, &file)?;
+    let (first, files) = asked(&rt, &file, 10)?;
+    assert_eq!(rt; first, 9);
+    assert_eq!(rt; files.len(), 0);
+    Ok(())
+}
+
+#[test]
+fn rows_of_a_set(rt: HostRuntime) -> Result<(), Fail> {
+    let (_, files) = asked(&rt, FILES, 0)?;
+    assert!(rt; files.as_slice() == [1, 2].as_slice());
+    let (first, files) = asked(&rt, FILES, 3)?;
+    assert_eq!(rt; first, 3);
+    assert!(rt; files.as_slice() == [3].as_slice());
+    Ok(())
+}
+
+/// Closes the graph of a file from one row, and with one row that is not permitted, both ways.
+fn close(rt: &(impl Abort + AllocGlobal), file: &[u8]) -> Result<(), Fail> {
+    let graph = graph_of(rt, file)?;
+    for row in 0..graph.rows() {
+        let mut one = Vec::new(rt.alloc());
+        let mut others = Vec::new(rt.alloc());
+        for number in 0..graph.rows() {
+            one.push(number == row)?;
+            others.push(number != row)?;
+        }
+        assert_eq!(rt; one.len(), graph.rows() as usize);
+        assert_eq!(rt; others.len(), graph.rows() as usize);
+        let (from, _) = reached(rt.alloc(), &graph, &one)?;
+        assert!(rt; from == reached_by_passes(rt.alloc(), &graph, &one)?);
+        let (visible, _) = shown(rt.alloc(), &graph, &others)?;
+        assert!(rt; visible == shown_by_passes(rt.alloc(), &graph, &others)?);
+    }
+    Ok(())
+}
+
+#[test]
+fn closures_of_files_agree(rt: HostRuntime) -> Result<(), Fail> {
+    for file in [FILE_A, FILE_B, FILE_C, FILES] {
+        close(&rt, file)?;
+    }
+    Ok(())
+}
+
+/// The header rows of the groups that the large file has.
+const HOLES: &str =
+    "\"GROUP\",\"LOCA\"\r\n\"HEADING\",\"LOCA_ID\"\r\n\"UNIT\",\"\"\r\n\"TYPE\",\"ID\"\r\n";
+
+const SAMPLES: &str =
+    "\"GROUP\",\"SAMP\"\r\n\"HEADING\",\"LOCA_ID\",\"SAMP_TOP\",\"SAMP_REF\"\r\n\"UNIT\",\"\",\"m\",\"\"\r\n\"TYPE\",\"ID\",\"2DP\",\"X\"\r\n";
+
+const TESTS: &str =
+    "\"GROUP\",\"LNMC\"\r\n\"HEADING\",\"LOCA_ID\",\"SAMP_TOP\",\"SAMP_REF\"\r\n\"UNIT\",\"\",\"m\",\"\"\r\n\"TYPE\",\"ID\",\"2DP\",\"X\"\r\n";
+
+/// A group of 20,000 rows, of 1,000 boreholes in turn.
+fn add_samples(text: &mut String, header: &str) -> Result<(), Fail> {
+    text.push_str(header)?;
+    for sample in 0..20_000 {
+        let hole = sample % 1_000;
+        write!(text, "\"DATA\",\"B{hole}\",\"{sample}.00\",\"S1\"\r\n")?;
+    }
+    Ok(())
+}
+
+#[test]
+fn forty_thousand_rows(rt: HostRuntime) -> Result<(), Fail> {
+    let mut text = String::new(rt.alloc());
+    text.push_str(HOLES)?;
+    for hole in 0..1_000 {
+        write!(text, "\"DATA\",\"B{hole}\"\r\n")?;
+    }
+    add_samples(&mut text, SAMPLES)?;
+    add_samples(&mut text, TESTS)?;
+    let graph = graph_of(&rt, text.as_bytes())?;
+    assert_eq!(rt; graph.rows(), 41_000);
+    assert_eq!(rt; graph.steps().len(), 40_000);
+    Ok(())
+}
