@@ -10,6 +10,7 @@ use std::test::Fail;
 enum Edit {
     Doubles(usize),
     Drops(usize),
+    EndsAfter(usize),
     /// All but the first line lose their last field.
     LosesLastColumn,
 }
@@ -22,6 +23,7 @@ fn push_line(text: &mut Vec<u8>, number: usize, line: &[u8], edit: Edit) -> Resu
             text.extend_from_slice(line)
         }
         Edit::Drops(n) if n == number => Ok(()),
+        Edit::EndsAfter(n) if number > n => Ok(()),
         Edit::LosesLastColumn if number > 1 => {
             let mut kept = line;
             for (i, byte) in line.iter().enumerate() {
@@ -84,7 +86,8 @@ fn printed(alloc: Global, findings: &[Finding]) -> Result<String, AllocError> {
     for finding in findings {
         let line = finding.line;
         let code = String::from_utf8_lossy(alloc, finding.code.text())?;
-        write!(text, "{code} {line};")?;
+        let subject = String::from_utf8_lossy(alloc, finding.subject.as_slice())?;
+        write!(text, "{code} {line} {subject};")?;
     }
     Ok(text)
 }
@@ -174,7 +177,7 @@ fn questions(rt: HostRuntime) -> Result<(), Fail> {
 fn no_dictionaries(rt: HostRuntime) -> Result<(), Fail> {
     let alloc = rt.alloc();
     assert_eq!(rt; refusal(alloc, FILE_A)?.as_str(), "no DICT");
-    assert_eq!(rt; refusal(alloc, b"")?.as_str(), "2 0;");
+    assert_eq!(rt; refusal(alloc, b"")?.as_str(), "2 0 ;");
     Ok(())
 }
 
@@ -184,6 +187,7 @@ fn edited_lines(rt: HostRuntime) -> Result<(), Fail> {
     for (edit, want) in [
         (Edit::Doubles(5), ""),
         (Edit::Drops(52), ""),
+        (Edit::EndsAfter(4), "2 1 DICT;"),
         (Edit::LosesLastColumn, "missing heading"),
     ] {
         let bytes = edited(alloc, edit)?;
