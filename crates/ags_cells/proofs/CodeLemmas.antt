@@ -1,0 +1,78 @@
+-- A text is the code of one type.
+use Rattle.std.proofs.Common.{◌≡◌, ℕ, ◌-◌, cond, List, [], ◌∷◌, codes, refl, sym, ap, ◌∙◌, subst, arith}
+use Rattle.std.specs.Str.{bytes_eq}
+use Rattle.ags_cells.specs.Bytes.{digit}
+use Rattle.ags_cells.specs.CellTypes.{IsListedTypeCode, IsTypeCodeOf}
+use Rattle.ags_cells.specs.Fits.{Fits, FitsTypeCode}
+use Rattle.ags_cells.specs.Laws.{OneType, FitsItsTypeCode}
+use Rattle.ags_cells.specs.declared.cell_type.CellType.{CellType}
+use Rattle.ags_cells.specs.declared.cell_type.CellType.TheVariants.{DecimalPlaces, SignificantFigures, Scientific, MoistureContent, YesNo, DegreesMinutesSeconds, DateTime, ElapsedTime, Any}
+
+-- the type that a code without its first byte tells
+abbrev type_by : ℕ → List ℕ → CellType
+type_by first rest =
+    cond (bytes_eq rest (codes "DP")) (DecimalPlaces (first - digit 0))
+    (cond (bytes_eq rest (codes "SF")) (SignificantFigures (first - digit 0))
+    (cond (bytes_eq rest (codes "SCI")) (Scientific (first - digit 0))
+    (cond (bytes_eq rest (codes "C")) MoistureContent
+    (cond (bytes_eq rest (codes "N")) YesNo
+    (cond (bytes_eq rest (codes "MS")) DegreesMinutesSeconds
+    (cond (bytes_eq rest (codes "T")) DateTime ElapsedTime))))))
+
+abbrev type_of : List ℕ → CellType
+type_of [] = Any
+type_of (first ∷ rest) = type_by first rest
+
+number_of : (n : ℕ) → digit n - digit 0 ≡ n
+number_of n = omega arith
+
+type_of-code : (code : List ℕ) (t : CellType) → IsListedTypeCode code t → type_of code ≡ t
+type_of-code code (DecimalPlaces n) w = rw w.1 (ap DecimalPlaces (number_of n))
+type_of-code code (SignificantFigures n) w = rw w.1 (ap SignificantFigures (number_of n))
+type_of-code code (Scientific n) w = rw w.1 (ap Scientific (number_of n))
+type_of-code code MoistureContent e = rw e
+type_of-code code YesNo e = rw e
+type_of-code code DegreesMinutesSeconds e = rw e
+type_of-code code DateTime e = rw e
+type_of-code code ElapsedTime e = rw e
+type_of-code code Any e = absurd e
+
+-- a type whose code is listed, and one of the same code
+listed_type : (code : List ℕ) (t u : CellType) → IsListedTypeCode code t → IsTypeCodeOf code u → t ≡ u
+listed_type code t (DecimalPlaces n) h w = sym (type_of-code code t h) ∙ type_of-code code (DecimalPlaces n) w
+listed_type code t (SignificantFigures n) h w = sym (type_of-code code t h) ∙ type_of-code code (SignificantFigures n) w
+listed_type code t (Scientific n) h w = sym (type_of-code code t h) ∙ type_of-code code (Scientific n) w
+listed_type code t MoistureContent h w = sym (type_of-code code t h) ∙ type_of-code code MoistureContent w
+listed_type code t YesNo h w = sym (type_of-code code t h) ∙ type_of-code code YesNo w
+listed_type code t DegreesMinutesSeconds h w = sym (type_of-code code t h) ∙ type_of-code code DegreesMinutesSeconds w
+listed_type code t DateTime h w = sym (type_of-code code t h) ∙ type_of-code code DateTime w
+listed_type code t ElapsedTime h w = sym (type_of-code code t h) ∙ type_of-code code ElapsedTime w
+listed_type code t Any h w = absurd (w t h)
+
+unlisted_type : (code : List ℕ) (u : CellType) → IsTypeCodeOf code Any → IsTypeCodeOf code u → Any ≡ u
+unlisted_type code (DecimalPlaces n) none w = absurd (none (DecimalPlaces n) w)
+unlisted_type code (SignificantFigures n) none w = absurd (none (SignificantFigures n) w)
+unlisted_type code (Scientific n) none w = absurd (none (Scientific n) w)
+unlisted_type code MoistureContent none w = absurd (none MoistureContent w)
+unlisted_type code YesNo none w = absurd (none YesNo w)
+unlisted_type code DegreesMinutesSeconds none w = absurd (none DegreesMinutesSeconds w)
+unlisted_type code DateTime none w = absurd (none DateTime w)
+unlisted_type code ElapsedTime none w = absurd (none ElapsedTime w)
+unlisted_type code Any none w = refl
+
+pub one_type : OneType
+one_type code (DecimalPlaces n) u h w = listed_type code (DecimalPlaces n) u h w
+one_type code (SignificantFigures n) u h w = listed_type code (SignificantFigures n) u h w
+one_type code (Scientific n) u h w = listed_type code (Scientific n) u h w
+one_type code MoistureContent u h w = listed_type code MoistureContent u h w
+one_type code YesNo u h w = listed_type code YesNo u h w
+one_type code DegreesMinutesSeconds u h w = listed_type code DegreesMinutesSeconds u h w
+one_type code DateTime u h w = listed_type code DateTime u h w
+one_type code ElapsedTime u h w = listed_type code ElapsedTime u h w
+one_type code Any u h w = unlisted_type code u h w
+
+pub fits_its_type_code : FitsItsTypeCode
+fits_its_type_code code unit text t h =
+    let back : FitsTypeCode code unit text → Fits t unit text =
+    λ w. subst (λ u. Fits u unit text) (one_type code w.0 t w.1 h) w.2 in
+    (λ fit. (t, h, fit), back)

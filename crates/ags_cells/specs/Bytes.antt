@@ -1,0 +1,32 @@
+-- The bytes that cells are written in, by name. They are ASCII (Rule 1).
+use Rattle.std.specs.Prelude.{ℕ, ◌+◌, ◌≤◌}
+
+abbrev pub plus : ℕ
+plus = 43
+
+abbrev pub hyphen : ℕ
+hyphen = 45
+
+abbrev pub point : ℕ
+point = 46
+
+abbrev pub colon : ℕ
+colon = 58
+
+abbrev pub capital_e : ℕ
+capital_e = 69
+
+abbrev pub small_e : ℕ
+small_e = 101
+
+-- what stands between a day and its time
+abbrev pub capital_t : ℕ
+capital_t = 84
+
+-- the digit of a number from 0 to 9
+abbrev pub digit : ℕ → ℕ
+digit n = 48 + n
+
+-- `0` to `9`
+abbrev pub IsDigit : ℕ → Type 0
+IsDigit byte = (digit 0 ≤ byte) × (byte ≤ digit 9)

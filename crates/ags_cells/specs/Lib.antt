@@ -1,0 +1,9 @@
+pub mod Bytes
+pub mod Parts
+pub mod CellTypes
+pub mod Numbers
+pub mod Times
+pub mod Fits
+pub mod TimeUnits
+pub mod Readers
+pub mod Laws

@@ -1,0 +1,44 @@
+-- How numbers and angles are written (Rule 8). The standard leaves the spelling open: this is the profile's.
+use Rattle.std.specs.Prelude.{◌≡◌, ◌⊎◌, ℕ, ◌<◌, List}
+use Rattle.ags_cells.specs.Bytes.{point, colon, capital_e, small_e}
+use Rattle.ags_cells.specs.Parts.{◌⨾◌, Empty, Optional, Mark, Sign, Digits, DigitsOf, TwoDigits}
+
+-- for n above 0 a point and exactly n digits, and nothing for n = 0
+abbrev pub Places : ℕ → List ℕ → Type 0
+Places n text = ((n ≡ 0) × Empty text) ⊎ ((0 < n) × (Mark point ⨾ DigitsOf n n) text)
+
+-- optionally a point and digits
+abbrev pub Fraction : List ℕ → Type 0
+Fraction = Optional (Mark point ⨾ Digits)
+
+-- `E` or `e`
+abbrev pub ExponentMark : List ℕ → Type 0
+ExponentMark text = Mark capital_e text ⊎ Mark small_e text
+
+-- `E` or `e`, optionally a sign, 1 to 3 digits
+abbrev pub Exponent : List ℕ → Type 0
+Exponent = ExponentMark ⨾ Optional Sign ⨾ DigitsOf 1 3
+
+-- nDP: optionally a sign, digits, n places
+abbrev pub Decimal : ℕ → List ℕ → Type 0
+Decimal n = Optional Sign ⨾ Digits ⨾ Places n
+
+-- nSF: optionally a sign, digits, optionally a point and digits, optionally an exponent. How many figures there are plays no part
+abbrev pub Significant : List ℕ → Type 0
+Significant = Optional Sign ⨾ Digits ⨾ Fraction ⨾ Optional Exponent
+
+-- nSCI: optionally a sign, one digit, n places, an exponent
+abbrev pub Scientific : ℕ → List ℕ → Type 0
+Scientific n = Optional Sign ⨾ DigitsOf 1 1 ⨾ Places n ⨾ Exponent
+
+-- MC: optionally a sign, digits, optionally a point and digits
+abbrev pub Moisture : List ℕ → Type 0
+Moisture = Optional Sign ⨾ Digits ⨾ Fraction
+
+-- `:00` to `:59`
+abbrev pub Sixtieth : List ℕ → Type 0
+Sixtieth = Mark colon ⨾ TwoDigits 0 59
+
+-- DMS: optionally a sign, 1 to 3 digits, minutes, seconds, optionally a point and digits
+abbrev pub Angle : List ℕ → Type 0
+Angle = Optional Sign ⨾ DigitsOf 1 3 ⨾ Sixtieth ⨾ Sixtieth ⨾ Fraction
