@@ -4,4 +4,6 @@ pub mod RowRules
 pub mod Placing
 pub mod HeaderPhase
 pub mod RowPhase
+pub mod Columns
+pub mod Listing
 pub mod Places

@@ -1,0 +1,4 @@
+//! The fifth phase: the UNIT, TYPE and DATA rows.
+
+pub mod abbreviations;
+pub mod columns;
