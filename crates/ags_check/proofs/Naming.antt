@@ -1,5 +1,5 @@
 -- Going over a list of names, and what is noted of each.
-use Rattle.std.proofs.Common.{◌≡◌, ◌≢◌, ℕ, ◌+◌, ◌<◌, ◌≤◌, Bool, true, false, not, cond, Option, Some, None, List, [], ◌∷◌, ◌++◌, length, get_or, map, refl, sym, ap, subst, ◌∙◌, arith}
+use Rattle.std.proofs.Common.{◌≡◌, ℕ, ◌+◌, ◌<◌, ◌≤◌, Bool, true, false, not, cond, Option, Some, None, List, [], ◌∷◌, ◌++◌, length, get_or, map, refl, sym, ap, subst, ◌∙◌, arith}
 use Rattle.std.specs.Prelude.{Contains, option_map, is_some}
 use Rattle.std.specs.Borrow.{Bor}
 use Rattle.std.proofs.lemmas.Bool.{true≢false}
@@ -8,7 +8,7 @@ use Rattle.std.proofs.lemmas.Option.{slice_get-get_or, slice_get-map, slice_get_
 use Rattle.ags_rows.specs.declared.codes.Code.{Code}
 use Rattle.ags_rows.specs.declared.codes.Finding.{Finding}
 use Rattle.ags_rows.specs.declared.rows.Group.{Group}
-use Rattle.ags_rows.specs.Findings.{At, Adds}
+use Rattle.ags_rows.specs.Collecting.{At, Adds}
 use Rattle.ags_rows.specs.Collecting.{Notes, AmongBefore}
 use Rattle.ags_rows.proofs.Collecting.{adds_note, adds_same, among_more, among_all}
 use Rattle.ags_check.specs.Placing.{AtNames, AtHeading}

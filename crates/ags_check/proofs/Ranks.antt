@@ -1,10 +1,10 @@
 -- The latest place so far.
-use Rattle.std.proofs.Common.{◌≡◌, ℕ, ◌+◌, ◌<◌, ◌≤◌, Bool, true, false, Option, Some, None, List, max, refl, sym, ap, subst, ◌∙◌, arith, inl, inr, ltb}
+use Rattle.std.proofs.Common.{◌≡◌, ℕ, ◌+◌, ◌≤◌, true, Option, Some, None, List, max, refl, sym, ap, subst, ◌∙◌, arith, inl, inr}
 use Rattle.std.specs.Prelude.{slice_get}
 use Rattle.std.proofs.lemmas.Bool.{true≢false, cases_lt, lt-ltb, ltb-true}
 use Rattle.std.proofs.lemmas.Option.{none-some, same_Some}
-use Rattle.ags_rows.specs.Findings.{At}
-use Rattle.ags_rows.proofs.Breaking.{before_or_at, some_same}
+use Rattle.ags_rows.specs.Collecting.{At}
+use Rattle.ags_rows.proofs.Collecting.{before_or_at, some_same}
 use Rattle.ags_check.specs.Header.{IsOvertaken}
 use Rattle.ags_check.specs.HeaderSteps.{later, is_behind, IsLatest}
 

@@ -1,9 +1,9 @@
 -- What the GROUP rows, HEADING rows and rules on single groups of AGS4 ask of a file: the fourth phase.
 -- No rule here knows a line: `file` is what the file holds, `given` are the entries of the dictionary
 -- handed in, `entries` those of it and of the file's DICT.
-use Rattle.std.specs.Prelude.{◌≡◌, ℕ, ◌<◌, List, ◌++◌, ◌∷◌, length, codes, true, false, Option, Some, Contains}
-use Rattle.ags_rows.specs.Findings.{At}
-use Rattle.ags_rows.specs.Names.{low_line}
+use Rattle.std.specs.Prelude.{◌≡◌, ℕ, ◌<◌, List, ◌++◌, ◌∷◌, length, codes, false, Option, Some, Contains}
+use Rattle.ags_rows.specs.Collecting.{At}
+use Rattle.ags_rows.specs.Bytes.{low_line}
 use Rattle.ags_rows.specs.Contents.{Contents, place_in, under}
 use Rattle.ags_dict.specs.Entries.{Entries, order_of, keys_of, required_of, parent_of, has_group, elsewhere}
 

@@ -1,5 +1,5 @@
 -- The rules of the fourth phase as findings.
-use Rattle.std.specs.Prelude.{◌≡◌, ℕ, List, [], ◌∷◌, ◌++◌, codes, if◌then◌else◌}
+use Rattle.std.specs.Prelude.{List, [], ◌∷◌, codes, if◌then◌else◌}
 use Rattle.ags_rows.specs.declared.codes.Code.{Code}
 use Rattle.ags_rows.specs.declared.codes.Code.TheVariants.{Rule7, Rule9, Rule10a, Rule10b, Rule10c, Rule11a, Rule11b, Rule13, Rule14, Rule15, Rule17, Rule18, Rule19b}
 use Rattle.ags_rows.specs.declared.codes.Finding.{Finding}

@@ -1,6 +1,6 @@
 -- What the functions of the fourth phase compute on the way.
-use Rattle.std.specs.Prelude.{◌≡◌, ℕ, ◌<◌, ◌≤◌, List, Bool, false, nat_lt, max, Option, Some, None, IsSome, MatchOption}
-use Rattle.ags_rows.specs.Findings.{At}
+use Rattle.std.specs.Prelude.{◌≡◌, ℕ, ◌<◌, ◌≤◌, List, Bool, false, nat_lt, max, Option, Some, None, IsSome}
+use Rattle.ags_rows.specs.Collecting.{At}
 use Rattle.ags_dict.specs.Entries.{Entries, elsewhere}
 use Rattle.ags_check.specs.Header.{BeginsWithName}
 

@@ -1,9 +1,11 @@
 pub mod Header
 pub mod HeaderSteps
-pub mod RowRules
 pub mod Placing
 pub mod HeaderPhase
+pub mod RowRules
 pub mod RowPhase
 pub mod Columns
 pub mod Listing
 pub mod Places
+pub mod Known
+pub mod Findings

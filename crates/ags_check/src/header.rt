@@ -1,3 +1,170 @@
 //! The fourth phase: the groups of a file against its dictionary.
 
+ghost use Rattle.std.specs.Prelude.{IfOk, OnOk};
+ghost use Rattle.ags_rows.specs.Collecting.{Adds, OneOf};
+ghost use Rattle.ags_rows.specs.Contents.{contents_of};
+ghost use Rattle.ags_rows.specs.Findings.{Lists};
+ghost use Rattle.ags_check.specs.Placing.{OfKnown, InGroups};
+ghost use Rattle.ags_check.specs.HeaderPhase.{heading_rules, only_row_rules, group_rules, file_rules, header_rules};
+
+pub mod groups;
 pub mod headings;
+pub mod known;
+pub mod only_rows;
+
+use crate::file::File;
+use crate::header::groups::{
+    note_absent_group, note_lacking_parent, note_unknown_group, unknown_code,
+};
+use crate::header::headings::{names_of, note_misnamed, note_misplaced, note_missing};
+use crate::header::known::Known;
+use crate::header::only_rows::{note_further_rows, note_long_sign};
+use crate::places::Places;
+use ags_dict::Dictionary;
+use ags_rows::{Code, Finding, Group, Sequence, in_order};
+use std::alloc::{AllocError, Global};
+
+/// What the HEADING row of a group breaks, where the dictionary knows the group.
+fn note_headings(
+    alloc: Global,
+    given: &Dictionary,
+    extended: &Dictionary,
+    code: Code,
+    group: &Group,
+    findings: &mut Vec<Finding>,
+) -> Result<(), AllocError>
+    ensures { OnOk result (Adds (OneOf (heading_rules given.now extended.now code group.now)) findings.old.items findings.new.items) }
+{
+    let name = group.name.as_slice();
+    let line = group.heading_line;
+    let known = Known::of(alloc, given, extended, name)?;
+    let names = names_of(alloc, group.headings.as_slice())?;
+    let headings = names.as_slice();
+    let row = Places::of(alloc, headings)?;
+    note_missing(alloc, headings, line, code, &known.order, findings)?;
+    note_misplaced(alloc, headings, line, &known.order, findings)?;
+    note_missing(
+        alloc,
+        known.keys.as_slice(),
+        line,
+        Code::Rule10a,
+        &row,
+        findings,
+    )?;
+    note_missing(
+        alloc,
+        known.required.as_slice(),
+        line,
+        Code::Rule10b,
+        &row,
+        findings,
+    )?;
+    note_misnamed(
+        alloc,
+        name,
+        headings,
+        line,
+        &known.given,
+        &known.order,
+        extended,
+        findings,
+    )?;
+    Ok(())
+}
+
+/// The same, where the dictionary has an entry for the group.
+fn note_known(
+    alloc: Global,
+    given: &Dictionary,
+    extended: &Dictionary,
+    code: Code,
+    group: &Group,
+    findings: &mut Vec<Finding>,
+) -> Result<(), AllocError>
+    ensures { OnOk result (Adds (OfKnown extended.now group.now (heading_rules given.now extended.now code group.now)) findings.old.items findings.new.items) }
+{
+    if !extended.has_group(group.name.as_slice()) {
+        return Ok(());
+    }
+    note_headings(alloc, given, extended, code, group, findings)?;
+    Ok(())
+}
+
+/// What the DATA rows of PROJ and TRAN break.
+fn note_only_rows(
+    alloc: Global,
+    group: &Group,
+    findings: &mut Vec<Finding>,
+) -> Result<(), AllocError>
+    ensures { OnOk result (Adds (OneOf (only_row_rules group.now)) findings.old.items findings.new.items) }
+{
+    note_long_sign(alloc, group, Code::Rule11a, b"TRAN_DLIM", findings)?;
+    note_long_sign(alloc, group, Code::Rule11b, b"TRAN_RCON", findings)?;
+    note_further_rows(alloc, group, Code::Rule13, b"PROJ", findings)?;
+    note_further_rows(alloc, group, Code::Rule14, b"TRAN", findings)?;
+    Ok(())
+}
+
+/// What one group breaks.
+fn note_group(
+    alloc: Global,
+    given: &Dictionary,
+    extended: &Dictionary,
+    file: &File,
+    code: Code,
+    group: &Group,
+    findings: &mut Vec<Finding>,
+) -> Result<(), AllocError>
+    ensures { OnOk result (Adds (OneOf (group_rules given.now extended.now (contents_of file.now) code group.now)) findings.old.items findings.new.items) }
+{
+    note_unknown_group(alloc, extended, code, group, findings)?;
+    note_lacking_parent(alloc, extended, file, group, findings)?;
+    note_known(alloc, given, extended, code, group, findings)?;
+    note_only_rows(alloc, group, findings)?;
+    Ok(())
+}
+
+/// What the groups break, one after the other.
+fn note_groups(
+    alloc: Global,
+    given: &Dictionary,
+    extended: &Dictionary,
+    file: &File,
+    code: Code,
+    findings: &mut Vec<Finding>,
+) -> Result<(), AllocError>
+    ensures { OnOk result (Adds (InGroups file.now (group_rules given.now extended.now (contents_of file.now) code)) findings.old.items findings.new.items) }
+{
+    let groups = file.groups();
+    for (i, group) in groups.iter().enumerate() {
+        note_group(alloc, given, extended, file, code, group, findings)?;
+    }
+    Ok(())
+}
+
+/// What the file lacks.
+fn note_file(alloc: Global, file: &File, findings: &mut Vec<Finding>) -> Result<(), AllocError>
+    ensures { OnOk result (Adds (OneOf (file_rules (contents_of file.now))) findings.old.items findings.new.items) }
+{
+    note_absent_group(alloc, file, Code::Rule13, b"PROJ", findings)?;
+    note_absent_group(alloc, file, Code::Rule14, b"TRAN", findings)?;
+    note_absent_group(alloc, file, Code::Rule15, b"UNIT", findings)?;
+    note_absent_group(alloc, file, Code::Rule17, b"TYPE", findings)?;
+    Ok(())
+}
+
+/// The findings of the fourth phase, in order, each once.
+pub fn header_findings(
+    alloc: Global,
+    given: &Dictionary,
+    extended: &Dictionary,
+    file: &File,
+) -> Result<Sequence<Finding>, AllocError>
+    ensures { IfOk result (Lists (OneOf (header_rules given.now extended.now file.now))) }
+{
+    let mut findings = Vec::new(alloc);
+    let code = unknown_code(file.groups());
+    note_groups(alloc, given, extended, file, code, &mut findings)?;
+    note_file(alloc, file, &mut findings)?;
+    Ok(in_order(findings))
+}

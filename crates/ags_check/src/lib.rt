@@ -1,6 +1,12 @@
 //! What an AGS4 file breaks of the rules, phase by phase.
 #![tactic(auto)]
 
-pub mod header;
+mod checking;
+mod clean;
+mod file;
+mod header;
+mod places;
 pub mod rows;
-pub mod places;
+
+pub use checking::{CheckError, check};
+pub use clean::Checked;

@@ -1,5 +1,5 @@
 -- Adding what restates nothing, a part at a time.
-use Rattle.std.proofs.Common.{◌≡◌, ℕ, ◌+◌, ◌<◌, Bool, List, [], ◌∷◌, ◌++◌, length, get_or, map, take, flat_map, refl, sym, ap, ◌∙◌, arith, append_assoc, inl, inr}
+use Rattle.std.proofs.Common.{◌≡◌, ℕ, ◌+◌, ◌<◌, Bool, List, [], ◌∷◌, ◌++◌, length, get_or, map, take, flat_map, true, false, refl, sym, ap, ◌∙◌, arith, append_assoc, inl, inr}
 use Rattle.std.specs.List.{list_any}
 use Rattle.std.proofs.lemmas.Bool.{cases_Bool}
 use Rattle.std.proofs.lemmas.List.{append-nil, take_more, get_or-map, length-map}
@@ -28,3 +28,11 @@ unstated_more {X} {Y} {Z} same f v zs i z old a b lt is before here =
     let more : flat_map f (take (i + 1) all) ≡ flat_map f (take i all) ++ f y =
     ap (flat_map f) next ∙ flat_map-append f (take i all) (y ∷ []) ∙ ap (λ (z : List X). flat_map f (take i all) ++ z) (append-nil (f y)) in
     here ∙ ap (λ (z : List X). with_unstated same z (f y)) before ∙ sym (unstated_append same old (flat_map f (take i all)) (f y)) ∙ ap (with_unstated same old) (sym more)
+
+-- one item that the list has
+pub restated : {X : Type 0} (same : X → X → Bool) (old : List X) (x : X) → list_any (same x) old ≡ true → old ≡ with_unstated same old (x ∷ [])
+restated same old x h = rw h (sym (append-nil old))
+
+-- one item that it does not have
+pub fresh : {X : Type 0} (same : X → X → Bool) (old : List X) (x : X) → list_any (same x) old ≡ false → old ++ x ∷ [] ≡ with_unstated same old (x ∷ [])
+fresh same old x h = rw h refl

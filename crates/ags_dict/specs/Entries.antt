@@ -2,6 +2,7 @@
 -- All of it speaks of a file's contents, not of its lines. A heading that DICT does not have reads as null.
 use Rattle.std.specs.Prelude.{ℕ, List, [], ◌∷◌, ◌++◌, map, flat_map, codes, Bool, true, false, not, ◌&&◌, Option, Some, None, if◌then◌else◌}
 use Rattle.std.specs.List.{filter, find, list_any, list_all}
+use Rattle.std.specs.Option.{option_map_or}
 use Rattle.std.specs.Str.{bytes_eq}
 use Rattle.ags_rows.specs.Contents.{Contents, under}
 use Rattle.ags_dict.specs.Parts.{has_part}
@@ -89,9 +90,12 @@ dict_headings = codes "DICT_TYPE" ∷ codes "DICT_GRP" ∷ codes "DICT_HDNG" ∷
 abbrev pub has_dict_headings : List (List ℕ) → Bool
 has_dict_headings headings = list_all (λ wanted. list_any (λ h. bytes_eq h wanted) headings) dict_headings
 
--- whether some DICT lacks one
+abbrev pub is_incomplete : Contents → Bool
+is_incomplete group = is_dict group && not (has_dict_headings group.headings)
+
+-- whether DICT lacks one
 abbrev pub lacks_heading : List Contents → Bool
-lacks_heading contents = list_any (λ group. is_dict group && not (has_dict_headings group.headings)) contents
+lacks_heading contents = list_any is_incomplete contents
 
 -- ---- what is asked of the entries
 
@@ -134,9 +138,13 @@ abbrev pub is_file : Origin → Bool
 is_file Standard = false
 is_file File = true
 
--- Rule 19b: the group's heading is user-defined: its entry came from the file's own DICT
+-- the entry for a heading of a group
+abbrev pub entry_of : Entries → List ℕ → List ℕ → Option HeadingEntry
+entry_of entries group heading = find (λ e. of_group group e && bytes_eq e.heading heading) entries.headings
+
+-- Rule 19b: a heading is user-defined where its entry came from the file's own DICT
 abbrev pub is_user_defined : Entries → List ℕ → List ℕ → Bool
-is_user_defined entries group heading = list_any (λ e. bytes_eq e.heading heading && of_group group e && is_file e.origin) entries.headings
+is_user_defined entries group heading = option_map_or (λ e. is_file e.origin) (entry_of entries group heading) false
 
 -- the groups that have no parent, whatever their entries say
 abbrev pub has_no_parent : List ℕ → Bool

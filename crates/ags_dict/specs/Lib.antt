@@ -1,2 +1,4 @@
 pub mod Parts
 pub mod Entries
+pub mod Index
+pub mod Reading

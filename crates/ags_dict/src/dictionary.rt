@@ -1,20 +1,24 @@
 //! A dictionary's entries, and what is asked of them.
 
 ghost use Rattle.std.specs.Prelude.{◌≡◌, IfOk, map, [], option_copied};
-ghost use Rattle.std.specs.List.{find};
-ghost use Rattle.std.specs.Str.{bytes_eq};
-ghost use Rattle.ags_dict.specs.Entries.{has_no_parent, order_of, keys_of, required_of, parent_of, has_group, elsewhere, is_user_defined};
+ghost use Rattle.std.specs.List.{filter};
+ghost use Rattle.ags_rows.specs.Contents.{place_in};
+ghost use Rattle.ags_dict.specs.Entries.{has_no_parent, order_of, keys_of, required_of, parent_of, has_group, elsewhere, is_user_defined, heading_of, of_status};
 
-use crate::entries::{GroupEntry, HeadingEntry, Origin};
+use crate::entries::Origin;
+use crate::groups::GroupEntries;
+use crate::headings::HeadingEntries;
 use crate::parts::has_part;
 use std::alloc::{AllocError, Global};
 use std::marker::Model;
 
-/// The entries in their order.
+/// The entries of the standard dictionary, or of that and a file's own DICT, in their order.
+///
+/// It keeps nothing of the bytes that it was read from.
 #[derive(Drop)]
 pub struct Dictionary {
-    pub(crate) groups: Vec<GroupEntry>,
-    pub(crate) headings: Vec<HeadingEntry>,
+    pub(crate) groups: GroupEntries,
+    pub(crate) headings: HeadingEntries,
 }
 
 impl Model for Dictionary {
@@ -22,7 +26,7 @@ impl Model for Dictionary {
 
     ghost Value = { Entries };
 
-    ghost view = { λ d. record { groups = d.groups.items; headings = d.headings.items } };
+    ghost view = { λ d. record { groups = d.groups; headings = d.headings } };
 }
 
 /// Whether the group has no parent, whatever its entry says.
@@ -41,92 +45,100 @@ impl Dictionary {
         ensures { result ≡ record { groups = []; headings = [] } }
     {
         Dictionary {
-            groups: Vec::new(alloc),
-            headings: Vec::new(alloc),
+            groups: GroupEntries::new(alloc),
+            headings: HeadingEntries::new(alloc),
         }
     }
 
-    /// The group's entry.
-    fn entry(&self, group: &[u8]) -> Option<&GroupEntry>
-        ensures { option_copied result ≡ find (λ e. bytes_eq e.group group.now) self.now.groups }
+    /// The same entries.
+    pub(crate) fn copied(&self, alloc: Global) -> Result<Dictionary, AllocError>
+        ensures { IfOk result (λ copied. copied ≡ self.now) }
     {
-        self.groups.iter().find(|e| e.group.as_slice() == group)
+        Ok(Dictionary {
+            groups: self.groups.copied(alloc)?,
+            headings: self.headings.copied(alloc)?,
+        })
     }
 
-    /// The group's headings in the order of their entries.
+    /// The group's headings in the order of the dictionary (Rule 7).
     pub fn order(&self, alloc: Global, group: &[u8]) -> Result<Vec<&[u8]>, AllocError>
         ensures { IfOk result (λ order. map (λ h. h.now) order.items ≡ order_of self.now group.now) }
     {
+        let entries = self.headings.of_group(alloc, group)?;
         let mut order = Vec::new(alloc);
-        for entry in self.headings.iter() {
-            if entry.group.as_slice() == group {
-                order.push(entry.heading.as_slice())?;
-            }
+        for entry in entries.iter() {
+            order.push(entry.heading.as_slice())?;
         }
         Ok(order)
     }
 
-    /// The group's KEY headings in the order of their entries.
+    /// The group's headings whose status has a word, in the order of the dictionary.
+    fn of_status(&self, alloc: Global, group: &[u8], word: &[u8]) -> Result<Vec<&[u8]>, AllocError>
+        ensures { IfOk result (λ found. map (λ h. h.now) found.items ≡ map heading_of (filter (of_status group.now word.now) self.now.headings)) }
+    {
+        let entries = self.headings.of_group(alloc, group)?;
+        let mut found = Vec::new(alloc);
+        for entry in entries.iter() {
+            if has_part(entry.status.as_slice(), b'+', word) {
+                found.push(entry.heading.as_slice())?;
+            }
+        }
+        Ok(found)
+    }
+
+    /// The group's KEY headings in the order of the dictionary (Rule 10a).
     pub fn keys(&self, alloc: Global, group: &[u8]) -> Result<Vec<&[u8]>, AllocError>
         ensures { IfOk result (λ keys. map (λ h. h.now) keys.items ≡ keys_of self.now group.now) }
     {
-        let mut keys = Vec::new(alloc);
-        for entry in self.headings.iter() {
-            if entry.group.as_slice() == group && has_part(entry.status.as_slice(), b'+', b"KEY") {
-                keys.push(entry.heading.as_slice())?;
-            }
-        }
-        Ok(keys)
+        self.of_status(alloc, group, b"KEY")
     }
 
-    /// The group's REQUIRED headings in the order of their entries.
+    /// The group's REQUIRED headings in the order of the dictionary (Rule 10b).
     pub fn required(&self, alloc: Global, group: &[u8]) -> Result<Vec<&[u8]>, AllocError>
         ensures { IfOk result (λ required. map (λ h. h.now) required.items ≡ required_of self.now group.now) }
     {
-        let mut required = Vec::new(alloc);
-        for entry in self.headings.iter() {
-            if entry.group.as_slice() == group
-                && has_part(entry.status.as_slice(), b'+', b"REQUIRED")
-            {
-                required.push(entry.heading.as_slice())?;
-            }
-        }
-        Ok(required)
+        self.of_status(alloc, group, b"REQUIRED")
     }
 
-    /// Whether the group has an entry.
+    /// The place of a heading in its group's order, counted from 0 (Rules 7 and 9).
+    pub fn place_in_order(&self, group: &[u8], heading: &[u8]) -> Option<usize>
+        ensures { result ≡ place_in (order_of self.now group.now) heading.now }
+    {
+        self.headings.place_in_order(group, heading)
+    }
+
+    /// Whether the group has an entry (Rule 9).
     pub fn has_group(&self, group: &[u8]) -> bool
         ensures { result ≡ has_group self.now group.now }
     {
-        self.groups.iter().any(|e| e.group.as_slice() == group)
+        self.groups.find(group).is_some()
     }
 
-    /// Whether another group has a heading of this name.
+    /// Whether another group has a heading of this name (Rule 19b).
     pub fn elsewhere(&self, group: &[u8], heading: &[u8]) -> bool
         ensures { result ≡ elsewhere self.now group.now heading.now }
     {
-        self.headings.iter().any(|e| e.heading.as_slice() == heading && e.group.as_slice() != group)
+        self.headings.elsewhere(group, heading)
     }
 
-    /// Whether the group's heading is user-defined: its entry came from the file's own DICT.
+    /// Whether the group's heading is user-defined: its entry came from the file's own DICT (Rule 19b).
     pub fn is_user_defined(&self, group: &[u8], heading: &[u8]) -> bool
         ensures { result ≡ is_user_defined self.now group.now heading.now }
     {
-        self.headings.iter().any(|e| {
-            e.heading.as_slice() == heading
-                && e.group.as_slice() == group
-                && matches!(e.origin, Origin::File)
-        })
+        match self.headings.find(group, heading) {
+            Some(entry) => matches!(entry.origin, Origin::File),
+            None => false,
+        }
     }
 
-    /// The group's parent.
+    /// The group's parent (Rule 10c).
     pub fn parent(&self, group: &[u8]) -> Option<&[u8]>
         ensures { option_copied result ≡ parent_of self.now group.now }
     {
         if has_no_parent(group) {
             return None;
         }
-        match self.entry(group)?.parent.as_slice() {
+        match self.groups.find(group)?.parent.as_slice() {
             b"" | b"-" => None,
             parent => Some(parent),
         }

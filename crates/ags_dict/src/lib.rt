@@ -4,8 +4,13 @@
 mod dictionary;
 mod entries;
 mod extending;
+mod groups;
+mod headings;
 mod parts;
+mod places;
+mod reading;
 
 pub use dictionary::Dictionary;
 pub use entries::{GroupEntry, HeadingEntry, Origin};
 pub use parts::has_part;
+pub use reading::DictError;

@@ -8,3 +8,5 @@ pub mod Files
 pub mod Once
 pub mod Appending
 pub mod Written
+pub mod WellFormed
+pub mod Texts

@@ -1,8 +1,8 @@
 -- A file that is written is read as what was written.
-use Rattle.std.proofs.Common.{◌≡◌, ◌≢◌, ℕ, zero, suc, ◌+◌, ◌<◌, true, false, ltb, ◌&&◌, List, [], ◌∷◌, ◌++◌, length, map, flat_map, Option, Some, None, refl, sym, ap, subst, ◌∙◌, arith, inl, inr}
-use Rattle.std.specs.Prelude.{◌⊎◌, MatchOption, codes as bytes}
+use Rattle.std.proofs.Common.{◌≡◌, ◌≢◌, ℕ, zero, suc, ◌+◌, ◌<◌, true, false, eqb, ltb, ◌&&◌, List, [], ◌∷◌, ◌++◌, length, map, flat_map, Option, Some, None, refl, sym, ap, subst, ◌∙◌, arith, inl, inr}
+use Rattle.std.specs.Prelude.{◌⊎◌, nat_le, Bool, MatchOption, codes as bytes}
 use Rattle.std.specs.List.{AllByRecursion, list_all}
-use Rattle.std.proofs.lemmas.Bool.{cases_eq, eq-eqb, ne_eqb, and_parts, ltb-true}
+use Rattle.std.proofs.lemmas.Bool.{cases_eq, eq-eqb, eqb-true, ne_eqb, and_parts, or_cases, ltb-true, leb-true}
 use Rattle.std.proofs.lemmas.List.{append-nil, length-append}
 use Rattle.std.proofs.lemmas.List.Elements.{All-from_recursion, All-contains}
 use Rattle.ags_rows.specs.declared.rows.Ending.TheVariants.{CrLf, Lf, Nothing}
@@ -24,7 +24,8 @@ use Rattle.ags_rows.specs.Stands.{line_rules, StandsInOrder}
 use Rattle.ags_rows.specs.Parsing.{IsFirstLine, MayStandBehind}
 use Rattle.ags_rows.specs.Findings.{File, IsFile, FirstFound, phases, RowFindings, FileGroups}
 use Rattle.ags_rows.specs.Contents.{Contents, contents_of, group_contents}
-use Rattle.ags_rows.specs.Writing.{written_row, group_lines, empty_line, written_lines, text_of, written_file, IsPlainByte, ArePlain, IsPlainGroup, IsWellFormed}
+use Rattle.ags_rows.specs.Writing.{written_row, group_lines, empty_line, written_lines, text_of, written_file, IsPlainByte, ArePlain, IsWellFormedGroup, IsWellFormed}
+use Rattle.ags_rows.specs.Names.{is_capital, is_digit, is_group_letter, is_heading_letter, is_group_name, is_heading_name}
 use Rattle.ags_rows.proofs.Fields.{same_fields, line_spells}
 use Rattle.ags_rows.proofs.Cutting.{AreCut, lines_from_cut}
 use Rattle.ags_rows.proofs.Breaking.{blank_clear, row_clear, blank_no_row, rows_join}
@@ -92,6 +93,55 @@ no_return t h = all_weaker (λ b p. p.no_return) t h
 
 no_feed : (t : List ℕ) → AllByRecursion IsPlainByte t → Lacks 10 t
 no_feed t h = all_weaker (λ b p. p.no_feed) t h
+
+-- ---- what is well formed can be written
+
+between : (low high b : ℕ) → nat_le low b && nat_le b high ≡ true → 13 < low → high < 128 → IsPlainByte b
+between low high b e more less =
+    let p = and_parts (nat_le low b) (nat_le b high) e in
+    plain_byte b (omega (arith, leb-true low b p.0, more)) (omega (arith, leb-true b high p.1, less))
+
+group_letter_plain : (b : ℕ) → is_group_letter b ≡ true → IsPlainByte b
+group_letter_plain b e = elim (or_cases (is_capital b) (is_digit b) e) [
+  | inl p ↦ between 65 90 b p (omega arith) (omega arith)
+  | inr p ↦ between 48 57 b p (omega arith) (omega arith)
+]
+
+heading_letter_plain : (b : ℕ) → is_heading_letter b ≡ true → IsPlainByte b
+heading_letter_plain b e = elim (or_cases (is_group_letter b) (eqb b 95) e) [
+  | inl p ↦ group_letter_plain b p
+  | inr p ↦ let q = eqb-true b 95 p in plain_byte b (omega (arith, q)) (omega (arith, q))
+]
+
+all_tested : (P : ℕ → Type 0) (p : ℕ → Bool) → ((b : ℕ) → p b ≡ true → P b) → (t : List ℕ) → list_all p t ≡ true → AllByRecursion P t
+all_tested P p each [] e = tt
+all_tested P p each (b ∷ t) e = let q = and_parts (p b) (list_all p t) e in (each b q.0, all_tested P p each t q.1)
+
+group_name_plain : (name : List ℕ) → is_group_name name ≡ true → AllByRecursion IsPlainByte name
+group_name_plain name e = all_tested IsPlainByte is_group_letter group_letter_plain name (and_parts (nat_le 1 (length name) && nat_le (length name) 4) (list_all is_group_letter name) e).1
+
+heading_name_plain : (name : List ℕ) → is_heading_name name ≡ true → AllByRecursion IsPlainByte name
+heading_name_plain name e = all_tested IsPlainByte is_heading_letter heading_letter_plain name (and_parts (nat_le 1 (length name) && nat_le (length name) 9) (list_all is_heading_letter name) e).1
+
+-- a group of bytes that can be written
+pub record IsPlainGroup (group : Contents) : Type 0 where
+  pub name : AllByRecursion IsPlainByte group.name
+  pub headings : ArePlain group.headings
+  pub units : ArePlain group.units
+  pub types : ArePlain group.types
+  pub rows : AllByRecursion ArePlain group.rows
+
+group_plain : (g : Contents) → IsWellFormedGroup g → IsPlainGroup g
+group_plain g h = record {
+  name = group_name_plain g.name h.name;
+  headings = all_weaker (λ f e. heading_name_plain f e) g.headings h.headings;
+  units = h.units.plain;
+  types = h.types.plain;
+  rows = all_weaker (λ r u. u.plain) g.rows h.rows;
+}
+
+pub groups_plain : (gs : List Contents) → IsWellFormed gs → AllByRecursion IsPlainGroup gs
+groups_plain gs h = all_weaker (λ g w. group_plain g w) gs h.each
 
 -- ---- each line
 
@@ -320,7 +370,7 @@ no_findings : (gs : List Contents) → IsWellFormed gs → FirstFound (phases (f
 unfolding groups_from
 no_findings [] h = absurd (h.some refl)
 no_findings (g ∷ gs) h =
-    let all = lines_clean (g ∷ gs) h.plain in
+    let all = lines_clean (g ∷ gs) (groups_plain (g ∷ gs) h) in
     let order = groups_behind (groups_from 1 (g ∷ gs)) kinds.Type type_ends [] in
     inr (
       λ f s. clean_breaks_none (s.0 + 1) s.1 (all_at IsClean (written_lines (g ∷ gs)) s.0 s.1 all s.2) f s.3,
@@ -328,10 +378,10 @@ no_findings (g ∷ gs) h =
     )
 
 groups_are : (gs : List Contents) → IsWellFormed gs → FileGroups (written_file gs) (groups_from 1 gs)
-groups_are gs h = (file_of gs, file_is gs h.plain, no_findings gs h, refl)
+groups_are gs h = (file_of gs, file_is gs (groups_plain gs h), no_findings gs h, refl)
 
 pub file_is_read : (gs : List Contents) → IsWellFormed gs → RowFindings (written_file gs) [] × ((groups : List Group) → FileGroups (written_file gs) groups → contents_of groups ≡ gs)
 file_is_read gs h = (
-  (file_of gs, file_is gs h.plain, no_findings gs h),
+  (file_of gs, file_is gs (groups_plain gs h), no_findings gs h),
   λ groups is. ap (λ (l : List Group). contents_of l) (one_grouping (written_file gs) groups (groups_from 1 gs) is (groups_are gs h)) ∙ contents_written 1 gs,
 )

@@ -1,9 +1,11 @@
 -- What stands in a file, without the places where it stands, and the file that is written of it.
-use Rattle.std.specs.Prelude.{◌≡◌, ◌≢◌, ◌<◌, ℕ, List, [], ◌∷◌, ◌++◌, map, flat_map}
-use Rattle.std.specs.List.{AllByRecursion}
+use Rattle.std.specs.Prelude.{◌≡◌, ◌≢◌, ◌<◌, ℕ, List, [], ◌∷◌, ◌++◌, map, flat_map, length, true}
+use Rattle.std.specs.List.{AllByRecursion, AllPairs}
 use Rattle.ags_rows.specs.declared.rows.Ending.TheVariants.{CrLf}
 use Rattle.ags_rows.specs.declared.rows.Descriptor.{Descriptor}
 use Rattle.ags_rows.specs.declared.rows.Descriptor.TheVariants as kinds
+use Rattle.ags_rows.specs.Bytes.{ascii_end, carriage_return, line_feed}
+use Rattle.ags_rows.specs.Names.{is_group_name, is_heading_name}
 use Rattle.ags_rows.specs.Contents.{Contents}
 use Rattle.ags_rows.specs.Lines.{TextLine, line_bytes}
 use Rattle.ags_rows.specs.Rows.{descriptor_text}
@@ -40,24 +42,42 @@ written_file groups = text_of (written_lines groups)
 
 -- ASCII, and no end of a line
 pub record IsPlainByte (b : ℕ) : Type 0 where
-  pub ascii : b < 128
-  pub no_return : b ≢ 13
-  pub no_feed : b ≢ 10
+  pub ascii : b < ascii_end
+  pub no_return : b ≢ carriage_return
+  pub no_feed : b ≢ line_feed
 
 abbrev pub ArePlain : List (List ℕ) → Type 0
 ArePlain fields = AllByRecursion (λ f. AllByRecursion IsPlainByte f) fields
 
-pub record IsPlainGroup (group : Contents) : Type 0 where
-  pub name : AllByRecursion IsPlainByte group.name
-  pub headings : ArePlain group.headings
-  pub units : ArePlain group.units
-  pub types : ArePlain group.types
-  pub rows : AllByRecursion ArePlain group.rows
+-- no text stands twice
+abbrev pub StandOnce : List (List ℕ) → Type 0
+StandOnce texts = AllPairs (λ text later. text ≢ later) texts
 
--- there is a group, and each can be written
+-- as many fields as there are headings, of bytes that can be written
+pub record AreUnder (headings fields : List (List ℕ)) : Type 0 where
+  pub count : length fields ≡ length headings
+  pub plain : ArePlain fields
+
+-- Rules 2, 4, 19, 19a: a group with a right name, with headings, each once and with a right name, and with DATA rows, each row as long as the headings.
+pub record IsWellFormedGroup (group : Contents) : Type 0 where
+  pub name : is_group_name group.name ≡ true
+  pub some_headings : group.headings ≢ []
+  pub headings : AllByRecursion (λ heading. is_heading_name heading ≡ true) group.headings
+  pub headings_once : StandOnce group.headings
+  pub units : AreUnder group.headings group.units
+  pub types : AreUnder group.headings group.types
+  pub some_rows : group.rows ≢ []
+  pub rows : AllByRecursion (AreUnder group.headings) group.rows
+
+-- the names of groups, in their order
+abbrev pub names_of : List Contents → List (List ℕ)
+names_of groups = map (λ group. group.name) groups
+
+-- There is a group, each is well formed, and no name stands twice.
 pub record IsWellFormed (groups : List Contents) : Type 0 where
   pub some : groups ≢ []
-  pub plain : AllByRecursion IsPlainGroup groups
+  pub each : AllByRecursion IsWellFormedGroup groups
+  pub names_once : StandOnce (names_of groups)
 
 -- the new bytes are the old ones and more
 abbrev pub IsLonger : List ℕ → List ℕ → Type 0

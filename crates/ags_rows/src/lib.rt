@@ -13,16 +13,17 @@ mod seen;
 mod spelling;
 #[cfg(test)]
 mod tests;
+pub mod vectors;
 mod writing;
 
 pub use codes::{Code, Finding, in_order, note};
 pub use contents::{copy, place_in, under};
 pub use names::{is_definition, is_group_name, is_heading_name};
-pub use rows::{Group, Row};
+pub use rows::{Descriptor, Group, Row};
 pub use scanning::{RowsError, Scan};
 pub use seen::{Bytes, Cell, Sequence};
 pub use spelling::cells;
-pub use writing::{quote, write_group};
+pub use writing::{quote, write_group, write_row};
 
 /// The greatest length of a deposited file.
 pub const LIMIT: usize = 4_194_304;

@@ -2,8 +2,8 @@
 
 ghost use Rattle.std.specs.Prelude.{◌≡◌, ◌↔◌, ◌∷◌, ◌++◌, ℕ, List, IsTrue, IfOk, OnOk, Option, None, IsSome, MatchOption, Contains, map, false};
 ghost use Rattle.ags_rows.specs.declared.codes.Code.TheVariants.{Rule7, Rule19b};
-ghost use Rattle.ags_rows.specs.Findings.{Adds};
-ghost use Rattle.ags_rows.specs.Names.{low_line};
+ghost use Rattle.ags_rows.specs.Collecting.{Adds};
+ghost use Rattle.ags_rows.specs.Bytes.{low_line};
 ghost use Rattle.ags_dict.specs.Entries.{elsewhere};
 ghost use Rattle.ags_check.specs.Places.{place_at};
 ghost use Rattle.ags_check.specs.Placing.{AtNames};

@@ -7,6 +7,6 @@ pub loop-i-preserved : goal.loop-i-preserved
 loop-i-preserved c =
     let group = c.index-found-i.result in
     record {
-      groups = unstated_more same_group group_entries_in group_contents c.args.found.now c.loop-i.i group _ _ _ c.loop-i-test.true c.index-found-i.is c.loop-i.invariant.groups c.in_ok-take_dict.ensures.groups;
-      headings = unstated_more same_heading (heading_entries_in c.args.origin) group_contents c.args.found.now c.loop-i.i group _ _ _ c.loop-i-test.true c.index-found-i.is c.loop-i.invariant.headings c.in_ok-take_dict.ensures.headings;
+      groups = unstated_more same_group group_entries_in group_contents c.args.found.now c.loop-i.i group _ _ _ c.loop-i-test.true c.index-found-i.is c.loop-i.invariant.groups c.in_ok-taken.ensures.groups;
+      headings = unstated_more same_heading (heading_entries_in c.args.origin) group_contents c.args.found.now c.loop-i.i group _ _ _ c.loop-i-test.true c.index-found-i.is c.loop-i.invariant.headings c.in_ok-taken.ensures.headings;
     }

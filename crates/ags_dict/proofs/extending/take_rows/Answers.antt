@@ -13,7 +13,7 @@ loop-i-preserved c =
     let below : c.loop-i.i < length rows = subst (λ (r : List Row). c.loop-i.i < length r) c.as_slice-row-items.ensures c.loop-i-test.true in
     record {
       groups = unstated_more same_group (group_entries c.args.group.now.headings) fields_of rows c.loop-i.i row _ _ _ below is c.loop-i.invariant.groups
-          (rw (c.as_slice-headings.ensures, c.as_slice-cells.ensures) at c.in_ok-take_group_row.ensures);
+          (rw (c.as_slice-names.ensures, c.as_slice-cells.ensures) at c.in_ok-groups.ensures);
       headings = unstated_more same_heading (heading_entries c.args.origin c.args.group.now.headings) fields_of rows c.loop-i.i row _ _ _ below is c.loop-i.invariant.headings
-          (rw (c.as_slice-headings.ensures, c.as_slice-cells.ensures) at c.in_ok-take_heading_row.ensures);
+          (rw (c.as_slice-names.ensures, c.as_slice-cells.ensures) at c.in_ok-headings.ensures);
     }

@@ -1,4 +1,4 @@
-use Rattle.std.proofs.Common.{ℕ, List, [], get_or, arith}
+use Rattle.std.proofs.Common.{ℕ, List, [], arith}
 use Rattle.std.specs.Borrow.{Bor}
 use Rattle.ags_rows.specs.declared.codes.Code.TheVariants.{Rule19b}
 use Rattle.ags_check.specs.Places.{place_at}

@@ -1,5 +1,4 @@
-use Rattle.ags_rows.specs.Findings.{Adds}
-use Rattle.ags_rows.specs.Collecting.{AmongBefore}
+use Rattle.ags_rows.specs.Collecting.{Adds, AmongBefore}
 use Rattle.ags_rows.specs.declared.codes.Code.TheVariants.{Rule19b}
 use Rattle.ags_check.specs.Places.{place_at}
 use Rattle.ags_check.specs.HeaderSteps.{IsMisnamedBy}

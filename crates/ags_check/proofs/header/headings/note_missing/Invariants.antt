@@ -1,6 +1,5 @@
 use Rattle.std.proofs.Common.{◌≡◌, None}
-use Rattle.ags_rows.specs.Findings.{Adds}
-use Rattle.ags_rows.specs.Collecting.{AmongBefore}
+use Rattle.ags_rows.specs.Collecting.{Adds, AmongBefore}
 use Rattle.ags_check.specs.Places.{place_at}
 use Rattle.ags_check.proofs.Naming.{texts, NotesName}
 use Rattle.ags_check.proofs.header.headings.note_missing.Given as goal

@@ -1,0 +1,80 @@
+"""Files for measurements, made of nothing but a size: each has at most that many bytes, and nearly as many."""
+
+
+def row(*fields):
+    return ",".join('"%s"' % field.replace('"', '""') for field in fields) + "\r\n"
+
+
+def group(name, headings, units, types, rows):
+    """A group as it is written, and the empty line after it."""
+    header = row("GROUP", name) + row("HEADING", *headings) + row("UNIT", *units) + row("TYPE", *types)
+    return header + "".join(row("DATA", *fields) for fields in rows) + "\r\n"
+
+
+FRONT = (
+    group("PROJ", ["PROJ_ID", "PROJ_NAME"], ["", ""], ["ID", "X"], [["P7", "North bank"]])
+    + group("TRAN", ["TRAN_ISNO", "TRAN_DLIM", "TRAN_RCON"], [""] * 3, ["X"] * 3, [["1", "|", "+"]])
+    + group("UNIT", ["UNIT_UNIT", "UNIT_DESC"], [""] * 2, ["X"] * 2, [["m", "metre"]])
+    + group("TYPE", ["TYPE_TYPE", "TYPE_DESC"], [""] * 2, ["X"] * 2,
+            [["ID", "Identifier"], ["X", "Text"], ["2DP", "Two decimals"], ["RL", "Record link"]])
+)
+
+
+def largest(size, text_of):
+    """The longest text of text_of(1), text_of(2), .. that has at most `size` bytes."""
+    sample = 1000
+    each = (len(text_of(2 * sample)) - len(text_of(sample))) / sample
+    low, high = 1, int(size / each) + 1
+    while len(text_of(high)) <= size:
+        low, high = high, high + high // 20 + 1
+    low = max(low, high - high // 5 - 1)
+    while len(text_of(low)) > size:
+        low //= 2
+    while low + 1 < high:
+        middle = (low + high) // 2
+        low, high = (middle, high) if len(text_of(middle)) <= size else (low, middle)
+    return text_of(low).encode()
+
+
+def holes(count):
+    return group("LOCA", ["LOCA_ID", "LOCA_STAT"], ["", ""], ["ID", "X"], ([f"BH{n}", "FINAL"] for n in range(count)))
+
+
+def samples(count, link):
+    return group("SAMP", ["LOCA_ID", "SAMP_TOP", "SAMP_REF", "SAMP_LINK"], ["", "m", "", ""], ["ID", "2DP", "X", "RL"],
+                 ([f"BH{n}", "1.50", "S1", link(n)] for n in range(count)))
+
+
+def contents(count):
+    return group("LNMC", ["LOCA_ID", "SAMP_TOP", "SAMP_REF", "SPEC_DPTH", "LNMC_MC"], ["", "m", "", "m", ""],
+                 ["ID", "2DP", "X", "2DP", "X"], ([f"BH{n}", "1.50", "S1", "1.55", "23"] for n in range(count)))
+
+
+def flat(size):
+    """One long group: every row has the same parent."""
+    return largest(size, lambda count: FRONT + holes(count))
+
+
+def deep(size):
+    """Each hole has a sample and each sample a test: three groups below the project, no links."""
+    return largest(size, lambda count: FRONT + holes(count) + samples(count, lambda n: "") + contents(count))
+
+
+def ring(size):
+    """The same, and each sample links to the next one, the last to the first."""
+    def text(count):
+        return FRONT + holes(count) + samples(count, lambda n: f"SAMP|BH{(n + 1) % count}|1.50|S1") + contents(count)
+    return largest(size, text)
+
+
+def broken(size):
+    """Rows without their quotes, one finding each."""
+    return largest(size, lambda count: FRONT + "DATA,BH1,FINAL\r\n" * count)
+
+
+def short(size):
+    """Lines of one byte and a line feed alone: two findings for each two bytes."""
+    return b"x\n" * (size // 2)
+
+
+ALL = [flat, deep, ring, broken, short]

@@ -1,0 +1,90 @@
+-- The groups of a file and their names.
+use Rattle.std.proofs.Common.{◌≡◌, ℕ, Bool, true, false, not, Option, Some, None, List, [], ◌∷◌, map, refl, sym, ap, subst, ◌∙◌, inl, inr}
+use Rattle.std.specs.Prelude.{◌↔◌, ◌||◌, IsTrue, Contains, is_some, option_map, codes, slice_get}
+use Rattle.std.specs.List.{list_any}
+use Rattle.std.specs.Str.{bytes_eq}
+use Rattle.std.proofs.lemmas.Bool.{true≢false, cond-true, cond-false}
+use Rattle.std.proofs.lemmas.Option.{none-some, same_Some, slice_get-map}
+use Rattle.ags_rows.specs.declared.codes.Code.TheVariants.{Rule9, Rule18}
+use Rattle.ags_rows.specs.declared.rows.Group.{Group}
+use Rattle.ags_rows.specs.Collecting.{At}
+use Rattle.ags_rows.specs.Contents.{Contents, group_contents, contents_of, place_in}
+use Rattle.ags_dict.specs.Entries.{Entries, parent_of, is_dict}
+use Rattle.ags_check.specs.Header.{HasGroup, LacksParentGroup}
+use Rattle.ags_check.specs.HeaderPhase.{unknown_code}
+use Rattle.ags_check.specs.Places.{place_at, AreFirst}
+use Rattle.ags_check.proofs.Naming.{contains_at, at_contained}
+use Rattle.ags_check.proofs.HeaderRules.{placed, has_place, place_of}
+
+-- ---- places in a list, and in what is made of it
+
+some_mapped : {X Y : Type 0} (f : X → Y) (o : Option X) (y : Y) → option_map f o ≡ Some y → (x : X) × (o ≡ Some x) × (f x ≡ y)
+some_mapped f None y e = absurd (none-some y e)
+some_mapped f (Some x) y e = (x, refl, same_Some (f x) y e)
+
+pub map_at : {X Y : Type 0} (f : X → Y) (xs : List X) (k : ℕ) (y : Y) → At (map f xs) k y → (x : X) × At xs k x × (f x ≡ y)
+map_at f xs k y at = some_mapped f (slice_get xs k) y (sym (slice_get-map f xs k) ∙ at)
+
+pub at_map : {X Y : Type 0} (f : X → Y) (xs : List X) (k : ℕ) (x : X) → At xs k x → At (map f xs) k (f x)
+at_map f xs k x at = slice_get-map f xs k ∙ ap (option_map f) at
+
+-- ---- the index of names
+
+abbrev pub name_of : Group → List ℕ
+name_of group = group.name
+
+pub contains_name : (groups : List Group) (name : List ℕ) → Contains (map name_of groups) name → HasGroup (contents_of groups) name
+contains_name groups name h =
+    let there = map_at name_of groups h.0 name (at_contained (map name_of groups) name h) in
+    (group_contents there.0, contains_at (contents_of groups) h.0 (group_contents there.0) (at_map group_contents groups h.0 there.0 there.1), there.2)
+
+pub name_contained : (groups : List Group) (name : List ℕ) → HasGroup (contents_of groups) name → Contains (map name_of groups) name
+name_contained groups name h =
+    let there = map_at group_contents groups h.1.0 h.0 (at_contained (contents_of groups) h.0 h.1) in
+    let same : there.0.name ≡ name = ap (λ (c : Contents). c.name) there.2 ∙ h.2 in
+    contains_at (map name_of groups) h.1.0 name (at_map name_of groups h.1.0 there.0 there.1 ∙ ap Some same)
+
+is_some_true : (place : Option ℕ) → is_some place ≡ true → (i : ℕ) × (place ≡ Some i)
+is_some_true None e = absurd (true≢false (sym e))
+is_some_true (Some i) e = (i, refl)
+
+-- the index has a name where a group has it
+pub named : (held : _) (groups : List Group) (name : List ℕ) → AreFirst held (map name_of groups) → IsTrue (is_some (place_at held name)) ↔ HasGroup (contents_of groups) name
+named held groups name first = (
+  λ e. let k = is_some_true (place_at held name) e in contains_name groups name (has_place (map name_of groups) name k.0 (sym (first name) ∙ k.1)),
+  λ h. elim (place_of (place_in (map name_of groups) name)) [
+    | inl k ↦ ap is_some (first name ∙ k.1)
+    | inr none ↦ absurd (placed (map name_of groups) name (name_contained groups name h) none)
+  ],
+)
+
+-- ---- the code of what the dictionary does not know
+
+dict_among : (groups : List Group) → list_any (λ group. bytes_eq group.name (codes "DICT")) groups ≡ list_any is_dict (map group_contents groups)
+dict_among [] = refl
+dict_among (g ∷ groups) = ap (λ (b : Bool). bytes_eq g.name (codes "DICT") || b) (dict_among groups)
+
+pub code_nine : (groups : List Group) (b : Bool) → b ≡ list_any (λ group. bytes_eq group.name (codes "DICT")) groups → b ≡ true → Rule9 ≡ unknown_code (contents_of groups)
+code_nine groups b is e = sym (cond-true (list_any is_dict (map group_contents groups)) Rule9 Rule18 (sym (dict_among groups) ∙ sym is ∙ e))
+
+pub code_eighteen : (groups : List Group) (b : Bool) → b ≡ list_any (λ group. bytes_eq group.name (codes "DICT")) groups → b ≡ false → Rule18 ≡ unknown_code (contents_of groups)
+code_eighteen groups b is e = sym (cond-false (list_any is_dict (map group_contents groups)) Rule9 Rule18 (sym (dict_among groups) ∙ sym is ∙ e))
+
+-- ---- the parent group
+
+not_there : (b : Bool) (There : Type 0) → IsTrue b ↔ There → (There → ⊥) → not b ≡ true
+not_there true There means none = absurd (none (means.0 refl))
+not_there false There means none = refl
+
+is_not_there : (b : Bool) (There : Type 0) → IsTrue b ↔ There → not b ≡ true → There → ⊥
+is_not_there true There means e h = true≢false (sym e)
+is_not_there false There means e h = true≢false (sym (means.1 h))
+
+pub lacks_parent : (entries : Entries) (file : List Contents) (group : Contents) (parent : List ℕ) (b : Bool) → parent_of entries group.name ≡ Some parent
+    → IsTrue b ↔ HasGroup file parent → IsTrue (not b) ↔ LacksParentGroup entries file group
+lacks_parent entries file group parent b is means = (
+  λ e. record { parent = parent; is_parent = is; absent = is_not_there b (HasGroup file parent) means e },
+  λ rule.
+      let same : rule.parent ≡ parent = same_Some rule.parent parent (sym rule.is_parent ∙ is) in
+      not_there b (HasGroup file parent) means (λ h. rule.absent (subst (HasGroup file) (sym same) h)),
+)

@@ -1,0 +1,178 @@
+-- From what is noted of names to the rules of the HEADING row.
+use Rattle.std.proofs.Common.{◌≡◌, ℕ, Bool, true, false, cond, ltb, Option, Some, None, List, length, get_or, refl, sym, ap, subst, ◌∙◌, arith, inl, inr}
+use Rattle.std.specs.Prelude.{◌⊎◌, Contains, IsSome}
+use Rattle.std.specs.List.{position_or_len}
+use Rattle.std.specs.Str.{bytes_eq}
+use Rattle.std.proofs.lemmas.Bool.{true≢false, lt-ltb, cases_lt}
+use Rattle.std.proofs.lemmas.List.Sums.{fails_before_first}
+use Rattle.std.proofs.lemmas.List.Quantifiers.{position-Some}
+use Rattle.std.proofs.lemmas.Option.{none-some}
+use Rattle.std.proofs.lemmas.Slice.Eq.{bytes_eq-Decides}
+use Rattle.ags_rows.specs.declared.codes.Code.{Code}
+use Rattle.ags_rows.specs.declared.codes.Finding.{Finding}
+use Rattle.ags_rows.specs.declared.rows.Group.{Group}
+use Rattle.ags_rows.specs.Collecting.{At, Adds}
+use Rattle.ags_rows.specs.Contents.{place_in, group_contents}
+use Rattle.ags_dict.specs.Entries.{Entries, order_of, keys_of, required_of}
+use Rattle.ags_check.specs.Header.{IsUnknownHeading, IsOvertaken, IsMisplaced, LacksKey, LacksRequired, IsMisnamed}
+use Rattle.ags_check.specs.HeaderSteps.{IsMisnamedBy}
+use Rattle.ags_check.specs.Places.{place_at, AreFirst}
+use Rattle.ags_check.specs.Placing.{AtNames, AtHeading}
+use Rattle.ags_check.proofs.Naming.{contains_at, at_contained, at_heading}
+
+-- ---- whether a name has a place
+
+-- a name of the list has a place
+pub placed : (names : List (List ℕ)) (name : List ℕ) → Contains names name → place_in names name ≡ None → ⊥
+placed names name h none =
+    let test : List ℕ → Bool = λ n. bytes_eq n name in
+    elim (cases_lt h.0 (position_or_len test names)) [
+      | inl lt ↦
+          let fails : bytes_eq (get_or names h.0 name) name ≡ false = fails_before_first test names h.0 name lt in
+          true≢false (sym ((bytes_eq-Decides (get_or names h.0 name) name).1 h.2) ∙ fails)
+      | inr le ↦
+          let found : ltb (position_or_len test names) (length names) ≡ true = lt-ltb (position_or_len test names) (length names) (omega (arith, h.1, le)) in
+          none-some (position_or_len test names) (sym none ∙ ap (λ (b : Bool). cond {A = Option ℕ} b (Some (position_or_len test names)) None) found)
+    ]
+
+pub place_of : (place : Option ℕ) → ((i : ℕ) × (place ≡ Some i)) ⊎ (place ≡ None)
+place_of None = inr refl
+place_of (Some i) = inl (i, refl)
+
+-- a place has the name
+pub has_place : (names : List (List ℕ)) (name : List ℕ) (i : ℕ) → place_in names name ≡ Some i → Contains names name
+has_place names name i e =
+    let h = position-Some (λ n. bytes_eq n name) names i name e in
+    (i, h.0, (bytes_eq-Decides (get_or names i name) name).0 h.1)
+
+pub unplaced : (names : List (List ℕ)) (name : List ℕ) → (Contains names name → ⊥) → place_in names name ≡ None
+unplaced names name absent = elim (place_of (place_in names name)) [
+  | inl h ↦ absurd (absent (has_place names name h.0 h.1))
+  | inr e ↦ e
+]
+
+-- ---- the rules
+
+pub unknown_rule : (entries : Entries) (group : Group) (code : Code) (held : _) (names : List (List ℕ)) (old new : List Finding) → names ≡ group.headings
+    → AreFirst held (order_of entries group.name) → Adds (AtNames group.heading_line code names (λ _ name. place_at held name ≡ None)) old new
+    → Adds (AtHeading code (IsUnknownHeading entries (group_contents group)) group) old new
+unknown_rule entries group code held names old new same first x =
+    at_heading names group code (λ _ name. place_at held name ≡ None) (IsUnknownHeading entries (group_contents group)) old new
+    (λ place name at none. record {
+      stands = subst (λ (l : List (List ℕ)). Contains l name) same (contains_at names place name at);
+      unknown = λ h. placed (order_of entries group.name) name h (sym (first name) ∙ none);
+    })
+    (λ name rule.
+    let h = subst (λ (l : List (List ℕ)). Contains l name) (sym same) rule.stands in
+    (h.0, at_contained names name h, first name ∙ unplaced (order_of entries group.name) name rule.unknown))
+    x
+
+overtaken_as : (rank other : List ℕ → Option ℕ) (names : List (List ℕ)) (place : ℕ) (name : List ℕ) → ((n : List ℕ) → rank n ≡ other n)
+    → IsOvertaken rank names place name → IsOvertaken other names place name
+overtaken_as rank other names place name same o = record {
+  earlier = o.earlier;
+  other = o.other;
+  before = o.before;
+  other_stands = o.other_stands;
+  this_rank = o.this_rank;
+  other_rank = o.other_rank;
+  ranked = sym (same name) ∙ o.ranked;
+  other_ranked = sym (same o.other) ∙ o.other_ranked;
+  behind = o.behind;
+}
+
+pub misplaced_rule : (entries : Entries) (group : Group) (code : Code) (held : _) (names : List (List ℕ)) (old new : List Finding) → names ≡ group.headings
+    → AreFirst held (order_of entries group.name) → Adds (AtNames group.heading_line code names (IsOvertaken (place_at held) names)) old new
+    → Adds (AtHeading code (IsMisplaced entries (group_contents group)) group) old new
+misplaced_rule entries group code held names old new same first x =
+    let rank = place_in (order_of entries group.name) in
+    at_heading names group code (IsOvertaken (place_at held) names) (IsMisplaced entries (group_contents group)) old new
+    (λ place name at o. record {
+      place = place;
+      stands = subst (λ (l : List (List ℕ)). At l place name) same at;
+      overtaken = subst (λ (l : List (List ℕ)). IsOvertaken rank l place name) same (overtaken_as (place_at held) rank names place name first o);
+    })
+    (λ name rule. (
+      rule.place,
+      subst (λ (l : List (List ℕ)). At l rule.place name) (sym same) rule.stands,
+      overtaken_as rank (place_at held) names rule.place name (λ n. sym (first n)) (subst (λ (l : List (List ℕ)). IsOvertaken rank l rule.place name) (sym same) rule.overtaken),
+    ))
+    x
+
+-- a heading of the list that is not in the row
+lacking : (group : Group) (code : Code) (held : _) (names listed : List (List ℕ)) (Lacks : List ℕ → Type 0) (old new : List Finding) → names ≡ listed
+    → AreFirst held group.headings → ((name : List ℕ) → Contains listed name → (Contains group.headings name → ⊥) → Lacks name)
+    → ((name : List ℕ) → Lacks name → Contains listed name × (Contains group.headings name → ⊥))
+    → Adds (AtNames group.heading_line code names (λ _ name. place_at held name ≡ None)) old new → Adds (AtHeading code Lacks group) old new
+lacking group code held names listed Lacks old new same first to from x =
+    at_heading names group code (λ _ name. place_at held name ≡ None) Lacks old new
+    (λ place name at none.
+    to name (subst (λ (l : List (List ℕ)). Contains l name) same (contains_at names place name at))
+    (λ h. placed group.headings name h (sym (first name) ∙ none)))
+    (λ name rule.
+    let k = from name rule in
+    let h = subst (λ (l : List (List ℕ)). Contains l name) (sym same) k.0 in
+    (h.0, at_contained names name h, first name ∙ unplaced group.headings name k.1))
+    x
+
+pub key_rule : (entries : Entries) (group : Group) (code : Code) (held : _) (names : List (List ℕ)) (old new : List Finding) → names ≡ keys_of entries group.name
+    → AreFirst held group.headings → Adds (AtNames group.heading_line code names (λ _ name. place_at held name ≡ None)) old new
+    → Adds (AtHeading code (LacksKey entries (group_contents group)) group) old new
+key_rule entries group code held names old new same first x =
+    lacking group code held names (keys_of entries group.name) (LacksKey entries (group_contents group)) old new same first
+    (λ name h none. record { key = h; absent = none })
+    (λ name rule. (rule.key, rule.absent))
+    x
+
+pub required_rule : (entries : Entries) (group : Group) (code : Code) (held : _) (names : List (List ℕ)) (old new : List Finding) → names ≡ required_of entries group.name
+    → AreFirst held group.headings → Adds (AtNames group.heading_line code names (λ _ name. place_at held name ≡ None)) old new
+    → Adds (AtHeading code (LacksRequired entries (group_contents group)) group) old new
+required_rule entries group code held names old new same first x =
+    lacking group code held names (required_of entries group.name) (LacksRequired entries (group_contents group)) old new same first
+    (λ name h none. record { required = h; absent = none })
+    (λ name rule. (rule.required, rule.absent))
+    x
+
+some_place : (place : Option ℕ) → IsSome place → (i : ℕ) × (place ≡ Some i)
+some_place None h = absurd (true≢false (sym h))
+some_place (Some i) h = (i, refl)
+
+some_from : (place : Option ℕ) (i : ℕ) → place ≡ Some i → IsSome place
+some_from None i e = absurd (none-some i e)
+some_from (Some j) i e = refl
+
+has_some : (names : List (List ℕ)) (name : List ℕ) → Contains names name → IsSome (place_in names name)
+has_some names name h = elim (place_of (place_in names name)) [
+  | inl k ↦ some_from (place_in names name) k.0 k.1
+  | inr e ↦ absurd (placed names name h e)
+]
+
+pub misnamed_rule : (given entries : Entries) (group : Group) (code : Code) (held own : _) (names : List (List ℕ)) (old new : List Finding) → names ≡ group.headings
+    → AreFirst held (order_of entries group.name) → AreFirst own (order_of given group.name)
+    → Adds (AtNames group.heading_line code names (λ _ name. IsMisnamedBy (place_at own) (place_at held) entries group.name name)) old new
+    → Adds (AtHeading code (IsMisnamed given entries (group_contents group)) group) old new
+misnamed_rule given entries group code held own names old new same first first_given x =
+    at_heading names group code (λ _ name. IsMisnamedBy (place_at own) (place_at held) entries group.name name) (IsMisnamed given entries (group_contents group)) old new
+    (λ place name at m.
+    let some = some_place (place_at held name) m.known in
+    record {
+      stands = subst (λ (l : List (List ℕ)). Contains l name) same (contains_at names place name at);
+      user_defined = record {
+        known = has_place (order_of entries group.name) name some.0 (sym (first name) ∙ some.1);
+        own = λ h. placed (order_of given group.name) name h (sym (first_given name) ∙ m.own);
+      };
+      other_name = m.other_name;
+      nowhere_else = m.nowhere_else;
+    })
+    (λ name rule.
+    let h = subst (λ (l : List (List ℕ)). Contains l name) (sym same) rule.stands in (
+      h.0,
+      at_contained names name h,
+      record {
+        known = subst IsSome (sym (first name)) (has_some (order_of entries group.name) name rule.user_defined.known);
+        own = first_given name ∙ unplaced (order_of given group.name) name rule.user_defined.own;
+        other_name = rule.other_name;
+        nowhere_else = rule.nowhere_else;
+      },
+    ))
+    x

@@ -1,0 +1,86 @@
+-- The place of a heading in a group's order.
+use Rattle.std.proofs.Common.{◌≡◌, ℕ, zero, suc, ◌+◌, ◌<◌, ◌≤◌, Bool, true, false, cond, not, eqb, ltb, List, [], ◌∷◌, ◌++◌, length, map, Option, Some, None, position, slice_get, refl, sym, ap, ◌∙◌, inl, inr, arith, add-zero, ◌&&◌}
+use Rattle.std.specs.List.{find, filter, position_or_len}
+use Rattle.std.specs.Option.{option_and_then, option_or}
+use Rattle.std.specs.Str.{bytes_eq}
+use Rattle.std.proofs.lemmas.Bool.{cases_Bool, cases_lt, lt-ltb, le-ltb, ne_eqb, eq-eqb}
+use Rattle.std.proofs.lemmas.List.{length-map, length-append, map-append, append-nil}
+use Rattle.std.proofs.lemmas.List.Elements.{filter-append}
+use Rattle.std.proofs.lemmas.List.Sums.{prefix_len-le-length}
+use Rattle.std.proofs.lemmas.List.Folds.{position_or_len_push, find_at}
+use Rattle.std.proofs.lemmas.Option.{slice_get_past}
+use Rattle.ags_rows.specs.Contents.{place_in}
+use Rattle.ags_dict.specs.declared.entries.HeadingEntry.{HeadingEntry}
+use Rattle.ags_dict.specs.Entries.{heading_of, of_group}
+use Rattle.ags_dict.specs.Index.{is_named}
+use Rattle.ags_dict.proofs.Held.{same_bytes}
+
+place_map : {X Y : Type 0} (f : X → Y) (p : Y → Bool) (xs : List X) → position_or_len p (map f xs) ≡ position_or_len (λ x. p (f x)) xs
+place_map f p [] = refl
+place_map f p (x ∷ xs) = rw (place_map f p xs) refl
+
+-- the first that passes is found by its place
+position_leads : {X : Type 0} (p : X → Bool) (xs : List X) → option_and_then (slice_get xs) (position p xs) ≡ find p xs
+position_leads p xs =
+    let n = position_or_len p xs in
+    elim (cases_lt n (length xs)) [
+      | inl lt ↦ ap (λ (b : Bool). option_and_then (slice_get xs) (cond b (Some n) None)) (lt-ltb n (length xs) lt) ∙ sym (find_at p xs)
+      | inr le ↦ ap (λ (b : Bool). option_and_then (slice_get xs) (cond b (Some n) None)) (le-ltb n (length xs) le) ∙ sym (slice_get_past xs n le) ∙ sym (find_at p xs)
+    ]
+
+pub rank_leads : (entries : List HeadingEntry) (heading : List ℕ) → option_and_then (slice_get entries) (place_in (map heading_of entries) heading) ≡ find (is_named heading) entries
+rank_leads entries heading =
+    rw (place_map heading_of (λ h. bytes_eq h heading) entries, length-map entries heading_of) (position_leads (is_named heading) entries)
+
+-- the place n of a list of m items, if it has one
+abbrev at : ℕ → ℕ → Option ℕ
+at n m = cond (ltb n m) (Some n) None
+
+at_lt : (n m : ℕ) → n < m → at n m ≡ Some n
+at_lt n m lt = rw (lt-ltb n m lt) refl
+
+at_le : (n m : ℕ) → m ≤ n → at n m ≡ None
+at_le n m le = rw (le-ltb n m le) refl
+
+position_push : {X : Type 0} (p : X → Bool) (xs : List X) (y : X) → position p (xs ++ y ∷ []) ≡ option_or (position p xs) (cond (p y) (Some (length xs)) None)
+position_push p xs y =
+    let n = position_or_len p xs in
+    let m = length xs in
+    let longer : length (xs ++ y ∷ []) ≡ m + 1 = length-append xs (y ∷ []) in
+    let here : position_or_len p (xs ++ y ∷ []) ≡ cond (eqb n m) (m + cond (p y) 0 1) n = position_or_len_push p xs y in
+    let is : position p (xs ++ y ∷ []) ≡ at (cond (eqb n m) (m + cond (p y) 0 1) n) (m + 1) =
+    ap (λ (k : ℕ). at k (length (xs ++ y ∷ []))) here ∙ ap (λ (k : ℕ). at (cond (eqb n m) (m + cond (p y) 0 1) n) k) longer in
+    elim (cases_lt n m) [
+      | inl lt ↦
+          let apart : eqb n m ≡ false = ne_eqb n m (λ e. omega (arith, lt, e)) in
+          is ∙ ap (λ (b : Bool). at (cond b (m + cond (p y) 0 1) n) (m + 1)) apart ∙ at_lt n (m + 1) (omega (arith, lt))
+          ∙ sym (ap (λ (o : Option ℕ). option_or o (cond (p y) (Some m) None)) (at_lt n m lt))
+      | inr le ↦
+          let same : n ≡ m = let most : n ≤ m = prefix_len-le-length (λ x. not (p x)) xs in omega (arith, le, most) in
+          let none : option_or (position p xs) (cond (p y) (Some m) None) ≡ cond (p y) (Some m) None = ap (λ (o : Option ℕ). option_or o (cond (p y) (Some m) None)) (at_le n m le) in
+          let all : position p (xs ++ y ∷ []) ≡ at (m + cond (p y) 0 1) (m + 1) = is ∙ ap (λ (b : Bool). at (cond b (m + cond (p y) 0 1) n) (m + 1)) (eq-eqb n m same) in
+          elim (cases_Bool (p y)) [
+            | inl t ↦ all ∙ ap (λ (b : Bool). at (m + cond b 0 1) (m + 1)) t ∙ rw add-zero (at_lt m (m + 1) (omega arith)) ∙ sym (none ∙ ap (λ (b : Bool). cond b (Some m) None) t)
+            | inr f ↦ all ∙ ap (λ (b : Bool). at (m + cond b 0 1) (m + 1)) f ∙ at_le (m + 1) (m + 1) (omega arith) ∙ sym (none ∙ ap (λ (b : Bool). cond b (Some m) None) f)
+          ]
+    ]
+
+-- one more heading
+pub rank_push : (headings : List (List ℕ)) (heading q : List ℕ) → place_in (headings ++ heading ∷ []) q ≡ option_or (place_in headings q) (cond (bytes_eq heading q) (Some (length headings)) None)
+rank_push headings heading q = position_push (λ h. bytes_eq h q) headings heading
+
+or_none : (o : Option ℕ) → option_or o None ≡ o
+or_none None = refl
+or_none (Some n) = refl
+
+-- the orders of groups after one more entry
+pub ordered : (entries : List HeadingEntry) (e : HeadingEntry) (g h : List ℕ) (rank : ℕ) → rank ≡ length (filter (of_group e.group) entries)
+    → place_in (map heading_of (filter (of_group g) (entries ++ e ∷ []))) h
+    ≡ option_or (place_in (map heading_of (filter (of_group g) entries)) h) (cond (bytes_eq e.group g && bytes_eq e.heading h) (Some rank) None)
+ordered entries e g h rank is = elim (cases_Bool (bytes_eq e.group g)) [
+  | inl t ↦
+      let at_g : rank ≡ length (map heading_of (filter (of_group g) entries)) =
+      is ∙ ap (λ (k : List ℕ). length (filter (of_group k) entries)) (same_bytes e.group g t) ∙ sym (length-map (filter (of_group g) entries) heading_of) in
+      rw (filter-append (of_group g) entries (e ∷ []), t, map-append heading_of (filter (of_group g) entries) (e ∷ []), at_g) (rank_push (map heading_of (filter (of_group g) entries)) e.heading h)
+  | inr f ↦ rw (filter-append (of_group g) entries (e ∷ []), f, append-nil (filter (of_group g) entries)) (sym (or_none _))
+]

@@ -1,0 +1,101 @@
+//! The entries for groups.
+
+ghost use Rattle.std.specs.Prelude.{◌≡◌, [], ◌∷◌, ◌++◌, IfOk, option_copied, slice_get};
+ghost use Rattle.std.specs.List.{find};
+ghost use Rattle.ags_dict.specs.Entries.{same_group, with_unstated};
+ghost use Rattle.ags_dict.specs.Index.{is_for};
+
+use crate::entries::GroupEntry;
+use crate::places::Places;
+use ags_rows::copy;
+use std::alloc::{AllocError, Global};
+use std::marker::Model;
+
+/// The entries for groups in their order, found by the group's name.
+#[derive(Drop)]
+pub struct GroupEntries {
+    entries: Vec<GroupEntry>,
+    by_name: Places,
+}
+
+impl Model for GroupEntries {
+    ghost use Rattle.std.specs.Prelude.{List};
+    ghost use Rattle.ags_dict.specs.declared.entries.GroupEntry.{GroupEntry};
+
+    ghost Value = { List GroupEntry };
+
+    ghost use Rattle.ags_dict.specs.Index.{FindsGroups};
+
+    ghost view = { λ g. g.entries.items };
+
+    ghost invariant = { λ g. FindsGroups g.entries.items g.by_name };
+}
+
+impl GroupEntries {
+    /// No entries.
+    pub fn new(alloc: Global) -> GroupEntries
+        ensures { result ≡ [] }
+    {
+        GroupEntries {
+            entries: Vec::new(alloc),
+            by_name: Places::new(alloc),
+        }
+    }
+
+    /// The entries in their order.
+    pub fn as_slice(&self) -> &[GroupEntry]
+        ensures { result.now ≡ self.now }
+    {
+        self.entries.as_slice()
+    }
+
+    /// The entry at a place.
+    fn at(&self, place: usize) -> Option<&GroupEntry>
+        ensures { option_copied result ≡ slice_get self.now place }
+    {
+        self.entries.get(place)
+    }
+
+    /// The group's entry.
+    pub fn find(&self, group: &[u8]) -> Option<&GroupEntry>
+        ensures { option_copied result ≡ find (is_for group.now) self.now }
+    {
+        self.at(self.by_name.nth(group, 0)?)
+    }
+
+    /// The entries, and one more.
+    pub fn with(self, alloc: Global, entry: GroupEntry) -> Result<GroupEntries, AllocError>
+        ensures { IfOk result (λ entries. entries ≡ self ++ entry ∷ []) }
+    {
+        let GroupEntries {
+            mut entries,
+            mut by_name,
+        } = self;
+        by_name.note(alloc, entry.group.as_slice(), entries.len())?;
+        entries.push(entry)?;
+        Ok(GroupEntries { entries, by_name })
+    }
+
+    /// The entries, and one more unless its group has one.
+    pub fn with_unstated(self, alloc: Global, entry: GroupEntry) -> Result<GroupEntries, AllocError>
+        ensures { IfOk result (λ entries. entries ≡ with_unstated same_group self (entry ∷ [])) }
+    {
+        if self.find(entry.group.as_slice()).is_some() {
+            return Ok(self);
+        }
+        self.with(alloc, entry)
+    }
+
+    /// The same entries.
+    pub fn copied(&self, alloc: Global) -> Result<GroupEntries, AllocError>
+        ensures { IfOk result (λ entries. entries ≡ self.now) }
+    {
+        let mut copied = GroupEntries::new(alloc);
+        for entry in self.entries.iter() {
+            let group = copy(alloc, entry.group.as_slice())?;
+            let parent = copy(alloc, entry.parent.as_slice())?;
+            copied = copied.with(alloc, GroupEntry { group, parent })?;
+        }
+        Ok(copied)
+    }
+}

@@ -1,0 +1,162 @@
+//! The entries for headings of groups.
+
+ghost use Rattle.std.specs.Prelude.{◌≡◌, [], ◌∷◌, ◌++◌, IfOk, option_copied, slice_get, map, not, ◌&&◌};
+ghost use Rattle.std.specs.List.{filter, find, list_any};
+ghost use Rattle.ags_rows.specs.Contents.{place_in};
+ghost use Rattle.ags_dict.specs.Entries.{same_heading, with_unstated, of_group, heading_of};
+ghost use Rattle.ags_dict.specs.Index.{is_named, is_of_other, is_heading};
+
+use crate::entries::HeadingEntry;
+use crate::places::{Places, Ranks};
+use ags_rows::copy;
+use std::alloc::{AllocError, Global};
+use std::marker::Model;
+
+/// The entries for headings in their order, found by group, by heading, and by both.
+#[derive(Drop)]
+pub struct HeadingEntries {
+    entries: Vec<HeadingEntry>,
+    by_group: Places,
+    by_heading: Places,
+    ranks: Ranks,
+}
+
+impl Model for HeadingEntries {
+    ghost use Rattle.std.specs.Prelude.{List};
+    ghost use Rattle.ags_dict.specs.declared.entries.HeadingEntry.{HeadingEntry};
+
+    ghost Value = { List HeadingEntry };
+
+    ghost use Rattle.ags_dict.specs.Index.{FindsHeadings};
+
+    ghost view = { λ h. h.entries.items };
+
+    ghost invariant = { λ h. FindsHeadings h.entries.items h.by_group h.by_heading h.ranks };
+}
+
+impl HeadingEntries {
+    /// No entries.
+    pub fn new(alloc: Global) -> HeadingEntries
+        ensures { result ≡ [] }
+    {
+        HeadingEntries {
+            entries: Vec::new(alloc),
+            by_group: Places::new(alloc),
+            by_heading: Places::new(alloc),
+            ranks: Ranks::new(alloc),
+        }
+    }
+
+    /// The entry at a place.
+    fn at(&self, place: usize) -> Option<&HeadingEntry>
+        ensures { option_copied result ≡ slice_get self.now place }
+    {
+        self.entries.get(place)
+    }
+
+    /// The group's entries in their order.
+    pub fn of_group(&self, alloc: Global, group: &[u8]) -> Result<Vec<&HeadingEntry>, AllocError>
+        ensures { IfOk result (λ found. map (λ e. e.now) found.items ≡ filter (of_group group.now) self.now) }
+    {
+        let mut found = Vec::new(alloc);
+        for place in self.by_group.of(group) {
+            if let Some(entry) = self.at(*place) {
+                found.push(entry)?;
+            }
+        }
+        Ok(found)
+    }
+
+    /// The place of a heading in the order of its group.
+    pub fn place_in_order(&self, group: &[u8], heading: &[u8]) -> Option<usize>
+        ensures { result ≡ place_in (map heading_of (filter (of_group group.now) self.now)) heading.now }
+    {
+        self.ranks.of(group, heading)
+    }
+
+    /// The entry for a heading of a group.
+    pub fn find(&self, group: &[u8], heading: &[u8]) -> Option<&HeadingEntry>
+        ensures { option_copied result ≡ find (is_heading group.now heading.now) self.now }
+    {
+        let rank = self.ranks.of(group, heading)?;
+        self.at(self.by_group.nth(group, rank)?)
+    }
+
+    /// Whether the entry at a place is for another group.
+    fn is_of_other(&self, place: usize, group: &[u8]) -> bool
+        ensures { result ≡ is_of_other self.now group.now place }
+    {
+        match self.at(place) {
+            Some(entry) => entry.group.as_slice() != group,
+            None => false,
+        }
+    }
+
+    /// Whether another group has a heading of this name.
+    pub fn elsewhere(&self, group: &[u8], heading: &[u8]) -> bool
+        ensures { result ≡ list_any (λ e. is_named heading.now e && not (of_group group.now e)) self.now }
+    {
+        for place in self.by_heading.of(heading) {
+            if self.is_of_other(*place, group) {
+                return true;
+            }
+        }
+        false
+    }
+
+    /// The entries, and one more.
+    pub fn with(self, alloc: Global, entry: HeadingEntry) -> Result<HeadingEntries, AllocError>
+        ensures { IfOk result (λ entries. entries ≡ self ++ entry ∷ []) }
+    {
+        let HeadingEntries {
+            mut entries,
+            mut by_group,
+            mut by_heading,
+            mut ranks,
+        } = self;
+        let group = entry.group.as_slice();
+        let heading = entry.heading.as_slice();
+        ranks.note(alloc, group, heading, by_group.of(group).len())?;
+        by_group.note(alloc, group, entries.len())?;
+        by_heading.note(alloc, heading, entries.len())?;
+        entries.push(entry)?;
+        Ok(HeadingEntries {
+            entries,
+            by_group,
+            by_heading,
+            ranks,
+        })
+    }
+
+    /// The entries, and one more unless its group has one for its heading.
+    pub fn with_unstated(
+        self,
+        alloc: Global,
+        entry: HeadingEntry,
+    ) -> Result<HeadingEntries, AllocError>
+        ensures { IfOk result (λ entries. entries ≡ with_unstated same_heading self (entry ∷ [])) }
+    {
+        let group = entry.group.as_slice();
+        if self.find(group, entry.heading.as_slice()).is_some() {
+            return Ok(self);
+        }
+        self.with(alloc, entry)
+    }
+
+    /// The same entries.
+    pub fn copied(&self, alloc: Global) -> Result<HeadingEntries, AllocError>
+        ensures { IfOk result (λ entries. entries ≡ self.now) }
+    {
+        let mut copied = HeadingEntries::new(alloc);
+        for entry in self.entries.iter() {
+            let entry = HeadingEntry {
+                group: copy(alloc, entry.group.as_slice())?,
+                heading: copy(alloc, entry.heading.as_slice())?,
+                status: copy(alloc, entry.status.as_slice())?,
+                origin: entry.origin,
+            };
+            copied = copied.with(alloc, entry)?;
+        }
+        Ok(copied)
+    }
+}

@@ -1,0 +1,120 @@
+//! Where texts stand in a list.
+
+ghost use Rattle.std.specs.Prelude.{◌≡◌, ℕ, List, [], ◌∷◌, ◌++◌, OnOk, slice_get, ◌&&◌, Some, None, if◌then◌else◌};
+ghost use Rattle.std.specs.Option.{option_or};
+ghost use Rattle.std.specs.Str.{bytes_eq};
+ghost use Rattle.ags_dict.specs.Index.{places_at, rank_at};
+
+use std::alloc::{AllocError, Global};
+use std::collections::BTreeMap;
+
+/// For each text, the places of a list at which it stands, rising.
+#[derive(Drop)]
+pub struct Places {
+    pub(crate) held: BTreeMap<Vec<u8>, Vec<usize>>,
+}
+
+impl Places {
+    /// No places.
+    pub fn new(alloc: Global) -> Places
+        ensures { (text : List ℕ) → places_at result text ≡ [] }
+    {
+        Places {
+            held: BTreeMap::new(alloc),
+        }
+    }
+
+    /// The places of a text.
+    pub fn of(&self, text: &[u8]) -> &[usize]
+        ensures { result.now ≡ places_at self.now text.now }
+    {
+        match self.held.get(text) {
+            Some(places) => places.as_slice(),
+            None => &[],
+        }
+    }
+
+    /// The n-th place of a text, counted from 0.
+    pub fn nth(&self, text: &[u8], n: usize) -> Option<usize>
+        ensures { result ≡ slice_get (places_at self.now text.now) n }
+    {
+        self.of(text).get(n).copied()
+    }
+
+    /// Notes one more place of a text.
+    pub fn note(&mut self, alloc: Global, text: &[u8], place: usize) -> Result<(), AllocError>
+        ensures { OnOk result ((other : List ℕ) → places_at self.new other
+            ≡ (if bytes_eq text.now other then places_at self.old other ++ place ∷ [] else places_at self.old other)) }
+    {
+        let mut places = match self.held.remove(text) {
+            Some(places) => places,
+            None => Vec::new(alloc),
+        };
+        places.push(place)?;
+        let text = Vec::from_slice(alloc, text)?;
+        self.held.insert(text, places)?;
+        Ok(())
+    }
+}
+
+/// For each heading of a group, its place in the group's order.
+#[derive(Drop)]
+pub struct Ranks {
+    pub(crate) held: BTreeMap<Vec<u8>, BTreeMap<Vec<u8>, usize>>,
+}
+
+impl Ranks {
+    /// No headings.
+    pub fn new(alloc: Global) -> Ranks
+        ensures { (group heading : List ℕ) → rank_at result group heading ≡ None }
+    {
+        Ranks {
+            held: BTreeMap::new(alloc),
+        }
+    }
+
+    /// The place of a heading in its group's order.
+    pub fn of(&self, group: &[u8], heading: &[u8]) -> Option<usize>
+        ensures { result ≡ rank_at self.now group.now heading.now }
+    {
+        self.held.get(group)?.get(heading).copied()
+    }
+
+    /// Notes the place of a heading in its group's order, unless one is noted.
+    pub fn note(
+        &mut self,
+        alloc: Global,
+        group: &[u8],
+        heading: &[u8],
+        rank: usize,
+    ) -> Result<(), AllocError>
+        ensures { OnOk result ((g h : List ℕ) → rank_at self.new g h
+            ≡ option_or (rank_at self.old g h) (if bytes_eq group.now g && bytes_eq heading.now h then Some rank else None)) }
+    {
+        if self.of(group, heading).is_none() {
+            self.put(alloc, group, heading, rank)?;
+        }
+        Ok(())
+    }
+
+    /// Puts the place of a heading in its group's order.
+    fn put(
+        &mut self,
+        alloc: Global,
+        group: &[u8],
+        heading: &[u8],
+        rank: usize,
+    ) -> Result<(), AllocError>
+        ensures { OnOk result ((g h : List ℕ) → rank_at self.new g h
+            ≡ (if bytes_eq group.now g && bytes_eq heading.now h then Some rank else rank_at self.old g h)) }
+    {
+        let mut of_group = match self.held.remove(group) {
+            Some(of_group) => of_group,
+            None => BTreeMap::new(alloc),
+        };
+        of_group.insert(Vec::from_slice(alloc, heading)?, rank)?;
+        let group = Vec::from_slice(alloc, group)?;
+        self.held.insert(group, of_group)?;
+        Ok(())
+    }
+}

@@ -1,0 +1,124 @@
+//! Reading a dictionary.
+
+ghost use Rattle.std.specs.Prelude.{◌≡◌, ◌≢◌, ◌≤◌, List, [], length, IfOk, IsErrOf};
+ghost use Rattle.std.specs.List.{list_any};
+ghost use Rattle.std.specs.Str.{bytes_eq};
+ghost use Rattle.ags_rows.specs.declared.codes.Finding.{Finding};
+ghost use Rattle.ags_rows.specs.Contents.{group_contents, contents_of};
+ghost use Rattle.ags_rows.specs.Findings.{LooseFindings};
+ghost use Rattle.ags_dict.specs.declared.reading.DictError.TheVariants.{NoMemory};
+ghost use Rattle.ags_dict.specs.Entries.{has_dict, has_dict_headings, is_incomplete, lacks_heading};
+ghost use Rattle.ags_dict.specs.Reading.{IsDictionary, LacksDict, LacksHeading};
+
+use crate::dictionary::Dictionary;
+use crate::entries::Origin;
+use crate::extending::{is_dict, take_contents};
+use ags_rows::{Cell, Finding, Group, RowsError, Scan, Sequence};
+use std::alloc::{AllocError, Global};
+use std::fmt;
+use thiserror::Error;
+
+/// Why bytes are no dictionary.
+#[derive(Drop, Error)]
+pub enum DictError {
+    /// The file has findings, other than of Rules 1 and 2a.
+    #[error("not a dictionary")]
+    NotDictionary(Sequence<Finding>),
+    /// The file has no group DICT.
+    #[error("no group DICT")]
+    NoDict,
+    /// DICT lacks DICT_TYPE, DICT_GRP, DICT_HDNG, DICT_STAT or DICT_PGRP.
+    #[error("a heading of DICT is missing")]
+    MissingHeading,
+    #[error("out of memory")]
+    NoMemory,
+}
+
+impl fmt::Debug for DictError {
+    fn fmt<W: fmt::Write>(&self, f: &mut fmt::Formatter<W>) -> fmt::Result {
+        write!(f, "{self}")
+    }
+}
+
+impl From<AllocError> for DictError {
+    ghost from_gives = { λ _ e. e ≡ NoMemory };
+
+    fn from(_e: AllocError) -> DictError {
+        DictError::NoMemory
+    }
+}
+
+/// Whether the file has a group DICT.
+fn has_dict(groups: &[Group]) -> bool
+    ensures { result ≡ has_dict (contents_of groups.now) }
+{
+    for (i, group) in groups.iter().enumerate() {
+        if is_dict(group) {
+            return true;
+        }
+    }
+    false
+}
+
+/// Whether a HEADING row has a heading.
+fn has(headings: &[Cell], wanted: &[u8]) -> bool
+    ensures { result ≡ list_any (λ h. bytes_eq h wanted.now) headings.now }
+{
+    headings.iter().any(|h| h.as_slice() == wanted)
+}
+
+/// Whether a HEADING row has the headings that make entries.
+fn has_dict_headings(headings: &[Cell]) -> bool
+    ensures { result ≡ has_dict_headings headings.now }
+{
+    has(headings, b"DICT_TYPE")
+        && has(headings, b"DICT_GRP")
+        && has(headings, b"DICT_HDNG")
+        && has(headings, b"DICT_STAT")
+        && has(headings, b"DICT_PGRP")
+}
+
+/// Whether the group is DICT and lacks a heading that makes entries.
+fn is_incomplete(group: &Group) -> bool
+    ensures { result ≡ is_incomplete (group_contents group.now) }
+{
+    is_dict(group) && !has_dict_headings(group.headings.as_slice())
+}
+
+/// Whether DICT lacks a heading that makes entries.
+fn lacks_heading(groups: &[Group]) -> bool
+    ensures { result ≡ lacks_heading (contents_of groups.now) }
+{
+    for (i, group) in groups.iter().enumerate() {
+        if is_incomplete(group) {
+            return true;
+        }
+    }
+    false
+}
+
+impl Dictionary {
+    /// The dictionary that a file is.
+    pub fn read(alloc: Global, bytes: &[u8]) -> Result<Dictionary, DictError>
+        requires { length bytes.now ≤ 67108864 }
+        ensures entries { IfOk result (λ dictionary. IsDictionary bytes.now dictionary) }
+        ensures findings { (found : List Finding) → IsErrOf result (DictError.NotDictionary found) → LooseFindings bytes.now found × (found ≢ []) }
+        ensures no_dict { IsErrOf result DictError.NoDict → LacksDict bytes.now }
+        ensures missing_heading { IsErrOf result DictError.MissingHeading → LacksHeading bytes.now }
+    {
+        let scan = match Scan::read_loose(alloc, bytes) {
+            Ok(scan) => scan,
+            Err(RowsError::Findings(found)) => return Err(DictError::NotDictionary(found)),
+            Err(RowsError::NoMemory) => return Err(DictError::NoMemory),
+        };
+        let groups = scan.groups();
+        if !has_dict(groups) {
+            return Err(DictError::NoDict);
+        }
+        if lacks_heading(groups) {
+            return Err(DictError::MissingHeading);
+        }
+        let none = Dictionary::empty(alloc);
+        Ok(take_contents(alloc, Origin::Standard, groups, none)?)
+    }
+}

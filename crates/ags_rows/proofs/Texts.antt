@@ -1,0 +1,55 @@
+-- Texts that are written a part at a time, for those who write a file group by group and row by row.
+use Rattle.std.proofs.Common.{◌≡◌, ℕ, List, [], ◌∷◌, ◌++◌, map, refl, sym, ap, ◌∙◌, append_assoc}
+use Rattle.std.proofs.lemmas.Grind.{flat_map-append}
+use Rattle.std.proofs.lemmas.List.{append-nil, map-append}
+use Rattle.ags_rows.specs.declared.rows.Descriptor.TheVariants as kinds
+use Rattle.ags_rows.specs.Lines.{TextLine, line_bytes}
+use Rattle.ags_rows.specs.Contents.{Contents}
+use Rattle.ags_rows.specs.Writing.{written_row, group_lines, empty_line, written_lines, text_of, written_file}
+
+-- the text of lines, and of more lines
+pub text_append : (front back : List TextLine) → text_of (front ++ back) ≡ text_of front ++ text_of back
+text_append front back = flat_map-append line_bytes front back
+
+pub text_one : (line : TextLine) → text_of (line ∷ []) ≡ line_bytes line
+text_one line = append-nil (line_bytes line)
+
+pub text_push : (front : List TextLine) (line : TextLine) → text_of (front ++ line ∷ []) ≡ text_of front ++ line_bytes line
+text_push front line = text_append front (line ∷ []) ∙ ap (λ (text : List ℕ). text_of front ++ text) (text_one line)
+
+-- the group with these DATA rows
+abbrev pub with_rows : Contents → List (List (List ℕ)) → Contents
+with_rows group rows = record { name = group.name; headings = group.headings; units = group.units; types = group.types; rows = rows }
+
+-- a group is its header rows, and then its DATA rows
+pub group_parts : (group : Contents) (rows : List (List (List ℕ))) → group_lines (with_rows group rows) ≡ group_lines (with_rows group []) ++ map (written_row kinds.Data) rows
+group_parts group rows = refl
+
+-- one DATA row more
+pub group_push : (group : Contents) (rows : List (List (List ℕ))) (cells : List (List ℕ))
+    → text_of (group_lines (with_rows group (rows ++ cells ∷ []))) ≡ text_of (group_lines (with_rows group rows)) ++ line_bytes (written_row kinds.Data cells)
+group_push group rows cells =
+    let header = group_lines (with_rows group []) in
+    let front = map (written_row kinds.Data) rows in
+    let line = written_row kinds.Data cells in
+    ap (λ (lines : List TextLine). text_of (header ++ lines)) (map-append (written_row kinds.Data) rows (cells ∷ []))
+    ∙ ap text_of (sym (append_assoc header front (line ∷ [])))
+    ∙ text_push (header ++ front) line
+
+-- the first group is written as it is
+pub file_one : (group : Contents) → written_file (group ∷ []) ≡ text_of (group_lines group)
+file_one group = refl
+
+-- before each other group there is an empty line
+pub lines_push : (first : Contents) (groups : List Contents) (group : Contents) → written_lines (first ∷ groups ++ group ∷ []) ≡ written_lines (first ∷ groups) ++ empty_line ∷ group_lines group
+lines_push first [] group = refl
+lines_push first (next ∷ groups) group =
+    ap (λ (lines : List TextLine). group_lines first ++ empty_line ∷ lines) (lines_push next groups group)
+    ∙ sym (append_assoc (group_lines first) (empty_line ∷ written_lines (next ∷ groups)) (empty_line ∷ group_lines group))
+
+pub file_push : (first : Contents) (groups : List Contents) (group : Contents)
+    → written_file (first ∷ groups ++ group ∷ []) ≡ (written_file (first ∷ groups) ++ line_bytes empty_line) ++ text_of (group_lines group)
+file_push first groups group =
+    ap text_of (lines_push first groups group)
+    ∙ text_append (written_lines (first ∷ groups)) (empty_line ∷ group_lines group)
+    ∙ sym (append_assoc (written_file (first ∷ groups)) (line_bytes empty_line) (text_of (group_lines group)))

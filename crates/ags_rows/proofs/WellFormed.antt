@@ -1,0 +1,174 @@
+-- What stands in a file without findings is well formed.
+use Rattle.std.proofs.Common.{◌≡◌, ◌≢◌, ℕ, zero, suc, ◌+◌, ◌<◌, ◌≤◌, true, false, List, [], ◌∷◌, ◌++◌, get_or, map, flat_map, refl, sym, ap, subst, ◌∙◌, arith, inl, inr}
+use Rattle.std.specs.Prelude.{Any, nat_le, option_map, replicate}
+use Rattle.std.specs.List.{AllByRecursion, list_any}
+use Rattle.std.proofs.lemmas.Bool.{cases_eq, cases_Bool, eq-eqb, ne_eqb, or_parts, leb-true, leb-false}
+use Rattle.std.proofs.lemmas.Option.{slice_get_within, slice_get-map, slice_get-get_or, get_or_from_slice_get}
+use Rattle.std.proofs.lemmas.List.Folds.{Any-from_list_any}
+use Rattle.ags_rows.specs.declared.rows.FileRow.{FileRow}
+use Rattle.ags_rows.specs.declared.rows.Row.{Row}
+use Rattle.ags_rows.specs.declared.rows.Group.{Group}
+use Rattle.ags_rows.specs.declared.codes.Code.{Code}
+use Rattle.ags_rows.specs.declared.codes.Code.TheVariants as codes
+use Rattle.ags_rows.specs.declared.codes.Finding.{Finding}
+use Rattle.ags_rows.specs.Bytes.{Lacks}
+use Rattle.ags_rows.specs.Spelling.{Spells, IsPiece, doubled, quoted}
+use Rattle.ags_rows.specs.Lines.{TextLine}
+use Rattle.ags_rows.specs.Rows.{descriptor_text, IsRow, RowsFrom}
+use Rattle.ags_rows.specs.Groups.{data_row, rows_of}
+use Rattle.ags_rows.specs.Collecting.{At}
+use Rattle.ags_rows.specs.Stands.{StandsInLines, StandsInOrder}
+use Rattle.ags_rows.specs.Findings.{FirstFound, later_phases, FileGroups}
+use Rattle.ags_rows.specs.Contents.{contents_of, fields_of}
+use Rattle.ags_rows.specs.Writing.{IsPlainByte, ArePlain, StandOnce}
+use Rattle.ags_rows.proofs.Written.{IsPlainGroup}
+
+-- ---- lists whose elements have a property
+
+pub all_from_at : {X : Type 0} (P : X → Type 0) (xs : List X) → ((k : ℕ) (x : X) → At xs k x → P x) → AllByRecursion P xs
+all_from_at P [] h = tt
+all_from_at P (x ∷ xs) h = (h 0 x refl, all_from_at P xs (λ k y at. h (suc k) y at))
+
+all_left : {X : Type 0} (P : X → Type 0) (a b : List X) → AllByRecursion P (a ++ b) → AllByRecursion P a
+all_left P [] b h = tt
+all_left P (x ∷ a) b h = (h.0, all_left P a b h.1)
+
+all_right : {X : Type 0} (P : X → Type 0) (a b : List X) → AllByRecursion P (a ++ b) → AllByRecursion P b
+all_right P [] b h = h
+all_right P (x ∷ a) b h = all_right P a b h.1
+
+-- ---- the bytes of a field are bytes of its line
+
+doubled_back : (P : ℕ → Type 0) (f : List ℕ) → AllByRecursion P (doubled f) → AllByRecursion P f
+doubled_back P [] h = tt
+doubled_back P (b ∷ f) h =
+    elim (cases_eq b 34) [
+      | inl e ↦ let k = rw (eq-eqb b 34 e) at h in (subst P (sym e) k.0, doubled_back P f k.1.1)
+      | inr ne ↦ let k = rw (ne_eqb b 34 ne) at h in (k.0, doubled_back P f k.1)
+    ]
+
+quoted_back : (P : ℕ → Type 0) (f : List ℕ) → AllByRecursion P (quoted f) → AllByRecursion P f
+quoted_back P f h = doubled_back P f (all_left P (doubled f) (34 ∷ []) h.1)
+
+piece_back : (P : ℕ → Type 0) (piece f : List ℕ) → IsPiece piece f → AllByRecursion P piece → AllByRecursion P f
+piece_back P piece f p h =
+    let front = replicate p.before 32 in
+    let back = replicate p.after 32 in
+    let parts = subst (AllByRecursion P) p.bytes h in
+    quoted_back P f (all_right P front (quoted f) (all_left P (front ++ quoted f) back parts))
+
+fields_back : (P : ℕ → Type 0) (t : List ℕ) (fs : List (List ℕ)) → Spells t fs → AllByRecursion P t → AllByRecursion (λ f. AllByRecursion P f) fs
+fields_back P t [] s h = absurd s
+fields_back P t (f ∷ []) s h = (piece_back P t f s h, tt)
+fields_back P t (f ∷ g ∷ fs) s h =
+    let parts = subst (AllByRecursion P) s.2 h in
+    (piece_back P s.0 f s.3 (all_left P s.0 (44 ∷ s.1) parts), fields_back P s.1 (g ∷ fs) s.4 (all_right P s.0 (44 ∷ s.1) parts).1)
+
+fields_whole : (t : List ℕ) (fs : List (List ℕ)) → Spells t fs → AllByRecursion (λ f. Lacks 13 f × Lacks 10 f) fs
+fields_whole t [] s = absurd s
+fields_whole t (f ∷ []) s = ((s.no_return, s.no_feed), tt)
+fields_whole t (f ∷ g ∷ fs) s = ((s.3.no_return, s.3.no_feed), fields_whole s.1 (g ∷ fs) s.4)
+
+-- ASCII
+abbrev pub IsLow : List ℕ → Type 0
+IsLow text = AllByRecursion (λ b. b < 128) text
+
+field_plain : (f : List ℕ) → IsLow f → Lacks 13 f → Lacks 10 f → AllByRecursion IsPlainByte f
+field_plain [] a b c = tt
+field_plain (x ∷ f) a b c = (record { ascii = a.0; no_return = b.0; no_feed = c.0 }, field_plain f a.1 b.1 c.1)
+
+fields_plain : (fs : List (List ℕ)) → AllByRecursion IsLow fs → AllByRecursion (λ f. Lacks 13 f × Lacks 10 f) fs → ArePlain fs
+fields_plain [] a b = tt
+fields_plain (f ∷ fs) a b = (field_plain f a.0 b.0.0 b.0.1, fields_plain fs a.1 b.1)
+
+row_plain : (line : TextLine) (row : FileRow) → IsRow line row → IsLow line.content → ArePlain row.items
+row_plain line row r low =
+    let fields = descriptor_text row.descriptor ∷ row.items in
+    (fields_plain fields (fields_back (λ b. b < 128) line.content fields r low) (fields_whole line.content fields r)).1
+
+-- ---- lines that break nothing are ASCII
+
+none_high : (t : List ℕ) → list_any (λ b. nat_le 128 b) t ≡ false → IsLow t
+none_high [] e = tt
+none_high (b ∷ t) e = let p = or_parts (nat_le 128 b) (list_any (λ b. nat_le 128 b) t) e in (omega (arith, leb-false 128 b p.0), none_high t p.1)
+
+high_is : (t : List ℕ) → list_any (λ b. nat_le 128 b) t ≡ true → Any (λ b. 128 ≤ b) t
+high_is t e = let h = Any-from_list_any (λ b. nat_le 128 b) t e in (h.0, h.1, h.2, h.3, leb-true 128 h.1 h.4)
+
+low_text : (t : List ℕ) → (Any (λ b. 128 ≤ b) t → ⊥) → IsLow t
+low_text t none = elim (cases_Bool (list_any (λ b. nat_le 128 b) t)) [
+  | inl e ↦ absurd (none (high_is t e))
+  | inr e ↦ none_high t e
+]
+
+-- a finding about a line or a file
+abbrev noted : ℕ → Code → Finding
+noted line code = record { line = line; code = code; subject = [] }
+
+low_lines : (lines : List TextLine) → ((f : Finding) → StandsInLines lines f → ⊥) → AllByRecursion (λ l. IsLow l.content) lines
+low_lines lines clear = all_from_at (λ l. IsLow l.content) lines (λ k l at. low_text l.content (λ any. clear (noted (k + 1) codes.Rule1) (k, l, at, inl (any, refl, refl, refl))))
+
+rows_plain : (n : ℕ) (lines : List TextLine) (rows : List FileRow) → RowsFrom n lines rows → AllByRecursion (λ l. IsLow l.content) lines → AllByRecursion (λ r. ArePlain r.items) rows
+rows_plain n [] rows h low = subst (AllByRecursion (λ (r : FileRow). ArePlain r.items)) (sym h) tt
+rows_plain n (l ∷ lines) rows (inl h) low = subst (AllByRecursion (λ (r : FileRow). ArePlain r.items)) (sym h.2) (row_plain l h.0 h.4 low.0, rows_plain (n + 1) lines h.1 h.5 low.1)
+rows_plain n (l ∷ lines) rows (inr h) low = rows_plain (n + 1) lines rows h.1 low.1
+
+-- ---- the groups of plain rows
+
+data_plain : (rows : List Row) → AllByRecursion (λ r. ArePlain r.items) (map data_row rows) → AllByRecursion ArePlain (map fields_of rows)
+data_plain [] h = tt
+data_plain (r ∷ rows) h = (h.0, data_plain rows h.1)
+
+pub contents_plain : (groups : List Group) → AllByRecursion (λ r. ArePlain r.items) (flat_map rows_of groups) → AllByRecursion IsPlainGroup (contents_of groups)
+contents_plain [] h = tt
+contents_plain (g ∷ groups) h =
+    let rest = h.1.1.1.1 in
+    let rows = map data_row g.rows in
+    let P = λ (r : FileRow). ArePlain r.items in (
+      record {
+        name = h.0.0;
+        headings = h.1.0;
+        units = h.1.1.0;
+        types = h.1.1.1.0;
+        rows = data_plain g.rows (all_left P rows (flat_map rows_of groups) rest);
+      },
+      contents_plain groups (all_right P rows (flat_map rows_of groups) rest),
+    )
+
+-- ---- texts that stand once
+
+pub once_apart : (texts : List (List ℕ)) (i j : ℕ) (x y : List ℕ) → StandOnce texts → i < j → At texts i x → At texts j y → x ≡ y → ⊥
+once_apart texts i j x y once lt a b e =
+    once i j x lt (slice_get_within texts j y b) (get_or_from_slice_get texts i x x a ∙ e ∙ sym (get_or_from_slice_get texts j y x b))
+
+pub once_from : (texts : List (List ℕ)) → ((i j : ℕ) (x y : List ℕ) → i < j → At texts i x → At texts j y → x ≡ y → ⊥) → StandOnce texts
+once_from texts apart i j d lt below e =
+    apart i j (get_or texts i d) (get_or texts j d) lt (slice_get-get_or texts i d (omega (arith, lt, below))) (slice_get-get_or texts j d below) e
+
+-- what stands at a place of a list, read off each element
+pub map_at : {X Y : Type 0} (f : X → Y) (xs : List X) (k : ℕ) (x : X) → At xs k x → At (map f xs) k (f x)
+map_at f xs k x e = slice_get-map f xs k ∙ ap (option_map f) e
+
+pub at_map : {X Y : Type 0} (f : X → Y) (xs : List X) (k : ℕ) (y : Y) → At (map f xs) k y → (x : X) × At xs k x × (f x ≡ y)
+at_map f [] k y e = absurd cc
+at_map f (x ∷ xs) zero y e = (x, refl, cc)
+at_map f (x ∷ xs) (suc k) y e = at_map f xs k y e
+
+-- ---- a file without findings
+
+-- nothing stands in the first phase, and the later ones give none
+pub clear_first : (Stands : Finding → Type 0) (later : List (Finding → Type 0)) → FirstFound (Stands ∷ later) [] → ((f : Finding) → Stands f → ⊥) × FirstFound later []
+clear_first Stands later (inl h) = absurd (h.1 refl)
+clear_first Stands later (inr h) = h
+
+some_groups : (rows : List FileRow) (groups : List Group) → flat_map rows_of groups ≡ rows → ((f : Finding) → StandsInOrder rows f → ⊥) → groups ≢ []
+some_groups rows groups cut clear e =
+    let none : rows ≡ [] = sym cut ∙ ap (λ (l : List Group). flat_map rows_of l) e in
+    clear (noted 0 codes.Rule2) (inl (none, refl, refl, refl))
+
+pub read_plain : (bytes : List ℕ) (groups : List Group) → FileGroups bytes groups → (groups ≢ []) × AllByRecursion IsPlainGroup (contents_of groups)
+read_plain bytes groups h =
+    let lines = clear_first (StandsInLines h.0.lines) (later_phases h.0.rows) h.2 in
+    let order = clear_first (StandsInOrder h.0.rows) [] lines.1 in
+    let plain = rows_plain 1 h.0.lines h.0.rows h.1.rows (low_lines h.0.lines lines.0) in
+    (some_groups h.0.rows groups h.3 order.0, contents_plain groups (subst (AllByRecursion (λ (r : FileRow). ArePlain r.items)) (sym h.3) plain))

@@ -1,0 +1,16 @@
+use Rattle.std.proofs.Common.{◌≡◌, ◌+◌, ◌-◌, ◌≤◌, length, vec_len}
+use Rattle.std.specs.Io.KnownBytes.{Consumes}
+use Rattle.ags_rows.specs.declared.TheConstants.{LIMIT}
+use Rattle.groundreg.specs.declared.input.TheConstants.{PIECE}
+use Rattle.groundreg.proofs.input.read_file.Given as goal
+
+-- what was read are the first bytes, and no more than the one after LIMIT
+abbrev pub invariant-reading : goal.invariant-reading
+invariant-reading g l = record {
+  within : length l.bytes.items ≤ LIMIT + 1;
+  wide : vec_len l.piece ≡ PIECE;
+  taken : Consumes (g.R.Read.remaining l.initial.input) (g.R.Read.remaining l.input) l.bytes.items;
+}
+
+abbrev pub decreases-reading : goal.decreases-reading
+decreases-reading g l = LIMIT + 1 - length l.bytes.items

@@ -1,0 +1,5 @@
+pub mod Findings
+pub mod Report
+pub mod Faults
+pub mod Reading
+pub mod Answers

@@ -1,0 +1,37 @@
+//! Checks an AGS4 file on standard input, and prints its findings, or `clean`.
+#![tactic(auto)]
+
+mod check;
+mod fault;
+mod input;
+mod report;
+#[cfg(test)]
+mod tests;
+
+use check::check_stream;
+use fault::Fault;
+use std::env;
+use std::io::ErrorKind;
+use std::process::ExitCode;
+
+/// Refuses a command line that has words. A word that is not UTF-8 is a word.
+fn refuse_words(rt: &HostRuntime) -> Result<(), Fault> {
+    match env::args(rt) {
+        Ok(words) if words.len() <= 1 => Ok(()),
+        Err(error) if error.kind() == ErrorKind::OutOfMemory => Err(Fault::NoMemory),
+        _ => Err(Fault::WordsRefused),
+    }
+}
+
+fn main(rt: HostRuntime) -> ExitCode {
+    let status = match refuse_words(&rt) {
+        Ok(()) => check_stream(
+            rt.alloc(),
+            &mut rt.stdin(),
+            &mut rt.stdout(),
+            &mut rt.stderr(),
+        ),
+        Err(fault) => fault.tell(&mut rt.stderr()),
+    };
+    ExitCode::from(status)
+}

@@ -1,0 +1,79 @@
+//! What is printed for a file.
+
+ghost use Rattle.std.specs.Prelude.{◌≡◌, OnOk, IfOk, ◌++◌};
+ghost use Rattle.groundreg.specs.Faults.{Tells};
+ghost use Rattle.groundreg.specs.Report.{report_of, report_line, shown_byte, shown_subject};
+
+use crate::fault::tell;
+use ags_rows::{Bytes, Finding, Sequence};
+use std::alloc::{AllocError, Global};
+use std::io::Write;
+
+/// The text that is printed for a file, and the status that the run ends with.
+#[derive(Drop)]
+pub struct Report {
+    pub text: Bytes,
+    pub status: u8,
+}
+
+impl Report {
+    /// Prints it, and gives the status.
+    pub fn print<W: Write>(&self, out: &mut W) -> u8
+        ensures { Tells (W.contents out.old) (W.contents out.new) self.now.text self.now.status result }
+    {
+        tell(out, self.text.as_slice(), self.status)
+    }
+}
+
+/// A byte of a subject as it is printed: a control byte as `?`.
+fn shown_byte(byte: u8) -> u8
+    ensures { result ≡ shown_byte byte }
+{
+    if byte.is_ascii_control() { b'?' } else { byte }
+}
+
+/// Appends a subject, or `-` where it is empty.
+fn push_subject(text: &mut Vec<u8>, subject: &[u8]) -> Result<(), AllocError>
+    ensures { OnOk result (text.new.items ≡ text.old.items ++ shown_subject subject.now) }
+{
+    if subject.is_empty() {
+        text.push(b'-')?;
+        return Ok(());
+    }
+    for byte in subject {
+        text.push(shown_byte(*byte))?;
+    }
+    Ok(())
+}
+
+/// Appends the line that reports a finding.
+fn push_line(text: &mut Vec<u8>, finding: &Finding) -> Result<(), AllocError>
+    ensures { OnOk result (text.new.items ≡ text.old.items ++ report_line finding.now) }
+{
+    text.extend_from_slice(finding.code.text())?;
+    write!(text, " {} ", finding.line).map_err(|_| AllocError)?;
+    push_subject(text, finding.subject.as_slice())?;
+    text.push(b'\n')?;
+    Ok(())
+}
+
+/// What is printed for the findings of a file, `clean` where there is none.
+pub fn findings_report(alloc: Global, findings: &[Finding]) -> Result<Report, AllocError>
+    ensures { IfOk result (λ report. report ≡ report_of findings.now) }
+{
+    let mut text = Vec::new(alloc);
+    if findings.is_empty() {
+        text.extend_from_slice(b"clean\n")?;
+        return Ok(Report {
+            text: Sequence::from_vec(text),
+            status: 0,
+        });
+    }
+    for finding in findings {
+        push_line(&mut text, finding)?;
+    }
+    Ok(Report {
+        text: Sequence::from_vec(text),
+        status: 1,
+    })
+}

@@ -1,0 +1,93 @@
+-- The test of each relation of a rule, and the decision of a list of rules.
+use Rattle.std.proofs.Common.{◌≡◌, ◌⊎◌, ℕ, zero, suc, ◌+◌, ◌<◌, List, [], ◌∷◌, length, drop, get_or, Bool, true, false, cond, ◌&&◌, is_none, Option, Some, None, Decides, refl, sym, ap, ◌∙◌, inl, inr}
+use Rattle.std.proofs.lemmas.Bool.{false≢true, cases_Bool}
+use Rattle.std.proofs.lemmas.Bool.Decides.{Decides-and, Decides-like, Decides-or, not_from_Decides}
+use Rattle.std.proofs.lemmas.List.{at_drop_more}
+use Rattle.std.proofs.lemmas.List.Elements.{All-cons, All-nil}
+use Rattle.std.proofs.lemmas.Slice.Eq.{bytes_eq-Decides}
+use Rattle.std.specs.Str.{bytes_eq}
+use Rattle.reg_policy.specs.Decision.{IsFirstMatch, HasEntry, Matches, Meets, MeetsEntry, MeetsRow, decision_of, effect_of, has_entry, is_entry_met, is_met, is_row_met, matches, same_fact, same_verb}
+use Rattle.reg_policy.specs.declared.rule.Entry.{Entry}
+use Rattle.reg_policy.specs.declared.rule.Rule.{Rule}
+use Rattle.reg_policy.specs.declared.subject.Decision.{Decision}
+use Rattle.reg_policy.specs.declared.subject.RowFacts.{RowFacts}
+use Rattle.reg_policy.specs.declared.subject.Subject.{Subject}
+use Rattle.reg_policy.specs.declared.subject.Verb.{Verb}
+use Rattle.reg_policy.specs.declared.subject.Verb.TheVariants.{Deposit, Check, List as Listing, Extract, See}
+
+is_met-Decides : {A : Type 0} (same : A → A → Bool) → ((x y : A) → Decides (same x y) (x ≡ y)) → (o : Option A) (x : A) → Decides (is_met same o x) (Meets o x)
+is_met-Decides same each None x = (λ _. tt, λ _. refl)
+is_met-Decides same each (Some a) x = each a x
+
+same_fact-Decides : (a b : Bool) → Decides (same_fact a b) (a ≡ b)
+same_fact-Decides true true = (λ _. refl, λ _. refl)
+same_fact-Decides true false = (λ e. absurd (false≢true e), λ e. sym e)
+same_fact-Decides false true = (λ e. absurd (false≢true e), λ e. e)
+same_fact-Decides false false = (λ _. refl, λ _. refl)
+
+same_verb-Decides : (v w : Verb) → Decides (same_verb v w) (v ≡ w)
+same_verb-Decides Deposit Deposit = (λ _. refl, λ _. refl)
+same_verb-Decides Check Check = (λ _. refl, λ _. refl)
+same_verb-Decides Listing Listing = (λ _. refl, λ _. refl)
+same_verb-Decides Extract Extract = (λ _. refl, λ _. refl)
+same_verb-Decides See See = (λ _. refl, λ _. refl)
+same_verb-Decides v w = (λ e. absurd (false≢true e), λ e. absurd (cc))
+
+-- the entry at the first place, or further on
+entry_to : (e : Entry) (h c : List ℕ) (hs cs : List (List ℕ)) → ((h ≡ e.heading) × (c ≡ e.value)) ⊎ HasEntry e hs cs → HasEntry e (h ∷ hs) (c ∷ cs)
+entry_to e h c hs cs (inl (a, b)) = (zero, ap Some a, ap Some b)
+entry_to e h c hs cs (inr (i, a, b)) = (suc i, a, b)
+
+entry_from : (e : Entry) (h c : List ℕ) (hs cs : List (List ℕ)) → HasEntry e (h ∷ hs) (c ∷ cs) → ((h ≡ e.heading) × (c ≡ e.value)) ⊎ HasEntry e hs cs
+entry_from e h c hs cs (zero, a, b) = inl (cc, cc)
+entry_from e h c hs cs (suc i, a, b) = inr (i, a, b)
+
+has_entry-Decides : (e : Entry) (hs cs : List (List ℕ)) → Decides (has_entry e hs cs) (HasEntry e hs cs)
+has_entry-Decides e [] cs = (λ f. absurd (false≢true f), λ (i, a, b). absurd (cc))
+has_entry-Decides e (h ∷ hs) [] = (λ f. absurd (false≢true f), λ (i, a, b). absurd (cc))
+has_entry-Decides e (h ∷ hs) (c ∷ cs) =
+    Decides-like _ (entry_to e h c hs cs) (entry_from e h c hs cs)
+    (Decides-or _ _ (Decides-and _ _ (bytes_eq-Decides h e.heading) (bytes_eq-Decides c e.value)) (has_entry-Decides e hs cs))
+
+is_entry_met-Decides : (o : Option Entry) (hs cs : List (List ℕ)) → Decides (is_entry_met o hs cs) (MeetsEntry o hs cs)
+is_entry_met-Decides None hs cs = (λ _. tt, λ _. refl)
+is_entry_met-Decides (Some e) hs cs = has_entry-Decides e hs cs
+
+is_none-Decides : {A : Type 0} (o : Option A) → Decides (is_none o) (o ≡ None)
+is_none-Decides None = (λ _. refl, λ _. refl)
+is_none-Decides (Some a) = (λ e. absurd (false≢true e), λ e. absurd (cc))
+
+four-Decides : {P Q R S : Type 0} (a b c d : Bool) → Decides a P → Decides b Q → Decides c R → Decides d S → Decides (a && (b && (c && d))) (P × Q × R × S)
+four-Decides a b c d p q r s =
+    Decides-like _ (λ h. (h.0, h.1.0, h.1.1.0, h.1.1.1)) (λ h. (h.0, (h.1, (h.2, h.3))))
+    (Decides-and _ _ p (Decides-and _ _ q (Decides-and _ _ r s)))
+
+is_row_met-Decides : (r : Rule) (o : Option RowFacts) → Decides (is_row_met r o) (MeetsRow r o)
+is_row_met-Decides r None = four-Decides _ _ _ _ (is_none-Decides r.group) (is_none-Decides r.own) (is_none-Decides r.past) (is_none-Decides r.entry)
+is_row_met-Decides r (Some f) = four-Decides _ _ _ _ (is_met-Decides bytes_eq bytes_eq-Decides r.group f.group.now) (is_met-Decides same_fact same_fact-Decides r.own f.own)
+    (is_met-Decides same_fact same_fact-Decides r.past f.past) (is_entry_met-Decides r.entry f.headings.now f.cells.now)
+
+pub matches-Decides : (r : Rule) (s : Subject) → Decides (matches r s) (Matches r s)
+matches-Decides r s =
+    Decides-like _ (λ h. (h.0, h.1.0, h.1.1.0, h.1.1.1.0, h.1.1.1.1)) (λ h. (h.0, (h.1, (h.2, (h.3, h.4)))))
+    (Decides-and _ _ (is_met-Decides bytes_eq bytes_eq-Decides r.firm s.firm.now) (Decides-and _ _ (is_met-Decides bytes_eq bytes_eq-Decides r.role s.role.now)
+    (Decides-and _ _ (is_met-Decides bytes_eq bytes_eq-Decides r.project s.project.now)
+    (Decides-and _ _ (is_met-Decides same_verb same_verb-Decides r.verb s.verb) (is_row_met-Decides r s.row)))))
+
+-- one turn of the search for the first rule that matches
+pub decision_turn : (rules : List Rule) (s : Subject) (i : ℕ) (r : Rule) (b : Bool) → i < length rules → r ≡ get_or rules i r → b ≡ matches r s
+    → decision_of (drop i rules) s ≡ cond b (effect_of r.effect r.number) (decision_of (drop (i + 1) rules) s)
+decision_turn rules s i r b low is test =
+    at_drop_more (λ x. decision_of x s) rules i r low ∙ rw (← is, test)
+
+-- the decision is that of the first rule that matches
+decided_more : (r : Rule) (rules : List Rule) (s : Subject) (d : Decision) → ¬ (Matches r s) → IsFirstMatch rules s d → IsFirstMatch (r ∷ rules) s d
+decided_more r rules s d apart (inl (before, x, after, e, none, m, is)) = inl (r ∷ before, x, after, ap (λ t. r ∷ t) e, All-cons (λ x. ¬ (Matches x s)) r before apart none, m, is)
+decided_more r rules s d apart (inr (none, is)) = inr (All-cons (λ x. ¬ (Matches x s)) r rules apart none, is)
+
+pub decided : (rules : List Rule) (s : Subject) → IsFirstMatch rules s (decision_of rules s)
+decided [] s = inr (All-nil (λ x. ¬ (Matches x s)), refl)
+decided (r ∷ rules) s = elim (cases_Bool (matches r s)) [
+  | inl same ↦ inl ([], r, rules, refl, All-nil (λ x. ¬ (Matches x s)), (matches-Decides r s).0 same, rw same)
+  | inr other ↦ rw other (decided_more r rules s (decision_of rules s) (not_from_Decides _ (matches-Decides r s) other) (decided rules s))
+]

@@ -1,0 +1,54 @@
+-- What the accessors of a value say of the keys of a table.
+use Rattle.std.proofs.Common.{◌≡◌, ℕ, List, Bool, true, false, cond, codes, Option, Some, None, Ok, Err, Bor, refl, sym, ap, ◌∙◌, subst, inr}
+use Rattle.std.proofs.lemmas.Bool.{false≢true}
+use Rattle.std.proofs.lemmas.Slice.Eq.{bytes_eq-Decides}
+use Rattle.std.specs.Str.{bytes_eq}
+use Rattle.toml.specs.Data.{Data, string, integer, float, boolean, datetime, array, table, as_str}
+use Rattle.reg_policy.specs.Rules.{Sets}
+use Rattle.reg_policy.specs.Readers.{GivesText, GivesWord}
+use Rattle.reg_policy.specs.declared.document.ReadError.TheVariants.{BadValue}
+
+text_in : (d : Data) (t : Bor (List ℕ)) → as_str d ≡ Some t.now → GivesText (Some d) (Ok (Some t))
+text_in (string s) t e = let f : s ≡ t.now = cc in (ap Some (sym f), refl)
+text_in (integer z) t e = cc
+text_in (float x) t e = cc
+text_in (boolean b) t e = cc
+text_in (datetime dt) t e = cc
+text_in (array ds) t e = cc
+text_in (table ms) t e = cc
+
+no_text_in : (d : Data) → as_str d ≡ None → GivesText (Some d) (Err BadValue)
+no_text_in (string s) e = cc
+no_text_in (integer z) e = refl
+no_text_in (float x) e = refl
+no_text_in (boolean b) e = refl
+no_text_in (datetime dt) e = refl
+no_text_in (array ds) e = refl
+no_text_in (table ms) e = refl
+
+pub text_some : (o : Option Data) (d : Data) (t : Bor (List ℕ)) → Some d ≡ o → as_str d ≡ Some t.now → GivesText o (Ok (Some t))
+text_some o d t e f = rw (← e) (text_in d t f)
+
+pub text_bad : (o : Option Data) (d : Data) → Some d ≡ o → as_str d ≡ None → GivesText o (Err BadValue)
+text_bad o d e f = rw (← e) (no_text_in d f)
+
+pub text_none : (o : Option Data) → None ≡ o → GivesText o (Ok None)
+text_none o e = rw (← e) refl
+
+word_cases : {A : Type 0} (W : List ℕ → A → Type 0) (s t : List ℕ) (a : A) (b : Bool) → bytes_eq s (codes "*") ≡ b → Some t ≡ cond b None (Some s) → W t a
+    → Sets W (Some (string s)) (Some a)
+word_cases W s t a true is e w = cc
+word_cases W s t a false is e w =
+    let same : t ≡ s = cc in
+    inr ((λ star. false≢true (sym is ∙ (bytes_eq-Decides s (codes "*")).1 star)), a, subst (λ z. W z a) same w, refl)
+
+-- a word that is no `*`, and what it means
+pub word_some : {A : Type 0} (W : List ℕ → A → Type 0) (o : Option Data) (t : Bor (List ℕ)) (a : A) → GivesWord o (Ok (Some t)) → W t.now a → Sets W o (Some a)
+word_some W None t a h w = cc
+word_some W (Some (string s)) t a h w = word_cases W s t.now a (bytes_eq s (codes "*")) refl h.0 w
+word_some W (Some (integer z)) t a h w = cc
+word_some W (Some (float x)) t a h w = cc
+word_some W (Some (boolean b)) t a h w = cc
+word_some W (Some (datetime dt)) t a h w = cc
+word_some W (Some (array ds)) t a h w = cc
+word_some W (Some (table ms)) t a h w = cc

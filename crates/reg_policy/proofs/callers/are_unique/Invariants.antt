@@ -1,0 +1,12 @@
+use Rattle.std.proofs.Common.{◌≡◌, ◌≤◌, ℕ, List, length, drop, true}
+use Rattle.std.specs.BTreeSet.{keys}
+use Rattle.reg_policy.specs.Callers.{are_unique, has_token}
+use Rattle.reg_policy.proofs.Tokens.{has_key}
+use Rattle.reg_policy.proofs.callers.are_unique.Given as goal
+
+abbrev pub invariant-loop-i : goal.invariant-loop-i
+invariant-loop-i l = (l.i ≤ length l.listings) × ((token : List ℕ) → has_key token (keys l.later) ≡ has_token token (drop l.i l.listings))
+    × (are_unique (drop l.i l.listings) ≡ true)
+
+abbrev pub decreases-loop-i : goal.decreases-loop-i
+decreases-loop-i l = l.i

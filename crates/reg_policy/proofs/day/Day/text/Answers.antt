@@ -1,0 +1,5 @@
+use Rattle.reg_policy.proofs.Days.{day_of-Writes}
+use Rattle.reg_policy.proofs.day.Day.text.Goals as goal
+
+pub returns-clause-reads_back : goal.returns-clause-reads_back
+returns-clause-reads_back c = (day_of-Writes c.written.result c.args.self).1 (c.written.ensures.written, c.written.ensures.in_range)

@@ -1,0 +1,43 @@
+-- Which texts are names of firms, roles and projects, which are tokens, and the words of the verbs.
+use Rattle.std.specs.Prelude.{ℕ, List, length, nat_le, Bool, ◌&&◌, ◌||◌, ◌==◌, codes}
+use Rattle.std.specs.List.{list_all}
+use Rattle.ags_rows.specs.Bytes.{low_line}
+use Rattle.ags_rows.specs.Names.{is_capital, is_digit}
+use Rattle.reg_policy.specs.declared.subject.Verb.{Verb}
+use Rattle.reg_policy.specs.declared.subject.Verb.TheVariants.{Deposit, Check, List as Listing, Extract, See}
+
+-- it has at least one byte, and at most so many
+abbrev pub is_within : ℕ → List ℕ → Bool
+is_within most text = nat_le 1 (length text) && nat_le (length text) most
+
+-- the hyphen
+abbrev pub hyphen : ℕ
+hyphen = 45
+
+-- a to z
+abbrev pub is_small : ℕ → Bool
+is_small b = nat_le 97 b && nat_le b 122
+
+-- a letter, a digit, `-` or `_`
+abbrev pub is_name_byte : ℕ → Bool
+is_name_byte b = is_capital b || is_small b || is_digit b || b == hyphen || b == low_line
+
+-- A name of a firm, a role or a project: 1 to 32 letters, digits, `-` and `_`.
+abbrev pub is_name : List ℕ → Bool
+is_name text = is_within 32 text && list_all is_name_byte text
+
+-- from `!` to `~`
+abbrev pub is_token_byte : ℕ → Bool
+is_token_byte b = nat_le 33 b && nat_le b 126
+
+-- A token: 1 to 64 characters, each from `!` to `~`.
+abbrev pub is_token : List ℕ → Bool
+is_token text = is_within 64 text && list_all is_token_byte text
+
+-- the word of a verb
+abbrev pub verb_text : Verb → List ℕ
+verb_text Deposit = codes "deposit"
+verb_text Check = codes "check"
+verb_text Listing = codes "list"
+verb_text Extract = codes "extract"
+verb_text See = codes "see"

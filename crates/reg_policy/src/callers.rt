@@ -1,0 +1,194 @@
+//! The callers, each known by a token.
+ghost use Rattle.std.specs.Prelude.{◌≡◌, List, IfErr, IfOk, codes, option_map};
+ghost use Rattle.std.specs.List.{list_all};
+ghost use Rattle.toml.specs.Data.{get_member};
+ghost use Rattle.toml.specs.View.{table_view};
+ghost use Rattle.reg_policy.specs.Callers.{IsCaller, IsText, ReadsCallers, are_unique, caller_key, caller_keys, caller_of, callers_error};
+ghost use Rattle.reg_policy.specs.Names.{is_name, is_token, is_token_byte};
+ghost use Rattle.reg_policy.specs.Readers.{Gives};
+ghost use Rattle.reg_policy.specs.declared.callers.Listing.{Listing as ListingValue};
+
+use crate::document::{Listed, ReadError, copied, read_list, text_at};
+use crate::name::is_within;
+use crate::{Name, NameError};
+use ags_rows::Bytes;
+use std::alloc::Global;
+use std::collections::BTreeSet;
+use std::marker::Model;
+use thiserror::Error;
+use toml::Table;
+
+/// Why a text is not read as callers. Each is looked for in the whole document before the next.
+#[derive(Clone, Copy, Debug, PartialEq, Eq, Error)]
+pub enum CallersError {
+    /// It is no TOML.
+    #[error("not TOML")]
+    Syntax,
+    /// A key is none of the callers or of a caller.
+    #[error("unknown key")]
+    UnknownKey,
+    /// A value is of a wrong kind or form, or missing.
+    #[error("bad value")]
+    BadValue,
+    /// Two callers have one token.
+    #[error("a token stands twice")]
+    DuplicateToken,
+    /// Memory was refused.
+    #[error("out of memory")]
+    NoMemory,
+}
+
+impl From<ReadError> for CallersError {
+    ghost from_gives = { λ error e. e ≡ callers_error error };
+
+    fn from(error: ReadError) -> CallersError {
+        match error {
+            ReadError::Syntax => CallersError::Syntax,
+            ReadError::UnknownKey => CallersError::UnknownKey,
+            ReadError::BadValue => CallersError::BadValue,
+            ReadError::NoMemory => CallersError::NoMemory,
+        }
+    }
+}
+
+/// Who speaks.
+#[derive(Drop)]
+pub struct Caller {
+    pub firm: Name,
+    pub role: Name,
+}
+
+/// A caller and the token that shows who it is.
+#[derive(Drop)]
+struct Listing {
+    token: Bytes,
+    caller: Caller,
+}
+
+/// The callers, in the order of the text.
+#[derive(Drop)]
+pub struct Callers {
+    listings: Vec<Listing>,
+}
+
+impl Model for Callers {
+    ghost Value = { List ListingValue };
+
+    ghost view = { λ c. c.listings.items };
+}
+
+impl Callers {
+    /// The callers that the text lists, or the first refusal that holds of it.
+    pub fn read(alloc: Global, text: &str) -> Result<Callers, CallersError>
+        ensures { ReadsCallers text.now result }
+    {
+        let listings = read_list(alloc, text)?;
+        if !are_unique(alloc, &listings)? {
+            return Err(CallersError::DuplicateToken);
+        }
+        Ok(Callers { listings })
+    }
+
+    /// The caller who has the token.
+    pub fn find(&self, token: &[u8]) -> Option<&Caller>
+        ensures { option_map (λ c. c.now) result ≡ caller_of token.now self.now }
+    {
+        for listing in &self.listings {
+            if token == listing.token.as_slice() {
+                return Some(&listing.caller);
+            }
+        }
+        None
+    }
+}
+
+impl Listed for Listing {
+    ghost array_key = { caller_key };
+
+    ghost table_keys = { caller_keys };
+
+    ghost says = { IsCaller };
+
+    fn array_key() -> &'static str {
+        "caller"
+    }
+
+    fn is_table_key(key: &str) -> bool {
+        key == "token" || key == "firm" || key == "role"
+    }
+
+    fn of_table(alloc: Global, table: &Table) -> Result<Listing, ReadError> {
+        let token = token_at(alloc, table)?;
+        let firm = name_at(alloc, table, "firm")?;
+        let role = name_at(alloc, table, "role")?;
+        Ok(Listing {
+            token,
+            caller: Caller { firm, role },
+        })
+    }
+}
+
+fn token_at(alloc: Global, table: &Table) -> Result<Bytes, ReadError>
+    ensures { Gives (IsText is_token (get_member (codes "token") (table_view table.now))) result }
+{
+    let Some(text) = text_at(table, "token")? else {
+        return Err(ReadError::BadValue);
+    };
+    if !is_token(text.as_bytes()) {
+        return Err(ReadError::BadValue);
+    }
+    match copied(alloc, text) {
+        Ok(token) => Ok(token),
+        Err(error) => Err(error),
+    }
+}
+
+fn name_at(alloc: Global, table: &Table, key: &str) -> Result<Name, ReadError>
+    ensures { Gives (IsText is_name (get_member key.now (table_view table.now))) result }
+{
+    let Some(text) = text_at(table, key)? else {
+        return Err(ReadError::BadValue);
+    };
+    match Name::read(alloc, text) {
+        Ok(name) => Ok(name),
+        Err(NameError::BadName) => Err(ReadError::BadValue),
+        Err(NameError::NoMemory) => Err(ReadError::NoMemory),
+    }
+}
+
+/// 1 to 64 characters, each from `!` to `~`.
+fn is_token(text: &[u8]) -> bool
+    ensures { result ≡ is_token text.now }
+{
+    is_within(text, 64) && has_token_bytes(text)
+}
+
+fn has_token_bytes(text: &[u8]) -> bool
+    ensures { result ≡ list_all is_token_byte text.now }
+{
+    text.iter().all(|b| is_token_byte(*b))
+}
+
+fn is_token_byte(b: u8) -> bool
+    ensures { result ≡ is_token_byte b }
+{
+    b'!' <= b && b <= b'~'
+}
+
+/// Whether no token stands twice: none is that of a later caller.
+fn are_unique(alloc: Global, listings: &[Listing]) -> Result<bool, ReadError>
+    ensures unique { IfOk result (λ unique. unique ≡ are_unique listings.now) }
+    ensures memory { IfErr result (λ error. error ≡ ReadError.NoMemory) }
+{
+    let mut later = BTreeSet::new(alloc);
+    let mut i = listings.len();
+    while i > 0 {
+        i -= 1;
+        match later.insert(listings[i].token.as_slice()) {
+            Ok(true) => {}
+            Ok(false) => return Ok(false),
+            Err(_) => return Err(ReadError::NoMemory),
+        }
+    }
+    Ok(true)
+}

@@ -1,0 +1,83 @@
+//! Names of firms, roles and projects.
+ghost use Rattle.std.specs.Prelude.{◌≡◌, ◌↔◌, ℕ, List, Err, IsTrue, IsFalse, IfOk, string_bytes};
+ghost use Rattle.std.specs.List.{list_all};
+ghost use Rattle.reg_policy.specs.Names.{is_name, is_name_byte, is_within};
+
+use std::alloc::Global;
+use std::marker::Model;
+use thiserror::Error;
+
+/// Why a text is not read as a name.
+#[derive(Clone, Copy, Debug, PartialEq, Eq, Error)]
+pub enum NameError {
+    /// It is no name.
+    #[error("not a name")]
+    BadName,
+    /// Memory was refused.
+    #[error("out of memory")]
+    NoMemory,
+}
+
+/// The name of a firm, a role or a project: 1 to 32 letters, digits, `-` and `_`.
+#[derive(Drop)]
+pub struct Name {
+    text: String,
+}
+
+impl Model for Name {
+    ghost Value = { List ℕ };
+
+    ghost view = { λ n. string_bytes n.text };
+
+    ghost invariant = { λ n. IsTrue (is_name (string_bytes n.text)) };
+}
+
+impl Name {
+    /// The name that the text is.
+    pub fn read(alloc: Global, text: &str) -> Result<Name, NameError>
+        ensures name { IfOk result (λ n. n ≡ text.now) }
+        ensures is_name { IfOk result (λ n. IsTrue (is_name n)) }
+        ensures bad_name { (result ≡ Err NameError.BadName) ↔ IsFalse (is_name text.now) }
+    {
+        if !is_name(text.as_bytes()) {
+            return Err(NameError::BadName);
+        }
+        match String::from_str(alloc, text) {
+            Ok(text) => Ok(Name { text }),
+            Err(_) => Err(NameError::NoMemory),
+        }
+    }
+
+    /// The text that it was read from.
+    pub fn text(&self) -> &str
+        ensures text { result.now ≡ self.now }
+        ensures is_name { IsTrue (is_name self.now) }
+    {
+        self.text.as_str()
+    }
+}
+
+fn is_name(text: &[u8]) -> bool
+    ensures { result ≡ is_name text.now }
+{
+    is_within(text, 32) && has_name_bytes(text)
+}
+
+/// Whether a text has at least one byte, and at most so many.
+pub(crate) fn is_within(text: &[u8], most: usize) -> bool
+    ensures { result ≡ is_within most text.now }
+{
+    1 <= text.len() && text.len() <= most
+}
+
+fn has_name_bytes(text: &[u8]) -> bool
+    ensures { result ≡ list_all is_name_byte text.now }
+{
+    text.iter().all(|b| is_name_byte(*b))
+}
+
+fn is_name_byte(b: u8) -> bool
+    ensures { result ≡ is_name_byte b }
+{
+    b.is_ascii_uppercase() || b.is_ascii_lowercase() || b.is_ascii_digit() || b == b'-' || b == b'_'
+}

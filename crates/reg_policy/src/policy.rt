@@ -1,0 +1,99 @@
+//! A policy: a list of rules, of which the first that matches decides.
+ghost use Rattle.std.specs.Prelude.{◌≡◌, ◌↔◌, List, IsTrue};
+ghost use Rattle.reg_policy.specs.Decision.{decision_of};
+ghost use Rattle.reg_policy.specs.Rules.{IsRisingFrom, ReadsPolicy, policy_error};
+ghost use Rattle.reg_policy.specs.declared.rule.Rule.{Rule as RuleValue};
+
+use crate::document::{ReadError, read_list};
+use crate::rule::{Effect, Rule};
+use crate::{Decision, Subject};
+use std::alloc::Global;
+use std::marker::Model;
+use thiserror::Error;
+
+/// Why a text is not read as a policy. Each is looked for in the whole document before the next.
+#[derive(Clone, Copy, Debug, PartialEq, Eq, Error)]
+pub enum PolicyError {
+    /// It is no TOML.
+    #[error("not TOML")]
+    Syntax,
+    /// A key is none of a policy or of a rule.
+    #[error("unknown key")]
+    UnknownKey,
+    /// A value is of a wrong kind or form, or missing.
+    #[error("bad value")]
+    BadValue,
+    /// The numbers of the rules do not rise strictly.
+    #[error("the numbers do not rise")]
+    Order,
+    /// Memory was refused.
+    #[error("out of memory")]
+    NoMemory,
+}
+
+impl From<ReadError> for PolicyError {
+    ghost from_gives = { λ error e. e ≡ policy_error error };
+
+    fn from(error: ReadError) -> PolicyError {
+        match error {
+            ReadError::Syntax => PolicyError::Syntax,
+            ReadError::UnknownKey => PolicyError::UnknownKey,
+            ReadError::BadValue => PolicyError::BadValue,
+            ReadError::NoMemory => PolicyError::NoMemory,
+        }
+    }
+}
+
+/// The rules of a policy, in the order of the text.
+#[derive(Drop)]
+pub struct Policy {
+    rules: Vec<Rule>,
+}
+
+impl Model for Policy {
+    ghost Value = { List RuleValue };
+
+    ghost view = { λ p. p.rules.items };
+}
+
+impl Policy {
+    /// The policy that the text has, or the first refusal that holds of it.
+    pub fn read(alloc: Global, text: &str) -> Result<Policy, PolicyError>
+        ensures { ReadsPolicy text.now result }
+    {
+        let rules = read_list(alloc, text)?;
+        if !is_rising(&rules) {
+            return Err(PolicyError::Order);
+        }
+        Ok(Policy { rules })
+    }
+
+    /// What the first rule that matches says.
+    pub fn decide(&self, subject: &Subject) -> Decision
+        ensures { result ≡ decision_of self.now subject.now }
+    {
+        for rule in &self.rules {
+            if rule.matches(subject) {
+                return match rule.effect {
+                    Effect::Permit => Decision::Permit(rule.number),
+                    Effect::Deny => Decision::Deny(rule.number),
+                };
+            }
+        }
+        Decision::Deny(0)
+    }
+}
+
+/// Whether the numbers of the rules rise strictly.
+fn is_rising(rules: &[Rule]) -> bool
+    ensures { IsTrue result ↔ IsRisingFrom 0 rules.now }
+{
+    let mut last = 0;
+    for rule in rules {
+        if rule.number <= last {
+            return false;
+        }
+        last = rule.number;
+    }
+    true
+}

@@ -1,0 +1,196 @@
+//! A rule as a table of a policy's document has it.
+ghost use Rattle.std.specs.Prelude.{◌≡◌, ◌≢◌, IfSome, IsNone, Some, codes, option_and_then};
+ghost use Rattle.toml.specs.Data.{as_integer, get_member};
+ghost use Rattle.toml.specs.View.{table_view};
+ghost use Rattle.ags_rows.specs.Names.{is_group_name};
+ghost use Rattle.reg_policy.specs.Names.{is_name, verb_text};
+ghost use Rattle.reg_policy.specs.Readers.{Gives, GivesWord};
+ghost use Rattle.reg_policy.specs.Rules.{IsEffect, IsEither, IsEntry, IsNumber, IsRule, IsVerb, IsWord, Sets, rule_key, rule_keys};
+ghost use Rattle.reg_policy.specs.declared.subject.Verb.{Verb as VerbValue};
+
+use crate::document::{Listed, ReadError, copied, text_at};
+use crate::rule::{Effect, Entry, Rule};
+use crate::{Name, NameError, Verb};
+use ags_rows::{Bytes, is_group_name, is_heading_name};
+use std::alloc::Global;
+use toml::Table;
+
+impl Listed for Rule {
+    ghost array_key = { rule_key };
+
+    ghost table_keys = { rule_keys };
+
+    ghost says = { IsRule };
+
+    fn array_key() -> &'static str {
+        "rule"
+    }
+
+    fn is_table_key(key: &str) -> bool {
+        key == "number"
+            || key == "effect"
+            || key == "firm"
+            || key == "role"
+            || key == "project"
+            || key == "verb"
+            || key == "group"
+            || key == "owner"
+            || key == "embargo"
+            || key == "heading"
+            || key == "value"
+    }
+
+    fn of_table(alloc: Global, table: &Table) -> Result<Rule, ReadError> {
+        rule_of(alloc, table)
+    }
+}
+
+fn rule_of(alloc: Global, table: &Table) -> Result<Rule, ReadError>
+    ensures { Gives (IsRule (table_view table.now)) result }
+{
+    Ok(Rule {
+        number: number_at(table)?,
+        effect: effect_at(table)?,
+        firm: name_at(alloc, table, "firm")?,
+        role: name_at(alloc, table, "role")?,
+        project: name_at(alloc, table, "project")?,
+        verb: verb_at(table)?,
+        group: group_at(alloc, table)?,
+        own: either_at(table, "owner", "own", "other")?,
+        past: either_at(table, "embargo", "past", "running")?,
+        entry: entry_at(alloc, table)?,
+    })
+}
+
+fn number_at(table: &Table) -> Result<u32, ReadError>
+    ensures { Gives (IsNumber (get_member (codes "number") (table_view table.now))) result }
+{
+    let Some(number) = integer_at(table, "number") else {
+        return Err(ReadError::BadValue);
+    };
+    if number < 1 || number > 9999 {
+        return Err(ReadError::BadValue);
+    }
+    Ok(number as u32)
+}
+
+/// The integer at a key, if there is one.
+fn integer_at(table: &Table, key: &str) -> Option<i64>
+    ensures { result ≡ option_and_then as_integer (get_member key.now (table_view table.now)) }
+{
+    match table.get(key) {
+        Some(value) => value.as_integer(),
+        None => None,
+    }
+}
+
+fn effect_at(table: &Table) -> Result<Effect, ReadError>
+    ensures { Gives (IsEffect (get_member (codes "effect") (table_view table.now))) result }
+{
+    match text_at(table, "effect")? {
+        Some("permit") => Ok(Effect::Permit),
+        Some("deny") => Ok(Effect::Deny),
+        _ => Err(ReadError::BadValue),
+    }
+}
+
+/// The word at a key, if it sets one: `*` sets nothing.
+fn word_at<'a>(table: &'a Table, key: &str) -> Result<Option<&'a str>, ReadError>
+    ensures { GivesWord (get_member key.now (table_view table.now)) result }
+{
+    match text_at(table, key)? {
+        Some("*") => Ok(None),
+        text => Ok(text),
+    }
+}
+
+fn name_at(alloc: Global, table: &Table, key: &str) -> Result<Option<Name>, ReadError>
+    ensures { Gives (Sets (IsWord is_name) (get_member key.now (table_view table.now))) result }
+{
+    let Some(word) = word_at(table, key)? else {
+        return Ok(None);
+    };
+    match Name::read(alloc, word) {
+        Ok(name) => Ok(Some(name)),
+        Err(NameError::BadName) => Err(ReadError::BadValue),
+        Err(NameError::NoMemory) => Err(ReadError::NoMemory),
+    }
+}
+
+fn verb_at(table: &Table) -> Result<Option<Verb>, ReadError>
+    ensures { Gives (Sets IsVerb (get_member (codes "verb") (table_view table.now))) result }
+{
+    let Some(word) = word_at(table, "verb")? else {
+        return Ok(None);
+    };
+    match verb_of(word) {
+        Some(verb) => Ok(Some(verb)),
+        None => Err(ReadError::BadValue),
+    }
+}
+
+/// The verb that has this word.
+fn verb_of(word: &str) -> Option<Verb>
+    ensures some { IfSome result (λ v. word.now ≡ verb_text v) }
+    ensures none { IsNone result → (v : VerbValue) → word.now ≢ verb_text v }
+{
+    if word == "deposit" {
+        Some(Verb::Deposit)
+    } else if word == "check" {
+        Some(Verb::Check)
+    } else if word == "list" {
+        Some(Verb::List)
+    } else if word == "extract" {
+        Some(Verb::Extract)
+    } else if word == "see" {
+        Some(Verb::See)
+    } else {
+        None
+    }
+}
+
+fn group_at(alloc: Global, table: &Table) -> Result<Option<Bytes>, ReadError>
+    ensures { Gives (Sets (IsWord is_group_name) (get_member (codes "group") (table_view table.now))) result }
+{
+    let Some(word) = word_at(table, "group")? else {
+        return Ok(None);
+    };
+    if !is_group_name(word.as_bytes()) {
+        return Err(ReadError::BadValue);
+    }
+    match copied(alloc, word) {
+        Ok(group) => Ok(Some(group)),
+        Err(error) => Err(error),
+    }
+}
+
+/// Whether a key has the first of two words; none where it sets nothing.
+fn either_at(table: &Table, key: &str, word: &str, other: &str) -> Result<Option<bool>, ReadError>
+    ensures { Gives (Sets (IsEither word.now other.now) (get_member key.now (table_view table.now))) result }
+{
+    let Some(text) = word_at(table, key)? else {
+        return Ok(None);
+    };
+    if text == word {
+        Ok(Some(true))
+    } else if text == other {
+        Ok(Some(false))
+    } else {
+        Err(ReadError::BadValue)
+    }
+}
+
+/// `heading` and `value`: both or neither.
+fn entry_at(alloc: Global, table: &Table) -> Result<Option<Entry>, ReadError>
+    ensures { Gives (IsEntry (get_member (codes "heading") (table_view table.now)) (get_member (codes "value") (table_view table.now))) result }
+{
+    match (text_at(table, "heading")?, text_at(table, "value")?) {
+        (None, None) => Ok(None),
+        (Some(heading), Some(value)) if is_heading_name(heading.as_bytes()) => {
+            let heading = copied(alloc, heading)?;
+            let value = copied(alloc, value)?;
+            Ok(Some(Entry { heading, value }))
+        }
+        _ => Err(ReadError::BadValue),
+    }
+}

@@ -1,0 +1,386 @@
+//! The worked examples: what no clause says.
+use crate::{
+    Callers, CallersError, Day, Decision, Name, NameError, Policy, PolicyError, RowFacts, Subject,
+    Verb, vectors,
+};
+use ags_rows::Cell;
+use std::alloc::Global;
+use std::test::Fail;
+
+#[test]
+fn names(rt: HostRuntime) -> Result<(), Fail> {
+    let alloc = rt.alloc();
+    for text in ["N1", "Delta", "a-b_C-9", "12345678901234567890123456789012"] {
+        let name = Name::read(alloc, text)?;
+        assert!(rt; name.text() == text, "{text}");
+    }
+    for text in ["", "N 1", "N.1", "é", "123456789012345678901234567890123"] {
+        assert!(rt;
+            matches!(Name::read(alloc, text), Err(NameError::BadName)),
+            "{text}"
+        );
+    }
+    Ok(())
+}
+
+#[test]
+fn days(rt: HostRuntime) -> Result<(), Fail> {
+    for (text, number) in [
+        ("1970-01-01", 0),
+        ("2024-06-01", 19_875),
+        ("9999-12-31", 2_932_896),
+    ] {
+        let day = Day::read(text).ok_or("day")?;
+        assert!(rt; day.number() == number, "{text}");
+        assert!(rt; day.text().as_slice() == text.as_bytes(), "{text}");
+    }
+    for text in [
+        "2024-6-1",
+        "2023-02-29",
+        "1969-12-31",
+        "2024-06-01 ",
+        "2024/06/01",
+        "",
+    ] {
+        assert!(rt; Day::read(text).is_none(), "{text}");
+    }
+    assert!(rt; Day::new(-1).is_none());
+    assert!(rt; Day::new(2_932_897).is_none());
+    let last = Day::new(2_932_896).ok_or("last")?;
+    assert!(rt; last.text() == *b"9999-12-31");
+    Ok(())
+}
+
+/// What reading a policy refuses; none where it is read.
+fn refusal(alloc: Global, text: &str) -> Option<PolicyError> {
+    match Policy::read(alloc, text) {
+        Ok(_) => None,
+        Err(error) => Some(error),
+    }
+}
+
+const RULE: &str = "[[rule]]\nnumber = 1\neffect = \"permit\"\n";
+
+#[test]
+fn policies_refused(rt: HostRuntime) -> Result<(), Fail> {
+    let alloc = rt.alloc();
+    let cases = [
+        (
+            "an array that does not close",
+            "[[rule",
+            PolicyError::Syntax,
+        ),
+        (
+            "a number beyond 64 bits",
+            "[[rule]]\nnumber = 99999999999999999999\neffect = \"deny\"\n",
+            PolicyError::Syntax,
+        ),
+        (
+            "another key at the top",
+            "other = 1\n",
+            PolicyError::UnknownKey,
+        ),
+        (
+            "an unknown key after a bad value",
+            "[[rule]]\nnumber = 0\neffect = \"deny\"\n[[rule]]\ncolour = 1\n",
+            PolicyError::UnknownKey,
+        ),
+        (
+            "an unknown key beside a number",
+            "rule = [3, { colour = 1 }]\n",
+            PolicyError::UnknownKey,
+        ),
+        ("one table", "[rule]\ncolour = 1\n", PolicyError::BadValue),
+        ("no array", "rule = 3\n", PolicyError::BadValue),
+        ("no effect", "[[rule]]\nnumber = 1\n", PolicyError::BadValue),
+        (
+            "no number",
+            "[[rule]]\neffect = \"deny\"\n",
+            PolicyError::BadValue,
+        ),
+        (
+            "number 0",
+            "[[rule]]\nnumber = 0\neffect = \"deny\"\n",
+            PolicyError::BadValue,
+        ),
+        (
+            "number 10000",
+            "[[rule]]\nnumber = 10000\neffect = \"deny\"\n",
+            PolicyError::BadValue,
+        ),
+        (
+            "effect *",
+            "[[rule]]\nnumber = 1\neffect = \"*\"\n",
+            PolicyError::BadValue,
+        ),
+        (
+            "a bad value before the order",
+            "[[rule]]\nnumber = 2\neffect = \"deny\"\n[[rule]]\nnumber = 1\n",
+            PolicyError::BadValue,
+        ),
+        (
+            "falling",
+            "[[rule]]\nnumber = 20\neffect = \"deny\"\n[[rule]]\nnumber = 10\neffect = \"deny\"\n",
+            PolicyError::Order,
+        ),
+        (
+            "equal",
+            "[[rule]]\nnumber = 1\neffect = \"deny\"\n[[rule]]\nnumber = 1\neffect = \"deny\"\n",
+            PolicyError::Order,
+        ),
+    ];
+    for (name, text, want) in cases {
+        assert!(rt; refusal(alloc, text) == Some(want), "{name}");
+    }
+    Ok(())
+}
+
+#[test]
+fn keys_refused(rt: HostRuntime) -> Result<(), Fail> {
+    let alloc = rt.alloc();
+    for (line, want) in [
+        ("colour = 1", PolicyError::UnknownKey),
+        ("from = \"2024-06-02\"", PolicyError::UnknownKey),
+        ("firm.x = \"a\"", PolicyError::BadValue),
+        ("firm = 3", PolicyError::BadValue),
+        ("firm = \"N 1\"", PolicyError::BadValue),
+        ("verb = \"read\"", PolicyError::BadValue),
+        ("group = \"LOCAS\"", PolicyError::BadValue),
+        ("owner = \"mine\"", PolicyError::BadValue),
+        ("embargo = \"over\"", PolicyError::BadValue),
+        ("heading = \"LOCA_ID\"", PolicyError::BadValue),
+        ("value = \"x\"", PolicyError::BadValue),
+        ("heading = \"*\"\nvalue = \"x\"", PolicyError::BadValue),
+    ] {
+        let text = format!(in alloc; "{RULE}{line}\n")?;
+        assert!(rt; refusal(alloc, text.as_str()) == Some(want), "{line}");
+    }
+    for line in [
+        "firm = \"*\"",
+        "heading = \"LOCA_ID\"\nvalue = \"*\"",
+        "heading = \"LOCA_ID\"\nvalue = \"\"",
+    ] {
+        let text = format!(in alloc; "{RULE}{line}\n")?;
+        assert!(rt; refusal(alloc, text.as_str()).is_none(), "{line}");
+    }
+    Ok(())
+}
+
+/// One who asks, under a policy.
+#[derive(Drop)]
+struct Asker {
+    policy: Policy,
+    firm: Name,
+    role: Name,
+    project: Name,
+}
+
+impl Asker {
+    fn new(alloc: Global, policy: &str, firm: &str, role: &str) -> Result<Asker, Fail> {
+        Ok(Asker {
+            policy: Policy::read(alloc, policy)?,
+            firm: Name::read(alloc, firm)?,
+            role: Name::read(alloc, role)?,
+            project: Name::read(alloc, "N1")?,
+        })
+    }
+
+    fn ask(&self, verb: Verb) -> Decision {
+        self.policy.decide(&Subject {
+            firm: &self.firm,
+            role: &self.role,
+            project: &self.project,
+            verb,
+            row: None,
+        })
+    }
+
+    fn see(&self, row: RowFacts) -> Decision {
+        self.policy.decide(&Subject {
+            firm: &self.firm,
+            role: &self.role,
+            project: &self.project,
+            verb: Verb::See,
+            row: Some(row),
+        })
+    }
+}
+
+#[test]
+fn requests_decided(rt: HostRuntime) -> Result<(), Fail> {
+    let alloc = rt.alloc();
+    let gamma = Asker::new(alloc, vectors::POLICY, "Gamma", "contractor")?;
+    let delta = Asker::new(alloc, vectors::POLICY, "Delta", "contractor")?;
+    let echo = Asker::new(alloc, vectors::POLICY, "Echo", "consultant")?;
+    assert!(rt; gamma.ask(Verb::Deposit) == Decision::Deny(5));
+    assert!(rt; delta.ask(Verb::Deposit) == Decision::Permit(10));
+    assert!(rt; echo.ask(Verb::Deposit) == Decision::Deny(0));
+    assert!(rt; echo.ask(Verb::Check) == Decision::Permit(20));
+    assert!(rt; echo.ask(Verb::List) == Decision::Permit(30));
+    assert!(rt; echo.ask(Verb::Extract) == Decision::Permit(40));
+    for empty in ["", "rule = []\n"] {
+        let nobody = Asker::new(alloc, empty, "Delta", "contractor")?;
+        assert!(rt; nobody.ask(Verb::Deposit) == Decision::Deny(0));
+    }
+    Ok(())
+}
+
+#[test]
+fn rows_decided(rt: HostRuntime) -> Result<(), Fail> {
+    let echo = Asker::new(rt.alloc(), vectors::POLICY, "Echo", "consultant")?;
+    let headings = [Cell::borrowed(b"LOCA_ID"), Cell::borrowed(b"LOCA_STAT")];
+    let preliminary = [Cell::borrowed(b"BH2"), Cell::borrowed(b"PRELIM")];
+    let misplaced = [Cell::borrowed(b"PRELIM"), Cell::borrowed(b"FINAL")];
+    let cases: [(&[u8], bool, bool, &[Cell], Decision); 6] = [
+        (b"PROJ", false, false, &preliminary, Decision::Deny(60)),
+        (b"PROJ", false, true, &preliminary, Decision::Permit(80)),
+        (b"PROJ", true, false, &preliminary, Decision::Permit(50)),
+        (b"LOCA", false, true, &preliminary, Decision::Deny(70)),
+        (b"LOCA", false, true, &misplaced, Decision::Permit(80)),
+        (b"LOCA", true, true, &preliminary, Decision::Permit(50)),
+    ];
+    for (group, own, past, cells, want) in cases {
+        let row = RowFacts {
+            group,
+            own,
+            past,
+            headings: &headings,
+            cells,
+        };
+        assert!(rt; echo.see(row) == want);
+    }
+    Ok(())
+}
+
+#[test]
+fn samples_decided(rt: HostRuntime) -> Result<(), Fail> {
+    let echo = Asker::new(rt.alloc(), vectors::POLICY, "Echo", "consultant")?;
+    let headings = [Cell::borrowed(b"LOCA_ID"), Cell::borrowed(b"SAMP_REF")];
+    let cells = [Cell::borrowed(b"BH1"), Cell::borrowed(b"S9")];
+    let row = RowFacts {
+        group: b"SAMP",
+        own: false,
+        past: true,
+        headings: &headings,
+        cells: &cells,
+    };
+    assert!(rt; echo.see(row) == Decision::Deny(75));
+    Ok(())
+}
+
+const STARS: &str =
+    "firm = \"*\"\nrole = \"*\"\nproject = \"*\"\nverb = \"*\"\ngroup = \"*\"\nowner = \"*\"\nembargo = \"*\"\n";
+
+#[test]
+fn stars_match_all(rt: HostRuntime) -> Result<(), Fail> {
+    let alloc = rt.alloc();
+    let text = format!(in alloc; "{RULE}{STARS}")?;
+    let echo = Asker::new(alloc, text.as_str(), "Echo", "consultant")?;
+    assert!(rt; echo.ask(Verb::Deposit) == Decision::Permit(1));
+    let row = RowFacts {
+        group: b"LOCA",
+        own: false,
+        past: false,
+        headings: &[],
+        cells: &[],
+    };
+    assert!(rt; echo.see(row) == Decision::Permit(1));
+    Ok(())
+}
+
+#[test]
+fn facts_of_rows_match_no_request(rt: HostRuntime) -> Result<(), Fail> {
+    let alloc = rt.alloc();
+    for line in [
+        "group = \"LOCA\"",
+        "owner = \"own\"",
+        "embargo = \"past\"",
+        "heading = \"LOCA_ID\"\nvalue = \"\"",
+    ] {
+        let text = format!(in alloc; "{RULE}{line}\n")?;
+        let echo = Asker::new(alloc, text.as_str(), "Echo", "consultant")?;
+        for verb in [Verb::Deposit, Verb::Check, Verb::List, Verb::Extract] {
+            assert!(rt; echo.ask(verb) == Decision::Deny(0), "{line}");
+        }
+    }
+    Ok(())
+}
+
+/// What reading callers refuses; none where they are read.
+fn callers_refusal(alloc: Global, text: &str) -> Option<CallersError> {
+    match Callers::read(alloc, text) {
+        Ok(_) => None,
+        Err(error) => Some(error),
+    }
+}
+
+const LONGEST: &str = "1234567890123456789012345678901234567890123456789012345678901234";
+
+#[test]
+fn callers_refused(rt: HostRuntime) -> Result<(), Fail> {
+    let alloc = rt.alloc();
+    for (text, want) in [
+        ("[[caller", CallersError::Syntax),
+        ("rule = []\n", CallersError::UnknownKey),
+        (
+            "[[caller]]\ntoken = \"a b\"\n[[caller]]\ncolour = 1\n",
+            CallersError::UnknownKey,
+        ),
+        (
+            "[[caller]]\ntoken = \"a\"\nfirm = \"A\"\n",
+            CallersError::BadValue,
+        ),
+        (
+            "[[caller]]\ntoken = \"a\"\nfirm = \"A\"\nrole = \"*\"\n",
+            CallersError::BadValue,
+        ),
+        (
+            "[[caller]]\ntoken = \"a\"\nfirm = \"A\"\nrole = \"b\"\n[[caller]]\ntoken = \"c\"\nfirm = \"A\"\nrole = \"b\"\n[[caller]]\ntoken = \"a\"\nfirm = \"B\"\nrole = \"b\"\n",
+            CallersError::DuplicateToken,
+        ),
+    ] {
+        assert!(rt; callers_refusal(alloc, text) == Some(want), "{text}");
+    }
+    for (token, want) in [
+        ("", true),
+        ("a b", true),
+        ("é", true),
+        ("!~", false),
+        (LONGEST, false),
+    ] {
+        let text = format!(in alloc;
+            "[[caller]]\ntoken = \"{token}\"\nfirm = \"A\"\nrole = \"b\"\n"
+        )?;
+        assert!(rt;
+            callers_refusal(alloc, text.as_str()).is_some() == want,
+            "{token}"
+        );
+    }
+    let text = format!(in alloc;
+        "[[caller]]\ntoken = \"{LONGEST}5\"\nfirm = \"A\"\nrole = \"b\"\n"
+    )?;
+    assert!(rt; callers_refusal(alloc, text.as_str()) == Some(CallersError::BadValue));
+    Ok(())
+}
+
+#[test]
+fn callers_found(rt: HostRuntime) -> Result<(), Fail> {
+    let alloc = rt.alloc();
+    let callers = Callers::read(alloc, vectors::CALLERS)?;
+    for (token, firm, role) in [
+        ("t-delta", "Delta", "contractor"),
+        ("t-gamma", "Gamma", "contractor"),
+        ("t-foxtrot", "Foxtrot", "contractor"),
+        ("t-echo", "Echo", "consultant"),
+    ] {
+        let caller = callers.find(token.as_bytes()).ok_or("caller")?;
+        assert!(rt; caller.firm.text() == firm);
+        assert!(rt; caller.role.text() == role);
+    }
+    for token in ["", "t-ech", "t-echoo", "T-ECHO"] {
+        assert!(rt; callers.find(token.as_bytes()).is_none(), "{token}");
+    }
+    let none = Callers::read(alloc, "")?;
+    assert!(rt; none.find(b"t-echo").is_none());
+    Ok(())
+}
