@@ -2,14 +2,13 @@
 -- `file` is what the file holds, `entries` are those of the extended dictionary.
 -- What stands under a heading that a group does not have reads as null.
 use Rattle.std.specs.Prelude.{◌≡◌, ◌≢◌, ℕ, ◌<◌, List, [], codes, false, Some, Contains}
-use Rattle.ags_rows.specs.Collecting.{At}
 use Rattle.ags_rows.specs.Names.{is_definition}
 use Rattle.ags_rows.specs.Contents.{Contents, under}
 use Rattle.ags_dict.specs.Parts.{parts_at}
 use Rattle.ags_dict.specs.Entries.{Entries, keys_of, parent_of}
 use Rattle.ags_cells.specs.Fits.{FitsTypeCode}
-use Rattle.ags_links.specs.DataRows.{DataRow, row_in, entry_of, data_rows}
-use Rattle.ags_links.specs.Keys.{key_of}
+use Rattle.ags_links.specs.DataRows.{DataRow, IsRow, entry_of, data_rows}
+use Rattle.ags_links.specs.Keys.{HasKeyOf}
 use Rattle.ags_links.specs.Parents.{IsParentRow}
 use Rattle.ags_links.specs.RecordLinks.{separators_of, IsPartOf, Names}
 use Rattle.ags_links.specs.Steps.{IsRecordLink}
@@ -110,14 +109,14 @@ pub record IsBrokenLink (entries : Entries) (file : List Contents) (row : DataRo
   pub is_part : IsPartOf (separators_of file) row heading part
   pub names_none : (other : DataRow) → Contains (data_rows file) other → Names entries (separators_of file).delimiter part other → ⊥
 
--- Rule 10a: the group has KEY headings, and an earlier row of it has an equal key.
-pub record RepeatsKey (entries : Entries) (group : Contents) (place : ℕ) (fields : List (List ℕ)) : Type 0 where
-  pub some_key : keys_of entries group.name ≢ []
+-- Rule 10a: the group has KEY headings, and an earlier row of it has an equal key. The rows are numbered over the file.
+pub record RepeatsKey (entries : Entries) (file : List Contents) (number : ℕ) (row : DataRow) : Type 0 where
+  pub some_key : keys_of entries row.group ≢ []
   pub earlier : ℕ
-  pub other : List (List ℕ)
-  pub before : earlier < place
-  pub stands : At group.rows earlier other
-  pub equal : key_of entries (row_in group other) ≡ key_of entries (row_in group fields)
+  pub other : DataRow
+  pub before : earlier < number
+  pub stands : IsRow (data_rows file) earlier other
+  pub equal : HasKeyOf entries row other
 
 -- Rule 10c: the group has a parent group, and the row has no parent row.
 pub record LacksParentRow (entries : Entries) (file : List Contents) (row : DataRow) : Type 0 where

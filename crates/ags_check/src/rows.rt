@@ -2,3 +2,5 @@
 
 pub mod abbreviations;
 pub mod columns;
+pub mod entries;
+pub mod listed;
