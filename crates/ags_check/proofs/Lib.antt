@@ -5,3 +5,6 @@ pub mod Ranks
 pub mod HeaderRules
 pub mod Groups
 pub mod Whole
+pub mod Listings
+pub mod PairSets
+pub mod EntryNotes
