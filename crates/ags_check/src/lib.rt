@@ -7,6 +7,7 @@ mod file;
 mod header;
 pub mod laws;
 mod places;
+mod row_stub;
 pub mod rows;
 
 pub use checking::{CheckError, check};
