@@ -8,3 +8,6 @@ pub mod Whole
 pub mod Listings
 pub mod PairSets
 pub mod EntryNotes
+pub mod LinkNotes
+pub mod RowNotes
+pub mod Numbering

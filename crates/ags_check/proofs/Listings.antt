@@ -122,11 +122,11 @@ is_pair_of file held heading text has h =
     let there = row_read (codes "ABBR") abbreviation_in file (heading, text) (h.group, h.fields, h.of_file, h.named, h.row, both) in
     has heading text ∙ list_any-from_Any (is_pair heading text) (abbreviations file) (there.0, (heading, text), there.1, there.2, pair_itself heading text)
 
-not_true : (b : Bool) → not b ≡ true → b ≡ true → ⊥
+pub not_true : (b : Bool) → not b ≡ true → b ≡ true → ⊥
 not_true true e h = true≢false (sym e)
 not_true false e h = true≢false (sym h)
 
-true_not : (b : Bool) → (b ≡ true → ⊥) → not b ≡ true
+pub true_not : (b : Bool) → (b ≡ true → ⊥) → not b ≡ true
 true_not true h = absurd (h refl)
 true_not false h = refl
 
