@@ -7,5 +7,5 @@ pub mod RowPhase
 pub mod Columns
 pub mod Listing
 pub mod Places
-pub mod Known
 pub mod Findings
+pub mod Laws

@@ -1,5 +1,5 @@
 -- What is said, on standard error, of a run that has no answer on its file, and its status.
-use Rattle.std.specs.Prelude.{◌≡◌, ℕ, ◌⊎◌, List, codes, Option}
+use Rattle.std.specs.Prelude.{◌≡◌, ℕ, ◌⊎◌, List, codes, Option, Result, Ok, Err, Bool, true, false}
 use Rattle.std.specs.Io.KnownBytes.{Appends}
 use Rattle.groundreg.specs.declared.fault.Fault.{Fault}
 use Rattle.groundreg.specs.declared.fault.Fault.TheVariants.{WordsRefused, TooLarge, NoMemory, Stream}
@@ -18,6 +18,17 @@ fault_status TooLarge = 4
 fault_status NoMemory = 5
 fault_status Stream = 6
 
--- the writer has taken all of the text and the run ends with the status, or a stream failed
-abbrev pub Tells : Option (List ℕ) → Option (List ℕ) → List ℕ → ℕ → ℕ → Type 0
-Tells old new text status ended = (Appends old new text × (ended ≡ status)) ⊎ (ended ≡ fault_status Stream)
+-- the writer has taken all of the text and the run ends with the status, or the writer has failed
+abbrev pub Tells : Option (List ℕ) → Option (List ℕ) → List ℕ → Bool → Bool → ℕ → ℕ → Type 0
+Tells old new text before after status ended =
+    (Appends old new text × (after ≡ before) × (ended ≡ status)) ⊎ ((after ≡ true) × (ended ≡ fault_status Stream))
+
+-- the fault is that of a stream
+abbrev pub is_stream : Fault → Bool
+is_stream Stream = true
+is_stream fault = false
+
+-- the result is the fault of a stream
+abbrev pub is_stream_fault : {T : Type 0} → Result T Fault → Bool
+is_stream_fault (Ok value) = false
+is_stream_fault (Err fault) = is_stream fault

@@ -1,13 +1,16 @@
 //! The check of the file that a stream carries.
 
-ghost use Rattle.std.specs.Prelude.{◌≡◌, ◌+◌, ◌≤◌, IfOk, IfErr, IfSome, length};
+ghost use Rattle.std.specs.Prelude.{◌≡◌, ◌↔◌, ◌||◌, IsTrue, false, ◌+◌, ◌≤◌, IfOk, IfErr, IfSome, length};
 ghost use Rattle.groundreg.specs.Findings.{FileFindings};
 ghost use Rattle.groundreg.specs.Answers.{AnswersOn, ReportsOn};
+ghost use Rattle.groundreg.specs.declared.fault.Fault.TheVariants.{Stream};
+ghost use Rattle.groundreg.specs.Faults.{fault_status, is_stream_fault};
 ghost use Rattle.groundreg.specs.Reading.{TakesAtMost};
 
 use crate::fault::Fault;
 use crate::input::read_file;
 use crate::report::{Report, findings_report};
+use crate::watched::Watched;
 use ags_rows::{Finding, LIMIT, RowsError, Scan, Sequence};
 use std::alloc::{AllocError, Global};
 use std::io::{Read, Write};
@@ -25,9 +28,11 @@ fn findings_of(alloc: Global, bytes: &[u8]) -> Result<Sequence<Finding>, AllocEr
 }
 
 /// What is printed for the file that the stream carries.
-fn report_on<R: Read>(alloc: Global, input: &mut R) -> Result<Report, Fault>
-    ensures taken { TakesAtMost (LIMIT + 1) (R.remaining input.old) (R.remaining input.new) }
-    ensures answers { IfSome (R.remaining input.old) (λ bytes. ReportsOn bytes result) }
+fn report_on<R: Read>(alloc: Global, input: &mut Watched<R>) -> Result<Report, Fault>
+    ensures taken { TakesAtMost (LIMIT + 1) (R.remaining input.old.inner) (R.remaining input.new.inner) }
+    ensures status { IfOk result (λ report. report.status ≤ 1) }
+    ensures noted { input.new.failed ≡ (input.old.failed || is_stream_fault result) }
+    ensures answers { IfSome (R.remaining input.old.inner) (λ bytes. ReportsOn bytes result) }
 {
     let bytes = read_file(alloc, input)?;
     let found = findings_of(alloc, bytes.as_slice())?;
@@ -37,13 +42,17 @@ fn report_on<R: Read>(alloc: Global, input: &mut R) -> Result<Report, Fault>
 /// Checks the file that the stream carries: prints its findings, or `clean`, and gives the status.
 pub fn check_stream<R: Read, W: Write, E: Write>(
     alloc: Global,
-    input: &mut R,
-    out: &mut W,
-    err: &mut E,
+    input: &mut Watched<R>,
+    out: &mut Watched<W>,
+    err: &mut Watched<E>,
 ) -> u8
-    ensures taken { TakesAtMost (LIMIT + 1) (R.remaining input.old) (R.remaining input.new) }
-    ensures answers { IfSome (R.remaining input.old) (λ bytes.
-        AnswersOn bytes (W.contents out.old) (W.contents out.new) (E.contents err.old) (E.contents err.new) result) }
+    requires input { input.old.failed ≡ false }
+    requires out { out.old.failed ≡ false }
+    requires err { err.old.failed ≡ false }
+    ensures failed { (result ≡ fault_status Stream) ↔ IsTrue (input.new.failed || (out.new.failed || err.new.failed)) }
+    ensures taken { TakesAtMost (LIMIT + 1) (R.remaining input.old.inner) (R.remaining input.new.inner) }
+    ensures answers { IfSome (R.remaining input.old.inner) (λ bytes.
+        AnswersOn bytes (W.contents out.old.inner) (W.contents out.new.inner) (E.contents err.old.inner) (E.contents err.new.inner) result) }
 {
     match report_on(alloc, input) {
         Ok(report) => report.print(out),

@@ -4,6 +4,7 @@ ghost use Rattle.std.specs.Prelude.{◌≡◌};
 ghost use Rattle.groundreg.specs.Faults.{fault_text, fault_status, Tells};
 ghost use Rattle.groundreg.specs.declared.fault.Fault.TheVariants.{NoMemory};
 
+use crate::watched::Watched;
 use std::alloc::AllocError;
 use std::io::Write;
 
@@ -53,19 +54,19 @@ impl Fault {
     }
 
     /// Says the fault, and gives the status that the run ends with.
-    pub fn tell<E: Write>(&self, err: &mut E) -> u8
-        ensures { Tells (E.contents err.old) (E.contents err.new) (fault_text self.now) (fault_status self.now) result }
+    pub fn tell<E: Write>(&self, err: &mut Watched<E>) -> u8
+        ensures { Tells (E.contents err.old.inner) (E.contents err.new.inner) (fault_text self.now) err.old.failed err.new.failed (fault_status self.now) result }
     {
         tell(err, self.text(), self.status())
     }
 }
 
-/// Writes all of a text, and has the writer pass it on: the status, or that of a stream that failed.
-pub fn tell<W: Write>(out: &mut W, text: &[u8], status: u8) -> u8
-    ensures { Tells (W.contents out.old) (W.contents out.new) text.now status result }
+/// Writes a text: the status, or that of a stream that failed.
+pub fn tell<W: Write>(out: &mut Watched<W>, text: &[u8], status: u8) -> u8
+    ensures { Tells (W.contents out.old.inner) (W.contents out.new.inner) text.now out.old.failed out.new.failed status result }
 {
-    if out.write_all(text).is_err() || out.flush().is_err() {
-        return Fault::Stream.status();
+    match out.write_text(text) {
+        Ok(()) => status,
+        Err(_) => Fault::Stream.status(),
     }
-    status
 }

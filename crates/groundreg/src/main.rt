@@ -7,12 +7,14 @@ mod input;
 mod report;
 #[cfg(test)]
 mod tests;
+mod watched;
 
 use check::check_stream;
 use fault::Fault;
 use std::env;
 use std::io::ErrorKind;
 use std::process::ExitCode;
+use watched::Watched;
 
 /// Refuses a command line that has words. A word that is not UTF-8 is a word.
 fn refuse_words(rt: &HostRuntime) -> Result<(), Fault> {
@@ -27,11 +29,11 @@ fn main(rt: HostRuntime) -> ExitCode {
     let status = match refuse_words(&rt) {
         Ok(()) => check_stream(
             rt.alloc(),
-            &mut rt.stdin(),
-            &mut rt.stdout(),
-            &mut rt.stderr(),
+            &mut Watched::new(rt.stdin()),
+            &mut Watched::new(rt.stdout()),
+            &mut Watched::new(rt.stderr()),
         ),
-        Err(fault) => fault.tell(&mut rt.stderr()),
+        Err(fault) => fault.tell(&mut Watched::new(rt.stderr())),
     };
     ExitCode::from(status)
 }

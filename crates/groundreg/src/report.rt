@@ -5,6 +5,7 @@ ghost use Rattle.groundreg.specs.Faults.{Tells};
 ghost use Rattle.groundreg.specs.Report.{report_of, report_line, shown_byte, shown_subject};
 
 use crate::fault::tell;
+use crate::watched::Watched;
 use ags_rows::{Bytes, Finding, Sequence};
 use std::alloc::{AllocError, Global};
 use std::io::Write;
@@ -18,8 +19,8 @@ pub struct Report {
 
 impl Report {
     /// Prints it, and gives the status.
-    pub fn print<W: Write>(&self, out: &mut W) -> u8
-        ensures { Tells (W.contents out.old) (W.contents out.new) self.now.text self.now.status result }
+    pub fn print<W: Write>(&self, out: &mut Watched<W>) -> u8
+        ensures { Tells (W.contents out.old.inner) (W.contents out.new.inner) self.now.text out.old.failed out.new.failed self.now.status result }
     {
         tell(out, self.text.as_slice(), self.status)
     }

@@ -4,6 +4,7 @@ use Rattle.std.specs.List.{fold}
 use Rattle.std.specs.Str.{bytes_eq}
 use Rattle.jiff.specs.Words.{IsDate, days_in_month}
 use Rattle.jiff_core.specs.Calendar.{days_from_civil}
+use Rattle.ags_rows.specs.Bytes.{first_digit}
 use Rattle.reg_policy.specs.Names.{hyphen}
 
 -- A day number: 0 is 1970-01-01, the last is 9999-12-31.
@@ -12,7 +13,7 @@ is_day_number n = int_le (pos 0) n && int_le n (pos 2_932_896)
 
 -- the digit of a number below 10
 abbrev pub digit : ℕ → ℕ
-digit n = 48 + n
+digit n = first_digit + n
 
 abbrev pub two_digits : ℕ → List ℕ
 two_digits n = digit (n / 10) ∷ digit (n % 10) ∷ []

@@ -15,8 +15,14 @@ abbrev pub hyphen : ℕ
 hyphen = 45
 
 -- a to z
+abbrev pub first_small : ℕ
+first_small = 97
+
+abbrev pub last_small : ℕ
+last_small = 122
+
 abbrev pub is_small : ℕ → Bool
-is_small b = nat_le 97 b && nat_le b 122
+is_small b = nat_le first_small b && nat_le b last_small
 
 -- a letter, a digit, `-` or `_`
 abbrev pub is_name_byte : ℕ → Bool
@@ -26,9 +32,15 @@ is_name_byte b = is_capital b || is_small b || is_digit b || b == hyphen || b ==
 abbrev pub is_name : List ℕ → Bool
 is_name text = is_within 32 text && list_all is_name_byte text
 
--- from `!` to `~`
+-- `!` to `~`, the characters that show
+abbrev pub first_visible : ℕ
+first_visible = 33
+
+abbrev pub last_visible : ℕ
+last_visible = 126
+
 abbrev pub is_token_byte : ℕ → Bool
-is_token_byte b = nat_le 33 b && nat_le b 126
+is_token_byte b = nat_le first_visible b && nat_le b last_visible
 
 -- A token: 1 to 64 characters, each from `!` to `~`.
 abbrev pub is_token : List ℕ → Bool

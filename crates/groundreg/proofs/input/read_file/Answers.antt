@@ -1,4 +1,4 @@
-use Rattle.std.proofs.Common.{rules, ◌≡◌, ◌+◌, length, arith}
+use Rattle.std.proofs.Common.{rules, refl, ◌≡◌, ◌+◌, length, arith}
 use Rattle.groundreg.proofs.Taking.{takes_start, takes_piece, takes_all, takes_part, takes_within, length-appended}
 use Rattle.groundreg.proofs.input.read_file.Goals as goal
 
@@ -6,6 +6,7 @@ pub reading-init : goal.reading-init
 reading-init g c = record {
   within = omega (arith, c.new-bytes.ensures.len);
   wide = search rules;
+  noted = refl;
   taken = takes_start _ _ c.new-bytes.ensures.items;
 }
 
@@ -29,6 +30,7 @@ reading-preserved g c =
     record {
       within = search rules;
       wide = c.reading.invariant.wide;
+      noted = search rules;
       taken = takes_piece _ _ _ _ _ _ c.reading.invariant.taken c.in_ok-count.ensures.appended;
     }
 

@@ -9,7 +9,8 @@ abbrev pub invariant-reading : goal.invariant-reading
 invariant-reading g l = record {
   within : length l.bytes.items ≤ LIMIT + 1;
   wide : vec_len l.piece ≡ PIECE;
-  taken : Consumes (g.R.Read.remaining l.initial.input) (g.R.Read.remaining l.input) l.bytes.items;
+  noted : l.input.failed ≡ l.initial.input.failed;
+  taken : Consumes (g.R.Read.remaining l.initial.input.inner) (g.R.Read.remaining l.input.inner) l.bytes.items;
 }
 
 abbrev pub decreases-reading : goal.decreases-reading

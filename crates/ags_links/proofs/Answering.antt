@@ -1,0 +1,181 @@
+-- What is found is what was asked for.
+use Rattle.std.proofs.Common.{◌≡◌, ℕ, zero, suc, ◌+◌, ◌<◌, ◌≤◌, Bool, true, false, cond, List, [], ◌∷◌, ◌++◌, length, take, get_or, map, filter, refl, sym, ap, subst, ◌∙◌, arith, inl, inr, ◌⊎◌, ◌↔◌, Contains, Option, Some, None, codes, ◌||◌}
+use Rattle.std.specs.List.Sorted.{IsStrictlyIncreasing}
+use Rattle.std.specs.List.{list_any}
+use Rattle.std.specs.Str.{bytes_eq}
+use Rattle.std.proofs.lemmas.Slice.Eq.{bytes_eq-Decides}
+use Rattle.std.proofs.lemmas.Bool.{true≢false}
+use Rattle.ags_dict.specs.Entries.{Entries, keys_of, parent_of}
+use Rattle.ags_dict.specs.Parts.{parts_at}
+use Rattle.ags_links.specs.declared.lookup.Lookup.{Lookup}
+use Rattle.ags_links.specs.DataRows.{DataRow, IsAt, IsRow, Between, ListsRows, entry_of}
+use Rattle.ags_links.specs.Families.{HasText, HasEntries, HasEntriesIn, HasKeyText, HasFileSet, has_heading, link_headings}
+use Rattle.ags_links.specs.Keys.{key_of, HasKeyOf, IsFirstOfKey}
+use Rattle.ags_links.specs.KeyTexts.{key_text}
+use Rattle.ags_links.specs.Lookups.{found, Finds}
+use Rattle.ags_links.specs.Parents.{IsParentRow, IsLinkHeading}
+use Rattle.ags_links.specs.RecordLinks.{Names}
+use Rattle.ags_links.specs.Steps.{IsFileRow}
+use Rattle.ags_links.proofs.Members.{contains_head, contains_tail, contains_cons, contains_filter, filter_contains}
+use Rattle.ags_links.proofs.Rising.{rising_nil, first_is_least}
+use Rattle.ags_links.proofs.RowLemmas.{one_at}
+use Rattle.ags_links.proofs.Spelled.{key_text_same}
+
+-- ---- a heading stands in a HEADING row
+
+any_by : (t : Bool) (g h : List ℕ) (headings : List (List ℕ)) → bytes_eq g h ≡ t → (t || list_any (λ k. bytes_eq k h) headings) ≡ true → (list_any (λ k. bytes_eq k h) headings ≡ true → Contains headings h) → Contains (g ∷ headings) h
+any_by true g h headings is some rest = subst (λ k. Contains (k ∷ headings) h) (sym ((bytes_eq-Decides g h).0 is)) (contains_head h headings)
+any_by false g h headings is some rest = contains_tail g headings h (rest some)
+
+heading_stands : (headings : List (List ℕ)) (h : List ℕ) → has_heading headings h ≡ true → Contains headings h
+heading_stands [] h some = absurd (true≢false (sym some))
+heading_stands (g ∷ headings) h some = any_by (bytes_eq g h) g h headings refl some (heading_stands headings h)
+
+or_true : (t u : Bool) → u ≡ true → (t || u) ≡ true
+or_true true u e = refl
+or_true false u e = e
+
+stands_heading : (headings : List (List ℕ)) (h : List ℕ) → Contains headings h → has_heading headings h ≡ true
+stands_heading [] h stood = absurd (omega (arith, stood.1))
+stands_heading (g ∷ headings) h stood = elim (contains_cons g headings h stood) [
+  | inl is ↦ ap (λ t. t || list_any (λ k. bytes_eq k h) headings) ((bytes_eq-Decides g h).1 is)
+  | inr more ↦ or_true (bytes_eq g h) (list_any (λ k. bytes_eq k h) headings) (stands_heading headings h more)
+]
+
+-- ---- lists under headings
+
+-- what is made is the same under each
+pub made_same : {X Y : Type 0} (f g : X → Y) (xs : List X) → map f xs ≡ map g xs → (x : X) → Contains xs x → f x ≡ g x
+made_same f g [] e x h = absurd (omega (arith, h.1))
+made_same f g (y ∷ xs) e x h = elim (contains_cons y xs x h) [
+  | inl is ↦ subst (λ z. f z ≡ g z) is (cc)
+  | inr more ↦ made_same f g xs (cc) x more
+]
+
+pub same_made : {X Y : Type 0} (f g : X → Y) (xs : List X) → ((x : X) → Contains xs x → f x ≡ g x) → map f xs ≡ map g xs
+same_made f g [] h = refl
+same_made f g (y ∷ xs) h =
+    let here : f y ≡ g y = h y (contains_head y xs) in
+    let rest : map f xs ≡ map g xs = same_made f g xs (λ x k. h x (contains_tail y xs x k)) in
+    cc
+
+-- ---- what is found is listed
+
+pub lists_found : (lookup : Lookup) (Has : ℕ → List ℕ → Type 0) (text numbers : List ℕ) (IsOne : ℕ → Type 0) → Finds lookup Has → numbers ≡ found lookup text
+    → ((n : ℕ) → Has n text → IsOne n) → ((n : ℕ) → IsOne n → Has n text) → ListsRows numbers IsOne
+lists_found lookup Has text numbers IsOne finds e to from = record {
+  rising = subst IsStrictlyIncreasing (sym e) (finds.rising text);
+  exact = λ n. (
+    λ h. to n ((finds.exact text n).0 (subst (λ l. Contains l n) e h)),
+    λ h. subst (λ l. Contains l n) (sym e) ((finds.exact text n).1 (from n h))
+  );
+}
+
+pub lists_none : (IsOne : ℕ → Type 0) → ((n : ℕ) → IsOne n → ⊥) → ListsRows [] IsOne
+lists_none IsOne none = record {
+  rising = rising_nil;
+  exact = λ n. (λ h. absurd (omega (arith, h.1)), λ h. absurd (none n h));
+}
+
+-- ---- parents
+
+some_same : (p q : List ℕ) → Some p ≡ Some q → p ≡ q
+some_same p q e = cc
+
+none_some : (p : List ℕ) → None ≡ Some p → ⊥
+none_some p e = cc
+
+link_heading_in : (entries : Entries) (parent : List ℕ) (headings : List (List ℕ)) (heading : List ℕ) → Contains (link_headings entries parent headings) heading → Contains (keys_of entries parent) heading × Contains headings heading
+link_heading_in entries parent headings heading h =
+    let k = filter_contains (has_heading headings) (keys_of entries parent) heading h in
+    (k.0, heading_stands headings heading k.1)
+
+in_link_headings : (entries : Entries) (parent : List ℕ) (headings : List (List ℕ)) (heading : List ℕ) → Contains (keys_of entries parent) heading → Contains headings heading → Contains (link_headings entries parent headings) heading
+in_link_headings entries parent headings heading key stood = contains_filter (has_heading headings) (keys_of entries parent) heading key (stands_heading headings heading stood)
+
+pub parents_listed : (entries : Entries) (rows : List DataRow) (n : ℕ) (r : DataRow) (parent : List ℕ) (lookup : Lookup) (text numbers : List ℕ) → IsRow rows n r → parent_of entries r.group ≡ Some parent
+    → Finds lookup (HasText rows (HasEntriesIn parent (link_headings entries parent r.headings))) → numbers ≡ found lookup text → text ≡ key_text (map (entry_of r) (link_headings entries parent r.headings))
+    → ListsRows numbers (Between rows (IsParentRow entries) n)
+parents_listed entries rows n r parent lookup text numbers row named finds e spelled =
+    let headings = link_headings entries parent r.headings in
+    lists_found lookup (HasText rows (HasEntriesIn parent headings)) text numbers (Between rows (IsParentRow entries) n) finds e
+    (λ m h.
+      let s = h.0 in
+      let same : map (entry_of s) headings ≡ map (entry_of r) headings = key_text_same (map (entry_of s) headings) (map (entry_of r) headings) (h.2.1 ∙ spelled) in
+      (r, s, row, h.1, (named ∙ ap (λ p. Some p) (sym h.2.0),
+        λ heading link. sym (made_same (entry_of s) (entry_of r) headings same heading (in_link_headings entries parent r.headings heading (subst (λ p. Contains (keys_of entries p) heading) h.2.0 link.0) link.1)))))
+    (λ m h.
+      let s = h.1 in
+      let is : h.0 ≡ r = one_at rows n h.0 r h.2 row in
+      let parent_row : IsParentRow entries r s = subst (λ q. IsParentRow entries q s) is h.4 in
+      let group : s.group ≡ parent = some_same (s.group) parent (sym parent_row.0 ∙ named) in
+      let same : map (entry_of r) headings ≡ map (entry_of s) headings = same_made (entry_of r) (entry_of s) headings (λ heading in_list.
+        let link = link_heading_in entries parent r.headings heading in_list in
+        parent_row.1 heading (subst (λ p. Contains (keys_of entries p) heading) (sym group) link.0, link.1)) in
+      (s, h.3, (group, ap key_text (sym same) ∙ sym spelled)))
+
+pub no_parents : (entries : Entries) (rows : List DataRow) (n : ℕ) (r : DataRow) → IsRow rows n r → parent_of entries r.group ≡ None → ListsRows [] (Between rows (IsParentRow entries) n)
+no_parents entries rows n r row none = lists_none (Between rows (IsParentRow entries) n) (λ m h.
+    let is : h.0 ≡ r = one_at rows n h.0 r h.2 row in
+    let named : parent_of entries r.group ≡ Some h.1.group = subst (λ (q : DataRow). parent_of entries q.group ≡ Some h.1.group) is h.4.0 in
+    none_some h.1.group (sym none ∙ named))
+
+-- ---- keys
+
+head_same : (p q : List ℕ) (ps qs : List (List ℕ)) → p ∷ ps ≡ q ∷ qs → p ≡ q
+head_same p q ps qs e = cc
+
+tail_same : (p q : List ℕ) (ps qs : List (List ℕ)) → p ∷ ps ≡ q ∷ qs → ps ≡ qs
+tail_same p q ps qs e = cc
+
+cons_same : (p q : List ℕ) (ps qs : List (List ℕ)) → p ≡ q → ps ≡ qs → p ∷ ps ≡ q ∷ qs
+cons_same p q ps qs e es = cc
+
+contains_first : (numbers : List ℕ) → 0 < length numbers → Contains numbers (get_or numbers 0 0)
+contains_first [] lt = absurd (omega arith)
+contains_first (n ∷ numbers) lt = contains_head n numbers
+
+pub key_found : (entries : Entries) (rows : List DataRow) (n : ℕ) (r : DataRow) (lookup : Lookup) (text : List ℕ) → IsRow rows n r → Finds lookup (HasText rows (HasKeyText entries)) → text ≡ key_text (r.group ∷ key_of entries r)
+    → Contains (found lookup text) n
+key_found entries rows n r lookup text row finds spelled = (finds.exact text n).1 (r, row, sym spelled)
+
+pub first_found : (entries : Entries) (rows : List DataRow) (n : ℕ) (r : DataRow) (lookup : Lookup) (text numbers : List ℕ) → IsRow rows n r → Finds lookup (HasText rows (HasKeyText entries)) → text ≡ key_text (r.group ∷ key_of entries r)
+    → numbers ≡ found lookup text → 0 < length numbers → IsFirstOfKey rows entries n (get_or numbers 0 0)
+first_found entries rows n r lookup text numbers row finds spelled e some =
+    let first = get_or numbers 0 0 in
+    let at_text = (finds.exact text first).0 (subst (λ l. Contains l first) e (contains_first numbers some)) in
+    let s = at_text.0 in
+    let same = key_text_same (s.group ∷ key_of entries s) (r.group ∷ key_of entries r) (at_text.2 ∙ spelled) in
+    ((r, s, row, at_text.1, (head_same s.group r.group (key_of entries s) (key_of entries r) same, tail_same s.group r.group (key_of entries s) (key_of entries r) same)),
+      λ k h.
+        let is : h.0 ≡ r = one_at rows n h.0 r h.2 row in
+        let key : HasKeyOf entries r h.1 = subst (λ q. HasKeyOf entries q h.1) is h.4 in
+        let text_of : key_text (h.1.group ∷ key_of entries h.1) ≡ text = ap key_text (cons_same h.1.group r.group (key_of entries h.1) (key_of entries r) key.0 key.1) ∙ sym spelled in
+        first_is_least numbers k (subst IsStrictlyIncreasing (sym e) (finds.rising text)) (subst (λ l. Contains l k) (sym e) ((finds.exact text k).1 (h.1, h.3, text_of))))
+
+-- ---- parts of record links
+
+pub named_listed : (entries : Entries) (rows : List DataRow) (delimiter : ℕ) (part : List ℕ) (lookup : Lookup) (text numbers : List ℕ) → Finds lookup (HasText rows (HasKeyText entries)) → text ≡ key_text (parts_at delimiter part)
+    → numbers ≡ found lookup text → ListsRows numbers (λ m. (s : DataRow) × IsRow rows m s × Names entries delimiter part s)
+named_listed entries rows delimiter part lookup text numbers finds spelled e =
+    lists_found lookup (HasText rows (HasKeyText entries)) text numbers (λ m. (s : DataRow) × IsRow rows m s × Names entries delimiter part s) finds e
+    (λ m h. (h.0, h.1, key_text_same (parts_at delimiter part) (h.0.group ∷ key_of entries h.0) (sym (h.2 ∙ spelled))))
+    (λ m h. (h.0, h.1, ap key_text (sym h.2) ∙ sym spelled))
+
+-- ---- rows of FILE
+
+pub files_listed : (rows : List DataRow) (n : ℕ) (r : DataRow) (lookup : Lookup) (text numbers : List ℕ) → IsRow rows n r → Finds lookup (HasText rows HasFileSet) → text ≡ entry_of r (codes "FILE_FSET") → (text ≡ [] → ⊥)
+    → numbers ≡ found lookup text → ListsRows numbers (Between rows IsFileRow n)
+files_listed rows n r lookup text numbers row finds spelled some e =
+    lists_found lookup (HasText rows HasFileSet) text numbers (Between rows IsFileRow n) finds e
+    (λ m h. (r, h.0, row, h.1, (h.2.0, λ null. some (spelled ∙ null), h.2.1 ∙ spelled)))
+    (λ m h.
+      let is : h.0 ≡ r = one_at rows n h.0 r h.2 row in
+      let file : IsFileRow r h.1 = subst (λ q. IsFileRow q h.1) is h.4 in
+      (h.1, h.3, (file.0, file.2 ∙ sym spelled)))
+
+pub no_files : (rows : List DataRow) (n : ℕ) (r : DataRow) → IsRow rows n r → entry_of r (codes "FILE_FSET") ≡ [] → ListsRows [] (Between rows IsFileRow n)
+no_files rows n r row null = lists_none (Between rows IsFileRow n) (λ m h.
+    let is : h.0 ≡ r = one_at rows n h.0 r h.2 row in
+    let file : IsFileRow r h.1 = subst (λ q. IsFileRow q h.1) is h.4 in
+    file.1 null)

@@ -1,0 +1,84 @@
+-- A text cut at a separator, and the key text of its parts.
+use Rattle.std.proofs.Common.{◌≡◌, ℕ, zero, suc, ◌+◌, ◌<◌, ◌≤◌, Bool, true, false, cond, eqb, List, [], ◌∷◌, ◌++◌, take, drop, length, get_or, map, flat_map, Some, None, refl, sym, ap, ◌∙◌, append_assoc, arith, position, ◌-◌, ltb, inl, inr}
+use Rattle.std.proofs.lemmas.List.Quantifiers.{position-Some}
+use Rattle.std.specs.List.{position_or_len}
+use Rattle.std.proofs.lemmas.Bool.{cases_lt, lt-ltb, cond-true}
+use Rattle.std.proofs.lemmas.List.{take_rest}
+use Rattle.std.proofs.lemmas.List.Sums.{fails_before_first}
+use Rattle.ags_dict.specs.Parts.{parts_at, onto_first}
+use Rattle.ags_links.specs.KeyTexts.{end_mark, byte_text, ended_text, key_text}
+
+-- no separator stands in the text
+none_cut : (s : ℕ) (text : List ℕ) → ((j : ℕ) → j < length text → eqb (get_or text j 0) s ≡ false) → parts_at s text ≡ text ∷ []
+none_cut s [] h = refl
+none_cut s (b ∷ text) h = rw (h 0 (omega arith), none_cut s text (λ j lt. h (suc j) (omega (arith, lt)))) refl
+
+-- the first separator is at k
+first_cut : (s : ℕ) (text : List ℕ) (k : ℕ) → k < length text → eqb (get_or text k 0) s ≡ true → ((j : ℕ) → j < k → eqb (get_or text j 0) s ≡ false)
+    → parts_at s text ≡ take k text ∷ parts_at s (drop (suc k) text)
+first_cut s [] k lt at before = absurd (omega (arith, lt))
+first_cut s (b ∷ text) zero lt at before = rw at refl
+first_cut s (b ∷ text) (suc k) lt at before =
+    rw (before 0 (omega arith), first_cut s text k (omega (arith, lt)) at (λ j l. before (suc j) (omega (arith, l)))) refl
+
+parts_cut : (s : ℕ) (text : List ℕ) (k : ℕ) → position (λ b. eqb b s) text ≡ Some k → parts_at s text ≡ take k text ∷ parts_at s (drop (k + 1) text)
+parts_cut s text k e =
+    let h = position-Some (λ b. eqb b s) text k 0 e in
+    let n : suc k ≡ k + 1 = omega arith in
+    first_cut s text k h.0 h.1 h.2 ∙ ap (λ (m : ℕ). take k text ∷ parts_at s (drop m text)) n
+
+-- one more part is taken
+pub part_taken : (s : ℕ) (front : List (List ℕ)) (rest text part : List ℕ) (k : ℕ) → position (λ b. eqb b s) rest ≡ Some k → part ≡ take k rest → front ++ parts_at s rest ≡ parts_at s text
+    → (front ++ part ∷ []) ++ parts_at s (take (length rest - (k + 1)) (drop (k + 1) rest)) ≡ parts_at s text
+part_taken s front rest text part k e is so_far =
+    ap (λ r. (front ++ part ∷ []) ++ parts_at s r) (take_rest rest (k + 1))
+    ∙ append_assoc front (part ∷ []) (parts_at s (drop (k + 1) rest))
+    ∙ ap (λ p. front ++ p ∷ parts_at s (drop (k + 1) rest)) is
+    ∙ ap (λ l. front ++ l) (sym (parts_cut s rest k e)) ∙ so_far
+
+-- the last part is taken
+pub part_left : (s : ℕ) (front : List (List ℕ)) (rest text : List ℕ) → position (λ b. eqb b s) rest ≡ None → front ++ parts_at s rest ≡ parts_at s text → front ++ rest ∷ [] ≡ parts_at s text
+part_left s front rest text e so_far =
+    let p : ℕ → Bool = λ b. eqb b s in
+    let n = position_or_len p rest in
+    let far : length rest ≤ n = elim (cases_lt n (length rest)) [
+      | inl lt ↦ let q : Some n ≡ None = sym (cond-true (ltb n (length rest)) (Some n) None (lt-ltb n (length rest) lt)) ∙ e in absurd cc
+      | inr le ↦ le
+    ] in
+    let cut : parts_at s rest ≡ rest ∷ [] = none_cut s rest (λ j lt. fails_before_first p rest j 0 (omega (arith, lt, far))) in
+    ap (λ l. front ++ l) (sym cut) ∙ so_far
+
+-- ---- the key text of the parts
+
+-- what a byte of a text that is cut adds to it
+abbrev pub piece_byte : ℕ → ℕ → List ℕ
+piece_byte s b = cond (eqb b s) (end_mark ∷ []) (byte_text b)
+
+-- a list has a first item
+abbrev HasFirst : List (List ℕ) → Type 0
+HasFirst parts = (part : List ℕ) × (more : List (List ℕ)) × (parts ≡ part ∷ more)
+
+first_by : (s b : ℕ) (text : List ℕ) (t : Bool) → eqb b s ≡ t → HasFirst (parts_at s text) → HasFirst (parts_at s (b ∷ text))
+first_by s b text true e h = ([], parts_at s text, rw e refl)
+first_by s b text false e h = (b ∷ h.0, h.1, rw (e, h.2) refl)
+
+-- there is a first part
+first_part : (s : ℕ) (text : List ℕ) → HasFirst (parts_at s text)
+first_part s [] = ([], [], refl)
+first_part s (b ∷ text) = first_by s b text (eqb b s) refl (first_part s text)
+
+onto_text : (b : ℕ) (parts : List (List ℕ)) (part : List ℕ) (more : List (List ℕ)) → parts ≡ part ∷ more → key_text (onto_first b parts) ≡ byte_text b ++ key_text parts
+onto_text b parts part more e =
+    rw e (ap (λ l. l ++ flat_map ended_text more) (append_assoc (byte_text b) (flat_map byte_text part) (end_mark ∷ [])) ∙ append_assoc (byte_text b) (ended_text part) (flat_map ended_text more))
+
+abbrev SameText : ℕ → List ℕ → Type 0
+SameText s text = flat_map (piece_byte s) text ++ end_mark ∷ [] ≡ key_text (parts_at s text)
+
+by_byte : (s b : ℕ) (text : List ℕ) (t : Bool) → eqb b s ≡ t → HasFirst (parts_at s text) → SameText s text → SameText s (b ∷ text)
+by_byte s b text true e h same = rw e (ap (λ l. end_mark ∷ l) same)
+by_byte s b text false e h same =
+    rw e (append_assoc (byte_text b) (flat_map (piece_byte s) text) (end_mark ∷ []) ∙ ap (λ l. byte_text b ++ l) same ∙ sym (onto_text b (parts_at s text) h.0 h.1 h.2))
+
+pub pieces_key_text : (s : ℕ) (text : List ℕ) → flat_map (piece_byte s) text ++ end_mark ∷ [] ≡ key_text (parts_at s text)
+pieces_key_text s [] = refl
+pieces_key_text s (b ∷ text) = by_byte s b text (eqb b s) refl (first_part s text) (pieces_key_text s text)

@@ -1,0 +1,125 @@
+-- The rows that record links name, part after part.
+use Rattle.std.proofs.Common.{◌≡◌, ℕ, ◌+◌, ◌<◌, ◌≤◌, Bool, true, false, not, eqb, List, [], ◌∷◌, ◌++◌, length, take, get_or, map, refl, sym, ap, subst, ◌∙◌, arith, inl, inr, ◌⊎◌, ◌↔◌, Contains, IsTrue}
+use Rattle.std.specs.List.Sorted.{IsStrictlyIncreasing}
+use Rattle.std.proofs.lemmas.Bool.{true≢false, eqb-true}
+use Rattle.std.proofs.lemmas.List.Elements.{Contains-push, Contains-push_cases, Contains-append_left, Contains-append_right, Contains-append_cases}
+use Rattle.ags_dict.specs.Parts.{parts_at}
+use Rattle.ags_links.specs.Adding.{AddsRows}
+use Rattle.ags_links.specs.DataRows.{File, DataRow, IsRow, Between, ListsRows, entry_of}
+use Rattle.ags_links.specs.Indexing.{rows_in, NamesAt, IsLinkAt}
+use Rattle.ags_links.specs.RecordLinks.{separators_of, IsPartOf, IsLinkRow}
+use Rattle.ags_links.proofs.Members.{contains_head}
+use Rattle.ags_links.proofs.RowLemmas.{one_at}
+
+-- ---- what is added
+
+pub adds_listed : (old new rows : List ℕ) (IsOne : ℕ → Type 0) → new ≡ old ++ rows → ListsRows rows IsOne → AddsRows old new IsOne
+adds_listed old new rows IsOne e lists = record {
+  only = λ n h. elim (Contains-append_cases old rows n (subst (λ l. Contains l n) e h)) [ inl was ↦ inl was | inr is ↦ inr ((lists.exact n).0 is) ];
+  kept = λ n h. subst (λ l. Contains l n) (sym e) (Contains-append_left old rows n h);
+  all = λ n h. subst (λ l. Contains l n) (sym e) (Contains-append_right old rows n ((lists.exact n).1 h));
+}
+
+pub adds_then : (first second third : List ℕ) (IsOne IsNext IsBoth : ℕ → Type 0) → AddsRows first second IsOne → AddsRows second third IsNext
+    → ((n : ℕ) → IsOne n → IsBoth n) → ((n : ℕ) → IsNext n → IsBoth n) → ((n : ℕ) → IsBoth n → IsOne n ⊎ IsNext n) → AddsRows first third IsBoth
+adds_then first second third IsOne IsNext IsBoth one next left right split = record {
+  only = λ n h. elim (next.only n h) [
+    | inl was ↦ elim (one.only n was) [ inl older ↦ inl older | inr is ↦ inr (left n is) ]
+    | inr is ↦ inr (right n is)
+  ];
+  kept = λ n h. next.kept n (one.kept n h);
+  all = λ n h. elim (split n h) [ inl is ↦ next.kept n (one.all n is) | inr is ↦ next.all n is ];
+}
+
+pub adds_same : (old new : List ℕ) (IsOne IsAlso : ℕ → Type 0) → AddsRows old new IsOne → ((n : ℕ) → IsOne n → IsAlso n) → ((n : ℕ) → IsAlso n → IsOne n) → AddsRows old new IsAlso
+adds_same old new IsOne IsAlso adds to from = record {
+  only = λ n h. elim (adds.only n h) [ inl was ↦ inl was | inr is ↦ inr (to n is) ];
+  kept = adds.kept;
+  all = λ n h. adds.all n (from n h);
+}
+
+pub adds_none : (old : List ℕ) (IsOne : ℕ → Type 0) → ((n : ℕ) → IsOne n → ⊥) → AddsRows old old IsOne
+adds_none old IsOne none = record { only = λ n h. inl h; kept = λ n h. h; all = λ n h. absurd (none n h) }
+
+-- ---- parts
+
+-- one of the parts names the row
+abbrev pub NamedAmong : File → List (List ℕ) → ℕ → Type 0
+NamedAmong file parts n = (part : List ℕ) × Contains parts part × NamesAt file part n
+
+pub among_begins : (file : File) (old : List ℕ) → AddsRows old old (NamedAmong file [])
+among_begins file old = adds_none old (NamedAmong file []) (λ n h. omega (arith, h.1.1))
+
+pub among_next : (file : File) (old found new rows : List ℕ) (parts : List (List ℕ)) (part : List ℕ) → AddsRows old found (NamedAmong file parts) → ListsRows rows (NamesAt file part) → new ≡ found ++ rows
+    → AddsRows old new (NamedAmong file (parts ++ part ∷ []))
+among_next file old found new rows parts part so_far lists e =
+    adds_then old found new (NamedAmong file parts) (NamesAt file part) (NamedAmong file (parts ++ part ∷ [])) so_far (adds_listed found new rows (NamesAt file part) e lists)
+    (λ n h. (h.0, Contains-append_left parts (part ∷ []) h.0 h.1, h.2))
+    (λ n h. (part, Contains-push parts part, h))
+    (λ n h. elim (Contains-push_cases parts part h.0 h.1) [
+      | inl was ↦ inl (h.0, was, h.2)
+      | inr is ↦ inr (subst (λ p. NamesAt file p n) (sym is) h.2)
+    ])
+
+-- each of the parts names a row
+abbrev pub EachNames : File → List (List ℕ) → Type 0
+EachNames file parts = (part : List ℕ) → Contains parts part → (n : ℕ) × NamesAt file part n
+
+pub each_begins : (file : File) → EachNames file []
+each_begins file part h = absurd (omega (arith, h.1))
+
+some_listed : (rows : List ℕ) (IsOne : ℕ → Type 0) → ListsRows rows IsOne → (t : Bool) → t ≡ eqb (length rows) 0 → t ≡ false → (n : ℕ) × IsOne n
+some_listed [] IsOne lists t e is = absurd (true≢false (sym e ∙ is))
+some_listed (n ∷ rows) IsOne lists t e is = (n, (lists.exact n).0 (contains_head n rows))
+
+pub none_listed : (rows : List ℕ) (IsOne : ℕ → Type 0) → ListsRows rows IsOne → (t : Bool) → t ≡ eqb (length rows) 0 → t ≡ true → (n : ℕ) → IsOne n → ⊥
+none_listed [] IsOne lists t e is n h = let k = (lists.exact n).1 h in omega (arith, k.1)
+none_listed (m ∷ rows) IsOne lists t e is n h = let z : length (m ∷ rows) ≡ 0 = eqb-true (length (m ∷ rows)) 0 (sym e ∙ is) in omega arith
+
+pub has_listed : (rows : List ℕ) (IsOne : ℕ → Type 0) → ListsRows rows IsOne → (t : Bool) → t ≡ eqb (length rows) 0 → IsTrue (not t) ↔ ((n : ℕ) × IsOne n)
+has_listed rows IsOne lists true e = (λ h. absurd (true≢false (sym h)), λ h. absurd (none_listed rows IsOne lists true e refl h.0 h.1))
+has_listed rows IsOne lists false e = (λ h. some_listed rows IsOne lists false e refl, λ h. refl)
+
+pub each_next : (file : File) (parts : List (List ℕ)) (part : List ℕ) (rows : List ℕ) → EachNames file parts → ListsRows rows (NamesAt file part) → (t : Bool) → t ≡ eqb (length rows) 0 → t ≡ false → EachNames file (parts ++ part ∷ [])
+each_next file parts part rows so_far lists t e is other h = elim (Contains-push_cases parts part other h) [
+  | inl was ↦ so_far other was
+  | inr same ↦ subst (λ p. (n : ℕ) × NamesAt file p n) same (some_listed rows (NamesAt file part) lists t e is)
+]
+
+-- what the parts of an entry name is what the entry links to
+pub link_rows : (file : File) (n : ℕ) (r : DataRow) (heading : List ℕ) (parts : List (List ℕ)) (old new : List ℕ) → IsRow (rows_in file) n r
+    → parts ≡ parts_at (separators_of file.contents).concatenator (entry_of r heading) → AddsRows old new (NamedAmong file parts) → AddsRows old new (IsLinkAt file heading n)
+link_rows file n r heading parts old new row e adds = adds_same old new (NamedAmong file parts) (IsLinkAt file heading n) adds
+    (λ m h. (r, h.2.0, row, h.2.1, (h.0, subst (λ ps. Contains ps h.0) e h.1, h.2.2)))
+    (λ m h.
+      let is = one_at (rows_in file) n h.0 r h.2 row in
+      let link : IsLinkRow file.entries (separators_of file.contents) heading r h.1 = subst (λ q. IsLinkRow file.entries (separators_of file.contents) heading q h.1) is h.4 in
+      (link.0, subst (λ ps. Contains ps link.0) (sym e) link.1, (h.1, h.3, link.2)))
+
+nothing : (n : ℕ) → Contains {X = ℕ} [] n → ⊥
+nothing n h = omega (arith, h.1)
+
+-- each number once
+pub once_lists : (old new once : List ℕ) (IsOne : ℕ → Type 0) → old ≡ [] → AddsRows old new IsOne → ((n : ℕ) → Contains once n ↔ Contains new n) → IsStrictlyIncreasing once → ListsRows once IsOne
+once_lists old new once IsOne empty adds same rises = record {
+  rising = rises;
+  exact = λ n. (
+    λ h. elim (adds.only n ((same n).0 h)) [
+      | inl was ↦ absurd (nothing n (subst (λ l. Contains l n) empty was))
+      | inr is ↦ is
+    ],
+    λ h. (same n).1 (adds.all n h)
+  );
+}
+
+-- the rows that some part of an entry names, each once
+pub link_lists : (file : File) (r : DataRow) (heading : List ℕ) (parts : List (List ℕ)) (found once : List ℕ) → parts ≡ parts_at (separators_of file.contents).concatenator (entry_of r heading)
+    → AddsRows [] found (NamedAmong file parts) → ((n : ℕ) → Contains once n ↔ Contains found n) → IsStrictlyIncreasing once
+    → ListsRows once (λ m. (s : DataRow) × IsRow (rows_in file) m s × IsLinkRow file.entries (separators_of file.contents) heading r s)
+link_lists file r heading parts found once e adds same rises =
+    let IsOne = λ (m : ℕ). (s : DataRow) × IsRow (rows_in file) m s × IsLinkRow file.entries (separators_of file.contents) heading r s in
+    once_lists [] found once IsOne refl
+    (adds_same [] found (NamedAmong file parts) IsOne adds
+      (λ m h. (h.2.0, h.2.1, (h.0, subst (λ ps. Contains ps h.0) e h.1, h.2.2)))
+      (λ m h. (h.2.0, subst (λ ps. Contains ps h.2.0) (sym e) h.2.1, (h.0, h.1, h.2.2))))
+    same rises

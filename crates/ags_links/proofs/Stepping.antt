@@ -1,0 +1,250 @@
+-- The steps of a row, and of all rows.
+use Rattle.std.proofs.Common.{◌≡◌, ℕ, suc, ◌+◌, ◌-◌, ◌<◌, ◌≤◌, Bool, true, false, not, eqb, List, [], ◌∷◌, ◌++◌, length, take, get_or, map, refl, sym, ap, subst, ◌∙◌, arith, inl, inr, ◌⊎◌, ◌↔◌, Contains, All, codes, ◌&&◌}
+use Rattle.std.specs.List.Sorted.{IsStrictlyIncreasing}
+use Rattle.std.specs.Str.{bytes_eq}
+use Rattle.std.proofs.lemmas.Bool.{true≢false, cases_lt, eqb-true}
+use Rattle.std.proofs.lemmas.Slice.Eq.{bytes_eq-Decides}
+use Rattle.std.proofs.lemmas.List.{get_or_append_left, get_or-append_right, get_or-map, length-append, length-map, get_or_default}
+use Rattle.std.proofs.lemmas.List.Elements.{Contains-push, Contains-push_cases, Contains-append_left, Contains-append_right, Contains-append_cases, Contains-get_or}
+use Rattle.ags_rows.specs.Contents.{under}
+use Rattle.ags_rows.specs.Names.{is_definition}
+use Rattle.ags_links.specs.Adding.{AddsRows}
+use Rattle.ags_links.specs.DataRows.{File, DataRow, IsRow, Between, ListsRows, entry_of}
+use Rattle.ags_links.specs.Indexing.{rows_in, IsParentAt, IsLinkAt, IsLinkedAt, IsLinkStepAt, IsFileRowAt, IsFileStepAt}
+use Rattle.ags_links.specs.RecordLinks.{separators_of, IsLinkRow}
+use Rattle.ags_links.specs.Steps.{IsRecordLink, LinkStep, FileStep, Step, StepAt, IsBefore, ListsSteps}
+use Rattle.ags_links.specs.Walks.{InRange}
+use Rattle.ags_links.proofs.Linking.{adds_then, adds_same, adds_none, adds_listed, once_lists}
+use Rattle.ags_links.proofs.Members.{contains_map, map_contains}
+use Rattle.ags_links.proofs.RowLemmas.{one_at}
+
+-- ---- tests
+
+both_true : (a b : Bool) → (a && b) ≡ true → (a ≡ true) × (b ≡ true)
+both_true true b e = (refl, e)
+both_true false b e = absurd (true≢false (sym e))
+
+true_both : (a b : Bool) → a ≡ true → b ≡ true → (a && b) ≡ true
+true_both true b e f = f
+true_both false b e f = absurd (true≢false (sym e))
+
+not_true : (a : Bool) → not a ≡ true → a ≡ false
+not_true true e = absurd (true≢false (sym e))
+not_true false e = refl
+
+other_bytes : (xs ys : List ℕ) → (xs ≡ ys → ⊥) → not (bytes_eq xs ys) ≡ true
+other_bytes xs ys ne = by_test (bytes_eq xs ys) refl where
+  by_test : (t : Bool) → bytes_eq xs ys ≡ t → not t ≡ true
+  by_test true e = absurd (ne ((bytes_eq-Decides xs ys).0 e))
+  by_test false e = refl
+
+bytes_differ : (xs ys : List ℕ) → not (bytes_eq xs ys) ≡ true → xs ≡ ys → ⊥
+bytes_differ xs ys e same = true≢false (sym ((bytes_eq-Decides xs ys).1 same) ∙ not_true (bytes_eq xs ys) e)
+
+not_null : (xs : List ℕ) → not (eqb (length xs) 0) ≡ true → xs ≡ [] → ⊥
+not_null xs e null = true≢false (sym (ap (λ l. eqb (length l) 0) null) ∙ not_true (eqb (length xs) 0) e)
+
+null_not : (xs : List ℕ) → (xs ≡ [] → ⊥) → not (eqb (length xs) 0) ≡ true
+null_not [] some = absurd (some refl)
+null_not (x ∷ xs) some = by_test (eqb (length (x ∷ xs)) 0) refl where
+  by_test : (t : Bool) → eqb (length (x ∷ xs)) 0 ≡ t → not t ≡ true
+  by_test true e = let z : length (x ∷ xs) ≡ 0 = eqb-true (length (x ∷ xs)) 0 e in absurd (omega arith)
+  by_test false e = refl
+
+-- ---- rows of FILE
+
+-- the test of a group that steps to rows of FILE
+abbrev pub may_have_files : List ℕ → Bool
+may_have_files group = not (is_definition group) && not (bytes_eq group (codes "FILE"))
+
+pub file_steps : (file : File) (n : ℕ) (r : DataRow) (old new rows : List ℕ) → IsRow (rows_in file) n r → may_have_files r.group ≡ true → ListsRows rows (IsFileRowAt file n) → new ≡ old ++ rows → AddsRows old new (IsFileStepAt file n)
+file_steps file n r old new rows row may lists e =
+    let tests = both_true (not (is_definition r.group)) (not (bytes_eq r.group (codes "FILE"))) may in
+    let data_group = not_true (is_definition r.group) tests.0 in
+    let other = bytes_differ r.group (codes "FILE") tests.1 in
+    adds_same old new (IsFileRowAt file n) (IsFileStepAt file n) (adds_listed old new rows (IsFileRowAt file n) e lists)
+    (λ m h.
+      let is : r ≡ h.0 = one_at (rows_in file) n r h.0 row h.2 in
+      (h.0, h.1, h.2, h.3, (subst (λ (q : DataRow). is_definition q.group ≡ false) is data_group, subst (λ (q : DataRow). q.group ≡ codes "FILE" → ⊥) is other, h.4)))
+    (λ m h. (h.0, h.1, h.2, h.3, h.4.2))
+
+pub no_file_steps : (file : File) (n : ℕ) (r : DataRow) (old : List ℕ) → IsRow (rows_in file) n r → may_have_files r.group ≡ false → AddsRows old old (IsFileStepAt file n)
+no_file_steps file n r old row may = adds_none old (IsFileStepAt file n) (λ m h.
+    let is : h.0 ≡ r = one_at (rows_in file) n h.0 r h.2 row in
+    let step : FileStep r h.1 = subst (λ q. FileStep q h.1) is h.4 in
+    let data_group : not (is_definition r.group) ≡ true = ap not step.0 in
+    true≢false (sym (true_both (not (is_definition r.group)) (not (bytes_eq r.group (codes "FILE"))) data_group (other_bytes r.group (codes "FILE") step.1)) ∙ may))
+
+-- ---- record links
+
+-- the test of a heading that is a record link of the row
+abbrev pub is_link : DataRow → List ℕ → Bool
+is_link r heading = bytes_eq (under r.headings r.types heading) (codes "RL") && not (eqb (length (entry_of r heading)) 0)
+
+-- one of these headings is a record link of the row, and names the other
+abbrev pub LinkedAmong : File → ℕ → List (List ℕ) → ℕ → Type 0
+LinkedAmong file n headings m = (heading : List ℕ) × (r : DataRow) × Contains headings heading × IsRow (rows_in file) n r × (is_link r heading ≡ true) × IsLinkAt file heading n m
+
+pub linked_begins : (file : File) (n : ℕ) (old : List ℕ) → AddsRows old old (LinkedAmong file n [])
+linked_begins file n old = adds_none old (LinkedAmong file n []) (λ m h. omega (arith, h.2.1))
+
+pub linked_next : (file : File) (n : ℕ) (r : DataRow) (headings : List (List ℕ)) (heading : List ℕ) (old found new : List ℕ) → IsRow (rows_in file) n r → AddsRows old found (LinkedAmong file n headings) → is_link r heading ≡ true
+    → AddsRows found new (IsLinkAt file heading n) → AddsRows old new (LinkedAmong file n (headings ++ heading ∷ []))
+linked_next file n r headings heading old found new row so_far is next =
+    adds_then old found new (LinkedAmong file n headings) (IsLinkAt file heading n) (LinkedAmong file n (headings ++ heading ∷ [])) so_far next
+    (λ m h. (h.0, h.1, Contains-append_left headings (heading ∷ []) h.0 h.2, h.3, h.4, h.5))
+    (λ m h. (heading, r, Contains-push headings heading, row, is, h))
+    (λ m h. elim (Contains-push_cases headings heading h.0 h.2) [
+      | inl was ↦ inl (h.0, h.1, was, h.3, h.4, h.5)
+      | inr same ↦ inr (subst (λ g. IsLinkAt file g n m) (sym same) h.5)
+    ])
+
+pub linked_over : (file : File) (n : ℕ) (r : DataRow) (headings : List (List ℕ)) (heading : List ℕ) (old found : List ℕ) → IsRow (rows_in file) n r → AddsRows old found (LinkedAmong file n headings) → is_link r heading ≡ false
+    → AddsRows old found (LinkedAmong file n (headings ++ heading ∷ []))
+linked_over file n r headings heading old found row so_far is =
+    adds_same old found (LinkedAmong file n headings) (LinkedAmong file n (headings ++ heading ∷ [])) so_far
+    (λ m h. (h.0, h.1, Contains-append_left headings (heading ∷ []) h.0 h.2, h.3, h.4, h.5))
+    (λ m h. elim (Contains-push_cases headings heading h.0 h.2) [
+      | inl was ↦ (h.0, h.1, was, h.3, h.4, h.5)
+      | inr same ↦
+          let row_is : h.1 ≡ r = one_at (rows_in file) n h.1 r h.3 row in
+          let true_here : is_link r heading ≡ true = subst (λ q. is_link q heading ≡ true) row_is (subst (λ g. is_link h.1 g ≡ true) (sym same) h.4) in
+          absurd (true≢false (sym true_here ∙ is))
+    ])
+
+pub linked_ends : (file : File) (n : ℕ) (r : DataRow) (old new : List ℕ) → IsRow (rows_in file) n r → AddsRows old new (LinkedAmong file n r.headings) → AddsRows old new (IsLinkedAt file n)
+linked_ends file n r old new row adds = adds_same old new (LinkedAmong file n r.headings) (IsLinkedAt file n) adds
+    (λ m h.
+      let heading = h.0 in
+      let link = h.5 in
+      let is : h.1 ≡ r = one_at (rows_in file) n h.1 r h.3 row in
+      let same : link.0 ≡ r = one_at (rows_in file) n link.0 r link.2 row in
+      let tests = both_true (bytes_eq (under r.headings r.types heading) (codes "RL")) (not (eqb (length (entry_of r heading)) 0)) (subst (λ q. is_link q heading ≡ true) is h.4) in
+      (r, link.1, row, link.3, (heading, (h.2, (bytes_eq-Decides (under r.headings r.types heading) (codes "RL")).0 tests.0, not_null (entry_of r heading) tests.1),
+        subst (λ q. IsLinkRow file.entries (separators_of file.contents) heading q link.1) same link.4)))
+    (λ m h.
+      let heading = h.4.0 in
+      let record_link : IsRecordLink h.0 heading = h.4.1 in
+      let is : h.0 ≡ r = one_at (rows_in file) n h.0 r h.2 row in
+      (heading, h.0, subst (λ (q : DataRow). Contains q.headings heading) is record_link.0, h.2,
+        true_both (bytes_eq (under h.0.headings h.0.types heading) (codes "RL")) (not (eqb (length (entry_of h.0 heading)) 0)) ((bytes_eq-Decides (under h.0.headings h.0.types heading) (codes "RL")).1 record_link.1) (null_not (entry_of h.0 heading) record_link.2),
+        (h.0, h.1, h.2, h.3, h.4.2)))
+
+pub link_steps : (file : File) (n : ℕ) (r : DataRow) (old new : List ℕ) → IsRow (rows_in file) n r → is_definition r.group ≡ false → AddsRows old new (IsLinkedAt file n) → AddsRows old new (IsLinkStepAt file n)
+link_steps file n r old new row data_group adds = adds_same old new (IsLinkedAt file n) (IsLinkStepAt file n) adds
+    (λ m h.
+      let is : r ≡ h.0 = one_at (rows_in file) n r h.0 row h.2 in
+      (h.0, h.1, h.2, h.3, (subst (λ (q : DataRow). is_definition q.group ≡ false) is data_group, h.4)))
+    (λ m h. (h.0, h.1, h.2, h.3, h.4.1))
+
+pub no_link_steps : (file : File) (n : ℕ) (r : DataRow) (old : List ℕ) → IsRow (rows_in file) n r → is_definition r.group ≡ true → AddsRows old old (IsLinkStepAt file n)
+no_link_steps file n r old row defines = adds_none old (IsLinkStepAt file n) (λ m h.
+    let is : h.0 ≡ r = one_at (rows_in file) n h.0 r h.2 row in
+    let data_group : is_definition r.group ≡ false = subst (λ (q : DataRow). is_definition q.group ≡ false) is h.4.0 in
+    true≢false (sym defines ∙ data_group))
+
+-- ---- all steps of a row
+
+pub all_steps : (file : File) (n : ℕ) (parents first second third once : List ℕ) → first ≡ parents → ListsRows parents (IsParentAt file n) → AddsRows first second (IsLinkStepAt file n) → AddsRows second third (IsFileStepAt file n)
+    → ((m : ℕ) → Contains once m ↔ Contains third m) → IsStrictlyIncreasing once → ListsRows once (StepAt file n)
+all_steps file n parents first second third once e lists links files same rises =
+    let IsEither = λ (m : ℕ). IsParentAt file n m ⊎ IsLinkStepAt file n m in
+    once_lists [] third once (StepAt file n) refl
+    (adds_then [] second third IsEither (IsFileStepAt file n) (StepAt file n)
+      (adds_then [] first second (IsParentAt file n) (IsLinkStepAt file n) IsEither (adds_listed [] first parents (IsParentAt file n) e lists) links (λ m h. inl h) (λ m h. inr h) (λ m h. h))
+      files
+      (λ m h. elim h [
+        | inl parent ↦ (parent.0, parent.1, parent.2, parent.3, inl parent.4)
+        | inr link ↦ (link.0, link.1, link.2, link.3, inr (inl link.4))
+      ])
+      (λ m h. (h.0, h.1, h.2, h.3, inr (inr h.4)))
+      (λ m h. elim h.4 [
+        | inl parent ↦ inl (inl (h.0, h.1, h.2, h.3, parent))
+        | inr more ↦ elim more [
+          | inl link ↦ inl (inr (h.0, h.1, h.2, h.3, link))
+          | inr to_file ↦ inr (h.0, h.1, h.2, h.3, to_file)
+        ]
+      ]))
+    same rises
+
+-- ---- the steps of all rows
+
+-- the steps of the rows before the next
+abbrev pub StepsBefore : File → ℕ → ℕ → ℕ → Type 0
+StepsBefore file next n m = (n < next) × StepAt file n m
+
+pub no_steps : (steps : List (ℕ × ℕ)) (file : File) → steps ≡ [] → ListsSteps steps (StepsBefore file 0)
+no_steps steps file e = record {
+  sorted = λ k lt. let none : length steps ≡ 0 = ap length e in absurd (omega arith);
+  exact = λ n m. (λ h. let none : length steps ≡ 0 = ap length e in absurd (omega (arith, h.1)), λ h. absurd (omega (arith, h.0)));
+}
+
+abbrev from_row : ℕ → ℕ → ℕ × ℕ
+from_row n m = (n, m)
+
+before_at : (zs : List (ℕ × ℕ)) (k : ℕ) (p q : ℕ × ℕ) → get_or zs k (0, 0) ≡ p → get_or zs (k + 1) (0, 0) ≡ q → IsBefore p q → IsBefore (get_or zs k (0, 0)) (get_or zs (k + 1) (0, 0))
+before_at zs k p q e f h = subst (λ x. IsBefore x (get_or zs (k + 1) (0, 0))) (sym e) (subst (λ y. IsBefore p y) (sym f) h)
+
+target_at : (row : ℕ) (targets : List ℕ) (steps : List (ℕ × ℕ)) (k j : ℕ) → length steps ≤ k → k - length steps ≡ j → j < length targets → get_or (steps ++ map (from_row row) targets) k (0, 0) ≡ (row, get_or targets j 0)
+target_at row targets steps k j past e lt =
+    get_or-append_right steps (map (from_row row) targets) (length steps) k (0, 0) refl past
+    ∙ ap (λ i. get_or (map (from_row row) targets) i (0, 0)) e ∙ get_or-map (from_row row) targets j 0 (0, 0) lt
+
+sorted_more : (row : ℕ) (targets : List ℕ) (steps : List (ℕ × ℕ)) → IsStrictlyIncreasing targets → ((k : ℕ) → k + 1 < length steps → IsBefore (get_or steps k (0, 0)) (get_or steps (k + 1) (0, 0)))
+    → ((k : ℕ) → k < length steps → (get_or steps k (0, 0)).0 < row) → (k : ℕ) → k + 1 < length (steps ++ map (from_row row) targets)
+    → IsBefore (get_or (steps ++ map (from_row row) targets) k (0, 0)) (get_or (steps ++ map (from_row row) targets) (k + 1) (0, 0))
+sorted_more row targets steps rises sorted below k lt =
+    let all = steps ++ map (from_row row) targets in
+    let count : length all ≡ length steps + length targets = length-append steps (map (from_row row) targets) ∙ ap (λ n. length steps + n) (length-map targets (from_row row)) in
+    elim (cases_lt (k + 1) (length steps)) [
+      | inl inside ↦
+          before_at all k (get_or steps k (0, 0)) (get_or steps (k + 1) (0, 0)) (get_or_append_left steps (map (from_row row) targets) (0, 0) k (omega (arith, inside)))
+          (get_or_append_left steps (map (from_row row) targets) (0, 0) (k + 1) inside) (sorted k inside)
+      | inr past ↦ elim (cases_lt k (length steps)) [
+        | inl last ↦
+            before_at all k (get_or steps k (0, 0)) (row, get_or targets 0 0) (get_or_append_left steps (map (from_row row) targets) (0, 0) k last)
+            (target_at row targets steps (k + 1) 0 past (omega (arith, last, past)) (omega (arith, lt, count, last, past))) (inl (below k last))
+        | inr after ↦
+            let j : (i : ℕ) × (k - length steps ≡ i) = (k - length steps, refl) in
+            before_at all k (row, get_or targets j.0 0) (row, get_or targets (j.0 + 1) 0)
+            (target_at row targets steps k j.0 after j.1 (omega (arith, lt, count, j.1, after)))
+            (target_at row targets steps (k + 1) (j.0 + 1) past (omega (arith, j.1, after)) (omega (arith, lt, count, j.1, after)))
+            (inr (refl, rises j.0 (omega (arith, lt, count, j.1, after))))
+      ]
+    ]
+
+pub steps_more : (file : File) (row : ℕ) (targets : List ℕ) (steps new : List (ℕ × ℕ)) → ListsSteps steps (StepsBefore file row) → ListsRows targets (StepAt file row) → new ≡ steps ++ map (from_row row) targets
+    → ListsSteps new (StepsBefore file (row + 1))
+steps_more file row targets steps new so_far lists e =
+    subst (λ all. ListsSteps all (StepsBefore file (row + 1))) (sym e) (record {
+      sorted = sorted_more row targets steps lists.rising so_far.sorted (λ k lt. ((so_far.exact (get_or steps k (0, 0)).0 (get_or steps k (0, 0)).1).0 (Contains-get_or steps k (0, 0) lt)).0);
+      exact = λ n m. (
+        λ h. elim (Contains-append_cases steps (map (from_row row) targets) (n, m) h) [
+          | inl was ↦ let old = (so_far.exact n m).0 was in (omega (arith, old.0), old.1)
+          | inr is ↦
+              let from = map_contains (from_row row) targets (n, m) is in
+              let starts : row ≡ n = ap (λ (p : ℕ × ℕ). p.0) from.2 in
+              let ends : from.0 ≡ m = ap (λ (p : ℕ × ℕ). p.1) from.2 in
+              (omega (arith, starts), subst (λ x. StepAt file x m) starts (subst (λ y. StepAt file row y) ends ((lists.exact from.0).0 from.1)))
+        ],
+        λ h. elim (cases_lt n row) [
+          | inl old ↦ Contains-append_left steps (map (from_row row) targets) (n, m) ((so_far.exact n m).1 (old, h.1))
+          | inr now' ↦
+              let is : n ≡ row = omega (arith, h.0, now') in
+              subst (λ x. Contains (steps ++ map (from_row row) targets) (x, m)) (sym is)
+              (Contains-append_right steps (map (from_row row) targets) (row, m) (contains_map (from_row row) targets m ((lists.exact m).1 (subst (λ x. StepAt file x m) is h.1))))
+        ]
+      );
+    })
+
+pub steps_all : (file : File) (steps : List (ℕ × ℕ)) (rows : ℕ) → rows ≡ length (rows_in file) → ListsSteps steps (StepsBefore file rows) → ListsSteps steps (StepAt file)
+steps_all file steps rows e so_far = record {
+  sorted = so_far.sorted;
+  exact = λ n m. (λ h. ((so_far.exact n m).0 h).1, λ h. (so_far.exact n m).1 (omega (arith, e, h.2.0), h));
+}
+
+pub steps_in_range : (file : File) (steps : List (ℕ × ℕ)) (rows : ℕ) → rows ≡ length (rows_in file) → ListsSteps steps (StepsBefore file rows) → InRange rows steps
+steps_in_range file steps rows e so_far k d lt =
+    let p = get_or steps k d in
+    let step = ((so_far.exact p.0 p.1).0 (Contains-get_or steps k d lt)).1 in
+    (omega (arith, e, step.2.0), omega (arith, e, step.3.0))

@@ -1,0 +1,30 @@
+use Rattle.std.proofs.Common.{◌≡◌, ◌<◌, ◌↔◌, length, map, not, List, Bool, ℕ, refl, sym, ap, subst, arith, ◌∙◌}
+use Rattle.std.proofs.lemmas.List.{length-map}
+use Rattle.ags_links.specs.Walks.{InRange, HasStep, IsMarked, IsReached}
+use Rattle.ags_links.specs.Work.{swapped}
+use Rattle.ags_links.proofs.Shows.{back_range, shown_iff}
+use Rattle.ags_links.proofs.plain.shown_by_passes.Goals as goal
+use Rattle.ags_links.proofs.plain.shown_by_passes.Goals.{After-deref-2, After-drop-back-2}
+
+back_is : (c : After-deref-2) → c.deref.result.now ≡ map swapped c.args.graph.now.steps
+back_is c = c.deref.ensures.value ∙ c.in_ok-back.ensures ∙ ap (map swapped) c.steps.ensures.steps
+
+denied_is : (c : After-deref-2) → c.deref-2.result.now ≡ map not c.args.permitted.now
+denied_is c = c.deref-2.ensures.value ∙ c.in_ok-denied.ensures
+
+rows_are : (c : After-deref-2) → length c.deref-2.result.now ≡ c.args.graph.now.rows
+rows_are c = ap length (denied_is c) ∙ length-map c.args.permitted.now not ∙ c.requires
+
+pub spread_by_passes-requires : goal.spread_by_passes-requires
+spread_by_passes-requires c = rw (back_is c, rows_are c) (back_range c.args.graph.now.rows c.args.graph.now.steps c.steps.ensures.in_range)
+
+marks_are : (c : After-drop-back-2) → c.in_ok-marks.marks.items ≡ map not c.in_ok-hidden.hidden.items
+marks_are c = c.in_ok-marks.ensures ∙ ap (map not) c.deref-3.ensures.value
+
+pub returns-clause-marks : goal.returns-clause-marks
+returns-clause-marks c =
+    let d = (goal.at.returns-clause-marks c).After-deref-2 in
+    let rows : length c.in_ok-hidden.hidden.items ≡ c.args.graph.now.rows = c.in_ok-hidden.ensures.rows ∙ rows_are d in
+    let back : (s : ℕ) → IsMarked c.in_ok-hidden.hidden.items s ↔ IsReached (HasStep (map swapped c.args.graph.now.steps)) (IsMarked (map not c.args.permitted.now)) s =
+    subst (λ (p : List (ℕ × ℕ) × List Bool). (s : ℕ) → IsMarked c.in_ok-hidden.hidden.items s ↔ IsReached (HasStep p.0) (IsMarked p.1) s) (ap (λ x. (x, c.deref-2.result.now)) (back_is d) ∙ ap (λ y. (map swapped c.args.graph.now.steps, y)) (denied_is d)) c.in_ok-hidden.ensures.marks in
+    rw (marks_are c) (shown_iff c.args.graph.now.rows c.args.graph.now.steps c.args.permitted.now c.in_ok-hidden.hidden.items c.steps.ensures.in_range c.requires rows back)

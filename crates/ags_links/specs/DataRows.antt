@@ -1,0 +1,50 @@
+-- The DATA rows of a file, each with what its group says of it.
+use Rattle.std.specs.Prelude.{◌≡◌, ◌<◌, ◌↔◌, ℕ, List, map, flat_map, length, slice_index_or, Contains}
+use Rattle.std.specs.List.Sorted.{IsStrictlyIncreasing}
+use Rattle.ags_rows.specs.Contents.{Contents, under}
+use Rattle.ags_dict.specs.Entries.{Entries}
+
+-- A file's groups, and the entries of the dictionary that it is read under.
+pub record File : Type 0 where
+  pub contents : List Contents
+  pub entries : Entries
+
+-- A DATA row: the name, the HEADING row and the TYPE row of its group, and its fields.
+pub record DataRow : Type 0 where
+  pub group : List ℕ
+  pub headings : List (List ℕ)
+  pub types : List (List ℕ)
+  pub fields : List (List ℕ)
+
+-- a row of a group, from its fields
+abbrev pub row_in : Contents → List (List ℕ) → DataRow
+row_in group fields = record { group = group.name; headings = group.headings; types = group.types; fields = fields }
+
+-- the DATA rows of one group, in their order
+abbrev pub group_rows : Contents → List DataRow
+group_rows group = map (row_in group) group.rows
+
+-- the DATA rows of a file, numbered from 0 over the whole file
+abbrev pub data_rows : List Contents → List DataRow
+data_rows contents = flat_map group_rows contents
+
+-- x stands at this place of the list, counted from 0
+abbrev pub IsAt : {X : Type 0} → List X → ℕ → X → Type 0
+IsAt xs place x = (place < length xs) × (slice_index_or xs place x ≡ x)
+
+-- row n of these is r
+abbrev pub IsRow : List DataRow → ℕ → DataRow → Type 0
+IsRow rows n r = IsAt rows n r
+
+-- what stands in the row under a heading; null where the heading is absent
+abbrev pub entry_of : DataRow → List ℕ → List ℕ
+entry_of row heading = under row.headings row.fields heading
+
+-- rows n and m of a file are rows of which this holds
+abbrev pub Between : List DataRow → (DataRow → DataRow → Type 0) → ℕ → ℕ → Type 0
+Between rows Related n m = (r : DataRow) × (s : DataRow) × IsRow rows n r × IsRow rows m s × Related r s
+
+-- the list has exactly the numbers of which this holds, rising, each once
+pub record ListsRows (numbers : List ℕ) (IsOne : ℕ → Type 0) : Type 0 where
+  pub rising : IsStrictlyIncreasing numbers
+  pub exact : (n : ℕ) → Contains numbers n ↔ IsOne n

@@ -1,0 +1,69 @@
+-- What an index keeps, and what is asked of it by the numbers of rows.
+use Rattle.std.specs.Prelude.{◌≡◌, ◌<◌, ◌^◌, ℕ, List, All, map, length}
+use Rattle.ags_rows.specs.declared.rows.Group.{Group}
+use Rattle.ags_rows.specs.Contents.{contents_of}
+use Rattle.ags_dict.specs.Entries.{Entries}
+use Rattle.ags_links.specs.declared.families.Family.{Family}
+use Rattle.ags_links.specs.declared.index.Targets.{Targets}
+use Rattle.ags_links.specs.declared.lookup.Lookup.{Lookup}
+use Rattle.ags_links.specs.declared.placed.PlacedRow.{PlacedRow}
+use Rattle.ags_links.specs.declared.separators.Separators.{Separators}
+use Rattle.ags_links.specs.DataRows.{File, DataRow, data_rows, IsRow, Between}
+use Rattle.ags_links.specs.Families.{HasText, HasKeyText, HasFileSet, AreFamilies}
+use Rattle.ags_links.specs.Keys.{IsFirstOfKey}
+use Rattle.ags_links.specs.Lookups.{Finds}
+use Rattle.ags_links.specs.Parents.{IsParentRow}
+use Rattle.ags_links.specs.Placing.{IsPlaced, row_of}
+use Rattle.ags_links.specs.RecordLinks as links
+use Rattle.ags_links.specs.Steps.{IsFileRow, Linked, LinkStep, FileStep}
+use Rattle.ags_links.specs.Targets.{AreTargets}
+
+-- the index of these groups under these entries
+pub record Indexes (groups : List Group) (entries : Entries) (rows : List PlacedRow) (kept : List Family) (by_key by_file_set : Lookup) (separators : Separators) : Type 0 where
+  pub placed : All (IsPlaced groups) rows
+  pub numbered : map row_of rows ≡ data_rows (contents_of groups)
+  pub few : length rows < 2 ^ 32
+  pub families : AreFamilies entries (map row_of rows) groups kept
+  pub keyed : Finds by_key (HasText (map row_of rows) (HasKeyText entries))
+  pub filed : Finds by_file_set (HasText (map row_of rows) HasFileSet)
+  pub separated : separators ≡ links.separators_of (contents_of groups)
+
+-- the DATA rows of the file
+abbrev pub rows_in : File → List DataRow
+rows_in file = data_rows file.contents
+
+-- row m is a parent row of row n
+abbrev pub IsParentAt : File → ℕ → ℕ → Type 0
+IsParentAt file = Between (rows_in file) (IsParentRow file.entries)
+
+-- row m is the first row of row n's group with an equal key
+abbrev pub IsFirstOfKeyAt : File → ℕ → ℕ → Type 0
+IsFirstOfKeyAt file = IsFirstOfKey (rows_in file) file.entries
+
+-- row m is a row of FILE with row n's FILE_FSET
+abbrev pub IsFileRowAt : File → ℕ → ℕ → Type 0
+IsFileRowAt file = Between (rows_in file) IsFileRow
+
+-- the part names row n
+abbrev pub NamesAt : File → List ℕ → ℕ → Type 0
+NamesAt file = links.NamesAt file.entries (links.separators_of file.contents) (rows_in file)
+
+-- some part of row n's entry under the heading names row m
+abbrev pub IsLinkAt : File → List ℕ → ℕ → ℕ → Type 0
+IsLinkAt file heading = Between (rows_in file) (links.IsLinkRow file.entries (links.separators_of file.contents) heading)
+
+-- one of row n's record links names row m
+abbrev pub IsLinkedAt : File → ℕ → ℕ → Type 0
+IsLinkedAt file = Between (rows_in file) (Linked file.entries (links.separators_of file.contents))
+
+-- row n has a step to row m by its record links, if it is in a data group
+abbrev pub IsLinkStepAt : File → ℕ → ℕ → Type 0
+IsLinkStepAt file = Between (rows_in file) (LinkStep file.entries (links.separators_of file.contents))
+
+-- row n has a step to row m, a row of FILE
+abbrev pub IsFileStepAt : File → ℕ → ℕ → Type 0
+IsFileStepAt file = Between (rows_in file) FileStep
+
+-- these are the targets of row n under the heading
+abbrev pub AreTargetsAt : File → ℕ → List ℕ → Targets → Type 0
+AreTargetsAt file n heading targets = (r : DataRow) → IsRow (rows_in file) n r → AreTargets file.entries (links.separators_of file.contents) (rows_in file) r heading targets

@@ -1,0 +1,15 @@
+pub mod DataRows
+pub mod Keys
+pub mod Parents
+pub mod RecordLinks
+pub mod Steps
+pub mod Walks
+pub mod Turns
+pub mod Work
+pub mod KeyTexts
+pub mod Lookups
+pub mod Placing
+pub mod Families
+pub mod Targets
+pub mod Indexing
+pub mod Adding

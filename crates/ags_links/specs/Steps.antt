@@ -1,0 +1,47 @@
+-- The steps of a file: from a DATA row to its parent rows (Rule 10c), to the rows that its record links name (Rule 11)
+-- and to the rows of FILE with its FILE_FSET (Rule 20). A row of a definition group has no step.
+use Rattle.std.specs.Prelude.{◌≡◌, ◌≢◌, ◌<◌, ◌+◌, ◌⊎◌, ◌↔◌, ℕ, List, [], false, length, codes, Contains, slice_index_or}
+use Rattle.ags_rows.specs.Contents.{under}
+use Rattle.ags_rows.specs.Names.{is_definition}
+use Rattle.ags_dict.specs.Entries.{Entries}
+use Rattle.ags_links.specs.DataRows.{File, DataRow, entry_of, data_rows, Between}
+use Rattle.ags_links.specs.Parents.{IsParentRow}
+use Rattle.ags_links.specs.RecordLinks.{separators_of, IsLinkRow}
+use Rattle.ags_links.specs.declared.separators.Separators.{Separators}
+
+-- a heading of type RL under which the row has an entry that is not null
+abbrev pub IsRecordLink : DataRow → List ℕ → Type 0
+IsRecordLink row heading = Contains row.headings heading × (under row.headings row.types heading ≡ codes "RL") × (entry_of row heading ≢ [])
+
+-- one of r's record links names s in some part
+abbrev pub Linked : Entries → Separators → DataRow → DataRow → Type 0
+Linked entries separators r s = (heading : List ℕ) × IsRecordLink r heading × IsLinkRow entries separators heading r s
+
+-- r is in a data group, and one of its record links names s
+abbrev pub LinkStep : Entries → Separators → DataRow → DataRow → Type 0
+LinkStep entries separators r s = (is_definition r.group ≡ false) × Linked entries separators r s
+
+-- s is a row of FILE with r's FILE_FSET, which is not null
+abbrev pub IsFileRow : DataRow → DataRow → Type 0
+IsFileRow r s = (s.group ≡ codes "FILE") × (entry_of r (codes "FILE_FSET") ≢ []) × (entry_of s (codes "FILE_FSET") ≡ entry_of r (codes "FILE_FSET"))
+
+-- r is in a data group other than FILE, and s is a row of FILE with its FILE_FSET
+abbrev pub FileStep : DataRow → DataRow → Type 0
+FileStep r s = (is_definition r.group ≡ false) × (r.group ≢ codes "FILE") × IsFileRow r s
+
+-- one step from r to s
+abbrev pub Step : Entries → Separators → DataRow → DataRow → Type 0
+Step entries separators r s = IsParentRow entries r s ⊎ (LinkStep entries separators r s ⊎ FileStep r s)
+
+-- row n of the file has a step to row m
+abbrev pub StepAt : File → ℕ → ℕ → Type 0
+StepAt file n m = Between (data_rows file.contents) (Step file.entries (separators_of file.contents)) n m
+
+-- one step stands before another: by the row that it starts at, then by the row that it ends at
+abbrev pub IsBefore : ℕ × ℕ → ℕ × ℕ → Type 0
+IsBefore p q = (p.0 < q.0) ⊎ ((p.0 ≡ q.0) × (p.1 < q.1))
+
+-- the list has exactly these steps, sorted, each once
+pub record ListsSteps (steps : List (ℕ × ℕ)) (IsOne : ℕ → ℕ → Type 0) : Type 0 where
+  pub sorted : (k : ℕ) → k + 1 < length steps → IsBefore (slice_index_or steps k (0, 0)) (slice_index_or steps (k + 1) (0, 0))
+  pub exact : (n m : ℕ) → Contains steps (n, m) ↔ IsOne n m

@@ -1,0 +1,85 @@
+//! Numbered rows and the steps between them.
+
+ghost use Rattle.std.specs.Prelude.{◌≡◌, ◌<◌, ◌↔◌, ◌^◌, ◌++◌, IfOk, IfSome, IsSome, OnOk, length, map};
+
+use crate::index::Index;
+use crate::steps::targets;
+use std::alloc::{AllocError, Global};
+use std::marker::Model;
+
+/// Rows numbered from 0, and the steps between them: from a row to its parents, and to what its links name.
+#[derive(Drop)]
+pub struct Graph {
+    rows: u32,
+    steps: Vec<(u32, u32)>,
+}
+
+impl Model for Graph {
+    ghost use Rattle.ags_links.specs.Walks.{Wiring, InRange};
+
+    ghost Value = { Wiring };
+
+    ghost view = { λ g. record { rows = g.rows; steps = g.steps.items } };
+
+    ghost invariant = { λ g. InRange g.rows g.steps.items };
+}
+
+/// Adds a step from the row to each target.
+fn add_steps(steps: &mut Vec<(u32, u32)>, row: u32, targets: &[u32]) -> Result<(), AllocError>
+    ensures { OnOk result (steps.new.items ≡ steps.old.items ++ map (λ target. (row, target)) targets.now) }
+{
+    for target in targets {
+        steps.push((row, *target))?;
+    }
+    Ok(())
+}
+
+impl Graph {
+    ghost use Rattle.ags_links.specs.Indexing.{rows_in};
+    ghost use Rattle.ags_links.specs.Steps.{ListsSteps, StepAt};
+    ghost use Rattle.ags_links.specs.Walks.{InRange};
+
+    /// The rows below `rows` with these steps, each from its first row to its second; None where a number is
+    /// not below `rows`. A step listed twice counts twice.
+    pub fn new(rows: u32, steps: Vec<(u32, u32)>) -> Option<Graph>
+        ensures some { IsSome result ↔ InRange rows steps.items }
+        ensures value { IfSome result (λ g. (g.rows ≡ rows) × (g.steps ≡ steps.items)) }
+    {
+        for &(row, target) in &steps {
+            if row >= rows || target >= rows {
+                return None;
+            }
+        }
+        Some(Graph { rows, steps })
+    }
+
+    /// The rows of a file, and all steps between them, sorted, each once.
+    pub fn of(alloc: Global, index: &Index<'_>) -> Result<Graph, AllocError>
+        ensures rows { IfOk result (λ g. g.rows ≡ length (rows_in index.now)) }
+        ensures steps { IfOk result (λ g. ListsSteps g.steps (StepAt index.now)) }
+    {
+        let rows = index.row_count();
+        let mut steps = Vec::new(alloc);
+        for row in 0..rows {
+            add_steps(&mut steps, row, &targets(alloc, index, row)?)?;
+        }
+        Ok(Graph { rows, steps })
+    }
+
+    /// How many rows there are.
+    pub fn rows(&self) -> u32
+        ensures { result ≡ self.now.rows }
+    {
+        self.rows
+    }
+
+    /// The steps as they were given, in their order.
+    pub fn steps(&self) -> &[(u32, u32)]
+        ensures steps { result.now ≡ self.now.steps }
+        ensures in_range { InRange self.now.rows self.now.steps }
+        ensures few { self.now.rows < 2 ^ 32 }
+    {
+        let _rows = self.rows;
+        &self.steps
+    }
+}

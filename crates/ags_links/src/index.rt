@@ -1,0 +1,214 @@
+//! The index of a file: keys, parents, record links and file sets.
+
+ghost use Rattle.std.specs.Prelude.{◌≡◌, ◌<◌, ◌^◌, ◌↔◌, ℕ, IfOk, IsTrue, Contains, length, map};
+ghost use Rattle.std.specs.List.Sorted.{IsStrictlyIncreasing};
+ghost use Rattle.ags_rows.specs.Contents.{contents_of};
+
+use crate::families::{Family, families, rows_by_file_set, rows_by_group, rows_by_key};
+use crate::lookup::{Lookup, rows_with};
+use crate::placed::{PlacedRow, entry, place_rows};
+use crate::separators::{Separators, separators_in};
+use crate::texts::{entries_text, group_text, parts, pieces_text};
+use ags_dict::Dictionary;
+use ags_rows::{Group, Scan};
+use std::alloc::{AllocError, Global};
+use std::marker::Model;
+
+/// What a cell names, read as a record link.
+#[derive(Drop)]
+pub enum Targets {
+    /// The rows that its parts name, rising, each once.
+    Rows(Vec<u32>),
+    /// Some part names no row.
+    Broken,
+}
+
+/// A file's rows, to be found by key, by parent link and by file set.
+#[derive(Drop)]
+pub struct Index<'a> {
+    alloc: Global,
+    groups: &'a [Group<'a>],
+    dictionary: &'a Dictionary,
+    rows: Vec<PlacedRow<'a>>,
+    families: Vec<Family<'a>>,
+    by_key: Lookup,
+    by_file_set: Lookup,
+    separators: Separators,
+}
+
+impl<'a> Model for Index<'a> {
+    ghost use Rattle.ags_rows.specs.Contents.{contents_of};
+    ghost use Rattle.ags_links.specs.DataRows.{File};
+    ghost use Rattle.ags_links.specs.Indexing.{Indexes};
+
+    ghost Value = { File };
+
+    ghost view = { λ i. record { contents = contents_of i.groups.now; entries = i.dictionary.now } };
+
+    ghost invariant = { λ i. Indexes i.groups.now i.dictionary.now i.rows.items i.families.items i.by_key i.by_file_set i.separators };
+}
+
+/// The numbers rising, each once.
+pub(crate) fn each_once(numbers: Vec<u32>) -> Vec<u32>
+    ensures rising { IsStrictlyIncreasing result.items }
+    ensures same { (n : ℕ) → Contains result.items n ↔ Contains numbers.items n }
+{
+    let mut sorted = numbers;
+    sorted.sort_unstable();
+    sorted.dedup();
+    sorted
+}
+
+impl<'a> Index<'a> {
+    ghost use Rattle.ags_dict.specs.Parts.{parts_at};
+    ghost use Rattle.ags_links.specs.DataRows.{DataRow, data_rows, ListsRows, IsRow, entry_of};
+    ghost use Rattle.ags_links.specs.RecordLinks.{separators_of};
+    ghost use Rattle.ags_links.specs.Families.{IsFamily};
+    ghost use Rattle.ags_links.specs.Placing.{row_of};
+    ghost use Rattle.ags_links.specs.Indexing.{rows_in, IsParentAt, IsFirstOfKeyAt, IsFileRowAt, NamesAt, AreTargetsAt};
+
+    /// The index of a file under its dictionary.
+    pub fn build(
+        alloc: Global,
+        scan: &'a Scan<'a>,
+        dictionary: &'a Dictionary,
+    ) -> Result<Index<'a>, AllocError>
+        requires { length (data_rows (contents_of scan.now)) < 2 ^ 32 }
+        ensures contents { IfOk result (λ index. index.contents ≡ contents_of scan.now) }
+        ensures entries { IfOk result (λ index. index.entries ≡ dictionary.now) }
+    {
+        let groups = scan.groups();
+        let rows = place_rows(alloc, groups)?;
+        let by_group = rows_by_group(alloc, &rows)?;
+        let families = families(alloc, groups, dictionary, &rows, &by_group)?;
+        let by_key = rows_by_key(alloc, groups, dictionary, &rows, &families)?;
+        let by_file_set = rows_by_file_set(alloc, &rows)?;
+        Ok(Index {
+            alloc,
+            groups,
+            dictionary,
+            rows,
+            families,
+            by_key,
+            by_file_set,
+            separators: separators_in(groups),
+        })
+    }
+
+    /// How many DATA rows the file has.
+    pub(crate) fn row_count(&self) -> u32
+        ensures { result ≡ length (rows_in self.now) }
+    {
+        self.rows.len() as u32
+    }
+
+    /// The row, and what is kept for its group.
+    pub(crate) fn kept(&self, row: u32) -> (&PlacedRow<'a>, &Family<'a>)
+        requires { row < length (rows_in self.now) }
+        ensures row { IsRow (rows_in self.now) row (row_of result.0.now) }
+        ensures family { IsFamily self.now.entries (rows_in self.now) result.0.now.group.now result.1.now }
+    {
+        let kept = &self.rows[row as usize];
+        (kept, &self.families[kept.place])
+    }
+
+    /// The parent rows of a row (Rule 10c).
+    pub(crate) fn parent_rows(&self, row: u32) -> Result<&[u32], AllocError>
+        requires { row < length (rows_in self.now) }
+        ensures { IfOk result (λ rows. ListsRows rows.now (IsParentAt self.now row)) }
+    {
+        let (kept, family) = self.kept(row);
+        match &family.parent {
+            Some(links) => {
+                let text = entries_text(self.alloc, kept, &links.headings)?;
+                Ok(rows_with(&links.rows, &text))
+            }
+            None => Ok(&[]),
+        }
+    }
+
+    /// The parent rows of a row (Rule 10c), rising.
+    pub fn parents(&self, row: u32) -> Result<Vec<u32>, AllocError>
+        requires { row < length (rows_in self.now) }
+        ensures { IfOk result (λ rows. ListsRows rows.items (IsParentAt self.now row)) }
+    {
+        let rows = self.parent_rows(row)?;
+        Vec::from_slice(self.alloc, rows)
+    }
+
+    /// Whether the row has a parent row (Rule 10c).
+    pub fn has_parent(&self, row: u32) -> Result<bool, AllocError>
+        requires { row < length (rows_in self.now) }
+        ensures { IfOk result (λ has. IsTrue has ↔ ((m : ℕ) × IsParentAt self.now row m)) }
+    {
+        let rows = self.parent_rows(row)?;
+        Ok(!rows.is_empty())
+    }
+
+    /// The first row of the row's group with an equal key (Rule 10a).
+    pub fn first_of_key(&self, row: u32) -> Result<u32, AllocError>
+        requires { row < length (rows_in self.now) }
+        ensures { IfOk result (IsFirstOfKeyAt self.now row) }
+    {
+        let (kept, family) = self.kept(row);
+        let text = group_text(self.alloc, kept, &family.keys)?;
+        Ok(rows_with(&self.by_key, &text)[0])
+    }
+
+    /// The rows of FILE with the row's FILE_FSET (Rule 20); none where it is null or absent.
+    pub(crate) fn file_rows(&self, row: u32) -> &[u32]
+        requires { row < length (rows_in self.now) }
+        ensures { ListsRows result.now (IsFileRowAt self.now row) }
+    {
+        let (kept, _) = self.kept(row);
+        let file_set = entry(kept, b"FILE_FSET");
+        if file_set.is_empty() {
+            return &[];
+        }
+        rows_with(&self.by_file_set, file_set)
+    }
+
+    /// The rows of FILE with the row's FILE_FSET (Rule 20), rising; none where it is null or absent.
+    pub fn files(&self, row: u32) -> Result<Vec<u32>, AllocError>
+        requires { row < length (rows_in self.now) }
+        ensures { IfOk result (λ rows. ListsRows rows.items (IsFileRowAt self.now row)) }
+    {
+        Vec::from_slice(self.alloc, self.file_rows(row))
+    }
+
+    /// The rows that a part of a record link names.
+    pub(crate) fn named(&self, part: &[u8]) -> Result<&[u32], AllocError>
+        ensures { IfOk result (λ rows. ListsRows rows.now (NamesAt self.now part.now)) }
+    {
+        let text = pieces_text(self.alloc, self.separators.delimiter, part)?;
+        Ok(rows_with(&self.by_key, &text))
+    }
+
+    /// The parts of what stands in the row under a heading.
+    pub(crate) fn link_parts(&self, row: u32, heading: &[u8]) -> Result<Vec<&'a [u8]>, AllocError>
+        requires { row < length (rows_in self.now) }
+        ensures { IfOk result (λ parts. (r : DataRow) → IsRow (rows_in self.now) row r → map (λ p. p.now) parts.items ≡ parts_at (separators_of self.now.contents).concatenator (entry_of r heading.now)) }
+    {
+        let (kept, _) = self.kept(row);
+        parts(self.alloc, self.separators.concatenator, entry(kept, heading))
+    }
+
+    /// What stands in the row under a heading, read as a record link (Rule 11): the rows that its parts name,
+    /// rising, each once, or `Broken` where some part names no row. A heading that the group does not have reads
+    /// as null.
+    pub fn link_targets(&self, row: u32, heading: &[u8]) -> Result<Targets, AllocError>
+        requires { row < length (rows_in self.now) }
+        ensures { IfOk result (AreTargetsAt self.now row heading.now) }
+    {
+        let parts = self.link_parts(row, heading)?;
+        let mut found = Vec::new(self.alloc);
+        for part in &parts {
+            let rows = self.named(part)?;
+            if rows.is_empty() {
+                return Ok(Targets::Broken);
+            }
+            found.extend_from_slice(rows)?;
+        }
+        Ok(Targets::Rows(each_once(found)))
+    }
+}

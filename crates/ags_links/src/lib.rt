@@ -1,0 +1,21 @@
+//! Keys, parents and record links of the rows of an AGS4 file, the graph that they make, and its closure.
+#![tactic(auto)]
+
+mod closure;
+mod families;
+mod graph;
+mod index;
+mod lookup;
+mod placed;
+#[cfg(test)]
+mod plain;
+mod separators;
+mod steps;
+#[cfg(test)]
+mod tests;
+mod texts;
+
+pub use closure::{reached, shown};
+pub use graph::Graph;
+pub use index::{Index, Targets};
+pub use separators::{Separators, separators_in};
