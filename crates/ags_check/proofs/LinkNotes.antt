@@ -46,12 +46,11 @@ pub link_means : (entries : Entries) (file : List Contents) (group : Contents) (
     → IsTrue b ↔ (column.code.now ≡ codes "RL") × (text ≢ []) × HasBrokenPart entries file (row_in group fields) column.heading.now
     → IsTrue b ↔ IsBrokenLink entries file (row_in group fields) column.heading.now
 link_means entries file group column fields text b is same stands data_group means =
-    let there : text ≡ under group.headings fields column.heading.now = text_same group column fields text is same in
-    (
+    let there : text ≡ under group.headings fields column.heading.now = text_same group column fields text is same in (
       λ e. (
-        let h = means.0 e in
-        record { data_group = data_group; link = (stands, sym is.code ∙ h.0, λ n. h.1 (there ∙ n)); broken = h.2 }
-      ),
+          let h = means.0 e in
+          record { data_group = data_group; link = (stands, sym is.code ∙ h.0, λ n. h.1 (there ∙ n)); broken = h.2 }
+          ),
       λ link. means.1 (is.code ∙ link.link.1, λ n. link.link.2 (sym there ∙ n), link.broken),
     )
 

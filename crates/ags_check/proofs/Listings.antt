@@ -154,6 +154,6 @@ unlisted_pair file held separator heading text b has same means = (
         r.some_text,
         false_from (has_pair held heading text) (λ e. r.whole (pair_is file held heading text has e)),
         list_any-from_Any (λ p. not (has_pair held heading p)) (parts_at separator text)
-        (part.0, r.part, part.1, part.2, true_not (has_pair held heading r.part) (λ e. r.unlisted (pair_is file held heading r.part has e))),
+            (part.0, r.part, part.1, part.2, true_not (has_pair held heading r.part) (λ e. r.unlisted (pair_is file held heading r.part has e))),
       ),
 )

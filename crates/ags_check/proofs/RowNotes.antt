@@ -48,13 +48,13 @@ pub parent_means : (entries : Entries) (file : List Contents) (number : ℕ) (ro
     → IsTrue has ↔ ((m : ℕ) × Between (data_rows file) (IsParentRow entries) number m) → IsTrue (not has) ↔ LacksParentRow entries file row
 parent_means entries file number row has parented at means = (
   λ e. (
-    let parent = some_there (parent_of entries row.group) parented in
-    record {
-      parent = parent.0;
-      is_parent = parent.1;
-      none = λ other there is. not_true has e (means.1 (there.0, (row, other, at, (there.1, there.2), is)));
-    }
-  ),
+      let parent = some_there (parent_of entries row.group) parented in
+      record {
+        parent = parent.0;
+        is_parent = parent.1;
+        none = λ other there is. not_true has e (means.1 (there.0, (row, other, at, (there.1, there.2), is)));
+      }
+      ),
   λ rule.
       true_not has
       (λ h.

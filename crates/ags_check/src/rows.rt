@@ -45,7 +45,15 @@ fn note_row_links(
         return Ok(());
     }
     let columns = outline.columns.as_slice();
-    note_links(alloc, row.line, columns, row.cells.as_slice(), index, number, findings)?;
+    note_links(
+        alloc,
+        row.line,
+        columns,
+        row.cells.as_slice(),
+        index,
+        number,
+        findings,
+    )?;
     Ok(())
 }
 
@@ -62,7 +70,14 @@ fn note_row_entries<'a>(
         findings.old.items findings.new.items) }
 {
     let columns = outline.columns.as_slice();
-    note_entries(alloc, row.line, columns, row.cells.as_slice(), listed, findings)?;
+    note_entries(
+        alloc,
+        row.line,
+        columns,
+        row.cells.as_slice(),
+        listed,
+        findings,
+    )?;
     Ok(())
 }
 
@@ -107,7 +122,14 @@ fn note_row<'a>(
     note_row_lacking(alloc, outline, row, findings)?;
     note(alloc, findings, line, Code::Rule10a, name, repeats)?;
     note(alloc, findings, line, Code::Rule10c, name, is_orphan)?;
-    note(alloc, findings, line, Code::Rule20, b"FILE_FSET", is_unlisted)?;
+    note(
+        alloc,
+        findings,
+        line,
+        Code::Rule20,
+        b"FILE_FSET",
+        is_unlisted,
+    )?;
     Ok(())
 }
 
@@ -130,7 +152,15 @@ fn note_rows<'a>(
 {
     let rows = outline.rows();
     for (i, row) in rows.iter().enumerate() {
-        note_row(alloc, index, listed, outline, row, first + i as u32, findings)?;
+        note_row(
+            alloc,
+            index,
+            listed,
+            outline,
+            row,
+            first + i as u32,
+            findings,
+        )?;
     }
     Ok(())
 }

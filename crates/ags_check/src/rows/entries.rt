@@ -64,7 +64,14 @@ fn note_entry<'a>(
     let strange_type = is_unlisted_type(column, text, listed);
     note(alloc, findings, line, Code::Rule8, heading, unfit)?;
     note(alloc, findings, line, Code::Rule15, heading, strange_unit)?;
-    note(alloc, findings, line, Code::Rule16, heading, strange_abbreviation)?;
+    note(
+        alloc,
+        findings,
+        line,
+        Code::Rule16,
+        heading,
+        strange_abbreviation,
+    )?;
     note(alloc, findings, line, Code::Rule17, heading, strange_type)?;
     Ok(())
 }
@@ -101,8 +108,22 @@ fn note_column(
 {
     let strange_unit = listed.is_unlisted_unit(column.unit);
     let strange_type = listed.is_unlisted_type(column.code);
-    note(alloc, findings, group.unit_line, Code::Rule15, column.heading, strange_unit)?;
-    note(alloc, findings, group.type_line, Code::Rule17, column.heading, strange_type)?;
+    note(
+        alloc,
+        findings,
+        group.unit_line,
+        Code::Rule15,
+        column.heading,
+        strange_unit,
+    )?;
+    note(
+        alloc,
+        findings,
+        group.type_line,
+        Code::Rule17,
+        column.heading,
+        strange_type,
+    )?;
     Ok(())
 }
 
@@ -136,7 +157,14 @@ pub fn note_lacking(
 {
     for (i, column) in required.iter().enumerate() {
         let is_null = field(cells, column.place).is_empty();
-        note(alloc, findings, line, Code::Rule10b, column.heading, is_null)?;
+        note(
+            alloc,
+            findings,
+            line,
+            Code::Rule10b,
+            column.heading,
+            is_null,
+        )?;
     }
     Ok(())
 }

@@ -37,7 +37,7 @@ fn is_broken_link(
     requires { number < length (rows_in index.now) }
     ensures { IfOk result (λ broken. (row : DataRow) → IsRow (rows_in index.now) number row
         → IsTrue broken ↔ (column.now.code.now ≡ codes "RL") × (text.now ≢ [])
-            × HasBrokenPart index.now.entries index.now.contents row column.now.heading.now) }
+        × HasBrokenPart index.now.entries index.now.contents row column.now.heading.now) }
 {
     if !is_of_type(column, b"RL") {
         return Ok(false);
@@ -66,7 +66,14 @@ pub fn note_links(
     for (i, column) in columns.iter().enumerate() {
         let text = field(cells, column.place);
         let is_broken = is_broken_link(column, text, index, number)?;
-        note(alloc, findings, line, Code::Rule11c, column.heading, is_broken)?;
+        note(
+            alloc,
+            findings,
+            line,
+            Code::Rule11c,
+            column.heading,
+            is_broken,
+        )?;
     }
     Ok(())
 }
