@@ -9,3 +9,6 @@ pub mod Sizes
 pub mod Listings
 pub mod PairSets
 pub mod EntryNotes
+pub mod LinkNotes
+pub mod RowNotes
+pub mod Numbering

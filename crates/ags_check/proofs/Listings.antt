@@ -122,11 +122,11 @@ is_pair_of file held heading text has h =
     let there = row_read (codes "ABBR") abbreviation_in file (heading, text) (h.group, h.fields, h.of_file, h.named, h.row, both) in
     has heading text ∙ list_any-from_Any (is_pair heading text) (abbreviations file) (there.0, (heading, text), there.1, there.2, pair_itself heading text)
 
-not_true : (b : Bool) → not b ≡ true → b ≡ true → ⊥
+pub not_true : (b : Bool) → not b ≡ true → b ≡ true → ⊥
 not_true true e h = true≢false (sym e)
 not_true false e h = true≢false (sym h)
 
-true_not : (b : Bool) → (b ≡ true → ⊥) → not b ≡ true
+pub true_not : (b : Bool) → (b ≡ true → ⊥) → not b ≡ true
 true_not true h = absurd (h refl)
 true_not false h = refl
 
@@ -154,6 +154,6 @@ unlisted_pair file held separator heading text b has same means = (
         r.some_text,
         false_from (has_pair held heading text) (λ e. r.whole (pair_is file held heading text has e)),
         list_any-from_Any (λ p. not (has_pair held heading p)) (parts_at separator text)
-        (part.0, r.part, part.1, part.2, true_not (has_pair held heading r.part) (λ e. r.unlisted (pair_is file held heading r.part has e))),
+            (part.0, r.part, part.1, part.2, true_not (has_pair held heading r.part) (λ e. r.unlisted (pair_is file held heading r.part has e))),
       ),
 )

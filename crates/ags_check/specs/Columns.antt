@@ -1,13 +1,15 @@
 -- What a group says of its headings, and what the dictionary says of the group: looked up once a group.
-use Rattle.std.specs.Prelude.{◌≡◌, ◌≢◌, ◌↔◌, ℕ, List, [], ◌∷◌, Bool, not, All, Option, map, codes, is_some, IsTrue}
+use Rattle.std.specs.Prelude.{◌≡◌, ◌≢◌, ◌↔◌, ◌+◌, ℕ, List, [], ◌∷◌, Bool, not, All, Option, map, codes, is_some, IsTrue}
 use Rattle.ags_rows.specs.declared.codes.Code.TheVariants.{Rule15, Rule17}
 use Rattle.ags_rows.specs.declared.codes.Finding.{Finding}
 use Rattle.ags_rows.specs.declared.rows.Group.{Group}
-use Rattle.ags_rows.specs.Collecting.{Notes}
-use Rattle.ags_rows.specs.Contents.{Contents, group_contents, place_in, field_at}
+use Rattle.ags_rows.specs.declared.rows.Row.{Row}
+use Rattle.ags_rows.specs.Collecting.{At, Notes}
+use Rattle.ags_rows.specs.Contents.{Contents, group_contents, fields_of, place_in, field_at}
 use Rattle.ags_rows.specs.Names.{is_definition}
 use Rattle.ags_cells.specs.CellTypes.{IsTypeCodeOf}
 use Rattle.ags_dict.specs.Entries.{Entries, keys_of, required_of, parent_of}
+use Rattle.ags_links.specs.DataRows.{DataRow, IsRow, row_in}
 use Rattle.ags_check.specs.RowRules.{Entry, unit_over, type_over, IsUnlistedUnit, IsUnlistedType}
 use Rattle.ags_check.specs.declared.rows.columns.Column.{Column}
 
@@ -55,3 +57,7 @@ pub record IsOutline (group : Group) (entries : Entries) (own_columns required_c
   pub has_keys : IsTrue keyed ↔ (keys_of entries group.name ≢ [])
   pub has_parent : parented ≡ is_some (parent_of entries group.name)
   pub is_data : of_data ≡ not (is_definition group.name)
+
+-- the DATA rows of the group stand among these from number `first` on
+abbrev pub RowsStand : List DataRow → ℕ → Group → Type 0
+RowsStand rows first group = (place : ℕ) (row : Row) → At group.rows place row → IsRow rows (first + place) (row_in (group_contents group) (fields_of row))

@@ -101,13 +101,17 @@ IsUnlistedTypeEntry file entry = IsOfType (codes "PT") (IsUnlistedType file) ent
 
 -- ---- of a DATA row
 
+-- some part of what stands under the heading, read as a record link, names no row
+pub record HasBrokenPart (entries : Entries) (file : List Contents) (row : DataRow) (heading : List ℕ) : Type 0 where
+  pub part : List ℕ
+  pub is_part : IsPartOf (separators_of file) row heading part
+  pub names_none : (other : DataRow) → Contains (data_rows file) other → Names entries (separators_of file).delimiter part other → ⊥
+
 -- Rule 11c: in a data group, some part of the record link under the heading names no row.
 pub record IsBrokenLink (entries : Entries) (file : List Contents) (row : DataRow) (heading : List ℕ) : Type 0 where
   pub data_group : is_definition row.group ≡ false
   pub link : IsRecordLink row heading
-  pub part : List ℕ
-  pub is_part : IsPartOf (separators_of file) row heading part
-  pub names_none : (other : DataRow) → Contains (data_rows file) other → Names entries (separators_of file).delimiter part other → ⊥
+  pub broken : HasBrokenPart entries file row heading
 
 -- Rule 10a: the group has KEY headings, and an earlier row of it has an equal key. The rows are numbered over the file.
 pub record RepeatsKey (entries : Entries) (file : List Contents) (number : ℕ) (row : DataRow) : Type 0 where

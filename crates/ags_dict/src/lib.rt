@@ -6,6 +6,7 @@ mod entries;
 mod extending;
 mod groups;
 mod headings;
+pub mod laws;
 mod parts;
 mod places;
 mod reading;

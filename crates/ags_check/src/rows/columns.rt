@@ -1,6 +1,6 @@
 //! What a group says of its headings.
 
-ghost use Rattle.std.specs.Prelude.{◌≡◌, IfOk, map};
+ghost use Rattle.std.specs.Prelude.{◌≡◌, ◌↔◌, IsTrue, IfOk, map};
 ghost use Rattle.ags_rows.specs.Contents.{field_at, group_contents};
 ghost use Rattle.ags_check.specs.Places.{AreFirst};
 ghost use Rattle.ags_check.specs.Columns.{IsColumn, AreColumns};
@@ -28,6 +28,13 @@ pub fn field<'r>(cells: &'r [Cell], place: Option<usize>) -> &'r [u8]
         Some(place) if place < cells.len() => cells[place].as_slice(),
         _ => b"",
     }
+}
+
+/// Whether the entries have this type.
+pub fn is_of_type(column: &Column, code: &[u8]) -> bool
+    ensures { IsTrue result ↔ (column.now.code.now ≡ code.now) }
+{
+    column.code == code
 }
 
 /// What the group says of a heading.

@@ -4,10 +4,11 @@ ghost use Rattle.std.specs.Prelude.{◌≡◌, ◌↔◌, ◌∷◌, [], ℕ, Li
 ghost use Rattle.ags_rows.specs.Collecting.{Adds, OneOf};
 ghost use Rattle.ags_rows.specs.Contents.{Contents, group_contents};
 ghost use Rattle.ags_check.specs.RowRules.{IsUnfit, IsUnlistedUnitEntry, IsUnlistedAbbreviationEntry, IsUnlistedTypeEntry, entry_in};
-ghost use Rattle.ags_check.specs.RowPhase.{InHeadings, header_rules_of, entry_rules};
+ghost use Rattle.ags_check.specs.RowPhase.{InHeadings, header_rules_of, entry_rules, required_rules};
+ghost use Rattle.ags_links.specs.DataRows.{row_in};
 ghost use Rattle.ags_check.specs.Columns.{IsTyped, AreColumns, entry_under, column_rules};
 
-use crate::rows::columns::{Column, field};
+use crate::rows::columns::{Column, field, is_of_type};
 use crate::rows::listed::Listed;
 use ags_cells::fits;
 use ags_cells::laws::fits_its_type_code;
@@ -21,13 +22,6 @@ fn is_unfit(column: &Column, text: &[u8]) -> bool
 {
     fits_its_type_code();
     !text.is_empty() && !fits(column.cell_type, column.unit, text)
-}
-
-/// Whether the entries have this type.
-fn is_of_type(column: &Column, code: &[u8]) -> bool
-    ensures { IsTrue result ↔ (column.now.code.now ≡ code.now) }
-{
-    column.code == code
 }
 
 /// Rule 15, of an entry of type PU.
@@ -70,7 +64,14 @@ fn note_entry<'a>(
     let strange_type = is_unlisted_type(column, text, listed);
     note(alloc, findings, line, Code::Rule8, heading, unfit)?;
     note(alloc, findings, line, Code::Rule15, heading, strange_unit)?;
-    note(alloc, findings, line, Code::Rule16, heading, strange_abbreviation)?;
+    note(
+        alloc,
+        findings,
+        line,
+        Code::Rule16,
+        heading,
+        strange_abbreviation,
+    )?;
     note(alloc, findings, line, Code::Rule17, heading, strange_type)?;
     Ok(())
 }
@@ -107,8 +108,22 @@ fn note_column(
 {
     let strange_unit = listed.is_unlisted_unit(column.unit);
     let strange_type = listed.is_unlisted_type(column.code);
-    note(alloc, findings, group.unit_line, Code::Rule15, column.heading, strange_unit)?;
-    note(alloc, findings, group.type_line, Code::Rule17, column.heading, strange_type)?;
+    note(
+        alloc,
+        findings,
+        group.unit_line,
+        Code::Rule15,
+        column.heading,
+        strange_unit,
+    )?;
+    note(
+        alloc,
+        findings,
+        group.type_line,
+        Code::Rule17,
+        column.heading,
+        strange_type,
+    )?;
     Ok(())
 }
 
@@ -125,6 +140,31 @@ pub fn note_header(
 {
     for (i, column) in columns.iter().enumerate() {
         note_column(alloc, group, column, listed, findings)?;
+    }
+    Ok(())
+}
+
+/// Rule 10b: notes the REQUIRED entries of a row that are null.
+pub fn note_lacking(
+    alloc: Global,
+    line: u32,
+    required: &[Column],
+    cells: &[Cell],
+    findings: &mut Vec<Finding>,
+) -> Result<(), AllocError>
+    ensures { OnOk result ((group : Contents) (headings : List (List ℕ)) → AreColumns group headings required.now
+        → Adds (InHeadings headings (required_rules line (row_in group cells.now))) findings.old.items findings.new.items) }
+{
+    for (i, column) in required.iter().enumerate() {
+        let is_null = field(cells, column.place).is_empty();
+        note(
+            alloc,
+            findings,
+            line,
+            Code::Rule10b,
+            column.heading,
+            is_null,
+        )?;
     }
     Ok(())
 }

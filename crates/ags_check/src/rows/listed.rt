@@ -63,7 +63,7 @@ fn push_named<'a>(
 ) -> Result<(), AllocError>
     ensures { OnOk result (map (λ text. text.now) texts.new.items
         ≡ map (λ text. text.now) texts.old.items
-            ++ (if bytes_eq group.now.name name.now then map (λ fields. under group.now.headings fields heading.now) (group_contents group.now).rows else [])) }
+        ++ (if bytes_eq group.now.name name.now then map (λ fields. under group.now.headings fields heading.now) (group_contents group.now).rows else [])) }
 {
     if group.name.as_slice() == name {
         push_texts(group, heading, texts)?;
