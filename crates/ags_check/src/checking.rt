@@ -14,7 +14,7 @@ ghost use Rattle.ags_links.specs.DataRows.{data_rows};
 use crate::clean::Checked;
 use crate::file::File;
 use crate::header::header_findings;
-use crate::row_stub::row_findings;
+use crate::rows::row_findings;
 use ags_dict::Dictionary;
 use ags_links::{Graph, Index};
 use ags_rows::{Finding, RowsError, Scan, Sequence};
