@@ -22,8 +22,15 @@ data_rows_fit : (groups : List Group) → length (data_rows (contents_of groups)
 data_rows_fit [] = omega arith
 data_rows_fit (g ∷ groups) =
     let here = row_in (group_contents g) in
-    omega (arith, length-append (group_rows (group_contents g)) (data_rows (contents_of groups)), length-append (rows_of g) (flat_map rows_of groups),
-    length-map (map fields_of g.rows) here, length-map g.rows fields_of, length-map g.rows data_row, data_rows_fit groups)
+    omega (
+      arith,
+      length-append (group_rows (group_contents g)) (data_rows (contents_of groups)),
+      length-append (rows_of g) (flat_map rows_of groups),
+      length-map (map fields_of g.rows) here,
+      length-map g.rows fields_of,
+      length-map g.rows data_row,
+      data_rows_fit groups,
+    )
 
 -- so they can be numbered
 pub few_rows : (bytes : List ℕ) (groups : List Group) → FileGroups bytes groups → length bytes ≤ 67108864 → length (data_rows (contents_of groups)) < 2 ^ 32

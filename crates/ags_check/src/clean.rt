@@ -29,12 +29,7 @@ impl<'a> Model for Checked<'a> {
 
 impl<'a> Checked<'a> {
     /// A file without findings.
-    pub(crate) fn of(
-        bytes: &'a [u8],
-        scan: Scan<'a>,
-        dictionary: Dictionary,
-        graph: Graph,
-    ) -> Self
+    pub(crate) fn of(bytes: &'a [u8], scan: Scan<'a>, dictionary: Dictionary, graph: Graph) -> Self
         requires { IsCleanFile (record { bytes = bytes.now; groups = scan; entries = dictionary; graph = graph }) }
         ensures { result ≡ record { bytes = bytes.entry.now; groups = scan.entry; entries = dictionary; graph = graph } }
     {

@@ -159,7 +159,11 @@ fn files_end_early(rt: HostRuntime) -> Result<(), Fail> {
 }
 
 /// Two rows over three that share no KEY heading with them, so that each is a parent of each.
-const ALL_PARENTS: [Edit; 1] = [Edit { first: 26, last: 30, lines: "\"GROUP\",\"AAAA\"\r\n\"HEADING\",\"AAAA_ID\"\r\n\"UNIT\",\"\"\r\n\"TYPE\",\"X\"\r\n\"DATA\",\"1\"\r\n\"DATA\",\"2\"\r\n\"DATA\",\"3\"\r\n\r\n\"GROUP\",\"BBBB\"\r\n\"HEADING\",\"BBBB_ID\"\r\n\"UNIT\",\"\"\r\n\"TYPE\",\"X\"\r\n\"DATA\",\"1\"\r\n\"DATA\",\"2\"\r\n\r\n\"GROUP\",\"DICT\"\r\n\"HEADING\",\"DICT_TYPE\",\"DICT_GRP\",\"DICT_HDNG\",\"DICT_STAT\",\"DICT_PGRP\"\r\n\"UNIT\",\"\",\"\",\"\",\"\",\"\"\r\n\"TYPE\",\"X\",\"X\",\"X\",\"X\",\"X\"\r\n\"DATA\",\"GROUP\",\"AAAA\",\"\",\"\",\"-\"\r\n\"DATA\",\"HEADING\",\"AAAA\",\"AAAA_ID\",\"KEY\",\"\"\r\n\"DATA\",\"GROUP\",\"BBBB\",\"\",\"\",\"AAAA\"\r\n\"DATA\",\"HEADING\",\"BBBB\",\"BBBB_ID\",\"KEY\",\"\"\r\n" }];
+const ALL_PARENTS: [Edit; 1] = [Edit {
+    first: 26,
+    last: 30,
+    lines: "\"GROUP\",\"AAAA\"\r\n\"HEADING\",\"AAAA_ID\"\r\n\"UNIT\",\"\"\r\n\"TYPE\",\"X\"\r\n\"DATA\",\"1\"\r\n\"DATA\",\"2\"\r\n\"DATA\",\"3\"\r\n\r\n\"GROUP\",\"BBBB\"\r\n\"HEADING\",\"BBBB_ID\"\r\n\"UNIT\",\"\"\r\n\"TYPE\",\"X\"\r\n\"DATA\",\"1\"\r\n\"DATA\",\"2\"\r\n\r\n\"GROUP\",\"DICT\"\r\n\"HEADING\",\"DICT_TYPE\",\"DICT_GRP\",\"DICT_HDNG\",\"DICT_STAT\",\"DICT_PGRP\"\r\n\"UNIT\",\"\",\"\",\"\",\"\",\"\"\r\n\"TYPE\",\"X\",\"X\",\"X\",\"X\",\"X\"\r\n\"DATA\",\"GROUP\",\"AAAA\",\"\",\"\",\"-\"\r\n\"DATA\",\"HEADING\",\"AAAA\",\"AAAA_ID\",\"KEY\",\"\"\r\n\"DATA\",\"GROUP\",\"BBBB\",\"\",\"\",\"AAAA\"\r\n\"DATA\",\"HEADING\",\"BBBB\",\"BBBB_ID\",\"KEY\",\"\"\r\n",
+}];
 
 #[test]
 fn rows_without_link_headings_have_all_parents(rt: HostRuntime) -> Result<(), Fail> {
