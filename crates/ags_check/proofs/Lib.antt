@@ -5,3 +5,10 @@ pub mod Ranks
 pub mod HeaderRules
 pub mod Groups
 pub mod Whole
+pub mod Sizes
+pub mod Listings
+pub mod PairSets
+pub mod EntryNotes
+pub mod LinkNotes
+pub mod RowNotes
+pub mod Numbering

@@ -2,6 +2,10 @@ pub mod Header
 pub mod HeaderSteps
 pub mod Placing
 pub mod HeaderPhase
+pub mod RowRules
+pub mod RowPhase
+pub mod Columns
+pub mod Listing
 pub mod Places
 pub mod Findings
 pub mod Laws

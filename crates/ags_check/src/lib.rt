@@ -7,6 +7,9 @@ mod file;
 mod header;
 pub mod laws;
 mod places;
+mod rows;
+#[cfg(test)]
+mod tests;
 
 pub use checking::{CheckError, check};
 pub use clean::Checked;

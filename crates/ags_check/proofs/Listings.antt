@@ -1,0 +1,159 @@
+-- What the rows of the groups of a name have, and what is looked up of it.
+use Rattle.std.proofs.Common.{◌≡◌, ◌≢◌, ℕ, Bool, true, false, not, cond, List, [], ◌∷◌, ◌++◌, map, take, length, get_or, flat_map, ◌+◌, ◌<◌, Option, Some, None, refl, sym, ap, subst, ◌∙◌, inl, inr}
+use Rattle.std.specs.Prelude.{◌↔◌, ◌&&◌, IsTrue, Contains, codes}
+use Rattle.std.specs.List.{list_any}
+use Rattle.std.specs.Str.{bytes_eq}
+use Rattle.std.proofs.lemmas.Bool.{true≢false, cond-true}
+use Rattle.std.proofs.lemmas.List.{append-nil, map-append, take_more}
+use Rattle.std.proofs.lemmas.List.Concat.{flat_map-append}
+use Rattle.std.proofs.lemmas.List.Elements.{Contains-append_left, Contains-append_right, Contains-append_cases}
+use Rattle.std.proofs.lemmas.List.Folds.{Any-from_list_any, list_any-from_Any}
+use Rattle.std.proofs.lemmas.Slice.Eq.{bytes_eq-Decides}
+use Rattle.ags_rows.specs.Contents.{Contents, under, group_contents, contents_of}
+use Rattle.ags_rows.specs.declared.rows.Group.{Group}
+use Rattle.ags_rows.proofs.Collecting.{none_is}
+use Rattle.ags_links.specs.RecordLinks.{separators_of}
+use Rattle.ags_links.proofs.Members.{contains_head, contains_tail, contains_cons, contains_map, map_contains}
+use Rattle.ags_dict.specs.Parts.{parts_at}
+use Rattle.ags_check.specs.Listing.{read_rows, listed_texts, abbreviation_in, abbreviations, PairSet, has_pair, is_pair, HasPairs, lacks_part}
+use Rattle.ags_check.specs.Places.{place_at, AreFirst}
+use Rattle.ags_check.specs.RowRules.{IsListed, IsUnlisted, IsAbbreviation, IsUnlistedAbbreviation}
+use Rattle.ags_check.proofs.HeaderRules.{placed, unplaced}
+
+-- a row of a group of the name, and what is read from it
+abbrev pub Read : {X : Type 0} → List ℕ → (List (List ℕ) → List (List ℕ) → X) → List Contents → X → Type 0
+Read name read file x =
+    (group : Contents) × (fields : List (List ℕ)) × Contains file group × (group.name ≡ name) × Contains group.rows fields × (read group.headings fields ≡ x)
+
+abbrev pub read_group : {X : Type 0} → List ℕ → (List (List ℕ) → List (List ℕ) → X) → Contents → List X
+read_group name read group = cond (bytes_eq group.name name) (map (read group.headings) group.rows) []
+
+group_read : {X : Type 0} (name : List ℕ) (read : List (List ℕ) → List (List ℕ) → X) (group : Contents) (x : X) (t : Bool) → bytes_eq group.name name ≡ t
+    → Contains (cond t (map (read group.headings) group.rows) []) x
+    → (group.name ≡ name) × ((fields : List (List ℕ)) × Contains group.rows fields × (read group.headings fields ≡ x))
+group_read name read group x true e h = ((bytes_eq-Decides group.name name).0 e, map_contains (read group.headings) group.rows x h)
+group_read name read group x false e h = absurd (none_is x h)
+
+pub rows_read : {X : Type 0} (name : List ℕ) (read : List (List ℕ) → List (List ℕ) → X) (file : List Contents) (x : X) → Contains (read_rows name read file) x → Read name read file x
+rows_read name read [] x h = absurd (none_is x h)
+rows_read name read (g ∷ file) x h = elim (Contains-append_cases (read_group name read g) (read_rows name read file) x h) [
+  | inl here ↦ (let k = group_read name read g x (bytes_eq g.name name) refl here in (g, k.1.0, contains_head g file, k.0, k.1.1, k.1.2))
+  | inr more ↦ (let k = rows_read name read file x more in (k.0, k.1, contains_tail g file k.0 k.2, k.3, k.4, k.5))
+]
+
+row_of_group : {X : Type 0} (name : List ℕ) (read : List (List ℕ) → List (List ℕ) → X) (group : Contents) (fields : List (List ℕ)) (x : X)
+    → group.name ≡ name → Contains group.rows fields → read group.headings fields ≡ x → Contains (read_group name read group) x
+row_of_group name read group fields x same row is =
+    let named : bytes_eq group.name name ≡ true = (bytes_eq-Decides group.name name).1 same in
+    subst (λ xs. Contains xs x) (sym (cond-true (bytes_eq group.name name) (map (read group.headings) group.rows) [] named))
+    (subst (Contains (map (read group.headings) group.rows)) is (contains_map (read group.headings) group.rows fields row))
+
+pub row_read : {X : Type 0} (name : List ℕ) (read : List (List ℕ) → List (List ℕ) → X) (file : List Contents) (x : X) → Read name read file x → Contains (read_rows name read file) x
+row_read name read [] x k = absurd (none_is k.0 k.2)
+row_read name read (g ∷ file) x k = elim (contains_cons g file k.0 k.2) [
+  | inl e ↦
+      Contains-append_left (read_group name read g) (read_rows name read file) x
+      (subst (λ (c : Contents). Contains (read_group name read c) x) (sym e) (row_of_group name read k.0 k.1 x k.3 k.4 k.5))
+  | inr more ↦ Contains-append_right (read_group name read g) (read_rows name read file) x (row_read name read file x (k.0, k.1, more, k.3, k.4, k.5))
+]
+
+-- one group more
+pub read_more : {X : Type 0} (name : List ℕ) (read : List (List ℕ) → List (List ℕ) → X) (groups : List Group) (i : ℕ) (group : Group) → i < length groups → group ≡ get_or groups i group
+    → read_rows name read (contents_of (take (i + 1) groups)) ≡ read_rows name read (contents_of (take i groups)) ++ read_group name read (group_contents group)
+read_more {X} name read groups i group lt is =
+    let part : Contents → List X = read_group name read in
+    let next : take (i + 1) groups ≡ take i groups ++ group ∷ [] = take_more groups i group lt ∙ ap (λ (g : Group). take i groups ++ g ∷ []) (sym is) in
+    ap (λ (gs : List Group). read_rows name read (contents_of gs)) next
+    ∙ ap (flat_map part) (map-append group_contents (take i groups) (group ∷ []))
+    ∙ flat_map-append part (contents_of (take i groups)) (group_contents group ∷ [])
+    ∙ ap (λ (xs : List X). flat_map part (contents_of (take i groups)) ++ xs) (append-nil (part (group_contents group)))
+
+-- ---- units, types and file sets
+
+pub listed_is : (file : List Contents) (name heading text : List ℕ) → Contains (listed_texts file name heading) text → IsListed file name heading text
+listed_is file name heading text h =
+    let k = rows_read name (λ headings fields. under headings fields heading) file text h in
+    record { group = k.0; fields = k.1; of_file = k.2; named = k.3; row = k.4; entry = k.5 }
+
+pub is_listed : (file : List Contents) (name heading text : List ℕ) → IsListed file name heading text → Contains (listed_texts file name heading) text
+is_listed file name heading text h =
+    row_read name (λ headings fields. under headings fields heading) file text (h.group, h.fields, h.of_file, h.named, h.row, h.entry)
+
+-- what is not found is not listed
+pub unlisted_by : (file : List Contents) (name heading text : List ℕ) (held : _) (b : Bool) → AreFirst held (listed_texts file name heading)
+    → IsTrue b ↔ (text ≢ []) × (place_at held text ≡ None) → IsTrue b ↔ IsUnlisted file name heading text
+unlisted_by file name heading text held b first means = (
+  λ e. ((means.0 e).0, λ h. placed (listed_texts file name heading) text (is_listed file name heading text h) (sym (first text) ∙ (means.0 e).1)),
+  λ h. means.1 (h.0, first text ∙ unplaced (listed_texts file name heading) text (λ k. h.1 (listed_is file name heading text k))),
+)
+
+-- ---- abbreviations
+
+and_true : (a b : Bool) → (a && b) ≡ true → (a ≡ true) × (b ≡ true)
+and_true true b e = (refl, e)
+and_true false b e = absurd (true≢false (sym e))
+
+both_true : (a b : Bool) → a ≡ true → b ≡ true → (a && b) ≡ true
+both_true true b x y = y
+both_true false b x y = absurd (true≢false (sym x))
+
+same_pair : (heading text : List ℕ) (pair : List ℕ × List ℕ) → is_pair heading text pair ≡ true → pair ≡ (heading, text)
+same_pair heading text pair e =
+    let k = and_true (bytes_eq pair.0 heading) (bytes_eq pair.1 text) e in
+    ap (λ (x : List ℕ). (x, pair.1)) ((bytes_eq-Decides pair.0 heading).0 k.0) ∙ ap (λ (y : List ℕ). (heading, y)) ((bytes_eq-Decides pair.1 text).0 k.1)
+
+pair_itself : (heading text : List ℕ) → is_pair heading text (heading, text) ≡ true
+pair_itself heading text =
+    both_true (bytes_eq heading heading) (bytes_eq text text) ((bytes_eq-Decides heading heading).1 refl) ((bytes_eq-Decides text text).1 refl)
+
+-- a pair of the set is an abbreviation
+pub pair_is : (file : List Contents) (held : PairSet) (heading text : List ℕ) → HasPairs held (abbreviations file) → has_pair held heading text ≡ true → IsAbbreviation file heading text
+pair_is file held heading text has e =
+    let found = Any-from_list_any (is_pair heading text) (abbreviations file) (sym (has heading text) ∙ e) in
+    let there : Contains (abbreviations file) (heading, text) =
+    subst (Contains (abbreviations file)) (same_pair heading text found.1 found.4) (found.0, found.2, found.3) in
+    let k = rows_read (codes "ABBR") abbreviation_in file (heading, text) there in
+    record { group = k.0; fields = k.1; of_file = k.2; named = k.3; row = k.4; heads = ap (λ (p : List ℕ × List ℕ). p.0) k.5; code = ap (λ (p : List ℕ × List ℕ). p.1) k.5 }
+
+pub is_pair_of : (file : List Contents) (held : PairSet) (heading text : List ℕ) → HasPairs held (abbreviations file) → IsAbbreviation file heading text → has_pair held heading text ≡ true
+is_pair_of file held heading text has h =
+    let both : abbreviation_in h.group.headings h.fields ≡ (heading, text) =
+    ap (λ (x : List ℕ). (x, (abbreviation_in h.group.headings h.fields).1)) h.heads ∙ ap (λ (y : List ℕ). (heading, y)) h.code in
+    let there = row_read (codes "ABBR") abbreviation_in file (heading, text) (h.group, h.fields, h.of_file, h.named, h.row, both) in
+    has heading text ∙ list_any-from_Any (is_pair heading text) (abbreviations file) (there.0, (heading, text), there.1, there.2, pair_itself heading text)
+
+pub not_true : (b : Bool) → not b ≡ true → b ≡ true → ⊥
+not_true true e h = true≢false (sym e)
+not_true false e h = true≢false (sym h)
+
+pub true_not : (b : Bool) → (b ≡ true → ⊥) → not b ≡ true
+true_not true h = absurd (h refl)
+true_not false h = refl
+
+false_from : (b : Bool) → (b ≡ true → ⊥) → b ≡ false
+false_from true h = absurd (h refl)
+false_from false h = refl
+
+-- what is not in the set, nor in all of its parts, is unlisted
+pub unlisted_pair : (file : List Contents) (held : PairSet) (separator : ℕ) (heading text : List ℕ) (b : Bool) → HasPairs held (abbreviations file) → separator ≡ (separators_of file).concatenator
+    → IsTrue b ↔ (text ≢ []) × (has_pair held heading text ≡ false) × (lacks_part held separator heading text ≡ true) → IsTrue b ↔ IsUnlistedAbbreviation file heading text
+unlisted_pair file held separator heading text b has same means = (
+  λ e.
+      let h = means.0 e in
+      let found = Any-from_list_any (λ part. not (has_pair held heading part)) (parts_at separator text) h.2 in
+      record {
+        some_text = h.0;
+        whole = λ k. true≢false (sym (is_pair_of file held heading text has k) ∙ h.1);
+        part = found.1;
+        is_part = subst (λ (s : ℕ). Contains (parts_at s text) found.1) same (found.0, found.2, found.3);
+        unlisted = λ k. not_true (has_pair held heading found.1) found.4 (is_pair_of file held heading found.1 has k);
+      },
+  λ r.
+      let part = subst (λ (s : ℕ). Contains (parts_at s text) r.part) (sym same) r.is_part in
+      means.1 (
+        r.some_text,
+        false_from (has_pair held heading text) (λ e. r.whole (pair_is file held heading text has e)),
+        list_any-from_Any (λ p. not (has_pair held heading p)) (parts_at separator text)
+            (part.0, r.part, part.1, part.2, true_not (has_pair held heading r.part) (λ e. r.unlisted (pair_is file held heading r.part has e))),
+      ),
+)

@@ -1,0 +1,12 @@
+use Rattle.std.proofs.Common.{List, ℕ}
+use Rattle.ags_rows.specs.Collecting.{Adds, AmongBefore, OneOf}
+use Rattle.ags_rows.specs.Contents.{Contents}
+use Rattle.ags_links.specs.DataRows.{row_in}
+use Rattle.ags_check.specs.Columns.{AreColumns}
+use Rattle.ags_check.specs.RowPhase.{required_rules}
+use Rattle.ags_check.proofs.rows.entries.note_lacking.Given as goal
+
+abbrev pub invariant-loop-i : goal.invariant-loop-i
+invariant-loop-i l =
+    (group : Contents) (headings : List (List ℕ)) → AreColumns group headings l.required
+    → Adds (AmongBefore headings (λ _ heading f. OneOf (required_rules l.line (row_in group l.cells) heading) f) l.i) l.fn.findings.items l.findings.items

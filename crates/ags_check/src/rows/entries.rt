@@ -1,0 +1,170 @@
+//! What the entries of a row break.
+
+ghost use Rattle.std.specs.Prelude.{◌≡◌, ◌↔◌, ◌∷◌, [], ℕ, List, All, IsTrue, OnOk};
+ghost use Rattle.ags_rows.specs.Collecting.{Adds, OneOf};
+ghost use Rattle.ags_rows.specs.Contents.{Contents, group_contents};
+ghost use Rattle.ags_check.specs.RowRules.{IsUnfit, IsUnlistedUnitEntry, IsUnlistedAbbreviationEntry, IsUnlistedTypeEntry, entry_in};
+ghost use Rattle.ags_check.specs.RowPhase.{InHeadings, header_rules_of, entry_rules, required_rules};
+ghost use Rattle.ags_links.specs.DataRows.{row_in};
+ghost use Rattle.ags_check.specs.Columns.{IsTyped, AreColumns, entry_under, column_rules};
+
+use crate::rows::columns::{Column, field, is_of_type};
+use crate::rows::listed::Listed;
+use ags_cells::fits;
+use ags_cells::laws::fits_its_type_code;
+use ags_rows::{Cell, Code, Finding, Group, note};
+use std::alloc::{AllocError, Global};
+
+/// Rule 8: whether the text does not fit the type and the unit.
+fn is_unfit(column: &Column, text: &[u8]) -> bool
+    requires { IsTyped column.now }
+    ensures { IsTrue result ↔ IsUnfit (entry_under column.now text.now) }
+{
+    fits_its_type_code();
+    !text.is_empty() && !fits(column.cell_type, column.unit, text)
+}
+
+/// Rule 15, of an entry of type PU.
+fn is_unlisted_unit(column: &Column, text: &[u8], listed: &Listed) -> bool
+    ensures { IsTrue result ↔ IsUnlistedUnitEntry listed.now (entry_under column.now text.now) }
+{
+    is_of_type(column, b"PU") && listed.is_unlisted_unit(text)
+}
+
+/// Rule 16, of an entry of type PA.
+fn is_unlisted_abbreviation<'a>(column: &Column<'a>, text: &'a [u8], listed: &Listed<'a>) -> bool
+    ensures { IsTrue result ↔ IsUnlistedAbbreviationEntry listed.now (entry_under column.now text.now) }
+{
+    is_of_type(column, b"PA") && listed.is_unlisted_abbreviation(column.heading, text)
+}
+
+/// Rule 17, of an entry of type PT.
+fn is_unlisted_type(column: &Column, text: &[u8], listed: &Listed) -> bool
+    ensures { IsTrue result ↔ IsUnlistedTypeEntry listed.now (entry_under column.now text.now) }
+{
+    is_of_type(column, b"PT") && listed.is_unlisted_type(text)
+}
+
+/// Notes what an entry breaks.
+fn note_entry<'a>(
+    alloc: Global,
+    line: u32,
+    column: &Column<'a>,
+    text: &'a [u8],
+    listed: &Listed<'a>,
+    findings: &mut Vec<Finding>,
+) -> Result<(), AllocError>
+    requires { IsTyped column.now }
+    ensures { OnOk result (Adds (OneOf (entry_rules listed.now line (entry_under column.now text.now))) findings.old.items findings.new.items) }
+{
+    let heading = column.heading;
+    let unfit = is_unfit(column, text);
+    let strange_unit = is_unlisted_unit(column, text, listed);
+    let strange_abbreviation = is_unlisted_abbreviation(column, text, listed);
+    let strange_type = is_unlisted_type(column, text, listed);
+    note(alloc, findings, line, Code::Rule8, heading, unfit)?;
+    note(alloc, findings, line, Code::Rule15, heading, strange_unit)?;
+    note(
+        alloc,
+        findings,
+        line,
+        Code::Rule16,
+        heading,
+        strange_abbreviation,
+    )?;
+    note(alloc, findings, line, Code::Rule17, heading, strange_type)?;
+    Ok(())
+}
+
+/// Notes what the entries of a row break.
+pub fn note_entries<'a>(
+    alloc: Global,
+    line: u32,
+    columns: &[Column<'a>],
+    cells: &'a [Cell],
+    listed: &Listed<'a>,
+    findings: &mut Vec<Finding>,
+) -> Result<(), AllocError>
+    requires { All IsTyped columns.now }
+    ensures { OnOk result ((group : Contents) (headings : List (List ℕ)) → AreColumns group headings columns.now
+        → Adds (InHeadings headings (λ heading. entry_rules listed.now line (entry_in group cells.now heading))) findings.old.items findings.new.items) }
+{
+    for (i, column) in columns.iter().enumerate() {
+        let text = field(cells, column.place);
+        note_entry(alloc, line, column, text, listed, findings)?;
+    }
+    Ok(())
+}
+
+/// Notes the unit and the type over a heading that are not listed (Rules 15 and 17).
+fn note_column(
+    alloc: Global,
+    group: &Group,
+    column: &Column,
+    listed: &Listed,
+    findings: &mut Vec<Finding>,
+) -> Result<(), AllocError>
+    ensures { OnOk result (Adds (OneOf (column_rules listed.now group.now column.now)) findings.old.items findings.new.items) }
+{
+    let strange_unit = listed.is_unlisted_unit(column.unit);
+    let strange_type = listed.is_unlisted_type(column.code);
+    note(
+        alloc,
+        findings,
+        group.unit_line,
+        Code::Rule15,
+        column.heading,
+        strange_unit,
+    )?;
+    note(
+        alloc,
+        findings,
+        group.type_line,
+        Code::Rule17,
+        column.heading,
+        strange_type,
+    )?;
+    Ok(())
+}
+
+/// Notes the units and types over the headings that are not listed (Rules 15 and 17).
+pub fn note_header(
+    alloc: Global,
+    group: &Group,
+    columns: &[Column],
+    listed: &Listed,
+    findings: &mut Vec<Finding>,
+) -> Result<(), AllocError>
+    ensures { OnOk result (AreColumns (group_contents group.now) group.now.headings columns.now
+        → Adds (InHeadings group.now.headings (header_rules_of listed.now group.now)) findings.old.items findings.new.items) }
+{
+    for (i, column) in columns.iter().enumerate() {
+        note_column(alloc, group, column, listed, findings)?;
+    }
+    Ok(())
+}
+
+/// Rule 10b: notes the REQUIRED entries of a row that are null.
+pub fn note_lacking(
+    alloc: Global,
+    line: u32,
+    required: &[Column],
+    cells: &[Cell],
+    findings: &mut Vec<Finding>,
+) -> Result<(), AllocError>
+    ensures { OnOk result ((group : Contents) (headings : List (List ℕ)) → AreColumns group headings required.now
+        → Adds (InHeadings headings (required_rules line (row_in group cells.now))) findings.old.items findings.new.items) }
+{
+    for (i, column) in required.iter().enumerate() {
+        let is_null = field(cells, column.place).is_empty();
+        note(
+            alloc,
+            findings,
+            line,
+            Code::Rule10b,
+            column.heading,
+            is_null,
+        )?;
+    }
+    Ok(())
+}

@@ -1,0 +1,79 @@
+//! The record links of a row.
+
+ghost use Rattle.std.specs.Prelude.{◌≡◌, ◌≢◌, ◌<◌, ◌↔◌, [], List, ℕ, false, codes, All, IsTrue, IfOk, OnOk, Contains, length};
+ghost use Rattle.ags_rows.specs.Collecting.{Adds};
+ghost use Rattle.ags_rows.specs.Contents.{Contents};
+ghost use Rattle.ags_rows.specs.Names.{is_definition};
+ghost use Rattle.ags_links.specs.DataRows.{DataRow, IsRow, row_in};
+ghost use Rattle.ags_links.specs.Indexing.{rows_in};
+ghost use Rattle.ags_check.specs.RowRules.{HasBrokenPart, IsBrokenLink};
+ghost use Rattle.ags_check.specs.RowPhase.{InHeadings, link_rules};
+ghost use Rattle.ags_check.specs.Columns.{IsColumn, AreColumns, text_at};
+
+use crate::rows::columns::{Column, field, is_of_type};
+use ags_links::{Index, Targets};
+use ags_rows::{Cell, Code, Finding, note};
+use std::alloc::{AllocError, Global};
+
+/// Whether some part of what stands under the heading names no row.
+fn has_broken_part(index: &Index, number: u32, heading: &[u8]) -> Result<bool, AllocError>
+    requires { number < length (rows_in index.now) }
+    ensures { IfOk result (λ broken. (row : DataRow) → IsRow (rows_in index.now) number row
+        → IsTrue broken ↔ HasBrokenPart index.now.entries index.now.contents row heading.now) }
+{
+    match index.link_targets(number, heading)? {
+        Targets::Rows(_) => Ok(false),
+        Targets::Broken => Ok(true),
+    }
+}
+
+/// Rule 11c, in a data group: whether the text is a record link of which some part names no row.
+fn is_broken_link(
+    column: &Column,
+    text: &[u8],
+    index: &Index,
+    number: u32,
+) -> Result<bool, AllocError>
+    requires { number < length (rows_in index.now) }
+    ensures { IfOk result (λ broken. (row : DataRow) → IsRow (rows_in index.now) number row
+        → IsTrue broken ↔ (column.now.code.now ≡ codes "RL") × (text.now ≢ [])
+        × HasBrokenPart index.now.entries index.now.contents row column.now.heading.now) }
+{
+    if !is_of_type(column, b"RL") {
+        return Ok(false);
+    }
+    if text.is_empty() {
+        return Ok(false);
+    }
+    has_broken_part(index, number, column.heading)
+}
+
+/// Rule 11c: notes the record links of a row of a data group of which some part names no row.
+pub fn note_links(
+    alloc: Global,
+    line: u32,
+    columns: &[Column],
+    cells: &[Cell],
+    index: &Index,
+    number: u32,
+    findings: &mut Vec<Finding>,
+) -> Result<(), AllocError>
+    requires { number < length (rows_in index.now) }
+    ensures { OnOk result ((group : Contents) → AreColumns group group.headings columns.now → is_definition group.name ≡ false
+        → IsRow (rows_in index.now) number (row_in group cells.now)
+        → Adds (InHeadings group.headings (link_rules index.now.entries index.now.contents line (row_in group cells.now))) findings.old.items findings.new.items) }
+{
+    for (i, column) in columns.iter().enumerate() {
+        let text = field(cells, column.place);
+        let is_broken = is_broken_link(column, text, index, number)?;
+        note(
+            alloc,
+            findings,
+            line,
+            Code::Rule11c,
+            column.heading,
+            is_broken,
+        )?;
+    }
+    Ok(())
+}

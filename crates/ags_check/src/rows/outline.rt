@@ -1,0 +1,127 @@
+//! What a group's header and the dictionary say of its rows.
+
+ghost use Rattle.std.specs.Prelude.{◌≡◌, ◌≢◌, ◌<◌, ◌↔◌, [], IsTrue, IfOk, length};
+ghost use Rattle.ags_rows.specs.Contents.{group_contents};
+ghost use Rattle.ags_dict.specs.Entries.{keys_of};
+ghost use Rattle.ags_links.specs.DataRows.{DataRow, IsRow, row_in};
+ghost use Rattle.ags_links.specs.Indexing.{rows_in};
+ghost use Rattle.ags_check.specs.RowRules.{RepeatsKey, LacksParentRow, IsUnlistedFileSet};
+
+use crate::header::headings::names_of;
+use crate::places::Places;
+use crate::rows::columns::{Column, columns, field};
+use crate::rows::listed::Listed;
+use ags_dict::Dictionary;
+use ags_links::Index;
+use ags_rows::{Cell, Group, Row, is_definition};
+use std::alloc::{AllocError, Global};
+use std::marker::Model;
+
+/// What a group's header and the dictionary say of the group's rows. Contracts see the group and the entries.
+#[derive(Drop)]
+pub struct Outline<'a> {
+    pub group: &'a Group<'a>,
+    pub dictionary: &'a Dictionary,
+    pub columns: Vec<Column<'a>>,
+    pub required: Vec<Column<'a>>,
+    pub file_set: Option<usize>,
+    pub has_keys: bool,
+    pub has_parent: bool,
+    pub is_data: bool,
+}
+
+impl<'a> Model for Outline<'a> {
+    ghost use Rattle.ags_check.specs.Columns.{Outlined, IsOutline};
+
+    ghost Value = { Outlined };
+
+    ghost view = { λ o. record { group = o.group.now; entries = o.dictionary.now } };
+
+    ghost invariant = { λ o. IsOutline o.group.now o.dictionary.now o.columns.items o.required.items o.file_set o.has_keys o.has_parent o.is_data };
+}
+
+/// Whether the group has KEY headings.
+fn has_keys(alloc: Global, dictionary: &Dictionary, name: &[u8]) -> Result<bool, AllocError>
+    ensures { IfOk result (λ has. IsTrue has ↔ (keys_of dictionary.now name.now ≢ [])) }
+{
+    let keys = dictionary.keys(alloc, name)?;
+    Ok(!keys.is_empty())
+}
+
+impl<'a> Outline<'a> {
+    /// What is said of this group's rows.
+    pub fn of(
+        alloc: Global,
+        dictionary: &'a Dictionary,
+        group: &'a Group<'a>,
+    ) -> Result<Self, AllocError>
+        ensures { IfOk result (λ outline. outline ≡ record { group = group.now; entries = dictionary.now }) }
+    {
+        let name = group.name.as_slice();
+        let headings = names_of(alloc, group.headings.as_slice())?;
+        let places = Places::of(alloc, headings.as_slice())?;
+        let required = dictionary.required(alloc, name)?;
+        let own_columns = columns(alloc, group, &places, headings.as_slice())?;
+        let required_columns = columns(alloc, group, &places, required.as_slice())?;
+        let has_keys = has_keys(alloc, dictionary, name)?;
+        Ok(Outline {
+            group,
+            dictionary,
+            columns: own_columns,
+            required: required_columns,
+            file_set: places.find(b"FILE_FSET"),
+            has_keys,
+            has_parent: dictionary.parent(name).is_some(),
+            is_data: !is_definition(name),
+        })
+    }
+
+    /// The group's name.
+    pub fn name(&self) -> &[u8]
+        ensures { result.now ≡ self.now.group.name }
+    {
+        let group = self.group;
+        group.name.as_slice()
+    }
+
+    /// The group's DATA rows.
+    pub fn rows(&self) -> &'a [Row<'a>]
+        ensures { result.now ≡ self.now.group.rows }
+    {
+        let group = self.group;
+        group.rows.as_slice()
+    }
+
+    /// Rule 10a: whether an earlier row of the group has the key of this one.
+    pub fn repeats_key(&self, index: &Index, number: u32) -> Result<bool, AllocError>
+        requires { number < length (rows_in index.now) }
+        ensures { IfOk result (λ repeats. (row : DataRow) → IsRow (rows_in index.now) number row → row.group ≡ self.now.group.name → self.now.entries ≡ index.now.entries
+            → IsTrue repeats ↔ RepeatsKey index.now.entries index.now.contents number row) }
+    {
+        if !self.has_keys {
+            return Ok(false);
+        }
+        Ok(index.first_of_key(number)? < number)
+    }
+
+    /// Rule 10c: whether the group has a parent group, and the row no parent row.
+    pub fn lacks_parent(&self, index: &Index, number: u32) -> Result<bool, AllocError>
+        requires { number < length (rows_in index.now) }
+        ensures { IfOk result (λ lacks. (row : DataRow) → IsRow (rows_in index.now) number row → row.group ≡ self.now.group.name → self.now.entries ≡ index.now.entries
+            → IsTrue lacks ↔ LacksParentRow index.now.entries index.now.contents row) }
+    {
+        if !self.has_parent {
+            return Ok(false);
+        }
+        Ok(!index.has_parent(number)?)
+    }
+
+    /// Rule 20: whether the row is of a data group other than FILE, and its FILE_FSET is not null and not listed in FILE.
+    pub fn is_unlisted_file_set(&self, cells: &[Cell], listed: &Listed) -> bool
+        ensures { IsTrue result ↔ IsUnlistedFileSet listed.now (row_in (group_contents self.now.group) cells.now) }
+    {
+        self.is_data
+            && self.group.name.as_slice() != b"FILE".as_slice()
+            && listed.is_unlisted_file_set(field(cells, self.file_set))
+    }
+}
