@@ -1,14 +1,18 @@
 -- From the findings of the phases to the findings of a file.
-use Rattle.std.proofs.Common.{◌≡◌, ◌≢◌, ℕ, List, [], length, false, eqb, subst, sym, ap}
+use Rattle.std.proofs.Common.{◌≡◌, ◌≢◌, ℕ, List, [], length, false, eqb, refl, subst, sym, ap, inl, inr}
 use Rattle.std.proofs.lemmas.Bool.{eqb-false}
 use Rattle.ags_rows.specs.declared.codes.Finding.{Finding}
 use Rattle.ags_rows.specs.declared.rows.Group.{Group}
 use Rattle.ags_rows.specs.Contents.{contents_of}
-use Rattle.ags_rows.specs.Findings.{File, phases, FirstFound, RowFindings, FileGroups}
+use Rattle.ags_rows.specs.Findings.{File, phases, Lists, FirstFound, RowFindings, FileGroups}
 use Rattle.ags_rows.proofs.Collecting.{found_early, found_late}
 use Rattle.ags_rows.proofs.Once.{same_file, one_first_found}
 use Rattle.ags_dict.specs.Entries.{Entries, extended}
-use Rattle.ags_check.specs.Findings.{dictionary_phases, all_phases, Findings, IsClean}
+use Rattle.ags_check.specs.Findings.{dictionary_phases, all_phases, IsClear, IsGraphOf, Findings, IsClean}
+use Rattle.ags_check.specs.HeaderPhase.{header_rules}
+use Rattle.ags_check.specs.RowPhase.{row_rules}
+use Rattle.ags_links.specs.Walks.{Wiring}
+use Rattle.ags_rows.specs.Collecting.{OneOf}
 
 -- what the rows break is what the file breaks
 pub rows_found : (given : Entries) (bytes : List ℕ) (found : List Finding) → RowFindings bytes found → found ≢ [] → Findings given bytes found
@@ -24,13 +28,25 @@ groups_found given entries bytes groups found read same first =
     subst (λ (gs : List Group). FirstFound (dictionary_phases given (extended given (contents_of gs)) gs) found) (sym read.4) of_groups in
     (read.0, read.1, found_late (phases read.0) (dictionary_phases given (extended given (contents_of read.0.groups)) read.0.groups) found read.2 of_file)
 
--- and where that is nothing the file is clean
-pub clean : (given entries : Entries) (bytes : List ℕ) (groups : List Group) (found : List Finding) → FileGroups bytes groups → entries ≡ extended given (contents_of groups)
-    → FirstFound (dictionary_phases given entries groups) found → found ≡ [] → IsClean given (record { bytes = bytes; groups = groups; entries = entries })
-clean given entries bytes groups found read same first none = record {
+-- where the headers break something, that is found
+pub headers_found : (given entries : Entries) (bytes : List ℕ) (groups : List Group) (found : List Finding) → FileGroups bytes groups → entries ≡ extended given (contents_of groups)
+    → Lists (OneOf (header_rules given entries groups)) found → found ≢ [] → Findings given bytes found
+headers_found given entries bytes groups found read same lists some = groups_found given entries bytes groups found read same (inl (lists, some))
+
+-- where the headers break nothing, what the rows break is found
+pub entries_found : (given entries : Entries) (bytes : List ℕ) (groups : List Group) (found : List Finding) → FileGroups bytes groups → entries ≡ extended given (contents_of groups)
+    → IsClear (header_rules given entries groups) → Lists (OneOf (row_rules entries groups)) found → found ≢ [] → Findings given bytes found
+entries_found given entries bytes groups found read same clear lists some = groups_found given entries bytes groups found read same (inr (clear, inl (lists, some)))
+
+-- and where these break nothing either, the file is clean
+pub clean : (given entries : Entries) (bytes : List ℕ) (groups : List Group) (graph : Wiring) → FileGroups bytes groups → entries ≡ extended given (contents_of groups)
+    → IsClear (header_rules given entries groups) → IsClear (row_rules entries groups) → IsGraphOf groups entries graph
+    → IsClean given (record { bytes = bytes; groups = groups; entries = entries; graph = graph })
+clean given entries bytes groups graph read same clear clear_rows steps = record {
   groups = read;
   entries = same;
-  findings = subst (Findings given bytes) none (groups_found given entries bytes groups found read same first);
+  graph = steps;
+  findings = groups_found given entries bytes groups [] read same (inr (clear, inr (clear_rows, refl)));
 }
 
 -- a test of a list's length

@@ -1,16 +1,22 @@
 //! Checking a file.
 
-ghost use Rattle.std.specs.Prelude.{◌≡◌, ◌≢◌, ◌≤◌, List, [], length, IfOk, IsErrOf};
+ghost use Rattle.std.specs.Prelude.{◌≡◌, ◌≢◌, ◌≤◌, ◌<◌, ◌^◌, List, [], length, IfOk, OnOk, IsErrOf};
 ghost use Rattle.ags_rows.specs.declared.codes.Finding.{Finding};
-ghost use Rattle.ags_rows.specs.declared.rows.Group.{Group};
-ghost use Rattle.ags_rows.specs.Findings.{FirstFound, RowFindings, FileGroups};
+ghost use Rattle.ags_rows.specs.Collecting.{OneOf};
+ghost use Rattle.ags_rows.specs.Contents.{contents_of};
+ghost use Rattle.ags_rows.specs.Findings.{Lists, RowFindings, FileGroups};
 ghost use Rattle.ags_check.specs.declared.checking.CheckError.TheVariants.{NoMemory};
-ghost use Rattle.ags_check.specs.Findings.{dictionary_phases, Findings, IsClean};
+ghost use Rattle.ags_check.specs.Findings.{IsClear, IsGraphOf, Findings, IsClean};
+ghost use Rattle.ags_check.specs.HeaderPhase.{header_rules};
+ghost use Rattle.ags_check.specs.RowPhase.{row_rules};
+ghost use Rattle.ags_links.specs.DataRows.{data_rows};
 
 use crate::clean::Checked;
 use crate::file::File;
 use crate::header::header_findings;
+use crate::rows::row_findings;
 use ags_dict::Dictionary;
+use ags_links::{Graph, Index};
 use ags_rows::{Finding, RowsError, Scan, Sequence};
 use std::alloc::{AllocError, Global};
 use std::fmt::{self, Debug, Formatter, Write};
@@ -57,18 +63,38 @@ fn read<'a>(alloc: Global, bytes: &'a [u8]) -> Result<Scan<'a>, CheckError>
     }
 }
 
-/// What a file without findings of its rows breaks under a dictionary and its extension: the findings of the first
-/// phase that has any.
-fn dictionary_findings(
+/// Whether the groups break nothing of the fourth phase, or all its findings.
+fn check_headers(
     alloc: Global,
     given: &Dictionary,
     extended: &Dictionary,
     scan: &Scan,
-) -> Result<Sequence<Finding>, AllocError>
-    ensures { IfOk result (FirstFound (dictionary_phases given.now extended.now scan.now)) }
+) -> Result<(), CheckError>
+    ensures clear { OnOk result (IsClear (header_rules given.now extended.now scan.now)) }
+    ensures findings { (found : List Finding) → IsErrOf result (CheckError.Findings found) → Lists (OneOf (header_rules given.now extended.now scan.now)) found × (found ≢ []) }
 {
     let file = File::of(alloc, scan.groups())?;
-    header_findings(alloc, given, extended, &file)
+    let found = header_findings(alloc, given, extended, &file)?;
+    if !found.is_empty() {
+        return Err(CheckError::Findings(found));
+    }
+    Ok(())
+}
+
+/// The steps between the rows, if these break nothing of the fifth phase, or all its findings.
+fn check_rows(alloc: Global, dictionary: &Dictionary, scan: &Scan) -> Result<Graph, CheckError>
+    requires { length (data_rows (contents_of scan.now)) < 2 ^ 32 }
+    ensures graph { IfOk result (IsGraphOf scan.now dictionary.now) }
+    ensures clear { OnOk result (IsClear (row_rules dictionary.now scan.now)) }
+    ensures findings { (found : List Finding) → IsErrOf result (CheckError.Findings found) → Lists (OneOf (row_rules dictionary.now scan.now)) found × (found ≢ []) }
+{
+    let index = Index::build(alloc, scan, dictionary)?;
+    let of_rows = row_findings(alloc, dictionary, &index, scan.groups())?;
+    if !of_rows.is_empty() {
+        return Err(CheckError::Findings(of_rows));
+    }
+    let graph = Graph::of(alloc, &index)?;
+    Ok(graph)
 }
 
 /// The file, if it breaks no rule under the dictionary, or all findings of the first phase that has any.
@@ -84,9 +110,7 @@ pub fn check<'a>(
 {
     let scan = read(alloc, bytes)?;
     let extended = dictionary.extend(alloc, &scan)?;
-    let found = dictionary_findings(alloc, dictionary, &extended, &scan)?;
-    if !found.is_empty() {
-        return Err(CheckError::Findings(found));
-    }
-    Ok(Checked::of(bytes, scan, extended))
+    check_headers(alloc, dictionary, &extended, &scan)?;
+    let graph = check_rows(alloc, &extended, &scan)?;
+    Ok(Checked::of(bytes, scan, extended, graph))
 }

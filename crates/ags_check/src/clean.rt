@@ -4,6 +4,7 @@ ghost use Rattle.std.specs.Prelude.{◌≡◌};
 ghost use Rattle.ags_check.specs.Findings.{IsCleanFile};
 
 use ags_dict::Dictionary;
+use ags_links::Graph;
 use ags_rows::Scan;
 use std::marker::Model;
 
@@ -13,6 +14,7 @@ pub struct Checked<'a> {
     bytes: &'a [u8],
     scan: Scan<'a>,
     dictionary: Dictionary,
+    graph: Graph,
 }
 
 impl<'a> Model for Checked<'a> {
@@ -20,21 +22,22 @@ impl<'a> Model for Checked<'a> {
 
     ghost Value = { CheckedFile };
 
-    ghost view = { λ c. record { bytes = c.bytes.now; groups = c.scan; entries = c.dictionary } };
+    ghost view = { λ c. record { bytes = c.bytes.now; groups = c.scan; entries = c.dictionary; graph = c.graph } };
 
-    ghost invariant = { λ c. IsCleanFile (record { bytes = c.bytes.now; groups = c.scan; entries = c.dictionary }) };
+    ghost invariant = { λ c. IsCleanFile (record { bytes = c.bytes.now; groups = c.scan; entries = c.dictionary; graph = c.graph }) };
 }
 
 impl<'a> Checked<'a> {
     /// A file without findings.
-    pub(crate) fn of(bytes: &'a [u8], scan: Scan<'a>, dictionary: Dictionary) -> Self
-        requires { IsCleanFile (record { bytes = bytes.now; groups = scan; entries = dictionary }) }
-        ensures { result ≡ record { bytes = bytes.entry.now; groups = scan.entry; entries = dictionary } }
+    pub(crate) fn of(bytes: &'a [u8], scan: Scan<'a>, dictionary: Dictionary, graph: Graph) -> Self
+        requires { IsCleanFile (record { bytes = bytes.now; groups = scan; entries = dictionary; graph = graph }) }
+        ensures { result ≡ record { bytes = bytes.entry.now; groups = scan.entry; entries = dictionary; graph = graph } }
     {
         Checked {
             bytes,
             scan,
             dictionary,
+            graph,
         }
     }
 
@@ -57,5 +60,12 @@ impl<'a> Checked<'a> {
         ensures { result.now ≡ self.now.entries }
     {
         &self.dictionary
+    }
+
+    /// The steps between the DATA rows of the file, which are numbered from 0.
+    pub fn graph(&self) -> &Graph
+        ensures { result.now ≡ self.now.graph }
+    {
+        &self.graph
     }
 }

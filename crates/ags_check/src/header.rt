@@ -10,8 +10,6 @@ ghost use Rattle.ags_check.specs.HeaderPhase.{heading_rules, only_row_rules, gro
 pub mod groups;
 pub mod headings;
 pub mod only_rows;
-#[cfg(test)]
-mod tests;
 
 use crate::file::File;
 use crate::header::groups::{

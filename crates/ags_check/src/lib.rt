@@ -7,7 +7,9 @@ mod file;
 mod header;
 pub mod laws;
 mod places;
-pub mod rows;
+mod rows;
+#[cfg(test)]
+mod tests;
 
 pub use checking::{CheckError, check};
 pub use clean::Checked;

@@ -1,24 +1,37 @@
-use Rattle.std.proofs.Common.{◌≡◌, [], subst, sym}
-use Rattle.ags_rows.proofs.Files.{is_nil}
-use Rattle.ags_check.specs.Findings.{Findings, IsClean}
-use Rattle.ags_check.proofs.Whole.{groups_found, clean, some_found}
+use Rattle.std.proofs.Common.{◌≡◌, Err, ap, subst, sym}
+use Rattle.std.proofs.lemmas.Result.{err_from_is_err_and}
+use Rattle.ags_check.specs.declared.checking.CheckError.TheVariants as CheckError
+use Rattle.ags_check.specs.Findings.{IsClean}
+use Rattle.ags_check.proofs.Whole.{headers_found, entries_found, clean}
+use Rattle.ags_check.proofs.Sizes.{few_rows}
 use Rattle.ags_check.proofs.checking.check.Goals as goal
 
-pub returns-then-not-is_empty-clause-findings : goal.returns-then-not-is_empty-clause-findings
-returns-then-not-is_empty-clause-findings c = λ found is.
-    let same : c.in_ok-found.found ≡ found = cc in
-    let given = c.args.dictionary.now in
-    let bytes = c.args.bytes.now in
-    let stands = groups_found given c.in_ok-extended.extended bytes c.in_ok-scan.scan c.in_ok-found.found c.in_ok-scan.ensures.groups c.in_ok-extended.ensures c.in_ok-found.ensures in
-    subst (λ l. Findings given bytes l × (l ≡ [] → ⊥)) same (stands, some_found c.in_ok-found.found c.if-not-is_empty.ensures)
+pub returns-in_err-check_headers-clause-findings : goal.returns-in_err-check_headers-clause-findings
+returns-in_err-check_headers-clause-findings c = λ found is.
+    let p = err_from_is_err_and c.from_residual-in_err-check_headers.result c.from_residual-in_err-check_headers.ensures.1 in
+    let same : p.0 ≡ c.in_err-check_headers.field-0.0 = p.2 in
+    let of_callee : c.in_err-check_headers.field-0.0 ≡ CheckError.Findings found = cc in
+    let h = c.in_err-check_headers.ensures.findings found (ap (λ e. Err e) of_callee) in
+    (headers_found c.args.dictionary.now c.in_ok-extended.extended c.args.bytes.now c.in_ok-scan.scan found c.in_ok-scan.ensures.groups c.in_ok-extended.ensures h.0 h.1, h.1)
+
+pub check_rows-requires : goal.check_rows-requires
+check_rows-requires c = few_rows c.args.bytes.now c.in_ok-scan.scan c.in_ok-scan.ensures.groups c.requires
+
+pub returns-in_err-graph-clause-findings : goal.returns-in_err-graph-clause-findings
+returns-in_err-graph-clause-findings c = λ found is.
+    let p = err_from_is_err_and c.from_residual-in_err-graph.result c.from_residual-in_err-graph.ensures.1 in
+    let same : p.0 ≡ c.in_err-graph.field-0.0 = p.2 in
+    let of_callee : c.in_err-graph.field-0.0 ≡ CheckError.Findings found = cc in
+    let h = c.in_err-graph.ensures.findings found (ap (λ e. Err e) of_callee) in
+    (entries_found c.args.dictionary.now c.in_ok-extended.extended c.args.bytes.now c.in_ok-scan.scan found c.in_ok-scan.ensures.groups c.in_ok-extended.ensures c.in_ok-check_headers.ensures.clear h.0 h.1, h.1)
 
 pub of-requires : goal.of-requires
 of-requires c = (
   c.args.dictionary.now,
-  clean c.args.dictionary.now c.in_ok-extended.extended c.args.bytes.now c.in_ok-scan.scan c.in_ok-found.found c.in_ok-scan.ensures.groups c.in_ok-extended.ensures c.in_ok-found.ensures (is_nil c.in_ok-found.found c.if-not-is_empty.ensures),
+  clean c.args.dictionary.now c.in_ok-extended.extended c.args.bytes.now c.in_ok-scan.scan c.in_ok-graph.graph c.in_ok-scan.ensures.groups c.in_ok-extended.ensures c.in_ok-check_headers.ensures.clear c.in_ok-graph.ensures.clear c.in_ok-graph.ensures.graph,
 )
 
 pub returns-clause-clean : goal.returns-clause-clean
 returns-clause-clean c =
     subst (IsClean c.args.dictionary.now) (sym c.of.ensures)
-    (clean c.args.dictionary.now c.in_ok-extended.extended c.args.bytes.now c.in_ok-scan.scan c.in_ok-found.found c.in_ok-scan.ensures.groups c.in_ok-extended.ensures c.in_ok-found.ensures (is_nil c.in_ok-found.found c.if-not-is_empty.ensures))
+    (clean c.args.dictionary.now c.in_ok-extended.extended c.args.bytes.now c.in_ok-scan.scan c.in_ok-graph.graph c.in_ok-scan.ensures.groups c.in_ok-extended.ensures c.in_ok-check_headers.ensures.clear c.in_ok-graph.ensures.clear c.in_ok-graph.ensures.graph)
