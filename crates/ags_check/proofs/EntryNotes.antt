@@ -1,6 +1,6 @@
 -- Going over the columns of a group, and what is noted of each.
-use Rattle.std.proofs.Common.{◌≡◌, ◌≢◌, ℕ, ◌+◌, ◌<◌, ◌≤◌, Bool, true, false, not, List, [], ◌∷◌, ◌++◌, length, get_or, map, refl, sym, ap, subst, ◌∙◌, arith}
-use Rattle.std.specs.Prelude.{◌↔◌, IsTrue, All, option_map, Some}
+use Rattle.std.proofs.Common.{◌≡◌, ℕ, ◌+◌, ◌<◌, ◌≤◌, Bool, List, [], ◌∷◌, ◌++◌, length, get_or, map, sym, ap, subst, ◌∙◌, arith}
+use Rattle.std.specs.Prelude.{◌↔◌, IsTrue, option_map}
 use Rattle.std.proofs.lemmas.List.{length-map}
 use Rattle.std.proofs.lemmas.Option.{slice_get-map, slice_get-get_or}
 use Rattle.ags_rows.specs.declared.codes.Code.{Code}
@@ -12,7 +12,7 @@ use Rattle.ags_rows.specs.declared.rows.Group.{Group}
 use Rattle.ags_rows.proofs.Collecting.{found_if, adds_note, among_more, among_all, one_more, one_none}
 use Rattle.ags_check.specs.declared.rows.columns.Column.{Column}
 use Rattle.ags_check.specs.Columns.{IsColumn, AreColumns, entry_under, text_at, column_rules}
-use Rattle.ags_check.specs.RowRules.{Entry, entry_in, unit_over, type_over, IsUnfit, IsUnlistedUnit, IsUnlistedType, IsUnlistedUnitEntry, IsUnlistedAbbreviationEntry, IsUnlistedTypeEntry}
+use Rattle.ags_check.specs.RowRules.{Entry, entry_in, unit_over, IsUnfit, IsUnlistedUnit, IsUnlistedType, IsUnlistedUnitEntry, IsUnlistedAbbreviationEntry, IsUnlistedTypeEntry}
 use Rattle.ags_check.specs.RowPhase.{InHeadings, header_rules_of, entry_rules}
 
 -- one note before those of the other rules

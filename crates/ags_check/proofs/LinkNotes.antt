@@ -1,5 +1,5 @@
 -- Record links, and entries that are null.
-use Rattle.std.proofs.Common.{◌≡◌, ◌≢◌, ℕ, ◌+◌, ◌<◌, Bool, true, false, eqb, List, [], ◌∷◌, ◌++◌, length, get_or, map, refl, sym, ap, subst, ◌∙◌, arith, inl, inr}
+use Rattle.std.proofs.Common.{◌≡◌, ◌≢◌, ℕ, ◌+◌, ◌<◌, Bool, true, false, eqb, List, [], ◌∷◌, ◌++◌, length, get_or, refl, sym, ap, subst, ◌∙◌, arith, inl, inr}
 use Rattle.std.specs.Prelude.{◌↔◌, IsTrue, Contains, codes}
 use Rattle.std.proofs.lemmas.Bool.{true≢false, eqb-true}
 use Rattle.ags_rows.specs.declared.codes.Code.TheVariants.{Rule10b, Rule11c}
@@ -11,7 +11,7 @@ use Rattle.ags_rows.proofs.Collecting.{found_if, one_none, adds_none}
 use Rattle.ags_dict.specs.Entries.{Entries}
 use Rattle.ags_links.specs.declared.index.Targets.{Targets}
 use Rattle.ags_links.specs.declared.index.Targets.TheVariants.{Rows, Broken}
-use Rattle.ags_links.specs.DataRows.{DataRow, IsRow, row_in, entry_of, data_rows}
+use Rattle.ags_links.specs.DataRows.{DataRow, row_in, entry_of, data_rows}
 use Rattle.ags_links.specs.RecordLinks.{separators_of}
 use Rattle.ags_links.specs.Targets.{AreTargets}
 use Rattle.ags_check.specs.declared.rows.columns.Column.{Column}

@@ -1,5 +1,5 @@
-use Rattle.std.proofs.Common.{◌≡◌, Bool, Ok, ap, sym, subst}
-use Rattle.std.specs.Prelude.{◌↔◌, IsTrue, IfOk}
+use Rattle.std.proofs.Common.{Bool, ap, subst}
+use Rattle.std.specs.Prelude.{◌↔◌, IsTrue}
 use Rattle.ags_check.specs.RowRules.{HasBrokenPart}
 use Rattle.ags_check.proofs.LinkNotes.{is_broken, decided}
 use Rattle.ags_check.proofs.rows.links.has_broken_part.Goals as goal

@@ -1,4 +1,4 @@
-use Rattle.std.proofs.Common.{List, ℕ, subst}
+use Rattle.std.proofs.Common.{List, subst}
 use Rattle.std.specs.Prelude.{◌↔◌, IsTrue, codes}
 use Rattle.ags_rows.specs.Contents.{Contents, contents_of}
 use Rattle.ags_check.specs.RowRules.{IsUnlisted}
