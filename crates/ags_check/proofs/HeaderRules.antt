@@ -53,49 +53,33 @@ unplaced names name absent = elim (place_of (place_in names name)) [
 
 -- ---- the rules
 
-pub unknown_rule : (entries : Entries) (group : Group) (code : Code) (held : _) (names : List (List ℕ)) (old new : List Finding) → names ≡ group.headings
-    → AreFirst held (order_of entries group.name) → Adds (AtNames group.heading_line code names (λ _ name. place_at held name ≡ None)) old new
+pub unknown_rule : (entries : Entries) (group : Group) (code : Code) (names : List (List ℕ)) (old new : List Finding) → names ≡ group.headings
+    → Adds (AtNames group.heading_line code names (λ _ name. place_in (order_of entries group.name) name ≡ None)) old new
     → Adds (AtHeading code (IsUnknownHeading entries (group_contents group)) group) old new
-unknown_rule entries group code held names old new same first x =
-    at_heading names group code (λ _ name. place_at held name ≡ None) (IsUnknownHeading entries (group_contents group)) old new
-    (λ place name at none. record {
-      stands = subst (λ (l : List (List ℕ)). Contains l name) same (contains_at names place name at);
-      unknown = λ h. placed (order_of entries group.name) name h (sym (first name) ∙ none);
-    })
+unknown_rule entries group code names old new same x =
+    let order = order_of entries group.name in
+    at_heading names group code (λ _ name. place_in order name ≡ None) (IsUnknownHeading entries (group_contents group)) old new
+    (λ place name at none. record { stands = subst (λ (l : List (List ℕ)). Contains l name) same (contains_at names place name at); unknown = λ h. placed order name h none })
     (λ name rule.
     let h = subst (λ (l : List (List ℕ)). Contains l name) (sym same) rule.stands in
-    (h.0, at_contained names name h, first name ∙ unplaced (order_of entries group.name) name rule.unknown))
+    (h.0, at_contained names name h, unplaced order name rule.unknown))
     x
 
-overtaken_as : (rank other : List ℕ → Option ℕ) (names : List (List ℕ)) (place : ℕ) (name : List ℕ) → ((n : List ℕ) → rank n ≡ other n)
-    → IsOvertaken rank names place name → IsOvertaken other names place name
-overtaken_as rank other names place name same o = record {
-  earlier = o.earlier;
-  other = o.other;
-  before = o.before;
-  other_stands = o.other_stands;
-  this_rank = o.this_rank;
-  other_rank = o.other_rank;
-  ranked = sym (same name) ∙ o.ranked;
-  other_ranked = sym (same o.other) ∙ o.other_ranked;
-  behind = o.behind;
-}
-
-pub misplaced_rule : (entries : Entries) (group : Group) (code : Code) (held : _) (names : List (List ℕ)) (old new : List Finding) → names ≡ group.headings
-    → AreFirst held (order_of entries group.name) → Adds (AtNames group.heading_line code names (IsOvertaken (place_at held) names)) old new
+pub misplaced_rule : (entries : Entries) (group : Group) (code : Code) (names : List (List ℕ)) (old new : List Finding) → names ≡ group.headings
+    → Adds (AtNames group.heading_line code names (IsOvertaken (place_in (order_of entries group.name)) names)) old new
     → Adds (AtHeading code (IsMisplaced entries (group_contents group)) group) old new
-misplaced_rule entries group code held names old new same first x =
+misplaced_rule entries group code names old new same x =
     let rank = place_in (order_of entries group.name) in
-    at_heading names group code (IsOvertaken (place_at held) names) (IsMisplaced entries (group_contents group)) old new
+    at_heading names group code (IsOvertaken rank names) (IsMisplaced entries (group_contents group)) old new
     (λ place name at o. record {
       place = place;
       stands = subst (λ (l : List (List ℕ)). At l place name) same at;
-      overtaken = subst (λ (l : List (List ℕ)). IsOvertaken rank l place name) same (overtaken_as (place_at held) rank names place name first o);
+      overtaken = subst (λ (l : List (List ℕ)). IsOvertaken rank l place name) same o;
     })
     (λ name rule. (
       rule.place,
       subst (λ (l : List (List ℕ)). At l rule.place name) (sym same) rule.stands,
-      overtaken_as rank (place_at held) names rule.place name (λ n. sym (first n)) (subst (λ (l : List (List ℕ)). IsOvertaken rank l rule.place name) (sym same) rule.overtaken),
+      subst (λ (l : List (List ℕ)). IsOvertaken rank l rule.place name) (sym same) rule.overtaken,
     ))
     x
 
@@ -147,20 +131,18 @@ has_some names name h = elim (place_of (place_in names name)) [
   | inr e ↦ absurd (placed names name h e)
 ]
 
-pub misnamed_rule : (given entries : Entries) (group : Group) (code : Code) (held own : _) (names : List (List ℕ)) (old new : List Finding) → names ≡ group.headings
-    → AreFirst held (order_of entries group.name) → AreFirst own (order_of given group.name)
-    → Adds (AtNames group.heading_line code names (λ _ name. IsMisnamedBy (place_at own) (place_at held) entries group.name name)) old new
+pub misnamed_rule : (given entries : Entries) (group : Group) (code : Code) (names : List (List ℕ)) (old new : List Finding) → names ≡ group.headings
+    → Adds (AtNames group.heading_line code names (λ _ name. IsMisnamedBy given entries group.name name)) old new
     → Adds (AtHeading code (IsMisnamed given entries (group_contents group)) group) old new
-misnamed_rule given entries group code held own names old new same first first_given x =
-    at_heading names group code (λ _ name. IsMisnamedBy (place_at own) (place_at held) entries group.name name) (IsMisnamed given entries (group_contents group)) old new
+misnamed_rule given entries group code names old new same x =
+    let order = order_of entries group.name in
+    let given_order = order_of given group.name in
+    at_heading names group code (λ _ name. IsMisnamedBy given entries group.name name) (IsMisnamed given entries (group_contents group)) old new
     (λ place name at m.
-    let some = some_place (place_at held name) m.known in
+    let some = some_place (place_in order name) m.known in
     record {
       stands = subst (λ (l : List (List ℕ)). Contains l name) same (contains_at names place name at);
-      user_defined = record {
-        known = has_place (order_of entries group.name) name some.0 (sym (first name) ∙ some.1);
-        own = λ h. placed (order_of given group.name) name h (sym (first_given name) ∙ m.own);
-      };
+      user_defined = record { known = has_place order name some.0 some.1; own = λ h. placed given_order name h m.own };
       other_name = m.other_name;
       nowhere_else = m.nowhere_else;
     })
@@ -169,8 +151,8 @@ misnamed_rule given entries group code held own names old new same first first_g
       h.0,
       at_contained names name h,
       record {
-        known = subst IsSome (sym (first name)) (has_some (order_of entries group.name) name rule.user_defined.known);
-        own = first_given name ∙ unplaced (order_of given group.name) name rule.user_defined.own;
+        known = has_some order name rule.user_defined.known;
+        own = unplaced given_order name rule.user_defined.own;
         other_name = rule.other_name;
         nowhere_else = rule.nowhere_else;
       },

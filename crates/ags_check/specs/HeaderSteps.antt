@@ -1,7 +1,8 @@
 -- What the functions of the fourth phase compute on the way.
 use Rattle.std.specs.Prelude.{◌≡◌, ℕ, ◌<◌, ◌≤◌, List, Bool, false, nat_lt, max, Option, Some, None, IsSome}
 use Rattle.ags_rows.specs.Collecting.{At}
-use Rattle.ags_dict.specs.Entries.{Entries, elsewhere}
+use Rattle.ags_rows.specs.Contents.{place_in}
+use Rattle.ags_dict.specs.Entries.{Entries, order_of, elsewhere}
 use Rattle.ags_check.specs.Header.{BeginsWithName}
 
 -- the later of two places
@@ -23,9 +24,9 @@ IsLatest rank names end (Some latest) =
     ((place : ℕ) (name : List ℕ) (this : ℕ) → place < end → At names place name → rank name ≡ Some this → this ≤ latest)
     × ((place : ℕ) × (name : List ℕ) × (place < end) × At names place name × (rank name ≡ Some latest))
 
--- the heading is known and not given, is not named for the group, and no other group has it
-pub record IsMisnamedBy (given order : List ℕ → Option ℕ) (entries : Entries) (group heading : List ℕ) : Type 0 where
-  pub known : IsSome (order heading)
-  pub own : given heading ≡ None
+-- the heading is in the group's order, it is not in the order given, it is not named for the group, and no other group has it
+pub record IsMisnamedBy (given entries : Entries) (group heading : List ℕ) : Type 0 where
+  pub known : IsSome (place_in (order_of entries group) heading)
+  pub own : place_in (order_of given group) heading ≡ None
   pub other_name : BeginsWithName group heading → ⊥
   pub nowhere_else : elsewhere entries group heading ≡ false

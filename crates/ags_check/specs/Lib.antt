@@ -3,5 +3,5 @@ pub mod HeaderSteps
 pub mod Placing
 pub mod HeaderPhase
 pub mod Places
-pub mod Known
 pub mod Findings
+pub mod Laws

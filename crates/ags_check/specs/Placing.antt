@@ -19,22 +19,9 @@ AtGroup code Fact group found = Notes group.line code group.name Fact found
 abbrev pub AtHeading : Code → (List ℕ → Type 0) → Group → Finding → Type 0
 AtHeading code Breaks group found = Breaks found.subject × (found.line ≡ group.heading_line) × (found.code ≡ code)
 
--- of the UNIT row; the subject is a heading
-abbrev pub AtUnit : Code → (List ℕ → Type 0) → Group → Finding → Type 0
-AtUnit code Breaks group found = Breaks found.subject × (found.line ≡ group.unit_line) × (found.code ≡ code)
-
--- of the TYPE row; the subject is a heading
-abbrev pub AtType : Code → (List ℕ → Type 0) → Group → Finding → Type 0
-AtType code Breaks group found = Breaks found.subject × (found.line ≡ group.type_line) × (found.code ≡ code)
-
 -- of a DATA row, at its place in the group, with this subject
 abbrev pub AtRow : Code → List ℕ → (ℕ → List (List ℕ) → Type 0) → Group → Finding → Type 0
 AtRow code subject Breaks group found = Among group.rows (λ place row f. Notes row.line code subject (Breaks place (fields_of row)) f) found
-
--- of an entry of a DATA row; the subject is its heading
-abbrev pub AtEntry : Code → (List (List ℕ) → List ℕ → Type 0) → Group → Finding → Type 0
-AtEntry code Breaks group found =
-    Among group.rows (λ _ row f. Breaks (fields_of row) f.subject × (f.line ≡ row.line) × (f.code ≡ code)) found
 
 -- one of the rules, where the dictionary has an entry for the group
 abbrev pub OfKnown : Entries → Group → List (Finding → Type 0) → Finding → Type 0

@@ -3,13 +3,9 @@
 ghost use Rattle.std.specs.Prelude.{◌≡◌, ◌≢◌, ◌≤◌, List, [], length, IfOk, IsErrOf};
 ghost use Rattle.ags_rows.specs.declared.codes.Finding.{Finding};
 ghost use Rattle.ags_rows.specs.declared.rows.Group.{Group};
-ghost use Rattle.ags_rows.specs.Collecting.{OneOf};
-ghost use Rattle.ags_rows.specs.Contents.{contents_of};
-ghost use Rattle.ags_rows.specs.Findings.{Lists, RowFindings, FileGroups};
-ghost use Rattle.ags_dict.specs.Entries.{extended};
+ghost use Rattle.ags_rows.specs.Findings.{FirstFound, RowFindings, FileGroups};
 ghost use Rattle.ags_check.specs.declared.checking.CheckError.TheVariants.{NoMemory};
-ghost use Rattle.ags_check.specs.HeaderPhase.{header_rules};
-ghost use Rattle.ags_check.specs.Findings.{Findings, IsClean};
+ghost use Rattle.ags_check.specs.Findings.{dictionary_phases, Findings, IsClean};
 
 use crate::clean::Checked;
 use crate::file::File;
@@ -61,14 +57,15 @@ fn read<'a>(alloc: Global, bytes: &'a [u8]) -> Result<Scan<'a>, CheckError>
     }
 }
 
-/// The findings of the groups under a dictionary and its extension.
-fn group_findings(
+/// What a file without findings of its rows breaks under a dictionary and its extension: the findings of the first
+/// phase that has any.
+fn dictionary_findings(
     alloc: Global,
     given: &Dictionary,
     extended: &Dictionary,
     scan: &Scan,
 ) -> Result<Sequence<Finding>, AllocError>
-    ensures { IfOk result (Lists (OneOf (header_rules given.now extended.now scan.now))) }
+    ensures { IfOk result (FirstFound (dictionary_phases given.now extended.now scan.now)) }
 {
     let file = File::of(alloc, scan.groups())?;
     header_findings(alloc, given, extended, &file)
@@ -87,7 +84,7 @@ pub fn check<'a>(
 {
     let scan = read(alloc, bytes)?;
     let extended = dictionary.extend(alloc, &scan)?;
-    let found = group_findings(alloc, dictionary, &extended, &scan)?;
+    let found = dictionary_findings(alloc, dictionary, &extended, &scan)?;
     if !found.is_empty() {
         return Err(CheckError::Findings(found));
     }

@@ -9,15 +9,15 @@ ghost use Rattle.ags_check.specs.HeaderPhase.{heading_rules, only_row_rules, gro
 
 pub mod groups;
 pub mod headings;
-pub mod known;
 pub mod only_rows;
+#[cfg(test)]
+mod tests;
 
 use crate::file::File;
 use crate::header::groups::{
     note_absent_group, note_lacking_parent, note_unknown_group, unknown_code,
 };
-use crate::header::headings::{names_of, note_misnamed, note_misplaced, note_missing};
-use crate::header::known::Known;
+use crate::header::headings::{names_of, note_absent, note_misnamed, note_misplaced, note_unknown};
 use crate::header::only_rows::{note_further_rows, note_long_sign};
 use crate::places::Places;
 use ags_dict::Dictionary;
@@ -37,38 +37,23 @@ fn note_headings(
 {
     let name = group.name.as_slice();
     let line = group.heading_line;
-    let known = Known::of(alloc, given, extended, name)?;
     let names = names_of(alloc, group.headings.as_slice())?;
     let headings = names.as_slice();
     let row = Places::of(alloc, headings)?;
-    note_missing(alloc, headings, line, code, &known.order, findings)?;
-    note_misplaced(alloc, headings, line, &known.order, findings)?;
-    note_missing(
+    let keys = extended.keys(alloc, name)?;
+    let required = extended.required(alloc, name)?;
+    note_unknown(alloc, extended, name, headings, line, code, findings)?;
+    note_misplaced(alloc, extended, name, headings, line, findings)?;
+    note_absent(alloc, keys.as_slice(), &row, line, Code::Rule10a, findings)?;
+    note_absent(
         alloc,
-        known.keys.as_slice(),
-        line,
-        Code::Rule10a,
+        required.as_slice(),
         &row,
-        findings,
-    )?;
-    note_missing(
-        alloc,
-        known.required.as_slice(),
         line,
         Code::Rule10b,
-        &row,
         findings,
     )?;
-    note_misnamed(
-        alloc,
-        name,
-        headings,
-        line,
-        &known.given,
-        &known.order,
-        extended,
-        findings,
-    )?;
+    note_misnamed(alloc, given, extended, name, headings, line, findings)?;
     Ok(())
 }
 

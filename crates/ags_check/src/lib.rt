@@ -5,6 +5,7 @@ mod checking;
 mod clean;
 mod file;
 mod header;
+pub mod laws;
 mod places;
 
 pub use checking::{CheckError, check};

@@ -2,3 +2,4 @@ pub mod Parts
 pub mod Entries
 pub mod Index
 pub mod Reading
+pub mod Laws

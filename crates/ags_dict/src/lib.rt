@@ -6,9 +6,12 @@ mod entries;
 mod extending;
 mod groups;
 mod headings;
+pub mod laws;
 mod parts;
 mod places;
 mod reading;
+#[cfg(test)]
+mod tests;
 
 pub use dictionary::Dictionary;
 pub use entries::{GroupEntry, HeadingEntry, Origin};

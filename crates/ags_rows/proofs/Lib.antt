@@ -3,6 +3,7 @@ pub mod Pieces
 pub mod Fields
 pub mod Cutting
 pub mod Breaking
+pub mod Repeats
 pub mod Cuts
 pub mod Files
 pub mod Once
@@ -10,3 +11,5 @@ pub mod Appending
 pub mod Written
 pub mod WellFormed
 pub mod Texts
+pub mod Formed
+pub mod RoundTrip

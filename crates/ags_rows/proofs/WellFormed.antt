@@ -17,7 +17,7 @@ use Rattle.ags_rows.specs.Lines.{TextLine}
 use Rattle.ags_rows.specs.Rows.{descriptor_text, IsRow, RowsFrom}
 use Rattle.ags_rows.specs.Groups.{data_row, rows_of}
 use Rattle.ags_rows.specs.Collecting.{At}
-use Rattle.ags_rows.specs.Stands.{StandsInLines, StandsInOrder}
+use Rattle.ags_rows.specs.Stands.{StandsInLines, StandsInOrder, StandsInGroups}
 use Rattle.ags_rows.specs.Findings.{FirstFound, later_phases, FileGroups}
 use Rattle.ags_rows.specs.Contents.{contents_of, fields_of}
 use Rattle.ags_rows.specs.Writing.{IsPlainByte, ArePlain, StandOnce}
@@ -168,7 +168,7 @@ some_groups rows groups cut clear e =
 
 pub read_plain : (bytes : List ℕ) (groups : List Group) → FileGroups bytes groups → (groups ≢ []) × AllByRecursion IsPlainGroup (contents_of groups)
 read_plain bytes groups h =
-    let lines = clear_first (StandsInLines h.0.lines) (later_phases h.0.rows) h.2 in
-    let order = clear_first (StandsInOrder h.0.rows) [] lines.1 in
+    let lines = clear_first (StandsInLines h.0.lines) (later_phases h.0.rows h.0.groups) h.2 in
+    let order = clear_first (StandsInOrder h.0.rows) (StandsInGroups h.0.groups ∷ []) lines.1 in
     let plain = rows_plain 1 h.0.lines h.0.rows h.1.rows (low_lines h.0.lines lines.0) in
     (some_groups h.0.rows groups h.3 order.0, contents_plain groups (subst (AllByRecursion (λ (r : FileRow). ArePlain r.items)) (sym h.3) plain))

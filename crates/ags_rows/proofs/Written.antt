@@ -1,4 +1,4 @@
--- A file that is written is read as what was written.
+-- The lines and rows of a file that is written.
 use Rattle.std.proofs.Common.{◌≡◌, ◌≢◌, ℕ, zero, suc, ◌+◌, ◌<◌, true, false, eqb, ltb, ◌&&◌, List, [], ◌∷◌, ◌++◌, length, map, flat_map, Option, Some, None, refl, sym, ap, subst, ◌∙◌, arith, inl, inr}
 use Rattle.std.specs.Prelude.{◌⊎◌, nat_le, Bool, MatchOption, codes as bytes}
 use Rattle.std.specs.List.{AllByRecursion, list_all}
@@ -15,21 +15,20 @@ use Rattle.ags_rows.specs.declared.rows.Group.{Group}
 use Rattle.ags_rows.specs.declared.codes.Finding.{Finding}
 use Rattle.ags_rows.specs.Bytes.{Lacks}
 use Rattle.ags_rows.specs.Spelling.{Spells, doubled, quoted, line_of}
-use Rattle.ags_rows.specs.Lines.{TextLine, line_bytes, ending_bytes, after_mark}
+use Rattle.ags_rows.specs.Lines.{TextLine, Lines, line_bytes, ending_bytes, after_mark}
 use Rattle.ags_rows.specs.Rows.{descriptor_text, IsRow, RowsFrom}
 use Rattle.ags_rows.specs.Order.{may_follow, is_header, OutOfPlace}
 use Rattle.ags_rows.specs.Groups.{data_row, rows_of}
 use Rattle.ags_rows.specs.Collecting.{At, OneOf}
-use Rattle.ags_rows.specs.Stands.{line_rules, StandsInOrder}
+use Rattle.ags_rows.specs.Stands.{line_rules, StandsInLines, StandsInOrder}
 use Rattle.ags_rows.specs.Parsing.{IsFirstLine, MayStandBehind}
-use Rattle.ags_rows.specs.Findings.{File, IsFile, FirstFound, phases, RowFindings, FileGroups}
-use Rattle.ags_rows.specs.Contents.{Contents, contents_of, group_contents}
+use Rattle.ags_rows.specs.Contents.{Contents, group_contents}
 use Rattle.ags_rows.specs.Writing.{written_row, group_lines, empty_line, written_lines, text_of, written_file, IsPlainByte, ArePlain, IsWellFormedGroup, IsWellFormed}
 use Rattle.ags_rows.specs.Names.{is_capital, is_digit, is_group_letter, is_heading_letter, is_group_name, is_heading_name}
 use Rattle.ags_rows.proofs.Fields.{same_fields, line_spells}
+use Rattle.ags_rows.proofs.Cuts.{type_ends, groups_behind}
 use Rattle.ags_rows.proofs.Cutting.{AreCut, lines_from_cut}
 use Rattle.ags_rows.proofs.Breaking.{blank_clear, row_clear, blank_no_row, rows_join}
-use Rattle.ags_rows.proofs.Once.{one_grouping}
 
 -- ---- a line
 
@@ -48,7 +47,7 @@ all_weaker : {X : Type 0} {P Q : X → Type 0} → ((x : X) → P x → Q x) →
 all_weaker f [] h = tt
 all_weaker f (x ∷ xs) h = (f x h.0, all_weaker f xs h.1)
 
-all_at : {X : Type 0} (P : X → Type 0) (xs : List X) (k : ℕ) (x : X) → AllByRecursion P xs → At xs k x → P x
+pub all_at : {X : Type 0} (P : X → Type 0) (xs : List X) (k : ℕ) (x : X) → AllByRecursion P xs → At xs k x → P x
 all_at P [] k x h e = absurd cc
 all_at P (y ∷ xs) zero x h e = let z : y ≡ x = cc in subst P z h.0
 all_at P (y ∷ xs) (suc k) x h e = all_at P xs k x h.1 e
@@ -134,7 +133,7 @@ pub record IsPlainGroup (group : Contents) : Type 0 where
 group_plain : (g : Contents) → IsWellFormedGroup g → IsPlainGroup g
 group_plain g h = record {
   name = group_name_plain g.name h.name;
-  headings = all_weaker (λ f e. heading_name_plain f e) g.headings h.headings;
+  headings = all_weaker (λ f e. heading_name_plain f e) g.headings h.headings.named;
   units = h.units.plain;
   types = h.types.plain;
   rows = all_weaker (λ r u. u.plain) g.rows h.rows;
@@ -286,25 +285,6 @@ contents_written n (g ∷ gs) =
     ap (λ (z : List Contents). group_contents (group_from n g) ∷ z) rest
     ∙ ap (λ (z : List (List (List ℕ))). record { name = g.name; headings = g.headings; units = g.units; types = g.types; rows = z } ∷ gs) (data_contents (n + 1 + 1 + 1 + 1) g.rows)
 
--- ---- the order of the rows
-
--- a group may end with such a row
-record MayEnd (d : Descriptor) : Type 0 where
-  header : is_header d ≡ false
-  more : may_follow d kinds.Data ≡ true
-  next : may_follow d kinds.Group ≡ true
-
-type_ends : MayEnd kinds.Type
-type_ends = record { header = refl; more = refl; next = refl }
-
-data_ends : MayEnd kinds.Data
-data_ends = record { header = refl; more = refl; next = refl }
-
-groups_behind : (gs : List Group) (d : Descriptor) → MayEnd d → (rows : List Row) → MayStandBehind d (map data_row rows ++ flat_map rows_of gs)
-groups_behind [] d m [] = m.header
-groups_behind (g ∷ gs) d m [] = (m.next, λ e. refl, (refl, λ e. absurd cc, (refl, λ e. absurd cc, (refl, λ e. absurd cc, groups_behind gs kinds.Type type_ends g.rows))))
-groups_behind gs d m (row ∷ rows) = (m.more, λ e. absurd cc, groups_behind gs kinds.Data data_ends rows)
-
 -- ---- rows in order break nothing
 
 follows : (d : Descriptor) (rows : List FileRow) → MayStandBehind d rows → (k : ℕ) (a b : FileRow) → At rows k a → At rows (suc k) b → may_follow a.descriptor b.descriptor ≡ true
@@ -350,38 +330,21 @@ order_clear x rows first m f (inr (inl h)) = elim h.3 [
 ]
 order_clear x rows first m f (inr (inr h)) = h
 
--- ---- the file
+-- ---- the lines and rows of a file that is written break nothing
 
-no_mark : (gs : List Contents) → after_mark (written_file gs) ≡ written_file gs
-no_mark [] = refl
-no_mark (g ∷ []) = refl
-no_mark (g ∷ k ∷ gs) = refl
+pub lines_clear : (gs : List Contents) → AllByRecursion IsPlainGroup gs → (f : Finding) → StandsInLines (written_lines gs) f → ⊥
+lines_clear gs plain f h = clean_breaks_none (h.0 + 1) h.1 (all_at IsClean (written_lines gs) h.0 h.1 (lines_clean gs plain) h.2) f h.3
 
-abbrev file_of : List Contents → File
-file_of gs = record { lines = written_lines gs; rows = flat_map rows_of (groups_from 1 gs) }
-
-file_is : (gs : List Contents) → AllByRecursion IsPlainGroup gs → IsFile (written_file gs) (file_of gs)
-file_is gs h = record {
-  lines = lines_from_cut _ (written_lines gs) (subst (λ (t : List ℕ). AreCut t (written_lines gs)) (sym (no_mark gs)) (lines_written (written_lines gs) (lines_clean gs h)));
-  rows = rows_written 1 gs h;
-}
-
-no_findings : (gs : List Contents) → IsWellFormed gs → FirstFound (phases (file_of gs)) []
+pub rows_clear : (gs : List Contents) → gs ≢ [] → (f : Finding) → StandsInOrder (flat_map rows_of (groups_from 1 gs)) f → ⊥
 unfolding groups_from
-no_findings [] h = absurd (h.some refl)
-no_findings (g ∷ gs) h =
-    let all = lines_clean (g ∷ gs) (groups_plain (g ∷ gs) h) in
-    let order = groups_behind (groups_from 1 (g ∷ gs)) kinds.Type type_ends [] in
-    inr (
-      λ f s. clean_breaks_none (s.0 + 1) s.1 (all_at IsClean (written_lines (g ∷ gs)) s.0 s.1 all s.2) f s.3,
-      inr (order_clear _ _ refl order, refl),
-    )
+rows_clear [] some f h = some refl
+rows_clear (g ∷ gs) some f h = order_clear _ _ refl (groups_behind (groups_from 1 (g ∷ gs)) kinds.Type type_ends []) f h
 
-groups_are : (gs : List Contents) → IsWellFormed gs → FileGroups (written_file gs) (groups_from 1 gs)
-groups_are gs h = (file_of gs, file_is gs (groups_plain gs h), no_findings gs h, refl)
+-- ---- the text of a file that is written
 
-pub file_is_read : (gs : List Contents) → IsWellFormed gs → RowFindings (written_file gs) [] × ((groups : List Group) → FileGroups (written_file gs) groups → contents_of groups ≡ gs)
-file_is_read gs h = (
-  (file_of gs, file_is gs (groups_plain gs h), no_findings gs h),
-  λ groups is. ap (λ (l : List Group). contents_of l) (one_grouping (written_file gs) groups (groups_from 1 gs) is (groups_are gs h)) ∙ contents_written 1 gs,
-)
+pub lines_are : (gs : List Contents) → AllByRecursion IsPlainGroup gs → Lines (after_mark (written_file gs)) (written_lines gs)
+lines_are gs h = lines_from_cut _ (written_lines gs) (subst (λ (t : List ℕ). AreCut t (written_lines gs)) (sym (no_mark gs)) (lines_written (written_lines gs) (lines_clean gs h))) where
+  no_mark : (gs : List Contents) → after_mark (written_file gs) ≡ written_file gs
+  no_mark [] = refl
+  no_mark (g ∷ []) = refl
+  no_mark (g ∷ k ∷ gs) = refl

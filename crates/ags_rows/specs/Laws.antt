@@ -37,8 +37,15 @@ OneListOfGroups =
     ((bytes : List ℕ) (groups others : List Group) → FileGroups bytes groups → FileGroups bytes others → groups ≡ others)
     × ((bytes : List ℕ) (groups others : List Group) → LooseGroups bytes groups → LooseGroups bytes others → groups ≡ others)
 
--- A written file has no findings, and what stands in its groups is what was written.
+-- The file that is written has no finding, it has groups, and what stands in them is what was written.
+abbrev pub IsReadBack : List Contents → Type 0
+IsReadBack contents =
+    RowFindings (written_file contents) []
+    × ((groups : List Group) × FileGroups (written_file contents) groups)
+    × ((groups : List Group) → FileGroups (written_file contents) groups → contents_of groups ≡ contents)
+
+-- Well formed contents are read back as they were written, and the contents of every file without findings are well formed.
 abbrev pub WrittenFileIsRead : Type 0
 WrittenFileIsRead =
-    (contents : List Contents) → IsWellFormed contents
-    → RowFindings (written_file contents) [] × ((groups : List Group) → FileGroups (written_file contents) groups → contents_of groups ≡ contents)
+    ((contents : List Contents) → IsWellFormed contents → IsReadBack contents)
+    × ((bytes : List ℕ) (groups : List Group) → FileGroups bytes groups → IsWellFormed (contents_of groups))

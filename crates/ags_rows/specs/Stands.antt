@@ -1,14 +1,16 @@
 -- What stands against a file: for each phase its sentences, one for each rule.
-use Rattle.std.specs.Prelude.{◌≡◌, ◌≢◌, ℕ, ◌+◌, ◌≤◌, List, [], ◌∷◌, ◌++◌, Any, Contains, length}
+use Rattle.std.specs.Prelude.{◌≡◌, ◌≢◌, ℕ, ◌+◌, ◌<◌, ◌≤◌, List, [], ◌∷◌, ◌++◌, map, Any, Contains, length, false}
 use Rattle.std.specs.List.{AllByRecursion}
 use Rattle.ags_rows.specs.declared.rows.Ending.TheVariants.{Lf}
 use Rattle.ags_rows.specs.declared.rows.Descriptor.{Descriptor}
 use Rattle.ags_rows.specs.declared.rows.Descriptor.TheVariants as kinds
 use Rattle.ags_rows.specs.declared.rows.FileRow.{FileRow}
 use Rattle.ags_rows.specs.declared.codes.Finding.{Finding}
-use Rattle.ags_rows.specs.declared.codes.Code.TheVariants.{Rule1, Rule2, Rule2a, Rule2b, Rule3, Rule4, Rule5, Rule6}
+use Rattle.ags_rows.specs.declared.codes.Code.TheVariants.{Rule1, Rule2, Rule2a, Rule2b, Rule3, Rule4, Rule5, Rule6, Rule19, Rule19a, P1, P2}
 use Rattle.ags_rows.specs.Bytes.{space, carriage_return, ascii_end, Lacks}
-use Rattle.ags_rows.specs.Collecting.{Notes, Among, OneOf}
+use Rattle.ags_rows.specs.declared.rows.Group.{Group}
+use Rattle.ags_rows.specs.Names.{is_group_name, is_heading_name}
+use Rattle.ags_rows.specs.Collecting.{At, Notes, Among, OneOf}
 use Rattle.ags_rows.specs.Lines.{TextLine}
 use Rattle.ags_rows.specs.Spelling.{Spells}
 use Rattle.ags_rows.specs.Rows.{descriptor_text}
@@ -72,3 +74,44 @@ row_rules rows place row = Notes row.line Rule2b [] (OutOfPlace rows place row) 
 -- Rule 2: there is a row; then each row.
 abbrev pub StandsInOrder : List FileRow → Finding → Type 0
 StandsInOrder rows = OneOf (Notes 0 Rule2 [] (rows ≡ []) ∷ Among rows (λ place row. OneOf (row_rules rows place row)) ∷ [])
+
+-- ---- the third phase: each group
+
+-- this name of the list stands at an earlier place as well
+abbrev pub IsRepeat : List (List ℕ) → ℕ → List ℕ → Type 0
+IsRepeat names place name = (earlier : ℕ) × (earlier < place) × At names earlier name
+
+-- a DATA row with another number of items than the HEADING row
+abbrev pub StandsInRows : Group → Finding → Type 0
+StandsInRows group = Among group.rows (λ place row. Notes row.line Rule4 group.name (length row.cells ≢ length group.headings))
+
+-- Rules 2, 4: a group has DATA rows, its HEADING row has items, and each other row has as many as that.
+abbrev pub shape_rules : Group → List (Finding → Type 0)
+shape_rules group =
+    Notes group.line Rule2 group.name (group.rows ≡ [])
+    ∷ Notes group.heading_line Rule4 group.name (group.headings ≡ [])
+    ∷ Notes group.unit_line Rule4 group.name (length group.units ≢ length group.headings)
+    ∷ Notes group.type_line Rule4 group.name (length group.types ≢ length group.headings)
+    ∷ StandsInRows group
+    ∷ []
+
+-- Rule 19, and that no earlier group has the name.
+abbrev pub name_rules : List (List ℕ) → ℕ → Group → List (Finding → Type 0)
+name_rules names place group =
+    Notes group.line Rule19 group.name (is_group_name group.name ≡ false) ∷ Notes group.line P1 group.name (IsRepeat names place group.name) ∷ []
+
+-- Rule 19a, and that a heading stands but once in its row.
+abbrev pub heading_rules : ℕ → List (List ℕ) → ℕ → List ℕ → List (Finding → Type 0)
+heading_rules line headings place heading =
+    Notes line Rule19a heading (is_heading_name heading ≡ false) ∷ Notes line P2 heading (IsRepeat headings place heading) ∷ []
+
+abbrev pub StandsInHeadings : Group → Finding → Type 0
+StandsInHeadings group = Among group.headings (λ place heading. OneOf (heading_rules group.heading_line group.headings place heading))
+
+-- all rules of a group
+abbrev pub group_rules : List (List ℕ) → ℕ → Group → List (Finding → Type 0)
+group_rules names place group = OneOf (shape_rules group) ∷ OneOf (name_rules names place group) ∷ StandsInHeadings group ∷ []
+
+-- what stands in the groups of a file
+abbrev pub StandsInGroups : List Group → Finding → Type 0
+StandsInGroups groups = Among groups (λ place group. OneOf (group_rules (map (λ g. g.name) groups) place group))

@@ -58,12 +58,16 @@ pub record AreUnder (headings fields : List (List ℕ)) : Type 0 where
   pub count : length fields ≡ length headings
   pub plain : ArePlain fields
 
--- Rules 2, 4, 19, 19a: a group with a right name, with headings, each once and with a right name, and with DATA rows, each row as long as the headings.
+-- Rules 4, 19a: there is a heading, each has a right name, and none stands twice.
+pub record AreHeadings (headings : List (List ℕ)) : Type 0 where
+  pub some : headings ≢ []
+  pub named : AllByRecursion (λ heading. is_heading_name heading ≡ true) headings
+  pub once : StandOnce headings
+
+-- Rules 2, 4, 19: a right name, headings, and a DATA row; each row has as many fields as there are headings.
 pub record IsWellFormedGroup (group : Contents) : Type 0 where
   pub name : is_group_name group.name ≡ true
-  pub some_headings : group.headings ≢ []
-  pub headings : AllByRecursion (λ heading. is_heading_name heading ≡ true) group.headings
-  pub headings_once : StandOnce group.headings
+  pub headings : AreHeadings group.headings
   pub units : AreUnder group.headings group.units
   pub types : AreUnder group.headings group.types
   pub some_rows : group.rows ≢ []
@@ -73,7 +77,7 @@ pub record IsWellFormedGroup (group : Contents) : Type 0 where
 abbrev pub names_of : List Contents → List (List ℕ)
 names_of groups = map (λ group. group.name) groups
 
--- There is a group, each is well formed, and no name stands twice.
+-- Contents that can be written and read back: there is a group, each is well formed, and no name stands twice.
 pub record IsWellFormed (groups : List Contents) : Type 0 where
   pub some : groups ≢ []
   pub each : AllByRecursion IsWellFormedGroup groups

@@ -1,6 +1,7 @@
 //! Lines, rows and groups of an AGS4 file.
 #![tactic(auto)]
 
+mod checking;
 mod codes;
 mod contents;
 mod grouping;

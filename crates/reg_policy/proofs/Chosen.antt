@@ -6,12 +6,10 @@ use Rattle.std.proofs.lemmas.List.{at_drop_more}
 use Rattle.std.proofs.lemmas.List.Elements.{All-cons, All-nil}
 use Rattle.std.proofs.lemmas.Slice.Eq.{bytes_eq-Decides}
 use Rattle.std.specs.Str.{bytes_eq}
-use Rattle.reg_policy.specs.Decision.{IsFirstMatch, HasEntry, Matches, Meets, MeetsEntry, MeetsRow, decision_of, effect_of, has_entry, is_entry_met, is_met, is_row_met, matches, same_fact, same_verb}
+use Rattle.reg_policy.specs.Decision.{Asked, Facts, IsFirstMatch, HasEntry, Matches, Meets, MeetsEntry, MeetsRow, decision_of, effect_of, has_entry, is_entry_met, is_met, is_row_met, matches, same_fact, same_verb}
 use Rattle.reg_policy.specs.declared.rule.Entry.{Entry}
 use Rattle.reg_policy.specs.declared.rule.Rule.{Rule}
 use Rattle.reg_policy.specs.declared.subject.Decision.{Decision}
-use Rattle.reg_policy.specs.declared.subject.RowFacts.{RowFacts}
-use Rattle.reg_policy.specs.declared.subject.Subject.{Subject}
 use Rattle.reg_policy.specs.declared.subject.Verb.{Verb}
 use Rattle.reg_policy.specs.declared.subject.Verb.TheVariants.{Deposit, Check, List as Listing, Extract, See}
 
@@ -62,30 +60,30 @@ four-Decides a b c d p q r s =
     Decides-like _ (λ h. (h.0, h.1.0, h.1.1.0, h.1.1.1)) (λ h. (h.0, (h.1, (h.2, h.3))))
     (Decides-and _ _ p (Decides-and _ _ q (Decides-and _ _ r s)))
 
-is_row_met-Decides : (r : Rule) (o : Option RowFacts) → Decides (is_row_met r o) (MeetsRow r o)
+is_row_met-Decides : (r : Rule) (o : Option Facts) → Decides (is_row_met r o) (MeetsRow r o)
 is_row_met-Decides r None = four-Decides _ _ _ _ (is_none-Decides r.group) (is_none-Decides r.own) (is_none-Decides r.past) (is_none-Decides r.entry)
-is_row_met-Decides r (Some f) = four-Decides _ _ _ _ (is_met-Decides bytes_eq bytes_eq-Decides r.group f.group.now) (is_met-Decides same_fact same_fact-Decides r.own f.own)
-    (is_met-Decides same_fact same_fact-Decides r.past f.past) (is_entry_met-Decides r.entry f.headings.now f.cells.now)
+is_row_met-Decides r (Some f) = four-Decides _ _ _ _ (is_met-Decides bytes_eq bytes_eq-Decides r.group f.group) (is_met-Decides same_fact same_fact-Decides r.own f.own)
+    (is_met-Decides same_fact same_fact-Decides r.past f.past) (is_entry_met-Decides r.entry f.headings f.cells)
 
-pub matches-Decides : (r : Rule) (s : Subject) → Decides (matches r s) (Matches r s)
+pub matches-Decides : (r : Rule) (s : Asked) → Decides (matches r s) (Matches r s)
 matches-Decides r s =
     Decides-like _ (λ h. (h.0, h.1.0, h.1.1.0, h.1.1.1.0, h.1.1.1.1)) (λ h. (h.0, (h.1, (h.2, (h.3, h.4)))))
-    (Decides-and _ _ (is_met-Decides bytes_eq bytes_eq-Decides r.firm s.firm.now) (Decides-and _ _ (is_met-Decides bytes_eq bytes_eq-Decides r.role s.role.now)
-    (Decides-and _ _ (is_met-Decides bytes_eq bytes_eq-Decides r.project s.project.now)
+    (Decides-and _ _ (is_met-Decides bytes_eq bytes_eq-Decides r.firm s.firm) (Decides-and _ _ (is_met-Decides bytes_eq bytes_eq-Decides r.role s.role)
+    (Decides-and _ _ (is_met-Decides bytes_eq bytes_eq-Decides r.project s.project)
     (Decides-and _ _ (is_met-Decides same_verb same_verb-Decides r.verb s.verb) (is_row_met-Decides r s.row)))))
 
 -- one turn of the search for the first rule that matches
-pub decision_turn : (rules : List Rule) (s : Subject) (i : ℕ) (r : Rule) (b : Bool) → i < length rules → r ≡ get_or rules i r → b ≡ matches r s
+pub decision_turn : (rules : List Rule) (s : Asked) (i : ℕ) (r : Rule) (b : Bool) → i < length rules → r ≡ get_or rules i r → b ≡ matches r s
     → decision_of (drop i rules) s ≡ cond b (effect_of r.effect r.number) (decision_of (drop (i + 1) rules) s)
 decision_turn rules s i r b low is test =
     at_drop_more (λ x. decision_of x s) rules i r low ∙ rw (← is, test)
 
 -- the decision is that of the first rule that matches
-decided_more : (r : Rule) (rules : List Rule) (s : Subject) (d : Decision) → ¬ (Matches r s) → IsFirstMatch rules s d → IsFirstMatch (r ∷ rules) s d
+decided_more : (r : Rule) (rules : List Rule) (s : Asked) (d : Decision) → ¬ (Matches r s) → IsFirstMatch rules s d → IsFirstMatch (r ∷ rules) s d
 decided_more r rules s d apart (inl (before, x, after, e, none, m, is)) = inl (r ∷ before, x, after, ap (λ t. r ∷ t) e, All-cons (λ x. ¬ (Matches x s)) r before apart none, m, is)
 decided_more r rules s d apart (inr (none, is)) = inr (All-cons (λ x. ¬ (Matches x s)) r rules apart none, is)
 
-pub decided : (rules : List Rule) (s : Subject) → IsFirstMatch rules s (decision_of rules s)
+pub decided : (rules : List Rule) (s : Asked) → IsFirstMatch rules s (decision_of rules s)
 decided [] s = inr (All-nil (λ x. ¬ (Matches x s)), refl)
 decided (r ∷ rules) s = elim (cases_Bool (matches r s)) [
   | inl same ↦ inl ([], r, rules, refl, All-nil (λ x. ¬ (Matches x s)), (matches-Decides r s).0 same, rw same)

@@ -1,5 +1,5 @@
 -- Which rule of a policy decides.
-use Rattle.std.specs.Prelude.{◌≡◌, ◌⊎◌, ℕ, List, [], ◌∷◌, ◌++◌, Bool, true, false, not, ◌&&◌, ◌||◌, if◌then◌else◌, is_none, Option, Some, None, slice_get}
+use Rattle.std.specs.Prelude.{◌≡◌, ◌⊎◌, ℕ, List, [], ◌∷◌, ◌++◌, Bool, true, false, not, ◌&&◌, ◌||◌, if◌then◌else◌, is_none, Option, Some, None, option_map, slice_get}
 use Rattle.std.specs.List.{All}
 use Rattle.std.specs.Str.{bytes_eq}
 use Rattle.reg_policy.specs.declared.subject.Verb.{Verb}
@@ -12,6 +12,29 @@ use Rattle.reg_policy.specs.declared.rule.Entry.{Entry}
 use Rattle.reg_policy.specs.declared.rule.Rule.{Rule}
 use Rattle.reg_policy.specs.declared.rule.Effect.{Effect}
 use Rattle.reg_policy.specs.declared.rule.Effect.TheVariants as Effects
+
+-- What is known of a row that is to be seen.
+pub record Facts : Type 0 where
+  pub group : List ℕ
+  pub own : Bool
+  pub past : Bool
+  pub headings : List (List ℕ)
+  pub cells : List (List ℕ)
+
+-- What is asked: who wants to do what in which project, and the row, where one is to be seen.
+pub record Asked : Type 0 where
+  pub firm : List ℕ
+  pub role : List ℕ
+  pub project : List ℕ
+  pub verb : Verb
+  pub row : Option Facts
+
+-- the same of the values that a program asks with
+abbrev pub facts_of : RowFacts → Facts
+facts_of row = record { group = row.group.now; own = row.own; past = row.past; headings = row.headings.now; cells = row.cells.now }
+
+abbrev pub asked_of : Subject → Asked
+asked_of s = record { firm = s.firm.now; role = s.role.now; project = s.project.now; verb = s.verb; row = option_map facts_of s.row }
 
 -- what a rule sets is equal to what is asked; what it does not set matches all
 abbrev pub Meets : {A : Type 0} → Option A → A → Type 0
@@ -27,25 +50,25 @@ MeetsEntry None headings cells = Unit {0}
 MeetsEntry (Some entry) headings cells = HasEntry entry headings cells
 
 -- A request without a row is met only by a rule that sets nothing of a row.
-abbrev pub MeetsRow : Rule → Option RowFacts → Type 0
+abbrev pub MeetsRow : Rule → Option Facts → Type 0
 MeetsRow r None = (r.group ≡ None) × (r.own ≡ None) × (r.past ≡ None) × (r.entry ≡ None)
-MeetsRow r (Some row) = Meets r.group row.group.now × Meets r.own row.own × Meets r.past row.past × MeetsEntry r.entry row.headings.now row.cells.now
+MeetsRow r (Some row) = Meets r.group row.group × Meets r.own row.own × Meets r.past row.past × MeetsEntry r.entry row.headings row.cells
 
 -- The rule matches what is asked: all that it sets is so.
-abbrev pub Matches : Rule → Subject → Type 0
-Matches r s = Meets r.firm s.firm.now × Meets r.role s.role.now × Meets r.project s.project.now × Meets r.verb s.verb × MeetsRow r s.row
+abbrev pub Matches : Rule → Asked → Type 0
+Matches r asked = Meets r.firm asked.firm × Meets r.role asked.role × Meets r.project asked.project × Meets r.verb asked.verb × MeetsRow r asked.row
 
 -- the decision that a rule states
 abbrev pub effect_of : Effect → ℕ → Decision
 effect_of Effects.Permit number = Permit number
 effect_of Effects.Deny number = Deny number
 
--- d is the decision of the first rule that matches, or the denial 0 where none does
-abbrev pub IsFirstMatch : List Rule → Subject → Decision → Type 0
-IsFirstMatch rules s d =
+-- decision is that of the first rule that matches, or the denial 0 where none does
+abbrev pub IsFirstMatch : List Rule → Asked → Decision → Type 0
+IsFirstMatch rules asked decision =
     ((before : List Rule) × (r : Rule) × (others : List Rule) × (rules ≡ before ++ r ∷ others)
-    × All (λ x. ¬ (Matches x s)) before × Matches r s × (d ≡ effect_of r.effect r.number))
-    ⊎ (All (λ x. ¬ (Matches x s)) rules × (d ≡ Deny 0))
+    × All (λ x. ¬ (Matches x asked)) before × Matches r asked × (decision ≡ effect_of r.effect r.number))
+    ⊎ (All (λ x. ¬ (Matches x asked)) rules × (decision ≡ Deny 0))
 
 -- the tests of these relations, from which a decision is computed
 abbrev pub is_met : {A : Type 0} → (A → A → Bool) → Option A → A → Bool
@@ -72,16 +95,16 @@ abbrev pub is_entry_met : Option Entry → List (List ℕ) → List (List ℕ) �
 is_entry_met None headings cells = true
 is_entry_met (Some entry) headings cells = has_entry entry headings cells
 
-abbrev pub is_row_met : Rule → Option RowFacts → Bool
+abbrev pub is_row_met : Rule → Option Facts → Bool
 is_row_met r None = is_none r.group && (is_none r.own && (is_none r.past && is_none r.entry))
-is_row_met r (Some row) = is_met bytes_eq r.group row.group.now && (is_met same_fact r.own row.own && (is_met same_fact r.past row.past
-    && is_entry_met r.entry row.headings.now row.cells.now))
+is_row_met r (Some row) = is_met bytes_eq r.group row.group && (is_met same_fact r.own row.own && (is_met same_fact r.past row.past
+    && is_entry_met r.entry row.headings row.cells))
 
-abbrev pub matches : Rule → Subject → Bool
-matches r s = is_met bytes_eq r.firm s.firm.now && (is_met bytes_eq r.role s.role.now && (is_met bytes_eq r.project s.project.now
-    && (is_met same_verb r.verb s.verb && is_row_met r s.row)))
+abbrev pub matches : Rule → Asked → Bool
+matches r asked = is_met bytes_eq r.firm asked.firm && (is_met bytes_eq r.role asked.role && (is_met bytes_eq r.project asked.project
+    && (is_met same_verb r.verb asked.verb && is_row_met r asked.row)))
 
 -- The decision: the effect and number of the first rule that matches, or the denial 0.
-abbrev pub decision_of : List Rule → Subject → Decision
-decision_of [] s = Deny 0
-decision_of (r ∷ rules) s = if matches r s then effect_of r.effect r.number else decision_of rules s
+abbrev pub decision_of : List Rule → Asked → Decision
+decision_of [] asked = Deny 0
+decision_of (r ∷ rules) asked = if matches r asked then effect_of r.effect r.number else decision_of rules asked

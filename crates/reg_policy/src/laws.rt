@@ -1,17 +1,17 @@
 //! Laws of the definitions, which the contracts alone do not state.
 ghost use Rattle.std.specs.Prelude.{◌≡◌, List};
 ghost use Rattle.reg_policy.specs.Callers.{HasCallers};
-ghost use Rattle.reg_policy.specs.Decision.{IsFirstMatch, decision_of};
+ghost use Rattle.reg_policy.specs.Decision.{Asked, IsFirstMatch, decision_of};
 ghost use Rattle.reg_policy.specs.Rules.{HasRules};
 ghost use Rattle.reg_policy.specs.declared.callers.Listing.{Listing};
 ghost use Rattle.reg_policy.specs.declared.rule.Rule.{Rule};
 
-use crate::{Policy, Subject};
+use crate::Policy;
 
-/// The decision is that of the first rule that matches: the rules are some that do not match, one that
+/// Whatever is asked, the decision is that of the first rule that matches: the rules are some that do not match, one that
 /// does, and others. Where none matches, it is the denial 0.
-pub fn first_match_decides(policy: &Policy, subject: &Subject)
-    ensures { IsFirstMatch policy.now subject.now (decision_of policy.now subject.now) }
+pub fn first_match_decides(policy: &Policy)
+    ensures { (asked : Asked) → IsFirstMatch policy.now asked (decision_of policy.now asked) }
 {}
 
 /// A text is one policy at most: its rules are determined, with all that they set.

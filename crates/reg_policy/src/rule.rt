@@ -1,6 +1,6 @@
 //! One rule of a policy, and whether it matches what is asked.
-ghost use Rattle.std.specs.Prelude.{◌≡◌, ◌↔◌, IsTrue};
-ghost use Rattle.reg_policy.specs.Decision.{HasEntry, Matches, Meets, MeetsEntry, MeetsRow, matches};
+ghost use Rattle.std.specs.Prelude.{◌≡◌, ◌↔◌, IsTrue, option_map};
+ghost use Rattle.reg_policy.specs.Decision.{HasEntry, Matches, Meets, MeetsEntry, MeetsRow, asked_of, facts_of, matches};
 
 use crate::{Name, RowFacts, Subject, Verb};
 use ags_rows::{Bytes, Cell};
@@ -39,14 +39,14 @@ pub struct Rule {
 impl Rule {
     /// Whether all that the rule sets is so.
     pub fn matches(&self, subject: &Subject) -> bool
-        ensures test { result ≡ matches self.now subject.now }
-        ensures relation { IsTrue result ↔ Matches self.now subject.now }
+        ensures test { result ≡ matches self.now (asked_of subject.now) }
+        ensures relation { IsTrue result ↔ Matches self.now (asked_of subject.now) }
     {
         self.meets(subject)
     }
 
     fn meets(&self, subject: &Subject) -> bool
-        ensures { IsTrue result ↔ Matches self.now subject.now }
+        ensures { IsTrue result ↔ Matches self.now (asked_of subject.now) }
     {
         meets_name(&self.firm, subject.firm)
             && meets_name(&self.role, subject.role)
@@ -57,7 +57,7 @@ impl Rule {
 
     /// A rule that sets something of a row does not match a request without one.
     fn meets_row(&self, row: &Option<RowFacts>) -> bool
-        ensures { IsTrue result ↔ MeetsRow self.now row.now }
+        ensures { IsTrue result ↔ MeetsRow self.now (option_map facts_of row.now) }
     {
         match row {
             Some(facts) => {

@@ -51,86 +51,61 @@ fn days(rt: HostRuntime) -> Result<(), Fail> {
     Ok(())
 }
 
-/// What reading a policy refuses; none where it is read.
-fn refusal(alloc: Global, text: &str) -> Option<PolicyError> {
+/// What reading a policy refuses; none where it is read. Want of memory ends the test.
+fn refusal(alloc: Global, text: &str) -> Result<Option<PolicyError>, PolicyError> {
     match Policy::read(alloc, text) {
-        Ok(_) => None,
-        Err(error) => Some(error),
+        Ok(_) => Ok(None),
+        Err(PolicyError::NoMemory) => Err(PolicyError::NoMemory),
+        Err(error) => Ok(Some(error)),
     }
 }
 
 const RULE: &str = "[[rule]]\nnumber = 1\neffect = \"permit\"\n";
 
 #[test]
-fn policies_refused(rt: HostRuntime) -> Result<(), Fail> {
+fn unreadable_policies_refused(rt: HostRuntime) -> Result<(), Fail> {
     let alloc = rt.alloc();
-    let cases = [
-        (
-            "an array that does not close",
-            "[[rule",
-            PolicyError::Syntax,
-        ),
-        (
-            "a number beyond 64 bits",
-            "[[rule]]\nnumber = 99999999999999999999\neffect = \"deny\"\n",
-            PolicyError::Syntax,
-        ),
-        (
-            "another key at the top",
-            "other = 1\n",
-            PolicyError::UnknownKey,
-        ),
-        (
-            "an unknown key after a bad value",
-            "[[rule]]\nnumber = 0\neffect = \"deny\"\n[[rule]]\ncolour = 1\n",
-            PolicyError::UnknownKey,
-        ),
-        (
-            "an unknown key beside a number",
-            "rule = [3, { colour = 1 }]\n",
-            PolicyError::UnknownKey,
-        ),
-        ("one table", "[rule]\ncolour = 1\n", PolicyError::BadValue),
-        ("no array", "rule = 3\n", PolicyError::BadValue),
-        ("no effect", "[[rule]]\nnumber = 1\n", PolicyError::BadValue),
-        (
-            "no number",
-            "[[rule]]\neffect = \"deny\"\n",
-            PolicyError::BadValue,
-        ),
-        (
-            "number 0",
-            "[[rule]]\nnumber = 0\neffect = \"deny\"\n",
-            PolicyError::BadValue,
-        ),
-        (
-            "number 10000",
-            "[[rule]]\nnumber = 10000\neffect = \"deny\"\n",
-            PolicyError::BadValue,
-        ),
-        (
-            "effect *",
-            "[[rule]]\nnumber = 1\neffect = \"*\"\n",
-            PolicyError::BadValue,
-        ),
-        (
-            "a bad value before the order",
-            "[[rule]]\nnumber = 2\neffect = \"deny\"\n[[rule]]\nnumber = 1\n",
-            PolicyError::BadValue,
-        ),
-        (
-            "falling",
-            "[[rule]]\nnumber = 20\neffect = \"deny\"\n[[rule]]\nnumber = 10\neffect = \"deny\"\n",
-            PolicyError::Order,
-        ),
-        (
-            "equal",
-            "[[rule]]\nnumber = 1\neffect = \"deny\"\n[[rule]]\nnumber = 1\neffect = \"deny\"\n",
-            PolicyError::Order,
-        ),
-    ];
-    for (name, text, want) in cases {
-        assert!(rt; refusal(alloc, text) == Some(want), "{name}");
+    for text in [
+        "[[rule",
+        "[[rule]]\nnumber = 99999999999999999999\neffect = \"deny\"\n",
+    ] {
+        let answer = refusal(alloc, text)?;
+        assert!(rt; answer == Some(PolicyError::Syntax), "{text}");
+    }
+    for text in [
+        "other = 1\n",
+        "[[rule]]\nnumber = 0\neffect = \"deny\"\n[[rule]]\ncolour = 1\n",
+        "rule = [3, { colour = 1 }]\n",
+    ] {
+        let answer = refusal(alloc, text)?;
+        assert!(rt; answer == Some(PolicyError::UnknownKey), "{text}");
+    }
+    Ok(())
+}
+
+#[test]
+fn bad_policies_refused(rt: HostRuntime) -> Result<(), Fail> {
+    let alloc = rt.alloc();
+    for text in [
+        "[rule]\ncolour = 1\n",
+        "rule = 3\n",
+        "rule = [3]\n",
+        "[[rule]]\nnumber = 1\n",
+        "[[rule]]\neffect = \"deny\"\n",
+        "[[rule]]\nnumber = 0\neffect = \"deny\"\n",
+        "[[rule]]\nnumber = 10000\neffect = \"deny\"\n",
+        "[[rule]]\nnumber = 1\neffect = \"*\"\n",
+        "[[rule]]\nnumber = 2\neffect = \"deny\"\n[[rule]]\nnumber = 1\n",
+    ] {
+        let answer = refusal(alloc, text)?;
+        assert!(rt; answer == Some(PolicyError::BadValue), "{text}");
+    }
+    for text in [
+        "[[rule]]\nnumber = 20\neffect = \"deny\"\n[[rule]]\nnumber = 10\neffect = \"deny\"\n",
+        "[[rule]]\nnumber = 1\neffect = \"deny\"\n[[rule]]\nnumber = 1\neffect = \"deny\"\n",
+    ] {
+        let answer = refusal(alloc, text)?;
+        assert!(rt; answer == Some(PolicyError::Order), "{text}");
     }
     Ok(())
 }
@@ -153,7 +128,8 @@ fn keys_refused(rt: HostRuntime) -> Result<(), Fail> {
         ("heading = \"*\"\nvalue = \"x\"", PolicyError::BadValue),
     ] {
         let text = format!(in alloc; "{RULE}{line}\n")?;
-        assert!(rt; refusal(alloc, text.as_str()) == Some(want), "{line}");
+        let answer = refusal(alloc, text.as_str())?;
+        assert!(rt; answer == Some(want), "{line}");
     }
     for line in [
         "firm = \"*\"",
@@ -161,7 +137,8 @@ fn keys_refused(rt: HostRuntime) -> Result<(), Fail> {
         "heading = \"LOCA_ID\"\nvalue = \"\"",
     ] {
         let text = format!(in alloc; "{RULE}{line}\n")?;
-        assert!(rt; refusal(alloc, text.as_str()).is_none(), "{line}");
+        let answer = refusal(alloc, text.as_str())?;
+        assert!(rt; answer.is_none(), "{line}");
     }
     Ok(())
 }
@@ -306,14 +283,18 @@ fn facts_of_rows_match_no_request(rt: HostRuntime) -> Result<(), Fail> {
     Ok(())
 }
 
-/// What reading callers refuses; none where they are read.
-fn callers_refusal(alloc: Global, text: &str) -> Option<CallersError> {
+/// What reading callers refuses; none where they are read. Want of memory ends the test.
+fn callers_refusal(alloc: Global, text: &str) -> Result<Option<CallersError>, CallersError> {
     match Callers::read(alloc, text) {
-        Ok(_) => None,
-        Err(error) => Some(error),
+        Ok(_) => Ok(None),
+        Err(CallersError::NoMemory) => Err(CallersError::NoMemory),
+        Err(error) => Ok(Some(error)),
     }
 }
 
+const WHO: &str = "firm = \"A\"\nrole = \"b\"\n";
+
+/// 64 characters.
 const LONGEST: &str = "1234567890123456789012345678901234567890123456789012345678901234";
 
 #[test]
@@ -339,27 +320,30 @@ fn callers_refused(rt: HostRuntime) -> Result<(), Fail> {
             CallersError::DuplicateToken,
         ),
     ] {
-        assert!(rt; callers_refusal(alloc, text) == Some(want), "{text}");
+        let answer = callers_refusal(alloc, text)?;
+        assert!(rt; answer == Some(want), "{text}");
     }
-    for (token, want) in [
-        ("", true),
-        ("a b", true),
-        ("é", true),
-        ("!~", false),
-        (LONGEST, false),
+    Ok(())
+}
+
+#[test]
+fn tokens_read(rt: HostRuntime) -> Result<(), Fail> {
+    let alloc = rt.alloc();
+    for token in ["!~", LONGEST] {
+        let text = format!(in alloc; "[[caller]]\ntoken = \"{token}\"\n{WHO}")?;
+        let answer = callers_refusal(alloc, text.as_str())?;
+        assert!(rt; answer.is_none(), "{token}");
+    }
+    for token in [
+        "",
+        "a b",
+        "é",
+        "12345678901234567890123456789012345678901234567890123456789012345",
     ] {
-        let text = format!(in alloc;
-            "[[caller]]\ntoken = \"{token}\"\nfirm = \"A\"\nrole = \"b\"\n"
-        )?;
-        assert!(rt;
-            callers_refusal(alloc, text.as_str()).is_some() == want,
-            "{token}"
-        );
+        let text = format!(in alloc; "[[caller]]\ntoken = \"{token}\"\n{WHO}")?;
+        let answer = callers_refusal(alloc, text.as_str())?;
+        assert!(rt; answer == Some(CallersError::BadValue), "{token}");
     }
-    let text = format!(in alloc;
-        "[[caller]]\ntoken = \"{LONGEST}5\"\nfirm = \"A\"\nrole = \"b\"\n"
-    )?;
-    assert!(rt; callers_refusal(alloc, text.as_str()) == Some(CallersError::BadValue));
     Ok(())
 }
 

@@ -4,7 +4,8 @@ ghost use Rattle.std.specs.Prelude.{◌≡◌, ◌↔◌, ◌∷◌, ◌++◌, �
 ghost use Rattle.ags_rows.specs.declared.codes.Code.TheVariants.{Rule7, Rule19b};
 ghost use Rattle.ags_rows.specs.Collecting.{Adds};
 ghost use Rattle.ags_rows.specs.Bytes.{low_line};
-ghost use Rattle.ags_dict.specs.Entries.{elsewhere};
+ghost use Rattle.ags_rows.specs.Contents.{place_in};
+ghost use Rattle.ags_dict.specs.Entries.{order_of};
 ghost use Rattle.ags_check.specs.Places.{place_at};
 ghost use Rattle.ags_check.specs.Placing.{AtNames};
 ghost use Rattle.ags_check.specs.Header.{IsOvertaken, BeginsWithName};
@@ -26,21 +27,39 @@ pub fn names_of<'c>(alloc: Global, cells: &'c [Cell]) -> Result<Vec<&'c [u8]>, A
     Ok(names)
 }
 
-/// Notes the names that an index does not have: the headings of the row that are not in the group's order
-/// (Rules 9 and 18), and the KEY and REQUIRED headings that are not in the row (Rules 10a and 10b).
-pub fn note_missing(
+/// Rules 9 and 18: notes the headings that are not in the group's order.
+pub fn note_unknown(
     alloc: Global,
-    names: &[&[u8]],
+    dictionary: &Dictionary,
+    group: &[u8],
+    headings: &[&[u8]],
     line: u32,
     code: Code,
-    index: &Places,
     findings: &mut Vec<Finding>,
 ) -> Result<(), AllocError>
-    ensures { OnOk result (Adds (AtNames line code (map (λ name. name.now) names.now) (λ _ name. place_at index.now.held name ≡ None)) findings.old.items findings.new.items) }
+    ensures { OnOk result (Adds (AtNames line code (map (λ name. name.now) headings.now) (λ _ name. place_in (order_of dictionary.now group.now) name ≡ None)) findings.old.items findings.new.items) }
 {
-    for (i, name) in names.iter().enumerate() {
-        let is_missing = index.find(name).is_none();
-        note(alloc, findings, line, code, name, is_missing)?;
+    for (i, heading) in headings.iter().enumerate() {
+        let is_unknown = dictionary.place_in_order(group, heading).is_none();
+        note(alloc, findings, line, code, heading, is_unknown)?;
+    }
+    Ok(())
+}
+
+/// Rules 10a and 10b: notes the listed headings that are not in the row.
+pub fn note_absent(
+    alloc: Global,
+    listed: &[&[u8]],
+    row: &Places,
+    line: u32,
+    code: Code,
+    findings: &mut Vec<Finding>,
+) -> Result<(), AllocError>
+    ensures { OnOk result (Adds (AtNames line code (map (λ name. name.now) listed.now) (λ _ name. place_at row.now.held name ≡ None)) findings.old.items findings.new.items) }
+{
+    for (i, heading) in listed.iter().enumerate() {
+        let is_absent = row.find(heading).is_none();
+        note(alloc, findings, line, code, heading, is_absent)?;
     }
     Ok(())
 }
@@ -69,24 +88,19 @@ fn is_behind(place: Option<usize>, latest: Option<usize>) -> bool
 /// Rule 7: notes the headings before which the row has one that stands later in the group's order.
 pub fn note_misplaced(
     alloc: Global,
+    dictionary: &Dictionary,
+    group: &[u8],
     headings: &[&[u8]],
     line: u32,
-    order: &Places,
     findings: &mut Vec<Finding>,
 ) -> Result<(), AllocError>
-    ensures { OnOk result (Adds (AtNames line Rule7 (map (λ name. name.now) headings.now) (IsOvertaken (place_at order.now.held) (map (λ name. name.now) headings.now))) findings.old.items findings.new.items) }
+    ensures { OnOk result (Adds (AtNames line Rule7 (map (λ name. name.now) headings.now) (IsOvertaken (place_in (order_of dictionary.now group.now)) (map (λ name. name.now) headings.now))) findings.old.items findings.new.items) }
 {
     let mut latest = None;
     for (i, heading) in headings.iter().enumerate() {
-        let place = order.find(heading);
-        note(
-            alloc,
-            findings,
-            line,
-            Code::Rule7,
-            heading,
-            is_behind(place, latest),
-        )?;
+        let place = dictionary.place_in_order(group, heading);
+        let breaks = is_behind(place, latest);
+        note(alloc, findings, line, Code::Rule7, heading, breaks)?;
         latest = later(latest, place);
     }
     Ok(())
@@ -109,37 +123,30 @@ fn begins_with_name(heading: &[u8], group: &[u8]) -> bool
     }
 }
 
-/// Whether the heading is user-defined, and no name of the group's or of another group's.
-fn is_misnamed(
-    group: &[u8],
-    heading: &[u8],
-    given: &Places,
-    order: &Places,
-    dictionary: &Dictionary,
-) -> bool
-    ensures { IsTrue result ↔ IsMisnamedBy (place_at given.now.held) (place_at order.now.held) dictionary.now group.now heading.now }
+/// Whether the heading is user-defined, and neither named for the group nor another group's.
+fn is_misnamed(given: &Dictionary, extended: &Dictionary, group: &[u8], heading: &[u8]) -> bool
+    ensures { IsTrue result ↔ IsMisnamedBy given.now extended.now group.now heading.now }
 {
-    order.find(heading).is_some()
-        && given.find(heading).is_none()
+    extended.place_in_order(group, heading).is_some()
+        && given.place_in_order(group, heading).is_none()
         && !begins_with_name(heading, group)
-        && !dictionary.elsewhere(group, heading)
+        && !extended.elsewhere(group, heading)
 }
 
 /// Rule 19b: notes the user-defined headings that are neither named for the group nor another group's.
 pub fn note_misnamed(
     alloc: Global,
+    given: &Dictionary,
+    extended: &Dictionary,
     group: &[u8],
     headings: &[&[u8]],
     line: u32,
-    given: &Places,
-    order: &Places,
-    dictionary: &Dictionary,
     findings: &mut Vec<Finding>,
 ) -> Result<(), AllocError>
-    ensures { OnOk result (Adds (AtNames line Rule19b (map (λ name. name.now) headings.now) (λ _ name. IsMisnamedBy (place_at given.now.held) (place_at order.now.held) dictionary.now group.now name)) findings.old.items findings.new.items) }
+    ensures { OnOk result (Adds (AtNames line Rule19b (map (λ name. name.now) headings.now) (λ _ name. IsMisnamedBy given.now extended.now group.now name)) findings.old.items findings.new.items) }
 {
     for (i, heading) in headings.iter().enumerate() {
-        let breaks = is_misnamed(group, heading, given, order, dictionary);
+        let breaks = is_misnamed(given, extended, group, heading);
         note(alloc, findings, line, Code::Rule19b, heading, breaks)?;
     }
     Ok(())

@@ -1,9 +1,9 @@
-use Rattle.std.proofs.Common.{◌≡◌, List, ℕ, [], ◌∷◌, ap, subst, ◌∙◌}
+use Rattle.std.proofs.Common.{◌≡◌, [], ◌∷◌, ap, subst, ◌∙◌}
 use Rattle.ags_rows.specs.declared.codes.Code.TheVariants.{Rule7, Rule10a, Rule10b, Rule19b}
 use Rattle.ags_rows.specs.Contents.{group_contents}
 use Rattle.ags_rows.proofs.Collecting.{one_more, one_none}
+use Rattle.ags_dict.specs.Entries.{keys_of, required_of}
 use Rattle.ags_check.specs.Header.{IsMisplaced, LacksKey, LacksRequired, IsMisnamed}
-use Rattle.ags_check.specs.Known.{Knows}
 use Rattle.ags_check.specs.Places.{AreFirst}
 use Rattle.ags_check.specs.Placing.{AtHeading}
 use Rattle.ags_check.proofs.Naming.{texts}
@@ -16,26 +16,24 @@ returns c =
     let entries = c.args.extended.now in
     let group = c.args.group.now in
     let here = group_contents group in
-    let known = c.in_ok-known.known in
-    let knows : Knows given entries group.name known = subst (λ (n : List ℕ). Knows given entries n known) c.as_slice-name.ensures c.in_ok-known.ensures in
+    let name = c.as_slice-name.ensures in
+    let held = c.in_ok-row.row.held in
     let headings : texts c.as_slice-headings.result.now ≡ group.headings = ap texts c.as_slice-headings.ensures.value ∙ c.in_ok-names.ensures ∙ c.as_slice.ensures in
-    let row : AreFirst c.in_ok-row.row.held group.headings = subst (AreFirst c.in_ok-row.row.held) headings c.in_ok-row.ensures in
-    let keys = ap texts c.as_slice-2.ensures.value ∙ knows.keys in
-    let required = ap texts c.as_slice-3.ensures.value ∙ knows.required in
+    let row : AreFirst held group.headings = subst (AreFirst held) headings c.in_ok-row.ensures in
+    let keys = ap texts c.as_slice-2.ensures.value ∙ c.in_ok-keys.ensures ∙ ap (keys_of entries) name in
+    let required = ap texts c.as_slice-3.ensures.value ∙ c.in_ok-required.ensures ∙ ap (required_of entries) name in
     let a = c.args.findings.now.items in
-    let b = c.note_missing.new.findings.items in
+    let b = c.note_unknown.new.findings.items in
     let d = c.note_misplaced.new.findings.items in
-    let e = c.note_missing-2.new.findings.items in
-    let f = c.note_missing-3.new.findings.items in
+    let e = c.note_absent.new.findings.items in
+    let f = c.note_absent-2.new.findings.items in
     let g = c.note_misnamed.new.findings.items in
     let misplaced = AtHeading Rule7 (IsMisplaced entries here) group in
     let key = AtHeading Rule10a (LacksKey entries here) group in
     let need = AtHeading Rule10b (LacksRequired entries here) group in
     let misnamed = AtHeading Rule19b (IsMisnamed given entries here) group in
-    one_more _ (misplaced ∷ key ∷ need ∷ misnamed ∷ []) a b g (unknown_rule entries group c.args.code known.order.held _ a b headings knows.order c.in_ok-note_missing.ensures)
-    (one_more misplaced (key ∷ need ∷ misnamed ∷ []) b d g (misplaced_rule entries group Rule7 known.order.held _ b d headings knows.order c.in_ok-note_misplaced.ensures)
-    (one_more key (need ∷ misnamed ∷ []) d e g (key_rule entries group Rule10a c.in_ok-row.row.held _ d e keys row c.in_ok-note_missing-2.ensures)
-    (one_more need (misnamed ∷ []) e f g (required_rule entries group Rule10b c.in_ok-row.row.held _ e f required row c.in_ok-note_missing-3.ensures)
-    (one_more misnamed [] f g g
-    (misnamed_rule given entries group Rule19b known.order.held known.given.held _ f g headings knows.order knows.given_order (rw c.as_slice-name.ensures at c.in_ok-note_misnamed.ensures))
-    (one_none g)))))
+    one_more _ (misplaced ∷ key ∷ need ∷ misnamed ∷ []) a b g (unknown_rule entries group c.args.code _ a b headings (rw c.as_slice-name.ensures at c.in_ok-note_unknown.ensures))
+    (one_more misplaced (key ∷ need ∷ misnamed ∷ []) b d g (misplaced_rule entries group Rule7 _ b d headings (rw c.as_slice-name.ensures at c.in_ok-note_misplaced.ensures))
+    (one_more key (need ∷ misnamed ∷ []) d e g (key_rule entries group Rule10a held _ d e keys row c.in_ok-note_absent.ensures)
+    (one_more need (misnamed ∷ []) e f g (required_rule entries group Rule10b held _ e f required row c.in_ok-note_absent-2.ensures)
+    (one_more misnamed [] f g g (misnamed_rule given entries group Rule19b _ f g headings (rw c.as_slice-name.ensures at c.in_ok-note_misnamed.ensures)) (one_none g)))))

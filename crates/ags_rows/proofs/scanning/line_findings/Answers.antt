@@ -6,6 +6,7 @@ use Rattle.ags_rows.specs.Rows.{Rows}
 use Rattle.ags_rows.specs.Collecting.{Adds, Among, OneOf}
 use Rattle.ags_rows.specs.Stands.{byte_rules, StandsInSpelling}
 use Rattle.ags_rows.proofs.Files.{lines_within}
+use Rattle.ags_rows.proofs.Cuts.{some_groups}
 use Rattle.ags_rows.proofs.Collecting.{listed}
 use Rattle.ags_rows.proofs.Breaking.{adds_lines}
 use Rattle.ags_rows.proofs.scanning.line_findings.Goals as goal
@@ -28,13 +29,14 @@ returns c =
     let cut : Lines (after_mark c.args.bytes.now) lines = subst (λ t. Lines t lines) c.after_mark.ensures c.in_ok-lines.ensures in
     let rows : Rows lines c.in_ok-rows.rows.items = subst (λ x. Rows (map text_line x) c.in_ok-rows.rows.items) c.as_slice-2.ensures.value c.in_ok-rows.ensures.rows in
     let mid = c.note_lines.new.findings.items in
+    let groups = some_groups c.in_ok-rows.rows.items in
     let noted = c.take_lines.new.findings.items in
     let first : Adds (Among lines (λ place line. OneOf (byte_rules (place + 1) line))) [] mid =
     subst (λ (l : List Finding). Adds (Among lines (λ place line. OneOf (byte_rules (place + 1) line))) l mid) c.new-findings.ensures.items
     (subst (λ x. Adds (Among (map text_line x) (λ place line. OneOf (byte_rules (place + 1) line))) c.new-findings.result.items mid) c.as_slice.ensures.value c.in_ok-note_lines.ensures) in
     let second : Adds (StandsInSpelling lines) mid noted = subst (λ x. Adds (StandsInSpelling (map text_line x)) mid noted) c.as_slice-2.ensures.value c.in_ok-rows.ensures.findings in (
-      record { lines = lines; rows = c.in_ok-rows.rows.items },
-      record { lines = cut; rows = rows },
+      record { lines = lines; rows = c.in_ok-rows.rows.items; groups = groups.0 },
+      record { lines = cut; rows = rows; groups = groups.1 },
       refl,
       listed noted c.in_order.result (adds_lines lines [] mid noted first second) c.in_order.ensures.order c.in_order.ensures.only c.in_order.ensures.all,
     )

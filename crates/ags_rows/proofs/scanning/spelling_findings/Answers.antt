@@ -6,6 +6,7 @@ use Rattle.ags_rows.specs.Rows.{Rows}
 use Rattle.ags_rows.specs.Collecting.{Adds}
 use Rattle.ags_rows.specs.Stands.{StandsInSpelling}
 use Rattle.ags_rows.proofs.Files.{lines_within}
+use Rattle.ags_rows.proofs.Cuts.{some_groups}
 use Rattle.ags_rows.proofs.Collecting.{listed}
 use Rattle.ags_rows.proofs.scanning.spelling_findings.Goals as goal
 
@@ -20,11 +21,12 @@ returns c =
     let lines = map text_line c.in_ok-lines.lines.items in
     let cut : Lines (after_mark c.args.bytes.now) lines = subst (λ t. Lines t lines) c.after_mark.ensures c.in_ok-lines.ensures in
     let rows : Rows lines c.in_ok-rows.rows.items = subst (λ x. Rows (map text_line x) c.in_ok-rows.rows.items) c.as_slice.ensures.value c.in_ok-rows.ensures.rows in
+    let groups = some_groups c.in_ok-rows.rows.items in
     let noted = c.take_lines.new.findings.items in
     let adds = subst (λ (l : List Finding). Adds (StandsInSpelling lines) l noted) c.new-findings.ensures.items
     (subst (λ x. Adds (StandsInSpelling (map text_line x)) c.new-findings.result.items noted) c.as_slice.ensures.value c.in_ok-rows.ensures.findings) in (
-      record { lines = lines; rows = c.in_ok-rows.rows.items },
-      record { lines = cut; rows = rows },
+      record { lines = lines; rows = c.in_ok-rows.rows.items; groups = groups.0 },
+      record { lines = cut; rows = rows; groups = groups.1 },
       refl,
       listed noted c.in_order.result adds c.in_order.ensures.order c.in_order.ensures.only c.in_order.ensures.all,
     )

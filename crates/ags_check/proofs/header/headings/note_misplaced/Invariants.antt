@@ -1,6 +1,7 @@
 use Rattle.ags_rows.specs.Collecting.{Adds, AmongBefore}
 use Rattle.ags_rows.specs.declared.codes.Code.TheVariants.{Rule7}
-use Rattle.ags_check.specs.Places.{place_at}
+use Rattle.ags_rows.specs.Contents.{place_in}
+use Rattle.ags_dict.specs.Entries.{order_of}
 use Rattle.ags_check.specs.Header.{IsOvertaken}
 use Rattle.ags_check.specs.HeaderSteps.{IsLatest}
 use Rattle.ags_check.proofs.Naming.{texts, NotesName}
@@ -8,6 +9,6 @@ use Rattle.ags_check.proofs.header.headings.note_misplaced.Given as goal
 
 abbrev pub invariant-loop-i : goal.invariant-loop-i
 invariant-loop-i l = record {
-  noted : Adds (AmongBefore (texts l.headings) (NotesName l.line Rule7 (IsOvertaken (place_at l.order.held) (texts l.headings))) l.i) l.fn.findings.items l.findings.items;
-  latest : IsLatest (place_at l.order.held) (texts l.headings) l.i l.latest;
+  noted : Adds (AmongBefore (texts l.headings) (NotesName l.line Rule7 (IsOvertaken (place_in (order_of l.dictionary l.group)) (texts l.headings))) l.i) l.fn.findings.items l.findings.items;
+  latest : IsLatest (place_in (order_of l.dictionary l.group)) (texts l.headings) l.i l.latest;
 }

@@ -1,0 +1,103 @@
+-- Names that were met and names that stand earlier in their list.
+use Rattle.std.proofs.Common.{◌≡◌, ◌≢◌, ℕ, ◌+◌, Bool, true, false, cond, eqb, nat_cmp, List, [], ◌∷◌, length, Option, Some, refl, sym, ap, subst, ◌∙◌, arith, inl, inr}
+use Rattle.std.specs.Prelude.{◌⊎◌, ◌↔◌, is_some, slice_get, not, OnOk, Result, Ok, Err}
+use Rattle.std.specs.Str.{bytes_eq}
+use Rattle.std.specs.Borrow.{Bor}
+use Rattle.std.specs.BTreeMap.{BTreeMap, is_at}
+use Rattle.std.specs.Map.{lookup}
+use Rattle.std.specs.Cmp.Lexicographic.{slice_cmp}
+use Rattle.std.proofs.lemmas.Bool.{eqb-true, eqb-false, eq-eqb, ne_eqb}
+use Rattle.std.proofs.lemmas.List.{nil_from_length}
+use Rattle.std.proofs.lemmas.Slice.Eq.{bytes_eq-Decides}
+use Rattle.ags_rows.specs.declared.codes.Code.{Code}
+use Rattle.ags_rows.specs.declared.codes.Code.TheVariants.{Rule19, Rule19a, P1, P2}
+use Rattle.ags_rows.specs.declared.codes.Finding.{Finding}
+use Rattle.ags_rows.specs.declared.rows.Group.{Group}
+use Rattle.ags_rows.specs.Names.{is_group_name, is_heading_name}
+use Rattle.ags_rows.specs.Collecting.{At, Adds, OneOf}
+use Rattle.ags_rows.specs.Stands.{IsRepeat, heading_rules, shape_rules, group_rules, StandsInHeadings}
+use Rattle.ags_rows.specs.Parsing.{IsMet, met_rules}
+use Rattle.ags_rows.proofs.Collecting.{adds_same, before_or_at, some_same}
+
+-- ---- tests turned
+
+pub not_is : (b : Bool) → not b ≡ true → b ≡ false
+not_is true e = absurd cc
+not_is false e = refl
+
+pub is_not : (b : Bool) → b ≡ false → not b ≡ true
+is_not b e = rw e refl
+
+-- two numbers that are counts differ where the counts do
+pub differs : (n m k j : ℕ) → n ≡ k → m ≡ j → not (eqb n m) ≡ true → k ≢ j
+differs n m k j a b e q = eqb-false n m (not_is (eqb n m) e) (a ∙ q ∙ sym b)
+
+pub differ : (n m k j : ℕ) → n ≡ k → m ≡ j → k ≢ j → not (eqb n m) ≡ true
+differ n m k j a b ne = is_not (eqb n m) (ne_eqb n m (λ q. ne (sym a ∙ q ∙ b)))
+
+pub empties : {X : Type 0} (xs : List X) (b : Bool) → b ≡ eqb (length xs) 0 → b ≡ true → xs ≡ []
+empties xs b is e = nil_from_length xs (eqb-true (length xs) 0 (sym is ∙ e))
+
+pub empty : {X : Type 0} (xs : List X) (b : Bool) → b ≡ eqb (length xs) 0 → xs ≡ [] → b ≡ true
+empty xs b is e = is ∙ eq-eqb (length xs) 0 (ap length e)
+
+pub always : {T E : Type 0} (r : Result T E) (P : Type 0) → P → OnOk r P
+always (Ok x) P h = h
+always (Err e) P h = tt
+
+-- ---- one name more
+
+-- a key that was put in is among the keys, and so are those that were there
+pub put_in : {X : Type 0} (name other : List ℕ) (x : X) (there : Option X) → (is_some (cond (bytes_eq name other) (Some x) there) ≡ true) ↔ ((name ≡ other) ⊎ (is_some there ≡ true))
+put_in {X} name other x there = by_test (bytes_eq name other) (bytes_eq-Decides name other) where
+  by_test : (b : Bool) → (b ≡ true → name ≡ other) × (name ≡ other → b ≡ true) → (is_some (cond b (Some x) there) ≡ true) ↔ ((name ≡ other) ⊎ (is_some there ≡ true))
+  by_test true d = (λ h. inl (d.0 refl), λ h. refl)
+  by_test false d = (λ h. inr h, λ h. elim h [ inl e ↦ absurd (let z : false ≡ true = d.1 e in cc) | inr k ↦ k ])
+
+-- there is no key in a map without entries
+none_in : (entries : List (Bor (List ℕ) × Unit {0})) (q : List ℕ) → entries ≡ [] → is_some (lookup (is_at (λ (key : Bor (List ℕ)). slice_cmp nat_cmp q key.now)) entries) ≡ true → ⊥
+none_in [] q e h = absurd cc
+none_in (x ∷ entries) q e h = absurd cc
+
+pub none_met : (met : BTreeMap (Bor (List ℕ)) (Unit {0})) (q : List ℕ) → met.entries ≡ [] → IsMet met q → ⊥
+none_met met q e h = none_in met.entries q e h
+
+pub none_before : (names : List (List ℕ)) (name : List ℕ) → IsRepeat names 0 name → ⊥
+none_before names name h = omega (arith, h.1)
+
+-- what was met before one more name, and after it
+pub repeat_more : (names : List (List ℕ)) (i : ℕ) (name : List ℕ) (Old New : List ℕ → Type 0) → At names i name → ((q : List ℕ) → Old q ↔ IsRepeat names i q)
+    → ((q : List ℕ) → New q ↔ ((name ≡ q) ⊎ Old q)) → (q : List ℕ) → New q ↔ IsRepeat names (i + 1) q
+repeat_more names i name Old New at before more q = (
+  λ n. elim ((more q).0 n) [
+    | inl e ↦ (i, omega arith, subst (At names i) e at)
+    | inr m ↦ let r = (before q).0 m in (r.0, omega (arith, r.1), r.2)
+  ],
+  λ r. elim (before_or_at r.0 i r.1) [
+    | inl lt ↦ (more q).1 (inr ((before q).1 (r.0, lt, r.2)))
+    | inr e ↦ (more q).1 (inl (some_same name q (slice_get names i) at (subst (λ (k : ℕ). At names k q) e r.2)))
+  ],
+)
+
+-- ---- the same rules in other words
+
+met_to : (line : ℕ) (wrong repeated : Code) (name : List ℕ) (is_name : Bool) (Met Repeat : Type 0) → (Met → Repeat) → (f : Finding) → OneOf (met_rules line wrong repeated name is_name Met) f → OneOf (met_rules line wrong repeated name is_name Repeat) f
+met_to line wrong repeated name is_name Met Repeat to f (inl k) = inl k
+met_to line wrong repeated name is_name Met Repeat to f (inr (inl k)) = inr (inl (to k.0, k.1, k.2, k.3))
+met_to line wrong repeated name is_name Met Repeat to f (inr (inr k)) = inr (inr k)
+
+-- of a heading
+pub heading_same : (line : ℕ) (headings : List (List ℕ)) (place : ℕ) (heading : List ℕ) (Met : Type 0) (a b : List Finding) → Met ↔ IsRepeat headings place heading
+    → Adds (OneOf (met_rules line Rule19a P2 heading (is_heading_name heading) Met)) a b → Adds (OneOf (heading_rules line headings place heading)) a b
+heading_same line headings place heading Met a b same =
+    let Repeat = IsRepeat headings place heading in
+    adds_same a b (met_to line Rule19a P2 heading (is_heading_name heading) Met Repeat same.0) (met_to line Rule19a P2 heading (is_heading_name heading) Repeat Met same.1)
+
+-- of a group
+pub group_same : (names : List (List ℕ)) (place : ℕ) (group : Group) (Met : Type 0) (a b : List Finding) → Met ↔ IsRepeat names place group.name
+    → Adds (OneOf (OneOf (shape_rules group) ∷ OneOf (met_rules group.line Rule19 P1 group.name (is_group_name group.name) Met) ∷ StandsInHeadings group ∷ [])) a b → Adds (OneOf (group_rules names place group)) a b
+group_same names place group Met a b same =
+    let Repeat = IsRepeat names place group.name in
+    adds_same a b
+    (λ f h. elim h [ inl k ↦ inl k | inr (inl k) ↦ inr (inl (met_to group.line Rule19 P1 group.name (is_group_name group.name) Met Repeat same.0 f k)) | inr (inr k) ↦ inr (inr k) ])
+    (λ f h. elim h [ inl k ↦ inl k | inr (inl k) ↦ inr (inl (met_to group.line Rule19 P1 group.name (is_group_name group.name) Repeat Met same.1 f k)) | inr (inr k) ↦ inr (inr k) ])
