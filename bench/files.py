@@ -77,4 +77,11 @@ def short(size):
     return b"x\n" * (size // 2)
 
 
-ALL = [flat, deep, ring, broken, short]
+def steps(size):
+    """A group of the file's own DICT whose parent has none of its keys: every row of the one is a parent of every row of the other."""
+    own = group("DICT", ["DICT_TYPE", "DICT_GRP", "DICT_HDNG", "DICT_STAT", "DICT_PGRP"], [""] * 5, ["X"] * 5,
+                [["GROUP", "ABCD", "", "", "LOCA"], ["HEADING", "ABCD", "ABCD_ID", "KEY", ""]])
+    return largest(size, lambda count: FRONT + holes(count) + group("ABCD", ["ABCD_ID"], [""], ["ID"], ([f"{n}"] for n in range(count))) + own)
+
+
+ALL = [flat, deep, ring, broken, short, steps]
