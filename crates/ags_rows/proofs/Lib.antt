@@ -14,3 +14,4 @@ pub mod WellFormed
 pub mod Texts
 pub mod Formed
 pub mod RoundTrip
+pub mod FirstPlaces
