@@ -1,15 +1,12 @@
 -- The entries of a dictionary (the group DICT, Rules 7, 9, 10 and 18), and what is read from them.
 -- All of it speaks of a file's contents, not of its lines. A heading that DICT does not have reads as null.
-use Rattle.std.specs.Prelude.{ℕ, List, [], ◌∷◌, ◌++◌, map, flat_map, codes, Bool, true, false, not, ◌&&◌, Option, Some, None, if◌then◌else◌}
+use Rattle.std.specs.Prelude.{ℕ, List, [], ◌∷◌, ◌++◌, map, flat_map, codes, Bool, not, ◌&&◌, Option, Some, None, if◌then◌else◌}
 use Rattle.std.specs.List.{filter, find, list_any, list_all}
-use Rattle.std.specs.Option.{option_map_or}
 use Rattle.std.specs.Str.{bytes_eq}
 use Rattle.ags_rows.specs.Contents.{Contents, under}
 use Rattle.ags_dict.specs.Parts.{has_part}
 use Rattle.ags_dict.specs.declared.entries.GroupEntry.{GroupEntry}
 use Rattle.ags_dict.specs.declared.entries.HeadingEntry.{HeadingEntry}
-use Rattle.ags_dict.specs.declared.entries.Origin.{Origin}
-use Rattle.ags_dict.specs.declared.entries.Origin.TheVariants.{Standard, File}
 
 -- The entries of a dictionary, each list in its order: for groups, and for headings of groups.
 pub record Entries : Type 0 where
@@ -27,13 +24,12 @@ group_entries headings fields =
     } ∷ [] else []
 
 -- a row of DICT_TYPE `HEADING` makes an entry for a heading of a group, with its status
-abbrev pub heading_entries : Origin → List (List ℕ) → List (List ℕ) → List HeadingEntry
-heading_entries origin headings fields =
+abbrev pub heading_entries : List (List ℕ) → List (List ℕ) → List HeadingEntry
+heading_entries headings fields =
     if bytes_eq (under headings fields (codes "DICT_TYPE")) (codes "HEADING") then record {
       group = under headings fields (codes "DICT_GRP");
       heading = under headings fields (codes "DICT_HDNG");
       status = under headings fields (codes "DICT_STAT");
-      origin = origin;
     } ∷ [] else []
 
 abbrev pub is_dict : Contents → Bool
@@ -42,8 +38,8 @@ is_dict group = bytes_eq group.name (codes "DICT")
 abbrev pub group_entries_in : Contents → List GroupEntry
 group_entries_in group = if is_dict group then flat_map (group_entries group.headings) group.rows else []
 
-abbrev pub heading_entries_in : Origin → Contents → List HeadingEntry
-heading_entries_in origin group = if is_dict group then flat_map (heading_entries origin group.headings) group.rows else []
+abbrev pub heading_entries_in : Contents → List HeadingEntry
+heading_entries_in group = if is_dict group then flat_map (heading_entries group.headings) group.rows else []
 
 -- ---- an earlier entry is kept, a later one ignored
 
@@ -62,20 +58,16 @@ unstated same before (x ∷ xs) = if list_any (same x) before then unstated same
 abbrev pub with_unstated : {X : Type 0} → (X → X → Bool) → List X → List X → List X
 with_unstated same old new = old ++ unstated same old new
 
--- entries, and the new ones of a file's DICT
-abbrev pub with_entries : Origin → Entries → List Contents → Entries
-with_entries origin old contents = record {
-  groups = with_unstated same_group old.groups (flat_map group_entries_in contents);
-  headings = with_unstated same_heading old.headings (flat_map (heading_entries_in origin) contents);
+-- the extended dictionary: entries, then the new ones of a file's own DICT
+abbrev pub extended : Entries → List Contents → Entries
+extended standard contents = record {
+  groups = with_unstated same_group standard.groups (flat_map group_entries_in contents);
+  headings = with_unstated same_heading standard.headings (flat_map heading_entries_in contents);
 }
 
--- the entries of the dictionary that a file is
+-- the entries of the dictionary that a file is: those of its DICT alone
 abbrev pub standard_entries : List Contents → Entries
-standard_entries contents = with_entries Standard (record { groups = []; headings = [] }) contents
-
--- the extended dictionary: the standard entries, then the new ones of the file's own DICT
-abbrev pub extended : Entries → List Contents → Entries
-extended standard contents = with_entries File standard contents
+standard_entries contents = extended (record { groups = []; headings = [] }) contents
 
 -- ---- what a dictionary has to have
 
@@ -132,19 +124,6 @@ has_group entries group = list_any (λ e. bytes_eq e.group group) entries.groups
 -- Rule 19b: another group has a heading of this name
 abbrev pub elsewhere : Entries → List ℕ → List ℕ → Bool
 elsewhere entries group heading = list_any (λ e. bytes_eq e.heading heading && not (of_group group e)) entries.headings
-
--- an entry of the file's own DICT
-abbrev pub is_file : Origin → Bool
-is_file Standard = false
-is_file File = true
-
--- the entry for a heading of a group
-abbrev pub entry_of : Entries → List ℕ → List ℕ → Option HeadingEntry
-entry_of entries group heading = find (λ e. of_group group e && bytes_eq e.heading heading) entries.headings
-
--- Rule 19b: a heading is user-defined where its entry came from the file's own DICT
-abbrev pub is_user_defined : Entries → List ℕ → List ℕ → Bool
-is_user_defined entries group heading = option_map_or (λ e. is_file e.origin) (entry_of entries group heading) false
 
 -- the groups that have no parent, whatever their entries say
 abbrev pub has_no_parent : List ℕ → Bool

@@ -1,11 +1,10 @@
 //! A dictionary's entries, and what is asked of them.
 
-ghost use Rattle.std.specs.Prelude.{◌≡◌, IfOk, map, [], option_copied};
+ghost use Rattle.std.specs.Prelude.{◌≡◌, IfOk, map, length, [], option_copied};
 ghost use Rattle.std.specs.List.{filter};
 ghost use Rattle.ags_rows.specs.Contents.{place_in};
-ghost use Rattle.ags_dict.specs.Entries.{has_no_parent, order_of, keys_of, required_of, parent_of, has_group, elsewhere, is_user_defined, heading_of, of_status};
+ghost use Rattle.ags_dict.specs.Entries.{has_no_parent, order_of, keys_of, required_of, parent_of, has_group, elsewhere, heading_of, of_status};
 
-use crate::entries::Origin;
 use crate::groups::GroupEntries;
 use crate::headings::HeadingEntries;
 use crate::parts::has_part;
@@ -58,6 +57,20 @@ impl Dictionary {
             groups: self.groups.copied(alloc)?,
             headings: self.headings.copied(alloc)?,
         })
+    }
+
+    /// How many entries for groups there are.
+    pub fn group_count(&self) -> usize
+        ensures { result ≡ length self.now.groups }
+    {
+        self.groups.len()
+    }
+
+    /// How many entries for headings there are.
+    pub fn heading_count(&self) -> usize
+        ensures { result ≡ length self.now.headings }
+    {
+        self.headings.len()
     }
 
     /// The group's headings in the order of the dictionary (Rule 7).
@@ -119,16 +132,6 @@ impl Dictionary {
         ensures { result ≡ elsewhere self.now group.now heading.now }
     {
         self.headings.elsewhere(group, heading)
-    }
-
-    /// Whether the group's heading is user-defined: its entry came from the file's own DICT (Rule 19b).
-    pub fn is_user_defined(&self, group: &[u8], heading: &[u8]) -> bool
-        ensures { result ≡ is_user_defined self.now group.now heading.now }
-    {
-        match self.headings.find(group, heading) {
-            Some(entry) => matches!(entry.origin, Origin::File),
-            None => false,
-        }
     }
 
     /// The group's parent (Rule 10c).

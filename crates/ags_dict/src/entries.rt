@@ -2,27 +2,17 @@
 
 use ags_rows::Bytes;
 
-/// Whose DICT an entry came from.
-#[derive(Clone, Copy, Debug, PartialEq, Eq)]
-pub enum Origin {
-    /// The standard dictionary.
-    Standard,
-    /// The file's own DICT: the entry is user-defined.
-    File,
-}
-
 /// An entry for a group.
 #[derive(Drop)]
-pub struct GroupEntry {
-    pub group: Bytes,
-    pub parent: Bytes,
+pub(crate) struct GroupEntry {
+    pub(crate) group: Bytes,
+    pub(crate) parent: Bytes,
 }
 
 /// An entry for a heading of a group.
 #[derive(Drop)]
-pub struct HeadingEntry {
-    pub group: Bytes,
-    pub heading: Bytes,
-    pub status: Bytes,
-    pub origin: Origin,
+pub(crate) struct HeadingEntry {
+    pub(crate) group: Bytes,
+    pub(crate) heading: Bytes,
+    pub(crate) status: Bytes,
 }

@@ -2,10 +2,10 @@
 
 ghost use Rattle.std.specs.Prelude.{◌≡◌, IfOk, flat_map};
 ghost use Rattle.ags_rows.specs.Contents.{group_contents, contents_of};
-ghost use Rattle.ags_dict.specs.Entries.{is_dict, group_entries, heading_entries, group_entries_in, heading_entries_in, same_group, same_heading, with_unstated, with_entries, extended};
+ghost use Rattle.ags_dict.specs.Entries.{is_dict, group_entries, heading_entries, group_entries_in, heading_entries_in, same_group, same_heading, with_unstated, extended};
 
 use crate::dictionary::Dictionary;
-use crate::entries::{GroupEntry, HeadingEntry, Origin};
+use crate::entries::{GroupEntry, HeadingEntry};
 use crate::groups::GroupEntries;
 use crate::headings::HeadingEntries;
 use ags_rows::{Cell, Group, Scan, copy, under};
@@ -33,12 +33,11 @@ fn take_group_row(
 /// The entries with the heading entry of a row of DICT, if it makes a new one.
 fn take_heading_row(
     alloc: Global,
-    origin: Origin,
     headings: &[Cell],
     cells: &[Cell],
     entries: HeadingEntries,
 ) -> Result<HeadingEntries, AllocError>
-    ensures { IfOk result (λ taken. taken ≡ with_unstated same_heading entries (heading_entries origin headings.now cells.now)) }
+    ensures { IfOk result (λ taken. taken ≡ with_unstated same_heading entries (heading_entries headings.now cells.now)) }
 {
     if under(headings, cells, b"DICT_TYPE") != b"HEADING".as_slice() {
         return Ok(entries);
@@ -47,20 +46,14 @@ fn take_heading_row(
         group: copy(alloc, under(headings, cells, b"DICT_GRP"))?,
         heading: copy(alloc, under(headings, cells, b"DICT_HDNG"))?,
         status: copy(alloc, under(headings, cells, b"DICT_STAT"))?,
-        origin,
     };
     entries.with_unstated(alloc, entry)
 }
 
 /// The entries with the new ones of a group's rows.
-fn take_rows(
-    alloc: Global,
-    origin: Origin,
-    group: &Group,
-    dictionary: Dictionary,
-) -> Result<Dictionary, AllocError>
+fn take_rows(alloc: Global, group: &Group, dictionary: Dictionary) -> Result<Dictionary, AllocError>
     ensures groups { IfOk result (λ taken. taken.groups ≡ with_unstated same_group dictionary.groups (flat_map (group_entries group.now.headings) (group_contents group.now).rows)) }
-    ensures headings { IfOk result (λ taken. taken.headings ≡ with_unstated same_heading dictionary.headings (flat_map (heading_entries origin group.now.headings) (group_contents group.now).rows)) }
+    ensures headings { IfOk result (λ taken. taken.headings ≡ with_unstated same_heading dictionary.headings (flat_map (heading_entries group.now.headings) (group_contents group.now).rows)) }
 {
     let Dictionary {
         mut groups,
@@ -70,7 +63,7 @@ fn take_rows(
     for (i, row) in group.rows.as_slice().iter().enumerate() {
         let cells = row.cells.as_slice();
         groups = take_group_row(alloc, names, cells, groups)?;
-        headings = take_heading_row(alloc, origin, names, cells, headings)?;
+        headings = take_heading_row(alloc, names, cells, headings)?;
     }
     Ok(Dictionary { groups, headings })
 }
@@ -83,33 +76,27 @@ pub(crate) fn is_dict(group: &Group) -> bool
 }
 
 /// The entries with the new ones of a group, if it is DICT.
-fn take_dict(
-    alloc: Global,
-    origin: Origin,
-    group: &Group,
-    dictionary: Dictionary,
-) -> Result<Dictionary, AllocError>
+fn take_dict(alloc: Global, group: &Group, dictionary: Dictionary) -> Result<Dictionary, AllocError>
     ensures groups { IfOk result (λ taken. taken.groups ≡ with_unstated same_group dictionary.groups (group_entries_in (group_contents group.now))) }
-    ensures headings { IfOk result (λ taken. taken.headings ≡ with_unstated same_heading dictionary.headings (heading_entries_in origin (group_contents group.now))) }
+    ensures headings { IfOk result (λ taken. taken.headings ≡ with_unstated same_heading dictionary.headings (heading_entries_in (group_contents group.now))) }
 {
     if !is_dict(group) {
         return Ok(dictionary);
     }
-    take_rows(alloc, origin, group, dictionary)
+    take_rows(alloc, group, dictionary)
 }
 
 /// The entries with the new ones of the groups named DICT.
 pub(crate) fn take_contents(
     alloc: Global,
-    origin: Origin,
     found: &[Group],
     dictionary: Dictionary,
 ) -> Result<Dictionary, AllocError>
-    ensures { IfOk result (λ taken. taken ≡ with_entries origin dictionary (contents_of found.now)) }
+    ensures { IfOk result (λ taken. taken ≡ extended dictionary (contents_of found.now)) }
 {
     let mut taken = dictionary;
     for (i, group) in found.iter().enumerate() {
-        taken = take_dict(alloc, origin, group, taken)?;
+        taken = take_dict(alloc, group, taken)?;
     }
     Ok(taken)
 }
@@ -119,6 +106,6 @@ impl Dictionary {
     pub fn extend(&self, alloc: Global, scan: &Scan) -> Result<Dictionary, AllocError>
         ensures { IfOk result (λ dictionary. dictionary ≡ extended self.now (contents_of scan.now)) }
     {
-        take_contents(alloc, Origin::File, scan.groups(), self.copied(alloc)?)
+        take_contents(alloc, scan.groups(), self.copied(alloc)?)
     }
 }

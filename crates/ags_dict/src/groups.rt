@@ -1,6 +1,6 @@
 //! The entries for groups.
 
-ghost use Rattle.std.specs.Prelude.{◌≡◌, [], ◌∷◌, ◌++◌, IfOk, option_copied, slice_get};
+ghost use Rattle.std.specs.Prelude.{◌≡◌, [], ◌∷◌, ◌++◌, IfOk, length, option_copied, slice_get};
 ghost use Rattle.std.specs.List.{find};
 ghost use Rattle.ags_dict.specs.Entries.{same_group, with_unstated};
 ghost use Rattle.ags_dict.specs.Index.{is_for};
@@ -42,11 +42,11 @@ impl GroupEntries {
         }
     }
 
-    /// The entries in their order.
-    pub fn as_slice(&self) -> &[GroupEntry]
-        ensures { result.now ≡ self.now }
+    /// How many entries there are.
+    pub fn len(&self) -> usize
+        ensures { result ≡ length self.now }
     {
-        self.entries.as_slice()
+        self.entries.len()
     }
 
     /// The entry at a place.

@@ -1,6 +1,6 @@
 //! The entries for headings of groups.
 
-ghost use Rattle.std.specs.Prelude.{◌≡◌, [], ◌∷◌, ◌++◌, IfOk, option_copied, slice_get, map, not, ◌&&◌};
+ghost use Rattle.std.specs.Prelude.{◌≡◌, [], ◌∷◌, ◌++◌, IfOk, length, option_copied, slice_get, map, not, ◌&&◌};
 ghost use Rattle.std.specs.List.{filter, find, list_any};
 ghost use Rattle.ags_rows.specs.Contents.{place_in};
 ghost use Rattle.ags_dict.specs.Entries.{same_heading, with_unstated, of_group, heading_of};
@@ -45,6 +45,13 @@ impl HeadingEntries {
             by_heading: Places::new(alloc),
             ranks: Ranks::new(alloc),
         }
+    }
+
+    /// How many entries there are.
+    pub fn len(&self) -> usize
+        ensures { result ≡ length self.now }
+    {
+        self.entries.len()
     }
 
     /// The entry at a place.
@@ -153,7 +160,6 @@ impl HeadingEntries {
                 group: copy(alloc, entry.group.as_slice())?,
                 heading: copy(alloc, entry.heading.as_slice())?,
                 status: copy(alloc, entry.status.as_slice())?,
-                origin: entry.origin,
             };
             copied = copied.with(alloc, entry)?;
         }

@@ -14,6 +14,4 @@ mod reading;
 mod tests;
 
 pub use dictionary::Dictionary;
-pub use entries::{GroupEntry, HeadingEntry, Origin};
-pub use parts::has_part;
 pub use reading::DictError;

@@ -13,7 +13,7 @@ fn find_byte(text: &[u8], byte: u8) -> Option<usize>
 }
 
 /// Whether the text, cut at the separator, has this part.
-pub fn has_part(text: &[u8], separator: u8, part: &[u8]) -> bool
+pub(crate) fn has_part(text: &[u8], separator: u8, part: &[u8]) -> bool
     ensures { result ≡ has_part separator part.now text.now }
 {
     let mut rest = text;

@@ -11,7 +11,6 @@ ghost use Rattle.ags_dict.specs.Entries.{has_dict, has_dict_headings, is_incompl
 ghost use Rattle.ags_dict.specs.Reading.{IsDictionary, LacksDict, LacksHeading};
 
 use crate::dictionary::Dictionary;
-use crate::entries::Origin;
 use crate::extending::{is_dict, take_contents};
 use ags_rows::{Cell, Finding, Group, RowsError, Scan, Sequence};
 use std::alloc::{AllocError, Global};
@@ -119,6 +118,6 @@ impl Dictionary {
             return Err(DictError::MissingHeading);
         }
         let none = Dictionary::empty(alloc);
-        Ok(take_contents(alloc, Origin::Standard, groups, none)?)
+        Ok(take_contents(alloc, groups, none)?)
     }
 }

@@ -169,7 +169,6 @@ fn questions(rt: HostRuntime) -> Result<(), Fail> {
     assert_eq!(rt; mini.place_in_order(b"LNMC", b"SPEC_DPTH"), Some(3));
     assert!(rt; mini.elsewhere(b"SAMP", b"LOCA_ID"));
     assert!(rt; !mini.elsewhere(b"LNMC", b"LNMC_MC"));
-    assert!(rt; !mini.is_user_defined(b"LOCA", b"LOCA_ID"));
     Ok(())
 }
 
@@ -335,8 +334,6 @@ fn own_entries_come_last(rt: HostRuntime) -> Result<(), Fail> {
 fn own_entries_are_told(rt: HostRuntime) -> Result<(), Fail> {
     let extended = extended(rt.alloc(), OWN_DICT)?;
     assert_eq!(rt; extended.place_in_order(b"LOCA", b"LOCA_XTRA"), Some(5));
-    assert!(rt; extended.is_user_defined(b"LOCA", b"LOCA_XTRA"));
-    assert!(rt; !extended.is_user_defined(b"LOCA", b"LOCA_ID"));
     assert!(rt; !extended.elsewhere(b"LOCA", b"LOCA_XTRA"));
     assert!(rt; extended.elsewhere(b"SAMP", b"LOCA_XTRA"));
     Ok(())

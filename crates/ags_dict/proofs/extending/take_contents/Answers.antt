@@ -8,5 +8,5 @@ loop-i-preserved c =
     let group = c.index-found-i.result in
     record {
       groups = unstated_more same_group group_entries_in group_contents c.args.found.now c.loop-i.i group _ _ _ c.loop-i-test.true c.index-found-i.is c.loop-i.invariant.groups c.in_ok-taken.ensures.groups;
-      headings = unstated_more same_heading (heading_entries_in c.args.origin) group_contents c.args.found.now c.loop-i.i group _ _ _ c.loop-i-test.true c.index-found-i.is c.loop-i.invariant.headings c.in_ok-taken.ensures.headings;
+      headings = unstated_more same_heading heading_entries_in group_contents c.args.found.now c.loop-i.i group _ _ _ c.loop-i-test.true c.index-found-i.is c.loop-i.invariant.headings c.in_ok-taken.ensures.headings;
     }

@@ -6,5 +6,5 @@ use Rattle.ags_dict.proofs.extending.take_contents.Given as goal
 abbrev pub invariant-loop-i : goal.invariant-loop-i
 invariant-loop-i l = record {
   groups : l.taken.groups ≡ with_unstated same_group l.fn.dictionary.groups (flat_map group_entries_in (take l.i (map group_contents l.found)));
-  headings : l.taken.headings ≡ with_unstated same_heading l.fn.dictionary.headings (flat_map (heading_entries_in l.origin) (take l.i (map group_contents l.found)));
+  headings : l.taken.headings ≡ with_unstated same_heading l.fn.dictionary.headings (flat_map heading_entries_in (take l.i (map group_contents l.found)));
 }

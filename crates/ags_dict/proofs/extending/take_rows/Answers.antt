@@ -14,6 +14,6 @@ loop-i-preserved c =
     record {
       groups = unstated_more same_group (group_entries c.args.group.now.headings) fields_of rows c.loop-i.i row _ _ _ below is c.loop-i.invariant.groups
           (rw (c.as_slice-names.ensures, c.as_slice-cells.ensures) at c.in_ok-groups.ensures);
-      headings = unstated_more same_heading (heading_entries c.args.origin c.args.group.now.headings) fields_of rows c.loop-i.i row _ _ _ below is c.loop-i.invariant.headings
+      headings = unstated_more same_heading (heading_entries c.args.group.now.headings) fields_of rows c.loop-i.i row _ _ _ below is c.loop-i.invariant.headings
           (rw (c.as_slice-names.ensures, c.as_slice-cells.ensures) at c.in_ok-headings.ensures);
     }

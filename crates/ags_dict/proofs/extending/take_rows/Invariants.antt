@@ -6,5 +6,5 @@ use Rattle.ags_dict.proofs.extending.take_rows.Given as goal
 abbrev pub invariant-loop-i : goal.invariant-loop-i
 invariant-loop-i l = record {
   groups : l.groups ≡ with_unstated same_group l.fn.dictionary.groups (flat_map (group_entries l.group.headings) (take l.i (map fields_of l.group.rows)));
-  headings : l.headings ≡ with_unstated same_heading l.fn.dictionary.headings (flat_map (heading_entries l.origin l.group.headings) (take l.i (map fields_of l.group.rows)));
+  headings : l.headings ≡ with_unstated same_heading l.fn.dictionary.headings (flat_map (heading_entries l.group.headings) (take l.i (map fields_of l.group.rows)));
 }
