@@ -20,9 +20,8 @@ FRONT = (
 )
 
 
-def largest(size, text_of):
-    """The longest text of text_of(1), text_of(2), .. that has at most `size` bytes."""
-    sample = 1000
+def largest(size, text_of, sample=1000):
+    """The longest text of text_of(1), text_of(2), .. that has at most `size` bytes; its growth is measured at `sample`."""
     each = (len(text_of(2 * sample)) - len(text_of(sample))) / sample
     low, high = 1, int(size / each) + 1
     while len(text_of(high)) <= size:
@@ -84,4 +83,32 @@ def steps(size):
     return largest(size, lambda count: FRONT + holes(count) + group("ABCD", ["ABCD_ID"], [""], ["ID"], ([f"{n}"] for n in range(count))) + own)
 
 
-ALL = [flat, deep, ring, broken, short, steps]
+def own_dictionary(name, parent, headings, status):
+    """A DICT that gives a group, its parent, and its headings, all of one status."""
+    return group("DICT", ["DICT_TYPE", "DICT_GRP", "DICT_HDNG", "DICT_STAT", "DICT_PGRP"], [""] * 5, ["X"] * 5,
+                 [["GROUP", name, "", "", parent]] + [["HEADING", name, heading, status, ""] for heading in headings])
+
+
+def of_width(width, status, code, entries):
+    """A group of the file's own DICT with that many headings of one status and type; entries(n) are those of row n."""
+    headings = [f"WIDE_{place:04X}" for place in range(width)]
+    own = own_dictionary("WIDE", "", headings, status)
+    return lambda count: FRONT + group("WIDE", headings, [""] * width, [code] * width, (entries(n) for n in range(count))) + own
+
+
+def narrow(size):
+    """Many rows under 20 headings of the file's own DICT, all KEY."""
+    return largest(size, of_width(20, "KEY", "X", lambda n: [f"{n}"] + ["1"] * 19))
+
+
+def wide(size):
+    """A few rows under 20,000 headings of the file's own DICT, all KEY."""
+    return largest(size, of_width(20000, "KEY", "X", lambda n: [f"{n}"] + ["1"] * 19999), 2)
+
+
+def wide_links(size):
+    """A few hundred rows under 5,000 headings of type RL: in every tenth a link to the project."""
+    return largest(size, of_width(5000, "OTHER", "RL", lambda n: ["PROJ|P7" if place % 10 == n % 10 else "" for place in range(5000)]), 10)
+
+
+ALL = [flat, deep, ring, broken, short, steps, narrow, wide, wide_links]

@@ -12,7 +12,6 @@ use Rattle.ags_rows.specs.Contents.{Contents, group_contents, contents_of, place
 use Rattle.ags_dict.specs.Entries.{Entries, parent_of, is_dict}
 use Rattle.ags_check.specs.Header.{HasGroup, LacksParentGroup}
 use Rattle.ags_check.specs.HeaderPhase.{unknown_code}
-use Rattle.ags_check.specs.Places.{place_at, AreFirst}
 use Rattle.ags_check.proofs.Naming.{contains_at, at_contained}
 use Rattle.ags_check.proofs.HeaderRules.{placed, has_place, place_of}
 
@@ -28,7 +27,7 @@ map_at f xs k y at = some_mapped f (slice_get xs k) y (sym (slice_get-map f xs k
 pub at_map : {X Y : Type 0} (f : X → Y) (xs : List X) (k : ℕ) (x : X) → At xs k x → At (map f xs) k (f x)
 at_map f xs k x at = slice_get-map f xs k ∙ ap (option_map f) at
 
--- ---- the index of names
+-- ---- the names of groups
 
 abbrev pub name_of : Group → List ℕ
 name_of group = group.name
@@ -48,12 +47,12 @@ is_some_true : (place : Option ℕ) → is_some place ≡ true → (i : ℕ) × 
 is_some_true None e = absurd (true≢false (sym e))
 is_some_true (Some i) e = (i, refl)
 
--- the index has a name where a group has it
-pub named : (held : _) (groups : List Group) (name : List ℕ) → AreFirst held (map name_of groups) → IsTrue (is_some (place_at held name)) ↔ HasGroup (contents_of groups) name
-named held groups name first = (
-  λ e. let k = is_some_true (place_at held name) e in contains_name groups name (has_place (map name_of groups) name k.0 (sym (first name) ∙ k.1)),
+-- a name has a place where a group has it
+pub named : (groups : List Group) (name : List ℕ) → IsTrue (is_some (place_in (map name_of groups) name)) ↔ HasGroup (contents_of groups) name
+named groups name = (
+  λ e. let k = is_some_true (place_in (map name_of groups) name) e in contains_name groups name (has_place (map name_of groups) name k.0 k.1),
   λ h. elim (place_of (place_in (map name_of groups) name)) [
-    | inl k ↦ ap is_some (first name ∙ k.1)
+    | inl k ↦ ap is_some k.1
     | inr none ↦ absurd (placed (map name_of groups) name (name_contained groups name h) none)
   ],
 )

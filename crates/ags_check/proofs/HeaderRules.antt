@@ -16,7 +16,6 @@ use Rattle.ags_rows.specs.Contents.{place_in, group_contents}
 use Rattle.ags_dict.specs.Entries.{Entries, order_of, keys_of, required_of}
 use Rattle.ags_check.specs.Header.{IsUnknownHeading, IsOvertaken, IsMisplaced, LacksKey, LacksRequired, IsMisnamed}
 use Rattle.ags_check.specs.HeaderSteps.{IsMisnamedBy}
-use Rattle.ags_check.specs.Places.{place_at, AreFirst}
 use Rattle.ags_check.specs.Placing.{AtNames, AtHeading}
 use Rattle.ags_check.proofs.Naming.{contains_at, at_contained, at_heading}
 
@@ -84,35 +83,35 @@ misplaced_rule entries group code names old new same x =
     x
 
 -- a heading of the list that is not in the row
-lacking : (group : Group) (code : Code) (held : _) (names listed : List (List ℕ)) (Lacks : List ℕ → Type 0) (old new : List Finding) → names ≡ listed
-    → AreFirst held group.headings → ((name : List ℕ) → Contains listed name → (Contains group.headings name → ⊥) → Lacks name)
+lacking : (group : Group) (code : Code) (names listed : List (List ℕ)) (Lacks : List ℕ → Type 0) (old new : List Finding) → names ≡ listed
+    → ((name : List ℕ) → Contains listed name → (Contains group.headings name → ⊥) → Lacks name)
     → ((name : List ℕ) → Lacks name → Contains listed name × (Contains group.headings name → ⊥))
-    → Adds (AtNames group.heading_line code names (λ _ name. place_at held name ≡ None)) old new → Adds (AtHeading code Lacks group) old new
-lacking group code held names listed Lacks old new same first to from x =
-    at_heading names group code (λ _ name. place_at held name ≡ None) Lacks old new
+    → Adds (AtNames group.heading_line code names (λ _ name. place_in group.headings name ≡ None)) old new → Adds (AtHeading code Lacks group) old new
+lacking group code names listed Lacks old new same to from x =
+    at_heading names group code (λ _ name. place_in group.headings name ≡ None) Lacks old new
     (λ place name at none.
     to name (subst (λ (l : List (List ℕ)). Contains l name) same (contains_at names place name at))
-    (λ h. placed group.headings name h (sym (first name) ∙ none)))
+    (λ h. placed group.headings name h none))
     (λ name rule.
     let k = from name rule in
     let h = subst (λ (l : List (List ℕ)). Contains l name) (sym same) k.0 in
-    (h.0, at_contained names name h, first name ∙ unplaced group.headings name k.1))
+    (h.0, at_contained names name h, unplaced group.headings name k.1))
     x
 
-pub key_rule : (entries : Entries) (group : Group) (code : Code) (held : _) (names : List (List ℕ)) (old new : List Finding) → names ≡ keys_of entries group.name
-    → AreFirst held group.headings → Adds (AtNames group.heading_line code names (λ _ name. place_at held name ≡ None)) old new
+pub key_rule : (entries : Entries) (group : Group) (code : Code) (names : List (List ℕ)) (old new : List Finding) → names ≡ keys_of entries group.name
+    → Adds (AtNames group.heading_line code names (λ _ name. place_in group.headings name ≡ None)) old new
     → Adds (AtHeading code (LacksKey entries (group_contents group)) group) old new
-key_rule entries group code held names old new same first x =
-    lacking group code held names (keys_of entries group.name) (LacksKey entries (group_contents group)) old new same first
+key_rule entries group code names old new same x =
+    lacking group code names (keys_of entries group.name) (LacksKey entries (group_contents group)) old new same
     (λ name h none. record { key = h; absent = none })
     (λ name rule. (rule.key, rule.absent))
     x
 
-pub required_rule : (entries : Entries) (group : Group) (code : Code) (held : _) (names : List (List ℕ)) (old new : List Finding) → names ≡ required_of entries group.name
-    → AreFirst held group.headings → Adds (AtNames group.heading_line code names (λ _ name. place_at held name ≡ None)) old new
+pub required_rule : (entries : Entries) (group : Group) (code : Code) (names : List (List ℕ)) (old new : List Finding) → names ≡ required_of entries group.name
+    → Adds (AtNames group.heading_line code names (λ _ name. place_in group.headings name ≡ None)) old new
     → Adds (AtHeading code (LacksRequired entries (group_contents group)) group) old new
-required_rule entries group code held names old new same first x =
-    lacking group code held names (required_of entries group.name) (LacksRequired entries (group_contents group)) old new same first
+required_rule entries group code names old new same x =
+    lacking group code names (required_of entries group.name) (LacksRequired entries (group_contents group)) old new same
     (λ name h none. record { required = h; absent = none })
     (λ name rule. (rule.required, rule.absent))
     x

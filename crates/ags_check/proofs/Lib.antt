@@ -1,4 +1,3 @@
-pub mod FirstPlaces
 pub mod Naming
 pub mod Fronts
 pub mod Ranks

@@ -8,14 +8,13 @@ use Rattle.std.proofs.lemmas.List.Concat.{flat_map-append}
 use Rattle.std.proofs.lemmas.List.Elements.{Contains-append_left, Contains-append_right, Contains-append_cases}
 use Rattle.std.proofs.lemmas.List.Folds.{Any-from_list_any, list_any-from_Any}
 use Rattle.std.proofs.lemmas.Slice.Eq.{bytes_eq-Decides}
-use Rattle.ags_rows.specs.Contents.{Contents, under, group_contents, contents_of}
+use Rattle.ags_rows.specs.Contents.{Contents, under, group_contents, contents_of, place_in}
 use Rattle.ags_rows.specs.declared.rows.Group.{Group}
 use Rattle.ags_rows.proofs.Collecting.{none_is}
 use Rattle.ags_links.specs.RecordLinks.{separators_of}
 use Rattle.ags_links.proofs.Members.{contains_head, contains_tail, contains_cons, contains_map, map_contains}
 use Rattle.ags_dict.specs.Parts.{parts_at}
 use Rattle.ags_check.specs.Listing.{read_rows, listed_texts, abbreviation_in, abbreviations, PairSet, has_pair, is_pair, HasPairs, lacks_part}
-use Rattle.ags_check.specs.Places.{place_at, AreFirst}
 use Rattle.ags_check.specs.RowRules.{IsListed, IsUnlisted, IsAbbreviation, IsUnlistedAbbreviation}
 use Rattle.ags_check.proofs.HeaderRules.{placed, unplaced}
 
@@ -79,11 +78,11 @@ is_listed file name heading text h =
     row_read name (λ headings fields. under headings fields heading) file text (h.group, h.fields, h.of_file, h.named, h.row, h.entry)
 
 -- what is not found is not listed
-pub unlisted_by : (file : List Contents) (name heading text : List ℕ) (held : _) (b : Bool) → AreFirst held (listed_texts file name heading)
-    → IsTrue b ↔ (text ≢ []) × (place_at held text ≡ None) → IsTrue b ↔ IsUnlisted file name heading text
-unlisted_by file name heading text held b first means = (
-  λ e. ((means.0 e).0, λ h. placed (listed_texts file name heading) text (is_listed file name heading text h) (sym (first text) ∙ (means.0 e).1)),
-  λ h. means.1 (h.0, first text ∙ unplaced (listed_texts file name heading) text (λ k. h.1 (listed_is file name heading text k))),
+pub unlisted_by : (file : List Contents) (name heading text : List ℕ) (texts : List (List ℕ)) (b : Bool) → texts ≡ listed_texts file name heading
+    → IsTrue b ↔ (text ≢ []) × (place_in texts text ≡ None) → IsTrue b ↔ IsUnlisted file name heading text
+unlisted_by file name heading text texts b same means = (
+  λ e. ((means.0 e).0, λ h. placed (listed_texts file name heading) text (is_listed file name heading text h) (ap (λ (l : List (List ℕ)). place_in l text) (sym same) ∙ (means.0 e).1)),
+  λ h. means.1 (h.0, ap (λ (l : List (List ℕ)). place_in l text) same ∙ unplaced (listed_texts file name heading) text (λ k. h.1 (listed_is file name heading text k))),
 )
 
 -- ---- abbreviations

@@ -6,6 +6,5 @@ pub mod RowRules
 pub mod RowPhase
 pub mod Columns
 pub mod Listing
-pub mod Places
 pub mod Findings
 pub mod Laws

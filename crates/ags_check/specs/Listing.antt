@@ -4,13 +4,11 @@ use Rattle.std.specs.Borrow.{Bor}
 use Rattle.std.specs.List.{list_any}
 use Rattle.std.specs.Ordering.{nat_cmp, ordering_then}
 use Rattle.std.specs.Cmp.Lexicographic.{slice_cmp}
-use Rattle.std.specs.BTreeMap.{BTreeMap}
 use Rattle.std.specs.BTreeSet.{BTreeSet, contains_by}
 use Rattle.std.specs.Str.{bytes_eq}
 use Rattle.ags_rows.specs.Contents.{Contents, under}
 use Rattle.ags_dict.specs.Parts.{parts_at}
 use Rattle.ags_links.specs.RecordLinks.{separators_of}
-use Rattle.ags_check.specs.Places.{AreFirst}
 
 -- ---- the lists
 
@@ -56,9 +54,9 @@ lacks_part held separator heading text = list_any (λ part. not (has_pair held h
 
 -- ---- all that is looked up
 
-pub record AreListed (file : List Contents) (unit_places type_places file_set_places : BTreeMap (Bor (List ℕ)) ℕ) (pair_set : PairSet) (separator : ℕ) : Type 0 where
-  pub units : AreFirst unit_places (listed_texts file (codes "UNIT") (codes "UNIT_UNIT"))
-  pub types : AreFirst type_places (listed_texts file (codes "TYPE") (codes "TYPE_TYPE"))
-  pub file_sets : AreFirst file_set_places (listed_texts file (codes "FILE") (codes "FILE_FSET"))
+pub record AreListed (file : List Contents) (unit_texts type_texts file_set_texts : List (List ℕ)) (pair_set : PairSet) (separator : ℕ) : Type 0 where
+  pub units : unit_texts ≡ listed_texts file (codes "UNIT") (codes "UNIT_UNIT")
+  pub types : type_texts ≡ listed_texts file (codes "TYPE") (codes "TYPE_TYPE")
+  pub file_sets : file_set_texts ≡ listed_texts file (codes "FILE") (codes "FILE_FSET")
   pub pairs : HasPairs pair_set (abbreviations file)
   pub concatenator : separator ≡ (separators_of file).concatenator

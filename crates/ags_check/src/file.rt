@@ -4,8 +4,7 @@ ghost use Rattle.std.specs.Prelude.{◌≡◌, ◌↔◌, IsTrue, IfOk, map};
 ghost use Rattle.ags_rows.specs.Contents.{contents_of};
 ghost use Rattle.ags_check.specs.Header.{HasGroup};
 
-use crate::places::Places;
-use ags_rows::Group;
+use ags_rows::{Group, Places};
 use std::alloc::{AllocError, Global};
 use std::marker::Model;
 
@@ -17,15 +16,14 @@ pub struct File<'f, 'a> {
 }
 
 impl<'f, 'a> Model for File<'f, 'a> {
-    ghost use Rattle.std.specs.Prelude.{List, map};
+    ghost use Rattle.std.specs.Prelude.{◌≡◌, List, map};
     ghost use Rattle.ags_rows.specs.declared.rows.Group.{Group};
-    ghost use Rattle.ags_check.specs.Places.{AreFirst};
 
     ghost Value = { List Group };
 
     ghost view = { λ f. f.groups.now };
 
-    ghost invariant = { λ f. AreFirst f.names.held (map (λ group. group.name) f.groups.now) };
+    ghost invariant = { λ f. f.names ≡ map (λ group. group.name) f.groups.now };
 }
 
 /// The names of groups.
@@ -45,7 +43,7 @@ impl<'f, 'a> File<'f, 'a> {
         ensures { IfOk result (λ file. file ≡ groups.now) }
     {
         let names = names_of(alloc, groups)?;
-        let names = Places::of(alloc, names.as_slice())?;
+        let names = Places::of(alloc, names)?;
         Ok(File { groups, names })
     }
 

@@ -15,11 +15,10 @@ use crate::file::File;
 use crate::header::groups::{
     note_absent_group, note_lacking_parent, note_unknown_group, unknown_code,
 };
-use crate::header::headings::{names_of, note_absent, note_misnamed, note_misplaced, note_unknown};
+use crate::header::headings::{note_absent, note_misnamed, note_misplaced, note_unknown};
 use crate::header::only_rows::{note_further_rows, note_long_sign};
-use crate::places::Places;
 use ags_dict::Dictionary;
-use ags_rows::{Code, Finding, Group, Sequence, in_order};
+use ags_rows::{Code, Finding, Group, Places, Sequence, in_order};
 use std::alloc::{AllocError, Global};
 
 /// What the HEADING row of a group breaks, where the dictionary knows the group.
@@ -35,9 +34,8 @@ fn note_headings(
 {
     let name = group.name.as_slice();
     let line = group.heading_line;
-    let names = names_of(alloc, group.headings.as_slice())?;
-    let headings = names.as_slice();
-    let row = Places::of(alloc, headings)?;
+    let row = Places::of_cells(alloc, group.headings.as_slice())?;
+    let headings = row.names();
     let keys = extended.keys(alloc, name)?;
     let required = extended.required(alloc, name)?;
     note_unknown(alloc, extended, name, headings, line, code, findings)?;

@@ -6,7 +6,6 @@ mod clean;
 mod file;
 mod header;
 pub mod laws;
-mod places;
 mod rows;
 #[cfg(test)]
 mod tests;

@@ -52,3 +52,7 @@ IsLinkRow entries separators heading r s = (part : List ℕ) × IsPartOf separat
 -- the part names row n of the file
 abbrev pub NamesAt : Entries → Separators → List DataRow → List ℕ → ℕ → Type 0
 NamesAt entries separators rows part n = (s : DataRow) × IsRow rows n s × Names entries separators.delimiter part s
+
+-- some part of what stands in the row under the heading names no row
+abbrev pub IsBroken : Entries → Separators → List DataRow → DataRow → List ℕ → Type 0
+IsBroken entries separators rows row heading = (part : List ℕ) × IsPartOf separators row heading part × ((n : ℕ) → NamesAt entries separators rows part n → ⊥)

@@ -2,7 +2,7 @@
 use Rattle.std.specs.Prelude.{ℕ, List}
 use Rattle.ags_dict.specs.Entries.{Entries}
 use Rattle.ags_links.specs.DataRows.{DataRow, IsRow, ListsRows}
-use Rattle.ags_links.specs.RecordLinks.{IsPartOf, IsLinkRow, NamesAt}
+use Rattle.ags_links.specs.RecordLinks.{IsPartOf, IsLinkRow, NamesAt, IsBroken}
 use Rattle.ags_links.specs.declared.separators.Separators.{Separators}
 use Rattle.ags_links.specs.declared.index.Targets.{Targets}
 use Rattle.ags_links.specs.declared.index.Targets.TheVariants.{Rows, Broken}
@@ -12,5 +12,4 @@ abbrev pub AreTargets : Entries → Separators → List DataRow → DataRow → 
 AreTargets entries separators rows r heading (Rows found) =
     ListsRows found.items (λ m. (s : DataRow) × IsRow rows m s × IsLinkRow entries separators heading r s)
     × ((part : List ℕ) → IsPartOf separators r heading part → (m : ℕ) × NamesAt entries separators rows part m)
-AreTargets entries separators rows r heading Broken =
-    (part : List ℕ) × IsPartOf separators r heading part × ((m : ℕ) → NamesAt entries separators rows part m → ⊥)
+AreTargets entries separators rows r heading Broken = IsBroken entries separators rows r heading

@@ -128,6 +128,12 @@ fn broken_links_step_by_their_sound_parts(rt: HostRuntime) -> Result<(), Fail> {
     Ok(())
 }
 
+#[test]
+fn a_null_names_no_row(rt: HostRuntime) -> Result<(), Fail> {
+    assert!(rt; linked(&rt, FILE_C, 10, b"SAMP_LINK")?.is_none());
+    Ok(())
+}
+
 /// What row 9 of the third file names with another record link, as text.
 fn named_by(rt: &(impl Abort + AllocGlobal), link: &str) -> Result<String, Fail> {
     let file = edited(rt, FILE_C, b"SAMP|BH1|3.00|S9", link.as_bytes())?;

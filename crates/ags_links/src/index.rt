@@ -62,7 +62,7 @@ pub(crate) fn each_once(numbers: Vec<u32>) -> Vec<u32>
 impl<'s, 'f, 'd> Index<'s, 'f, 'd> {
     ghost use Rattle.ags_dict.specs.Parts.{parts_at};
     ghost use Rattle.ags_links.specs.DataRows.{DataRow, data_rows, ListsRows, IsRow, entry_of};
-    ghost use Rattle.ags_links.specs.RecordLinks.{separators_of};
+    ghost use Rattle.ags_links.specs.RecordLinks.{separators_of, IsBroken};
     ghost use Rattle.ags_links.specs.Families.{IsFamily};
     ghost use Rattle.ags_links.specs.Placing.{row_of};
     ghost use Rattle.ags_links.specs.Indexing.{rows_in, IsParentAt, IsFirstOfKeyAt, IsFileRowAt, NamesAt, AreTargetsAt};
@@ -195,6 +195,22 @@ impl<'s, 'f, 'd> Index<'s, 'f, 'd> {
             self.separators.concatenator,
             entry(kept, heading),
         )
+    }
+
+    /// Whether some part of what stands in the row under a heading, read as a record link (Rule 11), names no row.
+    /// A heading that the group does not have reads as null.
+    pub fn has_broken_part(&self, row: u32, heading: &[u8]) -> Result<bool, AllocError>
+        requires { row < length (rows_in self.now) }
+        ensures { IfOk result (λ broken. (r : DataRow) → IsRow (rows_in self.now) row r → IsTrue broken ↔ IsBroken self.now.entries (separators_of self.now.contents) (rows_in self.now) r heading.now) }
+    {
+        let parts = self.link_parts(row, heading)?;
+        for part in &parts {
+            let rows = self.named(part)?;
+            if rows.is_empty() {
+                return Ok(true);
+            }
+        }
+        Ok(false)
     }
 
     /// What stands in the row under a heading, read as a record link (Rule 11): the rows that its parts name,

@@ -1,31 +1,17 @@
 //! What the HEADING row of a group breaks.
 
-ghost use Rattle.std.specs.Prelude.{◌≡◌, ◌↔◌, ◌∷◌, ◌++◌, ℕ, List, IsTrue, IfOk, OnOk, Option, None, IsSome, MatchOption, Contains, map, false};
+ghost use Rattle.std.specs.Prelude.{◌≡◌, ◌↔◌, ◌++◌, ℕ, List, IsTrue, OnOk, None, MatchOption, map};
 ghost use Rattle.ags_rows.specs.declared.codes.Code.TheVariants.{Rule7, Rule19b};
 ghost use Rattle.ags_rows.specs.Collecting.{Adds};
-ghost use Rattle.ags_rows.specs.Bytes.{low_line};
 ghost use Rattle.ags_rows.specs.Contents.{place_in};
 ghost use Rattle.ags_dict.specs.Entries.{order_of};
-ghost use Rattle.ags_check.specs.Places.{place_at};
 ghost use Rattle.ags_check.specs.Placing.{AtNames};
 ghost use Rattle.ags_check.specs.Header.{IsOvertaken, BeginsWithName};
 ghost use Rattle.ags_check.specs.HeaderSteps.{later, is_behind, IsMisnamedBy};
 
-use crate::places::Places;
 use ags_dict::Dictionary;
-use ags_rows::{Cell, Code, Finding, note};
+use ags_rows::{Code, Finding, Places, note};
 use std::alloc::{AllocError, Global};
-
-/// The names in a row's cells.
-pub fn names_of<'c>(alloc: Global, cells: &'c [Cell]) -> Result<Vec<&'c [u8]>, AllocError>
-    ensures { IfOk result (λ names. map (λ name. name.now) names.items ≡ cells.now) }
-{
-    let mut names = Vec::new(alloc);
-    for (i, cell) in cells.iter().enumerate() {
-        names.push(cell.as_slice())?;
-    }
-    Ok(names)
-}
 
 /// Rules 9 and 18: notes the headings that are not in the group's order.
 pub fn note_unknown(
@@ -55,7 +41,7 @@ pub fn note_absent(
     code: Code,
     findings: &mut Vec<Finding>,
 ) -> Result<(), AllocError>
-    ensures { OnOk result (Adds (AtNames line code (map (λ name. name.now) listed.now) (λ _ name. place_at row.now.held name ≡ None)) findings.old.items findings.new.items) }
+    ensures { OnOk result (Adds (AtNames line code (map (λ name. name.now) listed.now) (λ _ name. place_in row.now name ≡ None)) findings.old.items findings.new.items) }
 {
     for (i, heading) in listed.iter().enumerate() {
         let is_absent = row.find(heading).is_none();

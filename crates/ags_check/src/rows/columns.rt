@@ -2,12 +2,10 @@
 
 ghost use Rattle.std.specs.Prelude.{◌≡◌, ◌↔◌, IsTrue, IfOk, map};
 ghost use Rattle.ags_rows.specs.Contents.{field_at, group_contents};
-ghost use Rattle.ags_check.specs.Places.{AreFirst};
 ghost use Rattle.ags_check.specs.Columns.{IsColumn, AreColumns};
 
-use crate::places::Places;
 use ags_cells::CellType;
-use ags_rows::{Cell, Group};
+use ags_rows::{Cell, Group, Places};
 use std::alloc::{AllocError, Global};
 
 /// A heading: where it stands, and its unit and type.
@@ -39,7 +37,7 @@ pub fn is_of_type(column: &Column, code: &[u8]) -> bool
 
 /// What the group says of a heading.
 fn column_of<'a>(group: &'a Group<'_>, places: &Places<'_>, heading: &'a [u8]) -> Column<'a>
-    requires { AreFirst places.now.held group.now.headings }
+    requires { places.now ≡ group.now.headings }
     ensures heading { result.heading.now ≡ heading.now }
     ensures column { IsColumn (group_contents group.now) result }
 {
@@ -61,7 +59,7 @@ pub fn columns<'a>(
     places: &Places<'_>,
     headings: &[&'a [u8]],
 ) -> Result<Vec<Column<'a>>, AllocError>
-    requires { AreFirst places.now.held group.now.headings }
+    requires { places.now ≡ group.now.headings }
     ensures { IfOk result (λ columns. AreColumns (group_contents group.now) (map (λ heading. heading.now) headings.now) columns.items) }
 {
     let mut columns = Vec::new(alloc);

@@ -2,15 +2,13 @@
 
 ghost use Rattle.std.specs.Prelude.{◌≡◌, ◌≢◌, ◌++◌, ◌↔◌, [], None, true, false, IsTrue, IfOk, OnOk, map, codes, if◌then◌else◌};
 ghost use Rattle.std.specs.Str.{bytes_eq};
-ghost use Rattle.ags_check.specs.Places.{place_at, AreFirst};
-ghost use Rattle.ags_rows.specs.Contents.{under, group_contents, contents_of};
+ghost use Rattle.ags_rows.specs.Contents.{place_in, under, group_contents, contents_of};
 ghost use Rattle.ags_check.specs.Listing.{listed_texts, abbreviation_in, abbreviations, pair_texts, has_pair, lacks_part};
 ghost use Rattle.ags_check.specs.RowRules.{IsUnlisted, IsUnlistedUnit, IsUnlistedType, IsUnlistedAbbreviation};
 
-use crate::places::Places;
 use crate::rows::abbreviations::Abbreviations;
 use ags_links::separators_in;
-use ags_rows::{Group, under};
+use ags_rows::{Group, Places, under};
 use std::alloc::{AllocError, Global};
 use std::marker::Model;
 
@@ -34,7 +32,7 @@ impl<'a> Model for Listed<'a> {
 
     ghost view = { λ l. contents_of l.groups.now };
 
-    ghost invariant = { λ l. AreListed (contents_of l.groups.now) l.units.held l.types.held l.file_sets.held l.abbreviations.held l.concatenator };
+    ghost invariant = { λ l. AreListed (contents_of l.groups.now) l.units l.types l.file_sets l.abbreviations.held l.concatenator };
 }
 
 /// Adds what stands under a heading in the rows of a group.
@@ -128,15 +126,15 @@ fn places<'a>(
     name: &[u8],
     heading: &[u8],
 ) -> Result<Places<'a>, AllocError>
-    ensures { IfOk result (λ places. AreFirst places.held (listed_texts (contents_of groups.now) name.now heading.now)) }
+    ensures { IfOk result (λ places. places ≡ listed_texts (contents_of groups.now) name.now heading.now) }
 {
     let texts = texts(alloc, groups, name, heading)?;
-    Places::of(alloc, texts.as_slice())
+    Places::of(alloc, texts)
 }
 
 /// Whether a text is not null, and is not among these.
 fn is_unlisted(places: &Places, text: &[u8]) -> bool
-    ensures { IsTrue result ↔ (text.now ≢ []) × (place_at places.now.held text.now ≡ None) }
+    ensures { IsTrue result ↔ (text.now ≢ []) × (place_in places.now text.now ≡ None) }
 {
     !text.is_empty() && places.find(text).is_none()
 }

@@ -7,13 +7,11 @@ ghost use Rattle.ags_links.specs.DataRows.{DataRow, IsRow, row_in};
 ghost use Rattle.ags_links.specs.Indexing.{rows_in};
 ghost use Rattle.ags_check.specs.RowRules.{RepeatsKey, LacksParentRow, IsUnlistedFileSet};
 
-use crate::header::headings::names_of;
-use crate::places::Places;
 use crate::rows::columns::{Column, columns, field};
 use crate::rows::listed::Listed;
 use ags_dict::Dictionary;
 use ags_links::Index;
-use ags_rows::{Cell, Group, Row, is_definition};
+use ags_rows::{Cell, Group, Places, Row, is_definition};
 use std::alloc::{AllocError, Global};
 use std::marker::Model;
 
@@ -58,10 +56,9 @@ impl<'a> Outline<'a> {
         ensures { IfOk result (λ outline. outline ≡ record { group = group.now; entries = dictionary.now }) }
     {
         let name = group.name.as_slice();
-        let headings = names_of(alloc, group.headings.as_slice())?;
-        let places = Places::of(alloc, headings.as_slice())?;
+        let places = Places::of_cells(alloc, group.headings.as_slice())?;
         let required = dictionary.required(alloc, name)?;
-        let own_columns = columns(alloc, group, &places, headings.as_slice())?;
+        let own_columns = columns(alloc, group, &places, places.names())?;
         let required_columns = columns(alloc, group, &places, required.as_slice())?;
         let has_keys = has_keys(alloc, dictionary, name)?;
         Ok(Outline {

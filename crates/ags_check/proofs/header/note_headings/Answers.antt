@@ -1,10 +1,9 @@
-use Rattle.std.proofs.Common.{◌≡◌, [], ◌∷◌, ap, subst, ◌∙◌}
+use Rattle.std.proofs.Common.{◌≡◌, [], ◌∷◌, ap, ◌∙◌}
 use Rattle.ags_rows.specs.declared.codes.Code.TheVariants.{Rule7, Rule10a, Rule10b, Rule19b}
 use Rattle.ags_rows.specs.Contents.{group_contents}
 use Rattle.ags_rows.proofs.Collecting.{one_more, one_none}
 use Rattle.ags_dict.specs.Entries.{keys_of, required_of}
 use Rattle.ags_check.specs.Header.{IsMisplaced, LacksKey, LacksRequired, IsMisnamed}
-use Rattle.ags_check.specs.Places.{AreFirst}
 use Rattle.ags_check.specs.Placing.{AtHeading}
 use Rattle.ags_check.proofs.Naming.{texts}
 use Rattle.ags_check.proofs.HeaderRules.{unknown_rule, misplaced_rule, key_rule, required_rule, misnamed_rule}
@@ -17,9 +16,8 @@ returns c =
     let group = c.args.group.now in
     let here = group_contents group in
     let name = c.as_slice-name.ensures in
-    let held = c.in_ok-row.row.held in
-    let headings : texts c.as_slice-headings.result.now ≡ group.headings = ap texts c.as_slice-headings.ensures.value ∙ c.in_ok-names.ensures ∙ c.as_slice.ensures in
-    let row : AreFirst held group.headings = subst (AreFirst held) headings c.in_ok-row.ensures in
+    let row = c.in_ok-row.ensures ∙ c.as_slice.ensures in
+    let headings : texts c.names-headings.result.now ≡ group.headings = c.names-headings.ensures ∙ row in
     let keys = ap texts c.as_slice-2.ensures.value ∙ c.in_ok-keys.ensures ∙ ap (keys_of entries) name in
     let required = ap texts c.as_slice-3.ensures.value ∙ c.in_ok-required.ensures ∙ ap (required_of entries) name in
     let a = c.args.findings.now.items in
@@ -34,6 +32,6 @@ returns c =
     let misnamed = AtHeading Rule19b (IsMisnamed given entries here) group in
     one_more _ (misplaced ∷ key ∷ need ∷ misnamed ∷ []) a b g (unknown_rule entries group c.args.code _ a b headings (rw c.as_slice-name.ensures at c.in_ok-note_unknown.ensures))
     (one_more misplaced (key ∷ need ∷ misnamed ∷ []) b d g (misplaced_rule entries group Rule7 _ b d headings (rw c.as_slice-name.ensures at c.in_ok-note_misplaced.ensures))
-    (one_more key (need ∷ misnamed ∷ []) d e g (key_rule entries group Rule10a held _ d e keys row c.in_ok-note_absent.ensures)
-    (one_more need (misnamed ∷ []) e f g (required_rule entries group Rule10b held _ e f required row c.in_ok-note_absent-2.ensures)
+    (one_more key (need ∷ misnamed ∷ []) d e g (key_rule entries group Rule10a _ d e keys (rw row at c.in_ok-note_absent.ensures))
+    (one_more need (misnamed ∷ []) e f g (required_rule entries group Rule10b _ e f required (rw row at c.in_ok-note_absent-2.ensures))
     (one_more misnamed [] f g g (misnamed_rule given entries group Rule19b _ f g headings (rw c.as_slice-name.ensures at c.in_ok-note_misnamed.ensures)) (one_none g)))))

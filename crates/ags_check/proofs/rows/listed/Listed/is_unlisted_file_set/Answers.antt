@@ -8,5 +8,5 @@ use Rattle.ags_check.proofs.rows.listed.Listed.is_unlisted_file_set.Goals as goa
 pub returns : goal.returns
 returns c =
     subst (λ (file : List Contents). IsTrue c.is_unlisted.result ↔ IsUnlisted file (codes "FILE") (codes "FILE_FSET") c.args.file_set.now) c.self.view_is
-    (unlisted_by (contents_of c.self.inside.groups.now) (codes "FILE") (codes "FILE_FSET") c.args.file_set.now c.self.inside.file_sets.held c.is_unlisted.result
+    (unlisted_by (contents_of c.self.inside.groups.now) (codes "FILE") (codes "FILE_FSET") c.args.file_set.now c.self.inside.file_sets c.is_unlisted.result
     c.self.invariant.file_sets c.is_unlisted.ensures)

@@ -8,5 +8,5 @@ use Rattle.ags_check.proofs.rows.listed.Listed.is_unlisted_type.Goals as goal
 pub returns : goal.returns
 returns c =
     subst (λ (file : List Contents). IsTrue c.is_unlisted.result ↔ IsUnlisted file (codes "TYPE") (codes "TYPE_TYPE") c.args.code.now) c.self.view_is
-    (unlisted_by (contents_of c.self.inside.groups.now) (codes "TYPE") (codes "TYPE_TYPE") c.args.code.now c.self.inside.types.held c.is_unlisted.result
+    (unlisted_by (contents_of c.self.inside.groups.now) (codes "TYPE") (codes "TYPE_TYPE") c.args.code.now c.self.inside.types c.is_unlisted.result
     c.self.invariant.types c.is_unlisted.ensures)

@@ -8,5 +8,5 @@ use Rattle.ags_check.proofs.rows.listed.Listed.is_unlisted_unit.Goals as goal
 pub returns : goal.returns
 returns c =
     subst (λ (file : List Contents). IsTrue c.is_unlisted.result ↔ IsUnlisted file (codes "UNIT") (codes "UNIT_UNIT") c.args.unit.now) c.self.view_is
-    (unlisted_by (contents_of c.self.inside.groups.now) (codes "UNIT") (codes "UNIT_UNIT") c.args.unit.now c.self.inside.units.held c.is_unlisted.result
+    (unlisted_by (contents_of c.self.inside.groups.now) (codes "UNIT") (codes "UNIT_UNIT") c.args.unit.now c.self.inside.units c.is_unlisted.result
     c.self.invariant.units c.is_unlisted.ensures)

@@ -1,7 +1,0 @@
-use Rattle.std.proofs.Common.{◌≡◌, ℕ, List, take, map}
-use Rattle.ags_rows.specs.Contents.{place_in}
-use Rattle.ags_check.specs.Places.{place_at}
-use Rattle.ags_check.proofs.places.Places.of.Given as goal
-
-abbrev pub invariant-loop-place : goal.invariant-loop-place
-invariant-loop-place l = (name : List ℕ) → place_at l.held name ≡ place_in (map (λ n. n.now) (take l.place l.names)) name
