@@ -13,3 +13,6 @@ pub mod WellFormed
 pub mod Texts
 pub mod Formed
 pub mod RoundTrip
+pub mod Loosely
+pub mod ByTest
+pub mod Mini
