@@ -15,3 +15,6 @@ pub mod Texts
 pub mod Formed
 pub mod RoundTrip
 pub mod FirstPlaces
+pub mod Loosely
+pub mod ByTest
+pub mod Mini
