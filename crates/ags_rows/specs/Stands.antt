@@ -95,12 +95,12 @@ shape_rules group =
     ∷ StandsInRows group
     ∷ []
 
--- Rule 19, and that no earlier group has the name.
+-- Rule 19; and P1: an earlier group has the name as well. The later group is noted, at its GROUP row, with the name as subject.
 abbrev pub name_rules : List (List ℕ) → ℕ → Group → List (Finding → Type 0)
 name_rules names place group =
     Notes group.line Rule19 group.name (is_group_name group.name ≡ false) ∷ Notes group.line P1 group.name (IsRepeat names place group.name) ∷ []
 
--- Rule 19a, and that a heading stands but once in its row.
+-- Rule 19a; and P2: the heading stands at an earlier place of its row as well. The later place is noted, at the HEADING row, with the heading as subject.
 abbrev pub heading_rules : ℕ → List (List ℕ) → ℕ → List ℕ → List (Finding → Type 0)
 heading_rules line headings place heading =
     Notes line Rule19a heading (is_heading_name heading ≡ false) ∷ Notes line P2 heading (IsRepeat headings place heading) ∷ []

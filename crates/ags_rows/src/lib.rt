@@ -30,3 +30,6 @@ pub use writing::{quote, write_group, write_row};
 
 /// The greatest length of a deposited file.
 pub const LIMIT: usize = 4_194_304;
+
+/// The greatest length of a text that is read.
+pub const READABLE: usize = 67_108_864;

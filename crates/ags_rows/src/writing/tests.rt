@@ -1,4 +1,5 @@
 use super::{quote, write_group, write_row};
+use crate::READABLE;
 use crate::rows::{Descriptor, Row};
 use crate::scanning::Scan;
 use crate::seen::{Cell, Sequence};
@@ -141,7 +142,7 @@ fn scanned_dictionary(rt: HostRuntime) -> Result<(), Fail> {
 /// The groups of a file, written with an empty line between two.
 fn written_again(rt: &HostRuntime, bytes: &'static [u8]) -> Result<Vec<u8>, Fail> {
     let mut text = Vec::new(rt.alloc());
-    if bytes.len() > 67_108_864 {
+    if bytes.len() > READABLE {
         return Ok(text);
     }
     if let Ok(scan) = Scan::read(rt.alloc(), bytes) {

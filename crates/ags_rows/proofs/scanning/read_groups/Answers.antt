@@ -1,4 +1,5 @@
 use Rattle.std.proofs.Common.{◌≡◌, ◌≢◌, List, [], refl, subst, inl, inr}
+use Rattle.ags_rows.specs.declared.TheConstants.{READABLE}
 use Rattle.ags_rows.specs.declared.rows.FileRow.{FileRow}
 use Rattle.ags_rows.specs.declared.rows.Group.{Group}
 use Rattle.ags_rows.specs.declared.codes.Finding.{Finding}
@@ -51,4 +52,4 @@ returns-clause-groups c =
 pub invariant_of-result : goal.invariant_of-result
 invariant_of-result c =
     let cut : Groups c.args.rows.items c.from_vec-held.result = rw c.from_vec-held.ensures c.in_ok-groups.ensures in
-    counted_within c.args.rows.items c.from_vec-held.result 67108864 cut c.requires
+    counted_within c.args.rows.items c.from_vec-held.result READABLE cut c.requires
