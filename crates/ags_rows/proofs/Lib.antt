@@ -6,6 +6,7 @@ pub mod Breaking
 pub mod Repeats
 pub mod Cuts
 pub mod Files
+pub mod FewRows
 pub mod Once
 pub mod Appending
 pub mod Written
@@ -14,3 +15,6 @@ pub mod Texts
 pub mod Formed
 pub mod RoundTrip
 pub mod FirstPlaces
+pub mod Loosely
+pub mod ByTest
+pub mod Mini

@@ -8,6 +8,8 @@ use Rattle.ags_rows.specs.Findings.{RowFindings, LooseFindings, FileGroups, Loos
 use Rattle.ags_rows.specs.declared.rows.Group.{Group}
 use Rattle.ags_rows.specs.Contents.{Contents, contents_of}
 use Rattle.ags_rows.specs.Writing.{IsWellFormed, written_file}
+use Rattle.ags_rows.specs.declared.vectors.TheConstants.{MINI}
+use Rattle.ags_rows.specs.Mini.{mini_contents}
 use Rattle.ags_rows.specs.FindingOrder.{finding_cmp}
 use Rattle.std.specs.List.Sorted.{IsStrictlySortedBy}
 
@@ -49,3 +51,15 @@ abbrev pub WrittenFileIsRead : Type 0
 WrittenFileIsRead =
     ((contents : List Contents) → IsWellFormed contents → IsReadBack contents)
     × ((bytes : List ℕ) (groups : List Group) → FileGroups bytes groups → IsWellFormed (contents_of groups))
+
+-- A file without findings has none when it is read loosely, and then the same groups.
+abbrev pub CleanFileReadsLoosely : Type 0
+CleanFileReadsLoosely =
+    ((bytes : List ℕ) → RowFindings bytes [] → LooseFindings bytes [])
+    × ((bytes : List ℕ) (groups : List Group) → FileGroups bytes groups → LooseGroups bytes groups)
+
+-- MINI is the file that is written of its table, which is well formed; it has no finding, and what stands in it is the table.
+abbrev pub MiniIsWritten : Type 0
+MiniIsWritten =
+    IsWellFormed mini_contents × (MINI.now ≡ written_file mini_contents) × RowFindings MINI.now []
+    × ((groups : List Group) × FileGroups MINI.now groups × (contents_of groups ≡ mini_contents))

@@ -15,4 +15,5 @@ pub mod Stands
 pub mod Findings
 pub mod Parsing
 pub mod Writing
+pub mod Mini
 pub mod Laws
