@@ -9,33 +9,14 @@ use Rattle.ags_rows.specs.Contents.{Contents, under, field_at}
 use Rattle.ags_rows.specs.Names.{is_definition}
 use Rattle.ags_rows.proofs.Collecting.{found_if, one_none, adds_none}
 use Rattle.ags_dict.specs.Entries.{Entries}
-use Rattle.ags_links.specs.declared.index.Targets.{Targets}
-use Rattle.ags_links.specs.declared.index.Targets.TheVariants.{Rows, Broken}
-use Rattle.ags_links.specs.DataRows.{DataRow, row_in, entry_of, data_rows}
-use Rattle.ags_links.specs.RecordLinks.{separators_of}
-use Rattle.ags_links.specs.Targets.{AreTargets}
+use Rattle.ags_links.specs.DataRows.{row_in, entry_of, data_rows}
+use Rattle.ags_links.specs.RecordLinks.{separators_of, IsBroken}
 use Rattle.ags_check.specs.declared.rows.columns.Column.{Column}
 use Rattle.ags_check.specs.Columns.{IsColumn, AreColumns, text_at}
-use Rattle.ags_check.specs.RowRules.{HasBrokenPart, IsBrokenLink}
+use Rattle.ags_check.specs.RowRules.{IsBrokenLink}
 use Rattle.ags_check.specs.RowPhase.{InHeadings, link_rules, required_rules}
 use Rattle.ags_check.proofs.Naming.{contains_at}
 use Rattle.ags_check.proofs.EntryNotes.{note_more, columns_more, heading_at, heading_of}
-
--- whether some part names no row
-abbrev pub is_broken : Targets → Bool
-is_broken (Rows found) = false
-is_broken Broken = true
-
-pub decided : (entries : Entries) (file : List Contents) (row : DataRow) (heading : List ℕ) (targets : Targets)
-    → AreTargets entries (separators_of file) (data_rows file) row heading targets → IsTrue (is_broken targets) ↔ HasBrokenPart entries file row heading
-decided entries file row heading (Rows found) are = (
-  λ e. absurd (true≢false (sym e)),
-  λ broken. let m = are.1 broken.part broken.is_part in absurd (broken.names_none m.1.0 (m.0, m.1.1.0, m.1.1.1) m.1.2),
-)
-decided entries file row heading Broken are = (
-  λ e. record { part = are.0; is_part = are.1; names_none = λ other there names. are.2 there.0 (other, (there.1, there.2), names) },
-  λ broken. refl,
-)
 
 -- what stands in the row at a column's place stands under its heading
 pub text_same : (group : Contents) (column : Column) (fields : List (List ℕ)) (text : List ℕ) → IsColumn group column → text ≡ text_at column fields → text ≡ under group.headings fields column.heading.now
@@ -43,7 +24,7 @@ text_same group column fields text is same = same ∙ ap (field_at fields) is.pl
 
 pub link_means : (entries : Entries) (file : List Contents) (group : Contents) (column : Column) (fields : List (List ℕ)) (text : List ℕ) (b : Bool)
     → IsColumn group column → text ≡ text_at column fields → Contains group.headings column.heading.now → is_definition group.name ≡ false
-    → IsTrue b ↔ (column.code.now ≡ codes "RL") × (text ≢ []) × HasBrokenPart entries file (row_in group fields) column.heading.now
+    → IsTrue b ↔ (column.code.now ≡ codes "RL") × (text ≢ []) × IsBroken entries (separators_of file) (data_rows file) (row_in group fields) column.heading.now
     → IsTrue b ↔ IsBrokenLink entries file (row_in group fields) column.heading.now
 link_means entries file group column fields text b is same stands data_group means =
     let there : text ≡ under group.headings fields column.heading.now = text_same group column fields text is same in (
@@ -57,7 +38,7 @@ link_means entries file group column fields text b is same stands data_group mea
 -- the link of one column more
 pub links_more : (entries : Entries) (file : List Contents) (line : ℕ) (group : Contents) (fields : List (List ℕ)) (columns : List Column) (i : ℕ) (d : Column) (text : List ℕ) (b : Bool) (old mid new : List Finding)
     → AreColumns group group.headings columns → is_definition group.name ≡ false → i < length columns → text ≡ text_at (get_or columns i d) fields
-    → IsTrue b ↔ ((get_or columns i d).code.now ≡ codes "RL") × (text ≢ []) × HasBrokenPart entries file (row_in group fields) (heading_of (get_or columns i d))
+    → IsTrue b ↔ ((get_or columns i d).code.now ≡ codes "RL") × (text ≢ []) × IsBroken entries (separators_of file) (data_rows file) (row_in group fields) (heading_of (get_or columns i d))
     → new ≡ mid ++ found_if line Rule11c (heading_of (get_or columns i d)) b
     → Adds (AmongBefore group.headings (λ _ heading f. OneOf (link_rules entries file line (row_in group fields) heading) f) i) old mid
     → Adds (AmongBefore group.headings (λ _ heading f. OneOf (link_rules entries file line (row_in group fields) heading) f) (i + 1)) old new

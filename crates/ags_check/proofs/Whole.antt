@@ -1,14 +1,17 @@
 -- From the findings of the phases to the findings of a file.
-use Rattle.std.proofs.Common.{◌≡◌, ◌≢◌, ℕ, List, [], length, false, eqb, refl, subst, sym, ap, inl, inr}
+use Rattle.std.proofs.Common.{◌≡◌, ◌≢◌, ℕ, List, [], length, take, false, eqb, refl, subst, sym, ap, ◌∙◌, inl, inr}
+use Rattle.std.proofs.Math.Seq.{take-append_seam}
 use Rattle.std.proofs.lemmas.Bool.{eqb-false}
 use Rattle.ags_rows.specs.declared.codes.Finding.{Finding}
 use Rattle.ags_rows.specs.declared.rows.Group.{Group}
-use Rattle.ags_rows.specs.Contents.{contents_of}
+use Rattle.ags_rows.specs.Contents.{Contents, contents_of}
 use Rattle.ags_rows.specs.Findings.{File, phases, Lists, FirstFound, RowFindings, FileGroups}
 use Rattle.ags_rows.proofs.Collecting.{found_early, found_late}
 use Rattle.ags_rows.proofs.Once.{same_file, one_first_found}
+use Rattle.ags_dict.specs.declared.entries.GroupEntry.{GroupEntry}
+use Rattle.ags_dict.specs.declared.entries.HeadingEntry.{HeadingEntry}
 use Rattle.ags_dict.specs.Entries.{Entries, extended}
-use Rattle.ags_check.specs.Findings.{dictionary_phases, all_phases, IsClear, IsGraphOf, Findings, IsClean}
+use Rattle.ags_check.specs.Findings.{dictionary_phases, all_phases, IsClear, IsGraphOf, Findings, CheckedFile, IsClean, first_entries}
 use Rattle.ags_check.specs.HeaderPhase.{header_rules}
 use Rattle.ags_check.specs.RowPhase.{row_rules}
 use Rattle.ags_links.specs.Walks.{Wiring}
@@ -41,13 +44,32 @@ entries_found given entries bytes groups found read same clear lists some = grou
 -- and where these break nothing either, the file is clean
 pub clean : (given entries : Entries) (bytes : List ℕ) (groups : List Group) (graph : Wiring) → FileGroups bytes groups → entries ≡ extended given (contents_of groups)
     → IsClear (header_rules given entries groups) → IsClear (row_rules entries groups) → IsGraphOf groups entries graph
-    → IsClean given (record { bytes = bytes; groups = groups; entries = entries; graph = graph })
+    → IsClean (record { given = given; bytes = bytes; groups = groups; entries = entries; graph = graph })
 clean given entries bytes groups graph read same clear clear_rows steps = record {
   groups = read;
   entries = same;
   graph = steps;
   findings = groups_found given entries bytes groups [] read same (inr (clear, inr (clear_rows, refl)));
 }
+
+-- ---- the entries given
+
+abbrev pub entries_of : List GroupEntry → List HeadingEntry → Entries
+entries_of groups headings = record { groups = groups; headings = headings }
+
+-- they are the first of the extended dictionary
+pub given_first : (given entries : Entries) (contents : List Contents) (groups headings : ℕ) → groups ≡ length given.groups → headings ≡ length given.headings
+    → entries ≡ extended given contents → first_entries groups headings entries ≡ given
+given_first given entries contents groups headings group_count heading_count same =
+    let all = extended given contents in
+    ap (λ (n : ℕ). first_entries n headings entries) group_count
+    ∙ ap (λ (n : ℕ). first_entries (length given.groups) n entries) heading_count
+    ∙ ap (first_entries (length given.groups) (length given.headings)) same
+    ∙ ap (λ (l : List GroupEntry). entries_of l (take (length given.headings) all.headings)) (take-append_seam given.groups _)
+    ∙ ap (entries_of given.groups) (take-append_seam given.headings _)
+
+abbrev pub checked_file : List ℕ → List Group → Entries → Wiring → Entries → CheckedFile
+checked_file bytes groups entries graph given = record { given = given; bytes = bytes; groups = groups; entries = entries; graph = graph }
 
 -- a test of a list's length
 pub some_found : (found : List Finding) → false ≡ eqb (length found) 0 → found ≢ []

@@ -1,5 +1,5 @@
 -- The findings of a file under a dictionary, and a file without any.
-use Rattle.std.specs.Prelude.{◌≡◌, ℕ, List, [], ◌∷◌, ◌++◌, length}
+use Rattle.std.specs.Prelude.{◌≡◌, ℕ, List, [], ◌∷◌, ◌++◌, length, take}
 use Rattle.ags_rows.specs.declared.codes.Finding.{Finding}
 use Rattle.ags_rows.specs.declared.rows.Group.{Group}
 use Rattle.ags_rows.specs.Contents.{contents_of}
@@ -33,20 +33,21 @@ pub record IsGraphOf (groups : List Group) (entries : Entries) (graph : Wiring) 
   pub rows : graph.rows ≡ length (data_rows (contents_of groups))
   pub steps : ListsSteps graph.steps (StepAt (record { contents = contents_of groups; entries = entries }))
 
--- What is kept of a file that was checked: its bytes, its groups, the entries of the extended dictionary, and its graph.
+-- What is kept of a file that was checked: the entries given, its bytes, its groups, the entries of the extended dictionary, and its graph.
 pub record CheckedFile : Type 0 where
+  pub given : Entries
   pub bytes : List ℕ
   pub groups : List Group
   pub entries : Entries
   pub graph : Wiring
 
--- The file has no finding under the dictionary, and these are its groups, its extended entries and its graph.
-pub record IsClean (given : Entries) (file : CheckedFile) : Type 0 where
+-- The file has no finding under the entries given, and these are its groups, its extended entries and its graph.
+pub record IsClean (file : CheckedFile) : Type 0 where
   pub groups : FileGroups file.bytes file.groups
-  pub entries : file.entries ≡ extended given (contents_of file.groups)
+  pub entries : file.entries ≡ extended file.given (contents_of file.groups)
   pub graph : IsGraphOf file.groups file.entries file.graph
-  pub findings : Findings given file.bytes []
+  pub findings : Findings file.given file.bytes []
 
--- the file has no finding under the dictionary that it was checked under
-abbrev pub IsCleanFile : CheckedFile → Type 0
-IsCleanFile file = (given : Entries) × IsClean given file
+-- the first entries of a dictionary: so many for groups, and so many for headings
+abbrev pub first_entries : ℕ → ℕ → Entries → Entries
+first_entries groups headings entries = record { groups = take groups entries.groups; headings = take headings entries.headings }

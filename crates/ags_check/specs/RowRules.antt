@@ -10,7 +10,7 @@ use Rattle.ags_cells.specs.Fits.{FitsTypeCode}
 use Rattle.ags_links.specs.DataRows.{DataRow, IsRow, entry_of, data_rows}
 use Rattle.ags_links.specs.Keys.{HasKeyOf}
 use Rattle.ags_links.specs.Parents.{IsParentRow}
-use Rattle.ags_links.specs.RecordLinks.{separators_of, IsPartOf, Names}
+use Rattle.ags_links.specs.RecordLinks.{separators_of, IsBroken}
 use Rattle.ags_links.specs.Steps.{IsRecordLink}
 
 -- ---- what the file lists
@@ -101,17 +101,11 @@ IsUnlistedTypeEntry file entry = IsOfType (codes "PT") (IsUnlistedType file) ent
 
 -- ---- of a DATA row
 
--- some part of what stands under the heading, read as a record link, names no row
-pub record HasBrokenPart (entries : Entries) (file : List Contents) (row : DataRow) (heading : List ℕ) : Type 0 where
-  pub part : List ℕ
-  pub is_part : IsPartOf (separators_of file) row heading part
-  pub names_none : (other : DataRow) → Contains (data_rows file) other → Names entries (separators_of file).delimiter part other → ⊥
-
 -- Rule 11c: in a data group, some part of the record link under the heading names no row.
 pub record IsBrokenLink (entries : Entries) (file : List Contents) (row : DataRow) (heading : List ℕ) : Type 0 where
   pub data_group : is_definition row.group ≡ false
   pub link : IsRecordLink row heading
-  pub broken : HasBrokenPart entries file row heading
+  pub broken : IsBroken entries (separators_of file) (data_rows file) row heading
 
 -- Rule 10a: the group has KEY headings, and an earlier row of it has an equal key. The rows are numbered over the file.
 pub record RepeatsKey (entries : Entries) (file : List Contents) (number : ℕ) (row : DataRow) : Type 0 where

@@ -105,12 +105,13 @@ pub fn check<'a>(
 ) -> Result<Checked<'a>, CheckError>
     requires { length bytes.now ≤ 67108864 }
     ensures bytes { IfOk result (λ checked. checked.bytes ≡ bytes.now) }
-    ensures clean { IfOk result (IsClean dictionary.now) }
+    ensures given { IfOk result (λ checked. checked.given ≡ dictionary.now) }
+    ensures clean { IfOk result IsClean }
     ensures findings { (found : List Finding) → IsErrOf result (CheckError.Findings found) → Findings dictionary.now bytes.now found × (found ≢ []) }
 {
     let scan = read(alloc, bytes)?;
     let extended = dictionary.extend(alloc, &scan)?;
     check_headers(alloc, dictionary, &extended, &scan)?;
     let graph = check_rows(alloc, &extended, &scan)?;
-    Ok(Checked::of(bytes, scan, extended, graph))
+    Ok(Checked::of(dictionary, bytes, scan, extended, graph))
 }

@@ -1,7 +1,7 @@
 //! A file without findings.
 
 ghost use Rattle.std.specs.Prelude.{◌≡◌};
-ghost use Rattle.ags_check.specs.Findings.{IsCleanFile};
+ghost use Rattle.ags_check.specs.Findings.{IsClean};
 
 use ags_dict::Dictionary;
 use ags_links::Graph;
@@ -14,29 +14,55 @@ pub struct Checked<'a> {
     bytes: &'a [u8],
     scan: Scan<'a>,
     dictionary: Dictionary,
+    /// How many of the dictionary's entries for groups were given to `check`: the first ones.
+    given_groups: usize,
+    /// How many of those for headings were.
+    given_headings: usize,
     graph: Graph,
 }
 
 impl<'a> Model for Checked<'a> {
-    ghost use Rattle.ags_check.specs.Findings.{CheckedFile, IsCleanFile};
+    ghost use Rattle.ags_check.specs.Findings.{CheckedFile, IsClean, first_entries};
 
     ghost Value = { CheckedFile };
 
-    ghost view = { λ c. record { bytes = c.bytes.now; groups = c.scan; entries = c.dictionary; graph = c.graph } };
+    ghost view = { λ c. record {
+      given = first_entries c.given_groups c.given_headings c.dictionary;
+      bytes = c.bytes.now;
+      groups = c.scan;
+      entries = c.dictionary;
+      graph = c.graph;
+    } };
 
-    ghost invariant = { λ c. IsCleanFile (record { bytes = c.bytes.now; groups = c.scan; entries = c.dictionary; graph = c.graph }) };
+    ghost invariant = { λ c. IsClean (record {
+      given = first_entries c.given_groups c.given_headings c.dictionary;
+      bytes = c.bytes.now;
+      groups = c.scan;
+      entries = c.dictionary;
+      graph = c.graph;
+    }) };
 }
 
 impl<'a> Checked<'a> {
     /// A file without findings.
-    pub(crate) fn of(bytes: &'a [u8], scan: Scan<'a>, dictionary: Dictionary, graph: Graph) -> Self
-        requires { IsCleanFile (record { bytes = bytes.now; groups = scan; entries = dictionary; graph = graph }) }
-        ensures { result ≡ record { bytes = bytes.entry.now; groups = scan.entry; entries = dictionary; graph = graph } }
+    pub(crate) fn of(
+        given: &Dictionary,
+        bytes: &'a [u8],
+        scan: Scan<'a>,
+        dictionary: Dictionary,
+        graph: Graph,
+    ) -> Self
+        requires { IsClean (record { given = given.now; bytes = bytes.now; groups = scan; entries = dictionary; graph = graph }) }
+        ensures { result ≡ record { given = given.now; bytes = bytes.entry.now; groups = scan.entry; entries = dictionary; graph = graph } }
     {
+        let given_groups = given.group_count();
+        let given_headings = given.heading_count();
         Checked {
             bytes,
             scan,
             dictionary,
+            given_groups,
+            given_headings,
             graph,
         }
     }

@@ -1,31 +1,19 @@
 //! The record links of a row.
 
-ghost use Rattle.std.specs.Prelude.{◌≡◌, ◌≢◌, ◌<◌, ◌↔◌, [], List, ℕ, false, codes, All, IsTrue, IfOk, OnOk, Contains, length};
+ghost use Rattle.std.specs.Prelude.{◌≡◌, ◌≢◌, ◌<◌, ◌↔◌, [], false, codes, IsTrue, IfOk, OnOk, length};
 ghost use Rattle.ags_rows.specs.Collecting.{Adds};
 ghost use Rattle.ags_rows.specs.Contents.{Contents};
 ghost use Rattle.ags_rows.specs.Names.{is_definition};
 ghost use Rattle.ags_links.specs.DataRows.{DataRow, IsRow, row_in};
 ghost use Rattle.ags_links.specs.Indexing.{rows_in};
-ghost use Rattle.ags_check.specs.RowRules.{HasBrokenPart, IsBrokenLink};
+ghost use Rattle.ags_links.specs.RecordLinks.{separators_of, IsBroken};
 ghost use Rattle.ags_check.specs.RowPhase.{InHeadings, link_rules};
-ghost use Rattle.ags_check.specs.Columns.{IsColumn, AreColumns, text_at};
+ghost use Rattle.ags_check.specs.Columns.{AreColumns};
 
 use crate::rows::columns::{Column, field, is_of_type};
-use ags_links::{Index, Targets};
+use ags_links::Index;
 use ags_rows::{Cell, Code, Finding, note};
 use std::alloc::{AllocError, Global};
-
-/// Whether some part of what stands under the heading names no row.
-fn has_broken_part(index: &Index, number: u32, heading: &[u8]) -> Result<bool, AllocError>
-    requires { number < length (rows_in index.now) }
-    ensures { IfOk result (λ broken. (row : DataRow) → IsRow (rows_in index.now) number row
-        → IsTrue broken ↔ HasBrokenPart index.now.entries index.now.contents row heading.now) }
-{
-    match index.link_targets(number, heading)? {
-        Targets::Rows(_) => Ok(false),
-        Targets::Broken => Ok(true),
-    }
-}
 
 /// Rule 11c, in a data group: whether the text is a record link of which some part names no row.
 fn is_broken_link(
@@ -37,7 +25,7 @@ fn is_broken_link(
     requires { number < length (rows_in index.now) }
     ensures { IfOk result (λ broken. (row : DataRow) → IsRow (rows_in index.now) number row
         → IsTrue broken ↔ (column.now.code.now ≡ codes "RL") × (text.now ≢ [])
-        × HasBrokenPart index.now.entries index.now.contents row column.now.heading.now) }
+        × IsBroken index.now.entries (separators_of index.now.contents) (rows_in index.now) row column.now.heading.now) }
 {
     if !is_of_type(column, b"RL") {
         return Ok(false);
@@ -45,7 +33,7 @@ fn is_broken_link(
     if text.is_empty() {
         return Ok(false);
     }
-    has_broken_part(index, number, column.heading)
+    index.has_broken_part(number, column.heading)
 }
 
 /// Rule 11c: notes the record links of a row of a data group of which some part names no row.

@@ -26,12 +26,10 @@ returns-in_err-graph-clause-findings c = λ found is.
     (entries_found c.args.dictionary.now c.in_ok-extended.extended c.args.bytes.now c.in_ok-scan.scan found c.in_ok-scan.ensures.groups c.in_ok-extended.ensures c.in_ok-check_headers.ensures.clear h.0 h.1, h.1)
 
 pub of-requires : goal.of-requires
-of-requires c = (
-  c.args.dictionary.now,
-  clean c.args.dictionary.now c.in_ok-extended.extended c.args.bytes.now c.in_ok-scan.scan c.in_ok-graph.graph c.in_ok-scan.ensures.groups c.in_ok-extended.ensures c.in_ok-check_headers.ensures.clear c.in_ok-graph.ensures.clear c.in_ok-graph.ensures.graph,
-)
+of-requires c =
+    clean c.args.dictionary.now c.in_ok-extended.extended c.args.bytes.now c.in_ok-scan.scan c.in_ok-graph.graph c.in_ok-scan.ensures.groups c.in_ok-extended.ensures c.in_ok-check_headers.ensures.clear c.in_ok-graph.ensures.clear c.in_ok-graph.ensures.graph
 
 pub returns-clause-clean : goal.returns-clause-clean
 returns-clause-clean c =
-    subst (IsClean c.args.dictionary.now) (sym c.of.ensures)
+    subst IsClean (sym c.of.ensures)
     (clean c.args.dictionary.now c.in_ok-extended.extended c.args.bytes.now c.in_ok-scan.scan c.in_ok-graph.graph c.in_ok-scan.ensures.groups c.in_ok-extended.ensures c.in_ok-check_headers.ensures.clear c.in_ok-graph.ensures.clear c.in_ok-graph.ensures.graph)
