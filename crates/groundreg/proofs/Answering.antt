@@ -4,46 +4,76 @@ use Rattle.groundreg.specs.declared.fault.Fault.{Fault}
 use Rattle.groundreg.specs.declared.fault.Fault.TheVariants.{WordsRefused, TooLarge, DictionaryRefused, NoMemory, Stream}
 use Rattle.ags_rows.specs.declared.codes.Finding.{Finding}
 use Rattle.groundreg.specs.declared.report.Report.{Report}
-use Rattle.groundreg.specs.Answers.{Answers, reported, too_large, no_dictionary, no_memory, AnswersOn, ReportsOn}
+use Rattle.groundreg.specs.Answers.{Answers, reported, too_large, no_dictionary, no_memory, answered, not_read, not_printed, not_said, AnswersOn, ReportsOn}
 use Rattle.groundreg.specs.Faults.{Tells, fault_text, fault_status, is_stream}
 use Rattle.groundreg.specs.Report.{report_of}
 use Rattle.std.specs.Prelude.{Vec}
 use Rattle.std.specs.Global.{Global}
-use Rattle.ags_rows.specs.declared.TheConstants.{LIMIT}
+use Rattle.groundreg.specs.Reading.{ReadsFile, longest_file}
 use Rattle.groundreg.specs.Findings.{FileFindings}
-use Rattle.groundreg.specs.Reading.{ReadsFile}
 use Rattle.groundreg.proofs.Taking.{appends_none}
 
--- a report that is printed whole is the answer
-pub report_answers : (known out out_after err : Option (List ℕ)) (report : Report) (before after : Bool) (status : ℕ)
-    → IfSome known (λ bytes. ReportsOn bytes (Ok report)) → Tells out out_after report.text before after report.status status
-    → IfSome known (λ bytes. AnswersOn bytes out out_after err err status)
-report_answers None out out_after err report before after status about told = tt
-report_answers (Some bytes) out out_after err report before after status (few, (found, right, is)) (inl (taken, kept, same)) =
-    inl (
-      report.text,
-      [],
-      subst (λ s. Answers bytes report.text [] s) (sym same)
-          (subst (λ r. Answers bytes r.text [] r.status) (sym is) (reported found few right)),
-      taken,
-      appends_none err,
-    )
-report_answers (Some bytes) out out_after err report before after status about (inr (failed, same)) = inr same
+-- a report is an answer
+printed_answer : (bytes : List ℕ) (report : Report) → ReportsOn bytes (Ok report) → Answers bytes report.text [] report.status
+printed_answer bytes report (few, (found, right, is)) = subst (λ r. Answers bytes r.text [] r.status) (sym is) (reported found few right)
 
--- a fault that is told whole is the answer
-pub fault_answers : (known out err err_after : Option (List ℕ)) (fault : Fault) (before after : Bool) (status : ℕ)
+-- where a report is printed, the outcome is the answer or the failure of the writer
+pub report_answers : (known out out_after err : Option (List ℕ)) (report : Report) (in_failed before after err_failed : Bool) (status : ℕ)
+    → in_failed ≡ false → before ≡ false → err_failed ≡ false
+    → IfSome known (λ bytes. ReportsOn bytes (Ok report)) → Tells out out_after report.text before after report.status status
+    → IfSome known (λ bytes. AnswersOn bytes out out_after err err in_failed after err_failed status)
+report_answers None out out_after err report in_failed before after err_failed status ei eb ee about told = tt
+report_answers (Some bytes) out out_after err report in_failed before after err_failed status ei eb ee about (inl (taken, kept, same)) =
+    let whole = answered report.text [] report.status (printed_answer bytes report about) in
+    (report.text, [], rw (ei, kept ∙ eb, ee, same) whole, taken, appends_none err)
+report_answers (Some bytes) out out_after err report in_failed before after err_failed status ei eb ee about (inr (cut, failed, six)) =
+    let answer = subst (λ text. Answers bytes text [] report.status) cut.parts (printed_answer bytes report about) in
+    (cut.part, [], rw (ei, failed, ee, six) (not_printed cut.part cut.rest report.status answer), cut.taken, appends_none err)
+
+-- a fault that is not of a stream is an answer
+said_answer : (bytes : List ℕ) (fault : Fault) → is_stream fault ≡ false → ReportsOn bytes (Err fault) → Answers bytes [] (fault_text fault) (fault_status fault)
+said_answer bytes WordsRefused other about = absurd about
+said_answer bytes TooLarge other about = too_large about
+said_answer bytes DictionaryRefused other about = no_dictionary about
+said_answer bytes NoMemory other about = no_memory
+said_answer bytes Stream other about = absurd (search rules)
+
+-- where such a fault is told, the outcome is the answer or the failure of the writer
+other_answers : (bytes : List ℕ) (out err err_after : Option (List ℕ)) (fault : Fault) (in_failed out_failed before after : Bool) (status : ℕ)
+    → is_stream fault ≡ false → in_failed ≡ is_stream fault → out_failed ≡ false → before ≡ false
+    → ReportsOn bytes (Err fault) → Tells err err_after (fault_text fault) before after (fault_status fault) status
+    → AnswersOn bytes out out err err_after in_failed out_failed after status
+other_answers bytes out err err_after fault in_failed out_failed before after status other ei eo eb about (inl (taken, kept, same)) =
+    let whole = answered [] (fault_text fault) (fault_status fault) (said_answer bytes fault other about) in
+    ([], fault_text fault, rw (ei ∙ other, eo, kept ∙ eb, same) whole, appends_none out, taken)
+other_answers bytes out err err_after fault in_failed out_failed before after status other ei eo eb about (inr (cut, failed, six)) =
+    let answer = subst (λ text. Answers bytes [] text (fault_status fault)) cut.parts (said_answer bytes fault other about) in
+    ([], cut.part, rw (ei ∙ other, eo, failed, six) (not_said cut.part cut.rest (fault_status fault) answer), appends_none out, cut.taken)
+
+-- where the reader failed, nothing is told
+stream_answers : (bytes : List ℕ) (out err err_after : Option (List ℕ)) (in_failed out_failed before after : Bool) (status : ℕ)
+    → in_failed ≡ true → out_failed ≡ false → before ≡ false
+    → Tells err err_after [] before after (fault_status Stream) status → AnswersOn bytes out out err err_after in_failed out_failed after status
+stream_answers bytes out err err_after in_failed out_failed before after status ei eo eb (inl (taken, kept, same)) =
+    ([], [], rw (ei, eo, kept ∙ eb, same) not_read, appends_none out, taken)
+stream_answers bytes out err err_after in_failed out_failed before after status ei eo eb (inr (cut, failed, six)) = absurd (cut.some refl)
+
+-- where a fault is told, the outcome is the answer or the failure of a stream
+pub fault_answers : (known out err err_after : Option (List ℕ)) (fault : Fault) (in_failed out_failed before after : Bool) (status : ℕ)
+    → in_failed ≡ is_stream fault → out_failed ≡ false → before ≡ false
     → IfSome known (λ bytes. ReportsOn bytes (Err fault)) → Tells err err_after (fault_text fault) before after (fault_status fault) status
-    → IfSome known (λ bytes. AnswersOn bytes out out err err_after status)
-fault_answers None out err err_after fault before after status about told = tt
-fault_answers (Some bytes) out err err_after fault before after status about (inr (failed, same)) = inr same
-fault_answers (Some bytes) out err err_after WordsRefused before after status about (inl told) = absurd about
-fault_answers (Some bytes) out err err_after TooLarge before after status about (inl (taken, kept, same)) =
-    inl ([], fault_text TooLarge, subst (λ s. Answers bytes [] (fault_text TooLarge) s) (sym same) (too_large about), appends_none out, taken)
-fault_answers (Some bytes) out err err_after DictionaryRefused before after status about (inl (taken, kept, same)) =
-    inl ([], fault_text DictionaryRefused, subst (λ s. Answers bytes [] (fault_text DictionaryRefused) s) (sym same) (no_dictionary about), appends_none out, taken)
-fault_answers (Some bytes) out err err_after NoMemory before after status about (inl (taken, kept, same)) =
-    inl ([], fault_text NoMemory, subst (λ s. Answers bytes [] (fault_text NoMemory) s) (sym same) no_memory, appends_none out, taken)
-fault_answers (Some bytes) out err err_after Stream before after status about (inl (taken, kept, same)) = inr same
+    → IfSome known (λ bytes. AnswersOn bytes out out err err_after in_failed out_failed after status)
+fault_answers None out err err_after fault in_failed out_failed before after status ei eo eb about told = tt
+fault_answers (Some bytes) out err err_after WordsRefused in_failed out_failed before after status ei eo eb about told =
+    other_answers bytes out err err_after WordsRefused in_failed out_failed before after status refl ei eo eb about told
+fault_answers (Some bytes) out err err_after TooLarge in_failed out_failed before after status ei eo eb about told =
+    other_answers bytes out err err_after TooLarge in_failed out_failed before after status refl ei eo eb about told
+fault_answers (Some bytes) out err err_after DictionaryRefused in_failed out_failed before after status ei eo eb about told =
+    other_answers bytes out err err_after DictionaryRefused in_failed out_failed before after status refl ei eo eb about told
+fault_answers (Some bytes) out err err_after NoMemory in_failed out_failed before after status ei eo eb about told =
+    other_answers bytes out err err_after NoMemory in_failed out_failed before after status refl ei eo eb about told
+fault_answers (Some bytes) out err err_after Stream in_failed out_failed before after status ei eo eb about told =
+    stream_answers bytes out err err_after in_failed out_failed before after status ei eo eb told
 
 -- a report ends with 0 or 1
 pub report_status : (found : List Finding) → (report_of found).status ≤ 1
@@ -77,14 +107,14 @@ pub report_fails : (out out_after : Option (List ℕ)) (text : List ℕ) (in_fai
     → (ended ≡ fault_status Stream) ↔ IsTrue (in_failed || (after || err_failed))
 report_fails out out_after text in_failed before after err_failed status ended ei eb ee few (inl (taken, kept, same)) =
     none_failed in_failed after err_failed ended ei (kept ∙ eb) ee (omega (arith, same, few))
-report_fails out out_after text in_failed before after err_failed status ended ei eb ee few (inr (failed, six)) =
+report_fails out out_after text in_failed before after err_failed status ended ei eb ee few (inr (cut, failed, six)) =
     one_failed in_failed after err_failed ended (or_second in_failed after err_failed failed) six
 
 -- where a fault is told, the status is 6 exactly where a stream failed
 pub fault_fails : (err err_after : Option (List ℕ)) (in_failed out_failed before after : Bool) (fault : Fault) (ended : ℕ)
     → in_failed ≡ is_stream fault → out_failed ≡ false → before ≡ false → Tells err err_after (fault_text fault) before after (fault_status fault) ended
     → (ended ≡ fault_status Stream) ↔ IsTrue (in_failed || (out_failed || after))
-fault_fails err err_after in_failed out_failed before after fault ended ei eo eb (inr (failed, six)) =
+fault_fails err err_after in_failed out_failed before after fault ended ei eo eb (inr (cut, failed, six)) =
     one_failed in_failed out_failed after ended (or_third in_failed out_failed after failed) six
 fault_fails err err_after in_failed out_failed before after WordsRefused ended ei eo eb (inl (taken, kept, same)) =
     none_failed in_failed out_failed after ended ei eo (kept ∙ eb) (omega (arith, same))
@@ -99,8 +129,8 @@ fault_fails err err_after false out_failed before after Stream ended ei eo eb (i
 
 -- a report on what was found in all bytes of the stream
 pub reports : (known : Option (List ℕ)) (bytes : Vec ℕ Global) (read : List ℕ) (found given : List Finding) (report : Report)
-    → IfSome known (λ all. ReadsFile all (Ok bytes)) → length bytes.items ≤ LIMIT → read ≡ bytes.items → FileFindings read found → given ≡ found
+    → IfSome known (λ all. ReadsFile all (Ok bytes)) → length bytes.items ≤ longest_file → read ≡ bytes.items → FileFindings read found → given ≡ found
     → report ≡ report_of given → IfSome known (λ all. ReportsOn all (Ok report))
 reports None bytes read found given report is few lent right same made = tt
 reports (Some all) bytes read found given report is few lent right same made =
-    (subst (λ b. length b ≤ LIMIT) is few, (found, subst (λ b. FileFindings b found) (lent ∙ is) right, made ∙ ap report_of same))
+    (subst (λ b. length b ≤ longest_file) is few, (found, subst (λ b. FileFindings b found) (lent ∙ is) right, made ∙ ap report_of same))

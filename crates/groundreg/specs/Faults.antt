@@ -1,6 +1,7 @@
 -- What is said, on standard error, of a run that has no answer on its file, and its status.
 use Rattle.std.specs.Prelude.{◌≡◌, ℕ, ◌⊎◌, List, codes, Option, Result, Ok, Err, Bool, true, false}
 use Rattle.std.specs.Io.KnownBytes.{Appends}
+use Rattle.groundreg.specs.Writing.{TakesPart}
 use Rattle.groundreg.specs.declared.fault.Fault.{Fault}
 use Rattle.groundreg.specs.declared.fault.Fault.TheVariants.{WordsRefused, TooLarge, DictionaryRefused, NoMemory, Stream}
 
@@ -23,7 +24,7 @@ fault_status Stream = 6
 -- the writer has taken all of the text and the run ends with the status, or the writer has failed
 abbrev pub Tells : Option (List ℕ) → Option (List ℕ) → List ℕ → Bool → Bool → ℕ → ℕ → Type 0
 Tells old new text before after status ended =
-    (Appends old new text × (after ≡ before) × (ended ≡ status)) ⊎ ((after ≡ true) × (ended ≡ fault_status Stream))
+    (Appends old new text × (after ≡ before) × (ended ≡ status)) ⊎ (TakesPart old new text × (after ≡ true) × (ended ≡ fault_status Stream))
 
 -- the fault is that of a stream
 abbrev pub is_stream : Fault → Bool

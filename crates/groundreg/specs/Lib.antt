@@ -2,4 +2,5 @@ pub mod Findings
 pub mod Report
 pub mod Faults
 pub mod Reading
+pub mod Writing
 pub mod Answers

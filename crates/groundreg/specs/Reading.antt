@@ -2,9 +2,12 @@
 use Rattle.std.specs.Prelude.{◌≡◌, ℕ, ◌<◌, ◌≤◌, ◌⊎◌, ◌++◌, List, length, Option, Result, Ok, Err, ⊤, Vec}
 use Rattle.std.specs.Global.{Global}
 use Rattle.std.specs.Io.KnownBytes.{Consumes, IsAtEnd}
-use Rattle.ags_rows.specs.declared.TheConstants.{LIMIT}
 use Rattle.groundreg.specs.declared.fault.Fault.{Fault}
 use Rattle.groundreg.specs.declared.fault.Fault.TheVariants.{WordsRefused, TooLarge, DictionaryRefused, NoMemory, Stream}
+
+-- the bytes of the longest file that is checked: 4 MiB
+abbrev pub longest_file : ℕ
+longest_file = 4194304
 
 -- the bytes that were taken are the first ones, and no more than `most`
 pub record TakesAtMost (most : ℕ) (old new : Option (List ℕ)) : Type 0 where
@@ -27,7 +30,7 @@ IsOfReading fault = (fault ≡ NoMemory) ⊎ (fault ≡ Stream)
 -- the bytes are all of the stream's, or there are too many
 abbrev pub ReadsFile : List ℕ → Result (Vec ℕ Global) Fault → Type 0
 ReadsFile all (Ok bytes) = bytes.items ≡ all
-ReadsFile all (Err TooLarge) = LIMIT < length all
+ReadsFile all (Err TooLarge) = longest_file < length all
 ReadsFile all (Err WordsRefused) = ⊥
 ReadsFile all (Err DictionaryRefused) = ⊥
 ReadsFile all (Err NoMemory) = ⊤

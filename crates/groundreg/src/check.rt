@@ -6,7 +6,7 @@ ghost use Rattle.groundreg.specs.Findings.{FileFindings, ReadsBuiltIn, FindsIn};
 ghost use Rattle.groundreg.specs.Answers.{AnswersOn, ReportsOn};
 ghost use Rattle.groundreg.specs.declared.fault.Fault.TheVariants.{Stream};
 ghost use Rattle.groundreg.specs.Faults.{fault_status, is_stream_fault};
-ghost use Rattle.groundreg.specs.Reading.{TakesAtMost};
+ghost use Rattle.groundreg.specs.Reading.{TakesAtMost, longest_file};
 
 use crate::fault::Fault;
 use crate::input::read_file;
@@ -17,7 +17,7 @@ use ags_dict::laws::one_dictionary;
 use ags_dict::{DictError, Dictionary};
 use ags_rows::laws::one_list_of_findings;
 use ags_rows::vectors::MINI;
-use ags_rows::{Finding, LIMIT, Sequence};
+use ags_rows::{Finding, Sequence};
 use std::alloc::{AllocError, Global};
 use std::io::{Read, Write};
 
@@ -42,7 +42,7 @@ fn findings_under(
     dictionary: &Dictionary,
     bytes: &[u8],
 ) -> Result<Sequence<Finding>, AllocError>
-    requires { length bytes.now ≤ LIMIT }
+    requires { length bytes.now ≤ longest_file }
     ensures { IfOk result (λ found. Findings dictionary.now bytes.now found) }
 {
     match check(alloc, dictionary, bytes) {
@@ -54,7 +54,7 @@ fn findings_under(
 
 /// The findings of a file under the built-in dictionary.
 fn findings_of(alloc: Global, bytes: &[u8]) -> Result<Sequence<Finding>, Fault>
-    requires { length bytes.now ≤ LIMIT }
+    requires { length bytes.now ≤ longest_file }
     ensures found { IfOk result (λ found. FileFindings bytes.now found) }
     ensures fault { FindsIn bytes.now result }
 {
@@ -64,7 +64,7 @@ fn findings_of(alloc: Global, bytes: &[u8]) -> Result<Sequence<Finding>, Fault>
 
 /// What is printed for the file that the stream carries.
 fn report_on<R: Read>(alloc: Global, input: &mut Watched<R>) -> Result<Report, Fault>
-    ensures taken { TakesAtMost (LIMIT + 1) (R.remaining input.old.inner) (R.remaining input.new.inner) }
+    ensures taken { TakesAtMost (longest_file + 1) (R.remaining input.old.inner) (R.remaining input.new.inner) }
     ensures status { IfOk result (λ report. report.status ≤ 1) }
     ensures noted { input.new.failed ≡ (input.old.failed || is_stream_fault result) }
     ensures answers { IfSome (R.remaining input.old.inner) (λ bytes. ReportsOn bytes result) }
@@ -85,9 +85,9 @@ pub fn check_stream<R: Read, W: Write, E: Write>(
     requires out { out.old.failed ≡ false }
     requires err { err.old.failed ≡ false }
     ensures failed { (result ≡ fault_status Stream) ↔ IsTrue (input.new.failed || (out.new.failed || err.new.failed)) }
-    ensures taken { TakesAtMost (LIMIT + 1) (R.remaining input.old.inner) (R.remaining input.new.inner) }
+    ensures taken { TakesAtMost (longest_file + 1) (R.remaining input.old.inner) (R.remaining input.new.inner) }
     ensures answers { IfSome (R.remaining input.old.inner) (λ bytes.
-        AnswersOn bytes (W.contents out.old.inner) (W.contents out.new.inner) (E.contents err.old.inner) (E.contents err.new.inner) result) }
+        AnswersOn bytes (W.contents out.old.inner) (W.contents out.new.inner) (E.contents err.old.inner) (E.contents err.new.inner) input.new.failed out.new.failed err.new.failed result) }
 {
     match report_on(alloc, input) {
         Ok(report) => report.print(out),

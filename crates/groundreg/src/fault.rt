@@ -2,9 +2,9 @@
 
 ghost use Rattle.std.specs.Prelude.{◌≡◌};
 ghost use Rattle.groundreg.specs.Faults.{fault_text, fault_status, Tells};
-ghost use Rattle.groundreg.specs.declared.fault.Fault.TheVariants.{NoMemory};
+ghost use Rattle.groundreg.specs.declared.fault.Fault.TheVariants.{NoMemory, Stream};
 
-use crate::watched::Watched;
+use crate::watched::{StreamFailed, Watched};
 use std::alloc::AllocError;
 use std::io::Write;
 
@@ -28,6 +28,14 @@ impl From<AllocError> for Fault {
 
     fn from(_refused: AllocError) -> Fault {
         Fault::NoMemory
+    }
+}
+
+impl From<StreamFailed> for Fault {
+    ghost from_gives = { λ _ fault. fault ≡ Stream };
+
+    fn from(_failed: StreamFailed) -> Fault {
+        Fault::Stream
     }
 }
 

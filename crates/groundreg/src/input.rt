@@ -2,7 +2,7 @@
 
 ghost use Rattle.std.specs.Prelude.{◌≡◌, ◌||◌, ◌+◌, ◌<◌, ◌≤◌, IfOk, IfErr, IfSome, length};
 ghost use Rattle.groundreg.specs.Faults.{is_stream_fault};
-ghost use Rattle.groundreg.specs.Reading.{Appended, IsOfReading, ReadsFile, TakesAtMost};
+ghost use Rattle.groundreg.specs.Reading.{Appended, IsOfReading, ReadsFile, TakesAtMost, longest_file};
 
 use crate::fault::Fault;
 use crate::watched::Watched;
@@ -29,17 +29,15 @@ fn read_piece<R: Read>(
     ensures fault { IfErr result IsOfReading }
     ensures noted { input.new.failed ≡ (input.old.failed || is_stream_fault result) }
 {
-    let Ok(count) = input.read(&mut piece[..room]) else {
-        return Err(Fault::Stream);
-    };
+    let count = input.read(&mut piece[..room])?;
     bytes.extend_from_slice(&piece[..count])?;
     Ok(count)
 }
 
 /// All bytes of the stream. No byte beyond the one after LIMIT is asked for.
 pub fn read_file<R: Read>(alloc: Global, input: &mut Watched<R>) -> Result<Vec<u8>, Fault>
-    ensures taken { TakesAtMost (LIMIT + 1) (R.remaining input.old.inner) (R.remaining input.new.inner) }
-    ensures short { IfOk result (λ bytes. length bytes.items ≤ LIMIT) }
+    ensures taken { TakesAtMost (longest_file + 1) (R.remaining input.old.inner) (R.remaining input.new.inner) }
+    ensures short { IfOk result (λ bytes. length bytes.items ≤ longest_file) }
     ensures noted { input.new.failed ≡ (input.old.failed || is_stream_fault result) }
     ensures file { IfSome (R.remaining input.old.inner) (λ all. ReadsFile all result) }
 {

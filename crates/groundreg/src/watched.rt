@@ -1,12 +1,16 @@
 //! Streams that note whether they failed.
 
-ghost use Rattle.std.specs.Prelude.{◌≡◌, ◌||◌, false, OnOk};
+ghost use Rattle.std.specs.Prelude.{◌≡◌, ◌||◌, ◌<◌, ◌≤◌, false, length, IfOk};
 ghost use Rattle.std.specs.Result.{is_err};
 ghost use Rattle.std.specs.Io.{ReadsAtMost};
-ghost use Rattle.std.specs.Io.KnownBytes.{Appends, ReadConsumes};
+ghost use Rattle.std.specs.Io.KnownBytes.{Keeps, ReadConsumes, WriteAppends};
+ghost use Rattle.groundreg.specs.Writing.{WritesText};
 
-use std::io;
 use std::io::{Read, Write};
+
+/// A read or a write that failed.
+#[derive(Clone, Copy, Debug, PartialEq, Eq)]
+pub struct StreamFailed;
 
 /// A reader or a writer, and whether a call of it has failed.
 #[derive(Drop)]
@@ -36,28 +40,56 @@ impl<T> Watched<T> {
 
 impl<R: Read> Watched<R> {
     /// One read.
-    pub fn read(&mut self, buf: &mut [u8]) -> io::Result<usize>
+    pub fn read(&mut self, buf: &mut [u8]) -> Result<usize, StreamFailed>
         ensures bound { ReadsAtMost result buf.new }
         ensures bytes { ReadConsumes (R.remaining self.old.inner) (R.remaining self.new.inner) result buf.new }
         ensures noted { self.new.failed ≡ (self.old.failed || is_err result) }
     {
-        let result = self.inner.read(buf);
+        let result = self.inner.read(buf).map_err(|_| StreamFailed);
         self.failed = self.failed || result.is_err();
         result
     }
 }
 
 impl<W: Write> Watched<W> {
-    /// Writes all of a text, and has the writer pass it on.
-    pub fn write_text(&mut self, text: &[u8]) -> io::Result<()>
-        ensures bytes { OnOk result (Appends (W.contents self.old.inner) (W.contents self.new.inner) text.now) }
+    /// One write of some bytes. A writer that takes none of them has failed.
+    fn write(&mut self, bytes: &[u8]) -> Result<usize, StreamFailed>
+        requires some { 0 < length bytes.now }
+        ensures bound { IfOk result (λ count. (0 < count) × (count ≤ length bytes.now)) }
+        ensures bytes { WriteAppends (W.contents self.old.inner) (W.contents self.new.inner) result bytes.now }
         ensures noted { self.new.failed ≡ (self.old.failed || is_err result) }
     {
-        let mut result = self.inner.write_all(text);
-        if result.is_ok() {
-            result = self.inner.flush();
-        }
+        let result = match self.inner.write(bytes) {
+            Ok(count) if count > 0 => Ok(count),
+            _ => Err(StreamFailed),
+        };
         self.failed = self.failed || result.is_err();
         result
+    }
+
+    /// Has the writer pass on what it holds.
+    fn flush(&mut self) -> Result<(), StreamFailed>
+        ensures bytes { Keeps (W.contents self.old.inner) (W.contents self.new.inner) }
+        ensures noted { self.new.failed ≡ (self.old.failed || is_err result) }
+    {
+        let result = self.inner.flush().map_err(|_| StreamFailed);
+        self.failed = self.failed || result.is_err();
+        result
+    }
+
+    /// Writes all of a text, and has the writer pass it on. An empty text calls nothing.
+    pub fn write_text(&mut self, text: &[u8]) -> Result<(), StreamFailed>
+        ensures bytes { WritesText (W.contents self.old.inner) (W.contents self.new.inner) result text.now }
+        ensures noted { self.new.failed ≡ (self.old.failed || is_err result) }
+    {
+        if text.is_empty() {
+            return Ok(());
+        }
+        let mut rest = text;
+        'writing: while !rest.is_empty() {
+            let count = self.write(rest)?;
+            rest = &rest[count..];
+        }
+        self.flush()
     }
 }

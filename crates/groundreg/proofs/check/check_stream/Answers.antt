@@ -9,7 +9,9 @@ returns-in-Ok-clause-failed g c =
     (c.in-Ok.ensures.noted ∙ ap (λ b. b || false) c.requires.input) c.requires.out c.requires.err c.in-Ok.ensures.status c.print.ensures
 
 pub returns-in-Ok-clause-answers : goal.returns-in-Ok-clause-answers
-returns-in-Ok-clause-answers g c = report_answers _ _ _ _ c.in-Ok.report _ _ _ c.in-Ok.ensures.answers c.print.ensures
+returns-in-Ok-clause-answers g c =
+    report_answers _ _ _ _ c.in-Ok.report _ _ _ _ _ (c.in-Ok.ensures.noted ∙ ap (λ b. b || false) c.requires.input) c.requires.out c.requires.err
+    c.in-Ok.ensures.answers c.print.ensures
 
 pub returns-in-Err-clause-failed : goal.returns-in-Err-clause-failed
 returns-in-Err-clause-failed g c =
@@ -17,4 +19,6 @@ returns-in-Err-clause-failed g c =
     (c.in-Err.ensures.noted ∙ ap (λ b. b || is_stream c.in-Err.fault) c.requires.input) c.requires.out c.requires.err c.tell.ensures
 
 pub returns-in-Err-clause-answers : goal.returns-in-Err-clause-answers
-returns-in-Err-clause-answers g c = fault_answers _ _ _ _ c.in-Err.fault _ _ _ c.in-Err.ensures.answers c.tell.ensures
+returns-in-Err-clause-answers g c =
+    fault_answers _ _ _ _ c.in-Err.fault _ _ _ _ _ (c.in-Err.ensures.noted ∙ ap (λ b. b || is_stream c.in-Err.fault) c.requires.input) c.requires.out c.requires.err
+    c.in-Err.ensures.answers c.tell.ensures

@@ -1,4 +1,4 @@
-use Rattle.std.proofs.Common.{List, ℕ, [], subst}
+use Rattle.std.proofs.Common.{[], subst}
 use Rattle.ags_check.specs.Findings.{Findings}
 use Rattle.groundreg.proofs.check.findings_under.Goals as goal
 

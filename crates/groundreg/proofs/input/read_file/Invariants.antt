@@ -1,17 +1,17 @@
 use Rattle.std.proofs.Common.{◌≡◌, ◌+◌, ◌-◌, ◌≤◌, length, vec_len}
 use Rattle.std.specs.Io.KnownBytes.{Consumes}
-use Rattle.ags_rows.specs.declared.TheConstants.{LIMIT}
+use Rattle.groundreg.specs.Reading.{longest_file}
 use Rattle.groundreg.specs.declared.input.TheConstants.{PIECE}
 use Rattle.groundreg.proofs.input.read_file.Given as goal
 
--- what was read are the first bytes, and no more than the one after LIMIT
+-- what was read are the first bytes, and no more than the one after the longest file
 abbrev pub invariant-reading : goal.invariant-reading
 invariant-reading g l = record {
-  within : length l.bytes.items ≤ LIMIT + 1;
+  within : length l.bytes.items ≤ longest_file + 1;
   wide : vec_len l.piece ≡ PIECE;
   noted : l.input.failed ≡ l.initial.input.failed;
   taken : Consumes (g.R.Read.remaining l.initial.input.inner) (g.R.Read.remaining l.input.inner) l.bytes.items;
 }
 
 abbrev pub decreases-reading : goal.decreases-reading
-decreases-reading g l = LIMIT + 1 - length l.bytes.items
+decreases-reading g l = longest_file + 1 - length l.bytes.items

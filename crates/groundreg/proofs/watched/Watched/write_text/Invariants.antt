@@ -1,0 +1,12 @@
+use Rattle.std.proofs.Common.{◌≡◌, ℕ, List, ◌++◌, length}
+use Rattle.std.specs.Io.KnownBytes.{Appends}
+use Rattle.groundreg.proofs.watched.Watched.write_text.Given as goal
+
+-- what is gone from the rest was taken, and no write failed
+abbrev pub invariant-writing : goal.invariant-writing
+invariant-writing g l =
+    ((done : List ℕ) × (l.initial.text ≡ done ++ l.rest) × Appends (g.W.Write.contents l.initial.self.inner) (g.W.Write.contents l.self.inner) done)
+    × (l.self.failed ≡ l.initial.self.failed)
+
+abbrev pub decreases-writing : goal.decreases-writing
+decreases-writing g l = length l.rest
