@@ -2,4 +2,5 @@ pub mod Parts
 pub mod Entries
 pub mod Index
 pub mod Reading
+pub mod Mini
 pub mod Laws
