@@ -76,17 +76,20 @@ def short(size):
     return b"x\n" * (size // 2)
 
 
+def own_dict(rows):
+    """A DICT of the file's own."""
+    return group("DICT", ["DICT_TYPE", "DICT_GRP", "DICT_HDNG", "DICT_STAT", "DICT_PGRP"], [""] * 5, ["X"] * 5, rows)
+
+
 def steps(size):
     """A group of the file's own DICT whose parent has none of its keys: every row of the one is a parent of every row of the other."""
-    own = group("DICT", ["DICT_TYPE", "DICT_GRP", "DICT_HDNG", "DICT_STAT", "DICT_PGRP"], [""] * 5, ["X"] * 5,
-                [["GROUP", "ABCD", "", "", "LOCA"], ["HEADING", "ABCD", "ABCD_ID", "KEY", ""]])
+    own = own_dict([["GROUP", "ABCD", "", "", "LOCA"], ["HEADING", "ABCD", "ABCD_ID", "KEY", ""]])
     return largest(size, lambda count: FRONT + holes(count) + group("ABCD", ["ABCD_ID"], [""], ["ID"], ([f"{n}"] for n in range(count))) + own)
 
 
 def own_dictionary(name, parent, headings, status):
     """A DICT that gives a group, its parent, and its headings, all of one status."""
-    return group("DICT", ["DICT_TYPE", "DICT_GRP", "DICT_HDNG", "DICT_STAT", "DICT_PGRP"], [""] * 5, ["X"] * 5,
-                 [["GROUP", name, "", "", parent]] + [["HEADING", name, heading, status, ""] for heading in headings])
+    return own_dict([["GROUP", name, "", "", parent]] + [["HEADING", name, heading, status, ""] for heading in headings])
 
 
 def of_width(width, status, code, entries):
@@ -111,4 +114,19 @@ def wide_links(size):
     return largest(size, of_width(5000, "OTHER", "RL", lambda n: ["PROJ|P7" if place % 10 == n % 10 else "" for place in range(5000)]), 10)
 
 
-ALL = [flat, deep, ring, broken, short, steps, narrow, wide, wide_links]
+def dict_of_one(size):
+    """A DICT of the file's own with as many headings as there is room for, all of one group."""
+    return largest(size, lambda count: FRONT + own_dict(["HEADING", "LOCA", f"LOCA_{n}", "OTHER", ""] for n in range(count)))
+
+
+def dict_of_many(size):
+    """The same, of a thousand groups that the DICT does not name."""
+    return largest(size, lambda count: FRONT + own_dict(["HEADING", f"G{n % 1000}", f"G{n % 1000}_{n}", "OTHER", ""] for n in range(count)))
+
+
+def dict_of_the_same(size):
+    """The same, each of which restates one that the standard dictionary has."""
+    return largest(size, lambda count: FRONT + own_dict(["HEADING", "LOCA", "LOCA_ID", "OTHER", ""] for n in range(count)))
+
+
+ALL = [flat, deep, ring, broken, short, steps, narrow, wide, wide_links, dict_of_one, dict_of_many, dict_of_the_same]

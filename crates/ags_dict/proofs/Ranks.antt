@@ -1,5 +1,5 @@
 -- The place of a heading in a group's order.
-use Rattle.std.proofs.Common.{◌≡◌, ℕ, zero, suc, ◌+◌, ◌<◌, ◌≤◌, Bool, true, false, cond, not, eqb, ltb, List, [], ◌∷◌, ◌++◌, length, map, Option, Some, None, position, slice_get, refl, sym, ap, ◌∙◌, inl, inr, arith, add-zero, ◌&&◌}
+use Rattle.std.proofs.Common.{◌≡◌, ℕ, ◌+◌, ◌<◌, ◌≤◌, Bool, false, cond, not, eqb, ltb, List, [], ◌∷◌, ◌++◌, length, map, Option, Some, None, position, slice_get, refl, sym, ap, ◌∙◌, inl, inr, arith, add-zero, ◌&&◌}
 use Rattle.std.specs.List.{find, filter, position_or_len}
 use Rattle.std.specs.Option.{option_and_then, option_or}
 use Rattle.std.specs.Str.{bytes_eq}

@@ -169,6 +169,7 @@ fn questions(rt: HostRuntime) -> Result<(), Fail> {
     assert_eq!(rt; mini.place_in_order(b"LNMC", b"SPEC_DPTH"), Some(3));
     assert!(rt; mini.elsewhere(b"SAMP", b"LOCA_ID"));
     assert!(rt; !mini.elsewhere(b"LNMC", b"LNMC_MC"));
+    assert_eq!(rt; (mini.group_count(), mini.heading_count()), (10, 38));
     Ok(())
 }
 
@@ -203,6 +204,7 @@ fn loose_spelling(rt: HostRuntime) -> Result<(), Fail> {
         (b"PROJ_NAME".as_slice(), b"PROJ_NAM\xC3\xA9".as_slice()),
     ] {
         let bytes = replaced(alloc, MINI, old, new)?;
+        assert!(rt; bytes.as_slice() != MINI);
         assert_eq!(rt; refusal(alloc, bytes.as_slice())?.as_str(), "");
     }
     Ok(())
@@ -331,10 +333,14 @@ fn own_entries_come_last(rt: HostRuntime) -> Result<(), Fail> {
 }
 
 #[test]
-fn own_entries_are_told(rt: HostRuntime) -> Result<(), Fail> {
+fn own_entries_are_found(rt: HostRuntime) -> Result<(), Fail> {
     let extended = extended(rt.alloc(), OWN_DICT)?;
     assert_eq!(rt; extended.place_in_order(b"LOCA", b"LOCA_XTRA"), Some(5));
     assert!(rt; !extended.elsewhere(b"LOCA", b"LOCA_XTRA"));
     assert!(rt; extended.elsewhere(b"SAMP", b"LOCA_XTRA"));
+    assert_eq!(rt;
+        (extended.group_count(), extended.heading_count()),
+        (11, 39)
+    );
     Ok(())
 }

@@ -1,4 +1,4 @@
-use Rattle.std.proofs.Common.{◌≡◌, sym, ◌∙◌}
+use Rattle.std.proofs.Common.{sym, ◌∙◌}
 use Rattle.ags_rows.specs.Contents.{group_contents}
 use Rattle.ags_dict.specs.Entries.{is_dict}
 use Rattle.ags_dict.proofs.Found.{seen_more, seen_at, seen_all}

@@ -1,4 +1,3 @@
-use Rattle.std.proofs.Common.{◌≡◌, ap, ◌∙◌}
 use Rattle.ags_dict.specs.Entries.{heading_of}
 use Rattle.ags_dict.proofs.Picked.{picked_each}
 use Rattle.ags_dict.proofs.dictionary.Dictionary.order.Goals as goal

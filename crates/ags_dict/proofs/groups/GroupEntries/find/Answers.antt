@@ -1,4 +1,4 @@
-use Rattle.std.proofs.Common.{◌≡◌, ℕ, List, Option, Some, None, sym, ap, ◌∙◌, slice_get, option_copied}
+use Rattle.std.proofs.Common.{ℕ, List, Option, sym, ap, ◌∙◌, slice_get, option_copied}
 use Rattle.std.specs.List.{find}
 use Rattle.std.specs.Option.{option_and_then}
 use Rattle.ags_dict.specs.declared.entries.GroupEntry.{GroupEntry}

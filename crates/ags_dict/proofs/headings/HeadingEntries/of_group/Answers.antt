@@ -1,4 +1,4 @@
-use Rattle.std.proofs.Common.{◌≡◌, ℕ, List, [], ◌∷◌, ◌++◌, Option, Bor, Vec, Global, map, take, slice_get, sym, ap, ◌∙◌}
+use Rattle.std.proofs.Common.{List, ◌++◌, Option, Bor, Vec, Global, map, slice_get, sym, ap, ◌∙◌}
 use Rattle.std.specs.List.{filter, filter_map}
 use Rattle.std.specs.Option.{option_to_list}
 use Rattle.std.proofs.lemmas.List.{append-nil, take_all}

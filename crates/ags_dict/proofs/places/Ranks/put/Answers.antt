@@ -1,9 +1,9 @@
-use Rattle.std.proofs.Common.{◌≡◌, ℕ, List, Option, Some, None, cond, Bool, refl, sym, ap, ◌∙◌, inl, inr, ◌&&◌, Global, Vec}
+use Rattle.std.proofs.Common.{◌≡◌, ℕ, List, Option, Some, None, cond, Bool, refl, sym, ap, ◌∙◌, inl, inr, Global, Vec}
 use Rattle.std.specs.BTreeMap.{BTreeMap}
 use Rattle.std.specs.Option.{option_and_then}
 use Rattle.std.specs.Str.{bytes_eq}
 use Rattle.std.proofs.lemmas.Bool.{cases_Bool}
-use Rattle.ags_dict.specs.Index.{rank_at, found_at}
+use Rattle.ags_dict.specs.Index.{found_at}
 use Rattle.ags_dict.proofs.Held.{held_replaced, held_updates, same_bytes}
 use Rattle.ags_dict.proofs.places.Ranks.put.Goals as goal
 use Rattle.ags_dict.proofs.places.Ranks.put.Goals.{in-Some, in-None}
