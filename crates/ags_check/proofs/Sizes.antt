@@ -1,6 +1,7 @@
 -- A file has fewer DATA rows than bytes.
 use Rattle.std.proofs.Common.{◌≡◌, ℕ, ◌+◌, ◌^◌, ◌<◌, ◌≤◌, List, [], ◌∷◌, ◌++◌, length, map, flat_map, sym, ap, ◌∙◌, arith, inl, inr}
 use Rattle.std.proofs.lemmas.List.{length-append, length-map}
+use Rattle.ags_rows.specs.declared.TheConstants.{READABLE}
 use Rattle.ags_rows.specs.declared.rows.FileRow.{FileRow}
 use Rattle.ags_rows.specs.declared.rows.Group.{Group}
 use Rattle.ags_rows.specs.Lines.{TextLine}
@@ -33,7 +34,7 @@ data_rows_fit (g ∷ groups) =
     )
 
 -- so they can be numbered
-pub few_rows : (bytes : List ℕ) (groups : List Group) → FileGroups bytes groups → length bytes ≤ 67108864 → length (data_rows (contents_of groups)) < 2 ^ 32
+pub few_rows : (bytes : List ℕ) (groups : List Group) → FileGroups bytes groups → length bytes ≤ READABLE → length (data_rows (contents_of groups)) < 2 ^ 32
 few_rows bytes groups read le =
-    let lines : length read.0.lines ≤ 67108864 = lines_within bytes read.0.lines 67108864 read.1.lines le in
+    let lines : length read.0.lines ≤ READABLE = lines_within bytes read.0.lines READABLE read.1.lines le in
     omega (arith, lines, rows_fit 1 read.0.lines read.0.rows read.1.rows, data_rows_fit groups, ap length read.3)

@@ -17,7 +17,7 @@ use crate::header::header_findings;
 use crate::rows::row_findings;
 use ags_dict::Dictionary;
 use ags_links::{Graph, Index};
-use ags_rows::{Finding, RowsError, Scan, Sequence};
+use ags_rows::{Finding, READABLE, RowsError, Scan, Sequence};
 use std::alloc::{AllocError, Global};
 use std::fmt::{self, Debug, Formatter, Write};
 use thiserror::Error;
@@ -52,7 +52,7 @@ impl Debug for CheckError {
 
 /// The groups of a file, or what its rows break.
 fn read<'a>(alloc: Global, bytes: &'a [u8]) -> Result<Scan<'a>, CheckError>
-    requires { length bytes.now ≤ 67108864 }
+    requires { length bytes.now ≤ READABLE }
     ensures groups { IfOk result (λ scan. FileGroups bytes.now scan) }
     ensures findings { (found : List Finding) → IsErrOf result (CheckError.Findings found) → RowFindings bytes.now found × (found ≢ []) }
 {
@@ -103,7 +103,7 @@ pub fn check<'a>(
     dictionary: &Dictionary,
     bytes: &'a [u8],
 ) -> Result<Checked<'a>, CheckError>
-    requires { length bytes.now ≤ 67108864 }
+    requires { length bytes.now ≤ READABLE }
     ensures bytes { IfOk result (λ checked. checked.bytes ≡ bytes.now) }
     ensures given { IfOk result (λ checked. checked.given ≡ dictionary.now) }
     ensures clean { IfOk result IsClean }

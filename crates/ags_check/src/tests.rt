@@ -5,8 +5,8 @@ mod rows;
 
 use crate::{CheckError, check};
 use ags_dict::Dictionary;
-use ags_rows::Finding;
 use ags_rows::vectors::{FILE_A, FILE_B, FILE_C, MINI};
+use ags_rows::{Finding, READABLE};
 use std::alloc::{AllocError, Global};
 use std::fmt::Write;
 use std::test::Fail;
@@ -79,7 +79,7 @@ fn printed(alloc: Global, refusal: CheckError) -> Result<String, AllocError> {
 fn checked(alloc: Global, file: &[u8], edits: &[Edit]) -> Result<String, Fail> {
     let mini = Dictionary::read(alloc, MINI)?;
     let text = edited(alloc, file, edits)?;
-    if text.len() > 67_108_864 {
+    if text.len() > READABLE {
         return Ok(String::new(alloc));
     }
     match check(alloc, &mini, text.as_slice()) {
@@ -169,7 +169,7 @@ const ALL_PARENTS: [Edit; 1] = [Edit {
 fn rows_without_link_headings_have_all_parents(rt: HostRuntime) -> Result<(), Fail> {
     let mini = Dictionary::read(rt.alloc(), MINI)?;
     let text = edited(rt.alloc(), FILE_A, &ALL_PARENTS)?;
-    assert!(rt; text.len() <= 67_108_864);
+    assert!(rt; text.len() <= READABLE);
     let checked = check(rt.alloc(), &mini, text.as_slice())?;
     assert_eq!(rt; checked.graph().steps().len(), 6);
     Ok(())

@@ -12,7 +12,7 @@ ghost use Rattle.ags_dict.specs.Reading.{IsDictionary, LacksDict, LacksHeading};
 
 use crate::dictionary::Dictionary;
 use crate::extending::{is_dict, take_contents};
-use ags_rows::{Cell, Finding, Group, RowsError, Scan, Sequence};
+use ags_rows::{Cell, Finding, Group, READABLE, RowsError, Scan, Sequence};
 use std::alloc::{AllocError, Global};
 use std::fmt;
 use thiserror::Error;
@@ -99,7 +99,7 @@ fn lacks_heading(groups: &[Group]) -> bool
 impl Dictionary {
     /// The dictionary that a file is.
     pub fn read(alloc: Global, bytes: &[u8]) -> Result<Dictionary, DictError>
-        requires { length bytes.now ≤ 67108864 }
+        requires { length bytes.now ≤ READABLE }
         ensures entries { IfOk result (λ dictionary. IsDictionary bytes.now dictionary) }
         ensures findings { (found : List Finding) → IsErrOf result (DictError.NotDictionary found) → LooseFindings bytes.now found × (found ≢ []) }
         ensures no_dict { IsErrOf result DictError.NoDict → LacksDict bytes.now }

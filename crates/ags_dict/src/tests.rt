@@ -1,6 +1,6 @@
 use crate::{DictError, Dictionary};
 use ags_rows::vectors::{FILE_A, MINI};
-use ags_rows::{Finding, Scan};
+use ags_rows::{Finding, READABLE, Scan};
 use std::alloc::{AllocError, Global};
 use std::fmt::Write;
 use std::test::Fail;
@@ -74,7 +74,7 @@ fn replaced(alloc: Global, bytes: &[u8], old: &[u8], new: &[u8]) -> Result<Vec<u
 
 /// The dictionary that bytes are.
 fn read(alloc: Global, bytes: &[u8]) -> Result<Dictionary, DictError> {
-    if bytes.len() > 67_108_864 {
+    if bytes.len() > READABLE {
         return Err(DictError::NoMemory);
     }
     Dictionary::read(alloc, bytes)
@@ -126,7 +126,7 @@ fn said(alloc: Global, dictionary: &Dictionary, group: &[u8]) -> Result<Vec<u8>,
 /// MINI, extended by the DICT of a file.
 fn extended(alloc: Global, file: &[u8]) -> Result<Dictionary, DictError> {
     let mini = read(alloc, MINI)?;
-    if file.len() > 67_108_864 {
+    if file.len() > READABLE {
         return Err(DictError::NoMemory);
     }
     match Scan::read(alloc, file) {

@@ -7,8 +7,8 @@ use crate::plain::passes::{reached_by_passes, shown_by_passes};
 use crate::plain::search::{first_of_key_by_search, parents_by_search};
 use crate::{Graph, Index, Targets, reached, shown};
 use ags_dict::Dictionary;
-use ags_rows::Scan;
 use ags_rows::vectors::{FILE_A, FILE_B, FILE_C, MINI};
+use ags_rows::{READABLE, Scan};
 use std::fmt::Write;
 use std::process::Abort;
 use std::test::Fail;
@@ -32,7 +32,7 @@ const FILES: &[u8] = b"\
 
 /// The dictionary that the files are read under.
 fn dictionary(rt: &(impl Abort + AllocGlobal)) -> Dictionary {
-    assert!(rt; MINI.len() <= 67_108_864);
+    assert!(rt; MINI.len() <= READABLE);
     match Dictionary::read(rt.alloc(), MINI) {
         Ok(dictionary) => dictionary,
         Err(_) => panic!(rt; "no dictionary"),
@@ -43,7 +43,7 @@ fn dictionary(rt: &(impl Abort + AllocGlobal)) -> Dictionary {
 fn scanned<'f>(rt: &(impl Abort + AllocGlobal), file: &'f [u8]) -> Scan<'f>
     ensures { length (data_rows (contents_of result)) < 2 ^ 32 }
 {
-    assert!(rt; file.len() <= 67_108_864);
+    assert!(rt; file.len() <= READABLE);
     match Scan::read(rt.alloc(), file) {
         Ok(scan) => scan,
         Err(_) => panic!(rt; "the file has findings"),
