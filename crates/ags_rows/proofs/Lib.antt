@@ -13,3 +13,4 @@ pub mod WellFormed
 pub mod Texts
 pub mod Formed
 pub mod RoundTrip
+pub mod FirstPlaces

@@ -10,6 +10,7 @@ pub mod Groups
 pub mod FindingOrder
 pub mod Names
 pub mod Contents
+pub mod Places
 pub mod Stands
 pub mod Findings
 pub mod Parsing
