@@ -6,6 +6,7 @@ pub mod Breaking
 pub mod Repeats
 pub mod Cuts
 pub mod Files
+pub mod FewRows
 pub mod Once
 pub mod Appending
 pub mod Written

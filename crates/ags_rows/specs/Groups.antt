@@ -1,5 +1,5 @@
 -- The groups of a file (Rule 2): a GROUP row and all rows before the next one.
-use Rattle.std.specs.Prelude.{◌≡◌, List, [], ◌∷◌, map, flat_map}
+use Rattle.std.specs.Prelude.{◌≡◌, ℕ, List, [], ◌∷◌, map, flat_map, length}
 use Rattle.ags_rows.specs.declared.rows.Descriptor.TheVariants as kinds
 use Rattle.ags_rows.specs.declared.rows.FileRow.{FileRow}
 use Rattle.ags_rows.specs.declared.rows.Row.{Row}
@@ -21,3 +21,7 @@ rows_of group =
 -- The rows are cut into these groups: the groups' rows, one group after the other, are the rows.
 abbrev pub Groups : List FileRow → List Group → Type 0
 Groups rows groups = flat_map rows_of groups ≡ rows
+
+-- how many DATA rows the groups have in all
+abbrev pub row_count : List Group → ℕ
+row_count groups = length (flat_map (λ g. g.rows) groups)

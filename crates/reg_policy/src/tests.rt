@@ -3,7 +3,7 @@ use crate::{
     Callers, CallersError, Day, Decision, Name, NameError, Policy, PolicyError, RowFacts, Subject,
     Verb, vectors,
 };
-use ags_rows::Cell;
+use ags_rows::{Cell, cells};
 use std::alloc::Global;
 use std::test::Fail;
 
@@ -202,26 +202,35 @@ fn requests_decided(rt: HostRuntime) -> Result<(), Fail> {
     Ok(())
 }
 
+/// The fields that a line spells.
+fn fields(alloc: Global, line: &[u8]) -> Result<Vec<Cell<'_>>, Fail> {
+    let found = cells(alloc, line)?;
+    Ok(found.ok_or("a line of fields")?)
+}
+
 #[test]
 fn rows_decided(rt: HostRuntime) -> Result<(), Fail> {
-    let echo = Asker::new(rt.alloc(), vectors::POLICY, "Echo", "consultant")?;
-    let headings = [Cell::borrowed(b"LOCA_ID"), Cell::borrowed(b"LOCA_STAT")];
-    let preliminary = [Cell::borrowed(b"BH2"), Cell::borrowed(b"PRELIM")];
-    let misplaced = [Cell::borrowed(b"PRELIM"), Cell::borrowed(b"FINAL")];
+    let alloc = rt.alloc();
+    let echo = Asker::new(alloc, vectors::POLICY, "Echo", "consultant")?;
+    let headings = fields(alloc, b"\"LOCA_ID\",\"LOCA_STAT\"")?;
+    let preliminary = fields(alloc, b"\"BH2\",\"PRELIM\"")?;
+    let misplaced = fields(alloc, b"\"PRELIM\",\"FINAL\"")?;
+    let preliminary = preliminary.as_slice();
+    let misplaced = misplaced.as_slice();
     let cases: [(&[u8], bool, bool, &[Cell], Decision); 6] = [
-        (b"PROJ", false, false, &preliminary, Decision::Deny(60)),
-        (b"PROJ", false, true, &preliminary, Decision::Permit(80)),
-        (b"PROJ", true, false, &preliminary, Decision::Permit(50)),
-        (b"LOCA", false, true, &preliminary, Decision::Deny(70)),
-        (b"LOCA", false, true, &misplaced, Decision::Permit(80)),
-        (b"LOCA", true, true, &preliminary, Decision::Permit(50)),
+        (b"PROJ", false, false, preliminary, Decision::Deny(60)),
+        (b"PROJ", false, true, preliminary, Decision::Permit(80)),
+        (b"PROJ", true, false, preliminary, Decision::Permit(50)),
+        (b"LOCA", false, true, preliminary, Decision::Deny(70)),
+        (b"LOCA", false, true, misplaced, Decision::Permit(80)),
+        (b"LOCA", true, true, preliminary, Decision::Permit(50)),
     ];
     for (group, own, past, cells, want) in cases {
         let row = RowFacts {
             group,
             own,
             past,
-            headings: &headings,
+            headings: headings.as_slice(),
             cells,
         };
         assert!(rt; echo.see(row) == want);
@@ -231,15 +240,16 @@ fn rows_decided(rt: HostRuntime) -> Result<(), Fail> {
 
 #[test]
 fn samples_decided(rt: HostRuntime) -> Result<(), Fail> {
-    let echo = Asker::new(rt.alloc(), vectors::POLICY, "Echo", "consultant")?;
-    let headings = [Cell::borrowed(b"LOCA_ID"), Cell::borrowed(b"SAMP_REF")];
-    let cells = [Cell::borrowed(b"BH1"), Cell::borrowed(b"S9")];
+    let alloc = rt.alloc();
+    let echo = Asker::new(alloc, vectors::POLICY, "Echo", "consultant")?;
+    let headings = fields(alloc, b"\"LOCA_ID\",\"SAMP_REF\"")?;
+    let sample = fields(alloc, b"\"BH1\",\"S9\"")?;
     let row = RowFacts {
         group: b"SAMP",
         own: false,
         past: true,
-        headings: &headings,
-        cells: &cells,
+        headings: headings.as_slice(),
+        cells: sample.as_slice(),
     };
     assert!(rt; echo.see(row) == Decision::Deny(75));
     Ok(())

@@ -33,9 +33,9 @@ returns c =
     c.in_ok-note_row_links.ensures
     (subst (λ (e : Entries). Adds (InHeadings (required_of e group.name) (required_rules row.line r)) f2 f3) c.requires.entries c.in_ok-note_row_lacking.ensures)
     (c.in_ok-repeats.ensures r c.requires.row refl c.requires.entries)
-    (subst (λ (name : List ℕ). f4 ≡ f3 ++ found_if row.line Rule10a name repeats) c.name-name.ensures c.in_ok-note.ensures)
+    (subst (λ (name : List ℕ). f4 ≡ f3 ++ found_if row.line Rule10a name repeats) c.name-name.ensures c.in_ok-note.ensures.noted)
     (c.in_ok-is_orphan.ensures r c.requires.row refl c.requires.entries)
-    (subst (λ (name : List ℕ). f5 ≡ f4 ++ found_if row.line Rule10c name orphan) c.name-name.ensures c.in_ok-note-2.ensures)
+    (subst (λ (name : List ℕ). f5 ≡ f4 ++ found_if row.line Rule10c name orphan) c.name-name.ensures c.in_ok-note-2.ensures.noted)
     (subst (λ (l : List Contents). IsTrue unlisted ↔ IsUnlistedFileSet l r) c.requires.listed
     (subst (λ (cells : List (List ℕ)). IsTrue unlisted ↔ IsUnlistedFileSet c.args.listed.now (row_in (group_contents group) cells)) c.as_slice.ensures c.is_unlisted_file_set-is_unlisted.ensures))
-    c.in_ok-note-3.ensures
+    c.in_ok-note-3.ensures.noted

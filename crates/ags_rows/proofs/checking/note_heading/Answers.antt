@@ -13,5 +13,5 @@ returns-clause-noted c =
     let is = c.is_heading_name-is_wrong in
     IfOk-weaker c.note_repeat.result _ _ (λ _ again.
     two_rules old mid c.note_repeat.new.findings.items
-    (adds_note c.args.line Rule19a name _ _ old mid (λ e. sym is.ensures ∙ not_is is.result e) (λ e. is_not is.result (is.ensures ∙ e)) c.in_ok-note.ensures)
+    (adds_note c.args.line Rule19a name _ _ old mid (λ e. sym is.ensures ∙ not_is is.result e) (λ e. is_not is.result (is.ensures ∙ e)) c.in_ok-note.ensures.noted)
     again) c.note_repeat.ensures.noted

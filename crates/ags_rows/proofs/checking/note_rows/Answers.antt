@@ -20,7 +20,7 @@ loop-row-preserved c =
     let new = c.note.new.findings.items in
     let at = slice_get_read items _ c.loop-row.row-index row refl c.loop-row-test.true c.row-item.is in
     among_more items (λ place row. Notes row.line Rule4 name (length row.cells ≢ width)) c.loop-row.row-index row c.args.findings.now.items old new at c.loop-row.invariant
-    (adds_note row.line Rule4 name _ (length row.cells ≢ width) old new (differs c.len.result width (length row.cells) width c.len.ensures refl) (differ c.len.result width (length row.cells) width c.len.ensures refl) c.in_ok-note.ensures)
+    (adds_note row.line Rule4 name _ (length row.cells ≢ width) old new (differs c.len.result width (length row.cells) width c.len.ensures refl) (differ c.len.result width (length row.cells) width c.len.ensures refl) c.in_ok-note.ensures.noted)
 
 pub returns : goal.returns
 returns c =

@@ -19,5 +19,5 @@ returns c = λ other there.
     let new = c.note-2.new.findings.items in
     subst (λ (r : FileRow). Adds (OneOf (row_rules rows c.args.place r)) old new) (some_same row other (slice_get rows c.args.place) at there)
     (two_rules old mid new
-    (adds_note row.line Rule2b [] c.is_out_of_place-is_out.result _ old mid out.0 out.1 c.in_ok-note.ensures)
-    (adds_note row.line Rule4 [] c.is_unnamed-is_unnamed.result _ mid new c.is_unnamed-is_unnamed.ensures.0 c.is_unnamed-is_unnamed.ensures.1 c.in_ok-note-2.ensures))
+    (adds_note row.line Rule2b [] c.is_out_of_place-is_out.result _ old mid out.0 out.1 c.in_ok-note.ensures.noted)
+    (adds_note row.line Rule4 [] c.is_unnamed-is_unnamed.result _ mid new c.is_unnamed-is_unnamed.ensures.0 c.is_unnamed-is_unnamed.ensures.1 c.in_ok-note-2.ensures.noted))

@@ -20,5 +20,5 @@ pub returns : goal.returns
 returns c =
     let rows = c.args.rows.now in
     two_rules c.args.findings.now.items c.note.new.findings.items c.loop-place.findings.items
-    (adds_note 0 Rule2 [] c.is_empty.result _ c.args.findings.now.items c.note.new.findings.items (λ e. nil_from_length rows (eqb-true _ 0 (sym c.is_empty.ensures ∙ e))) (λ e. c.is_empty.ensures ∙ eq-eqb _ 0 (ap length e)) c.in_ok-note.ensures)
+    (adds_note 0 Rule2 [] c.is_empty.result _ c.args.findings.now.items c.note.new.findings.items (λ e. nil_from_length rows (eqb-true _ 0 (sym c.is_empty.ensures ∙ e))) (λ e. c.is_empty.ensures ∙ eq-eqb _ 0 (ap length e)) c.in_ok-note.ensures.noted)
     (among_all rows (λ place row. OneOf (row_rules rows place row)) c.loop-place.place c.note.new.findings.items c.loop-place.findings.items c.loop-place-test.false c.loop-place.invariant)

@@ -12,5 +12,5 @@ returns c =
     let mid = c.note.new.findings.items in
     let new = c.note-2.new.findings.items in
     two_rules old mid new
-    (adds_note c.args.number Rule1 [] c.has_high.result _ old mid (λ e. high_any line.content (sym c.has_high.ensures ∙ e)) (λ h. c.has_high.ensures ∙ any_high line.content h) c.in_ok-note.ensures)
-    (adds_note c.args.number Rule2a [] c.eq-is_bare.result _ mid new (λ e. lf_same line.ending (sym c.eq-is_bare.ensures ∙ e)) (λ h. c.eq-is_bare.ensures ∙ same_lf line.ending h) c.in_ok-note-2.ensures)
+    (adds_note c.args.number Rule1 [] c.has_high.result _ old mid (λ e. high_any line.content (sym c.has_high.ensures ∙ e)) (λ h. c.has_high.ensures ∙ any_high line.content h) c.in_ok-note.ensures.noted)
+    (adds_note c.args.number Rule2a [] c.eq-is_bare.result _ mid new (λ e. lf_same line.ending (sym c.eq-is_bare.ensures ∙ e)) (λ h. c.eq-is_bare.ensures ∙ same_lf line.ending h) c.in_ok-note-2.ensures.noted)

@@ -6,6 +6,7 @@ use Rattle.ags_rows.specs.Rows.{Rows}
 use Rattle.ags_rows.specs.Collecting.{Adds, Among, OneOf}
 use Rattle.ags_rows.specs.Stands.{byte_rules, StandsInSpelling}
 use Rattle.ags_rows.proofs.Files.{lines_within}
+use Rattle.ags_rows.proofs.FewRows.{rows_within}
 use Rattle.ags_rows.proofs.Cuts.{some_groups}
 use Rattle.ags_rows.proofs.Collecting.{listed}
 use Rattle.ags_rows.proofs.Breaking.{adds_lines}
@@ -23,8 +24,8 @@ take_lines-requires c =
     let cut : Lines (after_mark c.args.bytes.now) lines = subst (λ t. Lines t lines) c.after_mark.ensures c.in_ok-lines.ensures in
     omega (arith, lines_within c.args.bytes.now lines 67108864 cut c.requires, length-map c.in_ok-lines.lines.items text_line, ap length c.as_slice-2.ensures.value)
 
-pub returns : goal.returns
-returns c =
+pub returns-clause-file : goal.returns-clause-file
+returns-clause-file c =
     let lines = map text_line c.in_ok-lines.lines.items in
     let cut : Lines (after_mark c.args.bytes.now) lines = subst (λ t. Lines t lines) c.after_mark.ensures c.in_ok-lines.ensures in
     let rows : Rows lines c.in_ok-rows.rows.items = subst (λ x. Rows (map text_line x) c.in_ok-rows.rows.items) c.as_slice-2.ensures.value c.in_ok-rows.ensures.rows in
@@ -40,3 +41,10 @@ returns c =
       refl,
       listed noted c.in_order.result (adds_lines lines [] mid noted first second) c.in_order.ensures.order c.in_order.ensures.only c.in_order.ensures.all,
     )
+
+pub returns-clause-few : goal.returns-clause-few
+returns-clause-few c =
+    let lines = map text_line c.in_ok-lines.lines.items in
+    let cut : Lines (after_mark c.args.bytes.now) lines = subst (λ t. Lines t lines) c.after_mark.ensures c.in_ok-lines.ensures in
+    let rows : Rows lines c.in_ok-rows.rows.items = subst (λ x. Rows (map text_line x) c.in_ok-rows.rows.items) c.as_slice-2.ensures.value c.in_ok-rows.ensures.rows in
+    rows_within c.args.bytes.now lines c.in_ok-rows.rows.items 67108864 cut rows c.requires

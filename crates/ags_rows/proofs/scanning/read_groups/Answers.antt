@@ -9,6 +9,7 @@ use Rattle.ags_rows.proofs.Files.{is_nil, is_some}
 use Rattle.ags_rows.proofs.Collecting.{none_listed}
 use Rattle.ags_rows.proofs.Cuts.{none_clear}
 use Rattle.ags_rows.proofs.Once.{same_cutting}
+use Rattle.ags_rows.proofs.FewRows.{counted_within}
 use Rattle.ags_rows.proofs.scanning.read_groups.Goals as goal
 
 pub groups-requires : goal.groups-requires
@@ -46,3 +47,8 @@ returns-clause-groups c =
     let cut : Groups c.args.rows.items held = rw c.from_vec-held.ensures c.in_ok-groups.ensures in
     let third = subst (λ (g : List Group). Lists (StandsInGroups g) c.in_ok-found-2.found) c.as_slice-2.ensures c.in_ok-found-2.ensures in
     (cut, inr (clear, inr (none_listed c.in_ok-found-2.found third (is_nil c.in_ok-found-2.found c.if-not-is_empty-2.ensures), refl)))
+
+pub invariant_of-result : goal.invariant_of-result
+invariant_of-result c =
+    let cut : Groups c.args.rows.items c.from_vec-held.result = rw c.from_vec-held.ensures c.in_ok-groups.ensures in
+    counted_within c.args.rows.items c.from_vec-held.result 67108864 cut c.requires

@@ -11,7 +11,7 @@ loop-i-preserved c =
     let test = ap is_some (sym c.find.ensures) ∙ c.is_none-is_absent.ensures in
     names_more c.args.listed.now c.args.line c.args.code (λ _ name. place_at c.args.row.now.held name ≡ None) c.loop-i.i d c.is_none-is_absent.result
     c.args.findings.now.items c.loop-i.findings.items c.note.new.findings.items c.loop-i-test.true
-    (is_none_true _ _ test) (is_none_from _ _ test) c.in_ok-note.ensures c.loop-i.invariant
+    (is_none_true _ _ test) (is_none_from _ _ test) c.in_ok-note.ensures.noted c.loop-i.invariant
 
 pub returns : goal.returns
 returns c =

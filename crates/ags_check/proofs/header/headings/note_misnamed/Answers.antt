@@ -11,7 +11,7 @@ loop-i-preserved c =
     let means = c.is_misnamed-breaks.ensures in
     names_more c.args.headings.now c.args.line Rule19b (λ _ name. IsMisnamedBy c.args.given.now c.args.extended.now c.args.group.now name) c.loop-i.i d c.is_misnamed-breaks.result
     c.args.findings.now.items c.loop-i.findings.items c.note.new.findings.items c.loop-i-test.true
-    means.0 means.1 c.in_ok-note.ensures c.loop-i.invariant
+    means.0 means.1 c.in_ok-note.ensures.noted c.loop-i.invariant
 
 pub returns : goal.returns
 returns c =

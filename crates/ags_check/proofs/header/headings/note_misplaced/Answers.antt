@@ -34,7 +34,7 @@ loop-i-preserved c =
           c.args.findings.now.items c.loop-i.findings.items c.note.new.findings.items c.loop-i-test.true
           (λ e. behind_overtaken rank names i name c.loop-i.latest c.loop-i.invariant.latest (sym test ∙ e))
           (λ o. test ∙ overtaken_behind rank names i name c.loop-i.latest c.loop-i.invariant.latest o)
-          c.in_ok-note.ensures c.loop-i.invariant.noted;
+          c.in_ok-note.ensures.noted c.loop-i.invariant.noted;
       latest = subst (IsLatest rank names (i + 1)) next (latest_more rank names i name c.loop-i.latest (name_at c.args.headings.now i d c.loop-i-test.true) c.loop-i.invariant.latest);
     }
 

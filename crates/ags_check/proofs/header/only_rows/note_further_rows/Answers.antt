@@ -21,7 +21,7 @@ loop-i-preserved c =
     among_more group.rows (λ place row f. Notes row.line c.args.code name (IsFurtherRow name (group_contents group) place (fields_of row)) f) i row c.args.findings.now.items c.loop-i.findings.items c.note.new.findings.items
     at c.loop-i.invariant
     (adds_note row.line c.args.code name (ltb 0 i) (IsFurtherRow name (group_contents group) i (fields_of row)) c.loop-i.findings.items c.note.new.findings.items
-    (λ e. record { of_group = same; further = ltb-true 0 i e }) (λ rule. lt-ltb 0 i rule.further) c.in_ok-note.ensures)
+    (λ e. record { of_group = same; further = ltb-true 0 i e }) (λ rule. lt-ltb 0 i rule.further) c.in_ok-note.ensures.noted)
 
 pub returns : goal.returns
 returns c =

@@ -13,6 +13,6 @@ returns c =
     let group = c.args.group.now in
     let types : List (Finding → Type 0) = Notes group.type_line Rule17 column.heading.now (IsUnlistedType c.args.listed.now column.code.now) ∷ [] in
     note_more group.unit_line Rule15 column.heading.now c.is_unlisted_unit-strange_unit.result types c.args.findings.now.items c.note.new.findings.items c.note-2.new.findings.items
-    c.is_unlisted_unit-strange_unit.ensures c.in_ok-note.ensures
+    c.is_unlisted_unit-strange_unit.ensures c.in_ok-note.ensures.noted
     (note_more group.type_line Rule17 column.heading.now c.is_unlisted_type-strange_type.result [] c.note.new.findings.items c.note-2.new.findings.items c.note-2.new.findings.items
-    c.is_unlisted_type-strange_type.ensures c.in_ok-note-2.ensures (one_none c.note-2.new.findings.items))
+    c.is_unlisted_type-strange_type.ensures c.in_ok-note-2.ensures.noted (one_none c.note-2.new.findings.items))

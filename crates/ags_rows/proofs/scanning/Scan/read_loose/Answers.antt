@@ -11,7 +11,7 @@ use Rattle.ags_rows.proofs.scanning.Scan.read_loose.Goals as goal
 
 pub returns-clause-groups : goal.returns-clause-groups
 returns-clause-groups c =
-    let file = c.in_ok-rows.ensures in
+    let file = c.in_ok-rows.ensures.file in
     let clear = none_listed c.in_ok-rows.found file.3 (is_nil c.in_ok-rows.found c.if-not-is_empty.ensures) in
     IfOk-weaker c.read_groups.result _ _ (λ scan h.
     let cut = subst (λ (r : List FileRow). Groups r scan) (sym file.2) h.0 in
@@ -21,7 +21,7 @@ returns-clause-groups c =
 
 pub returns-clause-findings : goal.returns-clause-findings
 returns-clause-findings c = λ found is.
-    let file = c.in_ok-rows.ensures in
+    let file = c.in_ok-rows.ensures.file in
     let clear = none_listed c.in_ok-rows.found file.3 (is_nil c.in_ok-rows.found c.if-not-is_empty.ensures) in
     let h = c.read_groups.ensures.findings found is in
     let first = h.1 file.0.groups (subst (λ (r : List FileRow). GroupsOrNone r file.0.groups) file.2 file.1.groups) in
