@@ -1,46 +1,22 @@
 -- What is found is what was asked for.
 use Rattle.std.proofs.Common.{◌≡◌, ℕ, zero, suc, ◌+◌, ◌<◌, ◌≤◌, Bool, true, false, cond, List, [], ◌∷◌, ◌++◌, length, take, get_or, map, filter, refl, sym, ap, subst, ◌∙◌, arith, inl, inr, ◌⊎◌, ◌↔◌, Contains, Option, Some, None, codes, ◌||◌}
 use Rattle.std.specs.List.Sorted.{IsStrictlyIncreasing}
-use Rattle.std.specs.List.{list_any}
-use Rattle.std.specs.Str.{bytes_eq}
-use Rattle.std.proofs.lemmas.Slice.Eq.{bytes_eq-Decides}
-use Rattle.std.proofs.lemmas.Bool.{true≢false}
 use Rattle.ags_dict.specs.Entries.{Entries, keys_of, parent_of}
 use Rattle.ags_dict.specs.Parts.{parts_at}
 use Rattle.ags_links.specs.declared.lookup.Lookup.{Lookup}
 use Rattle.ags_links.specs.DataRows.{DataRow, IsAt, IsRow, Between, ListsRows, entry_of}
-use Rattle.ags_links.specs.Families.{HasText, HasEntries, HasEntriesIn, HasKeyText, HasFileSet, has_heading, link_headings}
+use Rattle.ags_links.specs.Families.{HasText, HasEntries, HasEntriesIn, HasKeyText, HasFileSet, link_headings}
 use Rattle.ags_links.specs.Keys.{key_of, HasKeyOf, IsFirstOfKey}
 use Rattle.ags_links.specs.KeyTexts.{key_text}
 use Rattle.ags_links.specs.Lookups.{found, Finds}
 use Rattle.ags_links.specs.Parents.{IsParentRow, IsLinkHeading}
 use Rattle.ags_links.specs.RecordLinks.{Names}
 use Rattle.ags_links.specs.Steps.{IsFileRow}
-use Rattle.ags_links.proofs.Members.{contains_head, contains_tail, contains_cons, contains_filter, filter_contains}
+use Rattle.ags_links.proofs.Heading.{link_heading_in, in_link_headings}
+use Rattle.ags_links.proofs.Members.{contains_head, contains_tail, contains_cons}
 use Rattle.ags_links.proofs.Rising.{rising_nil, first_is_least}
 use Rattle.ags_links.proofs.RowLemmas.{one_at}
 use Rattle.ags_links.proofs.Spelled.{key_text_same}
-
--- ---- a heading stands in a HEADING row
-
-any_by : (t : Bool) (g h : List ℕ) (headings : List (List ℕ)) → bytes_eq g h ≡ t → (t || list_any (λ k. bytes_eq k h) headings) ≡ true → (list_any (λ k. bytes_eq k h) headings ≡ true → Contains headings h) → Contains (g ∷ headings) h
-any_by true g h headings is some rest = subst (λ k. Contains (k ∷ headings) h) (sym ((bytes_eq-Decides g h).0 is)) (contains_head h headings)
-any_by false g h headings is some rest = contains_tail g headings h (rest some)
-
-heading_stands : (headings : List (List ℕ)) (h : List ℕ) → has_heading headings h ≡ true → Contains headings h
-heading_stands [] h some = absurd (true≢false (sym some))
-heading_stands (g ∷ headings) h some = any_by (bytes_eq g h) g h headings refl some (heading_stands headings h)
-
-or_true : (t u : Bool) → u ≡ true → (t || u) ≡ true
-or_true true u e = refl
-or_true false u e = e
-
-stands_heading : (headings : List (List ℕ)) (h : List ℕ) → Contains headings h → has_heading headings h ≡ true
-stands_heading [] h stood = absurd (omega (arith, stood.1))
-stands_heading (g ∷ headings) h stood = elim (contains_cons g headings h stood) [
-  | inl is ↦ ap (λ t. t || list_any (λ k. bytes_eq k h) headings) ((bytes_eq-Decides g h).1 is)
-  | inr more ↦ or_true (bytes_eq g h) (list_any (λ k. bytes_eq k h) headings) (stands_heading headings h more)
-]
 
 -- ---- lists under headings
 
@@ -82,17 +58,6 @@ lists_none IsOne none = record {
 pub some_same : (p q : List ℕ) → Some p ≡ Some q → p ≡ q
 some_same p q e = cc
 
-none_some : (p : List ℕ) → None ≡ Some p → ⊥
-none_some p e = cc
-
-pub link_heading_in : (entries : Entries) (parent : List ℕ) (headings : List (List ℕ)) (heading : List ℕ) → Contains (link_headings entries parent headings) heading → Contains (keys_of entries parent) heading × Contains headings heading
-link_heading_in entries parent headings heading h =
-    let k = filter_contains (has_heading headings) (keys_of entries parent) heading h in
-    (k.0, heading_stands headings heading k.1)
-
-pub in_link_headings : (entries : Entries) (parent : List ℕ) (headings : List (List ℕ)) (heading : List ℕ) → Contains (keys_of entries parent) heading → Contains headings heading → Contains (link_headings entries parent headings) heading
-in_link_headings entries parent headings heading key stood = contains_filter (has_heading headings) (keys_of entries parent) heading key (stands_heading headings heading stood)
-
 pub parents_listed : (entries : Entries) (rows : List DataRow) (n : ℕ) (r : DataRow) (parent : List ℕ) (lookup : Lookup) (text numbers : List ℕ) → IsRow rows n r → parent_of entries r.group ≡ Some parent
     → Finds lookup (HasText rows (HasEntriesIn parent (link_headings entries parent r.headings))) → numbers ≡ found lookup text → text ≡ key_text (map (entry_of r) (link_headings entries parent r.headings))
     → ListsRows numbers (Between rows (IsParentRow entries) n)
@@ -121,11 +86,10 @@ parents_listed entries rows n r parent lookup text numbers row named finds e spe
     parent_row.1 heading (subst (λ p. Contains (keys_of entries p) heading) (sym group) link.0, link.1)) in
     (s, h.3, (group, ap key_text (sym same) ∙ sym spelled)))
 
-pub no_parents : (entries : Entries) (rows : List DataRow) (n : ℕ) (r : DataRow) → IsRow rows n r → parent_of entries r.group ≡ None → ListsRows [] (Between rows (IsParentRow entries) n)
+pub no_parents : (entries : Entries) (rows : List DataRow) (n : ℕ) (r : DataRow) → IsRow rows n r → ((m : ℕ) (s : DataRow) → IsRow rows m s → parent_of entries r.group ≡ Some s.group → ⊥) → ListsRows [] (Between rows (IsParentRow entries) n)
 no_parents entries rows n r row none = lists_none (Between rows (IsParentRow entries) n) (λ m h.
     let is : h.0 ≡ r = one_at rows n h.0 r h.2 row in
-    let named : parent_of entries r.group ≡ Some h.1.group = subst (λ (q : DataRow). parent_of entries q.group ≡ Some h.1.group) is h.4.0 in
-    none_some h.1.group (sym none ∙ named))
+    none m h.1 h.3 (subst (λ (q : DataRow). parent_of entries q.group ≡ Some h.1.group) is h.4.0))
 
 -- ---- keys
 

@@ -28,17 +28,17 @@ parts_cut s text k e =
     first_cut s text k h.0 h.1 h.2 ∙ ap (λ (m : ℕ). take k text ∷ parts_at s (drop m text)) n
 
 -- one more part is taken
-pub part_taken : (s : ℕ) (front : List (List ℕ)) (rest text part : List ℕ) (k : ℕ) → position (λ b. eqb b s) rest ≡ Some k → part ≡ take k rest → front ++ parts_at s rest ≡ parts_at s text
-    → (front ++ part ∷ []) ++ parts_at s (take (length rest - (k + 1)) (drop (k + 1) rest)) ≡ parts_at s text
-part_taken s front rest text part k e is so_far =
+pub part_taken : (s : ℕ) (front : List (List ℕ)) (rest : List ℕ) (all : List (List ℕ)) (part : List ℕ) (k : ℕ) → position (λ b. eqb b s) rest ≡ Some k → part ≡ take k rest → front ++ parts_at s rest ≡ all
+    → (front ++ part ∷ []) ++ parts_at s (take (length rest - (k + 1)) (drop (k + 1) rest)) ≡ all
+part_taken s front rest all part k e is so_far =
     ap (λ r. (front ++ part ∷ []) ++ parts_at s r) (take_rest rest (k + 1))
     ∙ append_assoc front (part ∷ []) (parts_at s (drop (k + 1) rest))
     ∙ ap (λ p. front ++ p ∷ parts_at s (drop (k + 1) rest)) is
     ∙ ap (λ l. front ++ l) (sym (parts_cut s rest k e)) ∙ so_far
 
 -- the last part is taken
-pub part_left : (s : ℕ) (front : List (List ℕ)) (rest text : List ℕ) → position (λ b. eqb b s) rest ≡ None → front ++ parts_at s rest ≡ parts_at s text → front ++ rest ∷ [] ≡ parts_at s text
-part_left s front rest text e so_far =
+pub part_left : (s : ℕ) (front : List (List ℕ)) (rest : List ℕ) (all : List (List ℕ)) → position (λ b. eqb b s) rest ≡ None → front ++ parts_at s rest ≡ all → front ++ rest ∷ [] ≡ all
+part_left s front rest all e so_far =
     let p : ℕ → Bool = λ b. eqb b s in
     let n = position_or_len p rest in
     let far : length rest ≤ n = elim (cases_lt n (length rest)) [

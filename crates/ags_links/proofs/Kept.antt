@@ -1,21 +1,22 @@
 -- What the index keeps for the groups.
-use Rattle.std.proofs.Common.{◌≡◌, ℕ, suc, ◌+◌, ◌<◌, ◌≤◌, Bool, true, false, cond, List, [], ◌∷◌, ◌++◌, length, take, get_or, map, filter, flat_map, refl, sym, ap, subst, ◌∙◌, arith, inl, inr, Contains, All, Bor, append-nil, Some}
+use Rattle.std.proofs.Common.{◌≡◌, ℕ, suc, ◌+◌, ◌<◌, ◌≤◌, Bool, true, false, cond, List, [], ◌∷◌, ◌++◌, length, take, get_or, map, filter, flat_map, refl, sym, ap, subst, ◌∙◌, arith, inl, inr, Contains, All, Bor, append-nil, Some, length-append}
 use Rattle.std.specs.List.Sorted.{IsStrictlyIncreasing}
-use Rattle.std.proofs.lemmas.List.{take_more, length-take-le, length-map, map-append, length_push}
+use Rattle.std.proofs.lemmas.List.{take_more, take_all, length-take-le, length-map, map-append, length_push}
 use Rattle.std.proofs.lemmas.List.Elements.{Contains-get_or}
 use Rattle.ags_rows.specs.declared.rows.Group.{Group}
-use Rattle.ags_rows.specs.Contents.{group_contents, contents_of}
+use Rattle.ags_rows.specs.Contents.{group_contents, contents_of, fields_of}
+use Rattle.ags_rows.specs.Groups.{row_count}
 use Rattle.ags_dict.specs.Entries.{Entries}
 use Rattle.ags_links.specs.declared.families.Family.{Family}
 use Rattle.ags_links.specs.declared.lookup.Lookup.{Lookup}
 use Rattle.ags_links.specs.declared.placed.PlacedRow.{PlacedRow}
-use Rattle.ags_links.specs.DataRows.{DataRow, IsAt, IsRow, data_rows, group_rows}
-use Rattle.ags_links.specs.Families.{HasText, HasGroup, HasEntries, HasEntriesIn, IsFamily, AreFamilies}
+use Rattle.ags_links.specs.DataRows.{DataRow, IsAt, IsRow, data_rows, group_rows, row_in}
+use Rattle.ags_links.specs.Families.{HasText, HasGroup, HasEntries, HasEntriesIn, HasFamily, IsFamily, AreKept, AreFamilies}
 use Rattle.ags_links.specs.Lookups.{found, Finds}
 use Rattle.ags_links.specs.Placing.{IsPlaced, row_of}
 use Rattle.ags_links.proofs.Finding.{finds_same}
 use Rattle.ags_links.proofs.Growing.{flat_map_push}
-use Rattle.ags_links.proofs.RowLemmas.{one_at, at_before, at_last, at_cases, some_at, read_at}
+use Rattle.ags_links.proofs.RowLemmas.{one_at, at_map, at_before, at_last, at_cases, some_at, read_at}
 
 -- the rows of one more group
 pub data_rows_next : (groups : List Group) (i : ℕ) (d : Group) → i < length groups → data_rows (contents_of (take (i + 1) groups)) ≡ data_rows (contents_of (take i groups)) ++ group_rows (group_contents (get_or groups i d))
@@ -24,38 +25,76 @@ data_rows_next groups i d lt =
     ∙ ap data_rows (map-append group_contents (take i groups) (get_or groups i d ∷ []))
     ∙ flat_map_push group_rows (contents_of (take i groups)) (group_contents (get_or groups i d))
 
+-- each DATA row of the groups is a row of the file
+rows_counted : (groups : List Group) → length (data_rows (contents_of groups)) ≡ row_count groups
+rows_counted [] = refl
+rows_counted (g ∷ groups) =
+    omega (
+      arith,
+      rows_counted groups,
+      length-append (group_rows (group_contents g)) (data_rows (contents_of groups)),
+      length-append g.rows (flat_map (λ (h : Group). h.rows) groups),
+      length-map (map fields_of g.rows) (row_in (group_contents g)),
+      length-map g.rows fields_of,
+    )
+
+pub kept_counted : (groups : List Group) (rows : List PlacedRow) → map row_of rows ≡ data_rows (contents_of groups) → length rows ≡ row_count groups
+kept_counted groups rows e = sym (length-map rows row_of) ∙ ap length e ∙ rows_counted groups
+
 -- a kept row's group stands at its place
 pub placed_at : (groups : List Group) (rows : List PlacedRow) (i : ℕ) (x : PlacedRow) → All (IsPlaced groups) rows → IsAt rows i x → IsAt groups x.place x.group.now
 placed_at groups rows i x placed h = subst (IsPlaced groups) h.1 (placed i x h.0)
 
 -- no group yet
-pub families_none : (entries : Entries) (rows : List DataRow) (families : List Family) → families ≡ [] → AreFamilies entries rows [] families
-families_none entries rows families e = record {
+pub kept_none : {X : Type 0} (Has : Group → X → Type 0) (kept : List X) → kept ≡ [] → AreKept [] kept Has
+kept_none Has kept e = record {
   each_has = ap length e;
-  each = λ place group family h k. absurd (omega (arith, h.0));
+  each = λ place group x h k. absurd (omega (arith, h.0));
 }
 
 -- one more group
-pub families_more : (entries : Entries) (rows : List DataRow) (groups : List Group) (families : List Family) (g : Group) (f : Family) → AreFamilies entries rows groups families → IsFamily entries rows g f
-    → AreFamilies entries rows (groups ++ g ∷ []) (families ++ f ∷ [])
-families_more entries rows groups families g f so_far here = record {
-  each_has = omega (arith, so_far.each_has, length_push groups g, length_push families f);
-  each = λ place group family h k. elim (at_cases groups g place group h) [
-    | inl was ↦ elim (at_cases families f place family k) [
-      | inl also ↦ so_far.each place group family was also
+kept_more : {X : Type 0} (Has : Group → X → Type 0) (groups : List Group) (kept : List X) (g : Group) (y : X) → AreKept groups kept Has → Has g y → AreKept (groups ++ g ∷ []) (kept ++ y ∷ []) Has
+kept_more Has groups kept g y so_far here = record {
+  each_has = omega (arith, so_far.each_has, length_push groups g, length_push kept y);
+  each = λ place group x h k. elim (at_cases groups g place group h) [
+    | inl was ↦ elim (at_cases kept y place x k) [
+      | inl also ↦ so_far.each place group x was also
       | inr last ↦ absurd (omega (arith, was.0, last.0, so_far.each_has))
     ]
-    | inr is ↦ elim (at_cases families f place family k) [
+    | inr is ↦ elim (at_cases kept y place x k) [
       | inl also ↦ absurd (omega (arith, also.0, is.0, so_far.each_has))
-      | inr last ↦ subst (λ x. IsFamily entries rows x family) is.1 (subst (λ y. IsFamily entries rows g y) last.1 here)
+      | inr last ↦ subst (λ z. Has z x) is.1 (subst (λ z. Has g z) last.1 here)
     ]
   ];
 }
 
-pub families_next : (entries : Entries) (rows : List DataRow) (groups : List Group) (i : ℕ) (families : List Family) (g : Group) (f : Family) → i < length groups → g ≡ get_or groups i g
-    → AreFamilies entries rows (take i groups) families → IsFamily entries rows g f → AreFamilies entries rows (take (i + 1) groups) (families ++ f ∷ [])
-families_next entries rows groups i families g f lt is so_far here =
-    subst (λ gs. AreFamilies entries rows gs (families ++ f ∷ [])) (sym (take_more groups i g lt ∙ ap (λ x. take i groups ++ x ∷ []) (sym is))) (families_more entries rows (take i groups) families g f so_far here)
+pub kept_next : {X : Type 0} (Has : Group → X → Type 0) (groups : List Group) (i : ℕ) (kept : List X) (g : Group) (y : X) → i < length groups → g ≡ get_or groups i g
+    → AreKept (take i groups) kept Has → Has g y → AreKept (take (i + 1) groups) (kept ++ y ∷ []) Has
+kept_next Has groups i kept g y lt is so_far here =
+    subst (λ gs. AreKept gs (kept ++ y ∷ []) Has) (sym (take_more groups i g lt ∙ ap (λ z. take i groups ++ z ∷ []) (sym is))) (kept_more Has (take i groups) kept g y so_far here)
+
+pub kept_all : {X : Type 0} (Has : Group → X → Type 0) (groups : List Group) (i : ℕ) (kept : List X) → length groups ≤ i → AreKept (take i groups) kept Has → AreKept groups kept Has
+kept_all Has groups i kept le so_far = subst (λ gs. AreKept gs kept Has) (take_all i groups le) so_far
+
+-- each row has what is kept for its group
+pub rows_have : (entries : Entries) (groups : List Group) (families : List Family) (rows : List PlacedRow) → AreFamilies entries groups families → All (IsPlaced groups) rows → All (HasFamily entries families) rows
+rows_have entries groups families rows kept placed i d lt =
+    let row = get_or rows i d in
+    let at_group : IsAt groups row.place row.group.now = placed i d lt in
+    (omega (arith, at_group.0, kept.each_has), λ family at_family. kept.each row.place row.group.now family at_group at_family)
+
+pub row_has : (entries : Entries) (families : List Family) (rows : List PlacedRow) (i : ℕ) (x : PlacedRow) → All (HasFamily entries families) rows → IsAt rows i x → HasFamily entries families x
+row_has entries families rows i x have h = subst (HasFamily entries families) h.1 (have i x h.0)
+
+-- there is something kept for a row's group
+pub family_below : (entries : Entries) (families : List Family) (rows : List PlacedRow) (i : ℕ) (x : PlacedRow) → All (HasFamily entries families) rows → IsAt rows i x → x.place < length families
+family_below entries families rows i x have h = (row_has entries families rows i x have h).0
+
+-- what is kept for a row's group
+pub kept_family : (entries : Entries) (families : List Family) (rows : List PlacedRow) (i : ℕ) (x : PlacedRow) (family : Family) → All (HasFamily entries families) rows → IsAt rows i x → get_or families x.place family ≡ family → IsFamily entries x.group.now family
+kept_family entries families rows i x family have h is =
+    let has = row_has entries families rows i x have h in
+    has.1 family (has.0, is)
 
 -- ---- the rows of a group
 
@@ -64,8 +103,28 @@ pub found_below : (by_group : Lookup) (rows : List DataRow) (group : List ℕ) (
 found_below by_group rows group numbers finds e k d lt =
     (((finds.exact group (get_or numbers k d)).0 (subst (λ l. Contains l (get_or numbers k d)) e (Contains-get_or numbers k d lt))).1).0
 
+pub first_below : (by_group : Lookup) (rows : List PlacedRow) (group : List ℕ) (numbers : List ℕ) → Finds by_group (HasText (map row_of rows) HasGroup) → numbers ≡ found by_group group → 0 < length numbers → get_or numbers 0 0 < length rows
+first_below by_group rows group numbers finds e lt =
+    let below : get_or numbers 0 0 < length (map row_of rows) = found_below by_group (map row_of rows) group numbers finds e 0 0 lt in
+    omega (arith, below, length-map rows row_of)
+
 pub found_rising : (by_group : Lookup) (rows : List DataRow) (group : List ℕ) (numbers : List ℕ) → Finds by_group (HasText rows HasGroup) → numbers ≡ found by_group group → IsStrictlyIncreasing numbers
 found_rising by_group rows group numbers finds e = subst IsStrictlyIncreasing (sym e) (finds.rising group)
+
+-- the first row that is found is of the group
+pub first_of_group : (by_group : Lookup) (rows : List PlacedRow) (group : List ℕ) (numbers : List ℕ) (x : PlacedRow) → Finds by_group (HasText (map row_of rows) HasGroup) → numbers ≡ found by_group group → 0 < length numbers
+    → IsAt rows (get_or numbers 0 0) x → x.group.now.name ≡ group
+first_of_group by_group rows group numbers x finds e lt at =
+    let n = get_or numbers 0 0 in
+    let h = (finds.exact group n).0 (subst (λ l. Contains l n) e (Contains-get_or numbers 0 0 lt)) in
+    ap (λ (r : DataRow). r.group) (one_at (map row_of rows) n (row_of x) h.0 (at_map row_of rows n x at) h.1) ∙ h.2
+
+-- where no row is found, there is none of the group
+pub no_row_found : (by_group : Lookup) (rows : List DataRow) (group : List ℕ) (numbers : List ℕ) → Finds by_group (HasText rows HasGroup) → numbers ≡ found by_group group → numbers ≡ []
+    → (n : ℕ) (r : DataRow) → IsRow rows n r → r.group ≡ group → ⊥
+no_row_found by_group rows group numbers finds e empty n r row named =
+    let h = subst (λ l. Contains l n) (sym e ∙ empty) ((finds.exact group n).1 (r, row, named)) in
+    omega (arith, h.1)
 
 -- of the rows of a group, those that have the entries
 pub entries_in : (by_group lookup : Lookup) (rows : List DataRow) (group : List ℕ) (numbers : List ℕ) (headings : List (List ℕ)) → Finds by_group (HasText rows HasGroup) → numbers ≡ found by_group group
@@ -80,7 +139,7 @@ entries_in by_group lookup rows group numbers headings finds e so_far = finds_sa
 
 -- ---- the headings of a list that stand in a HEADING row
 
-filter_push : (p : List ℕ → Bool) (xs : List (List ℕ)) (x : List ℕ) → filter p (xs ++ x ∷ []) ≡ filter p xs ++ cond (p x) (x ∷ []) []
+pub filter_push : (p : List ℕ → Bool) (xs : List (List ℕ)) (x : List ℕ) → filter p (xs ++ x ∷ []) ≡ filter p xs ++ cond (p x) (x ∷ []) []
 filter_push p [] x = by_test (p x) where
   by_test : (t : Bool) → cond t (x ∷ []) [] ≡ cond t (x ∷ []) []
   by_test t = refl

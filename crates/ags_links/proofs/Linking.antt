@@ -3,11 +3,11 @@ use Rattle.std.proofs.Common.{◌≡◌, ℕ, ◌+◌, ◌<◌, ◌≤◌, Bool,
 use Rattle.std.specs.List.Sorted.{IsStrictlyIncreasing}
 use Rattle.std.proofs.lemmas.Bool.{true≢false, eqb-true}
 use Rattle.std.proofs.lemmas.List.Elements.{Contains-push, Contains-push_cases, Contains-append_left, Contains-append_right, Contains-append_cases}
-use Rattle.ags_dict.specs.Parts.{parts_at}
 use Rattle.ags_links.specs.Adding.{AddsRows}
-use Rattle.ags_links.specs.DataRows.{File, DataRow, IsRow, Between, ListsRows, entry_of}
-use Rattle.ags_links.specs.Indexing.{rows_in, NamesAt, IsLinkAt}
+use Rattle.ags_links.specs.DataRows.{File, DataRow, IsRow, Between, ListsRows}
+use Rattle.ags_links.specs.Indexing.{rows_in, NamesAt, IsNamedAmong, IsLinkedAt}
 use Rattle.ags_links.specs.RecordLinks.{separators_of, IsPartOf, IsLinkRow}
+use Rattle.ags_links.specs.Steps.{IsLinkedPart, Linked}
 use Rattle.ags_links.proofs.Members.{contains_head}
 use Rattle.ags_links.proofs.RowLemmas.{one_at}
 
@@ -43,17 +43,13 @@ adds_none old IsOne none = record { only = λ n h. inl h; kept = λ n h. h; all 
 
 -- ---- parts
 
--- one of the parts names the row
-abbrev pub NamedAmong : File → List (List ℕ) → ℕ → Type 0
-NamedAmong file parts n = (part : List ℕ) × Contains parts part × NamesAt file part n
+pub among_begins : (file : File) (old : List ℕ) → AddsRows old old (IsNamedAmong file [])
+among_begins file old = adds_none old (IsNamedAmong file []) (λ n h. omega (arith, h.1.1))
 
-pub among_begins : (file : File) (old : List ℕ) → AddsRows old old (NamedAmong file [])
-among_begins file old = adds_none old (NamedAmong file []) (λ n h. omega (arith, h.1.1))
-
-pub among_next : (file : File) (old found new rows : List ℕ) (parts : List (List ℕ)) (part : List ℕ) → AddsRows old found (NamedAmong file parts) → ListsRows rows (NamesAt file part) → new ≡ found ++ rows
-    → AddsRows old new (NamedAmong file (parts ++ part ∷ []))
+pub among_next : (file : File) (old found new rows : List ℕ) (parts : List (List ℕ)) (part : List ℕ) → AddsRows old found (IsNamedAmong file parts) → ListsRows rows (NamesAt file part) → new ≡ found ++ rows
+    → AddsRows old new (IsNamedAmong file (parts ++ part ∷ []))
 among_next file old found new rows parts part so_far lists e =
-    adds_then old found new (NamedAmong file parts) (NamesAt file part) (NamedAmong file (parts ++ part ∷ [])) so_far (adds_listed found new rows (NamesAt file part) e lists)
+    adds_then old found new (IsNamedAmong file parts) (NamesAt file part) (IsNamedAmong file (parts ++ part ∷ [])) so_far (adds_listed found new rows (NamesAt file part) e lists)
     (λ n h. (h.0, Contains-append_left parts (part ∷ []) h.0 h.1, h.2))
     (λ n h. (part, Contains-push parts part, h))
     (λ n h. elim (Contains-push_cases parts part h.0 h.1) [
@@ -86,15 +82,15 @@ each_next file parts part rows so_far lists t e is other h = elim (Contains-push
   | inr same ↦ subst (λ p. (n : ℕ) × NamesAt file p n) same (some_listed rows (NamesAt file part) lists t e is)
 ]
 
--- what the parts of an entry name is what the entry links to
-pub link_rows : (file : File) (n : ℕ) (r : DataRow) (heading : List ℕ) (parts : List (List ℕ)) (old new : List ℕ) → IsRow (rows_in file) n r
-    → parts ≡ parts_at (separators_of file.contents).concatenator (entry_of r heading) → AddsRows old new (NamedAmong file parts) → AddsRows old new (IsLinkAt file heading n)
-link_rows file n r heading parts old new row e adds = adds_same old new (NamedAmong file parts) (IsLinkAt file heading n) adds
-    (λ m h. (r, h.2.0, row, h.2.1, (h.0, subst (λ ps. Contains ps h.0) e h.1, h.2.2)))
+-- what the parts of a row's record links name is what the row links to
+pub linked_rows : (file : File) (n : ℕ) (r : DataRow) (parts : List (List ℕ)) (old new : List ℕ) → IsRow (rows_in file) n r
+    → ((part : List ℕ) → Contains parts part ↔ IsLinkedPart (separators_of file.contents) r part) → AddsRows old new (IsNamedAmong file parts) → AddsRows old new (IsLinkedAt file n)
+linked_rows file n r parts old new row same adds = adds_same old new (IsNamedAmong file parts) (IsLinkedAt file n) adds
+    (λ m h. let link = (same h.0).0 h.1 in (r, h.2.0, row, h.2.1, (link.0, link.1, (h.0, link.2, h.2.2))))
     (λ m h.
     let is = one_at (rows_in file) n h.0 r h.2 row in
-    let link : IsLinkRow file.entries (separators_of file.contents) heading r h.1 = subst (λ q. IsLinkRow file.entries (separators_of file.contents) heading q h.1) is h.4 in
-    (link.0, subst (λ ps. Contains ps link.0) (sym e) link.1, (h.1, h.3, link.2)))
+    let linked : Linked file.entries (separators_of file.contents) r h.1 = subst (λ q. Linked file.entries (separators_of file.contents) q h.1) is h.4 in
+    (linked.2.0, (same linked.2.0).1 (linked.0, linked.1, linked.2.1), (h.1, h.3, linked.2.2)))
 
 nothing : (n : ℕ) → Contains {X = ℕ} [] n → ⊥
 nothing n h = omega (arith, h.1)
@@ -113,13 +109,13 @@ once_lists old new once IsOne empty adds same rises = record {
 }
 
 -- the rows that some part of an entry names, each once
-pub link_lists : (file : File) (r : DataRow) (heading : List ℕ) (parts : List (List ℕ)) (found once : List ℕ) → parts ≡ parts_at (separators_of file.contents).concatenator (entry_of r heading)
-    → AddsRows [] found (NamedAmong file parts) → ((n : ℕ) → Contains once n ↔ Contains found n) → IsStrictlyIncreasing once
+pub link_lists : (file : File) (r : DataRow) (heading : List ℕ) (parts : List (List ℕ)) (found once : List ℕ) → ((part : List ℕ) → Contains parts part ↔ IsPartOf (separators_of file.contents) r heading part)
+    → AddsRows [] found (IsNamedAmong file parts) → ((n : ℕ) → Contains once n ↔ Contains found n) → IsStrictlyIncreasing once
     → ListsRows once (λ m. (s : DataRow) × IsRow (rows_in file) m s × IsLinkRow file.entries (separators_of file.contents) heading r s)
-link_lists file r heading parts found once e adds same rises =
+link_lists file r heading parts found once cut adds same rises =
     let IsOne = λ (m : ℕ). (s : DataRow) × IsRow (rows_in file) m s × IsLinkRow file.entries (separators_of file.contents) heading r s in
     once_lists [] found once IsOne refl
-    (adds_same [] found (NamedAmong file parts) IsOne adds
-    (λ m h. (h.2.0, h.2.1, (h.0, subst (λ ps. Contains ps h.0) e h.1, h.2.2)))
-    (λ m h. (h.2.0, subst (λ ps. Contains ps h.2.0) (sym e) h.2.1, (h.0, h.1, h.2.2))))
+    (adds_same [] found (IsNamedAmong file parts) IsOne adds
+    (λ m h. (h.2.0, h.2.1, (h.0, (cut h.0).0 h.1, h.2.2)))
+    (λ m h. (h.2.0, (cut h.2.0).1 h.2.1, (h.0, h.1, h.2.2))))
     same rises

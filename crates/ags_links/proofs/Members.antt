@@ -1,6 +1,6 @@
 -- What a list contains, by cases on the list.
 use Rattle.std.proofs.Common.{◌≡◌, ℕ, zero, suc, ◌+◌, ◌<◌, Bool, true, false, cond, List, [], ◌∷◌, length, get_or, map, filter, refl, sym, subst, ap, ◌∙◌, arith, inl, inr, ◌⊎◌, Contains, All, eqb}
-use Rattle.std.proofs.lemmas.Bool.{eq-eqb, eqb-true}
+use Rattle.std.proofs.lemmas.Bool.{eq-eqb, eqb-true, true≢false}
 use Rattle.std.proofs.lemmas.List.{get_or-map}
 use Rattle.std.proofs.lemmas.List.Elements.{All-contains, Contains-get_or}
 use Rattle.ags_links.specs.Walks.{HasStep, InRange}
@@ -60,6 +60,15 @@ map_contains f (y ∷ xs) z h = elim (contains_cons (f y) (map f xs) z h) [
   | inl e ↦ (y, contains_head y xs, e)
   | inr more ↦ (let m = map_contains f xs z more in (m.0, contains_tail y xs m.0 m.1, m.2))
 ]
+
+-- a list of no items
+pub no_items : (xs : List ℕ) (t : Bool) → t ≡ eqb (length xs) 0 → t ≡ true → xs ≡ []
+no_items [] t e is = refl
+no_items (x ∷ xs) t e is = let z : length (x ∷ xs) ≡ 0 = eqb-true (length (x ∷ xs)) 0 (sym e ∙ is) in absurd (omega arith)
+
+pub some_items : (xs : List ℕ) (t : Bool) → t ≡ eqb (length xs) 0 → t ≡ false → 0 < length xs
+some_items [] t e is = absurd (true≢false (sym e ∙ is))
+some_items (x ∷ xs) t e is = omega arith
 
 -- a row has its steps among its targets, and nothing else
 pub target_of_step : (steps : List (ℕ × ℕ)) (r s : ℕ) → HasStep steps r s → Contains (targets steps r) s

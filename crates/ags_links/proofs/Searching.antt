@@ -1,6 +1,6 @@
 -- Searching through all rows.
-use Rattle.std.proofs.Common.{◌≡◌, ℕ, suc, ◌+◌, ◌<◌, ◌≤◌, Bool, true, false, cond, not, List, [], ◌∷◌, ◌++◌, length, map, refl, sym, ap, subst, ◌∙◌, arith, inl, inr, ◌↔◌, Contains, Some, IsTrue, Bor, append-nil, ◌&&◌}
-use Rattle.std.specs.List.{list_all}
+use Rattle.std.proofs.Common.{◌≡◌, ℕ, suc, ◌+◌, ◌<◌, ◌≤◌, Bool, true, false, cond, not, List, [], ◌∷◌, ◌++◌, length, map, refl, sym, ap, subst, ◌∙◌, arith, inl, inr, ◌↔◌, Contains, Some, IsTrue, Bor, append-nil, ◌&&◌, ◌||◌, filter}
+use Rattle.std.specs.List.{list_all, list_any}
 use Rattle.std.specs.List.Sorted.{IsStrictlyIncreasing}
 use Rattle.std.specs.Str.{bytes_eq}
 use Rattle.std.proofs.lemmas.Bool.{true≢false, cases_lt}
@@ -8,13 +8,38 @@ use Rattle.std.proofs.lemmas.Slice.Eq.{bytes_eq-Decides}
 use Rattle.std.proofs.lemmas.List.Elements.{Contains-push, Contains-push_cases, Contains-append_left}
 use Rattle.ags_dict.specs.Entries.{Entries, keys_of, parent_of}
 use Rattle.ags_links.specs.DataRows.{DataRow, IsRow, Between, ListsRows, entry_of}
-use Rattle.ags_links.specs.Families.{link_headings}
 use Rattle.ags_links.specs.Keys.{key_of, HasKeyOf, IsFirstOfKey}
 use Rattle.ags_links.specs.Parents.{IsParentRow}
-use Rattle.ags_links.proofs.Answering.{made_same, same_made, link_heading_in, in_link_headings, some_same}
+use Rattle.ags_links.proofs.Answering.{made_same, same_made, some_same}
+use Rattle.ags_links.proofs.Members.{contains_head, contains_tail, contains_cons, contains_filter, filter_contains}
 use Rattle.ags_links.proofs.Kept.{texts}
 use Rattle.ags_links.proofs.Rising.{rising_nil, rising_push}
 use Rattle.ags_links.proofs.RowLemmas.{one_at}
+
+-- ---- a heading stands in a HEADING row
+
+-- the heading stands in the HEADING row
+abbrev pub has_heading : List (List ℕ) → List ℕ → Bool
+has_heading headings heading = list_any (λ h. bytes_eq h heading) headings
+
+any_by : (t : Bool) (g h : List ℕ) (headings : List (List ℕ)) → bytes_eq g h ≡ t → (t || list_any (λ k. bytes_eq k h) headings) ≡ true → (list_any (λ k. bytes_eq k h) headings ≡ true → Contains headings h) → Contains (g ∷ headings) h
+any_by true g h headings is some rest = subst (λ k. Contains (k ∷ headings) h) (sym ((bytes_eq-Decides g h).0 is)) (contains_head h headings)
+any_by false g h headings is some rest = contains_tail g headings h (rest some)
+
+heading_stands : (headings : List (List ℕ)) (h : List ℕ) → has_heading headings h ≡ true → Contains headings h
+heading_stands [] h some = absurd (true≢false (sym some))
+heading_stands (g ∷ headings) h some = any_by (bytes_eq g h) g h headings refl some (heading_stands headings h)
+
+or_true : (t u : Bool) → u ≡ true → (t || u) ≡ true
+or_true true u e = refl
+or_true false u e = e
+
+stands_heading : (headings : List (List ℕ)) (h : List ℕ) → Contains headings h → has_heading headings h ≡ true
+stands_heading [] h stood = absurd (omega (arith, stood.1))
+stands_heading (g ∷ headings) h stood = elim (contains_cons g headings h stood) [
+  | inl is ↦ ap (λ t. t || list_any (λ k. bytes_eq k h) headings) ((bytes_eq-Decides g h).1 is)
+  | inr more ↦ or_true (bytes_eq g h) (list_any (λ k. bytes_eq k h) headings) (stands_heading headings h more)
+]
 
 -- ---- tests
 
@@ -57,21 +82,33 @@ entries_equal r s (h ∷ headings) e =
     ((bytes_eq-Decides (entry_of r h.now) (entry_of s h.now)).1 (firsts (entry_of r h.now) (entry_of s h.now) (map (entry_of r) (texts headings)) (map (entry_of s) (texts headings)) e))
     (entries_equal r s headings (rests (entry_of r h.now) (entry_of s h.now) (map (entry_of r) (texts headings)) (map (entry_of s) (texts headings)) e))
 
+-- the KEY headings of a parent group that stand in a HEADING row
+abbrev pub stood_keys : Entries → List ℕ → List (List ℕ) → List (List ℕ)
+stood_keys entries parent headings = filter (has_heading headings) (keys_of entries parent)
+
+stood_key_in : (entries : Entries) (parent : List ℕ) (headings : List (List ℕ)) (heading : List ℕ) → Contains (stood_keys entries parent headings) heading → Contains (keys_of entries parent) heading × Contains headings heading
+stood_key_in entries parent headings heading h =
+    let k = filter_contains (has_heading headings) (keys_of entries parent) heading h in
+    (k.0, heading_stands headings heading k.1)
+
+in_stood_keys : (entries : Entries) (parent : List ℕ) (headings : List (List ℕ)) (heading : List ℕ) → Contains (keys_of entries parent) heading → Contains headings heading → Contains (stood_keys entries parent headings) heading
+in_stood_keys entries parent headings heading key stood = contains_filter (has_heading headings) (keys_of entries parent) heading key (stands_heading headings heading stood)
+
 pub parent_by_test : (entries : Entries) (r s : DataRow) (parent : List ℕ) (headings : List (Bor (List ℕ))) (t : Bool) → parent_of entries r.group ≡ Some parent → parent ≡ s.group
-    → texts headings ≡ link_headings entries parent r.headings → t ≡ all_equal r s headings → IsTrue t ↔ IsParentRow entries r s
+    → texts headings ≡ stood_keys entries parent r.headings → t ≡ all_equal r s headings → IsTrue t ↔ IsParentRow entries r s
 parent_by_test entries r s parent headings t named same listed test = (
   λ is.
-      let made : map (entry_of r) (link_headings entries parent r.headings) ≡ map (entry_of s) (link_headings entries parent r.headings) =
+      let made : map (entry_of r) (stood_keys entries parent r.headings) ≡ map (entry_of s) (stood_keys entries parent r.headings) =
       subst (λ hs. map (entry_of r) hs ≡ map (entry_of s) hs) listed (equal_entries r s headings (sym test ∙ is)) in (
         named ∙ ap (λ p. Some p) same,
         λ heading link.
-            made_same (entry_of r) (entry_of s) (link_headings entries parent r.headings) made heading
-            (in_link_headings entries parent r.headings heading (subst (λ p. Contains (keys_of entries p) heading) (sym same) link.0) link.1),
+            made_same (entry_of r) (entry_of s) (stood_keys entries parent r.headings) made heading
+            (in_stood_keys entries parent r.headings heading (subst (λ p. Contains (keys_of entries p) heading) (sym same) link.0) link.1),
       ),
   λ is.
-      let made : map (entry_of r) (link_headings entries parent r.headings) ≡ map (entry_of s) (link_headings entries parent r.headings) =
-      same_made (entry_of r) (entry_of s) (link_headings entries parent r.headings) (λ heading in_list.
-      let link = link_heading_in entries parent r.headings heading in_list in
+      let made : map (entry_of r) (stood_keys entries parent r.headings) ≡ map (entry_of s) (stood_keys entries parent r.headings) =
+      same_made (entry_of r) (entry_of s) (stood_keys entries parent r.headings) (λ heading in_list.
+      let link = stood_key_in entries parent r.headings heading in_list in
       is.1 heading (subst (λ p. Contains (keys_of entries p) heading) same link.0, link.1)) in
       test ∙ entries_equal r s headings (subst (λ hs. map (entry_of r) hs ≡ map (entry_of s) hs) (sym listed) made),
 )

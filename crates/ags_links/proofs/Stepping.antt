@@ -1,18 +1,16 @@
 -- The steps of a row, and of all rows.
-use Rattle.std.proofs.Common.{◌≡◌, ℕ, suc, ◌+◌, ◌-◌, ◌<◌, ◌≤◌, Bool, true, false, not, eqb, List, [], ◌∷◌, ◌++◌, length, take, get_or, map, refl, sym, ap, subst, ◌∙◌, arith, inl, inr, ◌⊎◌, ◌↔◌, Contains, All, codes, ◌&&◌}
+use Rattle.std.proofs.Common.{◌≡◌, ℕ, suc, ◌+◌, ◌-◌, ◌<◌, ◌≤◌, Bool, true, false, not, List, [], ◌∷◌, ◌++◌, length, take, get_or, map, refl, sym, ap, subst, ◌∙◌, arith, inl, inr, ◌⊎◌, ◌↔◌, Contains, All, codes, ◌&&◌}
 use Rattle.std.specs.List.Sorted.{IsStrictlyIncreasing}
 use Rattle.std.specs.Str.{bytes_eq}
-use Rattle.std.proofs.lemmas.Bool.{true≢false, cases_lt, eqb-true}
+use Rattle.std.proofs.lemmas.Bool.{true≢false, cases_lt}
 use Rattle.std.proofs.lemmas.Slice.Eq.{bytes_eq-Decides}
 use Rattle.std.proofs.lemmas.List.{get_or_append_left, get_or-append_right, get_or-map, length-append, length-map, get_or_default}
-use Rattle.std.proofs.lemmas.List.Elements.{Contains-push, Contains-push_cases, Contains-append_left, Contains-append_right, Contains-append_cases, Contains-get_or}
-use Rattle.ags_rows.specs.Contents.{under}
+use Rattle.std.proofs.lemmas.List.Elements.{Contains-append_left, Contains-append_right, Contains-append_cases, Contains-get_or}
 use Rattle.ags_rows.specs.Names.{is_definition}
 use Rattle.ags_links.specs.Adding.{AddsRows}
-use Rattle.ags_links.specs.DataRows.{File, DataRow, IsRow, Between, ListsRows, entry_of}
-use Rattle.ags_links.specs.Indexing.{rows_in, IsParentAt, IsLinkAt, IsLinkedAt, IsLinkStepAt, IsFileRowAt, IsFileStepAt}
-use Rattle.ags_links.specs.RecordLinks.{separators_of, IsLinkRow}
-use Rattle.ags_links.specs.Steps.{IsRecordLink, LinkStep, FileStep, Step, StepAt, IsBefore, ListsSteps}
+use Rattle.ags_links.specs.DataRows.{File, DataRow, IsRow, Between, ListsRows}
+use Rattle.ags_links.specs.Indexing.{rows_in, IsParentAt, IsLinkedAt, IsLinkStepAt, IsFileRowAt, IsFileStepAt}
+use Rattle.ags_links.specs.Steps.{LinkStep, FileStep, Step, StepAt, IsBefore, ListsSteps}
 use Rattle.ags_links.specs.Walks.{InRange}
 use Rattle.ags_links.proofs.Linking.{adds_then, adds_same, adds_none, adds_listed, once_lists}
 use Rattle.ags_links.proofs.Members.{contains_map, map_contains}
@@ -41,16 +39,6 @@ other_bytes xs ys ne = by_test (bytes_eq xs ys) refl where
 bytes_differ : (xs ys : List ℕ) → not (bytes_eq xs ys) ≡ true → xs ≡ ys → ⊥
 bytes_differ xs ys e same = true≢false (sym ((bytes_eq-Decides xs ys).1 same) ∙ not_true (bytes_eq xs ys) e)
 
-not_null : (xs : List ℕ) → not (eqb (length xs) 0) ≡ true → xs ≡ [] → ⊥
-not_null xs e null = true≢false (sym (ap (λ l. eqb (length l) 0) null) ∙ not_true (eqb (length xs) 0) e)
-
-null_not : (xs : List ℕ) → (xs ≡ [] → ⊥) → not (eqb (length xs) 0) ≡ true
-null_not [] some = absurd (some refl)
-null_not (x ∷ xs) some = by_test (eqb (length (x ∷ xs)) 0) refl where
-  by_test : (t : Bool) → eqb (length (x ∷ xs)) 0 ≡ t → not t ≡ true
-  by_test true e = let z : length (x ∷ xs) ≡ 0 = eqb-true (length (x ∷ xs)) 0 e in absurd (omega arith)
-  by_test false e = refl
-
 -- ---- rows of FILE
 
 -- the test of a group that steps to rows of FILE
@@ -76,71 +64,6 @@ no_file_steps file n r old row may = adds_none old (IsFileStepAt file n) (λ m h
     true≢false (sym (true_both (not (is_definition r.group)) (not (bytes_eq r.group (codes "FILE"))) data_group (other_bytes r.group (codes "FILE") step.1)) ∙ may))
 
 -- ---- record links
-
--- the test of a heading that is a record link of the row
-abbrev pub is_link : DataRow → List ℕ → Bool
-is_link r heading = bytes_eq (under r.headings r.types heading) (codes "RL") && not (eqb (length (entry_of r heading)) 0)
-
--- one of these headings is a record link of the row, and names the other
-abbrev pub LinkedAmong : File → ℕ → List (List ℕ) → ℕ → Type 0
-LinkedAmong file n headings m = (heading : List ℕ) × (r : DataRow) × Contains headings heading × IsRow (rows_in file) n r × (is_link r heading ≡ true) × IsLinkAt file heading n m
-
-pub linked_begins : (file : File) (n : ℕ) (old : List ℕ) → AddsRows old old (LinkedAmong file n [])
-linked_begins file n old = adds_none old (LinkedAmong file n []) (λ m h. omega (arith, h.2.1))
-
-pub linked_next : (file : File) (n : ℕ) (r : DataRow) (headings : List (List ℕ)) (heading : List ℕ) (old found new : List ℕ) → IsRow (rows_in file) n r → AddsRows old found (LinkedAmong file n headings) → is_link r heading ≡ true
-    → AddsRows found new (IsLinkAt file heading n) → AddsRows old new (LinkedAmong file n (headings ++ heading ∷ []))
-linked_next file n r headings heading old found new row so_far is next =
-    adds_then old found new (LinkedAmong file n headings) (IsLinkAt file heading n) (LinkedAmong file n (headings ++ heading ∷ [])) so_far next
-    (λ m h. (h.0, h.1, Contains-append_left headings (heading ∷ []) h.0 h.2, h.3, h.4, h.5))
-    (λ m h. (heading, r, Contains-push headings heading, row, is, h))
-    (λ m h. elim (Contains-push_cases headings heading h.0 h.2) [
-      | inl was ↦ inl (h.0, h.1, was, h.3, h.4, h.5)
-      | inr same ↦ inr (subst (λ g. IsLinkAt file g n m) (sym same) h.5)
-    ])
-
-pub linked_over : (file : File) (n : ℕ) (r : DataRow) (headings : List (List ℕ)) (heading : List ℕ) (old found : List ℕ) → IsRow (rows_in file) n r → AddsRows old found (LinkedAmong file n headings) → is_link r heading ≡ false
-    → AddsRows old found (LinkedAmong file n (headings ++ heading ∷ []))
-linked_over file n r headings heading old found row so_far is =
-    adds_same old found (LinkedAmong file n headings) (LinkedAmong file n (headings ++ heading ∷ [])) so_far
-    (λ m h. (h.0, h.1, Contains-append_left headings (heading ∷ []) h.0 h.2, h.3, h.4, h.5))
-    (λ m h. elim (Contains-push_cases headings heading h.0 h.2) [
-      | inl was ↦ (h.0, h.1, was, h.3, h.4, h.5)
-      | inr same ↦
-          let row_is : h.1 ≡ r = one_at (rows_in file) n h.1 r h.3 row in
-          let true_here : is_link r heading ≡ true = subst (λ q. is_link q heading ≡ true) row_is (subst (λ g. is_link h.1 g ≡ true) (sym same) h.4) in
-          absurd (true≢false (sym true_here ∙ is))
-    ])
-
-pub linked_ends : (file : File) (n : ℕ) (r : DataRow) (old new : List ℕ) → IsRow (rows_in file) n r → AddsRows old new (LinkedAmong file n r.headings) → AddsRows old new (IsLinkedAt file n)
-linked_ends file n r old new row adds = adds_same old new (LinkedAmong file n r.headings) (IsLinkedAt file n) adds
-    (λ m h.
-    let heading = h.0 in
-    let link = h.5 in
-    let is : h.1 ≡ r = one_at (rows_in file) n h.1 r h.3 row in
-    let same : link.0 ≡ r = one_at (rows_in file) n link.0 r link.2 row in
-    let tests = both_true (bytes_eq (under r.headings r.types heading) (codes "RL")) (not (eqb (length (entry_of r heading)) 0)) (subst (λ q. is_link q heading ≡ true) is h.4) in (
-      r,
-      link.1,
-      row,
-      link.3,
-      (
-        heading,
-        (h.2, (bytes_eq-Decides (under r.headings r.types heading) (codes "RL")).0 tests.0, not_null (entry_of r heading) tests.1),
-        subst (λ q. IsLinkRow file.entries (separators_of file.contents) heading q link.1) same link.4,
-      ),
-    ))
-    (λ m h.
-    let heading = h.4.0 in
-    let record_link : IsRecordLink h.0 heading = h.4.1 in
-    let is : h.0 ≡ r = one_at (rows_in file) n h.0 r h.2 row in (
-      heading,
-      h.0,
-      subst (λ (q : DataRow). Contains q.headings heading) is record_link.0,
-      h.2,
-      true_both (bytes_eq (under h.0.headings h.0.types heading) (codes "RL")) (not (eqb (length (entry_of h.0 heading)) 0)) ((bytes_eq-Decides (under h.0.headings h.0.types heading) (codes "RL")).1 record_link.1) (null_not (entry_of h.0 heading) record_link.2),
-      (h.0, h.1, h.2, h.3, h.4.2),
-    ))
 
 pub link_steps : (file : File) (n : ℕ) (r : DataRow) (old new : List ℕ) → IsRow (rows_in file) n r → is_definition r.group ≡ false → AddsRows old new (IsLinkedAt file n) → AddsRows old new (IsLinkStepAt file n)
 link_steps file n r old new row data_group adds = adds_same old new (IsLinkedAt file n) (IsLinkStepAt file n) adds

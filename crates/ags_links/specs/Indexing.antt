@@ -1,15 +1,16 @@
 -- What an index keeps, and what is asked of it by the numbers of rows.
-use Rattle.std.specs.Prelude.{◌≡◌, ◌<◌, ◌^◌, ℕ, List, All, map, length}
+use Rattle.std.specs.Prelude.{◌≡◌, ◌<◌, ◌^◌, ℕ, List, Option, All, Contains, map, length}
 use Rattle.ags_rows.specs.declared.rows.Group.{Group}
 use Rattle.ags_rows.specs.Contents.{contents_of}
 use Rattle.ags_dict.specs.Entries.{Entries}
 use Rattle.ags_links.specs.declared.families.Family.{Family}
+use Rattle.ags_links.specs.declared.families.ParentLinks.{ParentLinks}
 use Rattle.ags_links.specs.declared.index.Targets.{Targets}
 use Rattle.ags_links.specs.declared.lookup.Lookup.{Lookup}
 use Rattle.ags_links.specs.declared.placed.PlacedRow.{PlacedRow}
 use Rattle.ags_links.specs.declared.separators.Separators.{Separators}
 use Rattle.ags_links.specs.DataRows.{File, DataRow, data_rows, IsRow, Between}
-use Rattle.ags_links.specs.Families.{HasText, HasKeyText, HasFileSet, AreFamilies}
+use Rattle.ags_links.specs.Families.{HasText, HasKeyText, HasFileSet, AreFamilies, AreParents}
 use Rattle.ags_links.specs.Keys.{IsFirstOfKey}
 use Rattle.ags_links.specs.Lookups.{Finds}
 use Rattle.ags_links.specs.Parents.{IsParentRow}
@@ -19,11 +20,12 @@ use Rattle.ags_links.specs.Steps.{IsFileRow, Linked, LinkStep, FileStep}
 use Rattle.ags_links.specs.Targets.{AreTargets}
 
 -- the index of these groups under these entries
-pub record Indexes (groups : List Group) (entries : Entries) (rows : List PlacedRow) (kept : List Family) (by_key by_file_set : Lookup) (separators : Separators) : Type 0 where
+pub record Indexes (groups : List Group) (entries : Entries) (rows : List PlacedRow) (kept : List Family) (parents : List (Option ParentLinks)) (by_key by_file_set : Lookup) (separators : Separators) : Type 0 where
   pub placed : All (IsPlaced groups) rows
   pub numbered : map row_of rows ≡ data_rows (contents_of groups)
   pub few : length rows < 2 ^ 32
-  pub families : AreFamilies entries (map row_of rows) groups kept
+  pub families : AreFamilies entries groups kept
+  pub parented : AreParents entries (map row_of rows) groups parents
   pub keyed : Finds by_key (HasText (map row_of rows) (HasKeyText entries))
   pub filed : Finds by_file_set (HasText (map row_of rows) HasFileSet)
   pub separated : separators ≡ links.separators_of (contents_of groups)
@@ -48,9 +50,9 @@ IsFileRowAt file = Between (rows_in file) IsFileRow
 abbrev pub NamesAt : File → List ℕ → ℕ → Type 0
 NamesAt file = links.NamesAt file.entries (links.separators_of file.contents) (rows_in file)
 
--- some part of row n's entry under the heading names row m
-abbrev pub IsLinkAt : File → List ℕ → ℕ → ℕ → Type 0
-IsLinkAt file heading = Between (rows_in file) (links.IsLinkRow file.entries (links.separators_of file.contents) heading)
+-- one of the parts names row n
+abbrev pub IsNamedAmong : File → List (List ℕ) → ℕ → Type 0
+IsNamedAmong file parts n = (part : List ℕ) × Contains parts part × NamesAt file part n
 
 -- one of row n's record links names row m
 abbrev pub IsLinkedAt : File → ℕ → ℕ → Type 0

@@ -13,4 +13,3 @@ pub mod Families
 pub mod Targets
 pub mod Indexing
 pub mod Adding
-pub mod Limits

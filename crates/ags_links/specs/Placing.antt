@@ -1,7 +1,8 @@
 -- The rows of a file as the index keeps them.
-use Rattle.std.specs.Prelude.{◌≡◌, ◌<◌, ℕ, List, length, slice_index_or}
+use Rattle.std.specs.Prelude.{◌≡◌, ◌≢◌, ◌<◌, ℕ, List, [], Option, Contains, length, slice_index_or}
 use Rattle.ags_rows.specs.declared.rows.Group.{Group}
-use Rattle.ags_rows.specs.Contents.{group_contents, fields_of}
+use Rattle.ags_rows.specs.Contents.{group_contents, fields_of, field_at}
+use Rattle.ags_dict.specs.Parts.{parts_at}
 use Rattle.ags_links.specs.DataRows.{DataRow, row_in}
 use Rattle.ags_links.specs.declared.placed.PlacedRow.{PlacedRow}
 
@@ -12,3 +13,7 @@ row_of kept = row_in (group_contents kept.group.now) (fields_of kept.row.now)
 -- the row's group stands at its place in the file
 abbrev pub IsPlaced : List Group → PlacedRow → Type 0
 IsPlaced groups kept = (kept.place < length groups) × (slice_index_or groups kept.place kept.group.now ≡ kept.group.now)
+
+-- a part of what stands in the row at one of the places; a null has none
+abbrev pub IsPartAmong : ℕ → DataRow → List (Option ℕ) → List ℕ → Type 0
+IsPartAmong separator row places part = (place : Option ℕ) × Contains places place × (field_at row.fields place ≢ []) × Contains (parts_at separator (field_at row.fields place)) part

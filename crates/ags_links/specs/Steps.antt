@@ -6,12 +6,16 @@ use Rattle.ags_rows.specs.Names.{is_definition}
 use Rattle.ags_dict.specs.Entries.{Entries}
 use Rattle.ags_links.specs.DataRows.{File, DataRow, entry_of, data_rows, Between}
 use Rattle.ags_links.specs.Parents.{IsParentRow}
-use Rattle.ags_links.specs.RecordLinks.{separators_of, IsLinkRow}
+use Rattle.ags_links.specs.RecordLinks.{separators_of, IsPartOf, IsLinkRow}
 use Rattle.ags_links.specs.declared.separators.Separators.{Separators}
 
 -- a heading of type RL under which the row has an entry that is not null
 abbrev pub IsRecordLink : DataRow → List ℕ → Type 0
 IsRecordLink row heading = Contains row.headings heading × (under row.headings row.types heading ≡ codes "RL") × (entry_of row heading ≢ [])
+
+-- a part of one of the row's record links
+abbrev pub IsLinkedPart : Separators → DataRow → List ℕ → Type 0
+IsLinkedPart separators row part = (heading : List ℕ) × IsRecordLink row heading × IsPartOf separators row heading part
 
 -- one of r's record links names s in some part
 abbrev pub Linked : Entries → Separators → DataRow → DataRow → Type 0

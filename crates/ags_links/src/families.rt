@@ -1,32 +1,107 @@
-//! What the index keeps for each group: its KEY headings, and the rows of its parent group by their link entries.
+//! What the index keeps for each group: where its headings stand, and the rows of its parent group by their link
+//! entries.
 
 ghost use Rattle.std.specs.Prelude.{◌≡◌, ◌<◌, ◌^◌, Contains, IfOk, All, length, map, filter};
+ghost use Rattle.ags_rows.specs.Contents.{place_in};
 ghost use Rattle.ags_rows.specs.declared.rows.Group.{Group};
-ghost use Rattle.ags_links.specs.DataRows.{DataRow, ListsRows};
 ghost use Rattle.ags_links.specs.Lookups.{Finds};
-ghost use Rattle.ags_links.specs.Families.{HasText, HasGroup, HasKeyText, HasFileSet, HasEntries, IsParentIndex, AreFamilies, has_heading};
+ghost use Rattle.ags_links.specs.Families.{HasText, HasGroup, HasKeyText, HasFileSet, HasEntries, HasFamily, IsFamily, IsParentIndex, AreFamilies, AreParents, is_among, record_links};
 ghost use Rattle.std.specs.List.Sorted.{IsStrictlyIncreasing};
 ghost use Rattle.ags_links.specs.Placing.{IsPlaced, row_of};
 
 use crate::lookup::{Lookup, add_row, no_rows, rows_with};
-use crate::placed::{PlacedRow, entry};
+use crate::placed::{PlacedRow, cell_at, field};
 use crate::texts::{entries_text, group_text};
 use ags_dict::Dictionary;
-use ags_rows::Group;
+use ags_rows::{Group, Places};
 use std::alloc::{AllocError, Global};
 
-/// The link headings of a group, and the rows of its parent group by their entries under them.
+/// A group's headings and KEY headings, and the places in its rows of the KEY headings, of FILE_FSET and of the
+/// headings of type RL.
 #[derive(Drop)]
-pub(crate) struct ParentLinks<'d> {
-    pub(crate) headings: Vec<&'d [u8]>,
+pub(crate) struct Family<'s, 'd> {
+    pub(crate) headings: Places<'s>,
+    pub(crate) key_headings: Places<'d>,
+    pub(crate) keys: Vec<Option<usize>>,
+    pub(crate) file_set: Option<usize>,
+    pub(crate) links: Vec<Option<usize>>,
+}
+
+/// The places of a group's link headings in its rows, and the rows of its parent group by their entries under them.
+#[derive(Drop)]
+pub(crate) struct ParentLinks {
+    pub(crate) places: Vec<Option<usize>>,
     pub(crate) rows: Lookup,
 }
 
-/// A group's KEY headings, and its parent group's rows; none where it has no parent group.
-#[derive(Drop)]
-pub(crate) struct Family<'d> {
-    pub(crate) keys: Vec<&'d [u8]>,
-    pub(crate) parent: Option<ParentLinks<'d>>,
+/// Where the names stand among the headings.
+fn places_of(
+    alloc: Global,
+    headings: &Places<'_>,
+    names: &[&[u8]],
+) -> Result<Vec<Option<usize>>, AllocError>
+    ensures { IfOk result (λ places. places.items ≡ map (λ name. place_in headings.now name.now) names.now) }
+{
+    names.iter().map(|name| headings.find(name)).collect(alloc)
+}
+
+/// Where the group's headings of type RL stand.
+fn record_links(
+    alloc: Global,
+    headings: &Places<'_>,
+    group: &Group<'_>,
+) -> Result<Vec<Option<usize>>, AllocError>
+    ensures { IfOk result (λ places. places.items ≡ map (place_in headings.now) (record_links headings.now group.now.types)) }
+{
+    let mut places = Vec::new(alloc);
+    for heading in headings.names() {
+        let place = headings.find(heading);
+        if cell_at(group.types.as_slice(), place) == b"RL".as_slice() {
+            places.push(place)?;
+        }
+    }
+    Ok(places)
+}
+
+/// What is kept for a group.
+fn family_of<'s, 'd>(
+    alloc: Global,
+    group: &'s Group<'_>,
+    dictionary: &'d Dictionary,
+) -> Result<Family<'s, 'd>, AllocError>
+    ensures { IfOk result (λ family. IsFamily dictionary.now group.now family) }
+{
+    let headings = Places::of_cells(alloc, group.headings.as_slice())?;
+    let listed = dictionary.keys(alloc, group.name.as_slice())?;
+    let key_headings = Places::of(alloc, listed)?;
+    let keys = places_of(alloc, &headings, key_headings.names())?;
+    let file_set = headings.find(b"FILE_FSET");
+    let links = record_links(alloc, &headings, group)?;
+    Ok(Family {
+        headings,
+        key_headings,
+        keys,
+        file_set,
+        links,
+    })
+}
+
+/// What is kept for each group, and so for each row.
+pub(crate) fn families<'s, 'd>(
+    alloc: Global,
+    groups: &'s [Group<'_>],
+    dictionary: &'d Dictionary,
+    rows: &[PlacedRow<'_, '_>],
+) -> Result<Vec<Family<'s, 'd>>, AllocError>
+    requires { All (IsPlaced groups.now) rows.now }
+    ensures families { IfOk result (λ families. AreFamilies dictionary.now groups.now families.items) }
+    ensures kept { IfOk result (λ families. All (HasFamily dictionary.now families.items) rows.now) }
+{
+    let mut families = Vec::new(alloc);
+    for group in groups {
+        families.push(family_of(alloc, group, dictionary)?)?;
+    }
+    Ok(families)
 }
 
 /// The rows by the names of their groups.
@@ -45,14 +120,12 @@ pub(crate) fn rows_by_group(alloc: Global, rows: &[PlacedRow<'_, '_>]) -> Result
 /// The rows by their groups and key entries.
 pub(crate) fn rows_by_key(
     alloc: Global,
-    groups: &[Group<'_>],
     dictionary: &Dictionary,
     rows: &[PlacedRow<'_, '_>],
-    families: &[Family<'_>],
+    families: &[Family<'_, '_>],
 ) -> Result<Lookup, AllocError>
     requires few { length rows.now < 2 ^ 32 }
-    requires placed { All (IsPlaced groups.now) rows.now }
-    requires families { AreFamilies dictionary.now (map row_of rows.now) groups.now families.now }
+    requires kept { All (HasFamily dictionary.now families.now) rows.now }
     ensures { IfOk result (λ lookup. Finds lookup (HasText (map row_of rows.now) (HasKeyText dictionary.now))) }
 {
     let mut lookup = no_rows(alloc);
@@ -66,110 +139,139 @@ pub(crate) fn rows_by_key(
 /// The rows of FILE by their FILE_FSET.
 pub(crate) fn rows_by_file_set(
     alloc: Global,
+    dictionary: &Dictionary,
     rows: &[PlacedRow<'_, '_>],
+    families: &[Family<'_, '_>],
 ) -> Result<Lookup, AllocError>
-    requires { length rows.now < 2 ^ 32 }
+    requires few { length rows.now < 2 ^ 32 }
+    requires kept { All (HasFamily dictionary.now families.now) rows.now }
     ensures { IfOk result (λ lookup. Finds lookup (HasText (map row_of rows.now) HasFileSet)) }
 {
     let mut lookup = no_rows(alloc);
     for (number, row) in rows.iter().enumerate() {
         let group = row.group;
         if group.name.as_slice() == b"FILE".as_slice() {
-            add_row(alloc, &mut lookup, entry(row, b"FILE_FSET"), number as u32)?;
+            let file_set = field(row, families[row.place].file_set);
+            add_row(alloc, &mut lookup, file_set, number as u32)?;
         }
     }
     Ok(lookup)
 }
 
-/// Whether the heading stands in the group's HEADING row.
-fn has_heading(group: &Group<'_>, heading: &[u8]) -> bool
-    ensures { result ≡ has_heading group.now.headings heading.now }
-{
-    group
-        .headings
-        .as_slice()
-        .iter()
-        .any(|h| h.as_slice() == heading)
-}
-
-/// Those of the headings that stand in the group's HEADING row.
-pub(crate) fn headings_in<'d>(
+/// The link headings of a group: those of its headings that are KEY headings of its parent group.
+fn link_headings<'g>(
     alloc: Global,
-    group: &Group<'_>,
-    headings: &[&'d [u8]],
-) -> Result<Vec<&'d [u8]>, AllocError>
-    ensures { IfOk result (λ found. map (λ h. h.now) found.items ≡ filter (has_heading group.now.headings) (map (λ h. h.now) headings.now)) }
+    headings: &'g Places<'_>,
+    keys: &Places<'_>,
+) -> Result<Vec<&'g [u8]>, AllocError>
+    ensures { IfOk result (λ links. map (λ h. h.now) links.items ≡ filter (is_among keys.now) headings.now) }
 {
-    let mut found = Vec::new(alloc);
-    for heading in headings {
-        if has_heading(group, heading) {
-            found.push(*heading)?;
+    let mut links = Vec::new(alloc);
+    for heading in headings.names() {
+        if keys.find(heading).is_some() {
+            links.push(*heading)?;
         }
     }
-    Ok(found)
+    Ok(links)
 }
 
 /// These rows, by their entries under the headings.
 fn rows_by_entries(
     alloc: Global,
+    dictionary: &Dictionary,
     rows: &[PlacedRow<'_, '_>],
+    families: &[Family<'_, '_>],
     numbers: &[u32],
     headings: &[&[u8]],
 ) -> Result<Lookup, AllocError>
     requires few { length rows.now < 2 ^ 32 }
+    requires kept { All (HasFamily dictionary.now families.now) rows.now }
     requires numbers { All (λ n. n < length rows.now) numbers.now }
     requires rising { IsStrictlyIncreasing numbers.now }
     ensures { IfOk result (λ lookup. Finds lookup (λ n text. Contains numbers.now n × HasText (map row_of rows.now) (HasEntries (map (λ h. h.now) headings.now)) n text)) }
 {
     let mut lookup = no_rows(alloc);
     for number in numbers {
-        let text = entries_text(alloc, &rows[*number as usize], headings)?;
+        let row = &rows[*number as usize];
+        let places = places_of(alloc, &families[row.place].headings, headings)?;
+        let text = entries_text(alloc, row, &places)?;
         add_row(alloc, &mut lookup, &text, *number)?;
     }
     Ok(lookup)
 }
 
-/// The rows of the group's parent group, by their entries under the link headings.
-fn parent_links<'d>(
+/// What is kept for the row's group.
+fn family_at<'l, 's, 'd>(
+    dictionary: &Dictionary,
+    families: &'l [Family<'s, 'd>],
+    row: &PlacedRow<'_, '_>,
+) -> &'l Family<'s, 'd>
+    requires { HasFamily dictionary.now families.now row.now }
+    ensures { IsFamily dictionary.now row.now.group.now result.now }
+{
+    &families[row.place]
+}
+
+/// The rows of the group's parent group by their entries under the link headings; none where there is no such row.
+fn parent_links(
     alloc: Global,
     group: &Group<'_>,
-    dictionary: &'d Dictionary,
+    dictionary: &Dictionary,
     rows: &[PlacedRow<'_, '_>],
+    families: &[Family<'_, '_>],
+    family: &Family<'_, '_>,
     by_group: &Lookup,
-) -> Result<Option<ParentLinks<'d>>, AllocError>
+) -> Result<Option<ParentLinks>, AllocError>
     requires few { length rows.now < 2 ^ 32 }
+    requires kept { All (HasFamily dictionary.now families.now) rows.now }
+    requires family { IsFamily dictionary.now group.now family.now }
     requires by_group { Finds by_group.now (HasText (map row_of rows.now) HasGroup) }
     ensures { IfOk result (λ parent. IsParentIndex dictionary.now (map row_of rows.now) group.now parent) }
 {
     let Some(parent) = dictionary.parent(group.name.as_slice()) else {
         return Ok(None);
     };
-    let keys = dictionary.keys(alloc, parent)?;
-    let headings = headings_in(alloc, group, &keys)?;
-    let found = rows_by_entries(alloc, rows, rows_with(by_group, parent), &headings)?;
+    let numbers = rows_with(by_group, parent);
+    if numbers.is_empty() {
+        return Ok(None);
+    }
+    let first = numbers[0] as usize;
+    let of_parent = family_at(dictionary, families, &rows[first]);
+    let headings = link_headings(alloc, &family.headings, &of_parent.key_headings)?;
+    let places = places_of(alloc, &family.headings, &headings)?;
+    let found = rows_by_entries(alloc, dictionary, rows, families, numbers, &headings)?;
     Ok(Some(ParentLinks {
-        headings,
+        places,
         rows: found,
     }))
 }
 
-/// What is kept for each group.
-pub(crate) fn families<'d>(
+/// For each group the rows of its parent group.
+pub(crate) fn parents(
     alloc: Global,
     groups: &[Group<'_>],
-    dictionary: &'d Dictionary,
+    dictionary: &Dictionary,
     rows: &[PlacedRow<'_, '_>],
+    families: &[Family<'_, '_>],
     by_group: &Lookup,
-) -> Result<Vec<Family<'d>>, AllocError>
+) -> Result<Vec<Option<ParentLinks>>, AllocError>
     requires few { length rows.now < 2 ^ 32 }
+    requires kept { All (HasFamily dictionary.now families.now) rows.now }
+    requires families { AreFamilies dictionary.now groups.now families.now }
     requires by_group { Finds by_group.now (HasText (map row_of rows.now) HasGroup) }
-    ensures { IfOk result (λ families. AreFamilies dictionary.now (map row_of rows.now) groups.now families.items) }
+    ensures { IfOk result (λ parents. AreParents dictionary.now (map row_of rows.now) groups.now parents.items) }
 {
-    let mut families = Vec::new(alloc);
-    for group in groups {
-        let keys = dictionary.keys(alloc, group.name.as_slice())?;
-        let parent = parent_links(alloc, group, dictionary, rows, by_group)?;
-        families.push(Family { keys, parent })?;
+    let mut parents = Vec::new(alloc);
+    for (place, group) in groups.iter().enumerate() {
+        parents.push(parent_links(
+            alloc,
+            group,
+            dictionary,
+            rows,
+            families,
+            &families[place],
+            by_group,
+        )?)?;
     }
-    Ok(families)
+    Ok(parents)
 }

@@ -1,14 +1,10 @@
-ghost use Rattle.std.specs.Prelude.{◌<◌, ◌^◌, length};
-ghost use Rattle.ags_rows.specs.Contents.{contents_of};
-ghost use Rattle.ags_links.specs.DataRows.{data_rows};
-
 use crate::placed::place_rows;
 use crate::plain::passes::{reached_by_passes, shown_by_passes};
 use crate::plain::search::{first_of_key_by_search, parents_by_search};
 use crate::{Graph, Index, Targets, reached, shown};
 use ags_dict::Dictionary;
-use ags_rows::vectors::{FILE_A, FILE_B, FILE_C, MINI};
 use ags_rows::{READABLE, Scan};
+use ags_rows::vectors::{FILE_A, FILE_B, FILE_C, MINI};
 use std::fmt::Write;
 use std::process::Abort;
 use std::test::Fail;
@@ -40,9 +36,7 @@ fn dictionary(rt: &(impl Abort + AllocGlobal)) -> Dictionary {
 }
 
 /// The groups of a file.
-fn scanned<'f>(rt: &(impl Abort + AllocGlobal), file: &'f [u8]) -> Scan<'f>
-    ensures { length (data_rows (contents_of result)) < 2 ^ 32 }
-{
+fn scanned<'f>(rt: &(impl Abort + AllocGlobal), file: &'f [u8]) -> Scan<'f> {
     assert!(rt; file.len() <= READABLE);
     match Scan::read(rt.alloc(), file) {
         Ok(scan) => scan,
@@ -183,7 +177,7 @@ fn compare(rt: &(impl Abort + AllocGlobal), file: &[u8]) -> Result<(), Fail> {
     let scan = scanned(rt, file);
     let index = Index::build(rt.alloc(), &scan, &dictionary)?;
     let graph = Graph::of(rt.alloc(), &index)?;
-    let rows = place_rows(rt.alloc(), scan.groups())?;
+    let rows = place_rows(rt.alloc(), &scan)?;
     assert_eq!(rt; rows.len(), graph.rows() as usize);
     for row in 0..graph.rows() {
         let parents = index.parents(row)?;

@@ -1,14 +1,16 @@
 //! The index of a file: keys, parents, record links and file sets.
 
-ghost use Rattle.std.specs.Prelude.{◌≡◌, ◌<◌, ◌^◌, ◌↔◌, ℕ, IfOk, IsTrue, Contains, length, map};
+ghost use Rattle.std.specs.Prelude.{◌≡◌, ◌<◌, ◌↔◌, ℕ, List, IfOk, IsTrue, Contains, length, map};
 ghost use Rattle.std.specs.List.Sorted.{IsStrictlyIncreasing};
 ghost use Rattle.ags_rows.specs.Contents.{contents_of};
 
-use crate::families::{Family, families, rows_by_file_set, rows_by_group, rows_by_key};
+use crate::families::{
+    Family, ParentLinks, families, parents, rows_by_file_set, rows_by_group, rows_by_key,
+};
 use crate::lookup::{Lookup, rows_with};
-use crate::placed::{PlacedRow, entry, place_rows};
+use crate::placed::{PlacedRow, field, place_rows};
 use crate::separators::{Separators, separators_in};
-use crate::texts::{entries_text, group_text, parts, pieces_text};
+use crate::texts::{distinct, entries_text, group_text, link_parts, pieces_text, push_parts};
 use ags_dict::Dictionary;
 use ags_rows::{Group, Scan};
 use std::alloc::{AllocError, Global};
@@ -30,7 +32,8 @@ pub struct Index<'s, 'f, 'd> {
     groups: &'s [Group<'f>],
     dictionary: &'d Dictionary,
     rows: Vec<PlacedRow<'s, 'f>>,
-    families: Vec<Family<'d>>,
+    families: Vec<Family<'s, 'd>>,
+    parents: Vec<Option<ParentLinks>>,
     by_key: Lookup,
     by_file_set: Lookup,
     separators: Separators,
@@ -45,7 +48,7 @@ impl<'s, 'f, 'd> Model for Index<'s, 'f, 'd> {
 
     ghost view = { λ i. record { contents = contents_of i.groups.now; entries = i.dictionary.now } };
 
-    ghost invariant = { λ i. Indexes i.groups.now i.dictionary.now i.rows.items i.families.items i.by_key i.by_file_set i.separators };
+    ghost invariant = { λ i. Indexes i.groups.now i.dictionary.now i.rows.items i.families.items i.parents.items i.by_key i.by_file_set i.separators };
 }
 
 /// The numbers rising, each once.
@@ -60,10 +63,10 @@ pub(crate) fn each_once(numbers: Vec<u32>) -> Vec<u32>
 }
 
 impl<'s, 'f, 'd> Index<'s, 'f, 'd> {
-    ghost use Rattle.ags_dict.specs.Parts.{parts_at};
-    ghost use Rattle.ags_links.specs.DataRows.{DataRow, data_rows, ListsRows, IsRow, entry_of};
-    ghost use Rattle.ags_links.specs.RecordLinks.{separators_of, IsBroken};
-    ghost use Rattle.ags_links.specs.Families.{IsFamily};
+    ghost use Rattle.ags_links.specs.DataRows.{DataRow, ListsRows, IsRow};
+    ghost use Rattle.ags_links.specs.RecordLinks.{separators_of, IsPartOf, IsBroken};
+    ghost use Rattle.ags_links.specs.Steps.{IsLinkedPart};
+    ghost use Rattle.ags_links.specs.Families.{IsFamily, IsParentIndex};
     ghost use Rattle.ags_links.specs.Placing.{row_of};
     ghost use Rattle.ags_links.specs.Indexing.{rows_in, IsParentAt, IsFirstOfKeyAt, IsFileRowAt, NamesAt, AreTargetsAt};
 
@@ -73,22 +76,23 @@ impl<'s, 'f, 'd> Index<'s, 'f, 'd> {
         scan: &'s Scan<'f>,
         dictionary: &'d Dictionary,
     ) -> Result<Index<'s, 'f, 'd>, AllocError>
-        requires { length (data_rows (contents_of scan.now)) < 2 ^ 32 }
         ensures contents { IfOk result (λ index. index.contents ≡ contents_of scan.now) }
         ensures entries { IfOk result (λ index. index.entries ≡ dictionary.now) }
     {
         let groups = scan.groups();
-        let rows = place_rows(alloc, groups)?;
+        let rows = place_rows(alloc, scan)?;
+        let families = families(alloc, groups, dictionary, &rows)?;
         let by_group = rows_by_group(alloc, &rows)?;
-        let families = families(alloc, groups, dictionary, &rows, &by_group)?;
-        let by_key = rows_by_key(alloc, groups, dictionary, &rows, &families)?;
-        let by_file_set = rows_by_file_set(alloc, &rows)?;
+        let parents = parents(alloc, groups, dictionary, &rows, &families, &by_group)?;
+        let by_key = rows_by_key(alloc, dictionary, &rows, &families)?;
+        let by_file_set = rows_by_file_set(alloc, dictionary, &rows, &families)?;
         Ok(Index {
             alloc,
             groups,
             dictionary,
             rows,
             families,
+            parents,
             by_key,
             by_file_set,
             separators: separators_in(groups),
@@ -102,14 +106,18 @@ impl<'s, 'f, 'd> Index<'s, 'f, 'd> {
         self.rows.len() as u32
     }
 
-    /// The row, and what is kept for its group.
-    pub(crate) fn kept(&self, row: u32) -> (&PlacedRow<'s, 'f>, &Family<'d>)
+    /// The row, what is kept for its group, and the rows of its parent group.
+    pub(crate) fn kept(
+        &self,
+        row: u32,
+    ) -> (&PlacedRow<'s, 'f>, &Family<'s, 'd>, &Option<ParentLinks>)
         requires { row < length (rows_in self.now) }
         ensures row { IsRow (rows_in self.now) row (row_of result.0.now) }
-        ensures family { IsFamily self.now.entries (rows_in self.now) result.0.now.group.now result.1.now }
+        ensures family { IsFamily self.now.entries result.0.now.group.now result.1.now }
+        ensures parent { IsParentIndex self.now.entries (rows_in self.now) result.0.now.group.now result.2.now }
     {
         let kept = &self.rows[row as usize];
-        (kept, &self.families[kept.place])
+        (kept, &self.families[kept.place], &self.parents[kept.place])
     }
 
     /// The parent rows of a row (Rule 10c).
@@ -117,10 +125,10 @@ impl<'s, 'f, 'd> Index<'s, 'f, 'd> {
         requires { row < length (rows_in self.now) }
         ensures { IfOk result (λ rows. ListsRows rows.now (IsParentAt self.now row)) }
     {
-        let (kept, family) = self.kept(row);
-        match &family.parent {
+        let (kept, _, parent) = self.kept(row);
+        match parent {
             Some(links) => {
-                let text = entries_text(self.alloc, kept, &links.headings)?;
+                let text = entries_text(self.alloc, kept, &links.places)?;
                 Ok(rows_with(&links.rows, &text))
             }
             None => Ok(&[]),
@@ -150,7 +158,7 @@ impl<'s, 'f, 'd> Index<'s, 'f, 'd> {
         requires { row < length (rows_in self.now) }
         ensures { IfOk result (IsFirstOfKeyAt self.now row) }
     {
-        let (kept, family) = self.kept(row);
+        let (kept, family, _) = self.kept(row);
         let text = group_text(self.alloc, kept, &family.keys)?;
         Ok(rows_with(&self.by_key, &text)[0])
     }
@@ -160,8 +168,8 @@ impl<'s, 'f, 'd> Index<'s, 'f, 'd> {
         requires { row < length (rows_in self.now) }
         ensures { ListsRows result.now (IsFileRowAt self.now row) }
     {
-        let (kept, _) = self.kept(row);
-        let file_set = entry(kept, b"FILE_FSET");
+        let (kept, family, _) = self.kept(row);
+        let file_set = field(kept, family.file_set);
         if file_set.is_empty() {
             return &[];
         }
@@ -184,17 +192,38 @@ impl<'s, 'f, 'd> Index<'s, 'f, 'd> {
         Ok(rows_with(&self.by_key, &text))
     }
 
-    /// The parts of what stands in the row under a heading.
-    pub(crate) fn link_parts(&self, row: u32, heading: &[u8]) -> Result<Vec<&'s [u8]>, AllocError>
+    /// The parts of what stands in the row under a heading, each once.
+    fn parts_under(&self, row: u32, heading: &[u8]) -> Result<Vec<&'s [u8]>, AllocError>
         requires { row < length (rows_in self.now) }
-        ensures { IfOk result (λ parts. (r : DataRow) → IsRow (rows_in self.now) row r → map (λ p. p.now) parts.items ≡ parts_at (separators_of self.now.contents).concatenator (entry_of r heading.now)) }
+        ensures { IfOk result (λ parts. (r : DataRow) → IsRow (rows_in self.now) row r
+            → (part : List ℕ) → Contains (map (λ p. p.now) parts.items) part ↔ IsPartOf (separators_of self.now.contents) r heading.now part) }
     {
-        let (kept, _) = self.kept(row);
-        parts(
+        let (kept, family, _) = self.kept(row);
+        let mut parts = Vec::new(self.alloc);
+        push_parts(
+            &mut parts,
+            self.separators.concatenator,
+            field(kept, family.headings.find(heading)),
+        )?;
+        let once = distinct(self.alloc, parts)?;
+        Ok(once)
+    }
+
+    /// The parts of the row's record links, each once.
+    pub(crate) fn linked_parts(&self, row: u32) -> Result<Vec<&'s [u8]>, AllocError>
+        requires { row < length (rows_in self.now) }
+        ensures { IfOk result (λ parts. (r : DataRow) → IsRow (rows_in self.now) row r
+            → (part : List ℕ) → Contains (map (λ p. p.now) parts.items) part ↔ IsLinkedPart (separators_of self.now.contents) r part) }
+    {
+        let (kept, family, _) = self.kept(row);
+        let parts = link_parts(
             self.alloc,
             self.separators.concatenator,
-            entry(kept, heading),
-        )
+            kept,
+            &family.links,
+        )?;
+        let once = distinct(self.alloc, parts)?;
+        Ok(once)
     }
 
     /// Whether some part of what stands in the row under a heading, read as a record link (Rule 11), names no row.
@@ -203,7 +232,7 @@ impl<'s, 'f, 'd> Index<'s, 'f, 'd> {
         requires { row < length (rows_in self.now) }
         ensures { IfOk result (λ broken. (r : DataRow) → IsRow (rows_in self.now) row r → IsTrue broken ↔ IsBroken self.now.entries (separators_of self.now.contents) (rows_in self.now) r heading.now) }
     {
-        let parts = self.link_parts(row, heading)?;
+        let parts = self.parts_under(row, heading)?;
         for part in &parts {
             let rows = self.named(part)?;
             if rows.is_empty() {
@@ -220,7 +249,7 @@ impl<'s, 'f, 'd> Index<'s, 'f, 'd> {
         requires { row < length (rows_in self.now) }
         ensures { IfOk result (AreTargetsAt self.now row heading.now) }
     {
-        let parts = self.link_parts(row, heading)?;
+        let parts = self.parts_under(row, heading)?;
         let mut found = Vec::new(self.alloc);
         for part in &parts {
             let rows = self.named(part)?;

@@ -7,7 +7,6 @@ mod families;
 mod file_tests;
 mod graph;
 mod index;
-pub mod laws;
 mod lookup;
 mod placed;
 #[cfg(test)]

@@ -1,12 +1,12 @@
 //! The DATA rows of a file, with the groups that they stand in.
 
-ghost use Rattle.std.specs.Prelude.{◌≡◌, ◌<◌, ◌++◌, All, IfOk, OnOk, length, map, slice_index_or};
-ghost use Rattle.ags_rows.specs.Contents.{group_contents, contents_of};
-ghost use Rattle.ags_links.specs.DataRows.{data_rows, entry_of, group_rows};
+ghost use Rattle.std.specs.Prelude.{◌≡◌, ◌<◌, ◌^◌, ◌++◌, All, IfOk, OnOk, length, map, slice_index_or};
+ghost use Rattle.ags_rows.specs.Contents.{field_at, group_contents, contents_of};
+ghost use Rattle.ags_links.specs.DataRows.{data_rows, group_rows};
 ghost use Rattle.ags_links.specs.Placing.{IsPlaced, row_of};
 ghost use Rattle.ags_rows.specs.declared.rows.Group.{Group};
 
-use ags_rows::{Group, Row, under};
+use ags_rows::{Cell, Group, Row, Scan};
 use std::alloc::{AllocError, Global};
 
 /// A DATA row, its group, and the group's place in the file.
@@ -17,13 +17,22 @@ pub(crate) struct PlacedRow<'s, 'f> {
     pub(crate) row: &'s Row<'f>,
 }
 
-/// What stands in the row under a heading; null where the heading is absent.
-pub(crate) fn entry<'s>(row: &PlacedRow<'s, '_>, heading: &[u8]) -> &'s [u8]
-    ensures { result.now ≡ entry_of (row_of row.now) heading.now }
+/// What stands in a row of cells at a place; null where there is none.
+pub(crate) fn cell_at<'r>(cells: &'r [Cell], place: Option<usize>) -> &'r [u8]
+    ensures { result.now ≡ field_at cells.now place }
 {
-    let group = row.group;
+    match place {
+        Some(place) if place < cells.len() => cells[place].as_slice(),
+        _ => b"",
+    }
+}
+
+/// What stands in the row at a place; null where there is none.
+pub(crate) fn field<'s>(row: &PlacedRow<'s, '_>, place: Option<usize>) -> &'s [u8]
+    ensures { result.now ≡ field_at (row_of row.now).fields place }
+{
     let fields = row.row;
-    under(group.headings.as_slice(), fields.cells.as_slice(), heading)
+    cell_at(fields.cells.as_slice(), place)
 }
 
 /// Adds the rows of one group.
@@ -44,14 +53,18 @@ fn place_group<'s, 'f>(
     Ok(())
 }
 
-/// The DATA rows of the groups, numbered from 0 over the whole file.
+/// The DATA rows of a file, numbered from 0 over the whole file.
 pub(crate) fn place_rows<'s, 'f>(
     alloc: Global,
-    groups: &'s [Group<'f>],
+    scan: &'s Scan<'f>,
 ) -> Result<Vec<PlacedRow<'s, 'f>>, AllocError>
-    ensures placed { IfOk result (λ rows. All (IsPlaced groups.now) rows.items) }
-    ensures rows { IfOk result (λ rows. map row_of rows.items ≡ data_rows (contents_of groups.now)) }
+    ensures placed { IfOk result (λ rows. All (IsPlaced scan.now) rows.items) }
+    ensures rows { IfOk result (λ rows. map row_of rows.items ≡ data_rows (contents_of scan.now)) }
+    ensures few { IfOk result (λ rows. length rows.items < 2 ^ 32) }
 {
+    // the scan counts them with a number below 2 ^ 32
+    scan.row_count();
+    let groups = scan.groups();
     let mut rows = Vec::new(alloc);
     for place in 0..groups.len() {
         place_group(groups, place, &mut rows)?;

@@ -1,42 +1,27 @@
 //! The steps of a file: from each row to its parent rows, to the rows that its record links name, and to the rows
 //! of FILE with its FILE_FSET.
 
-ghost use Rattle.std.specs.Prelude.{◌≡◌, ◌<◌, ◌==◌, ◌&&◌, not, codes, IfOk, OnOk, length};
+ghost use Rattle.std.specs.Prelude.{◌≡◌, ◌<◌, ◌&&◌, not, codes, IfOk, OnOk, length, map};
 ghost use Rattle.std.specs.Str.{bytes_eq};
-ghost use Rattle.ags_rows.specs.Contents.{under};
 ghost use Rattle.ags_rows.specs.Names.{is_definition};
 ghost use Rattle.ags_links.specs.Adding.{AddsRows};
-ghost use Rattle.ags_links.specs.DataRows.{ListsRows, entry_of};
-ghost use Rattle.ags_links.specs.Indexing.{rows_in, IsLinkAt, IsLinkedAt, IsLinkStepAt, IsFileStepAt};
-ghost use Rattle.ags_links.specs.Placing.{row_of};
+ghost use Rattle.ags_links.specs.DataRows.{ListsRows};
+ghost use Rattle.ags_links.specs.Indexing.{rows_in, IsNamedAmong, IsLinkedAt, IsLinkStepAt, IsFileStepAt};
 ghost use Rattle.ags_links.specs.Steps.{StepAt};
 
 use crate::index::{Index, each_once};
-use crate::placed::{PlacedRow, entry};
-use ags_rows::{is_definition, under};
+use ags_rows::is_definition;
 use std::alloc::{AllocError, Global};
 
-/// Whether the heading is of type RL, and the row's entry under it is not null.
-fn is_record_link(row: &PlacedRow<'_, '_>, heading: &[u8]) -> bool
-    ensures { result ≡ (bytes_eq (under (row_of row.now).headings (row_of row.now).types heading.now) (codes "RL") && not (length (entry_of (row_of row.now) heading.now) == 0)) }
-{
-    let group = row.group;
-    let kind = under(group.headings.as_slice(), group.types.as_slice(), heading);
-    kind == b"RL".as_slice() && !entry(row, heading).is_empty()
-}
-
-/// Adds the rows that the parts of one record link name; a part that names none adds none.
-fn add_link(
+/// Adds the rows that the parts name; a part that names none adds none.
+fn add_named(
     index: &Index<'_, '_, '_>,
-    row: u32,
-    heading: &[u8],
+    parts: &[&[u8]],
     found: &mut Vec<u32>,
 ) -> Result<(), AllocError>
-    requires { row < length (rows_in index.now) }
-    ensures { OnOk result (AddsRows found.old.items found.new.items (IsLinkAt index.now heading.now row)) }
+    ensures { OnOk result (AddsRows found.old.items found.new.items (IsNamedAmong index.now (map (λ p. p.now) parts.now))) }
 {
-    let parts = index.link_parts(row, heading)?;
-    for part in &parts {
+    for part in parts {
         let rows = index.named(part)?;
         found.extend_from_slice(rows)?;
     }
@@ -48,13 +33,8 @@ fn add_links(index: &Index<'_, '_, '_>, row: u32, found: &mut Vec<u32>) -> Resul
     requires { row < length (rows_in index.now) }
     ensures { OnOk result (AddsRows found.old.items found.new.items (IsLinkedAt index.now row)) }
 {
-    let (kept, _) = index.kept(row);
-    let group = kept.group;
-    for heading in group.headings.as_slice() {
-        if is_record_link(kept, heading.as_slice()) {
-            add_link(index, row, heading.as_slice(), found)?;
-        }
-    }
+    let parts = index.linked_parts(row)?;
+    add_named(index, &parts, found)?;
     Ok(())
 }
 
@@ -67,7 +47,7 @@ fn add_link_steps(
     requires { row < length (rows_in index.now) }
     ensures { OnOk result (AddsRows found.old.items found.new.items (IsLinkStepAt index.now row)) }
 {
-    let (kept, _) = index.kept(row);
+    let (kept, _, _) = index.kept(row);
     let group = kept.group;
     if !is_definition(group.name.as_slice()) {
         add_links(index, row, found)?;
@@ -91,7 +71,7 @@ fn add_file_steps(
     requires { row < length (rows_in index.now) }
     ensures { OnOk result (AddsRows found.old.items found.new.items (IsFileStepAt index.now row)) }
 {
-    let (kept, _) = index.kept(row);
+    let (kept, _, _) = index.kept(row);
     let group = kept.group;
     if may_have_files(group.name.as_slice()) {
         found.extend_from_slice(index.file_rows(row))?;

@@ -1,12 +1,13 @@
 //! Lists of entries as one text, for the index.
 
-ghost use Rattle.std.specs.Prelude.{◌≡◌, ◌==◌, ◌<◌, ◌+◌, ◌^◌, ◌++◌, ◌∷◌, [], IfOk, OnOk, IfSome, map, length, position};
+ghost use Rattle.std.specs.Prelude.{◌≡◌, ◌==◌, ◌<◌, ◌+◌, ◌^◌, ◌++◌, ◌∷◌, ◌↔◌, ℕ, List, [], Contains, IfOk, OnOk, IfSome, IsTrue, Some, map, length, position};
+ghost use Rattle.ags_rows.specs.Contents.{field_at, place_in};
 ghost use Rattle.ags_dict.specs.Parts.{parts_at};
-ghost use Rattle.ags_links.specs.DataRows.{entry_of};
 ghost use Rattle.ags_links.specs.KeyTexts.{byte_text, ended_text, key_text};
-ghost use Rattle.ags_links.specs.Placing.{row_of};
+ghost use Rattle.ags_links.specs.Placing.{row_of, IsPartAmong};
 
-use crate::placed::{PlacedRow, entry};
+use crate::placed::{PlacedRow, field};
+use ags_rows::Places;
 use std::alloc::{AllocError, Global};
 
 /// Ends each text.
@@ -36,40 +37,40 @@ fn push_text(out: &mut Vec<u8>, text: &[u8]) -> Result<(), AllocError>
     Ok(())
 }
 
-/// Adds the row's entries under the headings.
+/// Adds what stands in the row at the places.
 fn push_entries(
     out: &mut Vec<u8>,
     row: &PlacedRow<'_, '_>,
-    headings: &[&[u8]],
+    places: &[Option<usize>],
 ) -> Result<(), AllocError>
-    ensures { OnOk result (out.new.items ≡ out.old.items ++ key_text (map (entry_of (row_of row.now)) (map (λ h. h.now) headings.now))) }
+    ensures { OnOk result (out.new.items ≡ out.old.items ++ key_text (map (field_at (row_of row.now).fields) places.now)) }
 {
-    for heading in headings {
-        push_text(out, entry(row, heading))?;
+    for place in places {
+        push_text(out, field(row, *place))?;
     }
     Ok(())
 }
 
-/// The row's entries under the headings, as one text.
+/// What stands in the row at the places, as one text.
 pub(crate) fn entries_text(
     alloc: Global,
     row: &PlacedRow<'_, '_>,
-    headings: &[&[u8]],
+    places: &[Option<usize>],
 ) -> Result<Vec<u8>, AllocError>
-    ensures { IfOk result (λ text. text.items ≡ key_text (map (entry_of (row_of row.now)) (map (λ h. h.now) headings.now))) }
+    ensures { IfOk result (λ text. text.items ≡ key_text (map (field_at (row_of row.now).fields) places.now)) }
 {
     let mut text = Vec::new(alloc);
-    push_entries(&mut text, row, headings)?;
+    push_entries(&mut text, row, places)?;
     Ok(text)
 }
 
-/// The row's group, then its entries under its KEY headings, as one text.
+/// The row's group, then what stands in the row at the places of its KEY headings, as one text.
 pub(crate) fn group_text(
     alloc: Global,
     row: &PlacedRow<'_, '_>,
-    keys: &[&[u8]],
+    keys: &[Option<usize>],
 ) -> Result<Vec<u8>, AllocError>
-    ensures { IfOk result (λ text. text.items ≡ key_text ((row_of row.now).group ∷ map (entry_of (row_of row.now)) (map (λ h. h.now) keys.now))) }
+    ensures { IfOk result (λ text. text.items ≡ key_text ((row_of row.now).group ∷ map (field_at (row_of row.now).fields) keys.now)) }
 {
     let mut text = Vec::new(alloc);
     let group = row.group;
@@ -103,20 +104,63 @@ fn find_byte(text: &[u8], byte: u8) -> Option<usize>
     text.iter().position(|b| *b == byte)
 }
 
-/// The parts of a text between its separators.
-pub(crate) fn parts<'t>(
-    alloc: Global,
+/// Adds the parts of a text between its separators.
+pub(crate) fn push_parts<'t>(
+    out: &mut Vec<&'t [u8]>,
     separator: u8,
     text: &'t [u8],
-) -> Result<Vec<&'t [u8]>, AllocError>
-    ensures { IfOk result (λ parts. map (λ p. p.now) parts.items ≡ parts_at separator text.now) }
+) -> Result<(), AllocError>
+    ensures { OnOk result (map (λ p. p.now) out.new.items ≡ map (λ p. p.now) out.old.items ++ parts_at separator text.now) }
 {
-    let mut parts = Vec::new(alloc);
     let mut rest = text;
     'cutting: while let Some(place) = find_byte(rest, separator) {
-        parts.push(&rest[..place])?;
+        out.push(&rest[..place])?;
         rest = &rest[place + 1..];
     }
-    parts.push(rest)?;
+    out.push(rest)?;
+    Ok(())
+}
+
+/// The parts of what stands in the row at the places; a null has none.
+pub(crate) fn link_parts<'s>(
+    alloc: Global,
+    separator: u8,
+    row: &PlacedRow<'s, '_>,
+    places: &[Option<usize>],
+) -> Result<Vec<&'s [u8]>, AllocError>
+    ensures { IfOk result (λ parts. (part : List ℕ) → Contains (map (λ p. p.now) parts.items) part ↔ IsPartAmong separator (row_of row.now) places.now part) }
+{
+    let mut parts = Vec::new(alloc);
+    for place in places {
+        let text = field(row, *place);
+        if !text.is_empty() {
+            push_parts(&mut parts, separator, text)?;
+        }
+    }
     Ok(parts)
+}
+
+/// Whether the name stands first at the place.
+fn is_first(names: &Places<'_>, name: &[u8], place: usize) -> bool
+    ensures { IsTrue result ↔ (place_in names.now name.now ≡ Some place) }
+{
+    match names.find(name) {
+        Some(first) => first == place,
+        None => false,
+    }
+}
+
+/// The texts, each once.
+pub(crate) fn distinct<'t>(alloc: Global, texts: Vec<&'t [u8]>) -> Result<Vec<&'t [u8]>, AllocError>
+    ensures { IfOk result (λ once. (text : List ℕ) → Contains (map (λ t. t.now) once.items) text ↔ Contains (map (λ t. t.now) texts.entry.items) text) }
+{
+    let places = Places::of(alloc, texts)?;
+    let mut once = Vec::new(alloc);
+    let listed = places.names();
+    for (place, text) in listed.iter().enumerate() {
+        if is_first(&places, text, place) {
+            once.push(*text)?;
+        }
+    }
+    Ok(once)
 }

@@ -1,10 +1,10 @@
 -- From what is told to the answer of a run.
 use Rattle.std.proofs.Common.{ap, length, ◌≡◌, ◌≤◌, ◌∷◌, ◌↔◌, ◌||◌, ℕ, Bool, true, false, IsTrue, inl, inr, [], List, Option, None, Some, Ok, Err, IfSome, refl, sym, subst, ◌∙◌, arith, rules}
 use Rattle.groundreg.specs.declared.fault.Fault.{Fault}
-use Rattle.groundreg.specs.declared.fault.Fault.TheVariants.{WordsRefused, TooLarge, DictionaryRefused, NoMemory, Stream}
+use Rattle.groundreg.specs.declared.fault.Fault.TheVariants.{WordsRefused, TooLarge, NoMemory, Stream}
 use Rattle.ags_rows.specs.declared.codes.Finding.{Finding}
 use Rattle.groundreg.specs.declared.report.Report.{Report}
-use Rattle.groundreg.specs.Answers.{Answers, reported, too_large, no_dictionary, no_memory, answered, not_read, not_printed, not_said, AnswersOn, ReportsOn}
+use Rattle.groundreg.specs.Answers.{Answers, reported, too_large, no_memory, answered, not_read, not_printed, not_said, AnswersOn, ReportsOn}
 use Rattle.groundreg.specs.Faults.{Tells, fault_text, fault_status, is_stream}
 use Rattle.groundreg.specs.Report.{report_of}
 use Rattle.std.specs.Prelude.{Vec}
@@ -34,7 +34,6 @@ report_answers (Some bytes) out out_after err report in_failed before after err_
 said_answer : (bytes : List ℕ) (fault : Fault) → is_stream fault ≡ false → ReportsOn bytes (Err fault) → Answers bytes [] (fault_text fault) (fault_status fault)
 said_answer bytes WordsRefused other about = absurd about
 said_answer bytes TooLarge other about = too_large about
-said_answer bytes DictionaryRefused other about = no_dictionary about
 said_answer bytes NoMemory other about = no_memory
 said_answer bytes Stream other about = absurd (search rules)
 
@@ -68,8 +67,6 @@ fault_answers (Some bytes) out err err_after WordsRefused in_failed out_failed b
     other_answers bytes out err err_after WordsRefused in_failed out_failed before after status refl ei eo eb about told
 fault_answers (Some bytes) out err err_after TooLarge in_failed out_failed before after status ei eo eb about told =
     other_answers bytes out err err_after TooLarge in_failed out_failed before after status refl ei eo eb about told
-fault_answers (Some bytes) out err err_after DictionaryRefused in_failed out_failed before after status ei eo eb about told =
-    other_answers bytes out err err_after DictionaryRefused in_failed out_failed before after status refl ei eo eb about told
 fault_answers (Some bytes) out err err_after NoMemory in_failed out_failed before after status ei eo eb about told =
     other_answers bytes out err err_after NoMemory in_failed out_failed before after status refl ei eo eb about told
 fault_answers (Some bytes) out err err_after Stream in_failed out_failed before after status ei eo eb about told =
@@ -119,8 +116,6 @@ fault_fails err err_after in_failed out_failed before after fault ended ei eo eb
 fault_fails err err_after in_failed out_failed before after WordsRefused ended ei eo eb (inl (taken, kept, same)) =
     none_failed in_failed out_failed after ended ei eo (kept ∙ eb) (omega (arith, same))
 fault_fails err err_after in_failed out_failed before after TooLarge ended ei eo eb (inl (taken, kept, same)) =
-    none_failed in_failed out_failed after ended ei eo (kept ∙ eb) (omega (arith, same))
-fault_fails err err_after in_failed out_failed before after DictionaryRefused ended ei eo eb (inl (taken, kept, same)) =
     none_failed in_failed out_failed after ended ei eo (kept ∙ eb) (omega (arith, same))
 fault_fails err err_after in_failed out_failed before after NoMemory ended ei eo eb (inl (taken, kept, same)) =
     none_failed in_failed out_failed after ended ei eo (kept ∙ eb) (omega (arith, same))

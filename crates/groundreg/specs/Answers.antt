@@ -1,10 +1,10 @@
 -- The answer of a run to a file.
 use Rattle.std.specs.Prelude.{◌≡◌, ℕ, ◌<◌, ◌≤◌, List, [], ◌++◌, length, Option, Result, Ok, Err, Bool, true, false, ⊤}
 use Rattle.std.specs.Io.KnownBytes.{Appends}
-use Rattle.groundreg.specs.Findings.{FileFindings, LacksDictionary}
+use Rattle.groundreg.specs.Findings.{FileFindings}
 use Rattle.ags_rows.specs.declared.codes.Finding.{Finding}
 use Rattle.groundreg.specs.declared.fault.Fault.{Fault}
-use Rattle.groundreg.specs.declared.fault.Fault.TheVariants.{WordsRefused, TooLarge, DictionaryRefused, NoMemory, Stream}
+use Rattle.groundreg.specs.declared.fault.Fault.TheVariants.{WordsRefused, TooLarge, NoMemory, Stream}
 use Rattle.groundreg.specs.declared.report.Report.{Report}
 use Rattle.groundreg.specs.Faults.{fault_text, fault_status}
 use Rattle.groundreg.specs.Reading.{longest_file}
@@ -15,7 +15,6 @@ pub data Answers (bytes : List ℕ) : List ℕ → List ℕ → ℕ → Type 0 w
   reported : (found : List Finding) → length bytes ≤ longest_file → FileFindings bytes found
       → Answers bytes (report_of found).text [] (report_of found).status
   too_large : longest_file < length bytes → Answers bytes [] (fault_text TooLarge) (fault_status TooLarge)
-  no_dictionary : LacksDictionary → Answers bytes [] (fault_text DictionaryRefused) (fault_status DictionaryRefused)
   no_memory : Answers bytes [] (fault_text NoMemory) (fault_status NoMemory)
 
 -- Whether the reader and the two writers have failed, what the writers have taken, and the status: no stream failed and
@@ -37,6 +36,5 @@ abbrev pub ReportsOn : List ℕ → Result Report Fault → Type 0
 ReportsOn bytes (Ok report) = (length bytes ≤ longest_file) × ((found : List Finding) × FileFindings bytes found × (report ≡ report_of found))
 ReportsOn bytes (Err TooLarge) = longest_file < length bytes
 ReportsOn bytes (Err WordsRefused) = ⊥
-ReportsOn bytes (Err DictionaryRefused) = LacksDictionary
 ReportsOn bytes (Err NoMemory) = ⊤
 ReportsOn bytes (Err Stream) = ⊤

@@ -3,13 +3,12 @@ use Rattle.std.specs.Prelude.{◌≡◌, ℕ, ◌⊎◌, List, codes, Option, Re
 use Rattle.std.specs.Io.KnownBytes.{Appends}
 use Rattle.groundreg.specs.Writing.{TakesPart}
 use Rattle.groundreg.specs.declared.fault.Fault.{Fault}
-use Rattle.groundreg.specs.declared.fault.Fault.TheVariants.{WordsRefused, TooLarge, DictionaryRefused, NoMemory, Stream}
+use Rattle.groundreg.specs.declared.fault.Fault.TheVariants.{WordsRefused, TooLarge, NoMemory, Stream}
 
 -- the text; nothing is said of a stream that failed
 abbrev pub fault_text : Fault → List ℕ
 fault_text WordsRefused = codes "groundreg: words refused\n"
 fault_text TooLarge = codes "groundreg: too large\n"
-fault_text DictionaryRefused = codes "groundreg: dictionary refused\n"
 fault_text NoMemory = codes "groundreg: out of memory\n"
 fault_text Stream = codes ""
 
@@ -17,7 +16,6 @@ fault_text Stream = codes ""
 abbrev pub fault_status : Fault → ℕ
 fault_status WordsRefused = 4
 fault_status TooLarge = 4
-fault_status DictionaryRefused = 4
 fault_status NoMemory = 5
 fault_status Stream = 6
 

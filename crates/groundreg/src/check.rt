@@ -1,8 +1,9 @@
 //! The check of the file that a stream carries.
 
 ghost use Rattle.std.specs.Prelude.{◌≡◌, ◌↔◌, ◌||◌, IsTrue, false, ◌+◌, ◌≤◌, IfOk, IfErr, IfSome, length};
+ghost use Rattle.ags_dict.specs.Mini.{mini_entries};
 ghost use Rattle.ags_check.specs.Findings.{Findings};
-ghost use Rattle.groundreg.specs.Findings.{FileFindings, ReadsBuiltIn, FindsIn};
+ghost use Rattle.groundreg.specs.Findings.{FileFindings};
 ghost use Rattle.groundreg.specs.Answers.{AnswersOn, ReportsOn};
 ghost use Rattle.groundreg.specs.declared.fault.Fault.TheVariants.{Stream};
 ghost use Rattle.groundreg.specs.Faults.{fault_status, is_stream_fault};
@@ -13,7 +14,7 @@ use crate::input::read_file;
 use crate::report::{Report, findings_report};
 use crate::watched::Watched;
 use ags_check::{CheckError, check};
-use ags_dict::laws::one_dictionary;
+use ags_dict::laws::{mini_is_dictionary, one_dictionary};
 use ags_dict::{DictError, Dictionary};
 use ags_rows::laws::one_list_of_findings;
 use ags_rows::vectors::MINI;
@@ -22,17 +23,18 @@ use std::alloc::{AllocError, Global};
 use std::io::{Read, Write};
 
 /// The dictionary that is built into the program.
-fn built_in(alloc: Global) -> Result<Dictionary, Fault>
-    ensures { ReadsBuiltIn result }
+fn built_in(alloc: Global) -> Result<Dictionary, AllocError>
+    ensures { IfOk result (λ dictionary. dictionary ≡ mini_entries) }
 {
     one_list_of_findings();
     one_dictionary();
+    mini_is_dictionary();
     match Dictionary::read(alloc, MINI) {
         Ok(dictionary) => Ok(dictionary),
-        Err(DictError::NotDictionary(_found)) => Err(Fault::DictionaryRefused),
-        Err(DictError::NoDict) => Err(Fault::DictionaryRefused),
-        Err(DictError::MissingHeading) => Err(Fault::DictionaryRefused),
-        Err(DictError::NoMemory) => Err(Fault::NoMemory),
+        Err(DictError::NotDictionary(_found)) => unreachable!(),
+        Err(DictError::NoDict) => unreachable!(),
+        Err(DictError::MissingHeading) => unreachable!(),
+        Err(DictError::NoMemory) => Err(AllocError),
     }
 }
 
@@ -53,13 +55,12 @@ fn findings_under(
 }
 
 /// The findings of a file under the built-in dictionary.
-fn findings_of(alloc: Global, bytes: &[u8]) -> Result<Sequence<Finding>, Fault>
+fn findings_of(alloc: Global, bytes: &[u8]) -> Result<Sequence<Finding>, AllocError>
     requires { length bytes.now ≤ longest_file }
-    ensures found { IfOk result (λ found. FileFindings bytes.now found) }
-    ensures fault { FindsIn bytes.now result }
+    ensures { IfOk result (λ found. FileFindings bytes.now found) }
 {
     let dictionary = built_in(alloc)?;
-    Ok(findings_under(alloc, &dictionary, bytes)?)
+    findings_under(alloc, &dictionary, bytes)
 }
 
 /// What is printed for the file that the stream carries.

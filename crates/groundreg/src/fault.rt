@@ -15,8 +15,6 @@ pub enum Fault {
     WordsRefused,
     /// The file has more than LIMIT bytes.
     TooLarge,
-    /// The dictionary is none.
-    DictionaryRefused,
     /// A growth was refused.
     NoMemory,
     /// A read or a write failed.
@@ -47,7 +45,6 @@ impl Fault {
         match self {
             Fault::WordsRefused => b"groundreg: words refused\n",
             Fault::TooLarge => b"groundreg: too large\n",
-            Fault::DictionaryRefused => b"groundreg: dictionary refused\n",
             Fault::NoMemory => b"groundreg: out of memory\n",
             Fault::Stream => b"",
         }
@@ -58,7 +55,7 @@ impl Fault {
         ensures { result ≡ fault_status self.now }
     {
         match self {
-            Fault::WordsRefused | Fault::TooLarge | Fault::DictionaryRefused => 4,
+            Fault::WordsRefused | Fault::TooLarge => 4,
             Fault::NoMemory => 5,
             Fault::Stream => 6,
         }

@@ -1,17 +1,54 @@
 //! Parents and first rows of a key by search through all rows.
 
-ghost use Rattle.std.specs.Prelude.{◌≡◌, ◌<◌, ◌↔◌, ◌^◌, IfOk, IsTrue, length, map};
-ghost use Rattle.std.specs.List.{list_all};
+ghost use Rattle.std.specs.Prelude.{◌≡◌, ◌<◌, ◌↔◌, ◌^◌, IfOk, IsTrue, length, map, filter};
+ghost use Rattle.std.specs.List.{list_all, list_any};
 ghost use Rattle.std.specs.Str.{bytes_eq};
 ghost use Rattle.ags_links.specs.DataRows.{Between, ListsRows, entry_of};
 ghost use Rattle.ags_links.specs.Keys.{HasKeyOf, IsFirstOfKey};
 ghost use Rattle.ags_links.specs.Parents.{IsParentRow};
 ghost use Rattle.ags_links.specs.Placing.{row_of};
 
-use crate::families::headings_in;
-use crate::placed::{PlacedRow, entry};
+use crate::placed::PlacedRow;
 use ags_dict::Dictionary;
+use ags_rows::{Group, under};
 use std::alloc::{AllocError, Global};
+
+/// What stands in the row under a heading; null where the heading is absent.
+fn entry<'s>(row: &PlacedRow<'s, '_>, heading: &[u8]) -> &'s [u8]
+    ensures { result.now ≡ entry_of (row_of row.now) heading.now }
+{
+    let group = row.group;
+    let fields = row.row;
+    under(group.headings.as_slice(), fields.cells.as_slice(), heading)
+}
+
+/// Whether the heading stands in the group's HEADING row.
+fn has_heading(group: &Group<'_>, heading: &[u8]) -> bool
+    ensures { result ≡ list_any (λ h. bytes_eq h heading.now) group.now.headings }
+{
+    group
+        .headings
+        .as_slice()
+        .iter()
+        .any(|h| h.as_slice() == heading)
+}
+
+/// Those of the headings that stand in the group's HEADING row.
+fn headings_in<'d>(
+    alloc: Global,
+    group: &Group<'_>,
+    headings: &[&'d [u8]],
+) -> Result<Vec<&'d [u8]>, AllocError>
+    ensures { IfOk result (λ found. map (λ h. h.now) found.items ≡ filter (λ heading. list_any (λ h. bytes_eq h heading) group.now.headings) (map (λ h. h.now) headings.now)) }
+{
+    let mut found = Vec::new(alloc);
+    for heading in headings {
+        if has_heading(group, heading) {
+            found.push(*heading)?;
+        }
+    }
+    Ok(found)
+}
 
 /// Whether two rows have equal entries under each of the headings.
 fn entries_equal(row: &PlacedRow<'_, '_>, other: &PlacedRow<'_, '_>, headings: &[&[u8]]) -> bool

@@ -1,13 +1,12 @@
-use Rattle.std.proofs.Common.{◌≡◌, ◌+◌, [], List, ℕ, Bor, Contains, get_or, take, sym, ap, subst, ◌∙◌}
+use Rattle.std.proofs.Common.{◌≡◌, ◌↔◌, ◌+◌, [], List, ℕ, Bor, Contains, get_or, take, sym, ap, subst, ◌∙◌}
 use Rattle.std.proofs.lemmas.List.{take_all}
 use Rattle.std.proofs.lemmas.List.Elements.{Contains-get_or}
-use Rattle.ags_dict.specs.Parts.{parts_at}
 use Rattle.ags_links.specs.Adding.{AddsRows}
 use Rattle.ags_links.specs.DataRows.{DataRow, IsRow, entry_of}
-use Rattle.ags_links.specs.Indexing.{rows_in, NamesAt}
-use Rattle.ags_links.specs.RecordLinks.{separators_of}
+use Rattle.ags_links.specs.Indexing.{rows_in, NamesAt, IsNamedAmong}
+use Rattle.ags_links.specs.RecordLinks.{separators_of, IsPartOf}
 use Rattle.ags_links.proofs.Kept.{texts, texts_next}
-use Rattle.ags_links.proofs.Linking.{NamedAmong, EachNames, among_next, each_next, none_listed, link_lists}
+use Rattle.ags_links.proofs.Linking.{EachNames, among_next, each_next, none_listed, link_lists}
 use Rattle.ags_links.proofs.Members.{contains_map}
 use Rattle.ags_links.proofs.index.Index.link_targets.Goals as goal
 
@@ -24,7 +23,7 @@ loop-part-preserved c =
     let next = sym (texts_next items i no_text c.loop-part-test.true) in
     let found = c.loop-part.found.items in
     record {
-      named = subst (λ ps. AddsRows [] c.extend_from_slice.new.self.items (NamedAmong file ps)) next
+      named = subst (λ ps. AddsRows [] c.extend_from_slice.new.self.items (IsNamedAmong file ps)) next
           (among_next file [] found c.extend_from_slice.new.self.items c.in_ok-rows.rows.now (texts (take i items)) part c.loop-part.invariant.named c.in_ok-rows.ensures c.in_ok-extend_from_slice.ensures.items);
       each = subst (EachNames file) next
           (each_next file (texts (take i items)) part c.in_ok-rows.rows.now c.loop-part.invariant.each c.in_ok-rows.ensures c.is_empty.result c.is_empty.ensures c.if-is_empty.false);
@@ -37,9 +36,9 @@ returns-then-is_empty c = λ r row.
     let items = c.deref-part-items.result.now in
     let i = c.loop-part.part-index in
     let part = (get_or items i no_text).now in
-    let cut : texts items ≡ parts_at (separators_of file.contents).concatenator (entry_of r c.args.heading.now) = ap texts c.deref-part-items.ensures.value ∙ c.in_ok-parts.ensures r row in (
+    let cut : (part : List ℕ) → Contains (texts items) part ↔ IsPartOf (separators_of file.contents) r c.args.heading.now part = subst (λ ps. (part : List ℕ) → Contains (texts ps) part ↔ IsPartOf (separators_of file.contents) r c.args.heading.now part) (sym c.deref-part-items.ensures.value) (c.in_ok-parts.ensures r row) in (
       part,
-      subst (λ ps. Contains ps part) cut (contains_map (λ (p : Bor (List ℕ)). p.now) items (get_or items i no_text) (Contains-get_or items i no_text c.loop-part-test.true)),
+      (cut part).0 (contains_map (λ (p : Bor (List ℕ)). p.now) items (get_or items i no_text) (Contains-get_or items i no_text c.loop-part-test.true)),
       none_listed c.in_ok-rows.rows.now (NamesAt file part) c.in_ok-rows.ensures c.is_empty.result c.is_empty.ensures c.if-is_empty.true,
     )
 
@@ -49,9 +48,9 @@ returns c = λ r row.
     let items = c.deref-part-items.result.now in
     let i = c.loop-part.part-index in
     let all = take_all i items c.loop-part-test.false in
-    let cut : texts items ≡ parts_at (separators_of file.contents).concatenator (entry_of r c.args.heading.now) = ap texts c.deref-part-items.ensures.value ∙ c.in_ok-parts.ensures r row in
-    let named : AddsRows [] c.loop-part.found.items (NamedAmong file (texts items)) = subst (λ ps. AddsRows [] c.loop-part.found.items (NamedAmong file (texts ps))) all c.loop-part.invariant.named in
+    let cut : (part : List ℕ) → Contains (texts items) part ↔ IsPartOf (separators_of file.contents) r c.args.heading.now part = subst (λ ps. (part : List ℕ) → Contains (texts ps) part ↔ IsPartOf (separators_of file.contents) r c.args.heading.now part) (sym c.deref-part-items.ensures.value) (c.in_ok-parts.ensures r row) in
+    let named : AddsRows [] c.loop-part.found.items (IsNamedAmong file (texts items)) = subst (λ ps. AddsRows [] c.loop-part.found.items (IsNamedAmong file (texts ps))) all c.loop-part.invariant.named in
     let each : EachNames file (texts items) = subst (λ ps. EachNames file (texts ps)) all c.loop-part.invariant.each in (
       link_lists file r c.args.heading.now (texts items) c.loop-part.found.items c.each_once.result.items cut named c.each_once.ensures.same c.each_once.ensures.rising,
-      λ part h. each part (subst (λ ps. Contains ps part) (sym cut) h),
+      λ part h. each part ((cut part).1 h),
     )

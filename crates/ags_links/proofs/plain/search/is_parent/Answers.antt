@@ -1,9 +1,8 @@
 use Rattle.std.proofs.Common.{◌≡◌, ap, sym, ◌∙◌, filter, Some, option_copied}
 use Rattle.ags_dict.specs.Entries.{parent_of}
-use Rattle.ags_links.specs.Families.{has_heading, link_headings}
 use Rattle.ags_links.specs.Placing.{row_of}
 use Rattle.ags_links.proofs.Kept.{texts}
-use Rattle.ags_links.proofs.Searching.{not_other, parent_by_test}
+use Rattle.ags_links.proofs.Searching.{has_heading, not_other, parent_by_test}
 use Rattle.ags_links.proofs.plain.search.is_parent.Goals as goal
 
 pub returns : goal.returns

@@ -1,8 +1,8 @@
 use Rattle.std.proofs.Common.{◌≡◌, ap, sym, ◌∙◌, List, [], ℕ, Bor, Bool, get_or}
-use Rattle.ags_links.specs.Families.{has_heading}
+use Rattle.ags_links.proofs.Searching.{has_heading}
 use Rattle.ags_links.proofs.Kept.{heading_taken, heading_passed}
-use Rattle.ags_links.proofs.families.headings_in.Goals as goal
-use Rattle.ags_links.proofs.families.headings_in.Goals.{then-has_heading+in_ok-push, else-has_heading}
+use Rattle.ags_links.proofs.plain.search.headings_in.Goals as goal
+use Rattle.ags_links.proofs.plain.search.headings_in.Goals.{then-has_heading+in_ok-push, else-has_heading}
 
 pub loop-heading-preserved : goal.loop-heading-preserved
 loop-heading-preserved c =

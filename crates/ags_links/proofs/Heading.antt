@@ -1,0 +1,104 @@
+-- Where headings stand, and what stands under them.
+use Rattle.std.proofs.Common.{◌≡◌, ℕ, ◌+◌, ◌<◌, ◌≤◌, Bool, true, false, cond, ltb, Option, Some, None, List, [], ◌∷◌, ◌++◌, length, take, get_or, map, filter, refl, sym, ap, subst, ◌∙◌, arith, inl, inr, ◌⊎◌, Contains, Bor, append-nil}
+use Rattle.std.specs.Prelude.{is_some}
+use Rattle.std.specs.List.{position_or_len}
+use Rattle.std.specs.Str.{bytes_eq}
+use Rattle.std.proofs.lemmas.Bool.{true≢false, lt-ltb, cases_lt}
+use Rattle.std.proofs.lemmas.List.{take_more, take_all, map-append}
+use Rattle.std.proofs.lemmas.List.Sums.{fails_before_first}
+use Rattle.std.proofs.lemmas.List.Quantifiers.{position-Some}
+use Rattle.std.proofs.lemmas.Option.{none-some}
+use Rattle.std.proofs.lemmas.Slice.Eq.{bytes_eq-Decides}
+use Rattle.ags_rows.specs.Contents.{place_in, field_at}
+use Rattle.ags_dict.specs.Entries.{Entries, keys_of}
+use Rattle.ags_links.specs.DataRows.{DataRow, entry_of}
+use Rattle.ags_links.specs.Families.{is_among, link_headings}
+use Rattle.ags_links.proofs.Kept.{texts, texts_next, filter_push}
+use Rattle.ags_links.proofs.Members.{contains_filter, filter_contains}
+
+-- ---- whether a name has a place
+
+placed : (names : List (List ℕ)) (name : List ℕ) → Contains names name → place_in names name ≡ None → ⊥
+placed names name h none =
+    let test : List ℕ → Bool = λ n. bytes_eq n name in
+    elim (cases_lt h.0 (position_or_len test names)) [
+      | inl lt ↦
+          let fails : bytes_eq (get_or names h.0 name) name ≡ false = fails_before_first test names h.0 name lt in
+          true≢false (sym ((bytes_eq-Decides (get_or names h.0 name) name).1 h.2) ∙ fails)
+      | inr le ↦
+          let found : ltb (position_or_len test names) (length names) ≡ true = lt-ltb (position_or_len test names) (length names) (omega (arith, h.1, le)) in
+          none-some (position_or_len test names) (sym none ∙ ap (λ (b : Bool). cond {A = Option ℕ} b (Some (position_or_len test names)) None) found)
+    ]
+
+place_of : (place : Option ℕ) → ((i : ℕ) × (place ≡ Some i)) ⊎ (place ≡ None)
+place_of None = inr refl
+place_of (Some i) = inl (i, refl)
+
+-- what has a place is a name, which stands there
+pub at_place : (names : List (List ℕ)) (name : List ℕ) (i : ℕ) → place_in names name ≡ Some i → (i < length names) × (get_or names i name ≡ name)
+at_place names name i e =
+    let h = position-Some (λ n. bytes_eq n name) names i name e in
+    (h.0, (bytes_eq-Decides (get_or names i name) name).0 h.1)
+
+-- a name has a place
+pub name_placed : (names : List (List ℕ)) (name : List ℕ) → Contains names name → (i : ℕ) × (place_in names name ≡ Some i)
+name_placed names name h = elim (place_of (place_in names name)) [
+  | inl k ↦ k
+  | inr none ↦ absurd (placed names name h none)
+]
+
+among_contains : (names : List (List ℕ)) (name : List ℕ) → is_among names name ≡ true → Contains names name
+among_contains names name e = elim (place_of (place_in names name)) [
+  | inl k ↦ let h = at_place names name k.0 k.1 in (k.0, h.0, h.1)
+  | inr none ↦ absurd (true≢false (sym e ∙ ap is_some none))
+]
+
+contains_among : (names : List (List ℕ)) (name : List ℕ) → Contains names name → is_among names name ≡ true
+contains_among names name h = ap is_some (name_placed names name h).1
+
+-- ---- link headings
+
+pub link_heading_in : (entries : Entries) (parent : List ℕ) (headings : List (List ℕ)) (heading : List ℕ) → Contains (link_headings entries parent headings) heading → Contains (keys_of entries parent) heading × Contains headings heading
+link_heading_in entries parent headings heading h =
+    let k = filter_contains (is_among (keys_of entries parent)) headings heading h in
+    (among_contains (keys_of entries parent) heading k.1, k.0)
+
+pub in_link_headings : (entries : Entries) (parent : List ℕ) (headings : List (List ℕ)) (heading : List ℕ) → Contains (keys_of entries parent) heading → Contains headings heading → Contains (link_headings entries parent headings) heading
+in_link_headings entries parent headings heading key stood = contains_filter (is_among (keys_of entries parent)) headings heading stood (contains_among (keys_of entries parent) heading key)
+
+-- ---- entries
+
+-- what stands at the places of headings is what stands under the headings
+pub entries_at : (row : DataRow) (headings : List (List ℕ)) → map (field_at row.fields) (map (place_in row.headings) headings) ≡ map (entry_of row) headings
+entries_at row [] = refl
+entries_at row (h ∷ headings) = ap (λ es. entry_of row h ∷ es) (entries_at row headings)
+
+pub places_named : (headings : List (List ℕ)) (names : List (Bor (List ℕ))) → map (λ n. place_in headings n.now) names ≡ map (place_in headings) (texts names)
+places_named headings [] = refl
+places_named headings (n ∷ names) = ap (λ ps. place_in headings n.now ∷ ps) (places_named headings names)
+
+-- ---- the places of the headings that pass a test
+
+abbrev at_each : (List ℕ → Option ℕ) → (List ℕ → Bool) → List (List ℕ) → List (Option ℕ)
+at_each place p headings = map place (filter p headings)
+
+push_cases : (place : List ℕ → Option ℕ) (t : Bool) (xs : List (List ℕ)) (x : List ℕ) → map place (xs ++ cond t (x ∷ []) []) ≡ map place xs ++ cond t (place x ∷ []) []
+push_cases place true xs x = map-append place xs (x ∷ [])
+push_cases place false xs x = ap (map place) (append-nil xs) ∙ sym (append-nil (map place xs))
+
+at_each_next : (place : List ℕ → Option ℕ) (p : List ℕ → Bool) (headings : List (Bor (List ℕ))) (i : ℕ) (d : Bor (List ℕ)) (t : Bool) → i < length headings → p (get_or headings i d).now ≡ t
+    → at_each place p (texts (take (i + 1) headings)) ≡ at_each place p (texts (take i headings)) ++ cond t (place (get_or headings i d).now ∷ []) []
+at_each_next place p headings i d t lt tested =
+    let x = (get_or headings i d).now in
+    ap (at_each place p) (texts_next headings i d lt) ∙ ap (map place) (filter_push p (texts (take i headings)) x)
+    ∙ ap (λ b. map place (filter p (texts (take i headings)) ++ cond b (x ∷ []) [])) tested ∙ push_cases place t (filter p (texts (take i headings))) x
+
+pub place_taken : (place : List ℕ → Option ℕ) (p : List ℕ → Bool) (old new : List (Option ℕ)) (headings : List (Bor (List ℕ))) (i : ℕ) (d : Bor (List ℕ)) (at : Option ℕ) → i < length headings
+    → old ≡ map place (filter p (texts (take i headings))) → p (get_or headings i d).now ≡ true → at ≡ place (get_or headings i d).now → new ≡ old ++ at ∷ [] → new ≡ map place (filter p (texts (take (i + 1) headings)))
+place_taken place p old new headings i d at lt so_far passes is grown =
+    grown ∙ ap (λ l. l ++ at ∷ []) so_far ∙ ap (λ a. map place (filter p (texts (take i headings))) ++ a ∷ []) is ∙ sym (at_each_next place p headings i d true lt passes)
+
+pub place_passed : (place : List ℕ → Option ℕ) (p : List ℕ → Bool) (old : List (Option ℕ)) (headings : List (Bor (List ℕ))) (i : ℕ) (d : Bor (List ℕ)) → i < length headings
+    → old ≡ map place (filter p (texts (take i headings))) → p (get_or headings i d).now ≡ false → old ≡ map place (filter p (texts (take (i + 1) headings)))
+place_passed place p old headings i d lt so_far fails =
+    so_far ∙ sym (append-nil (map place (filter p (texts (take i headings))))) ∙ sym (at_each_next place p headings i d false lt fails)

@@ -1,8 +1,0 @@
-use Rattle.std.proofs.Common.{take}
-use Rattle.ags_links.specs.Adding.{AddsRows}
-use Rattle.ags_links.proofs.Kept.{texts}
-use Rattle.ags_links.proofs.Linking.{NamedAmong}
-use Rattle.ags_links.proofs.steps.add_link.Given as goal
-
-abbrev pub invariant-loop-part : goal.invariant-loop-part
-invariant-loop-part l = AddsRows l.fn.found.items l.found.items (NamedAmong l.index (texts (take l.part-index l.part-items)))
