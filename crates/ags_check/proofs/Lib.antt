@@ -4,7 +4,6 @@ pub mod Ranks
 pub mod HeaderRules
 pub mod Groups
 pub mod Whole
-pub mod Sizes
 pub mod Listings
 pub mod PairSets
 pub mod EntryNotes

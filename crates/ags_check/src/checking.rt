@@ -1,15 +1,13 @@
 //! Checking a file.
 
-ghost use Rattle.std.specs.Prelude.{◌≡◌, ◌≢◌, ◌≤◌, ◌<◌, ◌^◌, List, [], length, IfOk, OnOk, IsErrOf};
+ghost use Rattle.std.specs.Prelude.{◌≡◌, ◌≢◌, ◌≤◌, List, [], length, IfOk, OnOk, IsErrOf};
 ghost use Rattle.ags_rows.specs.declared.codes.Finding.{Finding};
 ghost use Rattle.ags_rows.specs.Collecting.{OneOf};
-ghost use Rattle.ags_rows.specs.Contents.{contents_of};
 ghost use Rattle.ags_rows.specs.Findings.{Lists, RowFindings, FileGroups};
 ghost use Rattle.ags_check.specs.declared.checking.CheckError.TheVariants.{NoMemory};
 ghost use Rattle.ags_check.specs.Findings.{IsClear, IsGraphOf, Findings, IsClean};
 ghost use Rattle.ags_check.specs.HeaderPhase.{header_rules};
 ghost use Rattle.ags_check.specs.RowPhase.{row_rules};
-ghost use Rattle.ags_links.specs.DataRows.{data_rows};
 
 use crate::clean::Checked;
 use crate::file::File;
@@ -83,7 +81,6 @@ fn check_headers(
 
 /// The steps between the rows, if these break nothing of the fifth phase, or all its findings.
 fn check_rows(alloc: Global, dictionary: &Dictionary, scan: &Scan) -> Result<Graph, CheckError>
-    requires { length (data_rows (contents_of scan.now)) < 2 ^ 32 }
     ensures graph { IfOk result (IsGraphOf scan.now dictionary.now) }
     ensures clear { OnOk result (IsClear (row_rules dictionary.now scan.now)) }
     ensures findings { (found : List Finding) → IsErrOf result (CheckError.Findings found) → Lists (OneOf (row_rules dictionary.now scan.now)) found × (found ≢ []) }

@@ -233,10 +233,11 @@ pub fn row_findings<'a>(
 ) -> Result<Sequence<Finding>, AllocError>
     requires contents { index.now.contents ≡ contents_of groups.now }
     requires entries { dictionary.now ≡ index.now.entries }
-    requires few { length (rows_in index.now) < 2 ^ 32 }
     ensures { IfOk result (Lists (OneOf (row_rules dictionary.now groups.now))) }
 {
     let mut findings = Vec::new(alloc);
+    // the index counts its rows with a number below 2^32, so each has its own
+    index.row_count();
     note_groups(alloc, dictionary, index, groups, &mut findings)?;
     Ok(in_order(findings))
 }

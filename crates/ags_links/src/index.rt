@@ -100,7 +100,7 @@ impl<'s, 'f, 'd> Index<'s, 'f, 'd> {
     }
 
     /// How many DATA rows the file has.
-    pub(crate) fn row_count(&self) -> u32
+    pub fn row_count(&self) -> u32
         ensures { result ≡ length (rows_in self.now) }
     {
         self.rows.len() as u32

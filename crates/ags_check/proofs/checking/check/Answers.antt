@@ -3,7 +3,6 @@ use Rattle.std.proofs.lemmas.Result.{err_from_is_err_and}
 use Rattle.ags_check.specs.declared.checking.CheckError.TheVariants as CheckError
 use Rattle.ags_check.specs.Findings.{IsClean}
 use Rattle.ags_check.proofs.Whole.{headers_found, entries_found, clean}
-use Rattle.ags_check.proofs.Sizes.{few_rows}
 use Rattle.ags_check.proofs.checking.check.Goals as goal
 
 pub returns-in_err-check_headers-clause-findings : goal.returns-in_err-check_headers-clause-findings
@@ -13,9 +12,6 @@ returns-in_err-check_headers-clause-findings c = λ found is.
     let of_callee : c.in_err-check_headers.field-0.0 ≡ CheckError.Findings found = cc in
     let h = c.in_err-check_headers.ensures.findings found (ap (λ e. Err e) of_callee) in
     (headers_found c.args.dictionary.now c.in_ok-extended.extended c.args.bytes.now c.in_ok-scan.scan found c.in_ok-scan.ensures.groups c.in_ok-extended.ensures h.0 h.1, h.1)
-
-pub check_rows-requires : goal.check_rows-requires
-check_rows-requires c = few_rows c.args.bytes.now c.in_ok-scan.scan c.in_ok-scan.ensures.groups c.requires
 
 pub returns-in_err-graph-clause-findings : goal.returns-in_err-graph-clause-findings
 returns-in_err-graph-clause-findings c = λ found is.
