@@ -60,4 +60,4 @@ part_had held s heading rest k e t =
 
 pub part_last : (held : PairSet) (s : ℕ) (heading rest : List ℕ) → position (λ b. eqb b s) rest ≡ None → not (has_pair held heading rest) ≡ lacks_part held s heading rest
 part_last held s heading rest e =
-    or_true (not (has_pair held heading rest)) ∙ ap (list_any (λ part. not (has_pair held heading part))) (part_left s [] rest rest e refl)
+    or_true (not (has_pair held heading rest)) ∙ ap (list_any (λ part. not (has_pair held heading part))) (part_left s [] rest (parts_at s rest) e refl)
