@@ -1,4 +1,4 @@
-use crate::placed::place_rows;
+use crate::placed::{PlacedRow, place_rows};
 use crate::plain::passes::{reached_by_passes, shown_by_passes};
 use crate::plain::search::{first_of_key_by_search, parents_by_search};
 use crate::{Graph, Index, Targets, reached, shown};
@@ -176,16 +176,33 @@ fn compare(rt: &(impl Abort + AllocGlobal), file: &[u8]) -> Result<(), Fail> {
     let dictionary = dictionary(rt);
     let scan = scanned(rt, file);
     let index = Index::build(rt.alloc(), &scan, &dictionary)?;
-    let graph = Graph::of(rt.alloc(), &index)?;
     let rows = place_rows(rt.alloc(), &scan)?;
-    assert_eq!(rt; rows.len(), graph.rows() as usize);
-    for row in 0..graph.rows() {
-        let parents = index.parents(row)?;
-        assert!(rt; parents == parents_by_search(rt.alloc(), &dictionary, &rows, row)?);
-        assert_eq!(rt; index.has_parent(row)?, !parents.is_empty());
-        let first = first_of_key_by_search(rt.alloc(), &dictionary, &rows, row)?;
-        assert_eq!(rt; index.first_of_key(row)?, first);
+    for row in 0..index.row_count() {
+        compare_row(rt, &index, &dictionary, &rows, row)?;
     }
+    Ok(())
+}
+
+/// The same of one row.
+fn compare_row(
+    rt: &(impl Abort + AllocGlobal),
+    index: &Index<'_, '_, '_>,
+    dictionary: &Dictionary,
+    rows: &[PlacedRow<'_, '_>],
+    row: u32,
+) -> Result<(), Fail> {
+    assert_eq!(rt; rows.len(), index.row_count() as usize);
+    assert!(rt; row < index.row_count());
+    assert!(rt; (row as usize) < rows.len());
+    assert!(rt; rows.len() <= READABLE);
+    let parents = index.parents(row)?;
+    let has_parent = index.has_parent(row)?;
+    let first = index.first_of_key(row)?;
+    let searched = parents_by_search(rt.alloc(), dictionary, rows, row)?;
+    let first_searched = first_of_key_by_search(rt.alloc(), dictionary, rows, row)?;
+    assert_eq!(rt; has_parent, !parents.is_empty());
+    assert!(rt; parents == searched);
+    assert_eq!(rt; first, first_searched);
     Ok(())
 }
 
