@@ -129,4 +129,37 @@ def dict_of_the_same(size):
     return largest(size, lambda count: FRONT + own_dict(["HEADING", "LOCA", "LOCA_ID", "OTHER", ""] for n in range(count)))
 
 
-ALL = [flat, deep, ring, broken, short, steps, narrow, wide, wide_links, dict_of_one, dict_of_many, dict_of_the_same]
+def name_of(place):
+    """A group name of its own for each place."""
+    letters = ""
+    for _ in range(3):
+        place, letter = divmod(place, 26)
+        letters = chr(ord("A") + letter) + letters
+    return "Q" + letters
+
+
+def children(size):
+    """A thousand groups of the file's own DICT, of one row each, under one group of many rows."""
+    names = [name_of(place) for place in range(1000)]
+    own = own_dict([entry for name in names for entry in (["GROUP", name, "", "", "LOCA"], ["HEADING", name, "LOCA_ID", "KEY", ""])])
+    rest = "".join(group(name, ["LOCA_ID"], [""], ["ID"], [["BH0"]]) for name in names) + own
+    return largest(size, lambda count: FRONT + holes(count) + rest)
+
+
+def subsets(size):
+    """The same, but each of the thousand shares other KEY headings with the group above it."""
+    keys = [f"PARE_{place}" for place in range(10)]
+    names = [name_of(place) for place in range(1000)]
+    own = own_dict(
+        [["GROUP", "PARE", "", "", ""]] + [["HEADING", "PARE", key, "KEY", ""] for key in keys]
+        + [entry for name in names for entry in [["GROUP", name, "", "", "PARE"]] + [["HEADING", name, key, "KEY", ""] for key in keys]])
+    def rest(place):
+        chosen = [key for bit, key in enumerate(keys) if (place + 1) >> bit & 1]
+        return group(names[place], chosen, [""] * len(chosen), ["X"] * len(chosen), [["0"] * len(chosen)])
+    below = "".join(rest(place) for place in range(1000)) + own
+    def text(count):
+        return FRONT + group("PARE", keys, [""] * 10, ["X"] * 10, ([str(n)] * 10 for n in range(count))) + below
+    return largest(size, text)
+
+
+ALL = [flat, deep, ring, broken, short, steps, narrow, wide, wide_links, dict_of_one, dict_of_many, dict_of_the_same, children, subsets]

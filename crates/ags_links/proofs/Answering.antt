@@ -1,18 +1,18 @@
 -- What is found is what was asked for.
-use Rattle.std.proofs.Common.{◌≡◌, ℕ, zero, suc, ◌+◌, ◌<◌, ◌≤◌, Bool, true, false, cond, List, [], ◌∷◌, ◌++◌, length, take, get_or, map, filter, refl, sym, ap, subst, ◌∙◌, arith, inl, inr, ◌⊎◌, ◌↔◌, Contains, Option, Some, None, codes, ◌||◌}
+use Rattle.std.proofs.Common.{◌≡◌, ℕ, ◌<◌, List, [], ◌∷◌, length, get_or, map, refl, sym, ap, subst, ◌∙◌, arith, inl, inr, Contains, Some, codes}
 use Rattle.std.specs.List.Sorted.{IsStrictlyIncreasing}
-use Rattle.ags_dict.specs.Entries.{Entries, keys_of, parent_of}
+use Rattle.ags_dict.specs.Entries.{Entries, parent_of}
 use Rattle.ags_dict.specs.Parts.{parts_at}
 use Rattle.ags_links.specs.declared.lookup.Lookup.{Lookup}
-use Rattle.ags_links.specs.DataRows.{DataRow, IsAt, IsRow, Between, ListsRows, entry_of}
-use Rattle.ags_links.specs.Families.{HasText, HasEntries, HasEntriesIn, HasKeyText, HasFileSet, link_headings}
+use Rattle.ags_links.specs.DataRows.{DataRow, IsRow, Between, ListsRows, entry_of}
+use Rattle.ags_links.specs.Families.{HasText, HasKeyText, HasFileSet}
 use Rattle.ags_links.specs.Keys.{key_of, HasKeyOf, IsFirstOfKey}
 use Rattle.ags_links.specs.KeyTexts.{key_text}
 use Rattle.ags_links.specs.Lookups.{found, Finds}
-use Rattle.ags_links.specs.Parents.{IsParentRow, IsLinkHeading}
+use Rattle.ags_links.specs.ParentRows.{AreLinkHeadings, HasParentEntries}
+use Rattle.ags_links.specs.Parents.{IsParentRow}
 use Rattle.ags_links.specs.RecordLinks.{Names}
 use Rattle.ags_links.specs.Steps.{IsFileRow}
-use Rattle.ags_links.proofs.Heading.{link_heading_in, in_link_headings}
 use Rattle.ags_links.proofs.Members.{contains_head, contains_tail, contains_cons}
 use Rattle.ags_links.proofs.Rising.{rising_nil, first_is_least}
 use Rattle.ags_links.proofs.RowLemmas.{one_at}
@@ -58,38 +58,22 @@ lists_none IsOne none = record {
 pub some_same : (p q : List ℕ) → Some p ≡ Some q → p ≡ q
 some_same p q e = cc
 
-pub parents_listed : (entries : Entries) (rows : List DataRow) (n : ℕ) (r : DataRow) (parent : List ℕ) (lookup : Lookup) (text numbers : List ℕ) → IsRow rows n r → parent_of entries r.group ≡ Some parent
-    → Finds lookup (HasText rows (HasEntriesIn parent (link_headings entries parent r.headings))) → numbers ≡ found lookup text → text ≡ key_text (map (entry_of r) (link_headings entries parent r.headings))
-    → ListsRows numbers (Between rows (IsParentRow entries) n)
-parents_listed entries rows n r parent lookup text numbers row named finds e spelled =
-    let headings = link_headings entries parent r.headings in
-    lists_found lookup (HasText rows (HasEntriesIn parent headings)) text numbers (Between rows (IsParentRow entries) n) finds e
+-- a row that has the entries in the row's parent group is a parent row, and the other way round
+pub parents_listed : (entries : Entries) (rows : List DataRow) (n : ℕ) (r : DataRow) (names : List (List ℕ)) (lookup : Lookup) (text numbers : List ℕ) → IsRow rows n r
+    → ((m : ℕ) (s : DataRow) → IsRow rows m s → parent_of entries r.group ≡ Some s.group → AreLinkHeadings entries s.group r.headings names)
+    → Finds lookup (HasText rows (HasParentEntries entries r.group names)) → numbers ≡ found lookup text → text ≡ key_text (map (entry_of r) names) → ListsRows numbers (Between rows (IsParentRow entries) n)
+parents_listed entries rows n r names lookup text numbers row headings finds e spelled =
+    lists_found lookup (HasText rows (HasParentEntries entries r.group names)) text numbers (Between rows (IsParentRow entries) n) finds e
     (λ m h.
     let s = h.0 in
-    let same : map (entry_of s) headings ≡ map (entry_of r) headings = key_text_same (map (entry_of s) headings) (map (entry_of r) headings) (h.2.1 ∙ spelled) in (
-      r,
-      s,
-      row,
-      h.1,
-      (
-        named ∙ ap (λ p. Some p) (sym h.2.0),
-        λ heading link. sym (made_same (entry_of s) (entry_of r) headings same heading (in_link_headings entries parent r.headings heading (subst (λ p. Contains (keys_of entries p) heading) h.2.0 link.0) link.1)),
-      ),
-    ))
+    let same : map (entry_of s) names ≡ map (entry_of r) names = key_text_same (map (entry_of s) names) (map (entry_of r) names) (h.2.1 ∙ spelled) in
+    (r, s, row, h.1, (h.2.0, λ heading link. sym (made_same (entry_of s) (entry_of r) names same heading ((headings m s h.1 h.2.0 heading).1 link)))))
     (λ m h.
     let s = h.1 in
     let is : h.0 ≡ r = one_at rows n h.0 r h.2 row in
     let parent_row : IsParentRow entries r s = subst (λ q. IsParentRow entries q s) is h.4 in
-    let group : s.group ≡ parent = some_same (s.group) parent (sym parent_row.0 ∙ named) in
-    let same : map (entry_of r) headings ≡ map (entry_of s) headings = same_made (entry_of r) (entry_of s) headings (λ heading in_list.
-    let link = link_heading_in entries parent r.headings heading in_list in
-    parent_row.1 heading (subst (λ p. Contains (keys_of entries p) heading) (sym group) link.0, link.1)) in
-    (s, h.3, (group, ap key_text (sym same) ∙ sym spelled)))
-
-pub no_parents : (entries : Entries) (rows : List DataRow) (n : ℕ) (r : DataRow) → IsRow rows n r → ((m : ℕ) (s : DataRow) → IsRow rows m s → parent_of entries r.group ≡ Some s.group → ⊥) → ListsRows [] (Between rows (IsParentRow entries) n)
-no_parents entries rows n r row none = lists_none (Between rows (IsParentRow entries) n) (λ m h.
-    let is : h.0 ≡ r = one_at rows n h.0 r h.2 row in
-    none m h.1 h.3 (subst (λ (q : DataRow). parent_of entries q.group ≡ Some h.1.group) is h.4.0))
+    let same : map (entry_of r) names ≡ map (entry_of s) names = same_made (entry_of r) (entry_of s) names (λ heading in_list. parent_row.1 heading ((headings m s h.3 parent_row.0 heading).0 in_list)) in
+    (s, h.3, (parent_row.0, ap key_text (sym same) ∙ sym spelled)))
 
 -- ---- keys
 

@@ -1,5 +1,5 @@
 -- The index, one more row at a time.
-use Rattle.std.proofs.Common.{◌≡◌, ℕ, suc, ◌+◌, ◌<◌, ◌≤◌, Bool, true, false, cond, List, [], ◌∷◌, ◌++◌, length, take, get_or, map, refl, sym, ap, subst, ◌∙◌, arith, inl, inr, ◌⊎◌, ◌↔◌, Contains, append-nil}
+use Rattle.std.proofs.Common.{◌≡◌, ℕ, ◌+◌, ◌<◌, ◌≤◌, Bool, true, false, cond, List, [], ◌∷◌, ◌++◌, length, take, get_or, map, refl, sym, ap, subst, ◌∙◌, arith, inl, inr, ◌⊎◌, Contains, append-nil}
 use Rattle.std.specs.Str.{bytes_eq}
 use Rattle.std.specs.List.Sorted.{IsStrictlyIncreasing}
 use Rattle.std.proofs.lemmas.Slice.Eq.{bytes_eq-Decides}
@@ -8,7 +8,7 @@ use Rattle.std.proofs.lemmas.List.Elements.{Contains-push, Contains-push_cases, 
 use Rattle.ags_links.specs.declared.lookup.Lookup.{Lookup}
 use Rattle.ags_links.specs.declared.placed.PlacedRow.{PlacedRow}
 use Rattle.ags_links.specs.DataRows.{DataRow, IsRow}
-use Rattle.ags_links.specs.Families.{HasText}
+use Rattle.ags_links.specs.Families.{HasText, HasAmong}
 use Rattle.ags_links.specs.Lookups.{found, Finds}
 use Rattle.ags_links.specs.Placing.{row_of}
 use Rattle.ags_links.proofs.Rising.{rising_nil, rising_push, earlier_is_below}
@@ -127,10 +127,6 @@ pub finds_end : (lookup : Lookup) (Has : DataRow → List ℕ → Type 0) (rows 
 finds_end lookup Has rows i le so_far = subst (λ rs. Finds lookup (HasText (map row_of rs) Has)) (take_all i rows le) so_far
 
 -- ---- rows of a list of numbers
-
--- the row is among the first of the numbers, and has the text
-abbrev pub HasAmong : List ℕ → List DataRow → (DataRow → List ℕ → Type 0) → ℕ → List ℕ → Type 0
-HasAmong numbers rows Has n text = Contains numbers n × HasText rows Has n text
 
 before_next : (numbers : List ℕ) (i m : ℕ) → IsStrictlyIncreasing numbers → i < length numbers → Contains (take i numbers) m → m < get_or numbers i 0
 before_next numbers i m rises lt h =

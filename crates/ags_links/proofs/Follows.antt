@@ -1,16 +1,13 @@
 -- The work list, from turn to turn.
-use Rattle.std.proofs.Common.{◌≡◌, ℕ, suc, ◌+◌, ◌*◌, ◌^◌, ◌<◌, ◌≤◌, Bool, true, false, not, cond, List, [], ◌∷◌, ◌++◌, length, get_or, set, take, map, filter, refl, sym, subst, ap, ◌∙◌, arith, inl, inr, ◌⊎◌, ◌↔◌, Contains, All, sum_by, count_by, eqb, Vec}
-use Rattle.std.specs.declared.alloc.Global.{Global}
-use Rattle.std.proofs.lemmas.Bool.{eq-eqb, eqb-true}
+use Rattle.std.proofs.Common.{◌≡◌, ℕ, suc, ◌+◌, ◌<◌, ◌≤◌, Bool, true, false, not, cond, List, [], ◌∷◌, ◌++◌, length, get_or, refl, sym, subst, arith, inl, inr, ◌⊎◌, ◌↔◌, Contains, sum_by, count_by}
 use Rattle.std.proofs.lemmas.List.{length_push}
 use Rattle.std.proofs.lemmas.List.Elements.{All-contains, Contains-push_cases, Contains-append_left, Contains-push}
 use Rattle.std.proofs.lemmas.List.Sums.{sum_by_push, sum_by-cons, count_by-le-length}
-use Rattle.ags_links.specs.Walks.{IsMarked, HasStep, IsReached, InRange}
+use Rattle.ags_links.specs.Walks.{IsMarked, HasStep, IsReached}
 use Rattle.ags_links.specs.Turns.{turns_of}
-use Rattle.ags_links.specs.Work.{Looked, weigh, targets, IsAdjacency}
-use Rattle.ags_links.proofs.Marks.{marked_below}
+use Rattle.ags_links.specs.Work.{Looked, weigh, targets}
 use Rattle.ags_links.proofs.Weights.{weigh_turns, weigh_one, degree}
-use Rattle.ags_links.proofs.WalkLemmas.{reached_more, reached_itself, reached_again}
+use Rattle.ags_links.proofs.WalkLemmas.{reached_more, reached_itself}
 use Rattle.ags_links.proofs.Members.{target_of_step, step_of_target}
 use Rattle.ags_links.proofs.Passes.{marks_are_reached}
 

@@ -1,20 +1,23 @@
 -- Where headings stand, and what stands under them.
-use Rattle.std.proofs.Common.{◌≡◌, ℕ, ◌+◌, ◌<◌, ◌≤◌, Bool, true, false, cond, ltb, Option, Some, None, List, [], ◌∷◌, ◌++◌, length, take, get_or, map, filter, refl, sym, ap, subst, ◌∙◌, arith, inl, inr, ◌⊎◌, Contains, Bor, append-nil}
+use Rattle.std.proofs.Common.{◌≡◌, ℕ, ◌+◌, ◌<◌, Bool, true, false, cond, ltb, Option, Some, None, List, [], ◌∷◌, ◌++◌, length, take, get_or, map, filter, refl, sym, ap, subst, ◌∙◌, arith, inl, inr, ◌⊎◌, ◌↔◌, Contains, Bor, append-nil}
 use Rattle.std.specs.Prelude.{is_some}
 use Rattle.std.specs.List.{position_or_len}
 use Rattle.std.specs.Str.{bytes_eq}
 use Rattle.std.proofs.lemmas.Bool.{true≢false, lt-ltb, cases_lt}
-use Rattle.std.proofs.lemmas.List.{take_more, take_all, map-append}
+use Rattle.std.proofs.lemmas.List.{map-append}
 use Rattle.std.proofs.lemmas.List.Sums.{fails_before_first}
+use Rattle.std.specs.List.Sorted.{IsPermutation}
+use Rattle.std.proofs.lemmas.List.Sorted.{Contains-permutation}
 use Rattle.std.proofs.lemmas.List.Quantifiers.{position-Some}
 use Rattle.std.proofs.lemmas.Option.{none-some}
 use Rattle.std.proofs.lemmas.Slice.Eq.{bytes_eq-Decides}
 use Rattle.ags_rows.specs.Contents.{place_in, field_at}
 use Rattle.ags_dict.specs.Entries.{Entries, keys_of}
 use Rattle.ags_links.specs.DataRows.{DataRow, entry_of}
-use Rattle.ags_links.specs.Families.{is_among, link_headings}
+use Rattle.ags_links.specs.Families.{is_among}
+use Rattle.ags_links.specs.ParentRows.{AreLinkHeadings}
 use Rattle.ags_links.proofs.Kept.{texts, texts_next, filter_push}
-use Rattle.ags_links.proofs.Members.{contains_filter, filter_contains}
+use Rattle.ags_links.proofs.Members.{contains_filter, filter_contains, contains_map, map_contains}
 
 -- ---- whether a name has a place
 
@@ -58,13 +61,21 @@ contains_among names name h = ap is_some (name_placed names name h).1
 
 -- ---- link headings
 
-pub link_heading_in : (entries : Entries) (parent : List ℕ) (headings : List (List ℕ)) (heading : List ℕ) → Contains (link_headings entries parent headings) heading → Contains (keys_of entries parent) heading × Contains headings heading
-link_heading_in entries parent headings heading h =
-    let k = filter_contains (is_among (keys_of entries parent)) headings heading h in
-    (among_contains (keys_of entries parent) heading k.1, k.0)
+-- those of a group's headings that are KEY headings of its parent group, in any order
+pub link_headings : (entries : Entries) (parent : List ℕ) (headings keys common names : List (List ℕ)) → keys ≡ keys_of entries parent → common ≡ filter (is_among keys) headings
+    → ((h : List ℕ) → Contains names h ↔ Contains common h) → AreLinkHeadings entries parent headings names
+link_headings entries parent headings keys common names of_parent are same = λ h. (
+  λ named.
+      let k = filter_contains (is_among keys) headings h (subst (λ l. Contains l h) are ((same h).0 named)) in
+      (subst (λ l. Contains l h) of_parent (among_contains keys h k.1), k.0),
+  λ link. (same h).1 (subst (λ l. Contains l h) (sym are) (contains_filter (is_among keys) headings h link.1 (contains_among keys h (subst (λ l. Contains l h) (sym of_parent) link.0)))),
+)
 
-pub in_link_headings : (entries : Entries) (parent : List ℕ) (headings : List (List ℕ)) (heading : List ℕ) → Contains (keys_of entries parent) heading → Contains headings heading → Contains (link_headings entries parent headings) heading
-in_link_headings entries parent headings heading key stood = contains_filter (is_among (keys_of entries parent)) headings heading stood (contains_among (keys_of entries parent) heading key)
+-- names that change places are the same names
+pub texts_permuted : (names moved : List (Bor (List ℕ))) (name : List ℕ) → IsPermutation names moved → Contains (texts names) name → Contains (texts moved) name
+texts_permuted names moved name same h =
+    let m = map_contains (λ (n : Bor (List ℕ)). n.now) names name h in
+    subst (Contains (texts moved)) m.2 (contains_map (λ (n : Bor (List ℕ)). n.now) moved m.0 (Contains-permutation names moved m.0 same m.1))
 
 -- ---- entries
 

@@ -1,5 +1,5 @@
 -- What the index keeps for the groups.
-use Rattle.std.proofs.Common.{◌≡◌, ℕ, suc, ◌+◌, ◌<◌, ◌≤◌, Bool, true, false, cond, List, [], ◌∷◌, ◌++◌, length, take, get_or, map, filter, flat_map, refl, sym, ap, subst, ◌∙◌, arith, inl, inr, Contains, All, Bor, append-nil, Some, length-append}
+use Rattle.std.proofs.Common.{◌≡◌, ℕ, ◌+◌, ◌<◌, ◌≤◌, Bool, true, false, cond, List, [], ◌∷◌, ◌++◌, length, take, get_or, map, filter, flat_map, refl, sym, ap, subst, ◌∙◌, arith, inl, inr, Contains, All, Bor, append-nil, length-append}
 use Rattle.std.specs.List.Sorted.{IsStrictlyIncreasing}
 use Rattle.std.proofs.lemmas.List.{take_more, take_all, length-take-le, length-map, map-append, length_push}
 use Rattle.std.proofs.lemmas.List.Elements.{Contains-get_or}
@@ -11,12 +11,11 @@ use Rattle.ags_links.specs.declared.families.Family.{Family}
 use Rattle.ags_links.specs.declared.lookup.Lookup.{Lookup}
 use Rattle.ags_links.specs.declared.placed.PlacedRow.{PlacedRow}
 use Rattle.ags_links.specs.DataRows.{DataRow, IsAt, IsRow, data_rows, group_rows, row_in}
-use Rattle.ags_links.specs.Families.{HasText, HasGroup, HasEntries, HasEntriesIn, HasFamily, IsFamily, AreKept, AreFamilies}
+use Rattle.ags_links.specs.Families.{HasText, HasGroup, HasFamily, IsFamily, AreKept, AreFamilies}
 use Rattle.ags_links.specs.Lookups.{found, Finds}
 use Rattle.ags_links.specs.Placing.{IsPlaced, row_of}
-use Rattle.ags_links.proofs.Finding.{finds_same}
 use Rattle.ags_links.proofs.Growing.{flat_map_push}
-use Rattle.ags_links.proofs.RowLemmas.{one_at, at_map, at_before, at_last, at_cases, some_at, read_at}
+use Rattle.ags_links.proofs.RowLemmas.{one_at, at_map, at_cases}
 
 -- the rows of one more group
 pub data_rows_next : (groups : List Group) (i : ℕ) (d : Group) → i < length groups → data_rows (contents_of (take (i + 1) groups)) ≡ data_rows (contents_of (take i groups)) ++ group_rows (group_contents (get_or groups i d))
@@ -45,15 +44,15 @@ kept_counted groups rows e = sym (length-map rows row_of) ∙ ap length e ∙ ro
 pub placed_at : (groups : List Group) (rows : List PlacedRow) (i : ℕ) (x : PlacedRow) → All (IsPlaced groups) rows → IsAt rows i x → IsAt groups x.place x.group.now
 placed_at groups rows i x placed h = subst (IsPlaced groups) h.1 (placed i x h.0)
 
--- no group yet
-pub kept_none : {X : Type 0} (Has : Group → X → Type 0) (kept : List X) → kept ≡ [] → AreKept [] kept Has
+-- nothing yet
+pub kept_none : {G X : Type 0} (Has : ℕ → G → X → Type 0) (kept : List X) → kept ≡ [] → AreKept [] kept Has
 kept_none Has kept e = record {
   each_has = ap length e;
   each = λ place group x h k. absurd (omega (arith, h.0));
 }
 
--- one more group
-kept_more : {X : Type 0} (Has : Group → X → Type 0) (groups : List Group) (kept : List X) (g : Group) (y : X) → AreKept groups kept Has → Has g y → AreKept (groups ++ g ∷ []) (kept ++ y ∷ []) Has
+-- one more
+kept_more : {G X : Type 0} (Has : ℕ → G → X → Type 0) (groups : List G) (kept : List X) (g : G) (y : X) → AreKept groups kept Has → Has (length groups) g y → AreKept (groups ++ g ∷ []) (kept ++ y ∷ []) Has
 kept_more Has groups kept g y so_far here = record {
   each_has = omega (arith, so_far.each_has, length_push groups g, length_push kept y);
   each = λ place group x h k. elim (at_cases groups g place group h) [
@@ -63,17 +62,19 @@ kept_more Has groups kept g y so_far here = record {
     ]
     | inr is ↦ elim (at_cases kept y place x k) [
       | inl also ↦ absurd (omega (arith, also.0, is.0, so_far.each_has))
-      | inr last ↦ subst (λ z. Has z x) is.1 (subst (λ z. Has g z) last.1 here)
+      | inr last ↦ subst (λ n. Has n group x) (sym is.0) (subst (λ z. Has (length groups) z x) is.1 (subst (λ z. Has (length groups) g z) last.1 here))
     ]
   ];
 }
 
-pub kept_next : {X : Type 0} (Has : Group → X → Type 0) (groups : List Group) (i : ℕ) (kept : List X) (g : Group) (y : X) → i < length groups → g ≡ get_or groups i g
-    → AreKept (take i groups) kept Has → Has g y → AreKept (take (i + 1) groups) (kept ++ y ∷ []) Has
+pub kept_next : {G X : Type 0} (Has : ℕ → G → X → Type 0) (groups : List G) (i : ℕ) (kept : List X) (g : G) (y : X) → i < length groups → g ≡ get_or groups i g
+    → AreKept (take i groups) kept Has → Has i g y → AreKept (take (i + 1) groups) (kept ++ y ∷ []) Has
 kept_next Has groups i kept g y lt is so_far here =
-    subst (λ gs. AreKept gs (kept ++ y ∷ []) Has) (sym (take_more groups i g lt ∙ ap (λ z. take i groups ++ z ∷ []) (sym is))) (kept_more Has (take i groups) kept g y so_far here)
+    let size : length (take i groups) ≡ i = length-take-le i groups (omega arith) in
+    subst (λ gs. AreKept gs (kept ++ y ∷ []) Has) (sym (take_more groups i g lt ∙ ap (λ z. take i groups ++ z ∷ []) (sym is)))
+    (kept_more Has (take i groups) kept g y so_far (subst (λ n. Has n g y) (sym size) here))
 
-pub kept_all : {X : Type 0} (Has : Group → X → Type 0) (groups : List Group) (i : ℕ) (kept : List X) → length groups ≤ i → AreKept (take i groups) kept Has → AreKept groups kept Has
+pub kept_all : {G X : Type 0} (Has : ℕ → G → X → Type 0) (groups : List G) (i : ℕ) (kept : List X) → length groups ≤ i → AreKept (take i groups) kept Has → AreKept groups kept Has
 kept_all Has groups i kept le so_far = subst (λ gs. AreKept gs kept Has) (take_all i groups le) so_far
 
 -- each row has what is kept for its group
@@ -125,17 +126,6 @@ pub no_row_found : (by_group : Lookup) (rows : List DataRow) (group : List ℕ) 
 no_row_found by_group rows group numbers finds e empty n r row named =
     let h = subst (λ l. Contains l n) (sym e ∙ empty) ((finds.exact group n).1 (r, row, named)) in
     omega (arith, h.1)
-
--- of the rows of a group, those that have the entries
-pub entries_in : (by_group lookup : Lookup) (rows : List DataRow) (group : List ℕ) (numbers : List ℕ) (headings : List (List ℕ)) → Finds by_group (HasText rows HasGroup) → numbers ≡ found by_group group
-    → Finds lookup (λ n text. Contains numbers n × HasText rows (HasEntries headings) n text) → Finds lookup (HasText rows (HasEntriesIn group headings))
-entries_in by_group lookup rows group numbers headings finds e so_far = finds_same lookup (λ n text. Contains numbers n × HasText rows (HasEntries headings) n text) (HasText rows (HasEntriesIn group headings)) so_far
-    (λ n text h.
-    let in_group = (finds.exact group n).0 (subst (λ l. Contains l n) e h.0) in
-    let r = h.1.0 in
-    let same = one_at rows n in_group.0 r in_group.1 h.1.1 in
-    (r, h.1.1, (subst (λ s. HasGroup s group) same in_group.2, h.1.2)))
-    (λ n text h. (subst (λ l. Contains l n) (sym e) ((finds.exact group n).1 (h.0, h.1, h.2.0)), (h.0, h.1, h.2.1)))
 
 -- ---- the headings of a list that stand in a HEADING row
 

@@ -1,10 +1,10 @@
 -- The rows that record links name, part after part.
-use Rattle.std.proofs.Common.{◌≡◌, ℕ, ◌+◌, ◌<◌, ◌≤◌, Bool, true, false, not, eqb, List, [], ◌∷◌, ◌++◌, length, take, get_or, map, refl, sym, ap, subst, ◌∙◌, arith, inl, inr, ◌⊎◌, ◌↔◌, Contains, IsTrue}
+use Rattle.std.proofs.Common.{◌≡◌, ℕ, Bool, true, false, not, eqb, List, [], ◌∷◌, ◌++◌, length, refl, sym, subst, ◌∙◌, arith, inl, inr, ◌⊎◌, ◌↔◌, Contains, IsTrue}
 use Rattle.std.specs.List.Sorted.{IsStrictlyIncreasing}
 use Rattle.std.proofs.lemmas.Bool.{true≢false, eqb-true}
 use Rattle.std.proofs.lemmas.List.Elements.{Contains-push, Contains-push_cases, Contains-append_left, Contains-append_right, Contains-append_cases}
 use Rattle.ags_links.specs.Adding.{AddsRows}
-use Rattle.ags_links.specs.DataRows.{File, DataRow, IsRow, Between, ListsRows}
+use Rattle.ags_links.specs.DataRows.{File, DataRow, IsRow, ListsRows}
 use Rattle.ags_links.specs.Indexing.{rows_in, NamesAt, IsNamedAmong, IsLinkedAt}
 use Rattle.ags_links.specs.RecordLinks.{separators_of, IsPartOf, IsLinkRow}
 use Rattle.ags_links.specs.Steps.{IsLinkedPart, Linked}

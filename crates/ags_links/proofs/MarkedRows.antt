@@ -1,12 +1,11 @@
 -- The marked rows below a number.
-use Rattle.std.proofs.Common.{◌≡◌, ℕ, ◌+◌, ◌<◌, ◌≤◌, Bool, true, false, List, [], ◌∷◌, ◌++◌, length, get_or, take, refl, sym, subst, ap, ◌∙◌, arith, inl, inr, ◌⊎◌, Contains, sum_by, below_more}
+use Rattle.std.proofs.Common.{◌≡◌, ℕ, ◌+◌, ◌<◌, ◌≤◌, Bool, true, false, List, [], ◌∷◌, ◌++◌, length, get_or, take, refl, sym, subst, ap, ◌∙◌, arith, inl, inr, Contains, sum_by, below_more}
 use Rattle.std.proofs.lemmas.Bool.{true≢false}
 use Rattle.std.proofs.lemmas.List.{take_more, take_all, length-take-le}
 use Rattle.std.proofs.lemmas.List.Elements.{Contains-push, Contains-append_left, Contains-push_cases}
 use Rattle.std.proofs.lemmas.List.Sums.{sum_by_push}
 use Rattle.ags_links.specs.Walks.{IsMarked}
 use Rattle.ags_links.specs.Work.{weigh}
-use Rattle.ags_links.proofs.Marks.{marked_below}
 use Rattle.ags_links.proofs.Weights.{weigh_from_push}
 
 pub record RowsSoFar (marks : List Bool) (i : ℕ) (work : List ℕ) : Type 0 where

@@ -1,7 +1,6 @@
 -- What a list contains, by cases on the list.
-use Rattle.std.proofs.Common.{◌≡◌, ℕ, zero, suc, ◌+◌, ◌<◌, Bool, true, false, cond, List, [], ◌∷◌, length, get_or, map, filter, refl, sym, subst, ap, ◌∙◌, arith, inl, inr, ◌⊎◌, Contains, All, eqb}
+use Rattle.std.proofs.Common.{◌≡◌, ℕ, zero, suc, ◌<◌, Bool, true, false, cond, List, [], ◌∷◌, length, get_or, map, filter, refl, sym, subst, ap, ◌∙◌, arith, inl, inr, ◌⊎◌, Contains, All, eqb}
 use Rattle.std.proofs.lemmas.Bool.{eq-eqb, eqb-true, true≢false}
-use Rattle.std.proofs.lemmas.List.{get_or-map}
 use Rattle.std.proofs.lemmas.List.Elements.{All-contains, Contains-get_or}
 use Rattle.ags_links.specs.Walks.{HasStep, InRange}
 use Rattle.ags_links.specs.Work.{targets}

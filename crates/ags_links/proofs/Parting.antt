@@ -1,13 +1,13 @@
 -- The parts of record links: of all that stands in a row, and each once.
-use Rattle.std.proofs.Common.{◌≡◌, ℕ, ◌+◌, ◌<◌, ◌≤◌, List, [], ◌∷◌, ◌++◌, length, take, get_or, map, Option, Some, refl, sym, ap, subst, ◌∙◌, arith, inl, inr, ◌⊎◌, ◌↔◌, Contains, codes}
+use Rattle.std.proofs.Common.{◌≡◌, ℕ, ◌+◌, ◌<◌, ◌≤◌, List, [], ◌∷◌, ◌++◌, length, get_or, map, Option, Some, sym, ap, subst, ◌∙◌, arith, inl, inr, ◌↔◌, Contains, codes}
 use Rattle.std.specs.Str.{bytes_eq}
 use Rattle.std.proofs.lemmas.Bool.{cases_lt}
 use Rattle.std.proofs.lemmas.Slice.Eq.{bytes_eq-Decides}
 use Rattle.std.proofs.lemmas.List.{get_or_default}
-use Rattle.std.proofs.lemmas.List.Elements.{Contains-push, Contains-push_cases, Contains-append_left, Contains-append_right, Contains-append_cases, Contains-get_or}
+use Rattle.std.proofs.lemmas.List.Elements.{Contains-push, Contains-push_cases, Contains-append_left, Contains-append_right, Contains-append_cases}
 use Rattle.ags_rows.specs.Contents.{place_in, field_at, under}
 use Rattle.ags_dict.specs.Parts.{parts_at}
-use Rattle.ags_links.specs.DataRows.{DataRow, entry_of}
+use Rattle.ags_links.specs.DataRows.{DataRow}
 use Rattle.ags_links.specs.Families.{record_links}
 use Rattle.ags_links.specs.Placing.{IsPartAmong}
 use Rattle.ags_links.specs.Steps.{IsLinkedPart}

@@ -1,10 +1,10 @@
 -- One pass over the steps, so far.
-use Rattle.std.proofs.Common.{◌≡◌, ℕ, ◌+◌, ◌<◌, ◌≤◌, Bool, true, false, not, List, length, get_or, set, refl, sym, subst, ap, ◌∙◌, arith, inl, inr, count_by, below_more, ◌↔◌, cond}
+use Rattle.std.proofs.Common.{◌≡◌, ℕ, ◌+◌, ◌<◌, ◌≤◌, Bool, true, false, not, List, length, get_or, set, refl, sym, subst, ◌∙◌, arith, inl, inr, count_by, below_more, ◌↔◌, cond}
 use Rattle.std.proofs.lemmas.Bool.{true≢false}
 use Rattle.std.proofs.lemmas.List.{get_or_default}
 use Rattle.std.proofs.lemmas.List.Elements.{Contains-get_or}
 use Rattle.ags_links.specs.Walks.{IsMarked, HasStep, IsReached}
-use Rattle.ags_links.proofs.Marks.{mark_grows, mark_cases, mark_same, mark_fewer}
+use Rattle.ags_links.proofs.Marks.{mark_grows, mark_cases, mark_fewer}
 use Rattle.ags_links.proofs.WalkLemmas.{reached_more, reached_itself, reached_again, reach_keeps}
 
 pub record PassSoFar (steps : List (ℕ × ℕ)) (old : List Bool) (i : ℕ) (marks : List Bool) (changed : Bool) : Type 0 where

@@ -1,7 +1,7 @@
 -- What stands where in a list.
-use Rattle.std.proofs.Common.{◌≡◌, ℕ, zero, suc, ◌+◌, ◌<◌, ◌≤◌, List, [], ◌∷◌, ◌++◌, length, get_or, map, take, refl, sym, ap, subst, ◌∙◌, arith, inl, inr, ◌⊎◌}
+use Rattle.std.proofs.Common.{◌≡◌, ℕ, zero, suc, ◌<◌, List, [], ◌∷◌, ◌++◌, length, get_or, map, refl, sym, ap, ◌∙◌, arith, inl, inr, ◌⊎◌}
 use Rattle.std.proofs.lemmas.List.{length_push, get_or_default, get_or-map, length-map}
-use Rattle.ags_links.specs.DataRows.{DataRow, IsAt}
+use Rattle.ags_links.specs.DataRows.{IsAt}
 
 -- one thing stands at a place
 pub one_at : {X : Type 0} (xs : List X) (n : ℕ) (r s : X) → IsAt xs n r → IsAt xs n s → r ≡ s

@@ -1,7 +1,6 @@
 -- Searching through all rows.
-use Rattle.std.proofs.Common.{◌≡◌, ℕ, suc, ◌+◌, ◌<◌, ◌≤◌, Bool, true, false, cond, not, List, [], ◌∷◌, ◌++◌, length, map, refl, sym, ap, subst, ◌∙◌, arith, inl, inr, ◌↔◌, Contains, Some, IsTrue, Bor, append-nil, ◌&&◌, ◌||◌, filter}
+use Rattle.std.proofs.Common.{◌≡◌, ℕ, ◌+◌, ◌<◌, ◌≤◌, Bool, true, false, not, List, [], ◌∷◌, ◌++◌, length, map, refl, sym, ap, subst, ◌∙◌, arith, inl, inr, ◌↔◌, Contains, Some, IsTrue, Bor, ◌&&◌, ◌||◌, filter}
 use Rattle.std.specs.List.{list_all, list_any}
-use Rattle.std.specs.List.Sorted.{IsStrictlyIncreasing}
 use Rattle.std.specs.Str.{bytes_eq}
 use Rattle.std.proofs.lemmas.Bool.{true≢false, cases_lt}
 use Rattle.std.proofs.lemmas.Slice.Eq.{bytes_eq-Decides}
@@ -10,7 +9,7 @@ use Rattle.ags_dict.specs.Entries.{Entries, keys_of, parent_of}
 use Rattle.ags_links.specs.DataRows.{DataRow, IsRow, Between, ListsRows, entry_of}
 use Rattle.ags_links.specs.Keys.{key_of, HasKeyOf, IsFirstOfKey}
 use Rattle.ags_links.specs.Parents.{IsParentRow}
-use Rattle.ags_links.proofs.Answering.{made_same, same_made, some_same}
+use Rattle.ags_links.proofs.Answering.{made_same, same_made}
 use Rattle.ags_links.proofs.Members.{contains_head, contains_tail, contains_cons, contains_filter, filter_contains}
 use Rattle.ags_links.proofs.Kept.{texts}
 use Rattle.ags_links.proofs.Rising.{rising_nil, rising_push}

@@ -1,13 +1,12 @@
 -- Shown rows are those that no row which is not permitted is reached from.
-use Rattle.std.proofs.Common.{◌≡◌, ℕ, zero, suc, ◌+◌, ◌<◌, ◌≤◌, Bool, true, false, not, cond, List, [], ◌∷◌, length, get_or, map, refl, sym, subst, ap, ◌∙◌, arith, inl, inr, ◌⊎◌, ◌↔◌, Contains, All, count_by, sum_by}
-use Rattle.std.proofs.lemmas.Bool.{true≢false, both_ways}
-use Rattle.std.proofs.lemmas.List.{get_or-map, get_or_past, length-map, get_or_default}
+use Rattle.std.proofs.Common.{◌≡◌, ℕ, zero, suc, ◌<◌, Bool, true, false, not, cond, List, [], ◌∷◌, length, get_or, map, refl, sym, subst, ap, ◌∙◌, arith, inl, inr, ◌⊎◌, ◌↔◌, Contains, count_by}
+use Rattle.std.proofs.lemmas.Bool.{true≢false}
+use Rattle.std.proofs.lemmas.List.{get_or-map}
 use Rattle.std.proofs.lemmas.List.Elements.{All-contains, All-map}
 use Rattle.std.proofs.lemmas.List.Sums.{sum_by-cons}
 use Rattle.ags_links.specs.Walks.{IsMarked, HasStep, Reaches, IsReached, IsShown, InRange}
 use Rattle.ags_links.specs.Turns.{turns_of, hidden_turns}
 use Rattle.ags_links.specs.Work.{swapped}
-use Rattle.ags_links.proofs.Marks.{marked_below}
 use Rattle.ags_links.proofs.Members.{contains_map, map_contains}
 use Rattle.ags_links.proofs.WalkLemmas.{reach_back, reach_keeps}
 

@@ -1,5 +1,5 @@
 -- Walks put together and taken apart.
-use Rattle.std.proofs.Common.{◌≡◌, ℕ, List, [], ◌∷◌, ◌++◌, refl, sym, subst}
+use Rattle.std.proofs.Common.{ℕ, List, [], ◌∷◌, refl, sym, subst}
 use Rattle.ags_links.specs.Walks.{IsWalk, Reaches, IsReached}
 
 -- the walk of one row

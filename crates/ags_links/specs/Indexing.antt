@@ -1,18 +1,19 @@
 -- What an index keeps, and what is asked of it by the numbers of rows.
-use Rattle.std.specs.Prelude.{◌≡◌, ◌<◌, ◌^◌, ℕ, List, Option, All, Contains, map, length}
+use Rattle.std.specs.Prelude.{◌≡◌, ◌<◌, ◌^◌, ℕ, List, All, Contains, map, length}
 use Rattle.ags_rows.specs.declared.rows.Group.{Group}
 use Rattle.ags_rows.specs.Contents.{contents_of}
 use Rattle.ags_dict.specs.Entries.{Entries}
 use Rattle.ags_links.specs.declared.families.Family.{Family}
-use Rattle.ags_links.specs.declared.families.ParentLinks.{ParentLinks}
 use Rattle.ags_links.specs.declared.index.Targets.{Targets}
 use Rattle.ags_links.specs.declared.lookup.Lookup.{Lookup}
+use Rattle.ags_links.specs.declared.parents.ParentLookups.{ParentLookups}
 use Rattle.ags_links.specs.declared.placed.PlacedRow.{PlacedRow}
 use Rattle.ags_links.specs.declared.separators.Separators.{Separators}
 use Rattle.ags_links.specs.DataRows.{File, DataRow, data_rows, IsRow, Between}
-use Rattle.ags_links.specs.Families.{HasText, HasKeyText, HasFileSet, AreFamilies, AreParents}
+use Rattle.ags_links.specs.Families.{HasText, HasKeyText, HasFileSet, AreFamilies}
 use Rattle.ags_links.specs.Keys.{IsFirstOfKey}
 use Rattle.ags_links.specs.Lookups.{Finds}
+use Rattle.ags_links.specs.ParentRows.{AreParents}
 use Rattle.ags_links.specs.Parents.{IsParentRow}
 use Rattle.ags_links.specs.Placing.{IsPlaced, row_of}
 use Rattle.ags_links.specs.RecordLinks as links
@@ -20,7 +21,7 @@ use Rattle.ags_links.specs.Steps.{IsFileRow, Linked, LinkStep, FileStep}
 use Rattle.ags_links.specs.Targets.{AreTargets}
 
 -- the index of these groups under these entries
-pub record Indexes (groups : List Group) (entries : Entries) (rows : List PlacedRow) (kept : List Family) (parents : List (Option ParentLinks)) (by_key by_file_set : Lookup) (separators : Separators) : Type 0 where
+pub record Indexes (groups : List Group) (entries : Entries) (rows : List PlacedRow) (kept : List Family) (parents : ParentLookups) (by_key by_file_set : Lookup) (separators : Separators) : Type 0 where
   pub placed : All (IsPlaced groups) rows
   pub numbered : map row_of rows ≡ data_rows (contents_of groups)
   pub few : length rows < 2 ^ 32

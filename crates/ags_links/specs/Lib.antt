@@ -10,6 +10,7 @@ pub mod KeyTexts
 pub mod Lookups
 pub mod Placing
 pub mod Families
+pub mod ParentRows
 pub mod Targets
 pub mod Indexing
 pub mod Adding

@@ -1,5 +1,5 @@
 -- The index: from a text to the rows that have it.
-use Rattle.std.specs.Prelude.{◌≡◌, ◌++◌, ◌↔◌, ℕ, List, [], ◌∷◌, Bool, nat_le, Option, Vec, Contains, if◌then◌else◌}
+use Rattle.std.specs.Prelude.{◌↔◌, ℕ, List, [], Vec, Contains}
 use Rattle.std.specs.List.Sorted.{IsStrictlyIncreasing}
 use Rattle.std.specs.Option.{option_map_or}
 use Rattle.std.specs.Ordering.{nat_cmp}

@@ -1,5 +1,5 @@
 -- What the helpers of the work list promise one another.
-use Rattle.std.specs.Prelude.{◌≡◌, ℕ, ◌<◌, ◌+◌, ◌==◌, List, [], ◌∷◌, Bool, true, false, Contains, slice_index_or, All, map, filter, length, sum_by, if◌then◌else◌, ◌⊎◌, Vec}
+use Rattle.std.specs.Prelude.{◌≡◌, ℕ, ◌<◌, ◌+◌, ◌==◌, List, [], ◌∷◌, Bool, Contains, slice_index_or, All, map, filter, length, sum_by, if◌then◌else◌, ◌⊎◌, Vec}
 use Rattle.std.specs.declared.alloc.Global.{Global}
 use Rattle.ags_links.specs.Walks.{IsMarked}
 

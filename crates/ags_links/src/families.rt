@@ -1,17 +1,14 @@
-//! What the index keeps for each group: where its headings stand, and the rows of its parent group by their link
-//! entries.
+//! What the index keeps for each group: where its headings stand; and the rows by group, by key and by file set.
 
-ghost use Rattle.std.specs.Prelude.{◌≡◌, ◌<◌, ◌^◌, Contains, IfOk, All, length, map, filter};
+ghost use Rattle.std.specs.Prelude.{◌≡◌, ◌<◌, ◌^◌, IfOk, All, length, map};
 ghost use Rattle.ags_rows.specs.Contents.{place_in};
-ghost use Rattle.ags_rows.specs.declared.rows.Group.{Group};
 ghost use Rattle.ags_links.specs.Lookups.{Finds};
-ghost use Rattle.ags_links.specs.Families.{HasText, HasGroup, HasKeyText, HasFileSet, HasEntries, HasFamily, IsFamily, IsParentIndex, AreFamilies, AreParents, is_among, record_links};
-ghost use Rattle.std.specs.List.Sorted.{IsStrictlyIncreasing};
+ghost use Rattle.ags_links.specs.Families.{HasText, HasGroup, HasKeyText, HasFileSet, HasFamily, IsFamily, AreFamilies, record_links};
 ghost use Rattle.ags_links.specs.Placing.{IsPlaced, row_of};
 
-use crate::lookup::{Lookup, add_row, no_rows, rows_with};
+use crate::lookup::{Lookup, add_row, no_rows};
 use crate::placed::{PlacedRow, cell_at, field};
-use crate::texts::{entries_text, group_text};
+use crate::texts::group_text;
 use ags_dict::Dictionary;
 use ags_rows::{Group, Places};
 use std::alloc::{AllocError, Global};
@@ -27,15 +24,8 @@ pub(crate) struct Family<'s, 'd> {
     pub(crate) links: Vec<Option<usize>>,
 }
 
-/// The places of a group's link headings in its rows, and the rows of its parent group by their entries under them.
-#[derive(Drop)]
-pub(crate) struct ParentLinks {
-    pub(crate) places: Vec<Option<usize>>,
-    pub(crate) rows: Lookup,
-}
-
 /// Where the names stand among the headings.
-fn places_of(
+pub(crate) fn places_of(
     alloc: Global,
     headings: &Places<'_>,
     names: &[&[u8]],
@@ -158,50 +148,8 @@ pub(crate) fn rows_by_file_set(
     Ok(lookup)
 }
 
-/// The link headings of a group: those of its headings that are KEY headings of its parent group.
-fn link_headings<'g>(
-    alloc: Global,
-    headings: &'g Places<'_>,
-    keys: &Places<'_>,
-) -> Result<Vec<&'g [u8]>, AllocError>
-    ensures { IfOk result (λ links. map (λ h. h.now) links.items ≡ filter (is_among keys.now) headings.now) }
-{
-    let mut links = Vec::new(alloc);
-    for heading in headings.names() {
-        if keys.find(heading).is_some() {
-            links.push(*heading)?;
-        }
-    }
-    Ok(links)
-}
-
-/// These rows, by their entries under the headings.
-fn rows_by_entries(
-    alloc: Global,
-    dictionary: &Dictionary,
-    rows: &[PlacedRow<'_, '_>],
-    families: &[Family<'_, '_>],
-    numbers: &[u32],
-    headings: &[&[u8]],
-) -> Result<Lookup, AllocError>
-    requires few { length rows.now < 2 ^ 32 }
-    requires kept { All (HasFamily dictionary.now families.now) rows.now }
-    requires numbers { All (λ n. n < length rows.now) numbers.now }
-    requires rising { IsStrictlyIncreasing numbers.now }
-    ensures { IfOk result (λ lookup. Finds lookup (λ n text. Contains numbers.now n × HasText (map row_of rows.now) (HasEntries (map (λ h. h.now) headings.now)) n text)) }
-{
-    let mut lookup = no_rows(alloc);
-    for number in numbers {
-        let row = &rows[*number as usize];
-        let places = places_of(alloc, &families[row.place].headings, headings)?;
-        let text = entries_text(alloc, row, &places)?;
-        add_row(alloc, &mut lookup, &text, *number)?;
-    }
-    Ok(lookup)
-}
-
 /// What is kept for the row's group.
-fn family_at<'l, 's, 'd>(
+pub(crate) fn family_at<'l, 's, 'd>(
     dictionary: &Dictionary,
     families: &'l [Family<'s, 'd>],
     row: &PlacedRow<'_, '_>,
@@ -210,68 +158,4 @@ fn family_at<'l, 's, 'd>(
     ensures { IsFamily dictionary.now row.now.group.now result.now }
 {
     &families[row.place]
-}
-
-/// The rows of the group's parent group by their entries under the link headings; none where there is no such row.
-fn parent_links(
-    alloc: Global,
-    group: &Group<'_>,
-    dictionary: &Dictionary,
-    rows: &[PlacedRow<'_, '_>],
-    families: &[Family<'_, '_>],
-    family: &Family<'_, '_>,
-    by_group: &Lookup,
-) -> Result<Option<ParentLinks>, AllocError>
-    requires few { length rows.now < 2 ^ 32 }
-    requires kept { All (HasFamily dictionary.now families.now) rows.now }
-    requires family { IsFamily dictionary.now group.now family.now }
-    requires by_group { Finds by_group.now (HasText (map row_of rows.now) HasGroup) }
-    ensures { IfOk result (λ parent. IsParentIndex dictionary.now (map row_of rows.now) group.now parent) }
-{
-    let Some(parent) = dictionary.parent(group.name.as_slice()) else {
-        return Ok(None);
-    };
-    let numbers = rows_with(by_group, parent);
-    if numbers.is_empty() {
-        return Ok(None);
-    }
-    let first = numbers[0] as usize;
-    let of_parent = family_at(dictionary, families, &rows[first]);
-    let headings = link_headings(alloc, &family.headings, &of_parent.key_headings)?;
-    let places = places_of(alloc, &family.headings, &headings)?;
-    let found = rows_by_entries(alloc, dictionary, rows, families, numbers, &headings)?;
-    Ok(Some(ParentLinks {
-        places,
-        rows: found,
-    }))
-}
-
-/// For each group the rows of its parent group.
-pub(crate) fn parents(
-    alloc: Global,
-    groups: &[Group<'_>],
-    dictionary: &Dictionary,
-    rows: &[PlacedRow<'_, '_>],
-    families: &[Family<'_, '_>],
-    by_group: &Lookup,
-) -> Result<Vec<Option<ParentLinks>>, AllocError>
-    requires few { length rows.now < 2 ^ 32 }
-    requires kept { All (HasFamily dictionary.now families.now) rows.now }
-    requires families { AreFamilies dictionary.now groups.now families.now }
-    requires by_group { Finds by_group.now (HasText (map row_of rows.now) HasGroup) }
-    ensures { IfOk result (λ parents. AreParents dictionary.now (map row_of rows.now) groups.now parents.items) }
-{
-    let mut parents = Vec::new(alloc);
-    for (place, group) in groups.iter().enumerate() {
-        parents.push(parent_links(
-            alloc,
-            group,
-            dictionary,
-            rows,
-            families,
-            &families[place],
-            by_group,
-        )?)?;
-    }
-    Ok(parents)
 }

@@ -4,10 +4,9 @@ ghost use Rattle.std.specs.Prelude.{◌≡◌, ◌<◌, ◌↔◌, ℕ, List, If
 ghost use Rattle.std.specs.List.Sorted.{IsStrictlyIncreasing};
 ghost use Rattle.ags_rows.specs.Contents.{contents_of};
 
-use crate::families::{
-    Family, ParentLinks, families, parents, rows_by_file_set, rows_by_group, rows_by_key,
-};
+use crate::families::{Family, families, rows_by_file_set, rows_by_group, rows_by_key};
 use crate::lookup::{Lookup, rows_with};
+use crate::parents::{ParentLookups, parents};
 use crate::placed::{PlacedRow, field, place_rows};
 use crate::separators::{Separators, separators_in};
 use crate::texts::{distinct, entries_text, group_text, link_parts, pieces_text, push_parts};
@@ -33,7 +32,7 @@ pub struct Index<'s, 'f, 'd> {
     dictionary: &'d Dictionary,
     rows: Vec<PlacedRow<'s, 'f>>,
     families: Vec<Family<'s, 'd>>,
-    parents: Vec<Option<ParentLinks>>,
+    parents: ParentLookups,
     by_key: Lookup,
     by_file_set: Lookup,
     separators: Separators,
@@ -48,7 +47,7 @@ impl<'s, 'f, 'd> Model for Index<'s, 'f, 'd> {
 
     ghost view = { λ i. record { contents = contents_of i.groups.now; entries = i.dictionary.now } };
 
-    ghost invariant = { λ i. Indexes i.groups.now i.dictionary.now i.rows.items i.families.items i.parents.items i.by_key i.by_file_set i.separators };
+    ghost invariant = { λ i. Indexes i.groups.now i.dictionary.now i.rows.items i.families.items i.parents i.by_key i.by_file_set i.separators };
 }
 
 /// The numbers rising, each once.
@@ -66,7 +65,7 @@ impl<'s, 'f, 'd> Index<'s, 'f, 'd> {
     ghost use Rattle.ags_links.specs.DataRows.{DataRow, ListsRows, IsRow};
     ghost use Rattle.ags_links.specs.RecordLinks.{separators_of, IsPartOf, IsBroken};
     ghost use Rattle.ags_links.specs.Steps.{IsLinkedPart};
-    ghost use Rattle.ags_links.specs.Families.{IsFamily, IsParentIndex};
+    ghost use Rattle.ags_links.specs.Families.{IsFamily};
     ghost use Rattle.ags_links.specs.Placing.{row_of};
     ghost use Rattle.ags_links.specs.Indexing.{rows_in, IsParentAt, IsFirstOfKeyAt, IsFileRowAt, NamesAt, AreTargetsAt};
 
@@ -106,18 +105,14 @@ impl<'s, 'f, 'd> Index<'s, 'f, 'd> {
         self.rows.len() as u32
     }
 
-    /// The row, what is kept for its group, and the rows of its parent group.
-    pub(crate) fn kept(
-        &self,
-        row: u32,
-    ) -> (&PlacedRow<'s, 'f>, &Family<'s, 'd>, &Option<ParentLinks>)
+    /// The row, and what is kept for its group.
+    pub(crate) fn kept(&self, row: u32) -> (&PlacedRow<'s, 'f>, &Family<'s, 'd>)
         requires { row < length (rows_in self.now) }
         ensures row { IsRow (rows_in self.now) row (row_of result.0.now) }
         ensures family { IsFamily self.now.entries result.0.now.group.now result.1.now }
-        ensures parent { IsParentIndex self.now.entries (rows_in self.now) result.0.now.group.now result.2.now }
     {
         let kept = &self.rows[row as usize];
-        (kept, &self.families[kept.place], &self.parents[kept.place])
+        (kept, &self.families[kept.place])
     }
 
     /// The parent rows of a row (Rule 10c).
@@ -125,14 +120,10 @@ impl<'s, 'f, 'd> Index<'s, 'f, 'd> {
         requires { row < length (rows_in self.now) }
         ensures { IfOk result (λ rows. ListsRows rows.now (IsParentAt self.now row)) }
     {
-        let (kept, _, parent) = self.kept(row);
-        match parent {
-            Some(links) => {
-                let text = entries_text(self.alloc, kept, &links.places)?;
-                Ok(rows_with(&links.rows, &text))
-            }
-            None => Ok(&[]),
-        }
+        let kept = &self.rows[row as usize];
+        let links = &self.parents.of_groups[kept.place];
+        let text = entries_text(self.alloc, kept, &links.places)?;
+        Ok(rows_with(&self.parents.lookups[links.lookup], &text))
     }
 
     /// The parent rows of a row (Rule 10c), rising.
@@ -158,7 +149,7 @@ impl<'s, 'f, 'd> Index<'s, 'f, 'd> {
         requires { row < length (rows_in self.now) }
         ensures { IfOk result (IsFirstOfKeyAt self.now row) }
     {
-        let (kept, family, _) = self.kept(row);
+        let (kept, family) = self.kept(row);
         let text = group_text(self.alloc, kept, &family.keys)?;
         Ok(rows_with(&self.by_key, &text)[0])
     }
@@ -168,7 +159,7 @@ impl<'s, 'f, 'd> Index<'s, 'f, 'd> {
         requires { row < length (rows_in self.now) }
         ensures { ListsRows result.now (IsFileRowAt self.now row) }
     {
-        let (kept, family, _) = self.kept(row);
+        let (kept, family) = self.kept(row);
         let file_set = field(kept, family.file_set);
         if file_set.is_empty() {
             return &[];
@@ -198,7 +189,7 @@ impl<'s, 'f, 'd> Index<'s, 'f, 'd> {
         ensures { IfOk result (λ parts. (r : DataRow) → IsRow (rows_in self.now) row r
             → (part : List ℕ) → Contains (map (λ p. p.now) parts.items) part ↔ IsPartOf (separators_of self.now.contents) r heading.now part) }
     {
-        let (kept, family, _) = self.kept(row);
+        let (kept, family) = self.kept(row);
         let mut parts = Vec::new(self.alloc);
         push_parts(
             &mut parts,
@@ -215,7 +206,7 @@ impl<'s, 'f, 'd> Index<'s, 'f, 'd> {
         ensures { IfOk result (λ parts. (r : DataRow) → IsRow (rows_in self.now) row r
             → (part : List ℕ) → Contains (map (λ p. p.now) parts.items) part ↔ IsLinkedPart (separators_of self.now.contents) r part) }
     {
-        let (kept, family, _) = self.kept(row);
+        let (kept, family) = self.kept(row);
         let parts = link_parts(
             self.alloc,
             self.separators.concatenator,

@@ -8,6 +8,7 @@ mod file_tests;
 mod graph;
 mod index;
 mod lookup;
+mod parents;
 mod placed;
 #[cfg(test)]
 mod plain;

@@ -47,7 +47,7 @@ fn add_link_steps(
     requires { row < length (rows_in index.now) }
     ensures { OnOk result (AddsRows found.old.items found.new.items (IsLinkStepAt index.now row)) }
 {
-    let (kept, _, _) = index.kept(row);
+    let (kept, _) = index.kept(row);
     let group = kept.group;
     if !is_definition(group.name.as_slice()) {
         add_links(index, row, found)?;
@@ -71,7 +71,7 @@ fn add_file_steps(
     requires { row < length (rows_in index.now) }
     ensures { OnOk result (AddsRows found.old.items found.new.items (IsFileStepAt index.now row)) }
 {
-    let (kept, _, _) = index.kept(row);
+    let (kept, _) = index.kept(row);
     let group = kept.group;
     if may_have_files(group.name.as_slice()) {
         found.extend_from_slice(index.file_rows(row))?;

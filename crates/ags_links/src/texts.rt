@@ -79,6 +79,22 @@ pub(crate) fn group_text(
     Ok(text)
 }
 
+/// A name, then others, as one text.
+pub(crate) fn names_text(
+    alloc: Global,
+    first: &[u8],
+    others: &[&[u8]],
+) -> Result<Vec<u8>, AllocError>
+    ensures { IfOk result (λ text. text.items ≡ key_text (first.now ∷ map (λ n. n.now) others.now)) }
+{
+    let mut text = Vec::new(alloc);
+    push_text(&mut text, first)?;
+    for name in others {
+        push_text(&mut text, name)?;
+    }
+    Ok(text)
+}
+
 /// The pieces of a part, as one text.
 pub(crate) fn pieces_text(alloc: Global, delimiter: u8, part: &[u8]) -> Result<Vec<u8>, AllocError>
     ensures { IfOk result (λ text. text.items ≡ key_text (parts_at delimiter part.now)) }
@@ -141,7 +157,7 @@ pub(crate) fn link_parts<'s>(
 }
 
 /// Whether the name stands first at the place.
-fn is_first(names: &Places<'_>, name: &[u8], place: usize) -> bool
+pub(crate) fn is_first(names: &Places<'_>, name: &[u8], place: usize) -> bool
     ensures { IsTrue result ↔ (place_in names.now name.now ≡ Some place) }
 {
     match names.find(name) {

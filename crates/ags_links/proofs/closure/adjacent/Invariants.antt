@@ -1,4 +1,4 @@
-use Rattle.std.proofs.Common.{◌≡◌, ◌<◌, length, take, ℕ, List, [], Vec, get_or}
+use Rattle.std.proofs.Common.{◌≡◌, ◌<◌, length, take, ℕ, [], Vec, get_or}
 use Rattle.std.specs.declared.alloc.Global.{Global}
 use Rattle.ags_links.specs.Work.{IsAdjacency}
 use Rattle.ags_links.proofs.closure.adjacent.Given as goal

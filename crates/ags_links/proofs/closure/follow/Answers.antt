@@ -1,7 +1,6 @@
-use Rattle.std.proofs.Common.{◌≡◌, ◌<◌, ◌≤◌, ◌+◌, ◌++◌, ◌∷◌, length, refl, sym, ap, subst, arith, ◌∙◌, List, [], ℕ, Fits, All, Contains}
+use Rattle.std.proofs.Common.{◌≡◌, ◌<◌, ◌≤◌, ◌+◌, ◌++◌, ◌∷◌, length, sym, ap, subst, arith, ◌∙◌, [], All}
 use Rattle.std.proofs.lemmas.List.{nil_from_length}
 use Rattle.std.proofs.lemmas.List.Elements.{Contains-push}
-use Rattle.ags_links.specs.Walks.{InRange}
 use Rattle.ags_links.specs.Work.{targets, Looked}
 use Rattle.ags_links.proofs.Marks.{marked_below}
 use Rattle.ags_links.proofs.Members.{targets_below}

@@ -1,4 +1,4 @@
-use Rattle.std.proofs.Common.{refl, arith, ◌<◌, length, ap, subst}
+use Rattle.std.proofs.Common.{arith}
 use Rattle.ags_links.proofs.Looks.{looks_begin, look_over_next, look_marks_next}
 use Rattle.ags_links.proofs.closure.look.Goals as goal
 use Rattle.ags_links.proofs.closure.look.Goals.{then-not-marks-target+in_ok-push, else-not-marks-target}

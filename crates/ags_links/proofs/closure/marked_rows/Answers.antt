@@ -1,4 +1,4 @@
-use Rattle.ags_links.proofs.MarkedRows.{RowsSoFar, rows_begin, rows_over, rows_more, rows_end}
+use Rattle.ags_links.proofs.MarkedRows.{rows_begin, rows_over, rows_more, rows_end}
 use Rattle.std.proofs.Common.{arith}
 use Rattle.ags_links.proofs.Marks.{marked_below}
 use Rattle.ags_links.proofs.closure.marked_rows.Goals as goal

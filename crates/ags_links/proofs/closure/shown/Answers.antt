@@ -1,6 +1,6 @@
-use Rattle.std.proofs.Common.{◌≡◌, ◌<◌, ◌↔◌, length, map, not, List, Bool, ℕ, refl, sym, ap, subst, arith, ◌∙◌}
+use Rattle.std.proofs.Common.{◌≡◌, ◌↔◌, length, map, not, List, Bool, ℕ, sym, ap, subst, ◌∙◌}
 use Rattle.std.proofs.lemmas.List.{length-map}
-use Rattle.ags_links.specs.Walks.{InRange, HasStep, IsMarked, IsReached}
+use Rattle.ags_links.specs.Walks.{HasStep, IsMarked, IsReached}
 use Rattle.ags_links.specs.Turns.{hidden_turns, turns_of}
 use Rattle.ags_links.specs.Work.{swapped}
 use Rattle.ags_links.proofs.Shows.{back_range, shown_iff, shown_turns}

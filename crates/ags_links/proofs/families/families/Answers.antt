@@ -1,20 +1,19 @@
-use Rattle.std.proofs.Common.{◌≡◌}
 use Rattle.ags_links.specs.Families.{IsFamily}
 use Rattle.ags_links.proofs.Kept.{kept_none, kept_next, kept_all, rows_have}
 use Rattle.ags_links.proofs.families.families.Goals as goal
 
 pub loop-group-init : goal.loop-group-init
-loop-group-init c = kept_none (IsFamily c.args.dictionary.now) c.new-families.result.items c.new-families.ensures.items
+loop-group-init c = kept_none (λ place. IsFamily c.args.dictionary.now) c.new-families.result.items c.new-families.ensures.items
 
 pub loop-group-preserved : goal.loop-group-preserved
 loop-group-preserved c =
     rw c.in_ok-push.ensures.items
-    (kept_next (IsFamily c.args.dictionary.now) c.args.groups.now c.loop-group.group-index c.loop-group.families.items c.group-item.result c.in_ok-family_of.field-0 c.loop-group-test.true c.group-item.is c.loop-group.invariant c.in_ok-family_of.ensures)
+    (kept_next (λ place. IsFamily c.args.dictionary.now) c.args.groups.now c.loop-group.group-index c.loop-group.families.items c.group-item.result c.in_ok-family_of.field-0 c.loop-group-test.true c.group-item.is c.loop-group.invariant c.in_ok-family_of.ensures)
 
 pub returns-clause-kept : goal.returns-clause-kept
 returns-clause-kept c =
     rows_have c.args.dictionary.now c.args.groups.now c.loop-group.families.items c.args.rows.now
-    (kept_all (IsFamily c.args.dictionary.now) c.args.groups.now c.loop-group.group-index c.loop-group.families.items c.loop-group-test.false c.loop-group.invariant) c.requires
+    (kept_all (λ place. IsFamily c.args.dictionary.now) c.args.groups.now c.loop-group.group-index c.loop-group.families.items c.loop-group-test.false c.loop-group.invariant) c.requires
 
 pub returns-clause-families : goal.returns-clause-families
-returns-clause-families c = kept_all (IsFamily c.args.dictionary.now) c.args.groups.now c.loop-group.group-index c.loop-group.families.items c.loop-group-test.false c.loop-group.invariant
+returns-clause-families c = kept_all (λ place. IsFamily c.args.dictionary.now) c.args.groups.now c.loop-group.group-index c.loop-group.families.items c.loop-group-test.false c.loop-group.invariant

@@ -1,4 +1,4 @@
-use Rattle.std.proofs.Common.{◌≡◌, map, ap, ◌∙◌, codes}
+use Rattle.std.proofs.Common.{map, ap, ◌∙◌, codes}
 use Rattle.ags_rows.specs.Contents.{place_in}
 use Rattle.ags_dict.specs.Entries.{keys_of}
 use Rattle.ags_links.specs.Families.{record_links}

@@ -1,8 +1,7 @@
-use Rattle.std.proofs.Common.{◌≡◌, ℕ, List, [], Bool, Bor, get_or, map, filter, ap, sym, subst, ◌∙◌, codes}
+use Rattle.std.proofs.Common.{◌≡◌, ℕ, List, [], Bool, Bor, get_or, map, filter, ap, sym, ◌∙◌, codes}
 use Rattle.std.proofs.lemmas.List.{take_all}
 use Rattle.std.specs.Str.{bytes_eq}
 use Rattle.ags_rows.specs.Contents.{place_in, under, field_at}
-use Rattle.ags_links.specs.Families.{record_links}
 use Rattle.ags_links.proofs.Kept.{texts}
 use Rattle.ags_links.proofs.Heading.{place_taken, place_passed}
 use Rattle.ags_links.proofs.families.record_links.Goals as goal

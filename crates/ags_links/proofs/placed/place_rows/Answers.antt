@@ -1,4 +1,4 @@
-use Rattle.std.proofs.Common.{◌≡◌, ◌++◌, ap, ◌∙◌, sym, get_or, length, map, take, arith}
+use Rattle.std.proofs.Common.{◌≡◌, ◌++◌, ap, ◌∙◌, sym, get_or, map, arith}
 use Rattle.std.proofs.lemmas.List.{take_all}
 use Rattle.ags_rows.specs.Contents.{group_contents, contents_of}
 use Rattle.ags_links.specs.DataRows.{group_rows, data_rows}

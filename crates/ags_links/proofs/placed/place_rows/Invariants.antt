@@ -1,4 +1,4 @@
-use Rattle.std.proofs.Common.{◌≡◌, ◌++◌, take, map, All}
+use Rattle.std.proofs.Common.{◌≡◌, take, map, All}
 use Rattle.ags_rows.specs.Contents.{contents_of}
 use Rattle.ags_links.specs.DataRows.{data_rows}
 use Rattle.ags_links.specs.Placing.{row_of, IsPlaced}

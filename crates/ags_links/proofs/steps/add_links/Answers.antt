@@ -1,4 +1,4 @@
-use Rattle.std.proofs.Common.{◌≡◌, List, ℕ, Contains, sym, subst, ap, ◌↔◌}
+use Rattle.std.proofs.Common.{List, ℕ, Contains, sym, subst, ◌↔◌}
 use Rattle.ags_links.specs.DataRows.{DataRow, IsRow}
 use Rattle.ags_links.specs.Indexing.{rows_in}
 use Rattle.ags_links.specs.RecordLinks.{separators_of}

@@ -1,4 +1,4 @@
-use Rattle.std.proofs.Common.{◌≡◌, [], List, ℕ, Bor, get_or, take, sym, subst}
+use Rattle.std.proofs.Common.{[], List, ℕ, Bor, get_or, take, sym, subst}
 use Rattle.std.proofs.lemmas.List.{take_all}
 use Rattle.ags_links.specs.Adding.{AddsRows}
 use Rattle.ags_links.specs.Indexing.{IsNamedAmong}

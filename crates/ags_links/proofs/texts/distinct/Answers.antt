@@ -1,11 +1,11 @@
-use Rattle.std.proofs.Common.{◌≡◌, ◌<◌, ◌++◌, ◌∷◌, [], ℕ, List, Bor, Contains, length, map, get_or, ap, sym, subst, ◌∙◌, arith, ◌↔◌}
+use Rattle.std.proofs.Common.{◌≡◌, [], ℕ, List, Bor, Contains, length, get_or, ap, sym, subst, ◌∙◌, arith, ◌↔◌}
 use Rattle.std.proofs.lemmas.Bool.{true≢false}
 use Rattle.std.proofs.lemmas.List.{map-append, length-map, get_or-map}
 use Rattle.std.proofs.lemmas.List.Elements.{Contains-get_or}
 use Rattle.ags_rows.specs.Contents.{place_in}
 use Rattle.ags_links.proofs.Kept.{texts}
 use Rattle.ags_links.proofs.Members.{contains_map}
-use Rattle.ags_links.proofs.Parting.{TakesFirst, none_taken, first_taken, later_passed, all_taken}
+use Rattle.ags_links.proofs.Parting.{none_taken, first_taken, later_passed, all_taken}
 use Rattle.ags_links.proofs.texts.distinct.Goals as goal
 use Rattle.ags_links.proofs.texts.distinct.Goals.{then-is_first+in_ok-push, else-is_first}
 

@@ -1,4 +1,4 @@
-use Rattle.std.proofs.Common.{◌≡◌, ◌++◌, take, flat_map}
+use Rattle.std.proofs.Common.{◌≡◌, take, flat_map}
 use Rattle.ags_links.proofs.Cutting.{piece_byte}
 use Rattle.ags_links.proofs.texts.pieces_text.Given as goal
 

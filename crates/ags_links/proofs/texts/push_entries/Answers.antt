@@ -1,4 +1,4 @@
-use Rattle.std.proofs.Common.{◌≡◌, ◌++◌, ap, ◌∙◌, sym, Option, ℕ}
+use Rattle.std.proofs.Common.{◌++◌, ap, ◌∙◌, sym, Option, ℕ}
 use Rattle.ags_rows.specs.Contents.{field_at}
 use Rattle.ags_links.specs.KeyTexts.{ended_text}
 use Rattle.ags_links.specs.Placing.{row_of}

@@ -19,7 +19,7 @@ spelled c =
 some_row : (c : After-rows_with) → 0 < length c.rows_with.result.now
 some_row c =
     let row = row_of c.kept.result.0.now in
-    let h = key_found c.args.self.now.entries (rows_in c.args.self.now) c.args.row row c.self.inside.by_key c.deref-2.result.now c.kept.ensures.row (inside_keyed c.self.inside.groups.now c.self.inside.dictionary.now c.self.inside.rows.items c.self.inside.families.items c.self.inside.parents.items c.self.inside.by_key c.self.inside.by_file_set c.self.inside.separators c.args.self.now c.self.invariant c.self.view_is) (spelled c) in
+    let h = key_found c.args.self.now.entries (rows_in c.args.self.now) c.args.row row c.self.inside.by_key c.deref-2.result.now c.kept.ensures.row (inside_keyed c.self.inside.groups.now c.self.inside.dictionary.now c.self.inside.rows.items c.self.inside.families.items c.self.inside.parents c.self.inside.by_key c.self.inside.by_file_set c.self.inside.separators c.args.self.now c.self.invariant c.self.view_is) (spelled c) in
     let k = subst (λ l. Contains l c.args.row) (sym c.rows_with.ensures) h in
     omega (arith, k.1)
 
@@ -30,4 +30,4 @@ pub returns : goal.returns
 returns c =
     let d = (goal.at.returns c).After-rows_with in
     let row = row_of c.kept.result.0.now in
-    first_found c.args.self.now.entries (rows_in c.args.self.now) c.args.row row c.self.inside.by_key c.deref-2.result.now c.rows_with.result.now c.kept.ensures.row (inside_keyed c.self.inside.groups.now c.self.inside.dictionary.now c.self.inside.rows.items c.self.inside.families.items c.self.inside.parents.items c.self.inside.by_key c.self.inside.by_file_set c.self.inside.separators c.args.self.now c.self.invariant c.self.view_is) (spelled d) c.rows_with.ensures (some_row d)
+    first_found c.args.self.now.entries (rows_in c.args.self.now) c.args.row row c.self.inside.by_key c.deref-2.result.now c.rows_with.result.now c.kept.ensures.row (inside_keyed c.self.inside.groups.now c.self.inside.dictionary.now c.self.inside.rows.items c.self.inside.families.items c.self.inside.parents c.self.inside.by_key c.self.inside.by_file_set c.self.inside.separators c.args.self.now c.self.invariant c.self.view_is) (spelled d) c.rows_with.ensures (some_row d)

@@ -1,8 +1,7 @@
-use Rattle.std.proofs.Common.{◌≡◌, ◌↔◌, [], List, ℕ, Bor, Contains, get_or, take, refl, sym, ap, subst, ◌∙◌}
+use Rattle.std.proofs.Common.{◌↔◌, [], List, ℕ, Bor, Contains, get_or, take, refl, sym, subst}
 use Rattle.std.proofs.lemmas.Bool.{true≢false}
 use Rattle.std.proofs.lemmas.List.{take_all}
 use Rattle.std.proofs.lemmas.List.Elements.{Contains-get_or}
-use Rattle.ags_links.specs.DataRows.{entry_of}
 use Rattle.ags_links.specs.Indexing.{NamesAt}
 use Rattle.ags_links.specs.RecordLinks.{separators_of, IsPartOf}
 use Rattle.ags_links.proofs.Kept.{texts, texts_next}

@@ -1,9 +1,8 @@
-use Rattle.std.proofs.Common.{◌≡◌, ◌↔◌, ◌+◌, [], List, ℕ, Bor, Contains, get_or, take, sym, ap, subst, ◌∙◌}
+use Rattle.std.proofs.Common.{◌↔◌, [], List, ℕ, Bor, Contains, get_or, take, sym, subst}
 use Rattle.std.proofs.lemmas.List.{take_all}
 use Rattle.std.proofs.lemmas.List.Elements.{Contains-get_or}
 use Rattle.ags_links.specs.Adding.{AddsRows}
-use Rattle.ags_links.specs.DataRows.{DataRow, IsRow, entry_of}
-use Rattle.ags_links.specs.Indexing.{rows_in, NamesAt, IsNamedAmong}
+use Rattle.ags_links.specs.Indexing.{NamesAt, IsNamedAmong}
 use Rattle.ags_links.specs.RecordLinks.{separators_of, IsPartOf}
 use Rattle.ags_links.proofs.Kept.{texts, texts_next}
 use Rattle.ags_links.proofs.Linking.{EachNames, among_next, each_next, none_listed, link_lists}

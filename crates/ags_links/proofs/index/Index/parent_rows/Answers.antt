@@ -1,18 +1,39 @@
-use Rattle.std.proofs.Common.{◌≡◌, ap, subst, ◌∙◌, map}
+use Rattle.std.proofs.Common.{◌≡◌, map, sym, ap, subst, ◌∙◌, arith}
 use Rattle.ags_rows.specs.Contents.{field_at}
-use Rattle.ags_links.specs.Families.{IsParentIndex, link_headings}
+use Rattle.ags_links.specs.DataRows.{IsRow}
+use Rattle.ags_links.specs.Families.{HasText}
 use Rattle.ags_links.specs.Indexing.{rows_in}
 use Rattle.ags_links.specs.KeyTexts.{key_text}
+use Rattle.ags_links.specs.Lookups.{Finds}
+use Rattle.ags_links.specs.ParentRows.{HasParentEntries}
 use Rattle.ags_links.specs.Placing.{row_of}
-use Rattle.ags_links.proofs.Answering.{parents_listed, no_parents}
+use Rattle.ags_links.proofs.Answering.{parents_listed}
 use Rattle.ags_links.proofs.Heading.{entries_at}
+use Rattle.ags_links.proofs.Inside.{inside_rows, parents_of_row, rows_below}
+use Rattle.ags_links.proofs.RowLemmas.{at_map, one_at}
 use Rattle.ags_links.proofs.index.Index.parent_rows.Goals as goal
 
-pub returns-in_ok-text-in-Some : goal.returns-in_ok-text-in-Some
-returns-in_ok-text-in-Some c =
-    let entries = c.args.self.now.entries in
-    let rows = rows_in c.args.self.now in
-    let row = row_of c.kept.result.0.now in
-    let index = subst (IsParentIndex entries rows c.kept.result.0.now.group.now) c.in-Some.is c.kept.ensures.parent in
-    parents_listed entries rows c.args.row row index.0 c.in-Some.links.rows c.deref-in-Some.result.now c.rows_with.result.now c.kept.ensures.row index.1 index.3 c.rows_with.ensures
-    (c.deref-in-Some.ensures.value ∙ c.in_ok-text-in-Some.ensures ∙ ap (λ ps. key_text (map (field_at row.fields) ps)) (c.deref.ensures.value ∙ index.2) ∙ ap key_text (entries_at row (link_headings entries index.0 row.headings)))
+pub index-requires : goal.index-requires
+index-requires c =
+    let i = c.self.inside in
+    let parent = parents_of_row i.groups.now i.dictionary.now i.rows.items i.families.items i.parents i.by_key i.by_file_set i.separators c.args.self.now c.args.row c.index-kept.result.now c.index-links.result.now c.self.invariant c.self.view_is c.requires c.index-kept.ensures c.index-links.ensures in
+    omega (arith, parent.stands.0, i.parents.lookups.ok.0)
+
+pub returns : goal.returns
+returns c =
+    let i = c.self.inside in
+    let file = c.args.self.now in
+    let rows = rows_in file in
+    let n = c.args.row in
+    let kept = c.index-kept.result.now in
+    let row = row_of kept in
+    let links = c.index-links.result.now in
+    let lookup = c.index.result.now in
+    let index = parents_of_row i.groups.now i.dictionary.now i.rows.items i.families.items i.parents i.by_key i.by_file_set i.separators file n kept links c.self.invariant c.self.view_is c.requires c.index-kept.ensures c.index-links.ensures in
+    let numbered = inside_rows i.groups.now i.dictionary.now i.rows.items i.families.items i.parents i.by_key i.by_file_set i.separators file c.self.invariant c.self.view_is in
+    let stands : IsRow rows n row = subst (λ rs. IsRow rs n row) numbered (at_map row_of i.rows.items n kept (rows_below i.rows.items rows n numbered c.requires, sym c.index-kept.ensures)) in
+    let same : index.lookup ≡ lookup = one_at i.parents.lookups.items links.lookup index.lookup lookup index.stands (index.stands.0, sym c.index.ensures) in
+    parents_listed file.entries rows n row index.names lookup c.deref-2.result.now c.rows_with.result.now stands index.headings
+    (subst (λ l. Finds l (HasText rows (HasParentEntries file.entries row.group index.names))) same index.finds)
+    c.rows_with.ensures
+    (c.deref-2.ensures.value ∙ c.in_ok-text.ensures ∙ ap (λ ps. key_text (map (field_at row.fields) ps)) (c.deref.ensures.value ∙ index.places) ∙ ap key_text (entries_at row index.names))

@@ -1,10 +1,10 @@
-use Rattle.std.proofs.Common.{◌≡◌, ℕ, List, [], Bool, Bor, get_or, filter, ap, sym, ◌∙◌}
+use Rattle.std.proofs.Common.{◌≡◌, ℕ, List, [], Bor, get_or, filter, ap, sym, ◌∙◌}
 use Rattle.std.specs.Prelude.{is_some}
 use Rattle.std.proofs.lemmas.List.{take_all}
 use Rattle.ags_links.specs.Families.{is_among}
 use Rattle.ags_links.proofs.Kept.{texts, heading_taken, heading_passed}
-use Rattle.ags_links.proofs.families.link_headings.Goals as goal
-use Rattle.ags_links.proofs.families.link_headings.Goals.{then-is_some+in_ok-push, else-is_some}
+use Rattle.ags_links.proofs.parents.common_headings.Goals as goal
+use Rattle.ags_links.proofs.parents.common_headings.Goals.{then-is_some+in_ok-push, else-is_some}
 
 pub loop-heading-preserved : goal.loop-heading-preserved
 loop-heading-preserved c =
@@ -13,8 +13,8 @@ loop-heading-preserved c =
     let d : Bor (List ℕ) = record { ref_ptr = (0, 0); now = [] } in
     let tested : is_among c.args.keys.now (get_or names i d).now ≡ c.is_some.result = sym (c.is_some.ensures ∙ ap is_some c.find.ensures) in
     elim c.if-is_some.branch [
-      | then-is_some+in_ok-push w ↦ rw w.links-is (heading_taken (is_among c.args.keys.now) c.loop-heading.links.items w.push.new.self.items names i d c.loop-heading-test.true c.loop-heading.invariant (tested ∙ w.if-is_some.true) w.in_ok-push.ensures.items)
-      | else-is_some w ↦ rw w.links-is (heading_passed (is_among c.args.keys.now) c.loop-heading.links.items names i d c.loop-heading-test.true c.loop-heading.invariant (tested ∙ w.if-is_some.false))
+      | then-is_some+in_ok-push w ↦ rw w.common-is (heading_taken (is_among c.args.keys.now) c.loop-heading.common.items w.push.new.self.items names i d c.loop-heading-test.true c.loop-heading.invariant (tested ∙ w.if-is_some.true) w.in_ok-push.ensures.items)
+      | else-is_some w ↦ rw w.common-is (heading_passed (is_among c.args.keys.now) c.loop-heading.common.items names i d c.loop-heading-test.true c.loop-heading.invariant (tested ∙ w.if-is_some.false))
     ]
 
 pub returns : goal.returns

@@ -1,0 +1,42 @@
+use Rattle.std.proofs.Common.{◌≡◌, get_or, map, ap, sym, ◌∙◌}
+use Rattle.ags_rows.specs.Contents.{place_in, field_at}
+use Rattle.ags_links.specs.DataRows.{IsAt, entry_of}
+use Rattle.ags_links.specs.declared.families.Family.{Family}
+use Rattle.ags_links.specs.Families.{HasEntries}
+use Rattle.ags_links.specs.KeyTexts.{key_text}
+use Rattle.ags_links.specs.ParentRows.{names_of}
+use Rattle.ags_links.specs.Placing.{row_of}
+use Rattle.ags_links.proofs.Finding.{finds_no_number, finds_number, finds_numbers}
+use Rattle.ags_links.proofs.Heading.{entries_at, places_named}
+use Rattle.ags_links.proofs.Kept.{family_below, kept_family, texts}
+use Rattle.ags_links.proofs.RowLemmas.{at_map}
+use Rattle.ags_links.proofs.parents.rows_by_entries.Goals as goal
+
+pub loop-number-init : goal.loop-number-init
+loop-number-init c = finds_no_number c.no_rows-lookup.result (HasEntries (names_of c.args.links.now)) (map row_of c.args.rows.now) c.no_rows-lookup.ensures
+
+pub bounds-families-row : goal.bounds-families-row
+bounds-families-row c =
+    let number = get_or c.args.links.now.rows.now c.loop-number.number-index 0 in
+    family_below c.args.dictionary.now c.args.families.now c.args.rows.now number c.index-rows-number.result c.requires.kept (c.requires.numbers.0 c.loop-number.number-index 0 c.loop-number-test.true, sym c.index-rows-number.is)
+
+pub loop-number-preserved : goal.loop-number-preserved
+loop-number-preserved c =
+    let numbers = c.args.links.now.rows.now in
+    let row = c.index-rows-number.result in
+    let of_row = row_of row in
+    let names = names_of c.args.links.now in
+    let stands : IsAt c.args.rows.now (get_or numbers c.loop-number.number-index 0) row = (c.requires.numbers.0 c.loop-number.number-index 0 c.loop-number-test.true, sym c.index-rows-number.is) in
+    let kept = kept_family c.args.dictionary.now c.args.families.now c.args.rows.now (get_or numbers c.loop-number.number-index 0) row c.index-families-row.result c.requires.kept stands (sym c.index-families-row.is) in
+    let stood = (get_or c.args.families.now row.place c.index-families-row.result).headings in
+    let text : c.deref-in-loop-number-2.result.now ≡ key_text (map (entry_of of_row) names) =
+    c.deref-in-loop-number-2.ensures.value ∙ c.in_ok-text.ensures
+    ∙ ap (λ ps. key_text (map (field_at of_row.fields) ps)) (c.deref-in-loop-number.ensures.value ∙ c.in_ok-places.ensures ∙ places_named stood c.deref.result.now ∙ ap (λ hs. map (place_in stood) (texts hs)) c.deref.ensures.value ∙ ap (λ hs. map (place_in hs) names) (ap (λ (f : Family). f.headings) (sym c.index-families-row.is) ∙ kept.headings))
+    ∙ ap key_text (entries_at of_row names) in
+    finds_number c.loop-number.lookup c.add_row.new.lookup (HasEntries names) (map row_of c.args.rows.now) numbers c.loop-number.number-index of_row c.deref-in-loop-number-2.result.now
+    c.loop-number-test.true c.requires.numbers.1 c.loop-number.invariant c.in_ok-add_row.ensures
+    (at_map row_of c.args.rows.now (get_or numbers c.loop-number.number-index 0) row stands)
+    (sym text) (λ q h. text ∙ h)
+
+pub returns : goal.returns
+returns c = finds_numbers c.loop-number.lookup (HasEntries (names_of c.args.links.now)) (map row_of c.args.rows.now) c.args.links.now.rows.now c.loop-number.number-index c.loop-number-test.false c.loop-number.invariant

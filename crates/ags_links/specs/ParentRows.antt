@@ -1,0 +1,74 @@
+-- What the index keeps of the parent groups: their rows by their entries under link headings, in look-ups that the
+-- groups with one parent group and the same link headings share.
+use Rattle.std.specs.Prelude.{◌≡◌, ◌≢◌, ◌<◌, ◌↔◌, ℕ, List, [], ◌∷◌, Option, Some, None, All, Contains, map}
+use Rattle.std.specs.List.Sorted.{IsStrictlyIncreasing}
+use Rattle.ags_rows.specs.Contents.{place_in}
+use Rattle.ags_rows.specs.declared.rows.Group.{Group}
+use Rattle.ags_dict.specs.Entries.{Entries, keys_of, parent_of}
+use Rattle.ags_links.specs.declared.families.Family.{Family}
+use Rattle.ags_links.specs.declared.lookup.Lookup.{Lookup}
+use Rattle.ags_links.specs.declared.parents.Links.{Links}
+use Rattle.ags_links.specs.declared.parents.ParentLinks.{ParentLinks}
+use Rattle.ags_links.specs.declared.parents.ParentLookups.{ParentLookups}
+use Rattle.ags_links.specs.DataRows.{DataRow, IsAt, IsRow}
+use Rattle.ags_links.specs.Families.{AreKept, HasText, HasEntries, HasAmong}
+use Rattle.ags_links.specs.KeyTexts.{key_text}
+use Rattle.ags_links.specs.Lookups.{Finds, found}
+
+-- these are the link headings of a group: those of its headings that are KEY headings of its parent group
+abbrev pub AreLinkHeadings : Entries → List ℕ → List (List ℕ) → List (List ℕ) → Type 0
+AreLinkHeadings entries parent headings names = (h : List ℕ) → Contains names h ↔ (Contains (keys_of entries parent) h × Contains headings h)
+
+-- the link headings that are kept
+abbrev pub names_of : Links → List (List ℕ)
+names_of links = map (λ h. h.now) links.headings.items
+
+-- the rows of this parent group, and the link headings to it where it has rows; nothing where there is no parent group
+abbrev pub LinksTo : Entries → Lookup → Group → Links → Option (List ℕ) → Type 0
+LinksTo entries by_group group links None = (links.rows.now ≡ []) × (links.headings.items ≡ []) × (links.text.items ≡ [])
+LinksTo entries by_group group links (Some parent) = (links.rows.now ≡ found by_group parent)
+    × (links.rows.now ≢ [] → AreLinkHeadings entries parent group.headings (names_of links))
+    × (links.text.items ≡ key_text (parent ∷ names_of links))
+
+-- the same of the group's parent group
+abbrev pub IsLinks : Entries → Lookup → Group → Links → Type 0
+IsLinks entries by_group group links = LinksTo entries by_group group links (parent_of entries group.name)
+
+abbrev pub AreLinks : Entries → Lookup → List Group → List Links → Type 0
+AreLinks entries by_group groups links = AreKept groups links (λ place. IsLinks entries by_group)
+
+-- the texts of the links
+abbrev pub texts_in : List Links → List (List ℕ)
+texts_in links = map (λ l. l.text.items) links
+
+-- the rows of the parent group are among so many, and rise
+abbrev pub AreNumbers : ℕ → Links → Type 0
+AreNumbers count links = All (λ n. n < count) links.rows.now × IsStrictlyIncreasing links.rows.now
+
+-- where no group before has the same links, the rows are found by their entries under the link headings
+abbrev pub IsLookupAt : List DataRow → List (List ℕ) → ℕ → Links → Lookup → Type 0
+IsLookupAt rows texts place links lookup = place_in texts links.text.items ≡ Some place → Finds lookup (HasAmong links.rows.now rows (HasEntries (names_of links)))
+
+abbrev pub AreLookups : List DataRow → List (List ℕ) → List Links → List Lookup → Type 0
+AreLookups rows texts links lookups = AreKept links lookups (IsLookupAt rows texts)
+
+-- the places of the link headings, and the first place of a group with the same links
+abbrev pub IsPlacedAt : List Family → List (List ℕ) → ℕ → Links → ParentLinks → Type 0
+IsPlacedAt families texts place links kept = ((family : Family) → IsAt families place family → kept.places.items ≡ map (place_in family.headings) (names_of links))
+    × (place_in texts links.text.items ≡ Some kept.lookup)
+
+-- it is a row of the group's parent group, and the text its entries under the headings
+abbrev pub HasParentEntries : Entries → List ℕ → List (List ℕ) → DataRow → List ℕ → Type 0
+HasParentEntries entries group headings r text = (parent_of entries group ≡ Some r.group) × HasEntries headings r text
+
+-- the rows of the group's parent group are found by their entries under its link headings
+pub record IsParentIndex (entries : Entries) (rows : List DataRow) (lookups : List Lookup) (group : Group) (links : ParentLinks) : Type 0 where
+  pub names : List (List ℕ)
+  pub lookup : Lookup
+  pub stands : IsAt lookups links.lookup lookup
+  pub places : links.places.items ≡ map (place_in group.headings) names
+  pub headings : (n : ℕ) (s : DataRow) → IsRow rows n s → parent_of entries group.name ≡ Some s.group → AreLinkHeadings entries s.group group.headings names
+  pub finds : Finds lookup (HasText rows (HasParentEntries entries group.name names))
+
+abbrev pub AreParents : Entries → List DataRow → List Group → ParentLookups → Type 0
+AreParents entries rows groups parents = AreKept groups parents.of_groups.items (λ place. IsParentIndex entries rows parents.lookups.items)

@@ -1,0 +1,282 @@
+//! The rows of the parent groups by their entries under link headings. Groups with one parent group and the same
+//! link headings share one look-up, so that the rows of a parent group are not read again for each of them.
+
+ghost use Rattle.std.specs.Prelude.{◌≡◌, ◌≢◌, ◌<◌, ◌≤◌, ◌^◌, ◌↔◌, [], ℕ, List, Contains, IfOk, All, Some, length, map, filter};
+ghost use Rattle.std.specs.List.Sorted.{IsStrictlyIncreasing};
+ghost use Rattle.ags_rows.specs.Contents.{place_in};
+ghost use Rattle.ags_links.specs.Families.{HasText, HasGroup, HasEntries, HasAmong, HasFamily, IsFamily, AreFamilies, AreKept, is_among};
+ghost use Rattle.ags_links.specs.Lookups.{Finds, found};
+ghost use Rattle.ags_links.specs.ParentRows.{AreLinkHeadings, names_of, IsLinks, AreLinks, texts_in, AreNumbers, IsLookupAt, AreLookups, IsPlacedAt, AreParents};
+ghost use Rattle.ags_links.specs.Placing.{row_of};
+
+use crate::families::{Family, family_at, places_of};
+use crate::lookup::{Lookup, add_row, no_rows, rows_with};
+use crate::placed::PlacedRow;
+use crate::texts::{entries_text, is_first, names_text};
+use ags_dict::Dictionary;
+use ags_rows::{Group, Places};
+use std::alloc::{AllocError, Global};
+
+/// The rows of a group's parent group, its link headings, and as one text the parent group's name and the link
+/// headings; nothing of all where it has no parent group.
+#[derive(Drop)]
+pub(crate) struct Links<'l, 's> {
+    pub(crate) rows: &'l [u32],
+    pub(crate) headings: Vec<&'s [u8]>,
+    pub(crate) text: Vec<u8>,
+}
+
+/// Where a group's link headings stand in its rows, and the place of the look-up that has the rows of its parent
+/// group by their entries under them.
+#[derive(Drop)]
+pub(crate) struct ParentLinks {
+    pub(crate) places: Vec<Option<usize>>,
+    pub(crate) lookup: usize,
+}
+
+/// The link places of each group, and the look-ups that they share.
+#[derive(Drop)]
+pub(crate) struct ParentLookups {
+    pub(crate) of_groups: Vec<ParentLinks>,
+    pub(crate) lookups: Vec<Lookup>,
+}
+
+/// Those of a group's headings that are KEY headings of another.
+fn common_headings<'s>(
+    alloc: Global,
+    headings: &Places<'s>,
+    keys: &Places<'_>,
+) -> Result<Vec<&'s [u8]>, AllocError>
+    ensures { IfOk result (λ common. map (λ h. h.now) common.items ≡ filter (is_among keys.now) headings.now) }
+{
+    let mut common = Vec::new(alloc);
+    for heading in headings.names() {
+        if keys.find(heading).is_some() {
+            common.push(*heading)?;
+        }
+    }
+    Ok(common)
+}
+
+/// The names in the order of their bytes.
+fn in_byte_order(names: Vec<&[u8]>) -> Vec<&[u8]>
+    ensures { (name : List ℕ) → Contains (map (λ n. n.now) result.items) name ↔ Contains (map (λ n. n.now) names.entry.items) name }
+{
+    let mut sorted = names;
+    sorted.sort_unstable();
+    sorted
+}
+
+/// The link headings of a group, in the order of their bytes: those of its headings that are KEY headings of its
+/// parent group. Where that has no rows, there is nothing to be linked to, and none are looked for.
+fn link_headings<'s>(
+    alloc: Global,
+    dictionary: &Dictionary,
+    rows: &[PlacedRow<'_, '_>],
+    families: &[Family<'_, '_>],
+    family: &Family<'s, '_>,
+    by_group: &Lookup,
+    parent: &[u8],
+) -> Result<Vec<&'s [u8]>, AllocError>
+    requires kept { All (HasFamily dictionary.now families.now) rows.now }
+    requires by_group { Finds by_group.now (HasText (map row_of rows.now) HasGroup) }
+    ensures { IfOk result (λ names. found by_group.now parent.now ≢ [] → AreLinkHeadings dictionary.now parent.now family.now.headings (map (λ n. n.now) names.items)) }
+{
+    let numbers = rows_with(by_group, parent);
+    if numbers.is_empty() {
+        return Ok(Vec::new(alloc));
+    }
+    let first = numbers[0] as usize;
+    let of_parent = family_at(dictionary, families, &rows[first]);
+    let common = common_headings(alloc, &family.headings, &of_parent.key_headings)?;
+    Ok(in_byte_order(common))
+}
+
+/// The rows of a group's parent group, and its link headings.
+fn links_of<'l, 's>(
+    alloc: Global,
+    group: &Group<'_>,
+    dictionary: &Dictionary,
+    rows: &[PlacedRow<'_, '_>],
+    families: &[Family<'_, '_>],
+    family: &Family<'s, '_>,
+    by_group: &'l Lookup,
+) -> Result<Links<'l, 's>, AllocError>
+    requires kept { All (HasFamily dictionary.now families.now) rows.now }
+    requires family { IsFamily dictionary.now group.now family.now }
+    requires by_group { Finds by_group.now (HasText (map row_of rows.now) HasGroup) }
+    ensures { IfOk result (IsLinks dictionary.now by_group.now group.now) }
+{
+    let Some(parent) = dictionary.parent(group.name.as_slice()) else {
+        return Ok(Links {
+            rows: &[],
+            headings: Vec::new(alloc),
+            text: Vec::new(alloc),
+        });
+    };
+    let headings = link_headings(alloc, dictionary, rows, families, family, by_group, parent)?;
+    let text = names_text(alloc, parent, &headings)?;
+    Ok(Links {
+        rows: rows_with(by_group, parent),
+        headings,
+        text,
+    })
+}
+
+/// The links of each group.
+fn links_of_groups<'l, 's>(
+    alloc: Global,
+    groups: &[Group<'_>],
+    dictionary: &Dictionary,
+    rows: &[PlacedRow<'_, '_>],
+    families: &[Family<'s, '_>],
+    by_group: &'l Lookup,
+) -> Result<Vec<Links<'l, 's>>, AllocError>
+    requires kept { All (HasFamily dictionary.now families.now) rows.now }
+    requires families { AreFamilies dictionary.now groups.now families.now }
+    requires by_group { Finds by_group.now (HasText (map row_of rows.now) HasGroup) }
+    ensures { IfOk result (λ links. AreLinks dictionary.now by_group.now groups.now links.items) }
+{
+    let mut links = Vec::new(alloc);
+    for (place, group) in groups.iter().enumerate() {
+        links.push(links_of(
+            alloc,
+            group,
+            dictionary,
+            rows,
+            families,
+            &families[place],
+            by_group,
+        )?)?;
+    }
+    Ok(links)
+}
+
+/// The texts of the links, to be found.
+fn texts_of<'k>(alloc: Global, links: &'k [Links<'_, '_>]) -> Result<Places<'k>, AllocError>
+    ensures { IfOk result (λ texts. texts ≡ texts_in links.now) }
+{
+    let mut texts = Vec::new(alloc);
+    for of_group in links {
+        texts.push(of_group.text.as_slice())?;
+    }
+    Places::of(alloc, texts)
+}
+
+/// The rows of the parent group by their entries under the link headings.
+fn rows_by_entries(
+    alloc: Global,
+    dictionary: &Dictionary,
+    rows: &[PlacedRow<'_, '_>],
+    families: &[Family<'_, '_>],
+    links: &Links<'_, '_>,
+) -> Result<Lookup, AllocError>
+    requires few { length rows.now < 2 ^ 32 }
+    requires kept { All (HasFamily dictionary.now families.now) rows.now }
+    requires numbers { AreNumbers (length rows.now) links.now }
+    ensures { IfOk result (λ lookup. Finds lookup (HasAmong links.now.rows.now (map row_of rows.now) (HasEntries (names_of links.now)))) }
+{
+    let mut lookup = no_rows(alloc);
+    for number in links.rows {
+        let row = &rows[*number as usize];
+        let places = places_of(alloc, &families[row.place].headings, &links.headings)?;
+        let text = entries_text(alloc, row, &places)?;
+        add_row(alloc, &mut lookup, &text, *number)?;
+    }
+    Ok(lookup)
+}
+
+/// The look-up of the group at this place: its own where no group before has the same links, else an empty one.
+fn lookup_at(
+    alloc: Global,
+    dictionary: &Dictionary,
+    rows: &[PlacedRow<'_, '_>],
+    families: &[Family<'_, '_>],
+    links: &Links<'_, '_>,
+    texts: &Places<'_>,
+    place: usize,
+) -> Result<Lookup, AllocError>
+    requires few { length rows.now < 2 ^ 32 }
+    requires kept { All (HasFamily dictionary.now families.now) rows.now }
+    requires numbers { AreNumbers (length rows.now) links.now }
+    ensures { IfOk result (IsLookupAt (map row_of rows.now) texts.now place links.now) }
+{
+    if is_first(texts, &links.text, place) {
+        rows_by_entries(alloc, dictionary, rows, families, links)
+    } else {
+        Ok(no_rows(alloc))
+    }
+}
+
+/// The look-ups, one for each group, of which those that are first with their links are filled.
+fn lookups(
+    alloc: Global,
+    dictionary: &Dictionary,
+    rows: &[PlacedRow<'_, '_>],
+    families: &[Family<'_, '_>],
+    links: &[Links<'_, '_>],
+    texts: &Places<'_>,
+) -> Result<Vec<Lookup>, AllocError>
+    requires few { length rows.now < 2 ^ 32 }
+    requires kept { All (HasFamily dictionary.now families.now) rows.now }
+    requires numbers { All (AreNumbers (length rows.now)) links.now }
+    ensures { IfOk result (λ lookups. AreLookups (map row_of rows.now) texts.now links.now lookups.items) }
+{
+    let mut lookups = Vec::new(alloc);
+    for (place, of_group) in links.iter().enumerate() {
+        lookups.push(lookup_at(alloc, dictionary, rows, families, of_group, texts, place)?)?;
+    }
+    Ok(lookups)
+}
+
+/// The place of the first group with these links.
+fn first_with(texts: &Places<'_>, links: &Links<'_, '_>) -> usize
+    requires { Contains texts.now links.now.text.items }
+    ensures { place_in texts.now links.now.text.items ≡ Some result }
+{
+    texts.find(&links.text).unwrap()
+}
+
+/// Where each group's link headings stand in its rows, and which look-up is its own.
+fn parent_links(
+    alloc: Global,
+    families: &[Family<'_, '_>],
+    links: &[Links<'_, '_>],
+    texts: &Places<'_>,
+) -> Result<Vec<ParentLinks>, AllocError>
+    requires families { length families.now ≡ length links.now }
+    requires texts { texts.now ≡ texts_in links.now }
+    ensures { IfOk result (λ of_groups. AreKept links.now of_groups.items (IsPlacedAt families.now texts.now)) }
+{
+    let mut of_groups = Vec::new(alloc);
+    for (place, of_group) in links.iter().enumerate() {
+        let headings = &families[place].headings;
+        of_groups.push(ParentLinks {
+            places: places_of(alloc, headings, &of_group.headings)?,
+            lookup: first_with(texts, of_group),
+        })?;
+    }
+    Ok(of_groups)
+}
+
+/// For each group the rows of its parent group, by their entries under its link headings.
+pub(crate) fn parents(
+    alloc: Global,
+    groups: &[Group<'_>],
+    dictionary: &Dictionary,
+    rows: &[PlacedRow<'_, '_>],
+    families: &[Family<'_, '_>],
+    by_group: &Lookup,
+) -> Result<ParentLookups, AllocError>
+    requires few { length rows.now < 2 ^ 32 }
+    requires kept { All (HasFamily dictionary.now families.now) rows.now }
+    requires families { AreFamilies dictionary.now groups.now families.now }
+    requires by_group { Finds by_group.now (HasText (map row_of rows.now) HasGroup) }
+    ensures { IfOk result (AreParents dictionary.now (map row_of rows.now) groups.now) }
+{
+    let links = links_of_groups(alloc, groups, dictionary, rows, families, by_group)?;
+    let texts = texts_of(alloc, &links)?;
+    let lookups = lookups(alloc, dictionary, rows, families, &links, &texts)?;
+    let of_groups = parent_links(alloc, families, &links, &texts)?;
+    Ok(ParentLookups { of_groups, lookups })
+}
