@@ -147,19 +147,15 @@ def children(size):
 
 
 def subsets(size):
-    """The same, but each of the thousand shares other KEY headings with the group above it."""
+    """The same, but each of the thousand has other KEY headings of the group above it."""
     keys = [f"PARE_{place}" for place in range(10)]
-    names = [name_of(place) for place in range(1000)]
-    own = own_dict(
-        [["GROUP", "PARE", "", "", ""]] + [["HEADING", "PARE", key, "KEY", ""] for key in keys]
-        + [entry for name in names for entry in [["GROUP", name, "", "", "PARE"]] + [["HEADING", name, key, "KEY", ""] for key in keys]])
-    def rest(place):
-        chosen = [key for bit, key in enumerate(keys) if (place + 1) >> bit & 1]
-        return group(names[place], chosen, [""] * len(chosen), ["X"] * len(chosen), [["0"] * len(chosen)])
-    below = "".join(rest(place) for place in range(1000)) + own
-    def text(count):
-        return FRONT + group("PARE", keys, [""] * 10, ["X"] * 10, ([str(n)] * 10 for n in range(count))) + below
-    return largest(size, text)
+    chosen = {name_of(place): [key for bit, key in enumerate(keys) if (place + 1) >> bit & 1] for place in range(1000)}
+    entries = [["HEADING", "PARE", key, "KEY", ""] for key in keys]
+    for name, headings in chosen.items():
+        entries += [["GROUP", name, "", "", "PARE"]] + [["HEADING", name, key, "KEY", ""] for key in headings]
+    rest = "".join(group(name, headings, [""] * len(headings), ["X"] * len(headings), [["0"] * len(headings)]) for name, headings in chosen.items())
+    rest += own_dict([["GROUP", "PARE", "", "", ""]] + entries)
+    return largest(size, lambda count: FRONT + group("PARE", keys, [""] * 10, ["X"] * 10, ([str(n)] * 10 for n in range(count))) + rest)
 
 
 ALL = [flat, deep, ring, broken, short, steps, narrow, wide, wide_links, dict_of_one, dict_of_many, dict_of_the_same, children, subsets]

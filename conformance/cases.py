@@ -61,6 +61,17 @@ def dictionary(*entries):
     return group("DICT", DICT_HEADINGS, *entries)
 
 
+def keyed(name, parent, *keys):
+    """The entries of a group, its parent group and its KEY headings."""
+    return [["GROUP", name, "", "", parent]] + [["HEADING", name, key, "KEY", ""] for key in keys]
+
+
+def siblings(last):
+    """Two groups under one, which have its KEY headings in their own orders; the second on line 59, with this row on line 64."""
+    return (group("PARE", ["PARE_ONE", "PARE_TWO"], ["x", "1"], ["y", "2"]), group("ABCD", ["PARE_ONE", "PARE_TWO"], ["x", "1"]), group("EFGH", ["PARE_TWO", "PARE_ONE"], ["1", "x"], last),
+            dictionary(*keyed("PARE", "", "PARE_ONE", "PARE_TWO"), *keyed("ABCD", "PARE", "PARE_ONE", "PARE_TWO"), *keyed("EFGH", "PARE", "PARE_TWO", "PARE_ONE")))
+
+
 BASE = base()
 S1 = ["BH1", "1.50", "S1", ""]
 S2 = ["BH1", "2.50", "S2", ""]
@@ -164,6 +175,10 @@ CASES = [
     ("10c_no_parent_row", 5, base(samp(["BH2", "1.50", "S1", ""])), ["10c 50 SAMP"]),
     ("10c_keys_compared_by_bytes", 5, base(group("SAMP", ["LOCA_ID", "SAMP_TOP", "SAMP_REF"], ["BH1", "1.0", "S1"]), group("LNMC", ["LOCA_ID", "SAMP_TOP", "SAMP_REF", "SPEC_DPTH"], ["BH1", "1.00", "S1", "1"])), ["10c 56 LNMC"]),
     ("10c_clean_every_row_of_a_parent_without_link_headings", 5, base(group("ABCD", ["ABCD_ID"], ["1"], ["2"]), dictionary(["GROUP", "ABCD", "", "", "LOCA"], ["HEADING", "ABCD", "ABCD_ID", "KEY", ""])), []),
+    ("10c_no_parent_row_under_keys_in_another_order", 5, base(*siblings(["2", "x"])), ["10c 64 EFGH"]),
+    ("10c_clean_keys_in_another_order", 5, base(*siblings(["2", "y"])), []),
+    ("10c_parent_row_in_the_parent_of_the_parent_alone", 5, base(group("PARE", ["PARE_ONE"], ["x"], ["y"]), group("ABCD", ["PARE_ONE"], ["x"]), group("EFGH", ["PARE_ONE"], ["y"]),
+        dictionary(*keyed("PARE", "", "PARE_ONE"), *keyed("ABCD", "PARE", "PARE_ONE"), *keyed("EFGH", "ABCD", "PARE_ONE"))), ["10c 63 EFGH"]),
     ("11c_link_to_no_row", 5, base(samp(["BH1", "1.50", "S1", "SAMP|BH1|2.50|S3"], S2)), ["11c 50 SAMP_LINK"]),
     ("11c_one_part_of_two_names_no_row", 5, base(samp(["BH1", "1.50", "S1", "SAMP|BH1|2.50|S2+LOCA|BH9"], S2)), ["11c 50 SAMP_LINK"]),
     ("11c_second_key_left_out", 5, base(samp(["BH1", "1.50", "S1", "SAMP|BH1|2.50"], S2)), ["11c 50 SAMP_LINK"]),
