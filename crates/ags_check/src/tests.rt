@@ -6,7 +6,7 @@ mod rows;
 use crate::{CheckError, check};
 use ags_dict::Dictionary;
 use ags_rows::vectors::{FILE_A, FILE_B, FILE_C, MINI};
-use ags_rows::{Finding, READABLE};
+use ags_rows::{Finding, READABLE, Sequence};
 use std::alloc::{AllocError, Global};
 use std::fmt::Write;
 use std::test::Fail;
@@ -172,5 +172,27 @@ fn rows_without_link_headings_have_all_parents(rt: HostRuntime) -> Result<(), Fa
     assert!(rt; text.len() <= READABLE);
     let checked = check(rt.alloc(), &mini, text.as_slice())?;
     assert_eq!(rt; checked.graph().steps().len(), 6);
+    Ok(())
+}
+
+/// A refusal as it is printed, and as it is shown to a programmer.
+fn words(alloc: Global, refusal: &CheckError) -> Result<String, Fail> {
+    let mut text = String::new(alloc);
+    write!(text, "{refusal}; {refusal:?}")?;
+    Ok(text)
+}
+
+#[test]
+fn refusals_as_printed(rt: HostRuntime) -> Result<(), Fail> {
+    let alloc = rt.alloc();
+    let findings = CheckError::Findings(Sequence::from_vec(Vec::new(alloc)));
+    assert_eq!(rt;
+        words(alloc, &findings)?.as_str(),
+        "the file has findings; Findings(0)"
+    );
+    assert_eq!(rt;
+        words(alloc, &CheckError::NoMemory)?.as_str(),
+        "out of memory; NoMemory"
+    );
     Ok(())
 }

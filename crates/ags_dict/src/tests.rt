@@ -1,6 +1,6 @@
 use crate::{DictError, Dictionary};
 use ags_rows::vectors::{FILE_A, MINI};
-use ags_rows::{Finding, READABLE, Scan};
+use ags_rows::{Finding, READABLE, Scan, Sequence};
 use std::alloc::{AllocError, Global};
 use std::fmt::Write;
 use std::test::Fail;
@@ -341,6 +341,30 @@ fn own_entries_are_found(rt: HostRuntime) -> Result<(), Fail> {
     assert_eq!(rt;
         (extended.group_count(), extended.heading_count()),
         (11, 39)
+    );
+    Ok(())
+}
+
+/// A refusal as it is printed.
+fn words(alloc: Global, refusal: &DictError) -> Result<String, Fail> {
+    let mut text = String::new(alloc);
+    write!(text, "{refusal}")?;
+    Ok(text)
+}
+
+#[test]
+fn refusals_as_printed(rt: HostRuntime) -> Result<(), Fail> {
+    let alloc = rt.alloc();
+    let findings = DictError::NotDictionary(Sequence::from_vec(Vec::new(alloc)));
+    assert_eq!(rt; words(alloc, &findings)?.as_str(), "not a dictionary");
+    assert_eq!(rt; words(alloc, &DictError::NoDict)?.as_str(), "no group DICT");
+    assert_eq!(rt;
+        words(alloc, &DictError::MissingHeading)?.as_str(),
+        "a heading of DICT is missing"
+    );
+    assert_eq!(rt;
+        words(alloc, &DictError::NoMemory)?.as_str(),
+        "out of memory"
     );
     Ok(())
 }

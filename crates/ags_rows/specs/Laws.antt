@@ -8,6 +8,7 @@ use Rattle.ags_rows.specs.Findings.{RowFindings, LooseFindings, FileGroups, Loos
 use Rattle.ags_rows.specs.declared.rows.Group.{Group}
 use Rattle.ags_rows.specs.Contents.{Contents, contents_of}
 use Rattle.ags_rows.specs.Writing.{IsWellFormed, written_file}
+use Rattle.ags_rows.specs.declared.TheConstants.{READABLE}
 use Rattle.ags_rows.specs.declared.vectors.TheConstants.{MINI}
 use Rattle.ags_rows.specs.Mini.{mini_contents}
 use Rattle.ags_rows.specs.FindingOrder.{finding_cmp}
@@ -63,3 +64,7 @@ abbrev pub MiniIsWritten : Type 0
 MiniIsWritten =
     IsWellFormed mini_contents × (MINI.now ≡ written_file mini_contents) × RowFindings MINI.now []
     × ((groups : List Group) × FileGroups MINI.now groups × (contents_of groups ≡ mini_contents))
+
+-- The longest text that is read has 67,108,864 bytes.
+abbrev pub LongestText : Type 0
+LongestText = READABLE ≡ 67108864

@@ -5,6 +5,7 @@ use crate::{
 };
 use ags_rows::{Cell, cells};
 use std::alloc::Global;
+use std::fmt::{Display, Write};
 use std::test::Fail;
 
 #[test]
@@ -376,5 +377,53 @@ fn callers_found(rt: HostRuntime) -> Result<(), Fail> {
     }
     let none = Callers::read(alloc, "")?;
     assert!(rt; none.find(b"t-echo").is_none());
+    Ok(())
+}
+
+/// A refusal as it is printed.
+fn words<E: Display>(alloc: Global, refusal: &E) -> Result<String, Fail> {
+    let mut text = String::new(alloc);
+    write!(text, "{refusal}")?;
+    Ok(text)
+}
+
+#[test]
+fn policy_refusals_as_printed(rt: HostRuntime) -> Result<(), Fail> {
+    for (refusal, want) in [
+        (PolicyError::Syntax, "not TOML"),
+        (PolicyError::UnknownKey, "unknown key"),
+        (PolicyError::BadValue, "bad value"),
+        (PolicyError::Order, "the numbers do not rise"),
+        (PolicyError::NoMemory, "out of memory"),
+    ] {
+        assert_eq!(rt; words(rt.alloc(), &refusal)?.as_str(), want);
+    }
+    Ok(())
+}
+
+#[test]
+fn callers_refusals_as_printed(rt: HostRuntime) -> Result<(), Fail> {
+    for (refusal, want) in [
+        (CallersError::Syntax, "not TOML"),
+        (CallersError::UnknownKey, "unknown key"),
+        (CallersError::BadValue, "bad value"),
+        (CallersError::DuplicateToken, "a token stands twice"),
+        (CallersError::NoMemory, "out of memory"),
+    ] {
+        assert_eq!(rt; words(rt.alloc(), &refusal)?.as_str(), want);
+    }
+    Ok(())
+}
+
+#[test]
+fn name_refusals_as_printed(rt: HostRuntime) -> Result<(), Fail> {
+    assert_eq!(rt;
+        words(rt.alloc(), &NameError::BadName)?.as_str(),
+        "not a name"
+    );
+    assert_eq!(rt;
+        words(rt.alloc(), &NameError::NoMemory)?.as_str(),
+        "out of memory"
+    );
     Ok(())
 }
