@@ -1,14 +1,13 @@
 -- The rows of a file by their texts: those of kind DATA, and how many there are.
-use Rattle.std.proofs.Common.{◌≡◌, ℕ, suc, ◌+◌, ◌≤◌, List, [], ◌∷◌, ◌++◌, length, map, filter, flat_map, refl, sym, ap, ◌∙◌, arith}
+use Rattle.std.proofs.Common.{◌≡◌, ℕ, ◌+◌, ◌≤◌, List, [], ◌∷◌, ◌++◌, length, map, filter, flat_map, refl, sym, ap, ◌∙◌, arith}
 use Rattle.std.proofs.lemmas.List.{length-append, length-map, map-append}
 use Rattle.std.proofs.lemmas.List.Elements.{filter-append}
 use Rattle.ags_rows.specs.declared.rows.Descriptor.TheVariants as kinds
-use Rattle.ags_rows.specs.declared.rows.Row.{Row}
 use Rattle.ags_rows.specs.declared.rows.Group.{Group}
 use Rattle.ags_rows.specs.Contents.{Contents, fields_of, group_contents, contents_of}
-use Rattle.ags_rows.specs.Groups.{Groups, data_row, rows_of, row_count}
-use Rattle.ags_rows.specs.Findings.{FileGroups, LooseGroups}
-use Rattle.ags_rows.specs.RowTexts.{each_row, each_data_row, RowText, row_text, row_texts, is_data_text, spelling_of}
+use Rattle.ags_rows.specs.Groups.{data_row, rows_of, row_count}
+use Rattle.ags_rows.specs.Findings.{LooseGroups}
+use Rattle.ags_rows.specs.RowTexts.{each_row, each_data_row, row_text, row_texts, is_data_text, spelling_of}
 use Rattle.ags_rows.specs.Writing.{written_row, group_lines}
 use Rattle.ags_rows.specs.Laws.{RowsAreTheirTexts, RowsWithinBytes}
 use Rattle.ags_rows.proofs.FewRows.{rows_within}
@@ -20,9 +19,9 @@ map_each_data_row f made [] = refl
 map_each_data_row f made (group ∷ contents) =
     map-append f (map (made group) group.rows) (each_data_row made contents) ∙ ap (λ front. front ++ map f (each_data_row made contents)) (twice group.rows)
     ∙ ap (λ back. map (λ fields. f (made group fields)) group.rows ++ back) (map_each_data_row f made contents) where
-  twice : (rows : List (List (List ℕ))) → map f (map (made group) rows) ≡ map (λ fields. f (made group fields)) rows
-  twice [] = refl
-  twice (row ∷ rows) = ap (λ more. f (made group row) ∷ more) (twice rows)
+      twice : (rows : List (List (List ℕ))) → map f (map (made group) rows) ≡ map (λ fields. f (made group fields)) rows
+      twice [] = refl
+      twice (row ∷ rows) = ap (λ more. f (made group row) ∷ more) (twice rows)
 
 -- ---- the lines that are written
 

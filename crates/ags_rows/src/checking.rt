@@ -171,7 +171,10 @@ fn note_groups(
 }
 
 /// The findings of the third phase: each group.
-pub(crate) fn group_findings(alloc: Global, groups: &[Group]) -> Result<Sequence<Finding>, AllocError>
+pub(crate) fn group_findings(
+    alloc: Global,
+    groups: &[Group],
+) -> Result<Sequence<Finding>, AllocError>
     ensures { IfOk result (λ found. AreExactly (StandsInGroups groups.now) found) }
 {
     let mut findings = Vec::new(alloc);
