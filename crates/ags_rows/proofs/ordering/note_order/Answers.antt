@@ -1,11 +1,11 @@
 use Rattle.std.proofs.Common.{[], length, sym, ap, ◌∙◌}
 use Rattle.std.proofs.lemmas.List.{nil_from_length}
 use Rattle.std.proofs.lemmas.Bool.{eqb-true, eq-eqb}
-use Rattle.ags_rows.specs.declared.codes.Code.TheVariants.{Rule2}
+use Rattle.ags_rows.specs.declared.code.Code.TheVariants.{Rule2}
 use Rattle.ags_rows.specs.Collecting.{OneOf}
 use Rattle.ags_rows.specs.Stands.{row_rules}
 use Rattle.ags_rows.proofs.Collecting.{adds_note, two_rules, some_at, among_none, among_more, among_all}
-use Rattle.ags_rows.proofs.ordering.note_rows.Goals as goal
+use Rattle.ags_rows.proofs.ordering.note_order.Goals as goal
 
 pub loop-place-init : goal.loop-place-init
 loop-place-init c = among_none c.args.rows.now (λ place row. OneOf (row_rules c.args.rows.now place row)) c.note.new.findings.items

@@ -1,6 +1,6 @@
 use Rattle.std.proofs.Common.{◌∙◌, sym}
 use Rattle.ags_rows.proofs.FirstPlaces.{added}
-use Rattle.ags_rows.proofs.places.add.Goals as goal
+use Rattle.ags_rows.proofs.places.add_name.Goals as goal
 
 pub returns-in_ok-insert : goal.returns-in_ok-insert
 returns-in_ok-insert c =

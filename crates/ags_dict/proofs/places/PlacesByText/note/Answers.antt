@@ -4,8 +4,8 @@ use Rattle.std.specs.Str.{bytes_eq}
 use Rattle.std.proofs.lemmas.Bool.{cases_Bool}
 use Rattle.ags_dict.specs.Index.{places_at, found_at}
 use Rattle.ags_dict.proofs.Held.{held_replaced, same_bytes}
-use Rattle.ags_dict.proofs.places.Places.note.Goals as goal
-use Rattle.ags_dict.proofs.places.Places.note.Goals.{in-Some, in-None}
+use Rattle.ags_dict.proofs.places.PlacesByText.note.Goals as goal
+use Rattle.ags_dict.proofs.places.PlacesByText.note.Goals.{in-Some, in-None}
 
 pub returns : goal.returns
 returns c =

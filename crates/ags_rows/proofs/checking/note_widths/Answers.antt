@@ -1,11 +1,11 @@
 use Rattle.std.proofs.Common.{◌≢◌, ℕ, List, length, refl, subst}
 use Rattle.std.proofs.lemmas.Option.{slice_get_read}
 use Rattle.ags_rows.specs.declared.rows.Row.{Row}
-use Rattle.ags_rows.specs.declared.codes.Code.TheVariants.{Rule4}
+use Rattle.ags_rows.specs.declared.code.Code.TheVariants.{Rule4}
 use Rattle.ags_rows.specs.Collecting.{Adds, Among, Notes}
 use Rattle.ags_rows.proofs.Collecting.{adds_note, among_none, among_more, among_all}
 use Rattle.ags_rows.proofs.Repeats.{differs, differ}
-use Rattle.ags_rows.proofs.checking.note_rows.Goals as goal
+use Rattle.ags_rows.proofs.checking.note_widths.Goals as goal
 
 pub loop-row-init : goal.loop-row-init
 loop-row-init c = among_none c.as_slice-row-items.result.now (λ place row. Notes row.line Rule4 c.as_slice-name.result.now (length row.cells ≢ c.len-width.result)) c.args.findings.now.items
