@@ -3,14 +3,14 @@
 ghost use Rattle.std.specs.Prelude.{◌≡◌, ◌<◌, ◌^◌, IfOk, All, length, map};
 ghost use Rattle.ags_rows.specs.Contents.{place_in};
 ghost use Rattle.ags_links.specs.Lookups.{Finds};
-ghost use Rattle.ags_links.specs.Families.{HasText, HasGroup, HasKeyText, HasFileSet, HasFamily, IsFamily, AreFamilies, record_links};
+ghost use Rattle.ags_links.specs.Families.{HasText, HasGroupName, HasKeyText, HasFileSet, HasFamily, IsFamily, AreFamilies, record_links};
 ghost use Rattle.ags_links.specs.Placing.{IsPlaced, row_of};
 
 use crate::lookup::{Lookup, add_row, no_rows};
-use crate::placed::{PlacedRow, cell_at, field};
+use crate::placed::{PlacedRow, field};
 use crate::texts::group_text;
 use ags_dict::Dictionary;
-use ags_rows::{Group, Places};
+use ags_rows::{Group, Places, cell_at};
 use std::alloc::{AllocError, Global};
 
 /// A group's headings and KEY headings, and the places in its rows of the KEY headings, of FILE_FSET and of the
@@ -97,7 +97,7 @@ pub(crate) fn families<'s, 'd>(
 /// The rows by the names of their groups.
 pub(crate) fn rows_by_group(alloc: Global, rows: &[PlacedRow<'_, '_>]) -> Result<Lookup, AllocError>
     requires { length rows.now < 2 ^ 32 }
-    ensures { IfOk result (λ lookup. Finds lookup (HasText (map row_of rows.now) HasGroup)) }
+    ensures { IfOk result (λ lookup. Finds lookup (HasText (map row_of rows.now) HasGroupName)) }
 {
     let mut lookup = no_rows(alloc);
     for (number, row) in rows.iter().enumerate() {
