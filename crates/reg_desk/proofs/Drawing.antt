@@ -26,7 +26,7 @@ use Rattle.reg_desk.specs.declared.answer.Listed.{Listed}
 use Rattle.reg_desk.specs.declared.answer.Answer.{Answer}
 use Rattle.reg_desk.specs.declared.answer.Answer.TheVariants.{Text, Denied, Unknown}
 use Rattle.reg_desk.specs.Shown.{Look, IsProjectShown}
-use Rattle.reg_desk.specs.Laws.{IsCleanFile}
+use Rattle.reg_desk.specs.CleanFile.{IsCleanFile}
 use Rattle.reg_desk.specs.Machine.{Register, decided, look_at, IsSeen, IsTextOf, Where, IsDrawnFrom, held}
 use Rattle.reg_desk.specs.Clean.{file_of}
 use Rattle.reg_desk.specs.View.{IsViewOf, IsExtractOf}
