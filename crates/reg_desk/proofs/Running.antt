@@ -1,5 +1,5 @@
 -- A list of requests, request by request.
-use Rattle.std.proofs.Common.{◌≡◌, ◌≢◌, ℕ, ◌+◌, ◌<◌, Bool, true, false, cond, ◌||◌, Option, Some, None, List, [], ◌∷◌, ◌++◌, map, take, get_or, refl, sym, ap, subst, ◌∙◌, inl, inr, ◌⊎◌}
+use Rattle.std.proofs.Common.{◌≡◌, ◌≢◌, ℕ, zero, suc, ◌+◌, ◌<◌, ◌≤◌, length, arith, Bool, true, false, cond, ◌||◌, Option, Some, None, List, [], ◌∷◌, ◌++◌, map, take, get_or, refl, sym, ap, subst, ◌∙◌, inl, inr, ◌⊎◌}
 use Rattle.std.specs.List.{list_any}
 use Rattle.std.proofs.lemmas.Bool.{true≢false, cases_Bool}
 use Rattle.std.proofs.Props.{props}
@@ -8,7 +8,8 @@ use Rattle.std.proofs.Math.Logic.{∥∥₁_map, ∥∥₁_elim}
 use Rattle.reg_policy.specs.declared.rule.Rule.{Rule}
 use Rattle.reg_store.specs.Deposit.{Deposit}
 use Rattle.reg_store.specs.declared.keep.Keep.{Ghosts}
-use Rattle.reg_desk.specs.Asked.{Asked}
+use Rattle.reg_desk.specs.Asked.{Asked, asked}
+use Rattle.reg_desk.specs.declared.request.Request.{Request}
 use Rattle.reg_desk.specs.declared.answer.Answer.{Answer}
 use Rattle.reg_desk.specs.declared.answer.Answer.TheVariants.{StoreFailed}
 use Rattle.reg_desk.specs.Machine.{Register, Where}
@@ -272,3 +273,16 @@ run_more keep rules old mid new began false then_failed requests answers r a set
     works : (t : Bool) → (t ≡ true → false ≡ true) → t ≡ false
     works true h = absurd (true≢false (sym (h refl)))
     works false h = refl
+
+-- ---- the loop
+
+pub asked_more : (requests : List Request) (i : ℕ) (d : Request) → i < length requests → map asked (take (suc i) requests) ≡ map asked (take i requests) ++ asked (get_or requests i d) ∷ []
+asked_more [] i d lt = absurd (omega (arith, lt))
+asked_more (r ∷ requests) zero d lt = refl
+asked_more (r ∷ requests) (suc i) d lt = ap (λ (l : List Asked). asked r ∷ l) (asked_more requests i d (omega (arith, lt)))
+
+pub take_whole : (requests : List Request) (i : ℕ) → length requests ≤ i → take i requests ≡ requests
+take_whole [] zero le = refl
+take_whole [] (suc i) le = refl
+take_whole (r ∷ requests) zero le = absurd (omega (arith, le))
+take_whole (r ∷ requests) (suc i) le = ap (λ (l : List Request). r ∷ l) (take_whole requests i (omega (arith, le)))
