@@ -27,7 +27,7 @@ pub where_false : (t : Bool) (A B : Type 0) → t ≡ false → B → Where t A 
 where_false true A B e b = absurd (true≢false e)
 where_false false A B e b = b
 
-where_else : (t : Bool) (A B : Type 0) → t ≡ false → Where t A B → B
+pub where_else : (t : Bool) (A B : Type 0) → t ≡ false → Where t A B → B
 where_else true A B e h = absurd (true≢false e)
 where_else false A B e h = h
 

@@ -30,7 +30,7 @@ use Rattle.ags_check.specs.Findings.{IsCleanFile}
 use Rattle.reg_desk.specs.Machine.{Register, decided, look_at, IsSeen, IsTextOf, Where, IsDrawnFrom, held}
 use Rattle.ags_check.specs.Findings.{file_of}
 use Rattle.reg_desk.specs.View.{IsViewOf, IsExtractOf}
-use Rattle.reg_desk.specs.Serving.{IsQuiet, AsksStore, IsListed, text_answer, register_at, Reads, Serves, look_on, answer_of}
+use Rattle.reg_desk.specs.Serving.{IsQuiet, AsksStore, IsListed, text_answer, register_at, OnlyReads, Serves, look_on, answer_of}
 use Rattle.reg_desk.proofs.Replies.{one_file}
 use Rattle.reg_desk.proofs.Bodies.{where_true, where_false}
 use Rattle.reg_desk.proofs.Serves.{is_told, replies_at_once, refused_serves, replies_serves, permitted_reply, denied_reply, permit_stands}
@@ -84,7 +84,7 @@ not_broken given d rows graph (Err errors.Store) fit view broken =
     absurd (∥∥₁_elim fit (Prim.hlevel props) (λ (f : (file : CheckedFile) × IsFileOf given d file). broken refl f.0 (view f.0 f.1)))
 
 -- calls that read a keep, and then something that was answered by what was read
-pub reads_answered : {K : Type 0} (keep : Ghosts K) (old new : K) (failed : Bool) → Reads keep old new false → (keep.is_sound new → failed ≡ false) → Reads keep old new failed
+pub reads_answered : {K : Type 0} (keep : Ghosts K) (old new : K) (failed : Bool) → OnlyReads keep old new false → (keep.is_sound new → failed ≡ false) → OnlyReads keep old new failed
 reads_answered keep old new failed reads lives = record {
   sound = reads.sound;
   same_dictionary = reads.same_dictionary;
@@ -163,12 +163,12 @@ extract_denied keep rules caller project number groups day old m works deny =
     (denied_reply (decided register caller project verbs.Extract) m (IsDrawnFrom register caller project groups day (held number (keep.deposits old))) deny) refl
 
 pub extract_unread : {K : Type 0} (keep : Ghosts K) (rules : List Rule) (caller : Caller) (project : List ℕ) (number : ℕ) (groups : List (List ℕ)) (day : ℤ) (old new : K) (k : ℕ) (e : KeepError)
-    → decided (register_at keep rules old) caller project verbs.Extract ≡ Permit k → Reads keep old new (is_store e) → e ≢ errors.Full → Serves keep rules (extract caller project number groups day) old new (answer_of e)
+    → decided (register_at keep rules old) caller project verbs.Extract ≡ Permit k → OnlyReads keep old new (is_store e) → e ≢ errors.Full → Serves keep rules (extract caller project number groups day) old new (answer_of e)
 extract_unread keep rules caller project number groups day old new k e permit reads named =
     refused_serves keep rules (extract caller project number groups day) old new e reads named (extract_asks (register_at keep rules old) (keep.deposits old) caller project number groups day k permit)
 
 pub extract_replies : {K : Type 0} (keep : Ghosts K) (rules : List Rule) (caller : Caller) (project : List ℕ) (number : ℕ) (groups : List (List ℕ)) (day : ℤ) (old new : K) (k : ℕ) (answer : Answer)
-    → decided (register_at keep rules old) caller project verbs.Extract ≡ Permit k → Reads keep old new false → is_told answer ≡ true
+    → decided (register_at keep rules old) caller project verbs.Extract ≡ Permit k → OnlyReads keep old new false → is_told answer ≡ true
     → (keep.is_sound new → ∥ IsDrawnFrom (register_at keep rules old) caller project groups day (held number (keep.deposits old)) answer ∥₁)
     → Serves keep rules (extract caller project number groups day) old new answer
 extract_replies keep rules caller project number groups day old new k answer permit reads told drawn =

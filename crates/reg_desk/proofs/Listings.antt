@@ -17,7 +17,7 @@ use Rattle.reg_desk.specs.declared.answer.Listed.{Listed}
 use Rattle.reg_desk.specs.declared.answer.Answer.{Answer}
 use Rattle.reg_desk.specs.declared.answer.Answer.TheVariants.{Listing, Denied}
 use Rattle.reg_desk.specs.Machine.{Register, decided, IsSeen, Where, IsListing, held}
-use Rattle.reg_desk.specs.Serving.{IsQuiet, AsksStore, IsListed, register_at, Reads, Serves, answer_of}
+use Rattle.reg_desk.specs.Serving.{IsQuiet, AsksStore, IsListed, register_at, OnlyReads, Serves, answer_of}
 use Rattle.reg_desk.proofs.Serves.{replies_at_once, refused_serves, replies_serves, permitted_reply, denied_reply, permit_stands}
 
 -- ---- lines for numbers
@@ -119,7 +119,7 @@ number_more register caller day state all i lines kept line lt so_far holds list
     lines_more register caller day (λ k. held k state) all (get_or all i 0) (drop (suc i) all) lines kept line
     (subst (λ (l : List ℕ). SoFar register caller day (λ k. held k state) all l lines) (drop_get all i lt) so_far) holds listed
 
-pub register_same : {K : Type 0} (keep : Ghosts K) (rules : List Rule) (old new : K) (failed : Bool) → Reads keep old new failed → register_at keep rules new ≡ register_at keep rules old
+pub register_same : {K : Type 0} (keep : Ghosts K) (rules : List Rule) (old new : K) (failed : Bool) → OnlyReads keep old new failed → register_at keep rules new ≡ register_at keep rules old
 register_same keep rules old new failed reads =
     ap (λ d. record { rules = rules; given = d; limit = keep.limit new }) reads.same_dictionary ∙ ap (λ (l : ℕ). record { rules = rules; given = keep.dictionary old; limit = l }) reads.same_limit
 
@@ -141,12 +141,12 @@ listing_denied keep rules caller project day old m works deny =
     (denied_reply (decided register caller project verbs.List) m (IsListingAnswer register (keep.deposits old) caller project day) deny) refl
 
 pub listing_unread : {K : Type 0} (keep : Ghosts K) (rules : List Rule) (caller : Caller) (project : List ℕ) (day : ℤ) (old new : K) (k : ℕ) (e : KeepError)
-    → decided (register_at keep rules old) caller project verbs.List ≡ Permit k → Reads keep old new (is_store e) → e ≢ errors.Full → Serves keep rules (listing caller project day) old new (answer_of e)
+    → decided (register_at keep rules old) caller project verbs.List ≡ Permit k → OnlyReads keep old new (is_store e) → e ≢ errors.Full → Serves keep rules (listing caller project day) old new (answer_of e)
 listing_unread keep rules caller project day old new k e permit reads named =
     refused_serves keep rules (listing caller project day) old new e reads named (listing_asks (register_at keep rules old) (keep.deposits old) caller project day k permit)
 
 pub listing_replies : {K : Type 0} (keep : Ghosts K) (rules : List Rule) (caller : Caller) (project : List ℕ) (day : ℤ) (old new : K) (k : ℕ) (lines : List Listed)
-    → decided (register_at keep rules old) caller project verbs.List ≡ Permit k → Reads keep old new false
+    → decided (register_at keep rules old) caller project verbs.List ≡ Permit k → OnlyReads keep old new false
     → (keep.is_sound new → ∥ IsListing (register_at keep rules old) caller project day 1 (keep.deposits old) lines ∥₁)
     → Serves keep rules (listing caller project day) old new (Listing lines)
 listing_replies keep rules caller project day old new k lines permit reads is =

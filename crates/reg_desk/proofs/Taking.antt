@@ -1,6 +1,6 @@
 -- A deposit: taken once, with a receipt.
-use Rattle.std.proofs.Common.{◌≡◌, ◌≢◌, ℕ, ◌+◌, ◌<◌, ◌≤◌, Bool, true, false, cond, Option, Some, None, List, [], ◌∷◌, ◌++◌, refl, sym, ap, subst, ◌∙◌, inl, inr, ◌⊎◌, arith, length-append}
-use Rattle.std.specs.Prelude.{ℤ, nat_lt, length}
+use Rattle.std.proofs.Common.{◌≡◌, ◌≢◌, ℕ, ◌+◌, ◌<◌, ◌≤◌, Bool, true, false, cond, Option, Some, None, Ok, Err, List, [], ◌∷◌, ◌++◌, refl, sym, ap, subst, ◌∙◌, inl, inr, ◌⊎◌, arith, length-append}
+use Rattle.std.specs.Prelude.{ℤ, nat_lt, length, Result}
 use Rattle.std.proofs.lemmas.Bool.{true≢false, cases_Bool, ltb-true, lt-ltb}
 use Rattle.ags_rows.specs.declared.TheConstants.{LIMIT}
 use Rattle.ags_check.specs.Findings.{Findings as AreFindings}
@@ -9,7 +9,7 @@ use Rattle.reg_policy.specs.declared.callers.Caller.{Caller}
 use Rattle.reg_policy.specs.declared.subject.Decision.TheVariants.{Permit, Deny}
 use Rattle.reg_policy.specs.declared.subject.Verb.TheVariants as verbs
 use Rattle.reg_store.specs.Deposit.{Deposit, number_of}
-use Rattle.reg_store.specs.Keep.{is_store}
+use Rattle.reg_store.specs.Keep.{is_store, fails, Adds}
 use Rattle.reg_store.specs.declared.keep.Keep.{Ghosts}
 use Rattle.reg_store.specs.declared.keep.KeepError.{KeepError}
 use Rattle.reg_store.specs.declared.keep.KeepError.TheVariants as errors
@@ -17,7 +17,7 @@ use Rattle.reg_desk.specs.Asked.{Asked, deposit}
 use Rattle.reg_desk.specs.declared.answer.Answer.{Answer}
 use Rattle.reg_desk.specs.declared.answer.Answer.TheVariants.{Receipt, Clean, Findings, Listing, Text, Denied, Unknown, TooLarge, Full, NoMemory, StoreFailed}
 use Rattle.reg_desk.specs.Machine.{Register, decided, OrDenied, OrRefused, first_equal, receipt_of, IsReply, IsTaken, IsNext}
-use Rattle.reg_desk.specs.Serving.{IsQuiet, IsFree, AsksStore, IsRefusal, AddsAsked, register_at, Reads, Serves, answer_of}
+use Rattle.reg_desk.specs.Serving.{IsQuiet, IsFree, AsksStore, IsRefusal, AddsAsked, register_at, OnlyReads, Serves, answer_of}
 use Rattle.reg_desk.proofs.Replies.{reply_same, finds_itself}
 use Rattle.reg_desk.proofs.Firsts.{first_none}
 use Rattle.reg_desk.proofs.Bodies.{refused_none, refusal_serves}
@@ -118,13 +118,13 @@ deposit_refused keep rules caller project embargo bytes day old answer k works p
     (λ r h is. untaken register state caller project embargo bytes day r (refusal_other register bytes (length state + 1) embargo r h) is)
 
 pub deposit_unread : {K : Type 0} (keep : Ghosts K) (rules : List Rule) (caller : Caller) (project : List ℕ) (embargo : ℤ) (bytes : List ℕ) (day : ℤ) (old new : K) (e : KeepError)
-    → IsFine (register_at keep rules old) caller project bytes → Reads keep old new (is_store e) → e ≢ errors.Full → Serves keep rules (deposit caller project embargo bytes day) old new (answer_of e)
+    → IsFine (register_at keep rules old) caller project bytes → OnlyReads keep old new (is_store e) → e ≢ errors.Full → Serves keep rules (deposit caller project embargo bytes day) old new (answer_of e)
 deposit_unread keep rules caller project embargo bytes day old new e fine reads named =
     refused_serves keep rules (deposit caller project embargo bytes day) old new e reads named (fine_asks (register_at keep rules old) (keep.deposits old) caller project embargo bytes day fine)
 
 -- an equal deposit is held
 pub deposit_repeats : {K : Type 0} (keep : Ghosts K) (rules : List Rule) (caller : Caller) (project : List ℕ) (embargo : ℤ) (bytes : List ℕ) (day : ℤ) (old new : K) (n : ℕ) (e : ℤ)
-    → IsFine (register_at keep rules old) caller project bytes → Reads keep old new false → (keep.is_sound new → first_equal 1 caller.firm project bytes (keep.deposits old) ≡ Some (n, e))
+    → IsFine (register_at keep rules old) caller project bytes → OnlyReads keep old new false → (keep.is_sound new → first_equal 1 caller.firm project bytes (keep.deposits old) ≡ Some (n, e))
     → Serves keep rules (deposit caller project embargo bytes day) old new (Receipt n e)
 deposit_repeats keep rules caller project embargo bytes day old new n e fine reads first =
     let register = register_at keep rules old in
@@ -140,13 +140,9 @@ deposit_repeats keep rules caller project embargo bytes day old new n e fine rea
 
 -- ---- a deposit that no equal one is held of
 
--- what an appending call leaves of a keep, whatever it answers
-pub record Appends {K : Type 0} (keep : Ghosts K) (old new : K) (d : Deposit) (failed : Bool) : Type 0 where
-  pub sound : keep.is_sound new → keep.is_sound old
-  pub same_dictionary : keep.dictionary new ≡ keep.dictionary old
-  pub same_limit : keep.limit new ≡ keep.limit old
-  pub failing : keep.has_failed new ≡ failed
-  pub crash : keep.is_sound new → (list : List Deposit) → keep.may_leave new list → keep.may_leave old list ⊎ (list ≡ keep.deposits old ++ d ∷ [])
+-- the call that appends, after calls that read
+abbrev pub Appends : {K : Type 0} → Ghosts K → Deposit → K → K → Result ℕ KeepError → Type 0
+Appends keep d old new result = Adds keep.deposits keep.dictionary keep.limit keep.has_failed keep.may_leave keep.is_sound d old new result
 
 abbrev pub asked_deposit : Caller → List ℕ → ℤ → List ℕ → Deposit
 asked_deposit caller project embargo bytes = record { firm = caller.firm; project = project; embargo = embargo; bytes = bytes }
@@ -155,10 +151,10 @@ adds_asked : (caller : Caller) (project : List ℕ) (embargo : ℤ) (bytes : Lis
 unfolding AddsAsked
 adds_asked caller project embargo bytes day state list is = is
 
-may_have_left : {K : Type 0} (keep : Ghosts K) (caller : Caller) (project : List ℕ) (embargo : ℤ) (bytes : List ℕ) (day : ℤ) (old mid new : K) (failed : Bool)
-    → Reads keep old mid false → Appends keep mid new (asked_deposit caller project embargo bytes) failed → keep.is_sound new → (list : List Deposit) → keep.may_leave new list
+may_have_left : {K : Type 0} (keep : Ghosts K) (caller : Caller) (project : List ℕ) (embargo : ℤ) (bytes : List ℕ) (day : ℤ) (old mid new : K) (result : Result ℕ KeepError)
+    → OnlyReads keep old mid false → Appends keep (asked_deposit caller project embargo bytes) mid new result → keep.is_sound new → (list : List Deposit) → keep.may_leave new list
     → keep.may_leave old list ⊎ AddsAsked (deposit caller project embargo bytes day) (keep.deposits old) list
-may_have_left keep caller project embargo bytes day old mid new failed reads appends s list may =
+may_have_left keep caller project embargo bytes day old mid new result reads appends s list may =
     elim (appends.crash s list may) [
       | inl was ↦ inl (reads.crash (appends.sound s) list was)
       | inr is ↦ inr (adds_asked caller project embargo bytes day (keep.deposits old) list (is ∙ ap (λ (l : List Deposit). l ++ asked_deposit caller project embargo bytes ∷ []) (reads.same (appends.sound s) refl)))
@@ -168,18 +164,18 @@ no_failure : (t failed : Bool) → t ≡ failed → failed ≡ false → t ≡ t
 no_failure t failed is lives e = sym lives ∙ sym is ∙ e
 
 pub deposit_added : {K : Type 0} (keep : Ghosts K) (rules : List Rule) (caller : Caller) (project : List ℕ) (embargo : ℤ) (bytes : List ℕ) (day : ℤ) (old mid new : K) (n : ℕ)
-    → IsFine (register_at keep rules old) caller project bytes → Reads keep old mid false → (keep.is_sound mid → None ≡ number_of caller.firm project bytes (keep.deposits old))
-    → Appends keep mid new (asked_deposit caller project embargo bytes) false → (keep.is_sound new → keep.deposits new ≡ keep.deposits mid ++ asked_deposit caller project embargo bytes ∷ [])
+    → IsFine (register_at keep rules old) caller project bytes → OnlyReads keep old mid false → (keep.is_sound mid → None ≡ number_of caller.firm project bytes (keep.deposits old))
+    → Appends keep (asked_deposit caller project embargo bytes) mid new (Ok n)
     → (keep.is_sound new → n ≡ length (keep.deposits new)) → (keep.is_sound new → length (keep.deposits mid) < keep.limit mid)
     → Serves keep rules (deposit caller project embargo bytes day) old new (Receipt n embargo)
-deposit_added keep rules caller project embargo bytes day old mid new n fine reads unheld appends added number room =
+deposit_added keep rules caller project embargo bytes day old mid new n fine reads unheld appends number room =
     let register = register_at keep rules old in
     let state = keep.deposits old in
     let request = deposit caller project embargo bytes day in
     let d = asked_deposit caller project embargo bytes in
     let asks = fine_asks register state caller project embargo bytes day fine in
     let none : keep.is_sound new → first_equal 1 caller.firm project bytes state ≡ None = λ s. first_none caller.firm project bytes 1 state (sym (unheld (appends.sound s))) in
-    let new_list : keep.is_sound new → keep.deposits new ≡ state ++ d ∷ [] = λ s. added s ∙ ap (λ (l : List Deposit). l ++ d ∷ []) (reads.same (appends.sound s) refl) in
+    let new_list : keep.is_sound new → keep.deposits new ≡ state ++ d ∷ [] = λ s. appends.added s ∙ ap (λ (l : List Deposit). l ++ d ∷ []) (reads.same (appends.sound s) refl) in
     let has_room : keep.is_sound new → length state < register.limit = λ s. omega (arith, room s, ap length (reads.same (appends.sound s) refl), reads.same_limit) in
     let count : keep.is_sound new → n ≡ length state + 1 = λ s. omega (arith, number s, ap length (new_list s), length-append state (d ∷ [])) in
     record {
@@ -197,16 +193,16 @@ deposit_added keep rules caller project embargo bytes day old mid new n fine rea
         (inl (record { number = fine.number; permitted = fine.permitted; small = fine.small; clean = fine.clean; unheld = none s; room = has_room s }, new_list s));
       denied = λ m. owed_never register state request (Denied m) (Receipt n embargo) (λ h. asks (Denied m) h tt);
       too_large = owed_never register state request TooLarge (Receipt n embargo) (λ h. asks TooLarge h tt);
-      crash = may_have_left keep caller project embargo bytes day old mid new false reads appends;
+      crash = may_have_left keep caller project embargo bytes day old mid new (Ok n) reads appends;
     }
 
 -- the keep refuses to append
 pub deposit_unadded : {K : Type 0} (keep : Ghosts K) (rules : List Rule) (caller : Caller) (project : List ℕ) (embargo : ℤ) (bytes : List ℕ) (day : ℤ) (old mid new : K) (e : KeepError)
-    → IsFine (register_at keep rules old) caller project bytes → Reads keep old mid false → (keep.is_sound mid → None ≡ number_of caller.firm project bytes (keep.deposits old))
-    → Appends keep mid new (asked_deposit caller project embargo bytes) (is_store e) → (keep.is_sound new → is_store e ≡ false → keep.deposits new ≡ keep.deposits mid)
+    → IsFine (register_at keep rules old) caller project bytes → OnlyReads keep old mid false → (keep.is_sound mid → None ≡ number_of caller.firm project bytes (keep.deposits old))
+    → Appends keep (asked_deposit caller project embargo bytes) mid new (Err e)
     → (keep.is_sound new → e ≡ errors.Full → length (keep.deposits mid) ≡ keep.limit mid)
     → Serves keep rules (deposit caller project embargo bytes day) old new (answer_of e)
-deposit_unadded keep rules caller project embargo bytes day old mid new errors.Full fine reads unheld appends refused full =
+deposit_unadded keep rules caller project embargo bytes day old mid new errors.Full fine reads unheld appends full =
     let register = register_at keep rules old in
     let state = keep.deposits old in
     let request = deposit caller project embargo bytes day in
@@ -224,12 +220,12 @@ deposit_unadded keep rules caller project embargo bytes day old mid new errors.F
           (fine_reply register state caller project embargo bytes day Full fine (receipt_full register embargo (length state) (first_equal 1 caller.firm project bytes state) (none s) (no_room s))) ∣₁;
       kept = λ s.
         told_after register state (keep.deposits new) request Full refl
-        (inr ((λ taken. omega (arith, taken.room, no_room s)), refused s refl ∙ reads.same (appends.sound s) refl));
+        (inr ((λ taken. omega (arith, taken.room, no_room s)), appends.refused s refl ∙ reads.same (appends.sound s) refl));
       denied = λ m. owed_never register state request (Denied m) Full (λ h. asks (Denied m) h tt);
       too_large = owed_never register state request TooLarge Full (λ h. asks TooLarge h tt);
-      crash = may_have_left keep caller project embargo bytes day old mid new false reads appends;
+      crash = may_have_left keep caller project embargo bytes day old mid new (Err errors.Full) reads appends;
     }
-deposit_unadded keep rules caller project embargo bytes day old mid new errors.NoMemory fine reads unheld appends refused full =
+deposit_unadded keep rules caller project embargo bytes day old mid new errors.NoMemory fine reads unheld appends full =
     let register = register_at keep rules old in
     let state = keep.deposits old in
     let request = deposit caller project embargo bytes day in
@@ -241,12 +237,12 @@ deposit_unadded keep rules caller project embargo bytes day old mid new errors.N
       failure = no_failure (keep.has_failed new) false appends.failing refl;
       cause = λ s. sym appends.failing;
       answered = λ s. ∣ memory_answer register state request (asks_needs register state request asks) ∣₁;
-      kept = λ s. memory_after register state (keep.deposits new) request (refused s refl ∙ reads.same (appends.sound s) refl);
+      kept = λ s. memory_after register state (keep.deposits new) request (appends.refused s refl ∙ reads.same (appends.sound s) refl);
       denied = λ m. owed_never register state request (Denied m) NoMemory (λ h. asks (Denied m) h tt);
       too_large = owed_never register state request TooLarge NoMemory (λ h. asks TooLarge h tt);
-      crash = may_have_left keep caller project embargo bytes day old mid new false reads appends;
+      crash = may_have_left keep caller project embargo bytes day old mid new (Err errors.NoMemory) reads appends;
     }
-deposit_unadded keep rules caller project embargo bytes day old mid new errors.Store fine reads unheld appends refused full =
+deposit_unadded keep rules caller project embargo bytes day old mid new errors.Store fine reads unheld appends full =
     let register = register_at keep rules old in
     let state = keep.deposits old in
     let request = deposit caller project embargo bytes day in
@@ -261,5 +257,5 @@ deposit_unadded keep rules caller project embargo bytes day old mid new errors.S
       kept = λ s. failed_after register state (keep.deposits new) request;
       denied = λ m. owed_never register state request (Denied m) StoreFailed (λ h. asks (Denied m) h tt);
       too_large = owed_never register state request TooLarge StoreFailed (λ h. asks TooLarge h tt);
-      crash = may_have_left keep caller project embargo bytes day old mid new true reads appends;
+      crash = may_have_left keep caller project embargo bytes day old mid new (Err errors.Store) reads appends;
     }

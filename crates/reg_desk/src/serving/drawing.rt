@@ -8,8 +8,8 @@ ghost use Rattle.reg_store.specs.Keep.{fails};
 ghost use Rattle.reg_desk.specs.Asked.{extract as asks_extract, names_in};
 ghost use Rattle.ags_check.specs.Findings.{file_of};
 ghost use Rattle.reg_desk.specs.Machine.{IsDrawnFrom, held};
-ghost use Rattle.reg_desk.specs.View.{IsViewOf, IsExtractOf};
-ghost use Rattle.reg_desk.specs.Serving.{Reads, Serves, look_on, register_at, text_answer};
+ghost use Rattle.reg_desk.specs.View.{IsViewOf, IsExtractOf, look_of};
+ghost use Rattle.reg_desk.specs.Serving.{OnlyReads, Serves, look_on, register_at, text_answer};
 
 use ags_links::Graph;
 use ags_rows::Sequence;
@@ -47,7 +47,7 @@ pub(super) fn read_view<K: Keep>(
 ) -> Result<(Vec<KeptRow>, Graph), KeepError>
     requires working { K.has_failed keep.old ≡ false }
     requires number { K.is_sound keep.old → (0 < number) × (number ≤ length (K.deposits keep.old)) }
-    ensures reads { Reads K.Keep keep.old keep.new (fails result) }
+    ensures reads { OnlyReads K.Keep keep.old keep.new (fails result) }
     ensures seen { K.is_sound keep.new → IfOk result (λ seen. (d : Deposit) (file : CheckedFile) → slice_get (K.deposits keep.old) (number - 1) ≡ Some d → IsFileOf (K.dictionary keep.old) d file → IsViewOf seen.0.items seen.1 file) }
     ensures named { result ≢ Err KeepError.Full }
 {
@@ -68,7 +68,7 @@ fn draw<K: Keep>(
     day: Day,
 ) -> Result<Option<Vec<u8>>, KeepError>
     requires { K.has_failed keep.old ≡ false }
-    ensures reads { Reads K.Keep keep.old keep.new (fails result) }
+    ensures reads { OnlyReads K.Keep keep.old keep.new (fails result) }
     ensures drawn { K.is_sound keep.new → IfOk result (λ text. ∥ IsDrawnFrom (register_at K.Keep policy.now keep.old) caller.now project.now (names_in groups.now) day (held number (K.deposits keep.old)) (text_answer (option_map (λ t. t.items) text)) ∥₁) }
     ensures named { result ≢ Err KeepError.Full }
 {

@@ -5,7 +5,7 @@ ghost use Rattle.reg_store.specs.Keep.{fails};
 ghost use Rattle.reg_store.specs.Deposit.{Deposit};
 ghost use Rattle.reg_desk.specs.Asked.{listing as asks_listing};
 ghost use Rattle.reg_desk.specs.Machine.{IsListing, held};
-ghost use Rattle.reg_desk.specs.Serving.{IsListed, Reads, Serves, register_at};
+ghost use Rattle.reg_desk.specs.Serving.{IsListed, OnlyReads, Serves, register_at};
 
 use ags_rows::Sequence;
 use reg_policy::{Caller, Day, Decision, Name, Policy, Verb};
@@ -28,7 +28,7 @@ fn listed<K: Keep>(
 ) -> Result<Option<Listed>, KeepError>
     requires working { K.has_failed keep.old ≡ false }
     requires number { K.is_sound keep.old → (0 < number) × (number ≤ length (K.deposits keep.old)) }
-    ensures reads { Reads K.Keep keep.old keep.new (fails result) }
+    ensures reads { OnlyReads K.Keep keep.old keep.new (fails result) }
     ensures seen { K.is_sound keep.new → IfOk result (λ line. (d : Deposit) → held number (K.deposits keep.old) ≡ Some d → ∥ IsListed (register_at K.Keep policy.now keep.old) caller.now day number d line ∥₁) }
     ensures named { result ≢ Err KeepError.Full }
 {
@@ -55,7 +55,7 @@ fn lines_of<K: Keep>(
     day: Day,
 ) -> Result<Vec<Listed>, KeepError>
     requires { K.has_failed keep.old ≡ false }
-    ensures reads { Reads K.Keep keep.old keep.new (fails result) }
+    ensures reads { OnlyReads K.Keep keep.old keep.new (fails result) }
     ensures listed { K.is_sound keep.new → IfOk result (λ lines. ∥ IsListing (register_at K.Keep policy.now keep.old) caller.now project.now day 1 (K.deposits keep.old) lines.items ∥₁) }
     ensures named { result ≢ Err KeepError.Full }
 {
