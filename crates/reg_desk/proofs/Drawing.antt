@@ -26,12 +26,11 @@ use Rattle.reg_desk.specs.declared.answer.Listed.{Listed}
 use Rattle.reg_desk.specs.declared.answer.Answer.{Answer}
 use Rattle.reg_desk.specs.declared.answer.Answer.TheVariants.{Text, Denied, Unknown}
 use Rattle.reg_desk.specs.Shown.{Look, IsProjectShown}
-use Rattle.reg_desk.specs.CleanFile.{IsCleanFile}
+use Rattle.ags_check.specs.Findings.{IsCleanFile}
 use Rattle.reg_desk.specs.Machine.{Register, decided, look_at, IsSeen, IsTextOf, Where, IsDrawnFrom, held}
-use Rattle.reg_desk.specs.Clean.{file_of}
+use Rattle.ags_check.specs.Findings.{file_of}
 use Rattle.reg_desk.specs.View.{IsViewOf, IsExtractOf}
 use Rattle.reg_desk.specs.Serving.{IsQuiet, AsksStore, IsListed, text_answer, register_at, OnlyReads, Serves, look_on, answer_of}
-use Rattle.reg_desk.proofs.Graphs.{checked_clean}
 use Rattle.reg_desk.proofs.Replies.{one_file}
 use Rattle.reg_desk.proofs.Bodies.{where_true, where_false}
 use Rattle.reg_desk.proofs.Serves.{is_told, replies_at_once, refused_serves, replies_serves, permitted_reply, denied_reply, permit_stands}
@@ -69,7 +68,7 @@ look_same register caller day d head is =
 
 clean_of : (given : Entries) (d : Deposit) (file : CheckedFile) → IsFileOf given d file → IsCleanFile given d.bytes (file_of file)
 clean_of given d file is =
-    subst (λ (b : List ℕ). IsCleanFile given b (file_of file)) is.bytes (subst (λ (g : Entries). IsCleanFile g file.bytes (file_of file)) is.given (checked_clean file is.clean))
+    subst (λ (b : List ℕ). IsCleanFile given b (file_of file)) is.bytes (subst (λ (g : Entries). IsCleanFile g file.bytes (file_of file)) is.given is.clean.file)
 
 -- the rows and steps are those of each file that the deposit can be
 abbrev pub IsViewAt : Entries → Deposit → List KeptRow → Wiring → Type 0

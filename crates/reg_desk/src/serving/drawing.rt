@@ -6,7 +6,7 @@ ghost use Rattle.reg_store.specs.Deposit.{Deposit};
 ghost use Rattle.reg_store.specs.Fit.{IsFileOf};
 ghost use Rattle.reg_store.specs.Keep.{fails};
 ghost use Rattle.reg_desk.specs.Asked.{extract as asks_extract, names_in};
-ghost use Rattle.reg_desk.specs.Clean.{file_of};
+ghost use Rattle.ags_check.specs.Findings.{file_of};
 ghost use Rattle.reg_desk.specs.Machine.{IsDrawnFrom, held};
 ghost use Rattle.reg_desk.specs.View.{IsViewOf, IsExtractOf, look_of};
 ghost use Rattle.reg_desk.specs.Serving.{OnlyReads, Serves, look_on, register_at, text_answer};
