@@ -6,7 +6,7 @@ use Rattle.std.proofs.lemmas.Bool.{true≢false, cases_lt}
 use Rattle.std.proofs.lemmas.Slice.Eq.{bytes_eq-Decides}
 use Rattle.std.proofs.lemmas.List.Elements.{Contains-push, Contains-push_cases, Contains-append_left}
 use Rattle.ags_dict.specs.Entries.{Entries, keys_of, parent_of}
-use Rattle.ags_links.specs.DataRows.{DataRow, IsRow, Between, ListsRows, entry_of}
+use Rattle.ags_links.specs.DataRows.{DataRow, IsDataRow, Between, ListsRows, entry_of}
 use Rattle.ags_links.specs.Keys.{key_of, HasKeyOf, IsFirstOfKey}
 use Rattle.ags_links.specs.Parents.{IsParentRow}
 use Rattle.ags_links.proofs.Answering.{made_same, same_made}
@@ -122,7 +122,7 @@ key_by_test entries r s keys t same listed test =
 -- ---- the rows before the next
 
 -- what holds of the two rows holds of their numbers
-pub between_is : (rows : List DataRow) (Related : DataRow → DataRow → Type 0) (n m : ℕ) (r s : DataRow) → IsRow rows n r → IsRow rows m s → Between rows Related n m → Related r s
+pub between_is : (rows : List DataRow) (Related : DataRow → DataRow → Type 0) (n m : ℕ) (r s : DataRow) → IsDataRow rows n r → IsDataRow rows m s → Between rows Related n m → Related r s
 between_is rows Related n m r s row other h =
     subst (λ x. Related x s) (one_at rows n h.0 r h.2 row) (subst (λ y. Related h.0 y) (one_at rows m h.1 s h.3 other) h.4)
 
@@ -176,5 +176,5 @@ none_yet rows entries n i none here k lt h = elim (cases_lt k i) [
 ]
 
 -- a row has its own key
-pub own_key : (rows : List DataRow) (entries : Entries) (n : ℕ) (r : DataRow) → IsRow rows n r → Between rows (HasKeyOf entries) n n
+pub own_key : (rows : List DataRow) (entries : Entries) (n : ℕ) (r : DataRow) → IsDataRow rows n r → Between rows (HasKeyOf entries) n n
 own_key rows entries n r row = (r, r, row, row, (refl, refl))

@@ -7,6 +7,7 @@ mod families;
 mod file_tests;
 mod graph;
 mod index;
+pub mod laws;
 mod lookup;
 mod parents;
 mod placed;

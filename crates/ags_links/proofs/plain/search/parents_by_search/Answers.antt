@@ -1,6 +1,6 @@
 use Rattle.std.proofs.Common.{◌≡◌, map, sym, ◌∙◌}
 use Rattle.std.proofs.lemmas.Bool.{true≢false}
-use Rattle.ags_links.specs.DataRows.{IsRow, Between}
+use Rattle.ags_links.specs.DataRows.{IsDataRow, Between}
 use Rattle.ags_links.specs.Parents.{IsParentRow}
 use Rattle.ags_links.specs.Placing.{row_of}
 use Rattle.std.proofs.lemmas.List.{length-map}
@@ -18,8 +18,8 @@ loop-number-preserved c =
     let i = c.loop-number.number in
     let row = row_of c.index-rows-row.result in
     let other = row_of c.index-rows-number.result in
-    let at_row : IsRow rows n row = at_map row_of c.args.rows.now n c.index-rows-row.result (c.requires.row, sym c.index-rows-row.is) in
-    let at_other : IsRow rows i other = at_map row_of c.args.rows.now i c.index-rows-number.result (c.loop-number-test.true, sym c.index-rows-number.is) in
+    let at_row : IsDataRow rows n row = at_map row_of c.args.rows.now n c.index-rows-row.result (c.requires.row, sym c.index-rows-row.is) in
+    let at_other : IsDataRow rows i other = at_map row_of c.args.rows.now i c.index-rows-number.result (c.loop-number-test.true, sym c.index-rows-number.is) in
     let found = c.loop-number.found.items in
     elim c.if-branch.branch [
       | then-branch+in_ok-push w ↦
