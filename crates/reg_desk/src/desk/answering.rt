@@ -26,7 +26,7 @@ impl<K: Keep> Desk<K> {
             return Answer::StoreFailed;
         }
         let answer = serve(alloc, &mut self.keep, &self.policy, request);
-        self.failed = matches!(answer, Answer::StoreFailed);
+        self.failed = is_store_failed(&answer);
         answer
     }
 
@@ -53,4 +53,11 @@ impl<K: Keep> Desk<K> {
         }
         Ok(answers)
     }
+}
+
+/// Whether the answer is that the store failed.
+fn is_store_failed(answer: &Answer) -> bool
+    ensures { result ≡ is_failed answer.now }
+{
+    matches!(answer, Answer::StoreFailed)
 }

@@ -8,7 +8,7 @@ use Rattle.reg_desk.specs.Serving.{IsListed, OnlyReads, register_at}
 use Rattle.reg_desk.proofs.Serves.{reads_once, reads_more, still_works}
 use Rattle.reg_desk.proofs.Listings.{SoFar, put_line, lines_begin, number_within, number_step, lines_whole, register_same}
 use Rattle.reg_desk.proofs.serving.listing.lines_of.Goals as goal
-use Rattle.reg_desk.proofs.serving.listing.lines_of.Goals.{in-Some+in_ok-push, in-None}
+use Rattle.reg_desk.proofs.serving.listing.lines_of.Goals.{in-Some+in_ok-push-in-Some, in-None}
 
 pub loop-number-init : goal.loop-number-init
 loop-number-init g c =
@@ -39,12 +39,6 @@ returns-in_err-line-clause-reads g c =
     subst (OnlyReads g.K.Keep c.args.keep.now c.listed.new.keep) (sym (ap fails p.1 ∙ ap is_store p.2))
     (reads_more g.K.Keep c.args.keep.now c.loop-number.keep c.listed.new.keep (is_store c.in_err-line.field-0.0) c.loop-number.invariant.reads c.in_err-line.ensures.reads)
 
-pub returns-in_err-push-clause-reads : goal.returns-in_err-push-clause-reads
-returns-in_err-push-clause-reads g c =
-    let p = err_from_is_err_and c.from_residual-in_err-push.result c.from_residual-in_err-push.ensures.1 in
-    subst (OnlyReads g.K.Keep c.args.keep.now c.listed.new.keep) (sym (ap fails p.1 ∙ ap is_store p.2))
-    (reads_more g.K.Keep c.args.keep.now c.loop-number.keep c.listed.new.keep false c.loop-number.invariant.reads c.in_ok-line.ensures.reads)
-
 pub loop-number-preserved : goal.loop-number-preserved
 loop-number-preserved g c =
     let items = c.deref-number-items.result.now in
@@ -63,7 +57,7 @@ loop-number-preserved g c =
             (c.in_ok-line.ensures.seen s d (ap (held n) (was.reads.same s1 refl) ∙ holds)) in
         let same : put_line c.loop-number.lines.items c.in_ok-line.field-0 ≡ c.match-branch-3.lines.items =
             elim c.match-branch-3.branch [
-              | in-Some+in_ok-push w ↦ ap (put_line c.loop-number.lines.items) w.in-Some.is ∙ sym (ap (λ (v : Vec Listed Global). v.items) w.lines-is ∙ w.in_ok-push.ensures.items)
+              | in-Some+in_ok-push-in-Some w ↦ ap (put_line c.loop-number.lines.items) w.in-Some.is ∙ sym (ap (λ (v : Vec Listed Global). v.items) w.lines-is ∙ w.in_ok-push-in-Some.ensures.items)
               | in-None w ↦ ap (put_line c.loop-number.lines.items) w.in-None.is ∙ sym (ap (λ (v : Vec Listed Global). v.items) w.lines-is)
             ] in
         subst (λ (l : List Listed). ∥ SoFar register c.args.caller.now c.args.day (λ k. held k state) items (drop (i + 1) items) l ∥₁) same
