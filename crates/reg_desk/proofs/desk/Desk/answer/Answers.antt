@@ -7,7 +7,7 @@ use Rattle.reg_desk.proofs.desk.Desk.answer.Goals as goal
 pub returns-clause-answered : goal.returns-clause-answered
 returns-clause-answered g c = record {
   policy = refl;
-  failed = c.is_store_failed.ensures;
+  failed = c.is_store_failed-self.ensures;
   stuck = λ e. absurd (true≢false (sym e ∙ c.if-self.false));
   served = λ e. c.serve-answer.ensures;
 }
