@@ -75,12 +75,12 @@ abbrev pub IsViewAt : Entries → Deposit → List KeptRow → Wiring → Type 0
 IsViewAt given d rows graph = (file : CheckedFile) → IsFileOf given d file → IsViewOf rows graph file
 
 -- so a reading that finds no such file does not fail
-pub not_broken : {X : Type 0} (given : Entries) (d : Deposit) (rows : List KeptRow) (graph : Wiring) (r : Result X KeepError) → IsFit given d → IsViewAt given d rows graph
+pub reading_lives : {X : Type 0} (given : Entries) (d : Deposit) (rows : List KeptRow) (graph : Wiring) (r : Result X KeepError) → IsFit given d → IsViewAt given d rows graph
     → (r ≡ Err errors.Store → (file : CheckedFile) → IsViewOf rows graph file → ⊥) → fails r ≡ false
-not_broken given d rows graph (Ok x) fit view broken = refl
-not_broken given d rows graph (Err errors.Full) fit view broken = refl
-not_broken given d rows graph (Err errors.NoMemory) fit view broken = refl
-not_broken given d rows graph (Err errors.Store) fit view broken =
+reading_lives given d rows graph (Ok x) fit view broken = refl
+reading_lives given d rows graph (Err errors.Full) fit view broken = refl
+reading_lives given d rows graph (Err errors.NoMemory) fit view broken = refl
+reading_lives given d rows graph (Err errors.Store) fit view broken =
     absurd (∥∥₁_elim fit (Prim.hlevel props) (λ (f : (file : CheckedFile) × IsFileOf given d file). broken refl f.0 (view f.0 f.1)))
 
 -- calls that read a keep, and then something that was answered by what was read
@@ -95,6 +95,36 @@ reads_answered keep old new failed reads lives = record {
   crash = reads.crash;
 }
 
+-- what a keep tells of the deposit of a number
+pub record IsViewed (given : Entries) (state : List Deposit) (number : ℕ) (head : KeptHead) (rows : List KeptRow) (graph : Wiring) : Type 0 where
+  pub kept : Deposit
+  pub holds : held number state ≡ Some kept
+  pub of_head : IsHeadOf kept head
+  pub fit : IsFit given kept
+  pub view : IsViewAt given kept rows graph
+
+-- by its head, and by its rows and steps after that
+pub viewed : {K : Type 0} (keep : Ghosts K) (old mid new : K) (number : ℕ) (head : KeptHead) (rows shown : List KeptRow) (graph : Wiring) → shown ≡ rows
+    → (keep.is_sound old → (0 < number) × (number ≤ length (keep.deposits old))) → (keep.is_sound old → All (IsFit (keep.dictionary old)) (keep.deposits old))
+    → OnlyReads keep old mid false → OnlyReads keep mid new false
+    → (keep.is_sound mid → (d : Deposit) → slice_get (keep.deposits old) (number - 1) ≡ Some d → IsHeadOf d head)
+    → (keep.is_sound new → (d : Deposit) (file : CheckedFile) → slice_get (keep.deposits mid) (number - 1) ≡ Some d → IsFileOf (keep.dictionary mid) d file → IsViewOf rows graph file)
+    → keep.is_sound new → IsViewed (keep.dictionary old) (keep.deposits old) number head shown graph
+viewed keep old mid new number head rows shown graph same within fit first then read seen s =
+    let s1 = then.sound s in
+    let s0 = first.sound s1 in
+    let place = within s0 in
+    let d = held_at (keep.deposits old) number place.0 place.1 in
+    record {
+      kept = d.0;
+      holds = d.2;
+      of_head = read s1 d.0 d.1;
+      fit = fit_at (keep.dictionary old) (keep.deposits old) (number - 1) d.0 (fit s0) d.1;
+      view = λ file is.
+        subst (λ (r : List KeptRow). IsViewOf r graph file) (sym same)
+        (seen s d.0 file (ap (λ (l : List Deposit). slice_get l (number - 1)) (first.same s1 refl) ∙ d.1) (subst (λ (e : Entries). IsFileOf e d.0 file) (sym first.same_dictionary) is));
+    }
+
 -- ---- what is drawn
 
 drawn_of : (register : Register) (caller : Caller) (groups : List (List ℕ)) (day : ℤ) (project : List ℕ) (d : Deposit) (file : CheckedFile) (text : Option (List ℕ)) → IsFileOf register.given d file → bytes_eq d.project project ≡ true
@@ -106,15 +136,15 @@ drawn_of register caller groups day project d file None is same hidden =
     let clean = clean_of register.given d file is in
     where_true (bytes_eq d.project project) _ _ same (inr ((λ seen. hidden (subst (IsProjectShown (look_at register caller day d)) (one_file register.given d.bytes seen.0 (file_of file) seen.1 clean) seen.2)), refl))
 
-pub view_drawn : (register : Register) (state : List Deposit) (caller : Caller) (project : List ℕ) (number : ℕ) (groups : List (List ℕ)) (day : ℤ) (d : Deposit) (head : KeptHead) (rows : List KeptRow) (graph : Wiring) (text : Option (List ℕ))
-    → held number state ≡ Some d → IsHeadOf d head → bytes_eq head.project project ≡ true → IsFit register.given d → IsViewAt register.given d rows graph
+pub view_drawn : (register : Register) (state : List Deposit) (caller : Caller) (project : List ℕ) (number : ℕ) (groups : List (List ℕ)) (day : ℤ) (head : KeptHead) (rows : List KeptRow) (graph : Wiring) (text : Option (List ℕ))
+    → IsViewed register.given state number head rows graph → bytes_eq head.project project ≡ true
     → ((file : CheckedFile) → IsViewOf rows graph file → IsExtractOf (look_on register.rules caller head day) (file_of file) groups text)
     → ∥ IsDrawnFrom register caller project groups day (held number state) (text_answer text) ∥₁
-view_drawn register state caller project number groups day d head rows graph text holds of_head same fit view drawn =
-    ∥∥₁_map fit (λ (f : (file : CheckedFile) × IsFileOf register.given d file).
-    let is = subst (λ (look : Look). IsExtractOf look (file_of f.0) groups text) (look_same register caller day d head of_head) (drawn f.0 (view f.0 f.1)) in
-    subst (λ (o : Option Deposit). IsDrawnFrom register caller project groups day o (text_answer text)) (sym holds)
-    (drawn_of register caller groups day project d f.0 text f.1 (ap (λ (p : List ℕ). bytes_eq p project) (sym of_head.project) ∙ same) is))
+view_drawn register state caller project number groups day head rows graph text v same drawn =
+    ∥∥₁_map v.fit (λ (f : (file : CheckedFile) × IsFileOf register.given v.kept file).
+    let is = subst (λ (look : Look). IsExtractOf look (file_of f.0) groups text) (look_same register caller day v.kept head v.of_head) (drawn f.0 (v.view f.0 f.1)) in
+    subst (λ (o : Option Deposit). IsDrawnFrom register caller project groups day o (text_answer text)) (sym v.holds)
+    (drawn_of register caller groups day project v.kept f.0 text f.1 (ap (λ (p : List ℕ). bytes_eq p project) (sym v.of_head.project) ∙ same) is))
 
 -- no deposit has the number
 pub unheld_drawn : (register : Register) (state : List Deposit) (caller : Caller) (project : List ℕ) (number : ℕ) (groups : List (List ℕ)) (day : ℤ) → (number ≡ 0) ⊎ (length state < number)
@@ -180,20 +210,25 @@ extract_replies keep rules caller project number groups day old new k answer per
 
 -- ---- what is seen
 
-pub view_listed : (register : Register) (caller : Caller) (number : ℕ) (day : ℤ) (d : Deposit) (head : KeptHead) (rows : List KeptRow) (graph : Wiring) → IsHeadOf d head → IsFit register.given d → IsViewAt register.given d rows graph
-    → ((file : CheckedFile) → IsViewOf rows graph file → (true ≡ true) ↔ IsProjectShown (look_on register.rules caller head day) (file_of file))
-    → ∥ IsListed register caller day number d (Some (record { number = number; firm = head.firm; embargo = head.embargo })) ∥₁
-view_listed register caller number day d head rows graph of_head fit view seen =
-    ∥∥₁_map fit (λ (f : (file : CheckedFile) × IsFileOf register.given d file).
-    let shown = (seen f.0 (view f.0 f.1)).0 refl in
-    ((file_of f.0, clean_of register.given d f.0 f.1, subst (λ (look : Look). IsProjectShown look (file_of f.0)) (look_same register caller day d head of_head) shown),
-    ap (λ (firm : List ℕ). record { number = number; firm = firm; embargo = head.embargo }) of_head.firm ∙ ap (λ (e : ℤ). record { number = number; firm = d.firm; embargo = e }) of_head.embargo))
+same_kept : (o : Option Deposit) (d e : Deposit) → o ≡ Some d → o ≡ Some e → d ≡ e
+same_kept o d e a b = cc
 
-pub view_unlisted : (register : Register) (caller : Caller) (number : ℕ) (day : ℤ) (d : Deposit) (head : KeptHead) (rows : List KeptRow) (graph : Wiring) → IsHeadOf d head → IsFit register.given d → IsViewAt register.given d rows graph
-    → ((file : CheckedFile) → IsViewOf rows graph file → (false ≡ true) ↔ IsProjectShown (look_on register.rules caller head day) (file_of file))
-    → ∥ IsListed register caller day number d None ∥₁
-view_unlisted register caller number day d head rows graph of_head fit view seen =
-    ∥∥₁_map fit (λ (f : (file : CheckedFile) × IsFileOf register.given d file) (was : IsSeen register caller day d).
-    let clean = clean_of register.given d f.0 f.1 in
-    let shown = subst (IsProjectShown (look_at register caller day d)) (one_file register.given d.bytes was.0 (file_of f.0) was.1 clean) was.2 in
-    true≢false (sym ((seen f.0 (view f.0 f.1)).1 (subst (λ (look : Look). IsProjectShown look (file_of f.0)) (sym (look_same register caller day d head of_head)) shown))))
+pub view_listed : (register : Register) (state : List Deposit) (caller : Caller) (number : ℕ) (day : ℤ) (head : KeptHead) (rows : List KeptRow) (graph : Wiring) (seen : Bool) → IsViewed register.given state number head rows graph
+    → ((file : CheckedFile) → IsViewOf rows graph file → (seen ≡ true) ↔ IsProjectShown (look_on register.rules caller head day) (file_of file)) → seen ≡ true
+    → (d : Deposit) → held number state ≡ Some d → ∥ IsListed register caller day number d (Some (record { number = number; firm = head.firm; embargo = head.embargo })) ∥₁
+view_listed register state caller number day head rows graph seen v shows is d holds =
+    subst (λ (k : Deposit). ∥ IsListed register caller day number k (Some (record { number = number; firm = head.firm; embargo = head.embargo })) ∥₁) (same_kept (held number state) v.kept d v.holds holds)
+    (∥∥₁_map v.fit (λ (f : (file : CheckedFile) × IsFileOf register.given v.kept file).
+    let shown = (shows f.0 (v.view f.0 f.1)).0 is in
+    ((file_of f.0, clean_of register.given v.kept f.0 f.1, subst (λ (look : Look). IsProjectShown look (file_of f.0)) (look_same register caller day v.kept head v.of_head) shown),
+    ap (λ (firm : List ℕ). record { number = number; firm = firm; embargo = head.embargo }) v.of_head.firm ∙ ap (λ (e : ℤ). record { number = number; firm = v.kept.firm; embargo = e }) v.of_head.embargo)))
+
+pub view_unlisted : (register : Register) (state : List Deposit) (caller : Caller) (number : ℕ) (day : ℤ) (head : KeptHead) (rows : List KeptRow) (graph : Wiring) (seen : Bool) → IsViewed register.given state number head rows graph
+    → ((file : CheckedFile) → IsViewOf rows graph file → (seen ≡ true) ↔ IsProjectShown (look_on register.rules caller head day) (file_of file)) → seen ≡ false
+    → (d : Deposit) → held number state ≡ Some d → ∥ IsListed register caller day number d None ∥₁
+view_unlisted register state caller number day head rows graph seen v shows is d holds =
+    subst (λ (k : Deposit). ∥ IsListed register caller day number k None ∥₁) (same_kept (held number state) v.kept d v.holds holds)
+    (∥∥₁_map v.fit (λ (f : (file : CheckedFile) × IsFileOf register.given v.kept file) (was : IsSeen register caller day v.kept).
+    let clean = clean_of register.given v.kept f.0 f.1 in
+    let shown = subst (IsProjectShown (look_at register caller day v.kept)) (one_file register.given v.kept.bytes was.0 (file_of f.0) was.1 clean) was.2 in
+    true≢false (sym ((shows f.0 (v.view f.0 f.1)).1 (subst (λ (look : Look). IsProjectShown look (file_of f.0)) (sym (look_same register caller day v.kept head v.of_head)) shown)) ∙ is)))

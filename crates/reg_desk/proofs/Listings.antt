@@ -93,16 +93,22 @@ pub listing_of : (register : Register) (caller : Caller) (project : List ℕ) (d
 listing_of register caller project day state lines h = lines_listing register caller project day (λ k. held k state) 1 state (held_stands state) lines h
 
 -- a number of the list is one of its deposits
-pub number_within : (project : List ℕ) (n : ℕ) (state : List Deposit) (i : ℕ) → i < length (numbers_from n project state) → (n ≤ get_or (numbers_from n project state) i 0) × (get_or (numbers_from n project state) i 0 < n + length state)
-number_within project n [] i lt = absurd (omega (arith, lt))
-number_within project n (d ∷ state) i lt = step (bytes_eq d.project project) i lt
-  where
-    step : (t : Bool) (i : ℕ) → i < length (cond t (n ∷ numbers_from (n + 1) project state) (numbers_from (n + 1) project state))
-        → (n ≤ get_or (cond t (n ∷ numbers_from (n + 1) project state) (numbers_from (n + 1) project state)) i 0)
-        × (get_or (cond t (n ∷ numbers_from (n + 1) project state) (numbers_from (n + 1) project state)) i 0 < n + suc (length state))
-    step true zero lt = (omega arith, omega arith)
-    step true (suc i) lt = let h = number_within project (n + 1) state i (omega (arith, lt)) in (omega (arith, h.0), omega (arith, h.1))
-    step false i lt = let h = number_within project (n + 1) state i lt in (omega (arith, h.0), omega (arith, h.1))
+abbrev IsWithin : ℕ → ℕ → List ℕ → Type 0
+IsWithin n count numbers = (i : ℕ) → i < length numbers → (n ≤ get_or numbers i 0) × (get_or numbers i 0 < n + count)
+
+within_step : (t : Bool) (n count : ℕ) (numbers : List ℕ) → IsWithin (n + 1) count numbers → IsWithin n (suc count) (cond t (n ∷ numbers) numbers)
+within_step true n count numbers rest zero lt = (omega arith, omega arith)
+within_step true n count numbers rest (suc i) lt = let h = rest i (omega (arith, lt)) in (omega (arith, h.0), omega (arith, h.1))
+within_step false n count numbers rest i lt = let h = rest i lt in (omega (arith, h.0), omega (arith, h.1))
+
+numbers_within : (project : List ℕ) (n : ℕ) (state : List Deposit) → IsWithin n (length state) (numbers_from n project state)
+numbers_within project n [] = λ i lt. absurd (omega (arith, lt))
+numbers_within project n (d ∷ state) = within_step (bytes_eq d.project project) n (length state) (numbers_from (n + 1) project state) (numbers_within project (n + 1) state)
+
+pub number_within : (project : List ℕ) (state : List Deposit) (numbers : List ℕ) (i : ℕ) → numbers ≡ numbers_from 1 project state → i < length numbers → (0 < get_or numbers i 0) × (get_or numbers i 0 ≤ length state)
+number_within project state numbers i same lt =
+    let h = subst (IsWithin 1 (length state)) (sym same) (numbers_within project 1 state) i lt in
+    (omega (arith, h.0), omega (arith, h.1))
 
 -- ---- the loop
 

@@ -1,12 +1,15 @@
 -- A list of requests, request by request.
-use Rattle.std.proofs.Common.{◌≡◌, ◌≢◌, ℕ, ◌+◌, ◌<◌, Bool, true, false, cond, ◌||◌, Option, Some, None, List, [], ◌∷◌, ◌++◌, map, take, get_or, refl, sym, ap, subst, ◌∙◌, inl, inr, ◌⊎◌}
+use Rattle.std.proofs.Common.{◌≡◌, ◌≢◌, ℕ, zero, suc, ◌+◌, ◌<◌, ◌≤◌, length, arith, Bool, true, false, cond, ◌||◌, Option, Some, None, List, [], ◌∷◌, ◌++◌, map, take, get_or, refl, sym, ap, subst, ◌∙◌, inl, inr, ◌⊎◌}
 use Rattle.std.specs.List.{list_any}
-use Rattle.std.proofs.lemmas.Bool.{true≢false}
+use Rattle.std.proofs.lemmas.Bool.{true≢false, cases_Bool}
+use Rattle.std.proofs.Props.{props}
+use Rattle.ags_dict.specs.Entries.{Entries}
 use Rattle.std.proofs.Math.Logic.{∥∥₁_map, ∥∥₁_elim}
 use Rattle.reg_policy.specs.declared.rule.Rule.{Rule}
 use Rattle.reg_store.specs.Deposit.{Deposit}
 use Rattle.reg_store.specs.declared.keep.Keep.{Ghosts}
-use Rattle.reg_desk.specs.Asked.{Asked}
+use Rattle.reg_desk.specs.Asked.{Asked, asked}
+use Rattle.reg_desk.specs.declared.request.Request.{Request}
 use Rattle.reg_desk.specs.declared.answer.Answer.{Answer}
 use Rattle.reg_desk.specs.declared.answer.Answer.TheVariants.{StoreFailed}
 use Rattle.reg_desk.specs.Machine.{Register, Where}
@@ -204,3 +207,82 @@ runs_stuck keep rules old now requests answers r some runs =
       kept = λ e. runs.kept (sym same ∙ e);
       left = λ list may. subst (λ (o : Option Asked). IsLeft o runs.last list) (sym same) (runs.left list may);
     }
+
+some_more : (answers : List Answer) (a : Answer) → some_fails (answers ++ a ∷ []) ≡ (some_fails answers || is_failed a)
+some_more [] a = or_nothing (is_failed a) ∙ refl
+some_more (b ∷ answers) a = ap (λ (t : Bool). is_failed b || t) (some_more answers a) ∙ or_third (is_failed b) (some_fails answers) (is_failed a)
+  where
+    or_third : (x y z : Bool) → (x || (y || z)) ≡ ((x || y) || z)
+    or_third true y z = refl
+    or_third false y z = refl
+
+flag_more : (began : Bool) (answers : List Answer) (a : Answer) → (began || some_fails answers) ≡ false → is_failed a ≡ (began || some_fails (answers ++ a ∷ []))
+flag_more began answers a e =
+    let some = or_second began (some_fails answers) e in
+    sym (ap (λ (t : Bool). t || some_fails (answers ++ a ∷ [])) (or_first began (some_fails answers) e) ∙ some_more answers a ∙ ap (λ (t : Bool). t || is_failed a) some)
+
+flag_stuck : (began : Bool) (answers : List Answer) → (began || some_fails answers) ≡ true → true ≡ (began || some_fails (answers ++ StoreFailed ∷ []))
+flag_stuck true answers e = refl
+flag_stuck false answers e = sym (some_more answers StoreFailed ∙ ap (λ (t : Bool). t || true) e)
+
+more_stuck : {K : Type 0} (keep : Ghosts K) (rules : List Rule) (old mid : K) (began : Bool) (requests : List Asked) (answers : List Answer) (r : Asked) → Going keep rules old mid began true requests answers
+    → Going keep rules old mid began true (requests ++ r ∷ []) (answers ++ StoreFailed ∷ [])
+more_stuck keep rules old mid began requests answers r going = record {
+  sound = going.sound;
+  same_dictionary = going.same_dictionary;
+  same_limit = going.same_limit;
+  flag = flag_stuck began answers (sym going.flag);
+  stuck = λ e. let was = going.stuck e in (failed_more requests answers r was.0, was.1);
+  runs = λ s e. ∥∥₁_map (going.runs s e) (runs_stuck keep rules old mid requests answers r (sym (going.flag ∙ ap (λ (t : Bool). t || some_fails answers) e)));
+}
+
+more_served : {K : Type 0} (keep : Ghosts K) (rules : List Rule) (old mid new : K) (began : Bool) (requests : List Asked) (answers : List Answer) (r : Asked) (a : Answer) → Settled keep → keep.has_failed mid ≡ false
+    → Going keep rules old mid began false requests answers → Serves keep rules r mid new a → Going keep rules old new began (is_failed a) (requests ++ r ∷ []) (answers ++ a ∷ [])
+more_served keep rules old mid new began requests answers r a settled works going serves =
+    let none = or_second began (some_fails answers) (sym going.flag) in
+    let register : register_at keep rules mid ≡ register_at keep rules old =
+        ap (λ (d : Entries). record { rules = rules; given = d; limit = keep.limit mid }) going.same_dictionary ∙ ap (λ (l : ℕ). record { rules = rules; given = keep.dictionary old; limit = l }) going.same_limit in
+    record {
+      sound = λ s. going.sound (serves.sound s);
+      same_dictionary = serves.same_dictionary ∙ going.same_dictionary;
+      same_limit = serves.same_limit ∙ going.same_limit;
+      flag = flag_more began answers a (sym going.flag);
+      stuck = λ e. absurd (true≢false (sym e ∙ or_first began (some_fails answers) (sym going.flag)));
+      runs = λ s e.
+        ∥∥₁_elim (going.runs (serves.sound s) e) (Prim.hlevel props) (λ (runs : Runs keep rules old mid requests answers).
+        ∥∥₁_map (serves.answered s) (λ (is : IsAnswer (register_at keep rules mid) (keep.deposits mid) r a).
+        elim (cases_Bool (is_failed a)) [
+          | inl fails ↦ runs_fail keep rules old mid new requests answers r a settled register s works none fails serves is runs
+          | inr lives ↦ runs_told keep rules old mid new requests answers r a settled register s none lives serves is runs
+        ]));
+    }
+
+-- one request more
+pub run_more : {K : Type 0} (keep : Ghosts K) (rules : List Rule) (old mid new : K) (began failed then_failed : Bool) (requests : List Asked) (answers : List Answer) (r : Asked) (a : Answer) → Settled keep
+    → (keep.has_failed mid ≡ true → failed ≡ true) → Going keep rules old mid began failed requests answers → then_failed ≡ is_failed a → (failed ≡ true → (a ≡ StoreFailed) × (new ≡ mid))
+    → (failed ≡ false → Serves keep rules r mid new a) → Going keep rules old new began then_failed (requests ++ r ∷ []) (answers ++ a ∷ [])
+run_more keep rules old mid new began true then_failed requests answers r a settled sticky going flag stuck served =
+    let is = stuck refl in
+    subst (λ (k : K). Going keep rules old k began then_failed (requests ++ r ∷ []) (answers ++ a ∷ [])) (sym is.1)
+    (subst (λ (t : Bool). Going keep rules old mid began t (requests ++ r ∷ []) (answers ++ a ∷ [])) (sym (flag ∙ ap is_failed is.0))
+    (subst (λ (x : Answer). Going keep rules old mid began true (requests ++ r ∷ []) (answers ++ x ∷ [])) (sym is.0) (more_stuck keep rules old mid began requests answers r going)))
+run_more keep rules old mid new began false then_failed requests answers r a settled sticky going flag stuck served =
+    subst (λ (t : Bool). Going keep rules old new began t (requests ++ r ∷ []) (answers ++ a ∷ [])) (sym flag)
+    (more_served keep rules old mid new began requests answers r a settled (works (keep.has_failed mid) sticky) going (served refl))
+  where
+    works : (t : Bool) → (t ≡ true → false ≡ true) → t ≡ false
+    works true h = absurd (true≢false (sym (h refl)))
+    works false h = refl
+
+-- ---- the loop
+
+pub asked_more : (requests : List Request) (i : ℕ) (d : Request) → i < length requests → map asked (take (suc i) requests) ≡ map asked (take i requests) ++ asked (get_or requests i d) ∷ []
+asked_more [] i d lt = absurd (omega (arith, lt))
+asked_more (r ∷ requests) zero d lt = refl
+asked_more (r ∷ requests) (suc i) d lt = ap (λ (l : List Asked). asked r ∷ l) (asked_more requests i d (omega (arith, lt)))
+
+pub take_whole : (requests : List Request) (i : ℕ) → length requests ≤ i → take i requests ≡ requests
+take_whole [] zero le = refl
+take_whole [] (suc i) le = refl
+take_whole (r ∷ requests) zero le = absurd (omega (arith, le))
+take_whole (r ∷ requests) (suc i) le = ap (λ (l : List Request). r ∷ l) (take_whole requests i (omega (arith, le)))

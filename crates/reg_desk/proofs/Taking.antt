@@ -1,7 +1,8 @@
 -- A deposit: taken once, with a receipt.
-use Rattle.std.proofs.Common.{◌≡◌, ◌≢◌, ℕ, ◌+◌, ◌<◌, ◌≤◌, Bool, true, false, cond, Option, Some, None, Ok, Err, List, [], ◌∷◌, ◌++◌, refl, sym, ap, subst, ◌∙◌, inl, inr, ◌⊎◌, arith, length-append}
-use Rattle.std.specs.Prelude.{ℤ, nat_lt, length, Result}
+use Rattle.std.proofs.Common.{◌≡◌, ◌≢◌, ℕ, ◌+◌, ◌-◌, ◌<◌, ◌≤◌, Bool, true, false, cond, Option, Some, None, Ok, Err, List, [], ◌∷◌, ◌++◌, refl, sym, ap, subst, ◌∙◌, inl, inr, ◌⊎◌, arith, length-append}
+use Rattle.std.specs.Prelude.{ℤ, nat_lt, length, slice_get, Result}
 use Rattle.std.proofs.lemmas.Bool.{true≢false, cases_Bool, ltb-true, lt-ltb}
+use Rattle.std.proofs.lemmas.Option.{slice_get_within}
 use Rattle.ags_rows.specs.declared.TheConstants.{LIMIT}
 use Rattle.ags_check.specs.Findings.{Findings as AreFindings}
 use Rattle.reg_policy.specs.declared.rule.Rule.{Rule}
@@ -9,9 +10,10 @@ use Rattle.reg_policy.specs.declared.callers.Caller.{Caller}
 use Rattle.reg_policy.specs.declared.subject.Decision.TheVariants.{Permit, Deny}
 use Rattle.reg_policy.specs.declared.subject.Verb.TheVariants as verbs
 use Rattle.reg_store.specs.Deposit.{Deposit, number_of}
-use Rattle.reg_store.specs.Keep.{is_store, fails, Adds}
+use Rattle.reg_store.specs.Keep.{is_store, fails, Adds, IsHeadOf}
 use Rattle.reg_store.specs.declared.keep.Keep.{Ghosts}
 use Rattle.reg_store.specs.declared.keep.KeepError.{KeepError}
+use Rattle.reg_store.specs.declared.keep.KeptHead.{KeptHead}
 use Rattle.reg_store.specs.declared.keep.KeepError.TheVariants as errors
 use Rattle.reg_desk.specs.Asked.{Asked, deposit}
 use Rattle.reg_desk.specs.declared.answer.Answer.{Answer}
@@ -19,7 +21,7 @@ use Rattle.reg_desk.specs.declared.answer.Answer.TheVariants.{Receipt, Clean, Fi
 use Rattle.reg_desk.specs.Machine.{Register, decided, OrDenied, OrRefused, first_equal, receipt_of, IsReply, IsTaken, IsNext}
 use Rattle.reg_desk.specs.Serving.{IsQuiet, IsFree, AsksStore, IsRefusal, AddsAsked, register_at, OnlyReads, Serves, answer_of}
 use Rattle.reg_desk.proofs.Replies.{reply_same, finds_itself}
-use Rattle.reg_desk.proofs.Firsts.{first_none}
+use Rattle.reg_desk.proofs.Firsts.{first_none, first_some}
 use Rattle.reg_desk.proofs.Bodies.{refused_none, refusal_serves}
 use Rattle.reg_desk.proofs.Serves.{told_answer, told_after, memory_answer, memory_after, failed_answer, failed_after, asks_needs, owed_never, replies_at_once, refused_serves, replies_serves, permitted_reply, denied_reply}
 
@@ -137,6 +139,24 @@ deposit_repeats keep rules caller project embargo bytes day old new n e fine rea
     none_some : (o : Option (ℕ × ℤ)) (p : ℕ × ℤ) → o ≡ None → o ≡ Some p → ⊥
     none_some None p a b = cc
     none_some (Some q) p a b = cc
+
+-- ---- what the keep finds
+
+-- its number is one of the list
+pub found_within : (firm project bytes : List ℕ) (state : List Deposit) (n : ℕ) → number_of firm project bytes state ≡ Some n → (0 < n) × (n ≤ length state)
+found_within firm project bytes state n found =
+    let first = first_some firm project bytes 1 state n found in
+    let within = slice_get_within state first.place first.found first.at in
+    (omega (arith, first.number), omega (arith, first.number, within))
+
+-- the first equal deposit, by its number and the head that is kept of it
+pub first_found : (firm project bytes : List ℕ) (state : List Deposit) (n : ℕ) (head : KeptHead) → number_of firm project bytes state ≡ Some n → ((d : Deposit) → slice_get state (n - 1) ≡ Some d → IsHeadOf d head)
+    → first_equal 1 firm project bytes state ≡ Some (n, head.embargo)
+first_found firm project bytes state n head found of_head =
+    let first = first_some firm project bytes 1 state n found in
+    let place : first.place ≡ n - 1 = omega (arith, first.number) in
+    let is = of_head first.found (subst (λ (i : ℕ). slice_get state i ≡ Some first.found) place first.at) in
+    first.first ∙ ap (λ (e : ℤ). Some (n, e)) (sym is.embargo)
 
 -- ---- a deposit that no equal one is held of
 

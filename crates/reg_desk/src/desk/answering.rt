@@ -5,7 +5,7 @@ ghost use Rattle.std.specs.List.{list_any};
 ghost use Rattle.reg_desk.specs.Asked.{asked};
 ghost use Rattle.reg_desk.specs.Serving.{is_failed};
 ghost use Rattle.reg_desk.specs.Running.{AreFailed, Runs};
-ghost use Rattle.reg_desk.specs.Desks.{AnsweredBy};
+ghost use Rattle.reg_desk.specs.Desks.{AnsweredBy, IsCleanText, IsSameAnswer};
 
 use reg_store::Keep;
 use std::alloc::{AllocError, Global};
@@ -18,7 +18,9 @@ use crate::serving::serve;
 impl<K: Keep> Desk<K> {
     /// Answers one request. Once the store has failed the answer is StoreFailed, without memory.
     pub fn answer(&mut self, alloc: Global, request: &Request<'_>) -> Answer
-        ensures { AnsweredBy K.Keep self.old (asked request.entry.now) result self.new }
+        ensures answered { AnsweredBy K.Keep self.old (asked request.entry.now) result self.new }
+        ensures clean { K.is_sound self.new.keep → IsCleanText K.Keep self.old.keep result }
+        ensures same { K.is_sound self.new.keep → IsSameAnswer K.Keep self.old.policy self.old.keep (asked request.entry.now) result }
     {
         if self.failed {
             return Answer::StoreFailed;
