@@ -5,7 +5,7 @@ use Rattle.std.proofs.lemmas.Result.{IfOk-weaker}
 use Rattle.ags_check.specs.Findings.{CheckedFile}
 use Rattle.reg_store.specs.Keep.{fails}
 use Rattle.reg_desk.specs.Asked.{names_in}
-use Rattle.reg_desk.specs.Clean.{file_of}
+use Rattle.ags_check.specs.Findings.{file_of}
 use Rattle.reg_desk.specs.Machine.{IsDrawnFrom, held}
 use Rattle.reg_desk.specs.Shown.{Look}
 use Rattle.reg_desk.specs.View.{IsViewOf, IsExtractOf}

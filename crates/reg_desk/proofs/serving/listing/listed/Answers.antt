@@ -3,7 +3,7 @@ use Rattle.std.specs.Prelude.{◌↔◌}
 use Rattle.std.proofs.lemmas.Result.{err_from_is_err_and}
 use Rattle.ags_check.specs.Findings.{CheckedFile}
 use Rattle.reg_store.specs.Keep.{fails, is_store}
-use Rattle.reg_desk.specs.Clean.{file_of}
+use Rattle.ags_check.specs.Findings.{file_of}
 use Rattle.reg_desk.specs.Shown.{Look, IsProjectShown}
 use Rattle.reg_desk.specs.Serving.{register_at}
 use Rattle.reg_desk.proofs.Serves.{reads_once, reads_more}
