@@ -2,7 +2,9 @@
 use Rattle.std.proofs.Common.{◌≡◌, ◌≢◌, ℕ, zero, suc, ◌+◌, ◌<◌, ◌≤◌, Bool, true, false, cond, Option, Some, None, List, [], ◌∷◌, ◌++◌, drop, get_or, refl, sym, ap, subst, ◌∙◌, inl, inr, ◌⊎◌, arith, append_assoc, append-nil}
 use Rattle.std.specs.Prelude.{ℤ, slice_get, length}
 use Rattle.std.specs.Str.{bytes_eq}
-use Rattle.std.proofs.Math.Logic.{∥∥₁_map}
+use Rattle.std.proofs.Math.Logic.{∥∥₁_map, ∥∥₁_elim}
+use Rattle.std.proofs.Props.{props}
+use Rattle.std.proofs.lemmas.List.{drop_all}
 use Rattle.reg_policy.specs.declared.rule.Rule.{Rule}
 use Rattle.reg_policy.specs.declared.callers.Caller.{Caller}
 use Rattle.reg_policy.specs.declared.subject.Decision.TheVariants.{Permit, Deny}
@@ -18,6 +20,7 @@ use Rattle.reg_desk.specs.declared.answer.Answer.{Answer}
 use Rattle.reg_desk.specs.declared.answer.Answer.TheVariants.{Listing, Denied}
 use Rattle.reg_desk.specs.Machine.{Register, decided, IsSeen, Where, IsListing, held}
 use Rattle.reg_desk.specs.Serving.{IsQuiet, AsksStore, IsListed, register_at, OnlyReads, Serves, answer_of}
+use Rattle.reg_desk.proofs.Drawing.{held_at}
 use Rattle.reg_desk.proofs.Serves.{replies_at_once, refused_serves, replies_serves, permitted_reply, denied_reply, permit_stands}
 
 -- ---- lines for numbers
@@ -124,6 +127,26 @@ pub number_more : (register : Register) (caller : Caller) (day : ℤ) (state : L
 number_more register caller day state all i lines kept line lt so_far holds listed =
     lines_more register caller day (λ k. held k state) all (get_or all i 0) (drop (suc i) all) lines kept line
     (subst (λ (l : List ℕ). SoFar register caller day (λ k. held k state) all l lines) (drop_get all i lt) so_far) holds listed
+
+-- one more number, whose deposit is seen or not
+pub number_step : (register : Register) (caller : Caller) (day : ℤ) (state : List Deposit) (all : List ℕ) (i : ℕ) (lines : List Listed) (line : Option Listed) → i < length all
+    → (0 < get_or all i 0) × (get_or all i 0 ≤ length state) → ((d : Deposit) → held (get_or all i 0) state ≡ Some d → ∥ IsListed register caller day (get_or all i 0) d line ∥₁)
+    → ∥ SoFar register caller day (λ k. held k state) all (drop i all) lines ∥₁ → ∥ SoFar register caller day (λ k. held k state) all (drop (i + 1) all) (put_line lines line) ∥₁
+number_step register caller day state all i lines line lt within listed so_far =
+    let d = held_at state (get_or all i 0) within.0 within.1 in
+    let next : i + 1 ≡ suc i = omega arith in
+    ∥∥₁_elim so_far (Prim.hlevel props) (λ (f : SoFar register caller day (λ k. held k state) all (drop i all) lines).
+    ∥∥₁_map (listed d.0 d.2) (λ (is : IsListed register caller day (get_or all i 0) d.0 line).
+    subst (λ (k : ℕ). SoFar register caller day (λ k. held k state) all (drop k all) (put_line lines line)) (sym next)
+    (number_more register caller day state all i lines d.0 line lt f d.2 is)))
+
+pub lines_whole : (register : Register) (caller : Caller) (project : List ℕ) (day : ℤ) (state : List Deposit) (all : List ℕ) (i : ℕ) (lines : List Listed) → length all ≤ i → all ≡ numbers_from 1 project state
+    → ∥ SoFar register caller day (λ k. held k state) all (drop i all) lines ∥₁ → ∥ IsListing register caller project day 1 state lines ∥₁
+lines_whole register caller project day state all i lines le same so_far =
+    ∥∥₁_map so_far (λ (f : SoFar register caller day (λ k. held k state) all (drop i all) lines).
+    listing_of register caller project day state lines
+    (subst (λ (numbers : List ℕ). AreLines register caller day (λ k. held k state) numbers lines) same
+    (lines_end register caller day (λ k. held k state) all lines (subst (λ (left : List ℕ). SoFar register caller day (λ k. held k state) all left lines) (drop_all i all le) f))))
 
 pub register_same : {K : Type 0} (keep : Ghosts K) (rules : List Rule) (old new : K) (failed : Bool) → OnlyReads keep old new failed → register_at keep rules new ≡ register_at keep rules old
 register_same keep rules old new failed reads =

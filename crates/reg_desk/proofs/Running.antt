@@ -61,18 +61,20 @@ failed_more (q ∷ requests) [] r h = absurd h
 failed_more (q ∷ requests) (a ∷ answers) r h = (h.0, failed_more requests answers r h.1)
 
 -- behind an answer that failed
+stuck_step : (register : Register) (state : List Deposit) (q : Asked) (b : Answer) (requests : List Asked) (answers : List Answer) (last : List Deposit) (r : Asked) (t : Bool) → (t || some_fails answers) ≡ true
+    → ((next : List Deposit) → some_fails answers ≡ true → AreAnswers register next requests answers last → AreAnswers register next (requests ++ r ∷ []) (answers ++ StoreFailed ∷ []) last)
+    → Where t ((last ≡ state) × AreFailed requests answers) ((next : List Deposit) × IsAfter register state q b next × AreAnswers register next requests answers last)
+    → Where t ((last ≡ state) × AreFailed (requests ++ r ∷ []) (answers ++ StoreFailed ∷ [])) ((next : List Deposit) × IsAfter register state q b next × AreAnswers register next (requests ++ r ∷ []) (answers ++ StoreFailed ∷ []) last)
+stuck_step register state q b requests answers last r true e rest w = (w.0, failed_more requests answers r w.1)
+stuck_step register state q b requests answers last r false e rest w = (w.0, w.1, rest w.0 e w.2)
+
 answers_stuck : (register : Register) (state : List Deposit) (requests : List Asked) (answers : List Answer) (last : List Deposit) (r : Asked) → AreAnswers register state requests answers last → some_fails answers ≡ true
     → AreAnswers register state (requests ++ r ∷ []) (answers ++ StoreFailed ∷ []) last
 answers_stuck register state [] [] last r h some = absurd (true≢false (sym some))
 answers_stuck register state [] (b ∷ answers) last r h some = absurd h
 answers_stuck register state (q ∷ requests) [] last r h some = absurd h
-answers_stuck register state (q ∷ requests) (b ∷ answers) last r h some = (h.0, step (is_failed b) some h.1)
-  where
-    step : (t : Bool) → (t || some_fails answers) ≡ true
-        → Where t ((last ≡ state) × AreFailed requests answers) ((next : List Deposit) × IsAfter register state q b next × AreAnswers register next requests answers last)
-        → Where t ((last ≡ state) × AreFailed (requests ++ r ∷ []) (answers ++ StoreFailed ∷ [])) ((next : List Deposit) × IsAfter register state q b next × AreAnswers register next (requests ++ r ∷ []) (answers ++ StoreFailed ∷ []) last)
-    step true e w = (w.0, failed_more requests answers r w.1)
-    step false e w = (w.0, w.1, answers_stuck register w.0 requests answers last r w.2 e)
+answers_stuck register state (q ∷ requests) (b ∷ answers) last r h some =
+    (h.0, stuck_step register state q b requests answers last r (is_failed b) some (λ next e rest. answers_stuck register next requests answers last r rest e) h.1)
 
 -- ---- the request that failed
 
@@ -90,18 +92,20 @@ failing_more register state (q ∷ requests) (b ∷ answers) last r a h none =
     skip true e rest = absurd (true≢false e)
     skip false e rest = refl
 
+failing_step : (register : Register) (state : List Deposit) (q : Asked) (b : Answer) (requests : List Asked) (answers : List Answer) (last : List Deposit) (r : Asked) (t : Bool) → (t || some_fails answers) ≡ true
+    → ((next : List Deposit) → some_fails answers ≡ true → AreAnswers register next requests answers last → failing (requests ++ r ∷ []) (answers ++ StoreFailed ∷ []) ≡ failing requests answers)
+    → Where t ((last ≡ state) × AreFailed requests answers) ((next : List Deposit) × IsAfter register state q b next × AreAnswers register next requests answers last)
+    → cond t (Some q) (failing (requests ++ r ∷ []) (answers ++ StoreFailed ∷ [])) ≡ cond t (Some q) (failing requests answers)
+failing_step register state q b requests answers last r true e rest w = refl
+failing_step register state q b requests answers last r false e rest w = rest w.0 e w.2
+
 failing_stuck : (register : Register) (state : List Deposit) (requests : List Asked) (answers : List Answer) (last : List Deposit) (r : Asked) → AreAnswers register state requests answers last → some_fails answers ≡ true
     → failing (requests ++ r ∷ []) (answers ++ StoreFailed ∷ []) ≡ failing requests answers
 failing_stuck register state [] [] last r h some = absurd (true≢false (sym some))
 failing_stuck register state [] (b ∷ answers) last r h some = absurd h
 failing_stuck register state (q ∷ requests) [] last r h some = absurd h
-failing_stuck register state (q ∷ requests) (b ∷ answers) last r h some = step (is_failed b) some h.1
-  where
-    step : (t : Bool) → (t || some_fails answers) ≡ true
-        → Where t ((last ≡ state) × AreFailed requests answers) ((next : List Deposit) × IsAfter register state q b next × AreAnswers register next requests answers last)
-        → cond t (Some q) (failing (requests ++ r ∷ []) (answers ++ StoreFailed ∷ [])) ≡ cond t (Some q) (failing requests answers)
-    step true e w = refl
-    step false e w = failing_stuck register w.0 requests answers last r w.2 e
+failing_stuck register state (q ∷ requests) (b ∷ answers) last r h some =
+    failing_step register state q b requests answers last r (is_failed b) some (λ next e rest. failing_stuck register next requests answers last r rest e) h.1
 
 none_failing : (register : Register) (state : List Deposit) (requests : List Asked) (answers : List Answer) (last : List Deposit) → AreAnswers register state requests answers last → some_fails answers ≡ false → failing requests answers ≡ None
 none_failing register state [] [] last h none = refl
@@ -209,7 +213,7 @@ runs_stuck keep rules old now requests answers r some runs =
     }
 
 some_more : (answers : List Answer) (a : Answer) → some_fails (answers ++ a ∷ []) ≡ (some_fails answers || is_failed a)
-some_more [] a = or_nothing (is_failed a) ∙ refl
+some_more [] a = sym (or_nothing (is_failed a))
 some_more (b ∷ answers) a = ap (λ (t : Bool). is_failed b || t) (some_more answers a) ∙ or_third (is_failed b) (some_fails answers) (is_failed a)
   where
     or_third : (x y z : Bool) → (x || (y || z)) ≡ ((x || y) || z)
@@ -261,7 +265,7 @@ more_served keep rules old mid new began requests answers r a settled works goin
 pub run_more : {K : Type 0} (keep : Ghosts K) (rules : List Rule) (old mid new : K) (began failed then_failed : Bool) (requests : List Asked) (answers : List Answer) (r : Asked) (a : Answer) → Settled keep
     → (keep.has_failed mid ≡ true → failed ≡ true) → Going keep rules old mid began failed requests answers → then_failed ≡ is_failed a → (failed ≡ true → (a ≡ StoreFailed) × (new ≡ mid))
     → (failed ≡ false → Serves keep rules r mid new a) → Going keep rules old new began then_failed (requests ++ r ∷ []) (answers ++ a ∷ [])
-run_more keep rules old mid new began true then_failed requests answers r a settled sticky going flag stuck served =
+run_more {K = K} keep rules old mid new began true then_failed requests answers r a settled sticky going flag stuck served =
     let is = stuck refl in
     subst (λ (k : K). Going keep rules old k began then_failed (requests ++ r ∷ []) (answers ++ a ∷ [])) (sym is.1)
     (subst (λ (t : Bool). Going keep rules old mid began t (requests ++ r ∷ []) (answers ++ a ∷ [])) (sym (flag ∙ ap is_failed is.0))

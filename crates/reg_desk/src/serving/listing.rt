@@ -62,8 +62,9 @@ fn lines_of<K: Keep>(
     let numbers = keep.numbers(project)?;
     let mut lines = Vec::new(alloc);
     for number in &numbers {
-        if let Some(line) = listed(alloc, keep, policy, caller, *number, day)? {
-            lines.push(line)?;
+        match listed(alloc, keep, policy, caller, *number, day)? {
+            Some(line) => lines.push(line)?,
+            None => {}
         }
     }
     Ok(lines)

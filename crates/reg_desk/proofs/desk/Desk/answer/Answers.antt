@@ -4,12 +4,6 @@ use Rattle.reg_desk.specs.Asked.{asked}
 use Rattle.reg_desk.proofs.Drawn.{clean_text, same_answer}
 use Rattle.reg_desk.proofs.desk.Desk.answer.Goals as goal
 
-pub serve-requires : goal.serve-requires
-serve-requires g c = ?
-
-pub returns-then-failed-clause-answered : goal.returns-then-failed-clause-answered
-returns-then-failed-clause-answered g c = record { policy = refl; failed = ?; stuck = λ e. (refl, refl); served = λ e. absurd (true≢false (sym ? ∙ e)) }
-
 pub returns-clause-answered : goal.returns-clause-answered
 returns-clause-answered g c = ?
 
