@@ -19,11 +19,6 @@ use Rattle.ags_links.specs.Steps.{IsGraphOf}
 use Rattle.ags_links.specs.Walks.{Wiring}
 use Rattle.ags_rows.specs.Collecting.{OneOf}
 
--- what the rows break is what the file breaks
-pub rows_found : (given : Entries) (bytes : List ℕ) (found : List Finding) → RowFindings bytes found → found ≢ [] → Findings given bytes found
-rows_found given bytes found h some =
-    (h.0, h.1, found_early (phases h.0) (dictionary_phases given (extended given (contents_of h.0.groups)) h.0.groups) found h.2 some)
-
 -- where they break nothing, what the groups break is
 pub groups_found : (given entries : Entries) (bytes : List ℕ) (groups : List Group) (found : List Finding) → FileGroups bytes groups → entries ≡ extended given (contents_of groups)
     → FirstFound (dictionary_phases given entries groups) found → Findings given bytes found

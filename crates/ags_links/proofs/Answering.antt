@@ -47,12 +47,6 @@ lists_found lookup Has text numbers IsOne finds e to from = record {
   );
 }
 
-pub lists_none : (IsOne : ℕ → Type 0) → ((n : ℕ) → IsOne n → ⊥) → ListsRows [] IsOne
-lists_none IsOne none = record {
-  rising = rising_nil;
-  exact = λ n. (λ h. absurd (omega (arith, h.1)), λ h. absurd (none n h));
-}
-
 -- ---- parents
 
 pub some_same : (p q : List ℕ) → Some p ≡ Some q → p ≡ q
@@ -129,9 +123,3 @@ files_listed rows n r lookup text numbers row finds spelled some e =
     let is : h.0 ≡ r = one_at rows n h.0 r h.2 row in
     let file : IsFileRow r h.1 = subst (λ q. IsFileRow q h.1) is h.4 in
     (h.1, h.3, (file.0, file.2 ∙ sym spelled)))
-
-pub no_files : (rows : List DataRow) (n : ℕ) (r : DataRow) → IsDataRow rows n r → entry_of r (codes "FILE_FSET") ≡ [] → ListsRows [] (Between rows IsFileRow n)
-no_files rows n r row null = lists_none (Between rows IsFileRow n) (λ m h.
-    let is : h.0 ≡ r = one_at rows n h.0 r h.2 row in
-    let file : IsFileRow r h.1 = subst (λ q. IsFileRow q h.1) is h.4 in
-    file.1 null)

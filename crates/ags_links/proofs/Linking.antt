@@ -61,9 +61,6 @@ among_next file old found new rows parts part so_far lists e =
 abbrev pub EachNames : DataFile → List (List ℕ) → Type 0
 EachNames file parts = (part : List ℕ) → Contains parts part → (n : ℕ) × IsNamedBy file part n
 
-pub each_begins : (file : DataFile) → EachNames file []
-each_begins file part h = absurd (omega (arith, h.1))
-
 some_listed : (rows : List ℕ) (IsOne : ℕ → Type 0) → ListsRows rows IsOne → (t : Bool) → t ≡ eqb (length rows) 0 → t ≡ false → (n : ℕ) × IsOne n
 some_listed [] IsOne lists t e is = absurd (true≢false (sym e ∙ is))
 some_listed (n ∷ rows) IsOne lists t e is = (n, (lists.exact n).0 (contains_head n rows))

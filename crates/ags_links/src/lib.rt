@@ -11,8 +11,6 @@ pub mod laws;
 mod lookup;
 mod parents;
 mod placed;
-#[cfg(test)]
-mod plain;
 mod separators;
 mod steps;
 #[cfg(test)]
