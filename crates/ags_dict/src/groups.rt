@@ -77,7 +77,11 @@ impl GroupEntries {
     }
 
     /// The entries, and one more unless its group has one.
-    pub(crate) fn with_unstated(self, alloc: Global, entry: GroupEntry) -> Result<GroupEntries, AllocError>
+    pub(crate) fn with_unstated(
+        self,
+        alloc: Global,
+        entry: GroupEntry,
+    ) -> Result<GroupEntries, AllocError>
         ensures { IfOk result (λ entries. entries ≡ with_unstated same_group self (entry ∷ [])) }
     {
         if self.find(entry.group.as_slice()).is_some() {

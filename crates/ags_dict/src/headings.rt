@@ -62,7 +62,11 @@ impl HeadingEntries {
     }
 
     /// The group's entries in their order.
-    pub(crate) fn of_group(&self, alloc: Global, group: &[u8]) -> Result<Vec<&HeadingEntry>, AllocError>
+    pub(crate) fn of_group(
+        &self,
+        alloc: Global,
+        group: &[u8],
+    ) -> Result<Vec<&HeadingEntry>, AllocError>
         ensures { IfOk result (λ found. map (λ e. e.now) found.items ≡ filter (of_group group.now) self.now) }
     {
         let mut found = Vec::new(alloc);
@@ -112,7 +116,11 @@ impl HeadingEntries {
     }
 
     /// The entries, and one more.
-    pub(crate) fn with(self, alloc: Global, entry: HeadingEntry) -> Result<HeadingEntries, AllocError>
+    pub(crate) fn with(
+        self,
+        alloc: Global,
+        entry: HeadingEntry,
+    ) -> Result<HeadingEntries, AllocError>
         ensures { IfOk result (λ entries. entries ≡ self ++ entry ∷ []) }
     {
         let HeadingEntries {

@@ -42,7 +42,12 @@ impl PlacesByText {
     }
 
     /// Notes one more place of a text.
-    pub(crate) fn note(&mut self, alloc: Global, text: &[u8], place: usize) -> Result<(), AllocError>
+    pub(crate) fn note(
+        &mut self,
+        alloc: Global,
+        text: &[u8],
+        place: usize,
+    ) -> Result<(), AllocError>
         ensures { OnOk result ((other : List ℕ) → places_at self.new other
             ≡ (if bytes_eq text.now other then places_at self.old other ++ place ∷ [] else places_at self.old other)) }
     {

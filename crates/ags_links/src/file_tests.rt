@@ -81,32 +81,35 @@ fn edited(rt: &impl AllocGlobal, file: &[u8], old: &[u8], new: &[u8]) -> Result<
     Ok(text)
 }
 
+/// The steps of the third file: of rows to their parents, and of record links.
+const STEPS_OF_C: &[(u32, u32)] = &[
+    (7, 0),
+    (8, 0),
+    (9, 7),
+    (9, 11),
+    (10, 8),
+    (11, 7),
+    (11, 9),
+    (12, 7),
+    (12, 9),
+    (13, 9),
+    (14, 10),
+];
+
+const STEPS_OF_B: &[(u32, u32)] = &[(7, 0), (8, 0), (9, 7), (10, 8), (11, 9), (12, 10)];
+
 #[test]
 fn steps_of_files(rt: HostRuntime) -> Result<(), Fail> {
-    let graph = graph_of(&rt, FILE_A)?;
-    assert_eq!(rt; graph.rows(), 6);
-    assert!(rt; graph.steps() == [(5, 0)].as_slice());
-    let graph = graph_of(&rt, FILE_B)?;
-    assert_eq!(rt; graph.rows(), 13);
-    let parents = [(7, 0), (8, 0), (9, 7), (10, 8), (11, 9), (12, 10)];
-    assert!(rt; graph.steps() == parents.as_slice());
-    let graph = graph_of(&rt, FILE_C)?;
-    let parents_and_links = [
-        (7, 0),
-        (8, 0),
-        (9, 7),
-        (9, 11),
-        (10, 8),
-        (11, 7),
-        (11, 9),
-        (12, 7),
-        (12, 9),
-        (13, 9),
-        (14, 10),
-    ];
-    assert!(rt; graph.steps() == parents_and_links.as_slice());
-    let graph = graph_of(&rt, FILES)?;
-    assert!(rt; graph.steps() == [(0, 1), (0, 2)].as_slice());
+    for (file, rows, steps) in [
+        (FILE_A, 6, [(5, 0)].as_slice()),
+        (FILE_B, 13, STEPS_OF_B),
+        (FILE_C, 15, STEPS_OF_C),
+        (FILES, 4, [(0, 1), (0, 2)].as_slice()),
+    ] {
+        let graph = graph_of(&rt, file)?;
+        assert_eq!(rt; graph.rows(), rows);
+        assert!(rt; graph.steps() == steps, "{rows} rows");
+    }
     Ok(())
 }
 

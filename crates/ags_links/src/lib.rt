@@ -21,3 +21,4 @@ pub use closure::{reached, shown};
 pub use graph::Graph;
 pub use index::{Index, Targets};
 pub use separators::{Separators, separators_in};
+pub use texts::find_byte;

@@ -9,6 +9,7 @@ pub mod Cuts
 pub mod Files
 pub mod FewRows
 pub mod Once
+pub mod FirstPhase
 pub mod Appending
 pub mod Written
 pub mod WellFormed

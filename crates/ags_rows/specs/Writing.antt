@@ -13,6 +13,10 @@ use Rattle.ags_rows.specs.RowTexts.{each_row, spelling_of}
 abbrev pub written_row : Descriptor → List (List ℕ) → TextLine
 written_row kind items = record { content = spelling_of kind items; ending = CrLf }
 
+-- a group, part by part
+abbrev pub contents_from : List ℕ → List (List ℕ) → List (List ℕ) → List (List ℕ) → List (List (List ℕ)) → Contents
+contents_from name headings units types rows = record { name = name; headings = headings; units = units; types = types; rows = rows }
+
 -- the lines of a group: one for each of its rows
 abbrev pub group_lines : Contents → List TextLine
 group_lines group = each_row written_row group
