@@ -62,9 +62,9 @@ fit_at given state i d all at = subst (IsFit given) (get_or_from_slice_get state
 
 look_same : (register : Register) (caller : Caller) (day : ℤ) (d : Deposit) (head : KeptHead) → IsHeadOf d head → look_on register.rules caller head day ≡ look_at register caller day d
 look_same register caller day d head is =
-    ap (λ (f : List ℕ). record { rules = register.rules; firm = caller.firm; role = caller.role; owner = f; project = head.project; embargo = head.embargo; day = day }) is.firm
-    ∙ ap (λ (p : List ℕ). record { rules = register.rules; firm = caller.firm; role = caller.role; owner = d.firm; project = p; embargo = head.embargo; day = day }) is.project
-    ∙ ap (λ (e : ℤ). record { rules = register.rules; firm = caller.firm; role = caller.role; owner = d.firm; project = d.project; embargo = e; day = day }) is.embargo
+    ap (λ (f : List ℕ). record { rules = register.rules; caller = caller; owner = f; project = head.project; embargo = head.embargo; day = day }) is.firm
+    ∙ ap (λ (p : List ℕ). record { rules = register.rules; caller = caller; owner = d.firm; project = p; embargo = head.embargo; day = day }) is.project
+    ∙ ap (λ (e : ℤ). record { rules = register.rules; caller = caller; owner = d.firm; project = d.project; embargo = e; day = day }) is.embargo
 
 clean_of : (given : Entries) (d : Deposit) (file : CheckedFile) → IsFileOf given d file → IsCleanFile given d.bytes (file_of file)
 clean_of given d file is =

@@ -67,13 +67,7 @@ pub(crate) fn serve<K: Keep>(
 fn decide<'x>(policy: &Policy, caller: &'x Caller, project: &'x Name, verb: Verb) -> Decision
     ensures { (given : Entries) (limit : ℕ) → result ≡ decided (record { rules = policy.now; given = given; limit = limit }) caller.now project.now verb }
 {
-    policy.decide(&Subject {
-        firm: &caller.firm,
-        role: &caller.role,
-        project,
-        verb,
-        row: None,
-    })
+    policy.decide(&Subject::of_request(caller, project, verb))
 }
 
 /// The answer where the keep refuses.

@@ -2,7 +2,7 @@ use Rattle.std.proofs.Common.{sym}
 use Rattle.toml.proofs.Views.{table_get}
 use Rattle.toml.specs.View.{view}
 use Rattle.reg_policy.proofs.Keys.{text_some, text_bad, text_none}
-use Rattle.reg_policy.proofs.document.text_at.Goals as goal
+use Rattle.reg_policy.proofs.document.string_at.Goals as goal
 
 pub returns-in-None : goal.returns-in-None
 returns-in-None c =
