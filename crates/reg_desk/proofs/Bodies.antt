@@ -32,7 +32,7 @@ where_else true A B e h = absurd (true≢false e)
 where_else false A B e h = h
 
 ltb_of : (m n : ℕ) → n ≤ m → nat_lt m n ≡ false
-ltb_of m n le = elim (cases_Bool (nat_lt m n)) [ | inl e ↦ absurd (omega (arith, ltb-true m n e, le)) | inr e ↦ e ]
+ltb_of m n le = elim (cases_Bool (nat_lt m n)) [ inl e ↦ absurd (omega (arith, ltb-true m n e, le)) | inr e ↦ e ]
 
 -- ---- what a body is refused for
 

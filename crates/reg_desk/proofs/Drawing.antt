@@ -30,7 +30,7 @@ use Rattle.ags_check.specs.Findings.{IsCleanFile}
 use Rattle.reg_desk.specs.Machine.{Register, decided, look_at, IsSeen, IsTextOf, Where, IsDrawnFrom, held}
 use Rattle.ags_check.specs.Findings.{file_of}
 use Rattle.reg_desk.specs.View.{IsViewOf, IsExtractOf}
-use Rattle.reg_desk.specs.Serving.{IsQuiet, AsksStore, IsListed, text_answer, register_at, OnlyReads, Serves, look_on, answer_of}
+use Rattle.reg_desk.specs.Serving.{IsQuiet, AsksStore, IsLineFor, text_answer, register_at, OnlyReads, Serves, look_on, answer_of}
 use Rattle.reg_desk.proofs.Replies.{one_file}
 use Rattle.reg_desk.proofs.Bodies.{where_true, where_false}
 use Rattle.reg_desk.proofs.Serves.{is_told, replies_at_once, refused_serves, replies_serves, permitted_reply, denied_reply, permit_stands}
@@ -121,8 +121,8 @@ viewed keep old mid new number head rows shown graph same within fit first then 
       of_head = read s1 d.0 d.1;
       fit = fit_at (keep.dictionary old) (keep.deposits old) (number - 1) d.0 (fit s0) d.1;
       view = λ file is.
-        subst (λ (r : List KeptRow). IsViewOf r graph file) (sym same)
-        (seen s d.0 file (ap (λ (l : List Deposit). slice_get l (number - 1)) (first.same s1 refl) ∙ d.1) (subst (λ (e : Entries). IsFileOf e d.0 file) (sym first.same_dictionary) is));
+          subst (λ (r : List KeptRow). IsViewOf r graph file) (sym same)
+          (seen s d.0 file (ap (λ (l : List Deposit). slice_get l (number - 1)) (first.same s1 refl) ∙ d.1) (subst (λ (e : Entries). IsFileOf e d.0 file) (sym first.same_dictionary) is));
     }
 
 -- ---- what is drawn
@@ -215,19 +215,20 @@ same_kept o d e a b = cc
 
 pub view_listed : (register : Register) (state : List Deposit) (caller : Caller) (number : ℕ) (day : ℤ) (head : KeptHead) (rows : List KeptRow) (graph : Wiring) (seen : Bool) → IsViewed register.given state number head rows graph
     → ((file : CheckedFile) → IsViewOf rows graph file → (seen ≡ true) ↔ IsProjectShown (look_on register.rules caller head day) (file_of file)) → seen ≡ true
-    → (d : Deposit) → held number state ≡ Some d → ∥ IsListed register caller day number d (Some (record { number = number; firm = head.firm; embargo = head.embargo })) ∥₁
+    → (d : Deposit) → held number state ≡ Some d → ∥ IsLineFor register caller day number d (Some (record { number = number; firm = head.firm; embargo = head.embargo })) ∥₁
 view_listed register state caller number day head rows graph seen v shows is d holds =
-    subst (λ (k : Deposit). ∥ IsListed register caller day number k (Some (record { number = number; firm = head.firm; embargo = head.embargo })) ∥₁) (same_kept (held number state) v.kept d v.holds holds)
+    subst (λ (k : Deposit). ∥ IsLineFor register caller day number k (Some (record { number = number; firm = head.firm; embargo = head.embargo })) ∥₁) (same_kept (held number state) v.kept d v.holds holds)
     (∥∥₁_map v.fit (λ (f : (file : CheckedFile) × IsFileOf register.given v.kept file).
-    let shown = (shows f.0 (v.view f.0 f.1)).0 is in
-    ((file_of f.0, clean_of register.given v.kept f.0 f.1, subst (λ (look : Look). IsProjectShown look (file_of f.0)) (look_same register caller day v.kept head v.of_head) shown),
-    ap (λ (firm : List ℕ). record { number = number; firm = firm; embargo = head.embargo }) v.of_head.firm ∙ ap (λ (e : ℤ). record { number = number; firm = v.kept.firm; embargo = e }) v.of_head.embargo)))
+    let shown = (shows f.0 (v.view f.0 f.1)).0 is in (
+      (file_of f.0, clean_of register.given v.kept f.0 f.1, subst (λ (look : Look). IsProjectShown look (file_of f.0)) (look_same register caller day v.kept head v.of_head) shown),
+      ap (λ (firm : List ℕ). record { number = number; firm = firm; embargo = head.embargo }) v.of_head.firm ∙ ap (λ (e : ℤ). record { number = number; firm = v.kept.firm; embargo = e }) v.of_head.embargo,
+    )))
 
 pub view_unlisted : (register : Register) (state : List Deposit) (caller : Caller) (number : ℕ) (day : ℤ) (head : KeptHead) (rows : List KeptRow) (graph : Wiring) (seen : Bool) → IsViewed register.given state number head rows graph
     → ((file : CheckedFile) → IsViewOf rows graph file → (seen ≡ true) ↔ IsProjectShown (look_on register.rules caller head day) (file_of file)) → seen ≡ false
-    → (d : Deposit) → held number state ≡ Some d → ∥ IsListed register caller day number d None ∥₁
+    → (d : Deposit) → held number state ≡ Some d → ∥ IsLineFor register caller day number d None ∥₁
 view_unlisted register state caller number day head rows graph seen v shows is d holds =
-    subst (λ (k : Deposit). ∥ IsListed register caller day number k None ∥₁) (same_kept (held number state) v.kept d v.holds holds)
+    subst (λ (k : Deposit). ∥ IsLineFor register caller day number k None ∥₁) (same_kept (held number state) v.kept d v.holds holds)
     (∥∥₁_map v.fit (λ (f : (file : CheckedFile) × IsFileOf register.given v.kept file) (was : IsSeen register caller day v.kept).
     let clean = clean_of register.given v.kept f.0 f.1 in
     let shown = subst (IsProjectShown (look_at register caller day v.kept)) (one_file register.given v.kept.bytes was.0 (file_of f.0) was.1 clean) was.2 in

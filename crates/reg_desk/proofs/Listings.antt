@@ -19,7 +19,7 @@ use Rattle.reg_desk.specs.declared.answer.Listed.{Listed}
 use Rattle.reg_desk.specs.declared.answer.Answer.{Answer}
 use Rattle.reg_desk.specs.declared.answer.Answer.TheVariants.{Listing, Denied}
 use Rattle.reg_desk.specs.Machine.{Register, decided, IsSeen, Where, IsListing, held}
-use Rattle.reg_desk.specs.Serving.{IsQuiet, AsksStore, IsListed, register_at, OnlyReads, Serves, answer_of}
+use Rattle.reg_desk.specs.Serving.{IsQuiet, AsksStore, IsLineFor, register_at, OnlyReads, Serves, answer_of}
 use Rattle.reg_desk.proofs.Drawing.{held_at}
 use Rattle.reg_desk.proofs.Serves.{replies_at_once, refused_serves, replies_serves, permitted_reply, denied_reply, permit_stands}
 
@@ -33,7 +33,7 @@ with_line (Some line) more = line ∷ more
 abbrev pub AreLines : Register → Caller → ℤ → (ℕ → Option Deposit) → List ℕ → List Listed → Type 0
 AreLines register caller day at [] lines = lines ≡ []
 AreLines register caller day at (n ∷ numbers) lines =
-    (kept : Deposit) × (line : Option Listed) × (more : List Listed) × (at n ≡ Some kept) × IsListed register caller day n kept line × (lines ≡ with_line line more) × AreLines register caller day at numbers more
+    (kept : Deposit) × (line : Option Listed) × (more : List Listed) × (at n ≡ Some kept) × IsLineFor register caller day n kept line × (lines ≡ with_line line more) × AreLines register caller day at numbers more
 
 -- the lines so far, where these numbers are left
 abbrev pub SoFar : Register → Caller → ℤ → (ℕ → Option Deposit) → List ℕ → List ℕ → List Listed → Type 0
@@ -47,7 +47,7 @@ put_line lines None = lines
 put_line lines (Some line) = lines ++ line ∷ []
 
 lines_more : (register : Register) (caller : Caller) (day : ℤ) (at : ℕ → Option Deposit) (all : List ℕ) (n : ℕ) (numbers : List ℕ) (lines : List Listed) (kept : Deposit) (line : Option Listed)
-    → SoFar register caller day at all (n ∷ numbers) lines → at n ≡ Some kept → IsListed register caller day n kept line → SoFar register caller day at all numbers (put_line lines line)
+    → SoFar register caller day at all (n ∷ numbers) lines → at n ≡ Some kept → IsLineFor register caller day n kept line → SoFar register caller day at all numbers (put_line lines line)
 lines_more register caller day at all n numbers lines kept None so_far holds listed = λ rest h. so_far rest (kept, None, rest, holds, listed, refl, h)
 lines_more register caller day at all n numbers lines kept (Some line) so_far holds listed = λ rest h.
     subst (AreLines register caller day at all) (sym (append_assoc lines (line ∷ []) rest)) (so_far (line ∷ rest) (kept, Some line, rest, holds, listed, refl, h))
@@ -64,7 +64,7 @@ Stands at n state = (i k : ℕ) (d : Deposit) → slice_get state i ≡ Some d �
 same_some : (o : Option Deposit) (d e : Deposit) → o ≡ Some d → o ≡ Some e → d ≡ e
 same_some o d e a b = cc
 
-listed_then : (register : Register) (caller : Caller) (project : List ℕ) (day : ℤ) (n : ℕ) (d : Deposit) (state : List Deposit) (lines more : List Listed) (line : Option Listed) → IsListed register caller day n d line → lines ≡ with_line line more
+listed_then : (register : Register) (caller : Caller) (project : List ℕ) (day : ℤ) (n : ℕ) (d : Deposit) (state : List Deposit) (lines more : List Listed) (line : Option Listed) → IsLineFor register caller day n d line → lines ≡ with_line line more
     → IsListing register caller project day (n + 1) state more
     → (IsSeen register caller day d × ((l : List Listed) × (lines ≡ record { number = n; firm = d.firm; embargo = d.embargo } ∷ l) × IsListing register caller project day (n + 1) state l))
     ⊎ ((IsSeen register caller day d → ⊥) × IsListing register caller project day (n + 1) state lines)
@@ -78,7 +78,7 @@ listing_step : (register : Register) (caller : Caller) (project : List ℕ) (day
     ⊎ ((IsSeen register caller day d → ⊥) × IsListing register caller project day (n + 1) state lines)) (IsListing register caller project day (n + 1) state lines)
 listing_step register caller project day at n d state numbers lines true holds rest h =
     let same : h.0 ≡ d = same_some (at n) h.0 d h.3 holds in
-    listed_then register caller project day n d state lines h.2 h.1 (subst (λ (k : Deposit). IsListed register caller day n k h.1) same h.4) h.5 (rest h.2 h.6)
+    listed_then register caller project day n d state lines h.2 h.1 (subst (λ (k : Deposit). IsLineFor register caller day n k h.1) same h.4) h.5 (rest h.2 h.6)
 listing_step register caller project day at n d state numbers lines false holds rest h = rest lines h
 
 lines_listing : (register : Register) (caller : Caller) (project : List ℕ) (day : ℤ) (at : ℕ → Option Deposit) (n : ℕ) (state : List Deposit) → Stands at n state
@@ -122,7 +122,7 @@ drop_get (n ∷ numbers) (suc i) lt = drop_get numbers i (omega (arith, lt))
 
 -- one more number
 pub number_more : (register : Register) (caller : Caller) (day : ℤ) (state : List Deposit) (all : List ℕ) (i : ℕ) (lines : List Listed) (kept : Deposit) (line : Option Listed) → i < length all
-    → SoFar register caller day (λ k. held k state) all (drop i all) lines → held (get_or all i 0) state ≡ Some kept → IsListed register caller day (get_or all i 0) kept line
+    → SoFar register caller day (λ k. held k state) all (drop i all) lines → held (get_or all i 0) state ≡ Some kept → IsLineFor register caller day (get_or all i 0) kept line
     → SoFar register caller day (λ k. held k state) all (drop (suc i) all) (put_line lines line)
 number_more register caller day state all i lines kept line lt so_far holds listed =
     lines_more register caller day (λ k. held k state) all (get_or all i 0) (drop (suc i) all) lines kept line
@@ -130,13 +130,13 @@ number_more register caller day state all i lines kept line lt so_far holds list
 
 -- one more number, whose deposit is seen or not
 pub number_step : (register : Register) (caller : Caller) (day : ℤ) (state : List Deposit) (all : List ℕ) (i : ℕ) (lines : List Listed) (line : Option Listed) → i < length all
-    → (0 < get_or all i 0) × (get_or all i 0 ≤ length state) → ((d : Deposit) → held (get_or all i 0) state ≡ Some d → ∥ IsListed register caller day (get_or all i 0) d line ∥₁)
+    → (0 < get_or all i 0) × (get_or all i 0 ≤ length state) → ((d : Deposit) → held (get_or all i 0) state ≡ Some d → ∥ IsLineFor register caller day (get_or all i 0) d line ∥₁)
     → ∥ SoFar register caller day (λ k. held k state) all (drop i all) lines ∥₁ → ∥ SoFar register caller day (λ k. held k state) all (drop (i + 1) all) (put_line lines line) ∥₁
 number_step register caller day state all i lines line lt within listed so_far =
     let d = held_at state (get_or all i 0) within.0 within.1 in
     let next : i + 1 ≡ suc i = omega arith in
     ∥∥₁_elim so_far (Prim.hlevel props) (λ (f : SoFar register caller day (λ k. held k state) all (drop i all) lines).
-    ∥∥₁_map (listed d.0 d.2) (λ (is : IsListed register caller day (get_or all i 0) d.0 line).
+    ∥∥₁_map (listed d.0 d.2) (λ (is : IsLineFor register caller day (get_or all i 0) d.0 line).
     subst (λ (k : ℕ). SoFar register caller day (λ k. held k state) all (drop k all) (put_line lines line)) (sym next)
     (number_more register caller day state all i lines d.0 line lt f d.2 is)))
 

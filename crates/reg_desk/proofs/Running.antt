@@ -167,7 +167,7 @@ runs_told keep rules old mid new requests answers r a settled register sound non
       answered = answers_told (register_at keep rules old) state requests answers runs.last (keep.deposits new) r a runs.answered none lives told after;
       kept = λ e. refl;
       left = λ list may.
-        subst (λ (o : Option Asked). IsLeft o (keep.deposits new) list) (sym no_failing) (settled new list sound (sym (serves.cause sound) ∙ lives) may);
+          subst (λ (o : Option Asked). IsLeft o (keep.deposits new) list) (sym no_failing) (settled new list sound (sym (serves.cause sound) ∙ lives) may);
     }
   where
     one_lives : (t : Bool) → t ≡ false → cond t (Some r) None ≡ None
@@ -187,10 +187,10 @@ runs_fail keep rules old mid new requests answers r a settled register sound wor
       answered = answers_fail (register_at keep rules old) state requests answers runs.last r a runs.answered none fails told;
       kept = λ e. absurd (some_none (sym this_fails ∙ e));
       left = λ list may.
-        subst (λ (o : Option Asked). IsLeft o runs.last list) (sym this_fails) (elim (serves.crash sound list may) [
-          | inl was ↦ inl (settled mid list (serves.sound sound) works was ∙ now)
-          | inr adds ↦ inr (subst (λ (s : List Deposit). AddsAsked r s list) now adds)
-        ]);
+          subst (λ (o : Option Asked). IsLeft o runs.last list) (sym this_fails) (elim (serves.crash sound list may) [
+            | inl was ↦ inl (settled mid list (serves.sound sound) works was ∙ now)
+            | inr adds ↦ inr (subst (λ (s : List Deposit). AddsAsked r s list) now adds)
+          ]);
     }
   where
     one_fails : (t : Bool) → t ≡ true → cond t (Some r) None ≡ Some r
@@ -245,7 +245,7 @@ more_served : {K : Type 0} (keep : Ghosts K) (rules : List Rule) (old mid new : 
 more_served keep rules old mid new began requests answers r a settled works going serves =
     let none = or_second began (some_fails answers) (sym going.flag) in
     let register : register_at keep rules mid ≡ register_at keep rules old =
-        ap (λ (d : Entries). record { rules = rules; given = d; limit = keep.limit mid }) going.same_dictionary ∙ ap (λ (l : ℕ). record { rules = rules; given = keep.dictionary old; limit = l }) going.same_limit in
+    ap (λ (d : Entries). record { rules = rules; given = d; limit = keep.limit mid }) going.same_dictionary ∙ ap (λ (l : ℕ). record { rules = rules; given = keep.dictionary old; limit = l }) going.same_limit in
     record {
       sound = λ s. going.sound (serves.sound s);
       same_dictionary = serves.same_dictionary ∙ going.same_dictionary;
@@ -253,12 +253,12 @@ more_served keep rules old mid new began requests answers r a settled works goin
       flag = flag_more began answers a (sym going.flag);
       stuck = λ e. absurd (true≢false (sym e ∙ or_first began (some_fails answers) (sym going.flag)));
       runs = λ s e.
-        ∥∥₁_elim (going.runs (serves.sound s) e) (Prim.hlevel props) (λ (runs : Runs keep rules old mid requests answers).
-        ∥∥₁_map (serves.answered s) (λ (is : IsAnswer (register_at keep rules mid) (keep.deposits mid) r a).
-        elim (cases_Bool (is_failed a)) [
-          | inl fails ↦ runs_fail keep rules old mid new requests answers r a settled register s works none fails serves is runs
-          | inr lives ↦ runs_told keep rules old mid new requests answers r a settled register s none lives serves is runs
-        ]));
+          ∥∥₁_elim (going.runs (serves.sound s) e) (Prim.hlevel props) (λ (runs : Runs keep rules old mid requests answers).
+          ∥∥₁_map (serves.answered s) (λ (is : IsAnswer (register_at keep rules mid) (keep.deposits mid) r a).
+          elim (cases_Bool (is_failed a)) [
+            | inl fails ↦ runs_fail keep rules old mid new requests answers r a settled register s works none fails serves is runs
+            | inr lives ↦ runs_told keep rules old mid new requests answers r a settled register s none lives serves is runs
+          ]));
     }
 
 -- one request more

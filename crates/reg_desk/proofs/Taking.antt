@@ -66,7 +66,7 @@ receipt_new register embargo count first none room =
     ap (λ (t : Bool). cond t (Receipt (count + 1) embargo) Full) (sym (lt-ltb count register.limit room)) ∙ ap (receipt_of register embargo count) (sym none)
 
 ltb_of : (m n : ℕ) → n ≤ m → nat_lt m n ≡ false
-ltb_of m n le = elim (cases_Bool (nat_lt m n)) [ | inl e ↦ absurd (omega (arith, ltb-true m n e, le)) | inr e ↦ e ]
+ltb_of m n le = elim (cases_Bool (nat_lt m n)) [ inl e ↦ absurd (omega (arith, ltb-true m n e, le)) | inr e ↦ e ]
 
 receipt_full : (register : Register) (embargo : ℤ) (count : ℕ) (first : Option (ℕ × ℤ)) → first ≡ None → register.limit ≤ count → Full ≡ receipt_of register embargo count first
 receipt_full register embargo count first none full =
@@ -80,10 +80,13 @@ untaken : (register : Register) (state : List Deposit) (caller : Caller) (projec
     → IsReply register state (deposit caller project embargo bytes day) answer → IsNext register state (deposit caller project embargo bytes day) state
 untaken register state caller project embargo bytes day answer other is =
     let request = deposit caller project embargo bytes day in
-    inr ((λ taken.
-    other (reply_same register request state state (finds_itself register request state) answer (Receipt (length state + 1) embargo) is
-    (fine_reply register state caller project embargo bytes day (Receipt (length state + 1) embargo) (fine_of register state caller project bytes taken)
-    (receipt_new register embargo (length state) (first_equal 1 caller.firm project bytes state) taken.unheld taken.room)))), refl)
+    inr (
+      (λ taken.
+          other (reply_same register request state state (finds_itself register request state) answer (Receipt (length state + 1) embargo) is
+          (fine_reply register state caller project embargo bytes day (Receipt (length state + 1) embargo) (fine_of register state caller project bytes taken)
+          (receipt_new register embargo (length state) (first_equal 1 caller.firm project bytes state) taken.unheld taken.room)))),
+      refl,
+    )
 
 refusal_other : (register : Register) (bytes : List ℕ) (n : ℕ) (e : ℤ) (answer : Answer) → IsRefusal register.given bytes answer → answer ≢ Receipt n e
 refusal_other register bytes n e answer refusal same = subst (IsRefusal register.given bytes) same refusal
@@ -205,12 +208,12 @@ deposit_added keep rules caller project embargo bytes day old mid new n fine rea
       failure = no_failure (keep.has_failed new) false appends.failing refl;
       cause = λ s. sym appends.failing;
       answered = λ s.
-        ∣ told_answer register state request (Receipt n embargo) refl
+          ∣ told_answer register state request (Receipt n embargo) refl
           (fine_reply register state caller project embargo bytes day (Receipt n embargo) fine
           (ap (λ (k : ℕ). Receipt k embargo) (count s) ∙ receipt_new register embargo (length state) (first_equal 1 caller.firm project bytes state) (none s) (has_room s))) ∣₁;
       kept = λ s.
-        told_after register state (keep.deposits new) request (Receipt n embargo) refl
-        (inl (record { number = fine.number; permitted = fine.permitted; small = fine.small; clean = fine.clean; unheld = none s; room = has_room s }, new_list s));
+          told_after register state (keep.deposits new) request (Receipt n embargo) refl
+          (inl (record { number = fine.number; permitted = fine.permitted; small = fine.small; clean = fine.clean; unheld = none s; room = has_room s }, new_list s));
       denied = λ m. owed_never register state request (Denied m) (Receipt n embargo) (λ h. asks (Denied m) h tt);
       too_large = owed_never register state request TooLarge (Receipt n embargo) (λ h. asks TooLarge h tt);
       crash = may_have_left keep caller project embargo bytes day old mid new (Ok n) reads appends;
@@ -236,11 +239,11 @@ deposit_unadded keep rules caller project embargo bytes day old mid new errors.F
       failure = no_failure (keep.has_failed new) false appends.failing refl;
       cause = λ s. sym appends.failing;
       answered = λ s.
-        ∣ told_answer register state request Full refl
+          ∣ told_answer register state request Full refl
           (fine_reply register state caller project embargo bytes day Full fine (receipt_full register embargo (length state) (first_equal 1 caller.firm project bytes state) (none s) (no_room s))) ∣₁;
       kept = λ s.
-        told_after register state (keep.deposits new) request Full refl
-        (inr ((λ taken. omega (arith, taken.room, no_room s)), appends.refused s refl ∙ reads.same (appends.sound s) refl));
+          told_after register state (keep.deposits new) request Full refl
+          (inr ((λ taken. omega (arith, taken.room, no_room s)), appends.refused s refl ∙ reads.same (appends.sound s) refl));
       denied = λ m. owed_never register state request (Denied m) Full (λ h. asks (Denied m) h tt);
       too_large = owed_never register state request TooLarge Full (λ h. asks TooLarge h tt);
       crash = may_have_left keep caller project embargo bytes day old mid new (Err errors.Full) reads appends;

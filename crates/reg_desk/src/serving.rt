@@ -12,16 +12,15 @@ mod deposit;
 mod drawing;
 mod listing;
 
-use reg_policy::{Caller, Decision, Name, Policy, Subject, Verb};
-use reg_store::{Keep, KeepError};
-use std::alloc::Global;
-
 use crate::answer::Answer;
 use crate::request::Request;
 use crate::serving::body::serve_check;
 use crate::serving::deposit::serve_deposit;
 use crate::serving::drawing::serve_extract;
 use crate::serving::listing::serve_list;
+use reg_policy::{Caller, Decision, Name, Policy, Subject, Verb};
+use reg_store::{Keep, KeepError};
+use std::alloc::Global;
 
 /// Answers a request.
 #[tactic(none)]
@@ -64,7 +63,12 @@ pub(crate) fn serve<K: Keep>(
 }
 
 /// What the policy decides of a request.
-fn decide<'x>(policy: &Policy, caller: &'x Caller, project: &'x Name, verb: Verb) -> Decision
+fn decide_request<'x>(
+    policy: &Policy,
+    caller: &'x Caller,
+    project: &'x Name,
+    verb: Verb,
+) -> Decision
     ensures { (given : Entries) (limit : ℕ) → result ≡ decided (record { rules = policy.now; given = given; limit = limit }) caller.now project.now verb }
 {
     policy.decide(&Subject::of_request(caller, project, verb))

@@ -7,13 +7,12 @@ ghost use Rattle.reg_desk.specs.Serving.{is_failed};
 ghost use Rattle.reg_desk.specs.Running.{AreFailed, Runs};
 ghost use Rattle.reg_desk.specs.Desks.{AnsweredBy, IsCleanText, IsSameAnswer};
 
-use reg_store::Keep;
-use std::alloc::{AllocError, Global};
-
 use crate::answer::Answer;
 use crate::desk::Desk;
 use crate::request::Request;
 use crate::serving::serve;
+use reg_store::Keep;
+use std::alloc::{AllocError, Global};
 
 impl<K: Keep> Desk<K> {
     /// Answers one request. Once the store has failed the answer is StoreFailed, without memory.

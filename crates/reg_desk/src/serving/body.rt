@@ -5,15 +5,14 @@ ghost use Rattle.ags_check.specs.Findings.{Findings as AreFindings};
 ghost use Rattle.reg_desk.specs.Asked.{check as asks_check};
 ghost use Rattle.reg_desk.specs.Serving.{IsRefusal, Serves};
 
+use crate::answer::Answer;
+use crate::serving::decide_request;
 use ags_check::{CheckError, Checked, check};
 use ags_dict::Dictionary;
 use ags_rows::LIMIT;
 use reg_policy::{Caller, Decision, Name, Policy, Verb};
 use reg_store::Keep;
 use std::alloc::Global;
-
-use crate::answer::Answer;
-use crate::serving::decide;
 
 /// A body that is not too large and has no finding, or what is answered of it.
 pub(super) fn read_body<'a>(
@@ -50,7 +49,7 @@ pub(super) fn serve_check<K: Keep>(
     requires { K.has_failed keep.old ≡ false }
     ensures { (day : ℤ) → Serves K.Keep policy.now (asks_check caller.now project.now bytes.now day) keep.old keep.new result }
 {
-    match decide(policy, caller, project, Verb::Check) {
+    match decide_request(policy, caller, project, Verb::Check) {
         Decision::Deny(rule) => return Answer::Denied(rule),
         Decision::Permit(_rule) => {}
     }

@@ -4,13 +4,12 @@ ghost use Rattle.std.specs.Prelude.{◌≡◌, ℤ, false};
 ghost use Rattle.reg_desk.specs.Asked.{deposit as asks_deposit};
 ghost use Rattle.reg_desk.specs.Serving.{Serves};
 
+use crate::answer::Answer;
+use crate::serving::body::read_body;
+use crate::serving::{decide_request, refused};
 use reg_policy::{Caller, Day, Decision, Name, Policy, Verb};
 use reg_store::Keep;
 use std::alloc::Global;
-
-use crate::answer::Answer;
-use crate::serving::body::read_body;
-use crate::serving::{decide, refused};
 
 /// What a deposit is answered.
 #[tactic(none)]
@@ -26,7 +25,7 @@ pub(super) fn serve_deposit<K: Keep>(
     requires { K.has_failed keep.old ≡ false }
     ensures { (day : ℤ) → Serves K.Keep policy.now (asks_deposit caller.now project.now embargo bytes.now day) keep.old keep.new result }
 {
-    match decide(policy, caller, project, Verb::Deposit) {
+    match decide_request(policy, caller, project, Verb::Deposit) {
         Decision::Deny(rule) => return Answer::Denied(rule),
         Decision::Permit(_rule) => {}
     }

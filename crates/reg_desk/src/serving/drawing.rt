@@ -11,15 +11,14 @@ ghost use Rattle.reg_desk.specs.Machine.{IsDrawnFrom, held};
 ghost use Rattle.reg_desk.specs.View.{IsViewOf, IsExtractOf, look_of};
 ghost use Rattle.reg_desk.specs.Serving.{OnlyReads, Serves, look_on, register_at, text_answer};
 
+use crate::answer::Answer;
+use crate::serving::{decide_request, is_same, refused};
+use crate::view::{Looking, extract};
 use ags_links::Graph;
 use ags_rows::Sequence;
 use reg_policy::{Caller, Day, Decision, Name, Policy, Verb};
 use reg_store::{Keep, KeepError, KeptHead, KeptRow};
 use std::alloc::Global;
-
-use crate::answer::Answer;
-use crate::serving::{decide, is_same, refused};
-use crate::view::{Looking, extract};
 
 /// Who looks at the deposit of this head.
 pub(super) fn looking_at<'x>(
@@ -99,7 +98,7 @@ pub(super) fn serve_extract<K: Keep>(
     requires { K.has_failed keep.old ≡ false }
     ensures { Serves K.Keep policy.now (asks_extract caller.now project.now number (names_in groups.now) day) keep.old keep.new result }
 {
-    match decide(policy, caller, project, Verb::Extract) {
+    match decide_request(policy, caller, project, Verb::Extract) {
         Decision::Deny(rule) => return Answer::Denied(rule),
         Decision::Permit(_rule) => {}
     }

@@ -5,17 +5,16 @@ ghost use Rattle.reg_store.specs.Keep.{fails};
 ghost use Rattle.reg_store.specs.Deposit.{Deposit};
 ghost use Rattle.reg_desk.specs.Asked.{listing as asks_listing};
 ghost use Rattle.reg_desk.specs.Machine.{IsListing, held};
-ghost use Rattle.reg_desk.specs.Serving.{IsListed, OnlyReads, Serves, register_at};
+ghost use Rattle.reg_desk.specs.Serving.{IsLineFor, OnlyReads, Serves, register_at};
 
+use crate::answer::{Answer, Listed};
+use crate::serving::drawing::{looking_at, read_view};
+use crate::serving::{decide_request, refused};
+use crate::view::sees;
 use ags_rows::Sequence;
 use reg_policy::{Caller, Day, Decision, Name, Policy, Verb};
 use reg_store::{Keep, KeepError};
 use std::alloc::Global;
-
-use crate::answer::{Answer, Listed};
-use crate::serving::drawing::{looking_at, read_view};
-use crate::serving::{decide, refused};
-use crate::view::sees;
 
 /// The deposit's line in a listing, if its row of PROJ is shown.
 fn listed<K: Keep>(
@@ -29,7 +28,7 @@ fn listed<K: Keep>(
     requires working { K.has_failed keep.old ≡ false }
     requires number { K.is_sound keep.old → (0 < number) × (number ≤ length (K.deposits keep.old)) }
     ensures reads { OnlyReads K.Keep keep.old keep.new (fails result) }
-    ensures seen { K.is_sound keep.new → IfOk result (λ line. (d : Deposit) → held number (K.deposits keep.old) ≡ Some d → ∥ IsListed (register_at K.Keep policy.now keep.old) caller.now day number d line ∥₁) }
+    ensures seen { K.is_sound keep.new → IfOk result (λ line. (d : Deposit) → held number (K.deposits keep.old) ≡ Some d → ∥ IsLineFor (register_at K.Keep policy.now keep.old) caller.now day number d line ∥₁) }
     ensures named { result ≢ Err KeepError.Full }
 {
     let head = keep.head(number)?;
@@ -83,7 +82,7 @@ pub(super) fn serve_list<K: Keep>(
     requires { K.has_failed keep.old ≡ false }
     ensures { Serves K.Keep policy.now (asks_listing caller.now project.now day) keep.old keep.new result }
 {
-    match decide(policy, caller, project, Verb::List) {
+    match decide_request(policy, caller, project, Verb::List) {
         Decision::Deny(rule) => return Answer::Denied(rule),
         Decision::Permit(_rule) => {}
     }

@@ -14,12 +14,12 @@ use Rattle.reg_desk.proofs.serving.deposit.serve_deposit.Goals as goal
 pub returns-in-Deny : goal.returns-in-Deny
 returns-in-Deny g c = λ day.
     deposit_denied g.K.Keep c.args.policy.now c.args.caller.now c.args.project.now c.args.embargo c.args.bytes.now day c.args.keep.now c.in-Deny.rule c.requires
-    (sym (c.decide.ensures (g.K.Keep.dictionary c.args.keep.now) (g.K.Keep.limit c.args.keep.now)) ∙ c.in-Deny.is)
+    (sym (c.decide_request.ensures (g.K.Keep.dictionary c.args.keep.now) (g.K.Keep.limit c.args.keep.now)) ∙ c.in-Deny.is)
 
 pub returns-in-Err : goal.returns-in-Err
 returns-in-Err g c = λ day.
     deposit_refused g.K.Keep c.args.policy.now c.args.caller.now c.args.project.now c.args.embargo c.args.bytes.now day c.args.keep.now c.in-Err.answer _ c.requires
-    (sym (c.decide.ensures (g.K.Keep.dictionary c.args.keep.now) (g.K.Keep.limit c.args.keep.now)) ∙ c.in-Permit.is)
+    (sym (c.decide_request.ensures (g.K.Keep.dictionary c.args.keep.now) (g.K.Keep.limit c.args.keep.now)) ∙ c.in-Permit.is)
     (subst (λ (e : Entries). IsRefusal e c.args.bytes.now c.in-Err.answer) c.dictionary.ensures c.in-Err.ensures.refused)
 
 pub find-requires : goal.find-requires
@@ -29,7 +29,7 @@ pub returns-in-Err-find : goal.returns-in-Err-find
 returns-in-Err-find g c = λ day.
     let fine : IsFine (register_at g.K.Keep c.args.policy.now c.args.keep.now) c.args.caller.now c.args.project.now c.args.bytes.now = record {
       number = c.in-Permit._rule;
-      permitted = sym (c.decide.ensures (g.K.Keep.dictionary c.args.keep.now) (g.K.Keep.limit c.args.keep.now)) ∙ c.in-Permit.is;
+      permitted = sym (c.decide_request.ensures (g.K.Keep.dictionary c.args.keep.now) (g.K.Keep.limit c.args.keep.now)) ∙ c.in-Permit.is;
       small = c.in-Ok.ensures.short;
       clean = subst (λ (e : Entries). AreFindings e c.args.bytes.now []) c.dictionary.ensures c.in-Ok.ensures.clean;
     } in
@@ -50,7 +50,7 @@ pub returns-in-Err-head : goal.returns-in-Err-head
 returns-in-Err-head g c = λ day.
     let fine : IsFine (register_at g.K.Keep c.args.policy.now c.args.keep.now) c.args.caller.now c.args.project.now c.args.bytes.now = record {
       number = c.in-Permit._rule;
-      permitted = sym (c.decide.ensures (g.K.Keep.dictionary c.args.keep.now) (g.K.Keep.limit c.args.keep.now)) ∙ c.in-Permit.is;
+      permitted = sym (c.decide_request.ensures (g.K.Keep.dictionary c.args.keep.now) (g.K.Keep.limit c.args.keep.now)) ∙ c.in-Permit.is;
       small = c.in-Ok.ensures.short;
       clean = subst (λ (e : Entries). AreFindings e c.args.bytes.now []) c.dictionary.ensures c.in-Ok.ensures.clean;
     } in
@@ -62,7 +62,7 @@ pub returns-in-Some : goal.returns-in-Some
 returns-in-Some g c = λ day.
     let fine : IsFine (register_at g.K.Keep c.args.policy.now c.args.keep.now) c.args.caller.now c.args.project.now c.args.bytes.now = record {
       number = c.in-Permit._rule;
-      permitted = sym (c.decide.ensures (g.K.Keep.dictionary c.args.keep.now) (g.K.Keep.limit c.args.keep.now)) ∙ c.in-Permit.is;
+      permitted = sym (c.decide_request.ensures (g.K.Keep.dictionary c.args.keep.now) (g.K.Keep.limit c.args.keep.now)) ∙ c.in-Permit.is;
       small = c.in-Ok.ensures.short;
       clean = subst (λ (e : Entries). AreFindings e c.args.bytes.now []) c.dictionary.ensures c.in-Ok.ensures.clean;
     } in
@@ -95,7 +95,7 @@ pub returns-in-Err-add : goal.returns-in-Err-add
 returns-in-Err-add g c = λ day.
     let fine : IsFine (register_at g.K.Keep c.args.policy.now c.args.keep.now) c.args.caller.now c.args.project.now c.args.bytes.now = record {
       number = c.in-Permit._rule;
-      permitted = sym (c.decide.ensures (g.K.Keep.dictionary c.args.keep.now) (g.K.Keep.limit c.args.keep.now)) ∙ c.in-Permit.is;
+      permitted = sym (c.decide_request.ensures (g.K.Keep.dictionary c.args.keep.now) (g.K.Keep.limit c.args.keep.now)) ∙ c.in-Permit.is;
       small = c.in-Ok.ensures.short;
       clean = subst (λ (e : Entries). AreFindings e c.args.bytes.now []) c.dictionary.ensures c.in-Ok.ensures.clean;
     } in
@@ -109,7 +109,7 @@ pub returns : goal.returns
 returns g c = λ day.
     let fine : IsFine (register_at g.K.Keep c.args.policy.now c.args.keep.now) c.args.caller.now c.args.project.now c.args.bytes.now = record {
       number = c.in-Permit._rule;
-      permitted = sym (c.decide.ensures (g.K.Keep.dictionary c.args.keep.now) (g.K.Keep.limit c.args.keep.now)) ∙ c.in-Permit.is;
+      permitted = sym (c.decide_request.ensures (g.K.Keep.dictionary c.args.keep.now) (g.K.Keep.limit c.args.keep.now)) ∙ c.in-Permit.is;
       small = c.in-Ok.ensures.short;
       clean = subst (λ (e : Entries). AreFindings e c.args.bytes.now []) c.dictionary.ensures c.in-Ok.ensures.clean;
     } in

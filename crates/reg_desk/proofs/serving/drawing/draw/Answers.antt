@@ -18,10 +18,10 @@ use Rattle.reg_desk.proofs.serving.drawing.draw.Goals.{then-number-eq0-via-then-
 pub returns-then-number-eq0-clause-drawn : goal.returns-then-number-eq0-clause-drawn
 returns-then-number-eq0-clause-drawn g c = λ s.
     ∣ unheld_drawn (register_at g.K.Keep c.args.policy.now c.args.keep.now) (g.K.Keep.deposits c.args.keep.now) c.args.caller.now c.args.project.now c.args.number (names_in c.args.groups.now) c.args.day
-      (elim c.then-number-eq0.branch [
-        | then-number-eq0-via-then-number-eq0 w ↦ inl w.if-number-eq0.true
-        | then-number-eq0-via-else-number-eq0+then-number-count w ↦ inr (omega (arith, w.if-number-count.true, w.count.ensures s c.requires))
-      ]) ∣₁
+    (elim c.then-number-eq0.branch [
+      | then-number-eq0-via-then-number-eq0 w ↦ inl w.if-number-eq0.true
+      | then-number-eq0-via-else-number-eq0+then-number-count w ↦ inr (omega (arith, w.if-number-count.true, w.count.ensures s c.requires))
+    ]) ∣₁
 
 pub returns-clause-reads : goal.returns-clause-reads
 returns-clause-reads g c =

@@ -4,7 +4,7 @@ use Rattle.reg_store.specs.Deposit.{Deposit}
 use Rattle.reg_store.specs.Keep.{fails, is_store}
 use Rattle.reg_desk.specs.declared.answer.Listed.{Listed}
 use Rattle.reg_desk.specs.Machine.{Register, held}
-use Rattle.reg_desk.specs.Serving.{IsListed, OnlyReads, register_at}
+use Rattle.reg_desk.specs.Serving.{IsLineFor, OnlyReads, register_at}
 use Rattle.reg_desk.proofs.Serves.{reads_once, reads_more, still_works}
 use Rattle.reg_desk.proofs.Listings.{SoFar, put_line, lines_begin, number_within, number_step, lines_whole, register_same}
 use Rattle.reg_desk.proofs.serving.listing.lines_of.Goals as goal
@@ -19,8 +19,8 @@ loop-number-init g c =
       reads = reads_once g.K.Keep c.args.keep.now c.numbers.new.self _ c.in_ok-numbers.ensures.leaves;
       numbers = λ s. c.deref-number-items.ensures.value ∙ c.in_ok-numbers.ensures.numbers s;
       so_far = λ s.
-        subst (λ (l : List Listed). ∥ SoFar register c.args.caller.now c.args.day (λ k. held k state) items items l ∥₁) (sym c.new-lines.ensures.items)
-        ∣ lines_begin register c.args.caller.now c.args.day (λ k. held k state) items ∣₁;
+          subst (λ (l : List Listed). ∥ SoFar register c.args.caller.now c.args.day (λ k. held k state) items items l ∥₁) (sym c.new-lines.ensures.items)
+          ∣ lines_begin register c.args.caller.now c.args.day (λ k. held k state) items ∣₁;
     }
 
 pub listed-requires-clause-working : goal.listed-requires-clause-working
@@ -51,18 +51,18 @@ loop-number-preserved g c =
       reads = reads_more g.K.Keep c.args.keep.now c.loop-number.keep c.listed.new.keep false was.reads c.in_ok-line.ensures.reads;
       numbers = λ s. was.numbers (c.in_ok-line.ensures.reads.sound s);
       so_far = λ s.
-        let s1 = c.in_ok-line.ensures.reads.sound s in
-        let seen : (d : Deposit) → held n state ≡ Some d → ∥ IsListed register c.args.caller.now c.args.day n d c.in_ok-line.field-0 ∥₁ = λ d holds.
-            subst (λ (r : Register). ∥ IsListed r c.args.caller.now c.args.day n d c.in_ok-line.field-0 ∥₁) (register_same g.K.Keep c.args.policy.now c.args.keep.now c.loop-number.keep false was.reads)
-            (c.in_ok-line.ensures.seen s d (ap (held n) (was.reads.same s1 refl) ∙ holds)) in
-        let same : put_line c.loop-number.lines.items c.in_ok-line.field-0 ≡ c.match-branch-3.lines.items =
-            elim c.match-branch-3.branch [
-              | in-Some+in_ok-push-in-Some w ↦ ap (put_line c.loop-number.lines.items) w.in-Some.is ∙ sym (ap (λ (v : Vec Listed Global). v.items) w.lines-is ∙ w.in_ok-push-in-Some.ensures.items)
-              | in-None w ↦ ap (put_line c.loop-number.lines.items) w.in-None.is ∙ sym (ap (λ (v : Vec Listed Global). v.items) w.lines-is)
-            ] in
-        subst (λ (l : List Listed). ∥ SoFar register c.args.caller.now c.args.day (λ k. held k state) items (drop (i + 1) items) l ∥₁) same
-        (number_step register c.args.caller.now c.args.day state items i c.loop-number.lines.items c.in_ok-line.field-0 c.loop-number-test.true
-        (number_within c.args.project.now state items i (was.numbers s1) c.loop-number-test.true) seen (was.so_far s1));
+          let s1 = c.in_ok-line.ensures.reads.sound s in
+          let seen : (d : Deposit) → held n state ≡ Some d → ∥ IsLineFor register c.args.caller.now c.args.day n d c.in_ok-line.field-0 ∥₁ = λ d holds.
+          subst (λ (r : Register). ∥ IsLineFor r c.args.caller.now c.args.day n d c.in_ok-line.field-0 ∥₁) (register_same g.K.Keep c.args.policy.now c.args.keep.now c.loop-number.keep false was.reads)
+          (c.in_ok-line.ensures.seen s d (ap (held n) (was.reads.same s1 refl) ∙ holds)) in
+          let same : put_line c.loop-number.lines.items c.in_ok-line.field-0 ≡ c.match-branch-3.lines.items =
+          elim c.match-branch-3.branch [
+            | in-Some+in_ok-push-in-Some w ↦ ap (put_line c.loop-number.lines.items) w.in-Some.is ∙ sym (ap (λ (v : Vec Listed Global). v.items) w.lines-is ∙ w.in_ok-push-in-Some.ensures.items)
+            | in-None w ↦ ap (put_line c.loop-number.lines.items) w.in-None.is ∙ sym (ap (λ (v : Vec Listed Global). v.items) w.lines-is)
+          ] in
+          subst (λ (l : List Listed). ∥ SoFar register c.args.caller.now c.args.day (λ k. held k state) items (drop (i + 1) items) l ∥₁) same
+          (number_step register c.args.caller.now c.args.day state items i c.loop-number.lines.items c.in_ok-line.field-0 c.loop-number-test.true
+          (number_within c.args.project.now state items i (was.numbers s1) c.loop-number-test.true) seen (was.so_far s1));
     }
 
 pub returns-clause-reads : goal.returns-clause-reads
