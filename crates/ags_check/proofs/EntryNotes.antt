@@ -11,9 +11,9 @@ use Rattle.ags_rows.specs.Contents.{Contents, group_contents, field_at, place_in
 use Rattle.ags_rows.specs.declared.rows.Group.{Group}
 use Rattle.ags_rows.proofs.Collecting.{found_if, adds_note, among_more, among_all, one_more, one_none}
 use Rattle.ags_check.specs.declared.rows.columns.Column.{Column}
-use Rattle.ags_check.specs.Columns.{IsColumn, AreColumns, entry_under, text_at, column_rules}
-use Rattle.ags_check.specs.RowRules.{Entry, entry_in, unit_over, IsUnfit, IsUnlistedUnit, IsUnlistedType, IsUnlistedUnitEntry, IsUnlistedAbbreviationEntry, IsUnlistedTypeEntry}
-use Rattle.ags_check.specs.RowPhase.{InHeadings, header_rules_of, entry_rules}
+use Rattle.ags_check.specs.Columns.{IsColumn, AreColumns, entry_under, column_text, column_rules}
+use Rattle.ags_check.specs.RowRules.{DataEntry, entry_in, unit_over, IsUnfit, IsUnlistedUnit, IsUnlistedType, IsUnlistedUnitEntry, IsUnlistedAbbreviationEntry, IsUnlistedTypeEntry}
+use Rattle.ags_check.specs.RowPhase.{InHeadings, unit_and_type_rules, data_entry_rules}
 
 -- one note before those of the other rules
 pub note_more : {Fact : Type 0} (line : ℕ) (code : Code) (subject : List ℕ) (b : Bool) (others : List (Finding → Type 0)) (old mid new : List Finding) → IsTrue b ↔ Fact
@@ -22,10 +22,10 @@ note_more {Fact} line code subject b others old mid new means joined rest =
     one_more (Notes line code subject Fact) others old mid new (adds_note line code subject b Fact old mid means.0 means.1 joined) rest
 
 -- the notes on an entry
-pub entry_noted : (file : List Contents) (line : ℕ) (entry : Entry) (a b c d : Bool) (f0 f1 f2 f3 f4 : List Finding)
+pub entry_noted : (file : List Contents) (line : ℕ) (entry : DataEntry) (a b c d : Bool) (f0 f1 f2 f3 f4 : List Finding)
     → IsTrue a ↔ IsUnfit entry → IsTrue b ↔ IsUnlistedUnitEntry file entry → IsTrue c ↔ IsUnlistedAbbreviationEntry file entry → IsTrue d ↔ IsUnlistedTypeEntry file entry
     → f1 ≡ f0 ++ found_if line Rule8 entry.heading a → f2 ≡ f1 ++ found_if line Rule15 entry.heading b
-    → f3 ≡ f2 ++ found_if line Rule16 entry.heading c → f4 ≡ f3 ++ found_if line Rule17 entry.heading d → Adds (OneOf (entry_rules file line entry)) f0 f4
+    → f3 ≡ f2 ++ found_if line Rule16 entry.heading c → f4 ≡ f3 ++ found_if line Rule17 entry.heading d → Adds (OneOf (data_entry_rules file line entry)) f0 f4
 entry_noted file line entry a b c d f0 f1 f2 f3 f4 ma mb mc md ja jb jc jd =
     let h = entry.heading in
     let types : List (Finding → Type 0) = Notes line Rule17 h (IsUnlistedTypeEntry file entry) ∷ [] in
@@ -59,7 +59,7 @@ columns_all Rules headings columns i old new heads le x =
     among_all headings (λ _ heading f. OneOf (Rules heading) f) i old new (omega (arith, sizes, le)) x
 
 -- a column has what the group says of the heading
-pub entry_same : (group : Contents) (column : Column) (fields : List (List ℕ)) (text : List ℕ) → IsColumn group column → text ≡ text_at column fields → entry_under column text ≡ entry_in group fields column.heading.now
+pub entry_same : (group : Contents) (column : Column) (fields : List (List ℕ)) (text : List ℕ) → IsColumn group column → text ≡ column_text column fields → entry_under column text ≡ entry_in group fields column.heading.now
 entry_same group column fields text is same =
     let h = column.heading.now in
     let e : text ≡ field_at fields (place_in group.headings h) = same ∙ ap (field_at fields) is.place in
@@ -69,25 +69,25 @@ entry_same group column fields text is same =
 
 -- the entry of one column more
 pub entries_more : (file : List Contents) (line : ℕ) (group : Contents) (headings fields : List (List ℕ)) (columns : List Column) (i : ℕ) (d : Column) (text : List ℕ) (old mid new : List Finding)
-    → AreColumns group headings columns → i < length columns → text ≡ text_at (get_or columns i d) fields
-    → Adds (AmongBefore headings (λ _ heading f. OneOf (entry_rules file line (entry_in group fields heading)) f) i) old mid
-    → Adds (OneOf (entry_rules file line (entry_under (get_or columns i d) text))) mid new
-    → Adds (AmongBefore headings (λ _ heading f. OneOf (entry_rules file line (entry_in group fields heading)) f) (i + 1)) old new
+    → AreColumns group headings columns → i < length columns → text ≡ column_text (get_or columns i d) fields
+    → Adds (AmongBefore headings (λ _ heading f. OneOf (data_entry_rules file line (entry_in group fields heading)) f) i) old mid
+    → Adds (OneOf (data_entry_rules file line (entry_under (get_or columns i d) text))) mid new
+    → Adds (AmongBefore headings (λ _ heading f. OneOf (data_entry_rules file line (entry_in group fields heading)) f) (i + 1)) old new
 entries_more file line group headings fields columns i d text old mid new are lt is before here =
-    columns_more (λ heading. entry_rules file line (entry_in group fields heading)) headings columns i d old mid new are.heads lt before
-    (subst (λ (entry : Entry). Adds (OneOf (entry_rules file line entry)) mid new) (entry_same group (get_or columns i d) fields text (are.each i d lt) is) here)
+    columns_more (λ heading. data_entry_rules file line (entry_in group fields heading)) headings columns i d old mid new are.heads lt before
+    (subst (λ (entry : DataEntry). Adds (OneOf (data_entry_rules file line entry)) mid new) (entry_same group (get_or columns i d) fields text (are.each i d lt) is) here)
 
 -- what is listed of a column's unit and type is what is listed of the group's
 pub header_more : (file : List Contents) (group : Group) (columns : List Column) (i : ℕ) (d : Column) (old mid new : List Finding)
     → AreColumns (group_contents group) group.headings columns → i < length columns
-    → Adds (AmongBefore group.headings (λ _ heading f. OneOf (header_rules_of file group heading) f) i) old mid
+    → Adds (AmongBefore group.headings (λ _ heading f. OneOf (unit_and_type_rules file group heading) f) i) old mid
     → Adds (OneOf (column_rules file group (get_or columns i d))) mid new
-    → Adds (AmongBefore group.headings (λ _ heading f. OneOf (header_rules_of file group heading) f) (i + 1)) old new
+    → Adds (AmongBefore group.headings (λ _ heading f. OneOf (unit_and_type_rules file group heading) f) (i + 1)) old new
 header_more file group columns i d old mid new are lt before here =
     let column = get_or columns i d in
     let is : IsColumn (group_contents group) column = are.each i d lt in
     let h = column.heading.now in
-    columns_more (header_rules_of file group) group.headings columns i d old mid new are.heads lt before
+    columns_more (unit_and_type_rules file group) group.headings columns i d old mid new are.heads lt before
     (subst (λ (code : List ℕ).
     Adds (OneOf (Notes group.unit_line Rule15 h (IsUnlistedUnit file (unit_over (group_contents group) h)) ∷ Notes group.type_line Rule17 h (IsUnlistedType file code) ∷ [])) mid new) is.code
     (subst (λ (unit : List ℕ). Adds (OneOf (Notes group.unit_line Rule15 h (IsUnlistedUnit file unit) ∷ Notes group.type_line Rule17 h (IsUnlistedType file column.code.now) ∷ [])) mid new) is.unit here))

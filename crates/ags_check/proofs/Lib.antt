@@ -10,3 +10,7 @@ pub mod EntryNotes
 pub mod LinkNotes
 pub mod RowNotes
 pub mod Numbering
+pub mod Keeping
+pub mod Kept
+pub mod CleanContents
+pub mod OneFile

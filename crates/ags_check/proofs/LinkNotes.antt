@@ -12,18 +12,18 @@ use Rattle.ags_dict.specs.Entries.{Entries}
 use Rattle.ags_links.specs.DataRows.{row_in, entry_of, data_rows}
 use Rattle.ags_links.specs.RecordLinks.{separators_of, IsBroken}
 use Rattle.ags_check.specs.declared.rows.columns.Column.{Column}
-use Rattle.ags_check.specs.Columns.{IsColumn, AreColumns, text_at}
+use Rattle.ags_check.specs.Columns.{IsColumn, AreColumns, column_text}
 use Rattle.ags_check.specs.RowRules.{IsBrokenLink}
 use Rattle.ags_check.specs.RowPhase.{InHeadings, link_rules, required_rules}
 use Rattle.ags_check.proofs.Naming.{contains_at}
 use Rattle.ags_check.proofs.EntryNotes.{note_more, columns_more, heading_at, heading_of}
 
 -- what stands in the row at a column's place stands under its heading
-pub text_same : (group : Contents) (column : Column) (fields : List (List ℕ)) (text : List ℕ) → IsColumn group column → text ≡ text_at column fields → text ≡ under group.headings fields column.heading.now
+pub text_same : (group : Contents) (column : Column) (fields : List (List ℕ)) (text : List ℕ) → IsColumn group column → text ≡ column_text column fields → text ≡ under group.headings fields column.heading.now
 text_same group column fields text is same = same ∙ ap (field_at fields) is.place
 
 pub link_means : (entries : Entries) (file : List Contents) (group : Contents) (column : Column) (fields : List (List ℕ)) (text : List ℕ) (b : Bool)
-    → IsColumn group column → text ≡ text_at column fields → Contains group.headings column.heading.now → is_definition group.name ≡ false
+    → IsColumn group column → text ≡ column_text column fields → Contains group.headings column.heading.now → is_definition group.name ≡ false
     → IsTrue b ↔ (column.code.now ≡ codes "RL") × (text ≢ []) × IsBroken entries (separators_of file) (data_rows file) (row_in group fields) column.heading.now
     → IsTrue b ↔ IsBrokenLink entries file (row_in group fields) column.heading.now
 link_means entries file group column fields text b is same stands data_group means =
@@ -37,7 +37,7 @@ link_means entries file group column fields text b is same stands data_group mea
 
 -- the link of one column more
 pub links_more : (entries : Entries) (file : List Contents) (line : ℕ) (group : Contents) (fields : List (List ℕ)) (columns : List Column) (i : ℕ) (d : Column) (text : List ℕ) (b : Bool) (old mid new : List Finding)
-    → AreColumns group group.headings columns → is_definition group.name ≡ false → i < length columns → text ≡ text_at (get_or columns i d) fields
+    → AreColumns group group.headings columns → is_definition group.name ≡ false → i < length columns → text ≡ column_text (get_or columns i d) fields
     → IsTrue b ↔ ((get_or columns i d).code.now ≡ codes "RL") × (text ≢ []) × IsBroken entries (separators_of file) (data_rows file) (row_in group fields) (heading_of (get_or columns i d))
     → new ≡ mid ++ found_if line Rule11c (heading_of (get_or columns i d)) b
     → Adds (AmongBefore group.headings (λ _ heading f. OneOf (link_rules entries file line (row_in group fields) heading) f) i) old mid
@@ -62,7 +62,7 @@ empty_means (x ∷ text) b is = (λ e. absurd (let none : length (x ∷ text) �
 
 -- the REQUIRED entry of one column more
 pub lacking_more : (line : ℕ) (group : Contents) (headings fields : List (List ℕ)) (columns : List Column) (i : ℕ) (d : Column) (text : List ℕ) (b : Bool) (old mid new : List Finding)
-    → AreColumns group headings columns → i < length columns → text ≡ text_at (get_or columns i d) fields → b ≡ eqb (length text) 0
+    → AreColumns group headings columns → i < length columns → text ≡ column_text (get_or columns i d) fields → b ≡ eqb (length text) 0
     → new ≡ mid ++ found_if line Rule10b (heading_of (get_or columns i d)) b
     → Adds (AmongBefore headings (λ _ heading f. OneOf (required_rules line (row_in group fields) heading) f) i) old mid
     → Adds (AmongBefore headings (λ _ heading f. OneOf (required_rules line (row_in group fields) heading) f) (i + 1)) old new

@@ -14,7 +14,7 @@ use Rattle.ags_rows.proofs.Collecting.{none_is}
 use Rattle.ags_links.specs.RecordLinks.{separators_of}
 use Rattle.ags_links.proofs.Members.{contains_head, contains_tail, contains_cons, contains_map, map_contains}
 use Rattle.ags_dict.specs.Parts.{parts_at}
-use Rattle.ags_check.specs.Listing.{read_rows, listed_texts, abbreviation_in, abbreviations, PairSet, has_pair, is_pair, HasPairs, lacks_part}
+use Rattle.ags_check.specs.CodeLists.{read_rows, listed_texts, abbreviation_in, abbreviations, PairSet, has_pair, is_pair, HasPairs, lacks_part}
 use Rattle.ags_check.specs.RowRules.{IsListed, IsUnlisted, IsAbbreviation, IsUnlistedAbbreviation}
 use Rattle.ags_check.proofs.HeaderRules.{placed, unplaced}
 

@@ -13,7 +13,7 @@ use Rattle.std.proofs.lemmas.Map.Text.{is_eq-slice_cmp}
 use Rattle.ags_dict.specs.Parts.{parts_at}
 use Rattle.ags_dict.proofs.Pieces.{parts_cut}
 use Rattle.ags_links.proofs.Cutting.{part_left}
-use Rattle.ags_check.specs.Listing.{PairSet, has_pair, is_pair, lacks_part}
+use Rattle.ags_check.specs.CodeLists.{PairSet, has_pair, is_pair, lacks_part}
 
 then_equal : (a b : Ordering) → is_eq (ordering_then a b) ≡ (is_eq a && is_eq b)
 then_equal Less b = refl

@@ -11,20 +11,20 @@ use Rattle.ags_rows.specs.Collecting.{Adds, Notes, OneOf}
 use Rattle.ags_rows.specs.Contents.{Contents, group_contents, fields_of}
 use Rattle.ags_rows.proofs.Collecting.{found_if, one_more, one_none}
 use Rattle.ags_dict.specs.Entries.{Entries, keys_of, parent_of, required_of}
-use Rattle.ags_links.specs.DataRows.{DataRow, IsRow, Between, row_in, data_rows}
+use Rattle.ags_links.specs.DataRows.{DataRow, IsDataRow, Between, row_in, data_rows}
 use Rattle.ags_links.specs.Keys.{IsFirstOfKey, HasKeyOf}
 use Rattle.ags_links.specs.Parents.{IsParentRow}
 use Rattle.ags_check.specs.RowRules.{entry_in, RepeatsKey, LacksParentRow, IsUnlistedFileSet}
-use Rattle.ags_check.specs.RowPhase.{InHeadings, entry_rules, link_rules, required_rules, data_rules}
+use Rattle.ags_check.specs.RowPhase.{InHeadings, data_entry_rules, link_rules, required_rules, data_row_rules}
 use Rattle.ags_check.proofs.Listings.{not_true, true_not}
 use Rattle.ags_check.proofs.EntryNotes.{note_more}
 
 -- one row has one number
-same_row : (rows : List DataRow) (n : ℕ) (r s : DataRow) → IsRow rows n r → IsRow rows n s → r ≡ s
+same_row : (rows : List DataRow) (n : ℕ) (r s : DataRow) → IsDataRow rows n r → IsDataRow rows n s → r ≡ s
 same_row rows n r s a b = sym a.1 ∙ get_or_default rows n r s a.0 ∙ b.1
 
 -- the first row of the key stands before a row that repeats it
-pub repeats_means : (entries : Entries) (file : List Contents) (number first : ℕ) (row : DataRow) → keys_of entries row.group ≢ [] → IsRow (data_rows file) number row
+pub repeats_means : (entries : Entries) (file : List Contents) (number first : ℕ) (row : DataRow) → keys_of entries row.group ≢ [] → IsDataRow (data_rows file) number row
     → IsFirstOfKey (data_rows file) entries number first → IsTrue (ltb first number) ↔ RepeatsKey entries file number row
 repeats_means entries file number first row keyed at is_first = (
   λ e. record {
@@ -44,7 +44,7 @@ some_there : {X : Type 0} (o : Option X) → is_some o ≡ true → (x : X) × (
 some_there None e = absurd (true≢false (sym e))
 some_there (Some x) e = (x, refl)
 
-pub parent_means : (entries : Entries) (file : List Contents) (number : ℕ) (row : DataRow) (has : Bool) → is_some (parent_of entries row.group) ≡ true → IsRow (data_rows file) number row
+pub parent_means : (entries : Entries) (file : List Contents) (number : ℕ) (row : DataRow) (has : Bool) → is_some (parent_of entries row.group) ≡ true → IsDataRow (data_rows file) number row
     → IsTrue has ↔ ((m : ℕ) × Between (data_rows file) (IsParentRow entries) number m) → IsTrue (not has) ↔ LacksParentRow entries file row
 parent_means entries file number row has parented at means = (
   λ e. (
@@ -64,13 +64,13 @@ parent_means entries file number row has parented at means = (
 
 -- all that is noted of a row
 pub row_noted : (entries : Entries) (file : List Contents) (group : Group) (number : ℕ) (row : Row) (a b c : Bool) (f0 f1 f2 f3 f4 f5 f6 : List Finding)
-    → Adds (InHeadings group.headings (λ heading. entry_rules file row.line (entry_in (group_contents group) (fields_of row) heading))) f0 f1
+    → Adds (InHeadings group.headings (λ heading. data_entry_rules file row.line (entry_in (group_contents group) (fields_of row) heading))) f0 f1
     → Adds (InHeadings group.headings (link_rules entries file row.line (row_in (group_contents group) (fields_of row)))) f1 f2
     → Adds (InHeadings (required_of entries group.name) (required_rules row.line (row_in (group_contents group) (fields_of row)))) f2 f3
     → IsTrue a ↔ RepeatsKey entries file number (row_in (group_contents group) (fields_of row)) → f4 ≡ f3 ++ found_if row.line Rule10a group.name a
     → IsTrue b ↔ LacksParentRow entries file (row_in (group_contents group) (fields_of row)) → f5 ≡ f4 ++ found_if row.line Rule10c group.name b
     → IsTrue c ↔ IsUnlistedFileSet file (row_in (group_contents group) (fields_of row)) → f6 ≡ f5 ++ found_if row.line Rule20 (codes "FILE_FSET") c
-    → Adds (OneOf (data_rules entries file group number row)) f0 f6
+    → Adds (OneOf (data_row_rules entries file group number row)) f0 f6
 row_noted entries file group number row a b c f0 f1 f2 f3 f4 f5 f6 x y z ma ja mb jb mc jc =
     let r : DataRow = row_in (group_contents group) (fields_of row) in
     let sets : List (Finding → Type 0) = Notes row.line Rule20 (codes "FILE_FSET") (IsUnlistedFileSet file r) ∷ [] in
@@ -78,7 +78,7 @@ row_noted entries file group number row a b c f0 f1 f2 f3 f4 f5 f6 x y z ma ja m
     let keys : List (Finding → Type 0) = Notes row.line Rule10a group.name (RepeatsKey entries file number r) ∷ parents in
     let required : List (Finding → Type 0) = InHeadings (required_of entries group.name) (required_rules row.line r) ∷ keys in
     let links : List (Finding → Type 0) = InHeadings group.headings (link_rules entries file row.line r) ∷ required in
-    one_more (InHeadings group.headings (λ heading. entry_rules file row.line (entry_in (group_contents group) (fields_of row) heading))) links f0 f1 f6 x
+    one_more (InHeadings group.headings (λ heading. data_entry_rules file row.line (entry_in (group_contents group) (fields_of row) heading))) links f0 f1 f6 x
     (one_more (InHeadings group.headings (link_rules entries file row.line r)) required f1 f2 f6 y
     (one_more (InHeadings (required_of entries group.name) (required_rules row.line r)) keys f2 f3 f6 z
     (note_more row.line Rule10a group.name a parents f3 f4 f6 ma ja

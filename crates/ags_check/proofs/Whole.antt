@@ -11,16 +11,13 @@ use Rattle.ags_rows.proofs.Once.{same_file, one_first_found}
 use Rattle.ags_dict.specs.declared.entries.GroupEntry.{GroupEntry}
 use Rattle.ags_dict.specs.declared.entries.HeadingEntry.{HeadingEntry}
 use Rattle.ags_dict.specs.Entries.{Entries, extended}
-use Rattle.ags_check.specs.Findings.{dictionary_phases, all_phases, IsClear, IsGraphOf, Findings, CheckedFile, IsClean, first_entries}
+use Rattle.ags_check.specs.Findings.{dictionary_phases, all_phases, IsClear, Findings, CheckedFile, IsClean, first_entries}
 use Rattle.ags_check.specs.HeaderPhase.{header_rules}
-use Rattle.ags_check.specs.RowPhase.{row_rules}
+use Rattle.ags_check.specs.RowPhase.{entry_rules}
+use Rattle.ags_links.specs.DataRows.{DataFile}
+use Rattle.ags_links.specs.Steps.{IsGraphOf}
 use Rattle.ags_links.specs.Walks.{Wiring}
 use Rattle.ags_rows.specs.Collecting.{OneOf}
-
--- what the rows break is what the file breaks
-pub rows_found : (given : Entries) (bytes : List ℕ) (found : List Finding) → RowFindings bytes found → found ≢ [] → Findings given bytes found
-rows_found given bytes found h some =
-    (h.0, h.1, found_early (phases h.0) (dictionary_phases given (extended given (contents_of h.0.groups)) h.0.groups) found h.2 some)
 
 -- where they break nothing, what the groups break is
 pub groups_found : (given entries : Entries) (bytes : List ℕ) (groups : List Group) (found : List Finding) → FileGroups bytes groups → entries ≡ extended given (contents_of groups)
@@ -38,18 +35,22 @@ headers_found given entries bytes groups found read same lists some = groups_fou
 
 -- where the headers break nothing, what the rows break is found
 pub entries_found : (given entries : Entries) (bytes : List ℕ) (groups : List Group) (found : List Finding) → FileGroups bytes groups → entries ≡ extended given (contents_of groups)
-    → IsClear (header_rules given entries groups) → Lists (OneOf (row_rules entries groups)) found → found ≢ [] → Findings given bytes found
+    → IsClear (header_rules given entries groups) → Lists (OneOf (entry_rules entries groups)) found → found ≢ [] → Findings given bytes found
 entries_found given entries bytes groups found read same clear lists some = groups_found given entries bytes groups found read same (inr (clear, inl (lists, some)))
 
 -- and where these break nothing either, the file is clean
 pub clean : (given entries : Entries) (bytes : List ℕ) (groups : List Group) (graph : Wiring) → FileGroups bytes groups → entries ≡ extended given (contents_of groups)
-    → IsClear (header_rules given entries groups) → IsClear (row_rules entries groups) → IsGraphOf groups entries graph
+    → IsClear (header_rules given entries groups) → IsClear (entry_rules entries groups) → IsGraphOf (record { contents = contents_of groups; entries = entries }) graph
     → IsClean (record { given = given; bytes = bytes; groups = groups; entries = entries; graph = graph })
 clean given entries bytes groups graph read same clear clear_rows steps = record {
   groups = read;
-  entries = same;
+  file = record {
+    groups = groups;
+    read = read;
+    same = ap (λ (e : Entries). record { contents = contents_of groups; entries = e }) same;
+    findings = groups_found given entries bytes groups [] read same (inr (clear, inr (clear_rows, refl)));
+  };
   graph = steps;
-  findings = groups_found given entries bytes groups [] read same (inr (clear, inr (clear_rows, refl)));
 }
 
 -- ---- the entries given
@@ -67,6 +68,13 @@ given_first given entries contents groups headings group_count heading_count sam
     ∙ ap (first_entries (length given.groups) (length given.headings)) same
     ∙ ap (λ (l : List GroupEntry). entries_of l (take (length given.headings) all.headings)) (take-append_seam given.groups _)
     ∙ ap (entries_of given.groups) (take-append_seam given.headings _)
+
+-- the entries of a clean file are those given, extended by its DICT
+pub clean_entries : (checked : CheckedFile) → IsClean checked → checked.entries ≡ extended checked.given (contents_of checked.groups)
+clean_entries checked clean =
+    let file = clean.file in
+    let contents : contents_of checked.groups ≡ contents_of file.groups = ap (λ (f : DataFile). f.contents) file.same in
+    ap (λ (f : DataFile). f.entries) file.same ∙ ap (extended checked.given) (sym contents)
 
 abbrev pub checked_file : List ℕ → List Group → Entries → Wiring → Entries → CheckedFile
 checked_file bytes groups entries graph given = record { given = given; bytes = bytes; groups = groups; entries = entries; graph = graph }

@@ -9,8 +9,8 @@ use Rattle.ags_rows.specs.Contents.{Contents, group_contents, fields_of, place_i
 use Rattle.ags_rows.specs.Names.{is_definition}
 use Rattle.ags_cells.specs.CellTypes.{IsTypeCodeOf}
 use Rattle.ags_dict.specs.Entries.{Entries, keys_of, required_of, parent_of}
-use Rattle.ags_links.specs.DataRows.{DataRow, IsRow, row_in}
-use Rattle.ags_check.specs.RowRules.{Entry, unit_over, type_over, IsUnlistedUnit, IsUnlistedType}
+use Rattle.ags_links.specs.DataRows.{DataRow, IsDataRow, row_in}
+use Rattle.ags_check.specs.RowRules.{DataEntry, unit_over, type_over, IsUnlistedUnit, IsUnlistedType}
 use Rattle.ags_check.specs.declared.rows.columns.Column.{Column}
 
 -- the type is that of the code
@@ -30,12 +30,12 @@ pub record AreColumns (group : Contents) (headings : List (List ℕ)) (columns :
   pub heads : map (λ column. column.heading.now) columns ≡ headings
 
 -- a text under the column's heading
-abbrev pub entry_under : Column → List ℕ → Entry
+abbrev pub entry_under : Column → List ℕ → DataEntry
 entry_under column text = record { heading = column.heading.now; unit = column.unit.now; code = column.code.now; text = text }
 
 -- what stands in a row at the column's place
-abbrev pub text_at : Column → List (List ℕ) → List ℕ
-text_at column fields = field_at fields column.place
+abbrev pub column_text : Column → List (List ℕ) → List ℕ
+column_text column fields = field_at fields column.place
 
 -- the rules on the unit and the type of a column
 abbrev pub column_rules : List Contents → Group → Column → List (Finding → Type 0)
@@ -60,4 +60,4 @@ pub record IsOutline (group : Group) (entries : Entries) (own_columns required_c
 
 -- the DATA rows of the group stand among these from number `first` on
 abbrev pub RowsStand : List DataRow → ℕ → Group → Type 0
-RowsStand rows first group = (place : ℕ) (row : Row) → At group.rows place row → IsRow rows (first + place) (row_in (group_contents group) (fields_of row))
+RowsStand rows first group = (place : ℕ) (row : Row) → At group.rows place row → IsDataRow rows (first + place) (row_in (group_contents group) (fields_of row))

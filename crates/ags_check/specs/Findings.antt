@@ -1,20 +1,20 @@
 -- The findings of a file under a dictionary, and a file without any.
-use Rattle.std.specs.Prelude.{◌≡◌, ℕ, List, [], ◌∷◌, ◌++◌, length, take}
+use Rattle.std.specs.Prelude.{◌≡◌, ℕ, List, [], ◌∷◌, ◌++◌, take}
 use Rattle.ags_rows.specs.declared.codes.Finding.{Finding}
 use Rattle.ags_rows.specs.declared.rows.Group.{Group}
-use Rattle.ags_rows.specs.Contents.{contents_of}
+use Rattle.ags_rows.specs.Contents.{Contents, contents_of}
 use Rattle.ags_rows.specs.Collecting.{OneOf}
 use Rattle.ags_rows.specs.Findings.{File, IsFile, phases, FirstFound, FileGroups}
 use Rattle.ags_dict.specs.Entries.{Entries, extended}
-use Rattle.ags_links.specs.DataRows.{data_rows}
-use Rattle.ags_links.specs.Steps.{ListsSteps, StepAt}
+use Rattle.ags_links.specs.DataRows.{DataFile}
+use Rattle.ags_links.specs.Steps.{IsGraphOf}
 use Rattle.ags_links.specs.Walks.{Wiring}
 use Rattle.ags_check.specs.HeaderPhase.{header_rules}
-use Rattle.ags_check.specs.RowPhase.{row_rules}
+use Rattle.ags_check.specs.RowPhase.{entry_rules}
 
 -- The phases behind those of the rows: a file's groups, against the dictionary given and its extended entries.
 abbrev pub dictionary_phases : Entries → Entries → List Group → List (Finding → Type 0)
-dictionary_phases given entries groups = OneOf (header_rules given entries groups) ∷ OneOf (row_rules entries groups) ∷ []
+dictionary_phases given entries groups = OneOf (header_rules given entries groups) ∷ OneOf (entry_rules entries groups) ∷ []
 
 -- none of the rules is broken
 abbrev pub IsClear : List (Finding → Type 0) → Type 0
@@ -28,10 +28,16 @@ all_phases given file = phases file ++ dictionary_phases given (extended given (
 abbrev pub Findings : Entries → List ℕ → List Finding → Type 0
 Findings given bytes found = (file : File) × IsFile bytes file × FirstFound (all_phases given file) found
 
--- the graph has the file's DATA rows, and all steps between them, sorted, each once
-pub record IsGraphOf (groups : List Group) (entries : Entries) (graph : Wiring) : Type 0 where
-  pub rows : graph.rows ≡ length (data_rows (contents_of groups))
-  pub steps : ListsSteps graph.steps (StepAt (record { contents = contents_of groups; entries = entries }))
+-- contents, read under the entries given and those of their own DICT
+abbrev pub read_under : Entries → List Contents → DataFile
+read_under given contents = record { contents = contents; entries = extended given contents }
+
+-- The bytes have no finding under the entries given, and this is what stands in them.
+pub record IsCleanFile (given : Entries) (bytes : List ℕ) (file : DataFile) : Type 0 where
+  pub groups : List Group
+  pub read : FileGroups bytes groups
+  pub same : file ≡ read_under given (contents_of groups)
+  pub findings : Findings given bytes []
 
 -- What is kept of a file that was checked: the entries given, its bytes, its groups, the entries of the extended dictionary, and its graph.
 pub record CheckedFile : Type 0 where
@@ -41,12 +47,15 @@ pub record CheckedFile : Type 0 where
   pub entries : Entries
   pub graph : Wiring
 
--- The file has no finding under the entries given, and these are its groups, its extended entries and its graph.
-pub record IsClean (file : CheckedFile) : Type 0 where
-  pub groups : FileGroups file.bytes file.groups
-  pub entries : file.entries ≡ extended file.given (contents_of file.groups)
-  pub graph : IsGraphOf file.groups file.entries file.graph
-  pub findings : Findings file.given file.bytes []
+-- the contents of its groups, under its entries
+abbrev pub file_of : CheckedFile → DataFile
+file_of checked = record { contents = contents_of checked.groups; entries = checked.entries }
+
+-- These are the groups of the bytes; what stands in them has no finding; and the graph is its graph.
+pub record IsClean (checked : CheckedFile) : Type 0 where
+  pub groups : FileGroups checked.bytes checked.groups
+  pub file : IsCleanFile checked.given checked.bytes (file_of checked)
+  pub graph : IsGraphOf (file_of checked) checked.graph
 
 -- the first entries of a dictionary: so many for groups, and so many for headings
 abbrev pub first_entries : ℕ → ℕ → Entries → Entries

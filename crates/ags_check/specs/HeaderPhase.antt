@@ -15,8 +15,8 @@ abbrev pub unknown_code : List Contents → Code
 unknown_code file = if has_dict file then Rule9 else Rule18
 
 -- the fourth phase's rules on the HEADING row of a group that the dictionary knows
-abbrev pub heading_rules : Entries → Entries → Code → Group → List (Finding → Type 0)
-heading_rules given entries unknown group =
+abbrev pub heading_row_rules : Entries → Entries → Code → Group → List (Finding → Type 0)
+heading_row_rules given entries unknown group =
     AtHeading unknown (IsUnknownHeading entries (group_contents group)) group
     ∷ AtHeading Rule7 (IsMisplaced entries (group_contents group)) group
     ∷ AtHeading Rule10a (LacksKey entries (group_contents group)) group
@@ -34,11 +34,11 @@ only_row_rules group =
     ∷ []
 
 -- the fourth phase's rules on one group. Of a group without an entry only the first stands, of those that ask the dictionary.
-abbrev pub group_rules : Entries → Entries → List Contents → Code → Group → List (Finding → Type 0)
-group_rules given entries file unknown group =
+abbrev pub group_header_rules : Entries → Entries → List Contents → Code → Group → List (Finding → Type 0)
+group_header_rules given entries file unknown group =
     AtGroup unknown (IsUnknownGroup entries (group_contents group)) group
     ∷ AtGroup Rule10c (LacksParentGroup entries file (group_contents group)) group
-    ∷ OfKnown entries group (heading_rules given entries unknown group)
+    ∷ OfKnown entries group (heading_row_rules given entries unknown group)
     ∷ OneOf (only_row_rules group)
     ∷ []
 
@@ -54,6 +54,6 @@ file_rules file =
 -- the fourth phase: the groups of a file against its dictionary
 abbrev pub header_rules : Entries → Entries → List Group → List (Finding → Type 0)
 header_rules given entries groups =
-    InGroups groups (group_rules given entries (contents_of groups) (unknown_code (contents_of groups)))
+    InGroups groups (group_header_rules given entries (contents_of groups) (unknown_code (contents_of groups)))
     ∷ OneOf (file_rules (contents_of groups))
     ∷ []

@@ -1,5 +1,5 @@
 -- The rules of the fifth phase as findings.
-use Rattle.std.specs.Prelude.{◌≡◌, ℕ, ◌+◌, List, [], ◌∷◌, length, take, codes}
+use Rattle.std.specs.Prelude.{◌≡◌, ℕ, ◌+◌, List, [], ◌∷◌, codes}
 use Rattle.ags_rows.specs.declared.codes.Code.TheVariants.{Rule8, Rule10a, Rule10b, Rule10c, Rule11c, Rule15, Rule16, Rule17, Rule20}
 use Rattle.ags_rows.specs.declared.codes.Finding.{Finding}
 use Rattle.ags_rows.specs.declared.rows.Group.{Group}
@@ -7,23 +7,23 @@ use Rattle.ags_rows.specs.declared.rows.Row.{Row}
 use Rattle.ags_rows.specs.Collecting.{Notes, Among, OneOf}
 use Rattle.ags_rows.specs.Contents.{Contents, group_contents, contents_of, fields_of}
 use Rattle.ags_dict.specs.Entries.{Entries, required_of}
-use Rattle.ags_links.specs.DataRows.{DataRow, row_in, entry_of, data_rows}
-use Rattle.ags_check.specs.RowRules.{Entry, entry_in, unit_over, type_over, IsUnfit, IsUnlistedUnit, IsUnlistedType, IsUnlistedUnitEntry, IsUnlistedAbbreviationEntry, IsUnlistedTypeEntry, IsBrokenLink, RepeatsKey, LacksParentRow, IsUnlistedFileSet}
+use Rattle.ags_links.specs.DataRows.{DataRow, row_in, entry_of, rows_before}
+use Rattle.ags_check.specs.RowRules.{DataEntry, entry_in, unit_over, type_over, IsUnfit, IsUnlistedUnit, IsUnlistedType, IsUnlistedUnitEntry, IsUnlistedAbbreviationEntry, IsUnlistedTypeEntry, IsBrokenLink, RepeatsKey, LacksParentRow, IsUnlistedFileSet}
 
 -- some heading of the list breaks one of the rules on headings
 abbrev pub InHeadings : List (List ℕ) → (List ℕ → List (Finding → Type 0)) → Finding → Type 0
 InHeadings headings rules found = Among headings (λ _ heading f. OneOf (rules heading) f) found
 
 -- the rules on what stands over a heading, in the UNIT and the TYPE row
-abbrev pub header_rules_of : List Contents → Group → List ℕ → List (Finding → Type 0)
-header_rules_of file group heading =
+abbrev pub unit_and_type_rules : List Contents → Group → List ℕ → List (Finding → Type 0)
+unit_and_type_rules file group heading =
     Notes group.unit_line Rule15 heading (IsUnlistedUnit file (unit_over (group_contents group) heading))
     ∷ Notes group.type_line Rule17 heading (IsUnlistedType file (type_over (group_contents group) heading))
     ∷ []
 
 -- the rules on an entry, at its row's line; the subject is the heading
-abbrev pub entry_rules : List Contents → ℕ → Entry → List (Finding → Type 0)
-entry_rules file line entry =
+abbrev pub data_entry_rules : List Contents → ℕ → DataEntry → List (Finding → Type 0)
+data_entry_rules file line entry =
     Notes line Rule8 entry.heading (IsUnfit entry)
     ∷ Notes line Rule15 entry.heading (IsUnlistedUnitEntry file entry)
     ∷ Notes line Rule16 entry.heading (IsUnlistedAbbreviationEntry file entry)
@@ -39,9 +39,9 @@ abbrev pub required_rules : ℕ → DataRow → List ℕ → List (Finding → T
 required_rules line row heading = Notes line Rule10b heading (entry_of row heading ≡ []) ∷ []
 
 -- the rules on a DATA row, by its number in the file
-abbrev pub data_rules : Entries → List Contents → Group → ℕ → Row → List (Finding → Type 0)
-data_rules entries file group number row =
-    InHeadings group.headings (λ heading. entry_rules file row.line (entry_in (group_contents group) (fields_of row) heading))
+abbrev pub data_row_rules : Entries → List Contents → Group → ℕ → Row → List (Finding → Type 0)
+data_row_rules entries file group number row =
+    InHeadings group.headings (λ heading. data_entry_rules file row.line (entry_in (group_contents group) (fields_of row) heading))
     ∷ InHeadings group.headings (link_rules entries file row.line (row_in (group_contents group) (fields_of row)))
     ∷ InHeadings (required_of entries group.name) (required_rules row.line (row_in (group_contents group) (fields_of row)))
     ∷ Notes row.line Rule10a group.name (RepeatsKey entries file number (row_in (group_contents group) (fields_of row)))
@@ -50,16 +50,12 @@ data_rules entries file group number row =
     ∷ []
 
 -- the rules on one group, whose DATA rows are numbered from `first`
-abbrev pub row_rules_of : Entries → List Contents → ℕ → Group → List (Finding → Type 0)
-row_rules_of entries file first group =
-    InHeadings group.headings (header_rules_of file group)
-    ∷ Among group.rows (λ place row f. OneOf (data_rules entries file group (first + place) row) f)
+abbrev pub entry_rules_of : Entries → List Contents → ℕ → Group → List (Finding → Type 0)
+entry_rules_of entries file first group =
+    InHeadings group.headings (unit_and_type_rules file group)
+    ∷ Among group.rows (λ place row f. OneOf (data_row_rules entries file group (first + place) row) f)
     ∷ []
 
--- how many DATA rows stand in the groups before this place
-abbrev pub rows_before : List Contents → ℕ → ℕ
-rows_before file place = length (data_rows (take place file))
-
 -- the fifth phase: the UNIT, TYPE and DATA rows
-abbrev pub row_rules : Entries → List Group → List (Finding → Type 0)
-row_rules entries groups = Among groups (λ place group f. OneOf (row_rules_of entries (contents_of groups) (rows_before (contents_of groups) place) group) f) ∷ []
+abbrev pub entry_rules : Entries → List Group → List (Finding → Type 0)
+entry_rules entries groups = Among groups (λ place group f. OneOf (entry_rules_of entries (contents_of groups) (rows_before (contents_of groups) place) group) f) ∷ []

@@ -7,7 +7,7 @@ use Rattle.ags_rows.specs.Contents.{Contents, under}
 use Rattle.ags_dict.specs.Parts.{parts_at}
 use Rattle.ags_dict.specs.Entries.{Entries, keys_of, parent_of}
 use Rattle.ags_cells.specs.Fits.{FitsTypeCode}
-use Rattle.ags_links.specs.DataRows.{DataRow, IsRow, entry_of, data_rows}
+use Rattle.ags_links.specs.DataRows.{DataRow, IsDataRow, entry_of, data_rows}
 use Rattle.ags_links.specs.Keys.{HasKeyOf}
 use Rattle.ags_links.specs.Parents.{IsParentRow}
 use Rattle.ags_links.specs.RecordLinks.{separators_of, IsBroken}
@@ -57,7 +57,7 @@ pub record IsUnlistedAbbreviation (file : List Contents) (heading text : List �
 -- ---- of an entry of a DATA row
 
 -- An entry: the heading that it stands under, that heading's unit and type, and its text.
-pub record Entry : Type 0 where
+pub record DataEntry : Type 0 where
   pub heading : List ℕ
   pub unit : List ℕ
   pub code : List ℕ
@@ -71,7 +71,7 @@ abbrev pub type_over : Contents → List ℕ → List ℕ
 type_over group heading = under group.headings group.types heading
 
 -- the row's entry under a heading
-abbrev pub entry_in : Contents → List (List ℕ) → List ℕ → Entry
+abbrev pub entry_in : Contents → List (List ℕ) → List ℕ → DataEntry
 entry_in group fields heading = record {
   heading = heading;
   unit = unit_over group heading;
@@ -80,23 +80,23 @@ entry_in group fields heading = record {
 }
 
 -- Rule 8: the entry is not null, and does not fit type and unit.
-abbrev pub IsUnfit : Entry → Type 0
+abbrev pub IsUnfit : DataEntry → Type 0
 IsUnfit entry = (entry.text ≢ []) × (FitsTypeCode entry.code entry.unit entry.text → ⊥)
 
 -- an entry of this type, of whose text something holds
-abbrev pub IsOfType : List ℕ → (List ℕ → Type 0) → Entry → Type 0
+abbrev pub IsOfType : List ℕ → (List ℕ → Type 0) → DataEntry → Type 0
 IsOfType code Breaks entry = (entry.code ≡ code) × Breaks entry.text
 
 -- Rule 15: an entry of type PU.
-abbrev pub IsUnlistedUnitEntry : List Contents → Entry → Type 0
+abbrev pub IsUnlistedUnitEntry : List Contents → DataEntry → Type 0
 IsUnlistedUnitEntry file entry = IsOfType (codes "PU") (IsUnlistedUnit file) entry
 
 -- Rule 16: an entry of type PA.
-abbrev pub IsUnlistedAbbreviationEntry : List Contents → Entry → Type 0
+abbrev pub IsUnlistedAbbreviationEntry : List Contents → DataEntry → Type 0
 IsUnlistedAbbreviationEntry file entry = IsOfType (codes "PA") (IsUnlistedAbbreviation file entry.heading) entry
 
 -- Rule 17: an entry of type PT.
-abbrev pub IsUnlistedTypeEntry : List Contents → Entry → Type 0
+abbrev pub IsUnlistedTypeEntry : List Contents → DataEntry → Type 0
 IsUnlistedTypeEntry file entry = IsOfType (codes "PT") (IsUnlistedType file) entry
 
 -- ---- of a DATA row
@@ -113,7 +113,7 @@ pub record RepeatsKey (entries : Entries) (file : List Contents) (number : ℕ) 
   pub earlier : ℕ
   pub other : DataRow
   pub before : earlier < number
-  pub stands : IsRow (data_rows file) earlier other
+  pub stands : IsDataRow (data_rows file) earlier other
   pub equal : HasKeyOf entries row other
 
 -- Rule 10c: the group has a parent group, and the row has no parent row.

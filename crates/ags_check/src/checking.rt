@@ -3,16 +3,18 @@
 ghost use Rattle.std.specs.Prelude.{◌≡◌, ◌≢◌, ◌≤◌, List, [], length, IfOk, OnOk, IsErrOf};
 ghost use Rattle.ags_rows.specs.declared.codes.Finding.{Finding};
 ghost use Rattle.ags_rows.specs.Collecting.{OneOf};
+ghost use Rattle.ags_rows.specs.Contents.{contents_of};
 ghost use Rattle.ags_rows.specs.Findings.{Lists, RowFindings, FileGroups};
 ghost use Rattle.ags_check.specs.declared.checking.CheckError.TheVariants.{NoMemory};
-ghost use Rattle.ags_check.specs.Findings.{IsClear, IsGraphOf, Findings, IsClean};
+ghost use Rattle.ags_links.specs.Steps.{IsGraphOf};
+ghost use Rattle.ags_check.specs.Findings.{IsClear, Findings, IsClean};
 ghost use Rattle.ags_check.specs.HeaderPhase.{header_rules};
-ghost use Rattle.ags_check.specs.RowPhase.{row_rules};
+ghost use Rattle.ags_check.specs.RowPhase.{entry_rules};
 
-use crate::clean::Checked;
-use crate::file::File;
+use crate::checked::Checked;
 use crate::header::header_findings;
-use crate::rows::row_findings;
+use crate::named_groups::NamedGroups;
+use crate::rows::entry_findings;
 use ags_dict::Dictionary;
 use ags_links::{Graph, Index};
 use ags_rows::{Finding, READABLE, RowsError, Scan, Sequence};
@@ -71,7 +73,7 @@ fn check_headers(
     ensures clear { OnOk result (IsClear (header_rules given.now extended.now scan.now)) }
     ensures findings { (found : List Finding) → IsErrOf result (CheckError.Findings found) → Lists (OneOf (header_rules given.now extended.now scan.now)) found × (found ≢ []) }
 {
-    let file = File::of(alloc, scan.groups())?;
+    let file = NamedGroups::of(alloc, scan.groups())?;
     let found = header_findings(alloc, given, extended, &file)?;
     if !found.is_empty() {
         return Err(CheckError::Findings(found));
@@ -81,12 +83,12 @@ fn check_headers(
 
 /// The steps between the rows, if these break nothing of the fifth phase, or all its findings.
 fn check_rows(alloc: Global, dictionary: &Dictionary, scan: &Scan) -> Result<Graph, CheckError>
-    ensures graph { IfOk result (IsGraphOf scan.now dictionary.now) }
-    ensures clear { OnOk result (IsClear (row_rules dictionary.now scan.now)) }
-    ensures findings { (found : List Finding) → IsErrOf result (CheckError.Findings found) → Lists (OneOf (row_rules dictionary.now scan.now)) found × (found ≢ []) }
+    ensures graph { IfOk result (IsGraphOf (record { contents = contents_of scan.now; entries = dictionary.now })) }
+    ensures clear { OnOk result (IsClear (entry_rules dictionary.now scan.now)) }
+    ensures findings { (found : List Finding) → IsErrOf result (CheckError.Findings found) → Lists (OneOf (entry_rules dictionary.now scan.now)) found × (found ≢ []) }
 {
     let index = Index::build(alloc, scan, dictionary)?;
-    let of_rows = row_findings(alloc, dictionary, &index, scan.groups())?;
+    let of_rows = entry_findings(alloc, dictionary, &index, scan.groups())?;
     if !of_rows.is_empty() {
         return Err(CheckError::Findings(of_rows));
     }

@@ -5,24 +5,24 @@ ghost use Rattle.ags_rows.specs.Collecting.{Adds, OneOf};
 ghost use Rattle.ags_rows.specs.Contents.{contents_of};
 ghost use Rattle.ags_rows.specs.Findings.{Lists};
 ghost use Rattle.ags_check.specs.Placing.{OfKnown, InGroups};
-ghost use Rattle.ags_check.specs.HeaderPhase.{heading_rules, only_row_rules, group_rules, file_rules, header_rules};
+ghost use Rattle.ags_check.specs.HeaderPhase.{heading_row_rules, only_row_rules, group_header_rules, file_rules, header_rules};
 
 pub mod groups;
 pub mod headings;
 pub mod only_rows;
 
-use crate::file::File;
 use crate::header::groups::{
     note_absent_group, note_lacking_parent, note_unknown_group, unknown_code,
 };
 use crate::header::headings::{note_absent, note_misnamed, note_misplaced, note_unknown};
 use crate::header::only_rows::{note_further_rows, note_long_sign};
+use crate::named_groups::NamedGroups;
 use ags_dict::Dictionary;
 use ags_rows::{Code, Finding, Group, Places, Sequence, in_order};
 use std::alloc::{AllocError, Global};
 
 /// What the HEADING row of a group breaks, where the dictionary knows the group.
-fn note_headings(
+fn note_heading_row(
     alloc: Global,
     given: &Dictionary,
     extended: &Dictionary,
@@ -30,7 +30,7 @@ fn note_headings(
     group: &Group,
     findings: &mut Vec<Finding>,
 ) -> Result<(), AllocError>
-    ensures { OnOk result (Adds (OneOf (heading_rules given.now extended.now code group.now)) findings.old.items findings.new.items) }
+    ensures { OnOk result (Adds (OneOf (heading_row_rules given.now extended.now code group.now)) findings.old.items findings.new.items) }
 {
     let name = group.name.as_slice();
     let line = group.heading_line;
@@ -54,7 +54,7 @@ fn note_headings(
 }
 
 /// The same, where the dictionary has an entry for the group.
-fn note_known(
+fn note_known_heading_row(
     alloc: Global,
     given: &Dictionary,
     extended: &Dictionary,
@@ -62,12 +62,12 @@ fn note_known(
     group: &Group,
     findings: &mut Vec<Finding>,
 ) -> Result<(), AllocError>
-    ensures { OnOk result (Adds (OfKnown extended.now group.now (heading_rules given.now extended.now code group.now)) findings.old.items findings.new.items) }
+    ensures { OnOk result (Adds (OfKnown extended.now group.now (heading_row_rules given.now extended.now code group.now)) findings.old.items findings.new.items) }
 {
     if !extended.has_group(group.name.as_slice()) {
         return Ok(());
     }
-    note_headings(alloc, given, extended, code, group, findings)?;
+    note_heading_row(alloc, given, extended, code, group, findings)?;
     Ok(())
 }
 
@@ -87,44 +87,48 @@ fn note_only_rows(
 }
 
 /// What one group breaks.
-fn note_group(
+fn note_header_rows(
     alloc: Global,
     given: &Dictionary,
     extended: &Dictionary,
-    file: &File,
+    file: &NamedGroups,
     code: Code,
     group: &Group,
     findings: &mut Vec<Finding>,
 ) -> Result<(), AllocError>
-    ensures { OnOk result (Adds (OneOf (group_rules given.now extended.now (contents_of file.now) code group.now)) findings.old.items findings.new.items) }
+    ensures { OnOk result (Adds (OneOf (group_header_rules given.now extended.now (contents_of file.now) code group.now)) findings.old.items findings.new.items) }
 {
     note_unknown_group(alloc, extended, code, group, findings)?;
     note_lacking_parent(alloc, extended, file, group, findings)?;
-    note_known(alloc, given, extended, code, group, findings)?;
+    note_known_heading_row(alloc, given, extended, code, group, findings)?;
     note_only_rows(alloc, group, findings)?;
     Ok(())
 }
 
 /// What the groups break, one after the other.
-fn note_groups(
+fn note_all_header_rows(
     alloc: Global,
     given: &Dictionary,
     extended: &Dictionary,
-    file: &File,
+    file: &NamedGroups,
     code: Code,
     findings: &mut Vec<Finding>,
 ) -> Result<(), AllocError>
-    ensures { OnOk result (Adds (InGroups file.now (group_rules given.now extended.now (contents_of file.now) code)) findings.old.items findings.new.items) }
+    ensures { OnOk result (Adds (InGroups file.now (group_header_rules given.now extended.now (contents_of file.now) code)) findings.old.items findings.new.items) }
 {
     let groups = file.groups();
     for (i, group) in groups.iter().enumerate() {
-        note_group(alloc, given, extended, file, code, group, findings)?;
+        note_header_rows(alloc, given, extended, file, code, group, findings)?;
     }
     Ok(())
 }
 
 /// What the file lacks.
-fn note_file(alloc: Global, file: &File, findings: &mut Vec<Finding>) -> Result<(), AllocError>
+fn note_absent_groups(
+    alloc: Global,
+    file: &NamedGroups,
+    findings: &mut Vec<Finding>,
+) -> Result<(), AllocError>
     ensures { OnOk result (Adds (OneOf (file_rules (contents_of file.now))) findings.old.items findings.new.items) }
 {
     note_absent_group(alloc, file, Code::Rule13, b"PROJ", findings)?;
@@ -139,13 +143,13 @@ pub fn header_findings(
     alloc: Global,
     given: &Dictionary,
     extended: &Dictionary,
-    file: &File,
+    file: &NamedGroups,
 ) -> Result<Sequence<Finding>, AllocError>
     ensures { IfOk result (Lists (OneOf (header_rules given.now extended.now file.now))) }
 {
     let mut findings = Vec::new(alloc);
     let code = unknown_code(file.groups());
-    note_groups(alloc, given, extended, file, code, &mut findings)?;
-    note_file(alloc, file, &mut findings)?;
+    note_all_header_rows(alloc, given, extended, file, code, &mut findings)?;
+    note_absent_groups(alloc, file, &mut findings)?;
     Ok(in_order(findings))
 }

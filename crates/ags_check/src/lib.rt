@@ -1,14 +1,14 @@
 //! What an AGS4 file breaks of the rules, phase by phase.
 #![tactic(auto)]
 
+mod checked;
 mod checking;
-mod clean;
-mod file;
 mod header;
 pub mod laws;
+mod named_groups;
 mod rows;
 #[cfg(test)]
 mod tests;
 
+pub use checked::Checked;
 pub use checking::{CheckError, check};
-pub use clean::Checked;

@@ -4,23 +4,23 @@ ghost use Rattle.std.specs.Prelude.{◌≡◌, ◌<◌, ◌+◌, ◌^◌, IfOk, 
 ghost use Rattle.ags_rows.specs.Findings.{Lists};
 ghost use Rattle.ags_rows.specs.Collecting.{Adds, OneOf, Among};
 ghost use Rattle.ags_rows.specs.Contents.{group_contents, contents_of, fields_of};
-ghost use Rattle.ags_links.specs.DataRows.{data_rows, row_in, IsRow};
+ghost use Rattle.ags_links.specs.DataRows.{data_rows, row_in, IsDataRow};
 ghost use Rattle.ags_links.specs.Indexing.{rows_in};
 ghost use Rattle.ags_check.specs.Columns.{RowsStand};
 ghost use Rattle.ags_check.specs.RowRules.{entry_in};
 ghost use Rattle.ags_dict.specs.Entries.{required_of};
-ghost use Rattle.ags_check.specs.RowPhase.{InHeadings, header_rules_of, entry_rules, link_rules, required_rules, data_rules, row_rules_of, row_rules};
+ghost use Rattle.ags_check.specs.RowPhase.{InHeadings, unit_and_type_rules, data_entry_rules, link_rules, required_rules, data_row_rules, entry_rules_of, entry_rules};
 
 pub mod abbreviations;
+pub mod code_lists;
 pub mod columns;
 pub mod entries;
 pub mod links;
-pub mod listed;
 pub mod outline;
 
-use crate::rows::entries::{note_entries, note_header, note_lacking};
+use crate::rows::code_lists::CodeLists;
+use crate::rows::entries::{note_columns, note_entries, note_lacking};
 use crate::rows::links::note_links;
-use crate::rows::listed::Listed;
 use crate::rows::outline::Outline;
 use ags_dict::Dictionary;
 use ags_links::Index;
@@ -36,7 +36,7 @@ fn note_row_links(
     number: u32,
     findings: &mut Vec<Finding>,
 ) -> Result<(), AllocError>
-    requires { IsRow (rows_in index.now) number (row_in (group_contents outline.now.group) (fields_of row.now)) }
+    requires { IsDataRow (rows_in index.now) number (row_in (group_contents outline.now.group) (fields_of row.now)) }
     ensures { OnOk result (Adds (InHeadings outline.now.group.headings
         (link_rules index.now.entries index.now.contents row.now.line (row_in (group_contents outline.now.group) (fields_of row.now))))
         findings.old.items findings.new.items) }
@@ -60,13 +60,13 @@ fn note_row_links(
 /// What the entries of a row break.
 fn note_row_entries<'a>(
     alloc: Global,
-    listed: &Listed<'a>,
+    listed: &CodeLists<'a>,
     outline: &Outline<'a>,
     row: &'a Row,
     findings: &mut Vec<Finding>,
 ) -> Result<(), AllocError>
     ensures { OnOk result (Adds (InHeadings outline.now.group.headings
-        (λ heading. entry_rules listed.now row.now.line (entry_in (group_contents outline.now.group) (fields_of row.now) heading)))
+        (λ heading. data_entry_rules listed.now row.now.line (entry_in (group_contents outline.now.group) (fields_of row.now) heading)))
         findings.old.items findings.new.items) }
 {
     let columns = outline.columns.as_slice();
@@ -98,19 +98,19 @@ fn note_row_lacking(
 }
 
 /// What a DATA row breaks.
-fn note_row<'a>(
+fn note_data_row<'a>(
     alloc: Global,
     index: &Index,
-    listed: &Listed<'a>,
+    listed: &CodeLists<'a>,
     outline: &Outline<'a>,
     row: &'a Row,
     number: u32,
     findings: &mut Vec<Finding>,
 ) -> Result<(), AllocError>
-    requires row { IsRow (rows_in index.now) number (row_in (group_contents outline.now.group) (fields_of row.now)) }
+    requires row { IsDataRow (rows_in index.now) number (row_in (group_contents outline.now.group) (fields_of row.now)) }
     requires listed { listed.now ≡ index.now.contents }
     requires entries { outline.now.entries ≡ index.now.entries }
-    ensures { OnOk result (Adds (OneOf (data_rules index.now.entries index.now.contents outline.now.group number row.now)) findings.old.items findings.new.items) }
+    ensures { OnOk result (Adds (OneOf (data_row_rules index.now.entries index.now.contents outline.now.group number row.now)) findings.old.items findings.new.items) }
 {
     let line = row.line;
     let name = outline.name();
@@ -134,10 +134,10 @@ fn note_row<'a>(
 }
 
 /// What the DATA rows of a group break.
-fn note_rows<'a>(
+fn note_data_rows<'a>(
     alloc: Global,
     index: &Index,
-    listed: &Listed<'a>,
+    listed: &CodeLists<'a>,
     outline: &Outline<'a>,
     first: u32,
     findings: &mut Vec<Finding>,
@@ -147,12 +147,12 @@ fn note_rows<'a>(
     requires listed { listed.now ≡ index.now.contents }
     requires entries { outline.now.entries ≡ index.now.entries }
     ensures { OnOk result (Adds
-        (Among outline.now.group.rows (λ place row f. OneOf (data_rules index.now.entries index.now.contents outline.now.group (first + place) row) f))
+        (Among outline.now.group.rows (λ place row f. OneOf (data_row_rules index.now.entries index.now.contents outline.now.group (first + place) row) f))
         findings.old.items findings.new.items) }
 {
     let rows = outline.rows();
     for (i, row) in rows.iter().enumerate() {
-        note_row(
+        note_data_row(
             alloc,
             index,
             listed,
@@ -166,11 +166,11 @@ fn note_rows<'a>(
 }
 
 /// What the UNIT, TYPE and DATA rows of a group break.
-fn note_group<'a>(
+fn note_group_entries<'a>(
     alloc: Global,
     dictionary: &'a Dictionary,
     index: &Index,
-    listed: &Listed<'a>,
+    listed: &CodeLists<'a>,
     group: &'a Group<'a>,
     first: u32,
     findings: &mut Vec<Finding>,
@@ -179,30 +179,30 @@ fn note_group<'a>(
     requires few { first + length group.now.rows < 2 ^ 32 }
     requires listed { listed.now ≡ index.now.contents }
     requires entries { dictionary.now ≡ index.now.entries }
-    ensures { OnOk result (Adds (OneOf (row_rules_of index.now.entries index.now.contents first group.now)) findings.old.items findings.new.items) }
+    ensures { OnOk result (Adds (OneOf (entry_rules_of index.now.entries index.now.contents first group.now)) findings.old.items findings.new.items) }
 {
     let outline = Outline::of(alloc, dictionary, group)?;
-    note_group_header(alloc, &outline, listed, findings)?;
-    note_rows(alloc, index, listed, &outline, first, findings)?;
+    note_units_and_types(alloc, &outline, listed, findings)?;
+    note_data_rows(alloc, index, listed, &outline, first, findings)?;
     Ok(())
 }
 
 /// What the UNIT and TYPE row of a group break.
-fn note_group_header(
+fn note_units_and_types(
     alloc: Global,
     outline: &Outline,
-    listed: &Listed,
+    listed: &CodeLists,
     findings: &mut Vec<Finding>,
 ) -> Result<(), AllocError>
-    ensures { OnOk result (Adds (InHeadings outline.now.group.headings (header_rules_of listed.now outline.now.group)) findings.old.items findings.new.items) }
+    ensures { OnOk result (Adds (InHeadings outline.now.group.headings (unit_and_type_rules listed.now outline.now.group)) findings.old.items findings.new.items) }
 {
     let columns = outline.columns.as_slice();
-    note_header(alloc, outline.group, columns, listed, findings)?;
+    note_columns(alloc, outline.group, columns, listed, findings)?;
     Ok(())
 }
 
 /// What the UNIT, TYPE and DATA rows of all groups break.
-fn note_groups<'a>(
+fn note_all_entries<'a>(
     alloc: Global,
     dictionary: &'a Dictionary,
     index: &Index,
@@ -212,20 +212,20 @@ fn note_groups<'a>(
     requires contents { index.now.contents ≡ contents_of groups.now }
     requires entries { dictionary.now ≡ index.now.entries }
     requires few { length (rows_in index.now) < 2 ^ 32 }
-    ensures { OnOk result (Adds (OneOf (row_rules dictionary.now groups.now)) findings.old.items findings.new.items) }
+    ensures { OnOk result (Adds (OneOf (entry_rules dictionary.now groups.now)) findings.old.items findings.new.items) }
 {
-    let listed = Listed::of(alloc, groups)?;
+    let listed = CodeLists::of(alloc, groups)?;
     let mut first = 0;
     for (i, group) in groups.iter().enumerate() {
         let size = group.rows.len();
-        note_group(alloc, dictionary, index, &listed, group, first, findings)?;
+        note_group_entries(alloc, dictionary, index, &listed, group, first, findings)?;
         first += size as u32;
     }
     Ok(())
 }
 
 /// The findings of the fifth phase, in order, each once.
-pub fn row_findings<'a>(
+pub fn entry_findings<'a>(
     alloc: Global,
     dictionary: &'a Dictionary,
     index: &Index,
@@ -233,11 +233,11 @@ pub fn row_findings<'a>(
 ) -> Result<Sequence<Finding>, AllocError>
     requires contents { index.now.contents ≡ contents_of groups.now }
     requires entries { dictionary.now ≡ index.now.entries }
-    ensures { IfOk result (Lists (OneOf (row_rules dictionary.now groups.now))) }
+    ensures { IfOk result (Lists (OneOf (entry_rules dictionary.now groups.now))) }
 {
     let mut findings = Vec::new(alloc);
     // the index counts its rows with a number below 2^32, so each has its own
     index.row_count();
-    note_groups(alloc, dictionary, index, groups, &mut findings)?;
+    note_all_entries(alloc, dictionary, index, groups, &mut findings)?;
     Ok(in_order(findings))
 }

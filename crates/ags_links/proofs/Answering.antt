@@ -4,7 +4,7 @@ use Rattle.std.specs.List.Sorted.{IsStrictlyIncreasing}
 use Rattle.ags_dict.specs.Entries.{Entries, parent_of}
 use Rattle.ags_dict.specs.Parts.{parts_at}
 use Rattle.ags_links.specs.declared.lookup.Lookup.{Lookup}
-use Rattle.ags_links.specs.DataRows.{DataRow, IsRow, Between, ListsRows, entry_of}
+use Rattle.ags_links.specs.DataRows.{DataRow, IsDataRow, Between, ListsRows, entry_of}
 use Rattle.ags_links.specs.Families.{HasText, HasKeyText, HasFileSet}
 use Rattle.ags_links.specs.Keys.{key_of, HasKeyOf, IsFirstOfKey}
 use Rattle.ags_links.specs.KeyTexts.{key_text}
@@ -47,20 +47,14 @@ lists_found lookup Has text numbers IsOne finds e to from = record {
   );
 }
 
-pub lists_none : (IsOne : ℕ → Type 0) → ((n : ℕ) → IsOne n → ⊥) → ListsRows [] IsOne
-lists_none IsOne none = record {
-  rising = rising_nil;
-  exact = λ n. (λ h. absurd (omega (arith, h.1)), λ h. absurd (none n h));
-}
-
 -- ---- parents
 
 pub some_same : (p q : List ℕ) → Some p ≡ Some q → p ≡ q
 some_same p q e = cc
 
 -- a row that has the entries in the row's parent group is a parent row, and the other way round
-pub parents_listed : (entries : Entries) (rows : List DataRow) (n : ℕ) (r : DataRow) (names : List (List ℕ)) (lookup : Lookup) (text numbers : List ℕ) → IsRow rows n r
-    → ((m : ℕ) (s : DataRow) → IsRow rows m s → parent_of entries r.group ≡ Some s.group → AreLinkHeadings entries s.group r.headings names)
+pub parents_listed : (entries : Entries) (rows : List DataRow) (n : ℕ) (r : DataRow) (names : List (List ℕ)) (lookup : Lookup) (text numbers : List ℕ) → IsDataRow rows n r
+    → ((m : ℕ) (s : DataRow) → IsDataRow rows m s → parent_of entries r.group ≡ Some s.group → AreLinkHeadings entries s.group r.headings names)
     → Finds lookup (HasText rows (HasParentEntries entries r.group names)) → numbers ≡ found lookup text → text ≡ key_text (map (entry_of r) names) → ListsRows numbers (Between rows (IsParentRow entries) n)
 parents_listed entries rows n r names lookup text numbers row headings finds e spelled =
     lists_found lookup (HasText rows (HasParentEntries entries r.group names)) text numbers (Between rows (IsParentRow entries) n) finds e
@@ -90,11 +84,11 @@ contains_first : (numbers : List ℕ) → 0 < length numbers → Contains number
 contains_first [] lt = absurd (omega arith)
 contains_first (n ∷ numbers) lt = contains_head n numbers
 
-pub key_found : (entries : Entries) (rows : List DataRow) (n : ℕ) (r : DataRow) (lookup : Lookup) (text : List ℕ) → IsRow rows n r → Finds lookup (HasText rows (HasKeyText entries)) → text ≡ key_text (r.group ∷ key_of entries r)
+pub key_found : (entries : Entries) (rows : List DataRow) (n : ℕ) (r : DataRow) (lookup : Lookup) (text : List ℕ) → IsDataRow rows n r → Finds lookup (HasText rows (HasKeyText entries)) → text ≡ key_text (r.group ∷ key_of entries r)
     → Contains (found lookup text) n
 key_found entries rows n r lookup text row finds spelled = (finds.exact text n).1 (r, row, sym spelled)
 
-pub first_found : (entries : Entries) (rows : List DataRow) (n : ℕ) (r : DataRow) (lookup : Lookup) (text numbers : List ℕ) → IsRow rows n r → Finds lookup (HasText rows (HasKeyText entries)) → text ≡ key_text (r.group ∷ key_of entries r)
+pub first_found : (entries : Entries) (rows : List DataRow) (n : ℕ) (r : DataRow) (lookup : Lookup) (text numbers : List ℕ) → IsDataRow rows n r → Finds lookup (HasText rows (HasKeyText entries)) → text ≡ key_text (r.group ∷ key_of entries r)
     → numbers ≡ found lookup text → 0 < length numbers → IsFirstOfKey rows entries n (get_or numbers 0 0)
 first_found entries rows n r lookup text numbers row finds spelled e some =
     let first = get_or numbers 0 0 in
@@ -112,15 +106,15 @@ first_found entries rows n r lookup text numbers row finds spelled e some =
 -- ---- parts of record links
 
 pub named_listed : (entries : Entries) (rows : List DataRow) (delimiter : ℕ) (part : List ℕ) (lookup : Lookup) (text numbers : List ℕ) → Finds lookup (HasText rows (HasKeyText entries)) → text ≡ key_text (parts_at delimiter part)
-    → numbers ≡ found lookup text → ListsRows numbers (λ m. (s : DataRow) × IsRow rows m s × Names entries delimiter part s)
+    → numbers ≡ found lookup text → ListsRows numbers (λ m. (s : DataRow) × IsDataRow rows m s × Names entries delimiter part s)
 named_listed entries rows delimiter part lookup text numbers finds spelled e =
-    lists_found lookup (HasText rows (HasKeyText entries)) text numbers (λ m. (s : DataRow) × IsRow rows m s × Names entries delimiter part s) finds e
+    lists_found lookup (HasText rows (HasKeyText entries)) text numbers (λ m. (s : DataRow) × IsDataRow rows m s × Names entries delimiter part s) finds e
     (λ m h. (h.0, h.1, key_text_same (parts_at delimiter part) (h.0.group ∷ key_of entries h.0) (sym (h.2 ∙ spelled))))
     (λ m h. (h.0, h.1, ap key_text (sym h.2) ∙ sym spelled))
 
 -- ---- rows of FILE
 
-pub files_listed : (rows : List DataRow) (n : ℕ) (r : DataRow) (lookup : Lookup) (text numbers : List ℕ) → IsRow rows n r → Finds lookup (HasText rows HasFileSet) → text ≡ entry_of r (codes "FILE_FSET") → (text ≡ [] → ⊥)
+pub files_listed : (rows : List DataRow) (n : ℕ) (r : DataRow) (lookup : Lookup) (text numbers : List ℕ) → IsDataRow rows n r → Finds lookup (HasText rows HasFileSet) → text ≡ entry_of r (codes "FILE_FSET") → (text ≡ [] → ⊥)
     → numbers ≡ found lookup text → ListsRows numbers (Between rows IsFileRow n)
 files_listed rows n r lookup text numbers row finds spelled some e =
     lists_found lookup (HasText rows HasFileSet) text numbers (Between rows IsFileRow n) finds e
@@ -129,9 +123,3 @@ files_listed rows n r lookup text numbers row finds spelled some e =
     let is : h.0 ≡ r = one_at rows n h.0 r h.2 row in
     let file : IsFileRow r h.1 = subst (λ q. IsFileRow q h.1) is h.4 in
     (h.1, h.3, (file.0, file.2 ∙ sym spelled)))
-
-pub no_files : (rows : List DataRow) (n : ℕ) (r : DataRow) → IsRow rows n r → entry_of r (codes "FILE_FSET") ≡ [] → ListsRows [] (Between rows IsFileRow n)
-no_files rows n r row null = lists_none (Between rows IsFileRow n) (λ m h.
-    let is : h.0 ≡ r = one_at rows n h.0 r h.2 row in
-    let file : IsFileRow r h.1 = subst (λ q. IsFileRow q h.1) is h.4 in
-    file.1 null)

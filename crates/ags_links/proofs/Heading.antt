@@ -14,7 +14,7 @@ use Rattle.std.proofs.lemmas.Slice.Eq.{bytes_eq-Decides}
 use Rattle.ags_rows.specs.Contents.{place_in, field_at}
 use Rattle.ags_dict.specs.Entries.{Entries, keys_of}
 use Rattle.ags_links.specs.DataRows.{DataRow, entry_of}
-use Rattle.ags_links.specs.Families.{is_among}
+use Rattle.ags_links.specs.Families.{is_one_of}
 use Rattle.ags_links.specs.ParentRows.{AreLinkHeadings}
 use Rattle.ags_links.proofs.Kept.{texts, texts_next, filter_push}
 use Rattle.ags_links.proofs.Members.{contains_filter, filter_contains, contains_map, map_contains}
@@ -50,25 +50,25 @@ name_placed names name h = elim (place_of (place_in names name)) [
   | inr none ↦ absurd (placed names name h none)
 ]
 
-among_contains : (names : List (List ℕ)) (name : List ℕ) → is_among names name ≡ true → Contains names name
+among_contains : (names : List (List ℕ)) (name : List ℕ) → is_one_of names name ≡ true → Contains names name
 among_contains names name e = elim (place_of (place_in names name)) [
   | inl k ↦ let h = at_place names name k.0 k.1 in (k.0, h.0, h.1)
   | inr none ↦ absurd (true≢false (sym e ∙ ap is_some none))
 ]
 
-contains_among : (names : List (List ℕ)) (name : List ℕ) → Contains names name → is_among names name ≡ true
+contains_among : (names : List (List ℕ)) (name : List ℕ) → Contains names name → is_one_of names name ≡ true
 contains_among names name h = ap is_some (name_placed names name h).1
 
 -- ---- link headings
 
 -- those of a group's headings that are KEY headings of its parent group, in any order
-pub link_headings : (entries : Entries) (parent : List ℕ) (headings keys common names : List (List ℕ)) → keys ≡ keys_of entries parent → common ≡ filter (is_among keys) headings
+pub link_headings : (entries : Entries) (parent : List ℕ) (headings keys common names : List (List ℕ)) → keys ≡ keys_of entries parent → common ≡ filter (is_one_of keys) headings
     → ((h : List ℕ) → Contains names h ↔ Contains common h) → AreLinkHeadings entries parent headings names
 link_headings entries parent headings keys common names of_parent are same = λ h. (
   λ named.
-      let k = filter_contains (is_among keys) headings h (subst (λ l. Contains l h) are ((same h).0 named)) in
+      let k = filter_contains (is_one_of keys) headings h (subst (λ l. Contains l h) are ((same h).0 named)) in
       (subst (λ l. Contains l h) of_parent (among_contains keys h k.1), k.0),
-  λ link. (same h).1 (subst (λ l. Contains l h) (sym are) (contains_filter (is_among keys) headings h link.1 (contains_among keys h (subst (λ l. Contains l h) (sym of_parent) link.0)))),
+  λ link. (same h).1 (subst (λ l. Contains l h) (sym are) (contains_filter (is_one_of keys) headings h link.1 (contains_among keys h (subst (λ l. Contains l h) (sym of_parent) link.0)))),
 )
 
 -- names that change places are the same names

@@ -5,12 +5,12 @@ use Rattle.ags_rows.specs.declared.rows.Group.{Group}
 use Rattle.ags_rows.specs.Contents.{contents_of}
 use Rattle.ags_dict.specs.Entries.{Entries}
 use Rattle.ags_links.specs.declared.families.Family.{Family}
-use Rattle.ags_links.specs.declared.parents.ParentLinks.{ParentLinks}
+use Rattle.ags_links.specs.declared.parents.LinkPlaces.{LinkPlaces}
 use Rattle.ags_links.specs.declared.parents.ParentLookups.{ParentLookups}
 use Rattle.ags_links.specs.declared.lookup.Lookup.{Lookup}
 use Rattle.ags_links.specs.declared.placed.PlacedRow.{PlacedRow}
 use Rattle.ags_links.specs.declared.separators.Separators.{Separators}
-use Rattle.ags_links.specs.DataRows.{File, DataRow, IsAt}
+use Rattle.ags_links.specs.DataRows.{DataFile, DataRow, IsAt}
 use Rattle.ags_links.specs.Families.{HasText, HasKeyText, HasFileSet, AreFamilies}
 use Rattle.ags_links.specs.ParentRows.{AreParents, IsParentIndex}
 use Rattle.ags_links.specs.Indexing.{Indexes, rows_in}
@@ -19,36 +19,36 @@ use Rattle.ags_links.specs.Placing.{IsPlaced, row_of}
 use Rattle.ags_links.specs.RecordLinks.{separators_of}
 use Rattle.ags_links.proofs.Kept.{placed_at}
 
-abbrev file_of : List Group → Entries → File
+abbrev file_of : List Group → Entries → DataFile
 file_of groups entries = record { contents = contents_of groups; entries = entries }
 
-pub inside_keyed : (groups : List Group) (entries : Entries) (rows : List PlacedRow) (kept : List Family) (parents : ParentLookups) (by_key by_file_set : Lookup) (separators : Separators) (f : File) → Indexes groups entries rows kept parents by_key by_file_set separators
+pub inside_keyed : (groups : List Group) (entries : Entries) (rows : List PlacedRow) (kept : List Family) (parents : ParentLookups) (by_key by_file_set : Lookup) (separators : Separators) (f : DataFile) → Indexes groups entries rows kept parents by_key by_file_set separators
     → record { contents = contents_of groups; entries = entries } ≡ f → Finds by_key (HasText (rows_in f) (HasKeyText f.entries))
 inside_keyed groups entries rows kept parents by_key by_file_set separators f index e =
-    subst (λ (g : File). Finds by_key (HasText (rows_in g) (HasKeyText g.entries))) e (subst (λ rs. Finds by_key (HasText rs (HasKeyText entries))) index.numbered index.keyed)
+    subst (λ (g : DataFile). Finds by_key (HasText (rows_in g) (HasKeyText g.entries))) e (subst (λ rs. Finds by_key (HasText rs (HasKeyText entries))) index.numbered index.keyed)
 
-pub inside_filed : (groups : List Group) (entries : Entries) (rows : List PlacedRow) (kept : List Family) (parents : ParentLookups) (by_key by_file_set : Lookup) (separators : Separators) (f : File) → Indexes groups entries rows kept parents by_key by_file_set separators
+pub inside_filed : (groups : List Group) (entries : Entries) (rows : List PlacedRow) (kept : List Family) (parents : ParentLookups) (by_key by_file_set : Lookup) (separators : Separators) (f : DataFile) → Indexes groups entries rows kept parents by_key by_file_set separators
     → record { contents = contents_of groups; entries = entries } ≡ f → Finds by_file_set (HasText (rows_in f) HasFileSet)
 inside_filed groups entries rows kept parents by_key by_file_set separators f index e =
-    subst (λ (g : File). Finds by_file_set (HasText (rows_in g) HasFileSet)) e (subst (λ rs. Finds by_file_set (HasText rs HasFileSet)) index.numbered index.filed)
+    subst (λ (g : DataFile). Finds by_file_set (HasText (rows_in g) HasFileSet)) e (subst (λ rs. Finds by_file_set (HasText rs HasFileSet)) index.numbered index.filed)
 
-pub inside_families : (groups : List Group) (entries : Entries) (rows : List PlacedRow) (kept : List Family) (parents : ParentLookups) (by_key by_file_set : Lookup) (separators : Separators) (f : File) → Indexes groups entries rows kept parents by_key by_file_set separators
+pub inside_families : (groups : List Group) (entries : Entries) (rows : List PlacedRow) (kept : List Family) (parents : ParentLookups) (by_key by_file_set : Lookup) (separators : Separators) (f : DataFile) → Indexes groups entries rows kept parents by_key by_file_set separators
     → record { contents = contents_of groups; entries = entries } ≡ f → AreFamilies f.entries groups kept
 inside_families groups entries rows kept parents by_key by_file_set separators f index e =
-    subst (λ (g : File). AreFamilies g.entries groups kept) e index.families
+    subst (λ (g : DataFile). AreFamilies g.entries groups kept) e index.families
 
-pub inside_parents : (groups : List Group) (entries : Entries) (rows : List PlacedRow) (kept : List Family) (parents : ParentLookups) (by_key by_file_set : Lookup) (separators : Separators) (f : File) → Indexes groups entries rows kept parents by_key by_file_set separators
+pub inside_parents : (groups : List Group) (entries : Entries) (rows : List PlacedRow) (kept : List Family) (parents : ParentLookups) (by_key by_file_set : Lookup) (separators : Separators) (f : DataFile) → Indexes groups entries rows kept parents by_key by_file_set separators
     → record { contents = contents_of groups; entries = entries } ≡ f → AreParents f.entries (rows_in f) groups parents
 inside_parents groups entries rows kept parents by_key by_file_set separators f index e =
-    subst (λ (g : File). AreParents g.entries (rows_in g) groups parents) e (subst (λ rs. AreParents entries rs groups parents) index.numbered index.parented)
+    subst (λ (g : DataFile). AreParents g.entries (rows_in g) groups parents) e (subst (λ rs. AreParents entries rs groups parents) index.numbered index.parented)
 
-pub inside_separators : (groups : List Group) (entries : Entries) (rows : List PlacedRow) (kept : List Family) (parents : ParentLookups) (by_key by_file_set : Lookup) (separators : Separators) (f : File) → Indexes groups entries rows kept parents by_key by_file_set separators
+pub inside_separators : (groups : List Group) (entries : Entries) (rows : List PlacedRow) (kept : List Family) (parents : ParentLookups) (by_key by_file_set : Lookup) (separators : Separators) (f : DataFile) → Indexes groups entries rows kept parents by_key by_file_set separators
     → record { contents = contents_of groups; entries = entries } ≡ f → separators ≡ separators_of f.contents
-inside_separators groups entries rows kept parents by_key by_file_set separators f index e = subst (λ (g : File). separators ≡ separators_of g.contents) e index.separated
+inside_separators groups entries rows kept parents by_key by_file_set separators f index e = subst (λ (g : DataFile). separators ≡ separators_of g.contents) e index.separated
 
-pub inside_rows : (groups : List Group) (entries : Entries) (rows : List PlacedRow) (kept : List Family) (parents : ParentLookups) (by_key by_file_set : Lookup) (separators : Separators) (f : File) → Indexes groups entries rows kept parents by_key by_file_set separators
+pub inside_rows : (groups : List Group) (entries : Entries) (rows : List PlacedRow) (kept : List Family) (parents : ParentLookups) (by_key by_file_set : Lookup) (separators : Separators) (f : DataFile) → Indexes groups entries rows kept parents by_key by_file_set separators
     → record { contents = contents_of groups; entries = entries } ≡ f → map row_of rows ≡ rows_in f
-inside_rows groups entries rows kept parents by_key by_file_set separators f index e = subst (λ (g : File). map row_of rows ≡ rows_in g) e index.numbered
+inside_rows groups entries rows kept parents by_key by_file_set separators f index e = subst (λ (g : DataFile). map row_of rows ≡ rows_in g) e index.numbered
 
 pub rows_below : (rows : List PlacedRow) (found : List DataRow) (n : ℕ) → map row_of rows ≡ found → n < length found → n < length rows
 rows_below rows found n e lt = subst (λ count. n < count) (sym (ap length e) ∙ length-map rows row_of) lt
@@ -58,7 +58,7 @@ pub group_at : (groups : List Group) (rows : List PlacedRow) (found : List DataR
 group_at groups rows found n x e lt placed is = placed_at groups rows n x placed (rows_below rows found n e lt, sym is)
 
 -- what is kept for a row's group
-pub parents_of_row : (groups : List Group) (entries : Entries) (rows : List PlacedRow) (kept : List Family) (parents : ParentLookups) (by_key by_file_set : Lookup) (separators : Separators) (f : File) (n : ℕ) (x : PlacedRow) (links : ParentLinks) → Indexes groups entries rows kept parents by_key by_file_set separators
+pub parents_of_row : (groups : List Group) (entries : Entries) (rows : List PlacedRow) (kept : List Family) (parents : ParentLookups) (by_key by_file_set : Lookup) (separators : Separators) (f : DataFile) (n : ℕ) (x : PlacedRow) (links : LinkPlaces) → Indexes groups entries rows kept parents by_key by_file_set separators
     → record { contents = contents_of groups; entries = entries } ≡ f → n < length (rows_in f) → x ≡ get_or rows n x → links ≡ get_or parents.of_groups.items x.place links → IsParentIndex f.entries (rows_in f) parents.lookups.items x.group.now links
 parents_of_row groups entries rows kept parents by_key by_file_set separators f n x links index e lt is at =
     let numbered = inside_rows groups entries rows kept parents by_key by_file_set separators f index e in

@@ -10,8 +10,8 @@ use Rattle.ags_dict.specs.Entries.{Entries}
 use Rattle.ags_links.specs.declared.families.Family.{Family}
 use Rattle.ags_links.specs.declared.lookup.Lookup.{Lookup}
 use Rattle.ags_links.specs.declared.placed.PlacedRow.{PlacedRow}
-use Rattle.ags_links.specs.DataRows.{DataRow, IsAt, IsRow, data_rows, group_rows, row_in}
-use Rattle.ags_links.specs.Families.{HasText, HasGroup, HasFamily, IsFamily, AreKept, AreFamilies}
+use Rattle.ags_links.specs.DataRows.{DataRow, IsAt, IsDataRow, data_rows, group_rows, row_in}
+use Rattle.ags_links.specs.Families.{HasText, HasGroupName, HasFamily, IsFamily, AreKept, AreFamilies}
 use Rattle.ags_links.specs.Lookups.{found, Finds}
 use Rattle.ags_links.specs.Placing.{IsPlaced, row_of}
 use Rattle.ags_links.proofs.Growing.{flat_map_push}
@@ -100,32 +100,25 @@ kept_family entries families rows i x family have h is =
 -- ---- the rows of a group
 
 -- a row found by its group is a row
-pub found_below : (by_group : Lookup) (rows : List DataRow) (group : List ℕ) (numbers : List ℕ) → Finds by_group (HasText rows HasGroup) → numbers ≡ found by_group group → All (λ n. n < length rows) numbers
+pub found_below : (by_group : Lookup) (rows : List DataRow) (group : List ℕ) (numbers : List ℕ) → Finds by_group (HasText rows HasGroupName) → numbers ≡ found by_group group → All (λ n. n < length rows) numbers
 found_below by_group rows group numbers finds e k d lt =
     (((finds.exact group (get_or numbers k d)).0 (subst (λ l. Contains l (get_or numbers k d)) e (Contains-get_or numbers k d lt))).1).0
 
-pub first_below : (by_group : Lookup) (rows : List PlacedRow) (group : List ℕ) (numbers : List ℕ) → Finds by_group (HasText (map row_of rows) HasGroup) → numbers ≡ found by_group group → 0 < length numbers → get_or numbers 0 0 < length rows
+pub first_below : (by_group : Lookup) (rows : List PlacedRow) (group : List ℕ) (numbers : List ℕ) → Finds by_group (HasText (map row_of rows) HasGroupName) → numbers ≡ found by_group group → 0 < length numbers → get_or numbers 0 0 < length rows
 first_below by_group rows group numbers finds e lt =
     let below : get_or numbers 0 0 < length (map row_of rows) = found_below by_group (map row_of rows) group numbers finds e 0 0 lt in
     omega (arith, below, length-map rows row_of)
 
-pub found_rising : (by_group : Lookup) (rows : List DataRow) (group : List ℕ) (numbers : List ℕ) → Finds by_group (HasText rows HasGroup) → numbers ≡ found by_group group → IsStrictlyIncreasing numbers
+pub found_rising : (by_group : Lookup) (rows : List DataRow) (group : List ℕ) (numbers : List ℕ) → Finds by_group (HasText rows HasGroupName) → numbers ≡ found by_group group → IsStrictlyIncreasing numbers
 found_rising by_group rows group numbers finds e = subst IsStrictlyIncreasing (sym e) (finds.rising group)
 
 -- the first row that is found is of the group
-pub first_of_group : (by_group : Lookup) (rows : List PlacedRow) (group : List ℕ) (numbers : List ℕ) (x : PlacedRow) → Finds by_group (HasText (map row_of rows) HasGroup) → numbers ≡ found by_group group → 0 < length numbers
+pub first_of_group : (by_group : Lookup) (rows : List PlacedRow) (group : List ℕ) (numbers : List ℕ) (x : PlacedRow) → Finds by_group (HasText (map row_of rows) HasGroupName) → numbers ≡ found by_group group → 0 < length numbers
     → IsAt rows (get_or numbers 0 0) x → x.group.now.name ≡ group
 first_of_group by_group rows group numbers x finds e lt at =
     let n = get_or numbers 0 0 in
     let h = (finds.exact group n).0 (subst (λ l. Contains l n) e (Contains-get_or numbers 0 0 lt)) in
     ap (λ (r : DataRow). r.group) (one_at (map row_of rows) n (row_of x) h.0 (at_map row_of rows n x at) h.1) ∙ h.2
-
--- where no row is found, there is none of the group
-pub no_row_found : (by_group : Lookup) (rows : List DataRow) (group : List ℕ) (numbers : List ℕ) → Finds by_group (HasText rows HasGroup) → numbers ≡ found by_group group → numbers ≡ []
-    → (n : ℕ) (r : DataRow) → IsRow rows n r → r.group ≡ group → ⊥
-no_row_found by_group rows group numbers finds e empty n r row named =
-    let h = subst (λ l. Contains l n) (sym e ∙ empty) ((finds.exact group n).1 (r, row, named)) in
-    omega (arith, h.1)
 
 -- ---- the headings of a list that stand in a HEADING row
 

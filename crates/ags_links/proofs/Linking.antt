@@ -4,8 +4,8 @@ use Rattle.std.specs.List.Sorted.{IsStrictlyIncreasing}
 use Rattle.std.proofs.lemmas.Bool.{true≢false, eqb-true}
 use Rattle.std.proofs.lemmas.List.Elements.{Contains-push, Contains-push_cases, Contains-append_left, Contains-append_right, Contains-append_cases}
 use Rattle.ags_links.specs.Adding.{AddsRows}
-use Rattle.ags_links.specs.DataRows.{File, DataRow, IsRow, ListsRows}
-use Rattle.ags_links.specs.Indexing.{rows_in, NamesAt, IsNamedAmong, IsLinkedAt}
+use Rattle.ags_links.specs.DataRows.{DataFile, DataRow, IsDataRow, ListsRows}
+use Rattle.ags_links.specs.Indexing.{rows_in, IsNamedBy, IsNamedAmong, IsLinkedAt}
 use Rattle.ags_links.specs.RecordLinks.{separators_of, IsPartOf, IsLinkRow}
 use Rattle.ags_links.specs.Steps.{IsLinkedPart, Linked}
 use Rattle.ags_links.proofs.Members.{contains_head}
@@ -43,26 +43,23 @@ adds_none old IsOne none = record { only = λ n h. inl h; kept = λ n h. h; all 
 
 -- ---- parts
 
-pub among_begins : (file : File) (old : List ℕ) → AddsRows old old (IsNamedAmong file [])
+pub among_begins : (file : DataFile) (old : List ℕ) → AddsRows old old (IsNamedAmong file [])
 among_begins file old = adds_none old (IsNamedAmong file []) (λ n h. omega (arith, h.1.1))
 
-pub among_next : (file : File) (old found new rows : List ℕ) (parts : List (List ℕ)) (part : List ℕ) → AddsRows old found (IsNamedAmong file parts) → ListsRows rows (NamesAt file part) → new ≡ found ++ rows
+pub among_next : (file : DataFile) (old found new rows : List ℕ) (parts : List (List ℕ)) (part : List ℕ) → AddsRows old found (IsNamedAmong file parts) → ListsRows rows (IsNamedBy file part) → new ≡ found ++ rows
     → AddsRows old new (IsNamedAmong file (parts ++ part ∷ []))
 among_next file old found new rows parts part so_far lists e =
-    adds_then old found new (IsNamedAmong file parts) (NamesAt file part) (IsNamedAmong file (parts ++ part ∷ [])) so_far (adds_listed found new rows (NamesAt file part) e lists)
+    adds_then old found new (IsNamedAmong file parts) (IsNamedBy file part) (IsNamedAmong file (parts ++ part ∷ [])) so_far (adds_listed found new rows (IsNamedBy file part) e lists)
     (λ n h. (h.0, Contains-append_left parts (part ∷ []) h.0 h.1, h.2))
     (λ n h. (part, Contains-push parts part, h))
     (λ n h. elim (Contains-push_cases parts part h.0 h.1) [
       | inl was ↦ inl (h.0, was, h.2)
-      | inr is ↦ inr (subst (λ p. NamesAt file p n) (sym is) h.2)
+      | inr is ↦ inr (subst (λ p. IsNamedBy file p n) (sym is) h.2)
     ])
 
 -- each of the parts names a row
-abbrev pub EachNames : File → List (List ℕ) → Type 0
-EachNames file parts = (part : List ℕ) → Contains parts part → (n : ℕ) × NamesAt file part n
-
-pub each_begins : (file : File) → EachNames file []
-each_begins file part h = absurd (omega (arith, h.1))
+abbrev pub EachNames : DataFile → List (List ℕ) → Type 0
+EachNames file parts = (part : List ℕ) → Contains parts part → (n : ℕ) × IsNamedBy file part n
 
 some_listed : (rows : List ℕ) (IsOne : ℕ → Type 0) → ListsRows rows IsOne → (t : Bool) → t ≡ eqb (length rows) 0 → t ≡ false → (n : ℕ) × IsOne n
 some_listed [] IsOne lists t e is = absurd (true≢false (sym e ∙ is))
@@ -76,14 +73,14 @@ pub has_listed : (rows : List ℕ) (IsOne : ℕ → Type 0) → ListsRows rows I
 has_listed rows IsOne lists true e = (λ h. absurd (true≢false (sym h)), λ h. absurd (none_listed rows IsOne lists true e refl h.0 h.1))
 has_listed rows IsOne lists false e = (λ h. some_listed rows IsOne lists false e refl, λ h. refl)
 
-pub each_next : (file : File) (parts : List (List ℕ)) (part : List ℕ) (rows : List ℕ) → EachNames file parts → ListsRows rows (NamesAt file part) → (t : Bool) → t ≡ eqb (length rows) 0 → t ≡ false → EachNames file (parts ++ part ∷ [])
+pub each_next : (file : DataFile) (parts : List (List ℕ)) (part : List ℕ) (rows : List ℕ) → EachNames file parts → ListsRows rows (IsNamedBy file part) → (t : Bool) → t ≡ eqb (length rows) 0 → t ≡ false → EachNames file (parts ++ part ∷ [])
 each_next file parts part rows so_far lists t e is other h = elim (Contains-push_cases parts part other h) [
   | inl was ↦ so_far other was
-  | inr same ↦ subst (λ p. (n : ℕ) × NamesAt file p n) same (some_listed rows (NamesAt file part) lists t e is)
+  | inr same ↦ subst (λ p. (n : ℕ) × IsNamedBy file p n) same (some_listed rows (IsNamedBy file part) lists t e is)
 ]
 
 -- what the parts of a row's record links name is what the row links to
-pub linked_rows : (file : File) (n : ℕ) (r : DataRow) (parts : List (List ℕ)) (old new : List ℕ) → IsRow (rows_in file) n r
+pub linked_rows : (file : DataFile) (n : ℕ) (r : DataRow) (parts : List (List ℕ)) (old new : List ℕ) → IsDataRow (rows_in file) n r
     → ((part : List ℕ) → Contains parts part ↔ IsLinkedPart (separators_of file.contents) r part) → AddsRows old new (IsNamedAmong file parts) → AddsRows old new (IsLinkedAt file n)
 linked_rows file n r parts old new row same adds = adds_same old new (IsNamedAmong file parts) (IsLinkedAt file n) adds
     (λ m h. let link = (same h.0).0 h.1 in (r, h.2.0, row, h.2.1, (link.0, link.1, (h.0, link.2, h.2.2))))
@@ -109,11 +106,11 @@ once_lists old new once IsOne empty adds same rises = record {
 }
 
 -- the rows that some part of an entry names, each once
-pub link_lists : (file : File) (r : DataRow) (heading : List ℕ) (parts : List (List ℕ)) (found once : List ℕ) → ((part : List ℕ) → Contains parts part ↔ IsPartOf (separators_of file.contents) r heading part)
+pub link_lists : (file : DataFile) (r : DataRow) (heading : List ℕ) (parts : List (List ℕ)) (found once : List ℕ) → ((part : List ℕ) → Contains parts part ↔ IsPartOf (separators_of file.contents) r heading part)
     → AddsRows [] found (IsNamedAmong file parts) → ((n : ℕ) → Contains once n ↔ Contains found n) → IsStrictlyIncreasing once
-    → ListsRows once (λ m. (s : DataRow) × IsRow (rows_in file) m s × IsLinkRow file.entries (separators_of file.contents) heading r s)
+    → ListsRows once (λ m. (s : DataRow) × IsDataRow (rows_in file) m s × IsLinkRow file.entries (separators_of file.contents) heading r s)
 link_lists file r heading parts found once cut adds same rises =
-    let IsOne = λ (m : ℕ). (s : DataRow) × IsRow (rows_in file) m s × IsLinkRow file.entries (separators_of file.contents) heading r s in
+    let IsOne = λ (m : ℕ). (s : DataRow) × IsDataRow (rows_in file) m s × IsLinkRow file.entries (separators_of file.contents) heading r s in
     once_lists [] found once IsOne refl
     (adds_same [] found (IsNamedAmong file parts) IsOne adds
     (λ m h. (h.2.0, h.2.1, (h.0, (cut h.0).0 h.1, h.2.2)))

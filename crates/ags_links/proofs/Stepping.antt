@@ -8,7 +8,7 @@ use Rattle.std.proofs.lemmas.List.{get_or_append_left, get_or-append_right, get_
 use Rattle.std.proofs.lemmas.List.Elements.{Contains-append_left, Contains-append_right, Contains-append_cases, Contains-get_or}
 use Rattle.ags_rows.specs.Names.{is_definition}
 use Rattle.ags_links.specs.Adding.{AddsRows}
-use Rattle.ags_links.specs.DataRows.{File, DataRow, IsRow, ListsRows}
+use Rattle.ags_links.specs.DataRows.{DataFile, DataRow, IsDataRow, ListsRows}
 use Rattle.ags_links.specs.Indexing.{rows_in, IsParentAt, IsLinkedAt, IsLinkStepAt, IsFileRowAt, IsFileStepAt}
 use Rattle.ags_links.specs.Steps.{FileStep, StepAt, IsBefore, ListsSteps}
 use Rattle.ags_links.specs.Walks.{InRange}
@@ -45,7 +45,7 @@ bytes_differ xs ys e same = true≢false (sym ((bytes_eq-Decides xs ys).1 same) 
 abbrev pub may_have_files : List ℕ → Bool
 may_have_files group = not (is_definition group) && not (bytes_eq group (codes "FILE"))
 
-pub file_steps : (file : File) (n : ℕ) (r : DataRow) (old new rows : List ℕ) → IsRow (rows_in file) n r → may_have_files r.group ≡ true → ListsRows rows (IsFileRowAt file n) → new ≡ old ++ rows → AddsRows old new (IsFileStepAt file n)
+pub file_steps : (file : DataFile) (n : ℕ) (r : DataRow) (old new rows : List ℕ) → IsDataRow (rows_in file) n r → may_have_files r.group ≡ true → ListsRows rows (IsFileRowAt file n) → new ≡ old ++ rows → AddsRows old new (IsFileStepAt file n)
 file_steps file n r old new rows row may lists e =
     let tests = both_true (not (is_definition r.group)) (not (bytes_eq r.group (codes "FILE"))) may in
     let data_group = not_true (is_definition r.group) tests.0 in
@@ -56,7 +56,7 @@ file_steps file n r old new rows row may lists e =
     (h.0, h.1, h.2, h.3, (subst (λ (q : DataRow). is_definition q.group ≡ false) is data_group, subst (λ (q : DataRow). q.group ≡ codes "FILE" → ⊥) is other, h.4)))
     (λ m h. (h.0, h.1, h.2, h.3, h.4.2))
 
-pub no_file_steps : (file : File) (n : ℕ) (r : DataRow) (old : List ℕ) → IsRow (rows_in file) n r → may_have_files r.group ≡ false → AddsRows old old (IsFileStepAt file n)
+pub no_file_steps : (file : DataFile) (n : ℕ) (r : DataRow) (old : List ℕ) → IsDataRow (rows_in file) n r → may_have_files r.group ≡ false → AddsRows old old (IsFileStepAt file n)
 no_file_steps file n r old row may = adds_none old (IsFileStepAt file n) (λ m h.
     let is : h.0 ≡ r = one_at (rows_in file) n h.0 r h.2 row in
     let step : FileStep r h.1 = subst (λ q. FileStep q h.1) is h.4 in
@@ -65,14 +65,14 @@ no_file_steps file n r old row may = adds_none old (IsFileStepAt file n) (λ m h
 
 -- ---- record links
 
-pub link_steps : (file : File) (n : ℕ) (r : DataRow) (old new : List ℕ) → IsRow (rows_in file) n r → is_definition r.group ≡ false → AddsRows old new (IsLinkedAt file n) → AddsRows old new (IsLinkStepAt file n)
+pub link_steps : (file : DataFile) (n : ℕ) (r : DataRow) (old new : List ℕ) → IsDataRow (rows_in file) n r → is_definition r.group ≡ false → AddsRows old new (IsLinkedAt file n) → AddsRows old new (IsLinkStepAt file n)
 link_steps file n r old new row data_group adds = adds_same old new (IsLinkedAt file n) (IsLinkStepAt file n) adds
     (λ m h.
     let is : r ≡ h.0 = one_at (rows_in file) n r h.0 row h.2 in
     (h.0, h.1, h.2, h.3, (subst (λ (q : DataRow). is_definition q.group ≡ false) is data_group, h.4)))
     (λ m h. (h.0, h.1, h.2, h.3, h.4.1))
 
-pub no_link_steps : (file : File) (n : ℕ) (r : DataRow) (old : List ℕ) → IsRow (rows_in file) n r → is_definition r.group ≡ true → AddsRows old old (IsLinkStepAt file n)
+pub no_link_steps : (file : DataFile) (n : ℕ) (r : DataRow) (old : List ℕ) → IsDataRow (rows_in file) n r → is_definition r.group ≡ true → AddsRows old old (IsLinkStepAt file n)
 no_link_steps file n r old row defines = adds_none old (IsLinkStepAt file n) (λ m h.
     let is : h.0 ≡ r = one_at (rows_in file) n h.0 r h.2 row in
     let data_group : is_definition r.group ≡ false = subst (λ (q : DataRow). is_definition q.group ≡ false) is h.4.0 in
@@ -80,7 +80,7 @@ no_link_steps file n r old row defines = adds_none old (IsLinkStepAt file n) (λ
 
 -- ---- all steps of a row
 
-pub all_steps : (file : File) (n : ℕ) (parents first second third once : List ℕ) → first ≡ parents → ListsRows parents (IsParentAt file n) → AddsRows first second (IsLinkStepAt file n) → AddsRows second third (IsFileStepAt file n)
+pub all_steps : (file : DataFile) (n : ℕ) (parents first second third once : List ℕ) → first ≡ parents → ListsRows parents (IsParentAt file n) → AddsRows first second (IsLinkStepAt file n) → AddsRows second third (IsFileStepAt file n)
     → ((m : ℕ) → Contains once m ↔ Contains third m) → IsStrictlyIncreasing once → ListsRows once (StepAt file n)
 all_steps file n parents first second third once e lists links files same rises =
     let IsEither = λ (m : ℕ). IsParentAt file n m ⊎ IsLinkStepAt file n m in
@@ -105,10 +105,10 @@ all_steps file n parents first second third once e lists links files same rises 
 -- ---- the steps of all rows
 
 -- the steps of the rows before the next
-abbrev pub StepsBefore : File → ℕ → ℕ → ℕ → Type 0
+abbrev pub StepsBefore : DataFile → ℕ → ℕ → ℕ → Type 0
 StepsBefore file next n m = (n < next) × StepAt file n m
 
-pub no_steps : (steps : List (ℕ × ℕ)) (file : File) → steps ≡ [] → ListsSteps steps (StepsBefore file 0)
+pub no_steps : (steps : List (ℕ × ℕ)) (file : DataFile) → steps ≡ [] → ListsSteps steps (StepsBefore file 0)
 no_steps steps file e = record {
   sorted = λ k lt. let none : length steps ≡ 0 = ap length e in absurd (omega arith);
   exact = λ n m. (λ h. let none : length steps ≡ 0 = ap length e in absurd (omega (arith, h.1)), λ h. absurd (omega (arith, h.0)));
@@ -148,7 +148,7 @@ sorted_more row targets steps rises sorted below k lt =
       ]
     ]
 
-pub steps_more : (file : File) (row : ℕ) (targets : List ℕ) (steps new : List (ℕ × ℕ)) → ListsSteps steps (StepsBefore file row) → ListsRows targets (StepAt file row) → new ≡ steps ++ map (from_row row) targets
+pub steps_more : (file : DataFile) (row : ℕ) (targets : List ℕ) (steps new : List (ℕ × ℕ)) → ListsSteps steps (StepsBefore file row) → ListsRows targets (StepAt file row) → new ≡ steps ++ map (from_row row) targets
     → ListsSteps new (StepsBefore file (row + 1))
 steps_more file row targets steps new so_far lists e =
     subst (λ all. ListsSteps all (StepsBefore file (row + 1))) (sym e) (record {
@@ -172,13 +172,13 @@ steps_more file row targets steps new so_far lists e =
       );
     })
 
-pub steps_all : (file : File) (steps : List (ℕ × ℕ)) (rows : ℕ) → rows ≡ length (rows_in file) → ListsSteps steps (StepsBefore file rows) → ListsSteps steps (StepAt file)
+pub steps_all : (file : DataFile) (steps : List (ℕ × ℕ)) (rows : ℕ) → rows ≡ length (rows_in file) → ListsSteps steps (StepsBefore file rows) → ListsSteps steps (StepAt file)
 steps_all file steps rows e so_far = record {
   sorted = so_far.sorted;
   exact = λ n m. (λ h. ((so_far.exact n m).0 h).1, λ h. (so_far.exact n m).1 (omega (arith, e, h.2.0), h));
 }
 
-pub steps_in_range : (file : File) (steps : List (ℕ × ℕ)) (rows : ℕ) → rows ≡ length (rows_in file) → ListsSteps steps (StepsBefore file rows) → InRange rows steps
+pub steps_in_range : (file : DataFile) (steps : List (ℕ × ℕ)) (rows : ℕ) → rows ≡ length (rows_in file) → ListsSteps steps (StepsBefore file rows) → InRange rows steps
 steps_in_range file steps rows e so_far k d lt =
     let p = get_or steps k d in
     let step = ((so_far.exact p.0 p.1).0 (Contains-get_or steps k d lt)).1 in

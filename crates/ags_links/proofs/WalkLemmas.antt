@@ -1,6 +1,6 @@
 -- Walks put together and taken apart.
-use Rattle.std.proofs.Common.{ℕ, List, [], ◌∷◌, refl, sym, subst}
-use Rattle.ags_links.specs.Walks.{IsWalk, Reaches, IsReached}
+use Rattle.std.proofs.Common.{ℕ, List, [], ◌∷◌, refl, sym, subst, ◌↔◌}
+use Rattle.ags_links.specs.Walks.{IsWalk, Reaches, IsShown, IsReached}
 
 -- the walk of one row
 pub reach_itself : (Step : ℕ → ℕ → Type 0) (r : ℕ) → Reaches Step r r
@@ -35,9 +35,29 @@ pub reach_keeps : (Step : ℕ → ℕ → Type 0) (P : ℕ → Type 0) → ((r s
 reach_keeps Step P closed r s walk here = walk_keeps Step P closed r walk.0 s walk.1 here
 
 -- steps of a larger relation
-walk_wider : (Step Wide : ℕ → ℕ → Type 0) → ((r s : ℕ) → Step r s → Wide r s) → (r : ℕ) (rows : List ℕ) (s : ℕ) → IsWalk Step r rows s → IsWalk Wide r rows s
+pub walk_wider : (Step Wide : ℕ → ℕ → Type 0) → ((r s : ℕ) → Step r s → Wide r s) → (r : ℕ) (rows : List ℕ) (s : ℕ) → IsWalk Step r rows s → IsWalk Wide r rows s
 walk_wider Step Wide wider r [] s walk = walk
 walk_wider Step Wide wider r (x ∷ rows) s walk = (wider r x walk.0, walk_wider Step Wide wider x rows s walk.1)
+
+pub reach_wider : (Step Wide : ℕ → ℕ → Type 0) → ((r s : ℕ) → Step r s → Wide r s) → (r s : ℕ) → Reaches Step r s → Reaches Wide r s
+reach_wider Step Wide wider r s walk = (walk.0, walk_wider Step Wide wider r walk.0 s walk.1)
+
+-- ---- under two steps that agree
+
+-- the two steps are the same between any two rows
+abbrev pub AreSameSteps : (ℕ → ℕ → Type 0) → (ℕ → ℕ → Type 0) → Type 0
+AreSameSteps Step Other = (r s : ℕ) → Step r s ↔ Other r s
+
+pub reaches_same : (Step Other : ℕ → ℕ → Type 0) → AreSameSteps Step Other → (r s : ℕ) → Reaches Step r s ↔ Reaches Other r s
+reaches_same Step Other same r s = (reach_wider Step Other (λ a b. (same a b).0) r s, reach_wider Other Step (λ a b. (same a b).1) r s)
+
+pub shown_same : (Step Other : ℕ → ℕ → Type 0) → AreSameSteps Step Other → (IsPermitted : ℕ → Type 0) (r : ℕ) → IsShown Step IsPermitted r ↔ IsShown Other IsPermitted r
+shown_same Step Other same IsPermitted r = (λ shown s walk. shown s ((reaches_same Step Other same r s).1 walk), λ shown s walk. shown s ((reaches_same Step Other same r s).0 walk))
+
+pub reached_same : (Step Other : ℕ → ℕ → Type 0) → AreSameSteps Step Other → (IsFrom : ℕ → Type 0) (s : ℕ) → IsReached Step IsFrom s ↔ IsReached Other IsFrom s
+reached_same Step Other same IsFrom s = (λ h. (h.0, h.1, (reaches_same Step Other same h.0 s).0 h.2), λ h. (h.0, h.1, (reaches_same Step Other same h.0 s).1 h.2))
+
+-- ---- backwards
 
 -- the walk backwards
 walk_back : (Step Back : ℕ → ℕ → Type 0) → ((r s : ℕ) → Step r s → Back s r) → (r : ℕ) (rows : List ℕ) (s : ℕ) → IsWalk Step r rows s → Reaches Back s r
@@ -53,7 +73,3 @@ reached_more Step From r s known step = (known.0, known.1, reach_last Step known
 
 pub reached_itself : (Step : ℕ → ℕ → Type 0) (From : ℕ → Type 0) (r : ℕ) → From r → IsReached Step From r
 reached_itself Step From r from = (r, from, reach_itself Step r)
-
--- what is reached from what is reached
-pub reached_again : (Step : ℕ → ℕ → Type 0) (From Mid : ℕ → Type 0) → ((r : ℕ) → Mid r → IsReached Step From r) → (s : ℕ) → IsReached Step Mid s → IsReached Step From s
-reached_again Step From Mid known s h = let k = known h.0 h.1 in (k.0, k.1, reach_then Step k.0 h.0 s k.2 h.2)

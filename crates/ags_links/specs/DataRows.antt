@@ -1,11 +1,11 @@
 -- The DATA rows of a file, each with what its group says of it.
-use Rattle.std.specs.Prelude.{◌≡◌, ◌<◌, ◌↔◌, ℕ, List, map, flat_map, length, slice_index_or, Contains}
+use Rattle.std.specs.Prelude.{◌≡◌, ◌<◌, ◌+◌, ◌↔◌, ℕ, List, map, flat_map, length, take, slice_index_or, Contains}
 use Rattle.std.specs.List.Sorted.{IsStrictlyIncreasing}
 use Rattle.ags_rows.specs.Contents.{Contents, under}
 use Rattle.ags_dict.specs.Entries.{Entries}
 
--- A file's groups, and the entries of the dictionary that it is read under.
-pub record File : Type 0 where
+-- A data file: what its groups hold, and the entries of the dictionary that it is read under.
+pub record DataFile : Type 0 where
   pub contents : List Contents
   pub entries : Entries
 
@@ -33,8 +33,23 @@ abbrev pub IsAt : {X : Type 0} → List X → ℕ → X → Type 0
 IsAt xs place x = (place < length xs) × (slice_index_or xs place x ≡ x)
 
 -- row n of these is r
-abbrev pub IsRow : List DataRow → ℕ → DataRow → Type 0
-IsRow rows n r = IsAt rows n r
+abbrev pub IsDataRow : List DataRow → ℕ → DataRow → Type 0
+IsDataRow rows n r = IsAt rows n r
+
+-- how many DATA rows stand in the groups before this place
+abbrev pub rows_before : List Contents → ℕ → ℕ
+rows_before file place = length (data_rows (take place file))
+
+-- Row n of a file is the row at a place of one of its groups.
+pub record IsRowOfGroup (file : List Contents) (n : ℕ) (row : DataRow) : Type 0 where
+  pub group_place : ℕ
+  pub group : Contents
+  pub of_file : IsAt file group_place group
+  pub place : ℕ
+  pub fields : List (List ℕ)
+  pub of_group : IsAt group.rows place fields
+  pub number : n ≡ rows_before file group_place + place
+  pub same : row_in group fields ≡ row
 
 -- what stands in the row under a heading; null where the heading is absent
 abbrev pub entry_of : DataRow → List ℕ → List ℕ
@@ -42,7 +57,7 @@ entry_of row heading = under row.headings row.fields heading
 
 -- rows n and m of a file are rows of which this holds
 abbrev pub Between : List DataRow → (DataRow → DataRow → Type 0) → ℕ → ℕ → Type 0
-Between rows Related n m = (r : DataRow) × (s : DataRow) × IsRow rows n r × IsRow rows m s × Related r s
+Between rows Related n m = (r : DataRow) × (s : DataRow) × IsDataRow rows n r × IsDataRow rows m s × Related r s
 
 -- the list has exactly the numbers of which this holds, rising, each once
 pub record ListsRows (numbers : List ℕ) (IsOne : ℕ → Type 0) : Type 0 where

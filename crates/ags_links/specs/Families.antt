@@ -6,17 +6,17 @@ use Rattle.ags_rows.specs.declared.rows.Group.{Group}
 use Rattle.ags_dict.specs.Entries.{Entries, keys_of}
 use Rattle.ags_links.specs.declared.families.Family.{Family}
 use Rattle.ags_links.specs.declared.placed.PlacedRow.{PlacedRow}
-use Rattle.ags_links.specs.DataRows.{DataRow, IsAt, IsRow, entry_of}
+use Rattle.ags_links.specs.DataRows.{DataRow, IsAt, IsDataRow, entry_of}
 use Rattle.ags_links.specs.Keys.{key_of}
 use Rattle.ags_links.specs.KeyTexts.{key_text}
 
 -- row n has the text in this sense
 abbrev pub HasText : List DataRow → (DataRow → List ℕ → Type 0) → ℕ → List ℕ → Type 0
-HasText rows Has n text = (r : DataRow) × IsRow rows n r × Has r text
+HasText rows Has n text = (r : DataRow) × IsDataRow rows n r × Has r text
 
 -- the text is the name of its group
-abbrev pub HasGroup : DataRow → List ℕ → Type 0
-HasGroup r text = r.group ≡ text
+abbrev pub HasGroupName : DataRow → List ℕ → Type 0
+HasGroupName r text = r.group ≡ text
 
 -- the text is its group and its key
 abbrev pub HasKeyText : Entries → DataRow → List ℕ → Type 0
@@ -35,8 +35,8 @@ abbrev pub HasAmong : List ℕ → List DataRow → (DataRow → List ℕ → Ty
 HasAmong numbers rows Has n text = Contains numbers n × HasText rows Has n text
 
 -- the heading is one of the names
-abbrev pub is_among : List (List ℕ) → List ℕ → Bool
-is_among names heading = is_some (place_in names heading)
+abbrev pub is_one_of : List (List ℕ) → List ℕ → Bool
+is_one_of names heading = is_some (place_in names heading)
 
 -- the headings of type RL
 abbrev pub record_links : List (List ℕ) → List (List ℕ) → List (List ℕ)

@@ -9,7 +9,7 @@ use Rattle.ags_links.specs.declared.lookup.Lookup.{Lookup}
 use Rattle.ags_links.specs.declared.parents.ParentLookups.{ParentLookups}
 use Rattle.ags_links.specs.declared.placed.PlacedRow.{PlacedRow}
 use Rattle.ags_links.specs.declared.separators.Separators.{Separators}
-use Rattle.ags_links.specs.DataRows.{File, DataRow, data_rows, IsRow, Between}
+use Rattle.ags_links.specs.DataRows.{DataFile, DataRow, data_rows, IsDataRow, Between}
 use Rattle.ags_links.specs.Families.{HasText, HasKeyText, HasFileSet, AreFamilies}
 use Rattle.ags_links.specs.Keys.{IsFirstOfKey}
 use Rattle.ags_links.specs.Lookups.{Finds}
@@ -32,41 +32,41 @@ pub record Indexes (groups : List Group) (entries : Entries) (rows : List Placed
   pub separated : separators ≡ links.separators_of (contents_of groups)
 
 -- the DATA rows of the file
-abbrev pub rows_in : File → List DataRow
+abbrev pub rows_in : DataFile → List DataRow
 rows_in file = data_rows file.contents
 
 -- row m is a parent row of row n
-abbrev pub IsParentAt : File → ℕ → ℕ → Type 0
+abbrev pub IsParentAt : DataFile → ℕ → ℕ → Type 0
 IsParentAt file = Between (rows_in file) (IsParentRow file.entries)
 
 -- row m is the first row of row n's group with an equal key
-abbrev pub IsFirstOfKeyAt : File → ℕ → ℕ → Type 0
+abbrev pub IsFirstOfKeyAt : DataFile → ℕ → ℕ → Type 0
 IsFirstOfKeyAt file = IsFirstOfKey (rows_in file) file.entries
 
 -- row m is a row of FILE with row n's FILE_FSET
-abbrev pub IsFileRowAt : File → ℕ → ℕ → Type 0
+abbrev pub IsFileRowAt : DataFile → ℕ → ℕ → Type 0
 IsFileRowAt file = Between (rows_in file) IsFileRow
 
 -- the part names row n
-abbrev pub NamesAt : File → List ℕ → ℕ → Type 0
-NamesAt file = links.NamesAt file.entries (links.separators_of file.contents) (rows_in file)
+abbrev pub IsNamedBy : DataFile → List ℕ → ℕ → Type 0
+IsNamedBy file = links.NamesAt file.entries (links.separators_of file.contents) (rows_in file)
 
 -- one of the parts names row n
-abbrev pub IsNamedAmong : File → List (List ℕ) → ℕ → Type 0
-IsNamedAmong file parts n = (part : List ℕ) × Contains parts part × NamesAt file part n
+abbrev pub IsNamedAmong : DataFile → List (List ℕ) → ℕ → Type 0
+IsNamedAmong file parts n = (part : List ℕ) × Contains parts part × IsNamedBy file part n
 
 -- one of row n's record links names row m
-abbrev pub IsLinkedAt : File → ℕ → ℕ → Type 0
+abbrev pub IsLinkedAt : DataFile → ℕ → ℕ → Type 0
 IsLinkedAt file = Between (rows_in file) (Linked file.entries (links.separators_of file.contents))
 
 -- row n has a step to row m by its record links, if it is in a data group
-abbrev pub IsLinkStepAt : File → ℕ → ℕ → Type 0
+abbrev pub IsLinkStepAt : DataFile → ℕ → ℕ → Type 0
 IsLinkStepAt file = Between (rows_in file) (LinkStep file.entries (links.separators_of file.contents))
 
 -- row n has a step to row m, a row of FILE
-abbrev pub IsFileStepAt : File → ℕ → ℕ → Type 0
+abbrev pub IsFileStepAt : DataFile → ℕ → ℕ → Type 0
 IsFileStepAt file = Between (rows_in file) FileStep
 
 -- these are the targets of row n under the heading
-abbrev pub AreTargetsAt : File → ℕ → List ℕ → Targets → Type 0
-AreTargetsAt file n heading targets = (r : DataRow) → IsRow (rows_in file) n r → AreTargets file.entries (links.separators_of file.contents) (rows_in file) r heading targets
+abbrev pub AreTargetsAt : DataFile → ℕ → List ℕ → Targets → Type 0
+AreTargetsAt file n heading targets = (r : DataRow) → IsDataRow (rows_in file) n r → AreTargets file.entries (links.separators_of file.contents) (rows_in file) r heading targets

@@ -14,3 +14,4 @@ pub mod ParentRows
 pub mod Targets
 pub mod Indexing
 pub mod Adding
+pub mod Laws

@@ -7,10 +7,10 @@ use Rattle.ags_rows.specs.declared.rows.Group.{Group}
 use Rattle.ags_dict.specs.Entries.{Entries, keys_of, parent_of}
 use Rattle.ags_links.specs.declared.families.Family.{Family}
 use Rattle.ags_links.specs.declared.lookup.Lookup.{Lookup}
-use Rattle.ags_links.specs.declared.parents.Links.{Links}
 use Rattle.ags_links.specs.declared.parents.ParentLinks.{ParentLinks}
+use Rattle.ags_links.specs.declared.parents.LinkPlaces.{LinkPlaces}
 use Rattle.ags_links.specs.declared.parents.ParentLookups.{ParentLookups}
-use Rattle.ags_links.specs.DataRows.{DataRow, IsAt, IsRow}
+use Rattle.ags_links.specs.DataRows.{DataRow, IsAt, IsDataRow}
 use Rattle.ags_links.specs.Families.{AreKept, HasText, HasEntries, HasAmong}
 use Rattle.ags_links.specs.KeyTexts.{key_text}
 use Rattle.ags_links.specs.Lookups.{Finds, found}
@@ -20,41 +20,41 @@ abbrev pub AreLinkHeadings : Entries → List ℕ → List (List ℕ) → List (
 AreLinkHeadings entries parent headings names = (h : List ℕ) → Contains names h ↔ (Contains (keys_of entries parent) h × Contains headings h)
 
 -- the link headings that are kept
-abbrev pub names_of : Links → List (List ℕ)
-names_of links = map (λ h. h.now) links.headings.items
+abbrev pub link_names : ParentLinks → List (List ℕ)
+link_names links = map (λ h. h.now) links.headings.items
 
 -- the rows of this parent group, and the link headings to it where it has rows; nothing where there is no parent group
-abbrev pub LinksTo : Entries → Lookup → Group → Links → Option (List ℕ) → Type 0
-LinksTo entries by_group group links None = (links.rows.now ≡ []) × (links.headings.items ≡ []) × (links.text.items ≡ [])
-LinksTo entries by_group group links (Some parent) = (links.rows.now ≡ found by_group parent)
-    × (links.rows.now ≢ [] → AreLinkHeadings entries parent group.headings (names_of links))
-    × (links.text.items ≡ key_text (parent ∷ names_of links))
+abbrev pub ParentLinksTo : Entries → Lookup → Group → ParentLinks → Option (List ℕ) → Type 0
+ParentLinksTo entries by_group group links None = (links.rows.now ≡ []) × (links.headings.items ≡ []) × (links.text.items ≡ [])
+ParentLinksTo entries by_group group links (Some parent) = (links.rows.now ≡ found by_group parent)
+    × (links.rows.now ≢ [] → AreLinkHeadings entries parent group.headings (link_names links))
+    × (links.text.items ≡ key_text (parent ∷ link_names links))
 
 -- the same of the group's parent group
-abbrev pub IsLinks : Entries → Lookup → Group → Links → Type 0
-IsLinks entries by_group group links = LinksTo entries by_group group links (parent_of entries group.name)
+abbrev pub IsParentLinks : Entries → Lookup → Group → ParentLinks → Type 0
+IsParentLinks entries by_group group links = ParentLinksTo entries by_group group links (parent_of entries group.name)
 
-abbrev pub AreLinks : Entries → Lookup → List Group → List Links → Type 0
-AreLinks entries by_group groups links = AreKept groups links (λ place. IsLinks entries by_group)
+abbrev pub AreParentLinks : Entries → Lookup → List Group → List ParentLinks → Type 0
+AreParentLinks entries by_group groups links = AreKept groups links (λ place. IsParentLinks entries by_group)
 
 -- the texts of the links
-abbrev pub texts_in : List Links → List (List ℕ)
+abbrev pub texts_in : List ParentLinks → List (List ℕ)
 texts_in links = map (λ l. l.text.items) links
 
 -- the rows of the parent group are among so many, and rise
-abbrev pub AreNumbers : ℕ → Links → Type 0
+abbrev pub AreNumbers : ℕ → ParentLinks → Type 0
 AreNumbers count links = All (λ n. n < count) links.rows.now × IsStrictlyIncreasing links.rows.now
 
 -- where no group before has the same links, the rows are found by their entries under the link headings
-abbrev pub IsLookupAt : List DataRow → List (List ℕ) → ℕ → Links → Lookup → Type 0
-IsLookupAt rows texts place links lookup = place_in texts links.text.items ≡ Some place → Finds lookup (HasAmong links.rows.now rows (HasEntries (names_of links)))
+abbrev pub IsLookupAt : List DataRow → List (List ℕ) → ℕ → ParentLinks → Lookup → Type 0
+IsLookupAt rows texts place links lookup = place_in texts links.text.items ≡ Some place → Finds lookup (HasAmong links.rows.now rows (HasEntries (link_names links)))
 
-abbrev pub AreLookups : List DataRow → List (List ℕ) → List Links → List Lookup → Type 0
+abbrev pub AreLookups : List DataRow → List (List ℕ) → List ParentLinks → List Lookup → Type 0
 AreLookups rows texts links lookups = AreKept links lookups (IsLookupAt rows texts)
 
 -- the places of the link headings, and the first place of a group with the same links
-abbrev pub IsPlacedAt : List Family → List (List ℕ) → ℕ → Links → ParentLinks → Type 0
-IsPlacedAt families texts place links kept = ((family : Family) → IsAt families place family → kept.places.items ≡ map (place_in family.headings) (names_of links))
+abbrev pub IsPlacedAt : List Family → List (List ℕ) → ℕ → ParentLinks → LinkPlaces → Type 0
+IsPlacedAt families texts place links kept = ((family : Family) → IsAt families place family → kept.places.items ≡ map (place_in family.headings) (link_names links))
     × (place_in texts links.text.items ≡ Some kept.lookup)
 
 -- it is a row of the group's parent group, and the text its entries under the headings
@@ -62,12 +62,12 @@ abbrev pub HasParentEntries : Entries → List ℕ → List (List ℕ) → DataR
 HasParentEntries entries group headings r text = (parent_of entries group ≡ Some r.group) × HasEntries headings r text
 
 -- the rows of the group's parent group are found by their entries under its link headings
-pub record IsParentIndex (entries : Entries) (rows : List DataRow) (lookups : List Lookup) (group : Group) (links : ParentLinks) : Type 0 where
+pub record IsParentIndex (entries : Entries) (rows : List DataRow) (lookups : List Lookup) (group : Group) (links : LinkPlaces) : Type 0 where
   pub names : List (List ℕ)
   pub lookup : Lookup
   pub stands : IsAt lookups links.lookup lookup
   pub places : links.places.items ≡ map (place_in group.headings) names
-  pub headings : (n : ℕ) (s : DataRow) → IsRow rows n s → parent_of entries group.name ≡ Some s.group → AreLinkHeadings entries s.group group.headings names
+  pub headings : (n : ℕ) (s : DataRow) → IsDataRow rows n s → parent_of entries group.name ≡ Some s.group → AreLinkHeadings entries s.group group.headings names
   pub finds : Finds lookup (HasText rows (HasParentEntries entries group.name names))
 
 abbrev pub AreParents : Entries → List DataRow → List Group → ParentLookups → Type 0

@@ -6,7 +6,7 @@ use Rattle.ags_rows.specs.Contents.{Contents, under}
 use Rattle.ags_dict.specs.Entries.{Entries, plus}
 use Rattle.ags_dict.specs.Parts.{parts_at}
 use Rattle.ags_links.specs.declared.separators.Separators.{Separators}
-use Rattle.ags_links.specs.DataRows.{DataRow, entry_of, IsRow}
+use Rattle.ags_links.specs.DataRows.{DataRow, entry_of, IsDataRow}
 use Rattle.ags_links.specs.Keys.{key_of}
 
 -- `|`, which stands between pieces where TRAN does not say otherwise
@@ -51,7 +51,7 @@ IsLinkRow entries separators heading r s = (part : List ℕ) × IsPartOf separat
 
 -- the part names row n of the file
 abbrev pub NamesAt : Entries → Separators → List DataRow → List ℕ → ℕ → Type 0
-NamesAt entries separators rows part n = (s : DataRow) × IsRow rows n s × Names entries separators.delimiter part s
+NamesAt entries separators rows part n = (s : DataRow) × IsDataRow rows n s × Names entries separators.delimiter part s
 
 -- some part of what stands in the row under the heading names no row
 abbrev pub IsBroken : Entries → Separators → List DataRow → DataRow → List ℕ → Type 0

@@ -4,9 +4,10 @@ use Rattle.std.specs.Prelude.{◌≡◌, ◌≢◌, ◌<◌, ◌+◌, ◌⊎◌,
 use Rattle.ags_rows.specs.Contents.{under}
 use Rattle.ags_rows.specs.Names.{is_definition}
 use Rattle.ags_dict.specs.Entries.{Entries}
-use Rattle.ags_links.specs.DataRows.{File, DataRow, entry_of, data_rows, Between}
+use Rattle.ags_links.specs.DataRows.{DataFile, DataRow, entry_of, data_rows, Between}
 use Rattle.ags_links.specs.Parents.{IsParentRow}
 use Rattle.ags_links.specs.RecordLinks.{separators_of, IsPartOf, IsLinkRow}
+use Rattle.ags_links.specs.Walks.{Wiring}
 use Rattle.ags_links.specs.declared.separators.Separators.{Separators}
 
 -- a heading of type RL under which the row has an entry that is not null
@@ -38,7 +39,7 @@ abbrev pub Step : Entries → Separators → DataRow → DataRow → Type 0
 Step entries separators r s = IsParentRow entries r s ⊎ (LinkStep entries separators r s ⊎ FileStep r s)
 
 -- row n of the file has a step to row m
-abbrev pub StepAt : File → ℕ → ℕ → Type 0
+abbrev pub StepAt : DataFile → ℕ → ℕ → Type 0
 StepAt file n m = Between (data_rows file.contents) (Step file.entries (separators_of file.contents)) n m
 
 -- one step stands before another: by the row that it starts at, then by the row that it ends at
@@ -49,3 +50,8 @@ IsBefore p q = (p.0 < q.0) ⊎ ((p.0 ≡ q.0) × (p.1 < q.1))
 pub record ListsSteps (steps : List (ℕ × ℕ)) (IsOne : ℕ → ℕ → Type 0) : Type 0 where
   pub sorted : (k : ℕ) → k + 1 < length steps → IsBefore (slice_index_or steps k (0, 0)) (slice_index_or steps (k + 1) (0, 0))
   pub exact : (n m : ℕ) → Contains steps (n, m) ↔ IsOne n m
+
+-- the graph has the file's DATA rows, and all steps between them, sorted, each once
+pub record IsGraphOf (file : DataFile) (graph : Wiring) : Type 0 where
+  pub rows : graph.rows ≡ length (data_rows file.contents)
+  pub steps : ListsSteps graph.steps (StepAt file)

@@ -3,7 +3,7 @@
 ghost use Rattle.std.specs.Prelude.{◌≡◌, ◌<◌, ◌^◌, IfOk, All, length, map};
 ghost use Rattle.ags_rows.specs.Contents.{place_in};
 ghost use Rattle.ags_links.specs.Lookups.{Finds};
-ghost use Rattle.ags_links.specs.Families.{HasText, HasGroup, HasKeyText, HasFileSet, HasFamily, IsFamily, AreFamilies, record_links};
+ghost use Rattle.ags_links.specs.Families.{HasText, HasGroupName, HasKeyText, HasFileSet, HasFamily, IsFamily, AreFamilies, record_links};
 ghost use Rattle.ags_links.specs.Placing.{IsPlaced, row_of};
 
 use crate::lookup::{Lookup, add_row, no_rows};
@@ -97,7 +97,7 @@ pub(crate) fn families<'s, 'd>(
 /// The rows by the names of their groups.
 pub(crate) fn rows_by_group(alloc: Global, rows: &[PlacedRow<'_, '_>]) -> Result<Lookup, AllocError>
     requires { length rows.now < 2 ^ 32 }
-    ensures { IfOk result (λ lookup. Finds lookup (HasText (map row_of rows.now) HasGroup)) }
+    ensures { IfOk result (λ lookup. Finds lookup (HasText (map row_of rows.now) HasGroupName)) }
 {
     let mut lookup = no_rows(alloc);
     for (number, row) in rows.iter().enumerate() {

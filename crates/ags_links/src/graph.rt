@@ -35,8 +35,7 @@ fn add_steps(steps: &mut Vec<(u32, u32)>, row: u32, targets: &[u32]) -> Result<(
 }
 
 impl Graph {
-    ghost use Rattle.ags_links.specs.Indexing.{rows_in};
-    ghost use Rattle.ags_links.specs.Steps.{ListsSteps, StepAt};
+    ghost use Rattle.ags_links.specs.Steps.{IsGraphOf};
     ghost use Rattle.ags_links.specs.Walks.{InRange};
 
     /// The rows below `rows` with these steps, each from its first row to its second; None where a number is
@@ -55,8 +54,7 @@ impl Graph {
 
     /// The rows of a file, and all steps between them, sorted, each once.
     pub fn of(alloc: Global, index: &Index<'_, '_, '_>) -> Result<Graph, AllocError>
-        ensures rows { IfOk result (λ g. g.rows ≡ length (rows_in index.now)) }
-        ensures steps { IfOk result (λ g. ListsSteps g.steps (StepAt index.now)) }
+        ensures { IfOk result (IsGraphOf index.now) }
     {
         let rows = index.row_count();
         let mut steps = Vec::new(alloc);

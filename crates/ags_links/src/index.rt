@@ -40,10 +40,10 @@ pub struct Index<'s, 'f, 'd> {
 
 impl<'s, 'f, 'd> Model for Index<'s, 'f, 'd> {
     ghost use Rattle.ags_rows.specs.Contents.{contents_of};
-    ghost use Rattle.ags_links.specs.DataRows.{File};
+    ghost use Rattle.ags_links.specs.DataRows.{DataFile};
     ghost use Rattle.ags_links.specs.Indexing.{Indexes};
 
-    ghost Value = { File };
+    ghost Value = { DataFile };
 
     ghost view = { λ i. record { contents = contents_of i.groups.now; entries = i.dictionary.now } };
 
@@ -62,12 +62,12 @@ pub(crate) fn each_once(numbers: Vec<u32>) -> Vec<u32>
 }
 
 impl<'s, 'f, 'd> Index<'s, 'f, 'd> {
-    ghost use Rattle.ags_links.specs.DataRows.{DataRow, ListsRows, IsRow};
+    ghost use Rattle.ags_links.specs.DataRows.{DataRow, ListsRows, IsDataRow};
     ghost use Rattle.ags_links.specs.RecordLinks.{separators_of, IsPartOf, IsBroken};
     ghost use Rattle.ags_links.specs.Steps.{IsLinkedPart};
     ghost use Rattle.ags_links.specs.Families.{IsFamily};
     ghost use Rattle.ags_links.specs.Placing.{row_of};
-    ghost use Rattle.ags_links.specs.Indexing.{rows_in, IsParentAt, IsFirstOfKeyAt, IsFileRowAt, NamesAt, AreTargetsAt};
+    ghost use Rattle.ags_links.specs.Indexing.{rows_in, IsParentAt, IsFirstOfKeyAt, IsFileRowAt, IsNamedBy, AreTargetsAt};
 
     /// The index of a file under its dictionary.
     pub fn build(
@@ -108,7 +108,7 @@ impl<'s, 'f, 'd> Index<'s, 'f, 'd> {
     /// The row, and what is kept for its group.
     pub(crate) fn kept(&self, row: u32) -> (&PlacedRow<'s, 'f>, &Family<'s, 'd>)
         requires { row < length (rows_in self.now) }
-        ensures row { IsRow (rows_in self.now) row (row_of result.0.now) }
+        ensures row { IsDataRow (rows_in self.now) row (row_of result.0.now) }
         ensures family { IsFamily self.now.entries result.0.now.group.now result.1.now }
     {
         let kept = &self.rows[row as usize];
@@ -175,9 +175,17 @@ impl<'s, 'f, 'd> Index<'s, 'f, 'd> {
         Vec::from_slice(self.alloc, self.file_rows(row))
     }
 
+    /// Whether a row of FILE has the row's FILE_FSET (Rule 20), which is not null.
+    pub fn has_file(&self, row: u32) -> bool
+        requires { row < length (rows_in self.now) }
+        ensures { IsTrue result ↔ ((m : ℕ) × IsFileRowAt self.now row m) }
+    {
+        !self.file_rows(row).is_empty()
+    }
+
     /// The rows that a part of a record link names.
     pub(crate) fn named(&self, part: &[u8]) -> Result<&[u32], AllocError>
-        ensures { IfOk result (λ rows. ListsRows rows.now (NamesAt self.now part.now)) }
+        ensures { IfOk result (λ rows. ListsRows rows.now (IsNamedBy self.now part.now)) }
     {
         let text = pieces_text(self.alloc, self.separators.delimiter, part)?;
         Ok(rows_with(&self.by_key, &text))
@@ -186,7 +194,7 @@ impl<'s, 'f, 'd> Index<'s, 'f, 'd> {
     /// The parts of what stands in the row under a heading, each once.
     fn parts_under(&self, row: u32, heading: &[u8]) -> Result<Vec<&'s [u8]>, AllocError>
         requires { row < length (rows_in self.now) }
-        ensures { IfOk result (λ parts. (r : DataRow) → IsRow (rows_in self.now) row r
+        ensures { IfOk result (λ parts. (r : DataRow) → IsDataRow (rows_in self.now) row r
             → (part : List ℕ) → Contains (map (λ p. p.now) parts.items) part ↔ IsPartOf (separators_of self.now.contents) r heading.now part) }
     {
         let (kept, family) = self.kept(row);
@@ -203,7 +211,7 @@ impl<'s, 'f, 'd> Index<'s, 'f, 'd> {
     /// The parts of the row's record links, each once.
     pub(crate) fn linked_parts(&self, row: u32) -> Result<Vec<&'s [u8]>, AllocError>
         requires { row < length (rows_in self.now) }
-        ensures { IfOk result (λ parts. (r : DataRow) → IsRow (rows_in self.now) row r
+        ensures { IfOk result (λ parts. (r : DataRow) → IsDataRow (rows_in self.now) row r
             → (part : List ℕ) → Contains (map (λ p. p.now) parts.items) part ↔ IsLinkedPart (separators_of self.now.contents) r part) }
     {
         let (kept, family) = self.kept(row);
@@ -221,7 +229,7 @@ impl<'s, 'f, 'd> Index<'s, 'f, 'd> {
     /// A heading that the group does not have reads as null.
     pub fn has_broken_part(&self, row: u32, heading: &[u8]) -> Result<bool, AllocError>
         requires { row < length (rows_in self.now) }
-        ensures { IfOk result (λ broken. (r : DataRow) → IsRow (rows_in self.now) row r → IsTrue broken ↔ IsBroken self.now.entries (separators_of self.now.contents) (rows_in self.now) r heading.now) }
+        ensures { IfOk result (λ broken. (r : DataRow) → IsDataRow (rows_in self.now) row r → IsTrue broken ↔ IsBroken self.now.entries (separators_of self.now.contents) (rows_in self.now) r heading.now) }
     {
         let parts = self.parts_under(row, heading)?;
         for part in &parts {

@@ -7,11 +7,10 @@ mod families;
 mod file_tests;
 mod graph;
 mod index;
+pub mod laws;
 mod lookup;
 mod parents;
 mod placed;
-#[cfg(test)]
-mod plain;
 mod separators;
 mod steps;
 #[cfg(test)]

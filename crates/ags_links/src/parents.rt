@@ -4,9 +4,9 @@
 ghost use Rattle.std.specs.Prelude.{◌≡◌, ◌≢◌, ◌<◌, ◌≤◌, ◌^◌, ◌↔◌, [], ℕ, List, Contains, IfOk, All, Some, length, map, filter};
 ghost use Rattle.std.specs.List.Sorted.{IsStrictlyIncreasing};
 ghost use Rattle.ags_rows.specs.Contents.{place_in};
-ghost use Rattle.ags_links.specs.Families.{HasText, HasGroup, HasEntries, HasAmong, HasFamily, IsFamily, AreFamilies, AreKept, is_among};
+ghost use Rattle.ags_links.specs.Families.{HasText, HasGroupName, HasEntries, HasAmong, HasFamily, IsFamily, AreFamilies, AreKept, is_one_of};
 ghost use Rattle.ags_links.specs.Lookups.{Finds, found};
-ghost use Rattle.ags_links.specs.ParentRows.{AreLinkHeadings, names_of, IsLinks, AreLinks, texts_in, AreNumbers, IsLookupAt, AreLookups, IsPlacedAt, AreParents};
+ghost use Rattle.ags_links.specs.ParentRows.{AreLinkHeadings, link_names, IsParentLinks, AreParentLinks, texts_in, AreNumbers, IsLookupAt, AreLookups, IsPlacedAt, AreParents};
 ghost use Rattle.ags_links.specs.Placing.{row_of};
 
 use crate::families::{Family, family_at, places_of};
@@ -20,7 +20,7 @@ use std::alloc::{AllocError, Global};
 /// The rows of a group's parent group, its link headings, and as one text the parent group's name and the link
 /// headings; nothing of all where it has no parent group.
 #[derive(Drop)]
-pub(crate) struct Links<'l, 's> {
+pub(crate) struct ParentLinks<'l, 's> {
     pub(crate) rows: &'l [u32],
     pub(crate) headings: Vec<&'s [u8]>,
     pub(crate) text: Vec<u8>,
@@ -29,7 +29,7 @@ pub(crate) struct Links<'l, 's> {
 /// Where a group's link headings stand in its rows, and the place of the look-up that has the rows of its parent
 /// group by their entries under them.
 #[derive(Drop)]
-pub(crate) struct ParentLinks {
+pub(crate) struct LinkPlaces {
     pub(crate) places: Vec<Option<usize>>,
     pub(crate) lookup: usize,
 }
@@ -37,7 +37,7 @@ pub(crate) struct ParentLinks {
 /// The link places of each group, and the look-ups that they share.
 #[derive(Drop)]
 pub(crate) struct ParentLookups {
-    pub(crate) of_groups: Vec<ParentLinks>,
+    pub(crate) of_groups: Vec<LinkPlaces>,
     pub(crate) lookups: Vec<Lookup>,
 }
 
@@ -47,7 +47,7 @@ fn common_headings<'s>(
     headings: &Places<'s>,
     keys: &Places<'_>,
 ) -> Result<Vec<&'s [u8]>, AllocError>
-    ensures { IfOk result (λ common. map (λ h. h.now) common.items ≡ filter (is_among keys.now) headings.now) }
+    ensures { IfOk result (λ common. map (λ h. h.now) common.items ≡ filter (is_one_of keys.now) headings.now) }
 {
     let mut common = Vec::new(alloc);
     for heading in headings.names() {
@@ -79,7 +79,7 @@ fn link_headings<'s>(
     parent: &[u8],
 ) -> Result<Vec<&'s [u8]>, AllocError>
     requires kept { All (HasFamily dictionary.now families.now) rows.now }
-    requires by_group { Finds by_group.now (HasText (map row_of rows.now) HasGroup) }
+    requires by_group { Finds by_group.now (HasText (map row_of rows.now) HasGroupName) }
     ensures { IfOk result (λ names. found by_group.now parent.now ≢ [] → AreLinkHeadings dictionary.now parent.now family.now.headings (map (λ n. n.now) names.items)) }
 {
     let numbers = rows_with(by_group, parent);
@@ -93,7 +93,7 @@ fn link_headings<'s>(
 }
 
 /// The rows of a group's parent group, and its link headings.
-fn links_of<'l, 's>(
+fn parent_links_of<'l, 's>(
     alloc: Global,
     group: &Group<'_>,
     dictionary: &Dictionary,
@@ -101,14 +101,14 @@ fn links_of<'l, 's>(
     families: &[Family<'_, '_>],
     family: &Family<'s, '_>,
     by_group: &'l Lookup,
-) -> Result<Links<'l, 's>, AllocError>
+) -> Result<ParentLinks<'l, 's>, AllocError>
     requires kept { All (HasFamily dictionary.now families.now) rows.now }
     requires family { IsFamily dictionary.now group.now family.now }
-    requires by_group { Finds by_group.now (HasText (map row_of rows.now) HasGroup) }
-    ensures { IfOk result (IsLinks dictionary.now by_group.now group.now) }
+    requires by_group { Finds by_group.now (HasText (map row_of rows.now) HasGroupName) }
+    ensures { IfOk result (IsParentLinks dictionary.now by_group.now group.now) }
 {
     let Some(parent) = dictionary.parent(group.name.as_slice()) else {
-        return Ok(Links {
+        return Ok(ParentLinks {
             rows: &[],
             headings: Vec::new(alloc),
             text: Vec::new(alloc),
@@ -116,7 +116,7 @@ fn links_of<'l, 's>(
     };
     let headings = link_headings(alloc, dictionary, rows, families, family, by_group, parent)?;
     let text = names_text(alloc, parent, &headings)?;
-    Ok(Links {
+    Ok(ParentLinks {
         rows: rows_with(by_group, parent),
         headings,
         text,
@@ -124,22 +124,22 @@ fn links_of<'l, 's>(
 }
 
 /// The links of each group.
-fn links_of_groups<'l, 's>(
+fn all_parent_links<'l, 's>(
     alloc: Global,
     groups: &[Group<'_>],
     dictionary: &Dictionary,
     rows: &[PlacedRow<'_, '_>],
     families: &[Family<'s, '_>],
     by_group: &'l Lookup,
-) -> Result<Vec<Links<'l, 's>>, AllocError>
+) -> Result<Vec<ParentLinks<'l, 's>>, AllocError>
     requires kept { All (HasFamily dictionary.now families.now) rows.now }
     requires families { AreFamilies dictionary.now groups.now families.now }
-    requires by_group { Finds by_group.now (HasText (map row_of rows.now) HasGroup) }
-    ensures { IfOk result (λ links. AreLinks dictionary.now by_group.now groups.now links.items) }
+    requires by_group { Finds by_group.now (HasText (map row_of rows.now) HasGroupName) }
+    ensures { IfOk result (λ links. AreParentLinks dictionary.now by_group.now groups.now links.items) }
 {
     let mut links = Vec::new(alloc);
     for (place, group) in groups.iter().enumerate() {
-        links.push(links_of(
+        links.push(parent_links_of(
             alloc,
             group,
             dictionary,
@@ -153,7 +153,7 @@ fn links_of_groups<'l, 's>(
 }
 
 /// The texts of the links, to be found.
-fn texts_of<'k>(alloc: Global, links: &'k [Links<'_, '_>]) -> Result<Places<'k>, AllocError>
+fn texts_of<'k>(alloc: Global, links: &'k [ParentLinks<'_, '_>]) -> Result<Places<'k>, AllocError>
     ensures { IfOk result (λ texts. texts ≡ texts_in links.now) }
 {
     let mut texts = Vec::new(alloc);
@@ -169,12 +169,12 @@ fn rows_by_entries(
     dictionary: &Dictionary,
     rows: &[PlacedRow<'_, '_>],
     families: &[Family<'_, '_>],
-    links: &Links<'_, '_>,
+    links: &ParentLinks<'_, '_>,
 ) -> Result<Lookup, AllocError>
     requires few { length rows.now < 2 ^ 32 }
     requires kept { All (HasFamily dictionary.now families.now) rows.now }
     requires numbers { AreNumbers (length rows.now) links.now }
-    ensures { IfOk result (λ lookup. Finds lookup (HasAmong links.now.rows.now (map row_of rows.now) (HasEntries (names_of links.now)))) }
+    ensures { IfOk result (λ lookup. Finds lookup (HasAmong links.now.rows.now (map row_of rows.now) (HasEntries (link_names links.now)))) }
 {
     let mut lookup = no_rows(alloc);
     for number in links.rows {
@@ -192,7 +192,7 @@ fn lookup_at(
     dictionary: &Dictionary,
     rows: &[PlacedRow<'_, '_>],
     families: &[Family<'_, '_>],
-    links: &Links<'_, '_>,
+    links: &ParentLinks<'_, '_>,
     texts: &Places<'_>,
     place: usize,
 ) -> Result<Lookup, AllocError>
@@ -214,7 +214,7 @@ fn lookups(
     dictionary: &Dictionary,
     rows: &[PlacedRow<'_, '_>],
     families: &[Family<'_, '_>],
-    links: &[Links<'_, '_>],
+    links: &[ParentLinks<'_, '_>],
     texts: &Places<'_>,
 ) -> Result<Vec<Lookup>, AllocError>
     requires few { length rows.now < 2 ^ 32 }
@@ -230,7 +230,7 @@ fn lookups(
 }
 
 /// The place of the first group with these links.
-fn first_with(texts: &Places<'_>, links: &Links<'_, '_>) -> usize
+fn first_with(texts: &Places<'_>, links: &ParentLinks<'_, '_>) -> usize
     requires { Contains texts.now links.now.text.items }
     ensures { place_in texts.now links.now.text.items ≡ Some result }
 {
@@ -238,12 +238,12 @@ fn first_with(texts: &Places<'_>, links: &Links<'_, '_>) -> usize
 }
 
 /// Where each group's link headings stand in its rows, and which look-up is its own.
-fn parent_links(
+fn link_places(
     alloc: Global,
     families: &[Family<'_, '_>],
-    links: &[Links<'_, '_>],
+    links: &[ParentLinks<'_, '_>],
     texts: &Places<'_>,
-) -> Result<Vec<ParentLinks>, AllocError>
+) -> Result<Vec<LinkPlaces>, AllocError>
     requires families { length families.now ≡ length links.now }
     requires texts { texts.now ≡ texts_in links.now }
     ensures { IfOk result (λ of_groups. AreKept links.now of_groups.items (IsPlacedAt families.now texts.now)) }
@@ -251,7 +251,7 @@ fn parent_links(
     let mut of_groups = Vec::new(alloc);
     for (place, of_group) in links.iter().enumerate() {
         let headings = &families[place].headings;
-        of_groups.push(ParentLinks {
+        of_groups.push(LinkPlaces {
             places: places_of(alloc, headings, &of_group.headings)?,
             lookup: first_with(texts, of_group),
         })?;
@@ -271,12 +271,12 @@ pub(crate) fn parents(
     requires few { length rows.now < 2 ^ 32 }
     requires kept { All (HasFamily dictionary.now families.now) rows.now }
     requires families { AreFamilies dictionary.now groups.now families.now }
-    requires by_group { Finds by_group.now (HasText (map row_of rows.now) HasGroup) }
+    requires by_group { Finds by_group.now (HasText (map row_of rows.now) HasGroupName) }
     ensures { IfOk result (AreParents dictionary.now (map row_of rows.now) groups.now) }
 {
-    let links = links_of_groups(alloc, groups, dictionary, rows, families, by_group)?;
+    let links = all_parent_links(alloc, groups, dictionary, rows, families, by_group)?;
     let texts = texts_of(alloc, &links)?;
     let lookups = lookups(alloc, dictionary, rows, families, &links, &texts)?;
-    let of_groups = parent_links(alloc, families, &links, &texts)?;
+    let of_groups = link_places(alloc, families, &links, &texts)?;
     Ok(ParentLookups { of_groups, lookups })
 }

@@ -1,3 +1,4 @@
+pub mod AtPlaces
 pub mod Collecting
 pub mod Pieces
 pub mod Fields
@@ -18,3 +19,4 @@ pub mod FirstPlaces
 pub mod Loosely
 pub mod ByTest
 pub mod Mini
+pub mod RowTexts

@@ -1,7 +1,7 @@
 //! The worked examples: what no clause says.
 use crate::{
-    Callers, CallersError, Day, Decision, Name, NameError, Policy, PolicyError, RowFacts, Subject,
-    Verb, vectors,
+    Caller, Callers, CallersError, Day, Decision, Name, NameError, Policy, PolicyError, RowFacts,
+    Subject, Verb, vectors,
 };
 use ags_rows::{Cell, cells};
 use std::alloc::Global;
@@ -14,6 +14,8 @@ fn names(rt: HostRuntime) -> Result<(), Fail> {
     for text in ["N1", "Delta", "a-b_C-9", "12345678901234567890123456789012"] {
         let name = Name::read(alloc, text)?;
         assert!(rt; name.text() == text, "{text}");
+        assert!(rt; name.clone()? == name, "{text}");
+        assert!(rt; name <= name.clone()?, "{text}");
     }
     for text in ["", "N 1", "N.1", "é", "123456789012345678901234567890123"] {
         assert!(rt;
@@ -148,8 +150,7 @@ fn keys_refused(rt: HostRuntime) -> Result<(), Fail> {
 #[derive(Drop)]
 struct Asker {
     policy: Policy,
-    firm: Name,
-    role: Name,
+    caller: Caller,
     project: Name,
 }
 
@@ -157,30 +158,22 @@ impl Asker {
     fn new(alloc: Global, policy: &str, firm: &str, role: &str) -> Result<Asker, Fail> {
         Ok(Asker {
             policy: Policy::read(alloc, policy)?,
-            firm: Name::read(alloc, firm)?,
-            role: Name::read(alloc, role)?,
+            caller: Caller {
+                firm: Name::read(alloc, firm)?,
+                role: Name::read(alloc, role)?,
+            },
             project: Name::read(alloc, "N1")?,
         })
     }
 
     fn ask(&self, verb: Verb) -> Decision {
-        self.policy.decide(&Subject {
-            firm: &self.firm,
-            role: &self.role,
-            project: &self.project,
-            verb,
-            row: None,
-        })
+        let subject = Subject::of_request(&self.caller, &self.project, verb);
+        self.policy.decide(&subject)
     }
 
-    fn see(&self, row: RowFacts) -> Decision {
-        self.policy.decide(&Subject {
-            firm: &self.firm,
-            role: &self.role,
-            project: &self.project,
-            verb: Verb::See,
-            row: Some(row),
-        })
+    fn see<'a>(&'a self, row: RowFacts<'a>) -> Decision {
+        let subject = Subject::of_row(&self.caller, &self.project, row);
+        self.policy.decide(&subject)
     }
 }
 

@@ -10,7 +10,7 @@ ghost use Rattle.ags_check.specs.Header.{IsUnknownGroup, LacksParentGroup, Lacks
 ghost use Rattle.ags_check.specs.HeaderPhase.{unknown_code};
 ghost use Rattle.ags_check.specs.Placing.{OfFile, AtGroup};
 
-use crate::file::File;
+use crate::named_groups::NamedGroups;
 use ags_dict::Dictionary;
 use ags_rows::{Code, Finding, Group, note};
 use std::alloc::{AllocError, Global};
@@ -52,7 +52,7 @@ pub fn note_unknown_group(
 }
 
 /// Whether the group has a parent group that is not in the file.
-fn lacks_parent(dictionary: &Dictionary, file: &File, group: &Group) -> bool
+fn lacks_parent(dictionary: &Dictionary, file: &NamedGroups, group: &Group) -> bool
     ensures { IsTrue result ↔ LacksParentGroup dictionary.now (contents_of file.now) (group_contents group.now) }
 {
     match dictionary.parent(group.name.as_slice()) {
@@ -65,7 +65,7 @@ fn lacks_parent(dictionary: &Dictionary, file: &File, group: &Group) -> bool
 pub fn note_lacking_parent(
     alloc: Global,
     dictionary: &Dictionary,
-    file: &File,
+    file: &NamedGroups,
     group: &Group,
     findings: &mut Vec<Finding>,
 ) -> Result<(), AllocError>
@@ -86,7 +86,7 @@ pub fn note_lacking_parent(
 /// Rules 13, 14, 15 and 17: notes that a group which each file has is absent.
 pub fn note_absent_group(
     alloc: Global,
-    file: &File,
+    file: &NamedGroups,
     code: Code,
     name: &[u8],
     findings: &mut Vec<Finding>,

@@ -1,7 +1,7 @@
 //! The abbreviations of a file, looked up by heading and text together.
 
 ghost use Rattle.std.specs.Prelude.{◌≡◌, ◌==◌, ◌<◌, ◌+◌, ◌^◌, ◌||◌, ℕ, List, IfOk, OnOk, IfSome, length, map, position};
-ghost use Rattle.ags_check.specs.Listing.{pair_texts, has_pair, is_pair, HasPairs, lacks_part};
+ghost use Rattle.ags_check.specs.CodeLists.{pair_texts, has_pair, is_pair, HasPairs, lacks_part};
 
 use std::alloc::{AllocError, Global};
 use std::collections::BTreeSet;
@@ -13,7 +13,7 @@ pub struct Abbreviations<'a> {
 }
 
 /// Adds a pair.
-fn add<'a>(
+fn add_pair<'a>(
     held: &mut BTreeSet<(&'a [u8], &'a [u8])>,
     heading: &'a [u8],
     text: &'a [u8],
@@ -40,7 +40,7 @@ impl<'a> Abbreviations<'a> {
     {
         let mut held = BTreeSet::new(alloc);
         for (heading, text) in pairs {
-            add(&mut held, heading, text)?;
+            add_pair(&mut held, heading, text)?;
         }
         Ok(Abbreviations { held })
     }

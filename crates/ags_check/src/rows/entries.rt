@@ -4,12 +4,12 @@ ghost use Rattle.std.specs.Prelude.{◌≡◌, ◌↔◌, ◌∷◌, [], ℕ, Li
 ghost use Rattle.ags_rows.specs.Collecting.{Adds, OneOf};
 ghost use Rattle.ags_rows.specs.Contents.{Contents, group_contents};
 ghost use Rattle.ags_check.specs.RowRules.{IsUnfit, IsUnlistedUnitEntry, IsUnlistedAbbreviationEntry, IsUnlistedTypeEntry, entry_in};
-ghost use Rattle.ags_check.specs.RowPhase.{InHeadings, header_rules_of, entry_rules, required_rules};
+ghost use Rattle.ags_check.specs.RowPhase.{InHeadings, unit_and_type_rules, data_entry_rules, required_rules};
 ghost use Rattle.ags_links.specs.DataRows.{row_in};
 ghost use Rattle.ags_check.specs.Columns.{IsTyped, AreColumns, entry_under, column_rules};
 
+use crate::rows::code_lists::CodeLists;
 use crate::rows::columns::{Column, field, is_of_type};
-use crate::rows::listed::Listed;
 use ags_cells::fits;
 use ags_cells::laws::fits_its_type_code;
 use ags_rows::{Cell, Code, Finding, Group, note};
@@ -25,21 +25,21 @@ fn is_unfit(column: &Column, text: &[u8]) -> bool
 }
 
 /// Rule 15, of an entry of type PU.
-fn is_unlisted_unit(column: &Column, text: &[u8], listed: &Listed) -> bool
+fn is_unlisted_unit(column: &Column, text: &[u8], listed: &CodeLists) -> bool
     ensures { IsTrue result ↔ IsUnlistedUnitEntry listed.now (entry_under column.now text.now) }
 {
     is_of_type(column, b"PU") && listed.is_unlisted_unit(text)
 }
 
 /// Rule 16, of an entry of type PA.
-fn is_unlisted_abbreviation<'a>(column: &Column<'a>, text: &'a [u8], listed: &Listed<'a>) -> bool
+fn is_unlisted_abbreviation<'a>(column: &Column<'a>, text: &'a [u8], listed: &CodeLists<'a>) -> bool
     ensures { IsTrue result ↔ IsUnlistedAbbreviationEntry listed.now (entry_under column.now text.now) }
 {
     is_of_type(column, b"PA") && listed.is_unlisted_abbreviation(column.heading, text)
 }
 
 /// Rule 17, of an entry of type PT.
-fn is_unlisted_type(column: &Column, text: &[u8], listed: &Listed) -> bool
+fn is_unlisted_type(column: &Column, text: &[u8], listed: &CodeLists) -> bool
     ensures { IsTrue result ↔ IsUnlistedTypeEntry listed.now (entry_under column.now text.now) }
 {
     is_of_type(column, b"PT") && listed.is_unlisted_type(text)
@@ -51,11 +51,11 @@ fn note_entry<'a>(
     line: u32,
     column: &Column<'a>,
     text: &'a [u8],
-    listed: &Listed<'a>,
+    listed: &CodeLists<'a>,
     findings: &mut Vec<Finding>,
 ) -> Result<(), AllocError>
     requires { IsTyped column.now }
-    ensures { OnOk result (Adds (OneOf (entry_rules listed.now line (entry_under column.now text.now))) findings.old.items findings.new.items) }
+    ensures { OnOk result (Adds (OneOf (data_entry_rules listed.now line (entry_under column.now text.now))) findings.old.items findings.new.items) }
 {
     let heading = column.heading;
     let unfit = is_unfit(column, text);
@@ -82,12 +82,12 @@ pub fn note_entries<'a>(
     line: u32,
     columns: &[Column<'a>],
     cells: &'a [Cell],
-    listed: &Listed<'a>,
+    listed: &CodeLists<'a>,
     findings: &mut Vec<Finding>,
 ) -> Result<(), AllocError>
     requires { All IsTyped columns.now }
     ensures { OnOk result ((group : Contents) (headings : List (List ℕ)) → AreColumns group headings columns.now
-        → Adds (InHeadings headings (λ heading. entry_rules listed.now line (entry_in group cells.now heading))) findings.old.items findings.new.items) }
+        → Adds (InHeadings headings (λ heading. data_entry_rules listed.now line (entry_in group cells.now heading))) findings.old.items findings.new.items) }
 {
     for (i, column) in columns.iter().enumerate() {
         let text = field(cells, column.place);
@@ -101,7 +101,7 @@ fn note_column(
     alloc: Global,
     group: &Group,
     column: &Column,
-    listed: &Listed,
+    listed: &CodeLists,
     findings: &mut Vec<Finding>,
 ) -> Result<(), AllocError>
     ensures { OnOk result (Adds (OneOf (column_rules listed.now group.now column.now)) findings.old.items findings.new.items) }
@@ -128,15 +128,15 @@ fn note_column(
 }
 
 /// Notes the units and types over the headings that are not listed (Rules 15 and 17).
-pub fn note_header(
+pub fn note_columns(
     alloc: Global,
     group: &Group,
     columns: &[Column],
-    listed: &Listed,
+    listed: &CodeLists,
     findings: &mut Vec<Finding>,
 ) -> Result<(), AllocError>
     ensures { OnOk result (AreColumns (group_contents group.now) group.now.headings columns.now
-        → Adds (InHeadings group.now.headings (header_rules_of listed.now group.now)) findings.old.items findings.new.items) }
+        → Adds (InHeadings group.now.headings (unit_and_type_rules listed.now group.now)) findings.old.items findings.new.items) }
 {
     for (i, column) in columns.iter().enumerate() {
         note_column(alloc, group, column, listed, findings)?;

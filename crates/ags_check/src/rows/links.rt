@@ -4,7 +4,7 @@ ghost use Rattle.std.specs.Prelude.{◌≡◌, ◌≢◌, ◌<◌, ◌↔◌, []
 ghost use Rattle.ags_rows.specs.Collecting.{Adds};
 ghost use Rattle.ags_rows.specs.Contents.{Contents};
 ghost use Rattle.ags_rows.specs.Names.{is_definition};
-ghost use Rattle.ags_links.specs.DataRows.{DataRow, IsRow, row_in};
+ghost use Rattle.ags_links.specs.DataRows.{DataRow, IsDataRow, row_in};
 ghost use Rattle.ags_links.specs.Indexing.{rows_in};
 ghost use Rattle.ags_links.specs.RecordLinks.{separators_of, IsBroken};
 ghost use Rattle.ags_check.specs.RowPhase.{InHeadings, link_rules};
@@ -23,7 +23,7 @@ fn is_broken_link(
     number: u32,
 ) -> Result<bool, AllocError>
     requires { number < length (rows_in index.now) }
-    ensures { IfOk result (λ broken. (row : DataRow) → IsRow (rows_in index.now) number row
+    ensures { IfOk result (λ broken. (row : DataRow) → IsDataRow (rows_in index.now) number row
         → IsTrue broken ↔ (column.now.code.now ≡ codes "RL") × (text.now ≢ [])
         × IsBroken index.now.entries (separators_of index.now.contents) (rows_in index.now) row column.now.heading.now) }
 {
@@ -48,7 +48,7 @@ pub fn note_links(
 ) -> Result<(), AllocError>
     requires { number < length (rows_in index.now) }
     ensures { OnOk result ((group : Contents) → AreColumns group group.headings columns.now → is_definition group.name ≡ false
-        → IsRow (rows_in index.now) number (row_in group cells.now)
+        → IsDataRow (rows_in index.now) number (row_in group cells.now)
         → Adds (InHeadings group.headings (link_rules index.now.entries index.now.contents line (row_in group cells.now))) findings.old.items findings.new.items) }
 {
     for (i, column) in columns.iter().enumerate() {

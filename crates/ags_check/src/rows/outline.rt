@@ -3,12 +3,12 @@
 ghost use Rattle.std.specs.Prelude.{◌≡◌, ◌≢◌, ◌<◌, ◌↔◌, [], IsTrue, IfOk, length};
 ghost use Rattle.ags_rows.specs.Contents.{group_contents};
 ghost use Rattle.ags_dict.specs.Entries.{keys_of};
-ghost use Rattle.ags_links.specs.DataRows.{DataRow, IsRow, row_in};
+ghost use Rattle.ags_links.specs.DataRows.{DataRow, IsDataRow, row_in};
 ghost use Rattle.ags_links.specs.Indexing.{rows_in};
 ghost use Rattle.ags_check.specs.RowRules.{RepeatsKey, LacksParentRow, IsUnlistedFileSet};
 
+use crate::rows::code_lists::CodeLists;
 use crate::rows::columns::{Column, columns, field};
-use crate::rows::listed::Listed;
 use ags_dict::Dictionary;
 use ags_links::Index;
 use ags_rows::{Cell, Group, Places, Row, is_definition};
@@ -92,7 +92,7 @@ impl<'a> Outline<'a> {
     /// Rule 10a: whether an earlier row of the group has the key of this one.
     pub fn repeats_key(&self, index: &Index, number: u32) -> Result<bool, AllocError>
         requires { number < length (rows_in index.now) }
-        ensures { IfOk result (λ repeats. (row : DataRow) → IsRow (rows_in index.now) number row → row.group ≡ self.now.group.name → self.now.entries ≡ index.now.entries
+        ensures { IfOk result (λ repeats. (row : DataRow) → IsDataRow (rows_in index.now) number row → row.group ≡ self.now.group.name → self.now.entries ≡ index.now.entries
             → IsTrue repeats ↔ RepeatsKey index.now.entries index.now.contents number row) }
     {
         if !self.has_keys {
@@ -104,7 +104,7 @@ impl<'a> Outline<'a> {
     /// Rule 10c: whether the group has a parent group, and the row no parent row.
     pub fn lacks_parent(&self, index: &Index, number: u32) -> Result<bool, AllocError>
         requires { number < length (rows_in index.now) }
-        ensures { IfOk result (λ lacks. (row : DataRow) → IsRow (rows_in index.now) number row → row.group ≡ self.now.group.name → self.now.entries ≡ index.now.entries
+        ensures { IfOk result (λ lacks. (row : DataRow) → IsDataRow (rows_in index.now) number row → row.group ≡ self.now.group.name → self.now.entries ≡ index.now.entries
             → IsTrue lacks ↔ LacksParentRow index.now.entries index.now.contents row) }
     {
         if !self.has_parent {
@@ -114,7 +114,7 @@ impl<'a> Outline<'a> {
     }
 
     /// Rule 20: whether the row is of a data group other than FILE, and its FILE_FSET is not null and not listed in FILE.
-    pub fn is_unlisted_file_set(&self, cells: &[Cell], listed: &Listed) -> bool
+    pub fn is_unlisted_file_set(&self, cells: &[Cell], listed: &CodeLists) -> bool
         ensures { IsTrue result ↔ IsUnlistedFileSet listed.now (row_in (group_contents self.now.group) cells.now) }
     {
         self.is_data

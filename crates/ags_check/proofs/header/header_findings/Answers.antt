@@ -4,7 +4,7 @@ use Rattle.ags_rows.specs.declared.codes.Finding.{Finding}
 use Rattle.ags_rows.specs.Collecting.{Adds, OneOf}
 use Rattle.ags_rows.specs.Contents.{contents_of}
 use Rattle.ags_rows.proofs.Collecting.{one_more, one_none, listed}
-use Rattle.ags_check.specs.HeaderPhase.{unknown_code, group_rules, file_rules}
+use Rattle.ags_check.specs.HeaderPhase.{unknown_code, group_header_rules, file_rules}
 use Rattle.ags_check.specs.Placing.{InGroups}
 use Rattle.ags_check.proofs.header.header_findings.Goals as goal
 
@@ -14,12 +14,12 @@ returns c =
     let entries = c.args.extended.now in
     let groups = c.args.file.now in
     let file = contents_of groups in
-    let a = c.note_groups.new.findings.items in
-    let b = c.note_file.new.findings.items in
+    let a = c.note_all_header_rows.new.findings.items in
+    let b = c.note_absent_groups.new.findings.items in
     let code = c.unknown_code-code.ensures ∙ ap (λ (l : List _). unknown_code (contents_of l)) c.groups.ensures in
-    let first : Adds (InGroups groups (group_rules given entries file (unknown_code file))) [] a =
-    subst (λ (l : List Finding). Adds (InGroups groups (group_rules given entries file (unknown_code file))) l a) c.new-findings.ensures.items
-    (subst (λ (k : Code). Adds (InGroups groups (group_rules given entries file k)) c.new-findings.result.items a) code c.in_ok-note_groups.ensures) in
+    let first : Adds (InGroups groups (group_header_rules given entries file (unknown_code file))) [] a =
+    subst (λ (l : List Finding). Adds (InGroups groups (group_header_rules given entries file (unknown_code file))) l a) c.new-findings.ensures.items
+    (subst (λ (k : Code). Adds (InGroups groups (group_header_rules given entries file k)) c.new-findings.result.items a) code c.in_ok-note_all_header_rows.ensures) in
     listed b c.in_order.result
-    (one_more _ (OneOf (file_rules file) ∷ []) [] a b first (one_more (OneOf (file_rules file)) [] a b b c.in_ok-note_file.ensures (one_none b)))
+    (one_more _ (OneOf (file_rules file) ∷ []) [] a b first (one_more (OneOf (file_rules file)) [] a b b c.in_ok-note_absent_groups.ensures (one_none b)))
     c.in_order.ensures.order c.in_order.ensures.only c.in_order.ensures.all

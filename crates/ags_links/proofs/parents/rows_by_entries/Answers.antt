@@ -4,7 +4,7 @@ use Rattle.ags_links.specs.DataRows.{IsAt, entry_of}
 use Rattle.ags_links.specs.declared.families.Family.{Family}
 use Rattle.ags_links.specs.Families.{HasEntries}
 use Rattle.ags_links.specs.KeyTexts.{key_text}
-use Rattle.ags_links.specs.ParentRows.{names_of}
+use Rattle.ags_links.specs.ParentRows.{link_names}
 use Rattle.ags_links.specs.Placing.{row_of}
 use Rattle.ags_links.proofs.Finding.{finds_no_number, finds_number, finds_numbers}
 use Rattle.ags_links.proofs.Heading.{entries_at, places_named}
@@ -13,7 +13,7 @@ use Rattle.ags_links.proofs.RowLemmas.{at_map}
 use Rattle.ags_links.proofs.parents.rows_by_entries.Goals as goal
 
 pub loop-number-init : goal.loop-number-init
-loop-number-init c = finds_no_number c.no_rows-lookup.result (HasEntries (names_of c.args.links.now)) (map row_of c.args.rows.now) c.no_rows-lookup.ensures
+loop-number-init c = finds_no_number c.no_rows-lookup.result (HasEntries (link_names c.args.links.now)) (map row_of c.args.rows.now) c.no_rows-lookup.ensures
 
 pub bounds-families-row : goal.bounds-families-row
 bounds-families-row c =
@@ -25,7 +25,7 @@ loop-number-preserved c =
     let numbers = c.args.links.now.rows.now in
     let row = c.index-rows-number.result in
     let of_row = row_of row in
-    let names = names_of c.args.links.now in
+    let names = link_names c.args.links.now in
     let stands : IsAt c.args.rows.now (get_or numbers c.loop-number.number-index 0) row = (c.requires.numbers.0 c.loop-number.number-index 0 c.loop-number-test.true, sym c.index-rows-number.is) in
     let kept = kept_family c.args.dictionary.now c.args.families.now c.args.rows.now (get_or numbers c.loop-number.number-index 0) row c.index-families-row.result c.requires.kept stands (sym c.index-families-row.is) in
     let stood = (get_or c.args.families.now row.place c.index-families-row.result).headings in
@@ -39,4 +39,4 @@ loop-number-preserved c =
     (sym text) (λ q h. text ∙ h)
 
 pub returns : goal.returns
-returns c = finds_numbers c.loop-number.lookup (HasEntries (names_of c.args.links.now)) (map row_of c.args.rows.now) c.args.links.now.rows.now c.loop-number.number-index c.loop-number-test.false c.loop-number.invariant
+returns c = finds_numbers c.loop-number.lookup (HasEntries (link_names c.args.links.now)) (map row_of c.args.rows.now) c.args.links.now.rows.now c.loop-number.number-index c.loop-number-test.false c.loop-number.invariant

@@ -1,5 +1,5 @@
 use Rattle.std.proofs.Common.{arith}
-use Rattle.ags_check.specs.RowPhase.{entry_rules}
+use Rattle.ags_check.specs.RowPhase.{data_entry_rules}
 use Rattle.ags_check.specs.RowRules.{entry_in}
 use Rattle.ags_check.proofs.EntryNotes.{entries_more, columns_all}
 use Rattle.ags_check.proofs.rows.entries.note_entries.Goals as goal
@@ -11,5 +11,5 @@ loop-i-preserved c = λ group headings are.
 
 pub returns : goal.returns
 returns c = λ group headings are.
-    columns_all (λ heading. entry_rules c.args.listed.now c.args.line (entry_in group c.args.cells.now heading)) headings c.args.columns.now c.loop-i.i
+    columns_all (λ heading. data_entry_rules c.args.listed.now c.args.line (entry_in group c.args.cells.now heading)) headings c.args.columns.now c.loop-i.i
     c.args.findings.now.items c.loop-i.findings.items are.heads (omega (arith, c.loop-i-test.false)) (c.loop-i.invariant group headings are)

@@ -2,7 +2,7 @@ use Rattle.std.proofs.Common.{◌≡◌, false}
 use Rattle.ags_rows.specs.Collecting.{Adds, AmongBefore, OneOf}
 use Rattle.ags_rows.specs.Contents.{Contents}
 use Rattle.ags_rows.specs.Names.{is_definition}
-use Rattle.ags_links.specs.DataRows.{IsRow, row_in}
+use Rattle.ags_links.specs.DataRows.{IsDataRow, row_in}
 use Rattle.ags_links.specs.Indexing.{rows_in}
 use Rattle.ags_check.specs.Columns.{AreColumns}
 use Rattle.ags_check.specs.RowPhase.{link_rules}
@@ -10,5 +10,5 @@ use Rattle.ags_check.proofs.rows.links.note_links.Given as goal
 
 abbrev pub invariant-loop-i : goal.invariant-loop-i
 invariant-loop-i l =
-    (group : Contents) → AreColumns group group.headings l.columns → is_definition group.name ≡ false → IsRow (rows_in l.index) l.number (row_in group l.cells)
+    (group : Contents) → AreColumns group group.headings l.columns → is_definition group.name ≡ false → IsDataRow (rows_in l.index) l.number (row_in group l.cells)
     → Adds (AmongBefore group.headings (λ _ heading f. OneOf (link_rules l.index.entries l.index.contents l.line (row_in group l.cells) heading) f) l.i) l.fn.findings.items l.findings.items

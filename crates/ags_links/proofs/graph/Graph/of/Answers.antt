@@ -20,7 +20,7 @@ invariant_of-result c =
     let all : c.loop-row.row ≡ length (rows_in c.args.index.now) = omega (arith, last, c.row_count-rows.ensures) in
     subst (λ rows. InRange rows c.loop-row.steps.items) last (steps_in_range c.args.index.now c.loop-row.steps.items c.loop-row.row all c.loop-row.invariant)
 
-pub returns-clause-steps : goal.returns-clause-steps
-returns-clause-steps c =
+pub returns : goal.returns
+returns c =
     let all : c.loop-row.row ≡ length (rows_in c.args.index.now) = omega (arith, c.loop-row.auto.row-end, c.loop-row-test.false, c.row_count-rows.ensures) in
-    steps_all c.args.index.now c.loop-row.steps.items c.loop-row.row all c.loop-row.invariant
+    record { rows = c.row_count-rows.ensures; steps = steps_all c.args.index.now c.loop-row.steps.items c.loop-row.row all c.loop-row.invariant }

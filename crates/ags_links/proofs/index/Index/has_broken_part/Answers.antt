@@ -2,7 +2,7 @@ use Rattle.std.proofs.Common.{◌↔◌, [], List, ℕ, Bor, Contains, get_or, t
 use Rattle.std.proofs.lemmas.Bool.{true≢false}
 use Rattle.std.proofs.lemmas.List.{take_all}
 use Rattle.std.proofs.lemmas.List.Elements.{Contains-get_or}
-use Rattle.ags_links.specs.Indexing.{NamesAt}
+use Rattle.ags_links.specs.Indexing.{IsNamedBy}
 use Rattle.ags_links.specs.RecordLinks.{separators_of, IsPartOf}
 use Rattle.ags_links.proofs.Kept.{texts, texts_next}
 use Rattle.ags_links.proofs.Linking.{EachNames, each_next, none_listed}
@@ -34,7 +34,7 @@ returns-then-is_empty c = λ r row.
       λ _. (
         part,
         (cut part).0 (contains_map (λ (p : Bor (List ℕ)). p.now) items (get_or items i no_text) (Contains-get_or items i no_text c.loop-part-test.true)),
-        none_listed c.in_ok-rows.rows.now (NamesAt file part) c.in_ok-rows.ensures c.is_empty.result c.is_empty.ensures c.if-is_empty.true,
+        none_listed c.in_ok-rows.rows.now (IsNamedBy file part) c.in_ok-rows.ensures c.is_empty.result c.is_empty.ensures c.if-is_empty.true,
       ),
       λ _. refl,
     )

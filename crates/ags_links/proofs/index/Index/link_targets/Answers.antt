@@ -2,7 +2,7 @@ use Rattle.std.proofs.Common.{◌↔◌, [], List, ℕ, Bor, Contains, get_or, t
 use Rattle.std.proofs.lemmas.List.{take_all}
 use Rattle.std.proofs.lemmas.List.Elements.{Contains-get_or}
 use Rattle.ags_links.specs.Adding.{AddsRows}
-use Rattle.ags_links.specs.Indexing.{NamesAt, IsNamedAmong}
+use Rattle.ags_links.specs.Indexing.{IsNamedBy, IsNamedAmong}
 use Rattle.ags_links.specs.RecordLinks.{separators_of, IsPartOf}
 use Rattle.ags_links.proofs.Kept.{texts, texts_next}
 use Rattle.ags_links.proofs.Linking.{EachNames, among_next, each_next, none_listed, link_lists}
@@ -38,7 +38,7 @@ returns-then-is_empty c = λ r row.
     let cut : (part : List ℕ) → Contains (texts items) part ↔ IsPartOf (separators_of file.contents) r c.args.heading.now part = subst (λ ps. (part : List ℕ) → Contains (texts ps) part ↔ IsPartOf (separators_of file.contents) r c.args.heading.now part) (sym c.deref-part-items.ensures.value) (c.in_ok-parts.ensures r row) in (
       part,
       (cut part).0 (contains_map (λ (p : Bor (List ℕ)). p.now) items (get_or items i no_text) (Contains-get_or items i no_text c.loop-part-test.true)),
-      none_listed c.in_ok-rows.rows.now (NamesAt file part) c.in_ok-rows.ensures c.is_empty.result c.is_empty.ensures c.if-is_empty.true,
+      none_listed c.in_ok-rows.rows.now (IsNamedBy file part) c.in_ok-rows.ensures c.is_empty.result c.is_empty.ensures c.if-is_empty.true,
     )
 
 pub returns : goal.returns

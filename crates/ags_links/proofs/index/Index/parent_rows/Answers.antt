@@ -1,6 +1,6 @@
 use Rattle.std.proofs.Common.{◌≡◌, map, sym, ap, subst, ◌∙◌, arith}
 use Rattle.ags_rows.specs.Contents.{field_at}
-use Rattle.ags_links.specs.DataRows.{IsRow}
+use Rattle.ags_links.specs.DataRows.{IsDataRow}
 use Rattle.ags_links.specs.Families.{HasText}
 use Rattle.ags_links.specs.Indexing.{rows_in}
 use Rattle.ags_links.specs.KeyTexts.{key_text}
@@ -31,7 +31,7 @@ returns c =
     let lookup = c.index.result.now in
     let index = parents_of_row i.groups.now i.dictionary.now i.rows.items i.families.items i.parents i.by_key i.by_file_set i.separators file n kept links c.self.invariant c.self.view_is c.requires c.index-kept.ensures c.index-links.ensures in
     let numbered = inside_rows i.groups.now i.dictionary.now i.rows.items i.families.items i.parents i.by_key i.by_file_set i.separators file c.self.invariant c.self.view_is in
-    let stands : IsRow rows n row = subst (λ rs. IsRow rs n row) numbered (at_map row_of i.rows.items n kept (rows_below i.rows.items rows n numbered c.requires, sym c.index-kept.ensures)) in
+    let stands : IsDataRow rows n row = subst (λ rs. IsDataRow rs n row) numbered (at_map row_of i.rows.items n kept (rows_below i.rows.items rows n numbered c.requires, sym c.index-kept.ensures)) in
     let same : index.lookup ≡ lookup = one_at i.parents.lookups.items links.lookup index.lookup lookup index.stands (index.stands.0, sym c.index.ensures) in
     parents_listed file.entries rows n row index.names lookup c.deref-2.result.now c.rows_with.result.now stands index.headings
     (subst (λ l. Finds l (HasText rows (HasParentEntries file.entries row.group index.names))) same index.finds)

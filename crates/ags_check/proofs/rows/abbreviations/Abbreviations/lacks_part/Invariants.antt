@@ -1,5 +1,5 @@
 use Rattle.std.proofs.Common.{◌≡◌, length}
-use Rattle.ags_check.specs.Listing.{lacks_part}
+use Rattle.ags_check.specs.CodeLists.{lacks_part}
 use Rattle.ags_check.proofs.rows.abbreviations.Abbreviations.lacks_part.Given as goal
 
 abbrev pub invariant-cutting : goal.invariant-cutting

@@ -1,0 +1,23 @@
+use Rattle.std.proofs.Common.{[], ◌∷◌, codes}
+use Rattle.ags_rows.specs.declared.codes.Code.TheVariants.{Rule14, Rule15, Rule17}
+use Rattle.ags_rows.specs.Contents.{contents_of}
+use Rattle.ags_rows.proofs.Collecting.{one_more, one_none}
+use Rattle.ags_check.specs.Header.{LacksGroup}
+use Rattle.ags_check.specs.Placing.{OfFile}
+use Rattle.ags_check.proofs.header.note_absent_groups.Goals as goal
+
+pub returns : goal.returns
+returns c =
+    let file = contents_of c.args.file.now in
+    let a = c.args.findings.now.items in
+    let b = c.note_absent_group.new.findings.items in
+    let d = c.note_absent_group-2.new.findings.items in
+    let e = c.note_absent_group-3.new.findings.items in
+    let f = c.note_absent_group-4.new.findings.items in
+    let transmission = OfFile Rule14 (codes "TRAN") (LacksGroup file (codes "TRAN")) in
+    let units = OfFile Rule15 (codes "UNIT") (LacksGroup file (codes "UNIT")) in
+    let types = OfFile Rule17 (codes "TYPE") (LacksGroup file (codes "TYPE")) in
+    one_more _ (transmission ∷ units ∷ types ∷ []) a b f c.in_ok-note_absent_group.ensures
+    (one_more transmission (units ∷ types ∷ []) b d f c.in_ok-note_absent_group-2.ensures
+    (one_more units (types ∷ []) d e f c.in_ok-note_absent_group-3.ensures
+    (one_more types [] e f f c.in_ok-note_absent_group-4.ensures (one_none f))))

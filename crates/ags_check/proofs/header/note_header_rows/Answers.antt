@@ -1,0 +1,27 @@
+use Rattle.std.proofs.Common.{[], ◌∷◌}
+use Rattle.ags_rows.specs.declared.codes.Code.TheVariants.{Rule10c}
+use Rattle.ags_rows.specs.Collecting.{OneOf}
+use Rattle.ags_rows.specs.Contents.{group_contents, contents_of}
+use Rattle.ags_rows.proofs.Collecting.{one_more, one_none}
+use Rattle.ags_check.specs.Header.{LacksParentGroup}
+use Rattle.ags_check.specs.HeaderPhase.{heading_row_rules, only_row_rules}
+use Rattle.ags_check.specs.Placing.{AtGroup, OfKnown}
+use Rattle.ags_check.proofs.header.note_header_rows.Goals as goal
+
+pub returns : goal.returns
+returns c =
+    let given = c.args.given.now in
+    let entries = c.args.extended.now in
+    let group = c.args.group.now in
+    let a = c.args.findings.now.items in
+    let b = c.note_unknown_group.new.findings.items in
+    let d = c.note_lacking_parent.new.findings.items in
+    let e = c.note_known_heading_row.new.findings.items in
+    let f = c.note_only_rows.new.findings.items in
+    let parent = AtGroup Rule10c (LacksParentGroup entries (contents_of c.args.file.now) (group_contents group)) group in
+    let known = OfKnown entries group (heading_row_rules given entries c.args.code group) in
+    let only = OneOf (only_row_rules group) in
+    one_more _ (parent ∷ known ∷ only ∷ []) a b f c.in_ok-note_unknown_group.ensures
+    (one_more parent (known ∷ only ∷ []) b d f c.in_ok-note_lacking_parent.ensures
+    (one_more known (only ∷ []) d e f c.in_ok-note_known_heading_row.ensures
+    (one_more only [] e f f c.in_ok-note_only_rows.ensures (one_none f))))

@@ -1,0 +1,37 @@
+use Rattle.std.proofs.Common.{◌≡◌, [], ◌∷◌, ap, ◌∙◌}
+use Rattle.ags_rows.specs.declared.codes.Code.TheVariants.{Rule7, Rule10a, Rule10b, Rule19b}
+use Rattle.ags_rows.specs.Contents.{group_contents}
+use Rattle.ags_rows.proofs.Collecting.{one_more, one_none}
+use Rattle.ags_dict.specs.Entries.{keys_of, required_of}
+use Rattle.ags_check.specs.Header.{IsMisplaced, LacksKey, LacksRequired, IsMisnamed}
+use Rattle.ags_check.specs.Placing.{AtHeading}
+use Rattle.ags_check.proofs.Naming.{texts}
+use Rattle.ags_check.proofs.HeaderRules.{unknown_rule, misplaced_rule, key_rule, required_rule, misnamed_rule}
+use Rattle.ags_check.proofs.header.note_heading_row.Goals as goal
+
+pub returns : goal.returns
+returns c =
+    let given = c.args.given.now in
+    let entries = c.args.extended.now in
+    let group = c.args.group.now in
+    let here = group_contents group in
+    let name = c.as_slice-name.ensures in
+    let row = c.in_ok-row.ensures ∙ c.as_slice.ensures in
+    let headings : texts c.names-headings.result.now ≡ group.headings = c.names-headings.ensures ∙ row in
+    let keys = ap texts c.as_slice-2.ensures.value ∙ c.in_ok-keys.ensures ∙ ap (keys_of entries) name in
+    let required = ap texts c.as_slice-3.ensures.value ∙ c.in_ok-required.ensures ∙ ap (required_of entries) name in
+    let a = c.args.findings.now.items in
+    let b = c.note_unknown.new.findings.items in
+    let d = c.note_misplaced.new.findings.items in
+    let e = c.note_absent.new.findings.items in
+    let f = c.note_absent-2.new.findings.items in
+    let g = c.note_misnamed.new.findings.items in
+    let misplaced = AtHeading Rule7 (IsMisplaced entries here) group in
+    let key = AtHeading Rule10a (LacksKey entries here) group in
+    let need = AtHeading Rule10b (LacksRequired entries here) group in
+    let misnamed = AtHeading Rule19b (IsMisnamed given entries here) group in
+    one_more _ (misplaced ∷ key ∷ need ∷ misnamed ∷ []) a b g (unknown_rule entries group c.args.code _ a b headings (rw c.as_slice-name.ensures at c.in_ok-note_unknown.ensures))
+    (one_more misplaced (key ∷ need ∷ misnamed ∷ []) b d g (misplaced_rule entries group Rule7 _ b d headings (rw c.as_slice-name.ensures at c.in_ok-note_misplaced.ensures))
+    (one_more key (need ∷ misnamed ∷ []) d e g (key_rule entries group Rule10a _ d e keys (rw row at c.in_ok-note_absent.ensures))
+    (one_more need (misnamed ∷ []) e f g (required_rule entries group Rule10b _ e f required (rw row at c.in_ok-note_absent-2.ensures))
+    (one_more misnamed [] f g g (misnamed_rule given entries group Rule19b _ f g headings (rw c.as_slice-name.ensures at c.in_ok-note_misnamed.ensures)) (one_none g)))))

@@ -1,5 +1,0 @@
-use Rattle.ags_check.proofs.Whole.{one_list}
-use Rattle.ags_check.proofs.laws.one_list_of_findings.Goals as goal
-
-pub returns : goal.returns
-returns c = one_list

@@ -1,7 +1,0 @@
-use Rattle.std.proofs.Common.{◌≡◌, take, map}
-use Rattle.ags_rows.specs.Contents.{contents_of}
-use Rattle.ags_check.specs.Listing.{pair_texts, abbreviations}
-use Rattle.ags_check.proofs.rows.listed.pairs.Given as goal
-
-abbrev pub invariant-loop-i : goal.invariant-loop-i
-invariant-loop-i l = map pair_texts l.pairs.items ≡ abbreviations (contents_of (take l.i l.groups))

@@ -1,0 +1,64 @@
+-- The rules of the fourth and the fifth phase as what contents keep: no line, no finding.
+use Rattle.std.specs.Prelude.{◌≡◌, ℕ, List, [], codes, Contains}
+use Rattle.ags_rows.specs.Collecting.{At}
+use Rattle.ags_rows.specs.Contents.{Contents}
+use Rattle.ags_dict.specs.Entries.{Entries, required_of, extended}
+use Rattle.ags_links.specs.DataRows.{DataRow, IsDataRow, row_in, entry_of, data_rows}
+use Rattle.ags_check.specs.Header.{IsUnknownGroup, LacksParentGroup, IsUnknownHeading, IsMisplaced, LacksKey, LacksRequired, IsMisnamed, IsFurtherRow, IsLongSign, LacksGroup}
+use Rattle.ags_check.specs.RowRules.{DataEntry, entry_in, unit_over, type_over, IsUnfit, IsUnlistedUnit, IsUnlistedType, IsUnlistedUnitEntry, IsUnlistedAbbreviationEntry, IsUnlistedTypeEntry, IsBrokenLink, RepeatsKey, LacksParentRow, IsUnlistedFileSet}
+
+-- the fourth phase's rules on a DATA row of TRAN or PROJ
+pub record KeepsOnlyRow (group : Contents) (place : ℕ) (fields : List (List ℕ)) : Type 0 where
+  pub delimiter : IsLongSign (codes "TRAN_DLIM") group place fields → ⊥
+  pub concatenator : IsLongSign (codes "TRAN_RCON") group place fields → ⊥
+  pub one_project : IsFurtherRow (codes "PROJ") group place fields → ⊥
+  pub one_transmission : IsFurtherRow (codes "TRAN") group place fields → ⊥
+
+-- the fourth phase's rules on a group
+pub record KeepsHeader (given entries : Entries) (file : List Contents) (group : Contents) : Type 0 where
+  pub known : IsUnknownGroup entries group → ⊥
+  pub parent : LacksParentGroup entries file group → ⊥
+  pub headings : (h : List ℕ) → IsUnknownHeading entries group h → ⊥
+  pub order : (h : List ℕ) → IsMisplaced entries group h → ⊥
+  pub keys : (h : List ℕ) → LacksKey entries group h → ⊥
+  pub required : (h : List ℕ) → LacksRequired entries group h → ⊥
+  pub names : (h : List ℕ) → IsMisnamed given entries group h → ⊥
+  pub only_rows : (place : ℕ) (fields : List (List ℕ)) → At group.rows place fields → KeepsOnlyRow group place fields
+
+-- and on the file
+pub record KeepsHeaders (given entries : Entries) (file : List Contents) : Type 0 where
+  pub groups : (group : Contents) → Contains file group → KeepsHeader given entries file group
+  pub project : LacksGroup file (codes "PROJ") → ⊥
+  pub transmission : LacksGroup file (codes "TRAN") → ⊥
+  pub units : LacksGroup file (codes "UNIT") → ⊥
+  pub types : LacksGroup file (codes "TYPE") → ⊥
+
+-- the fifth phase's rules on an entry
+pub record KeepsEntry (file : List Contents) (entry : DataEntry) : Type 0 where
+  pub fits : IsUnfit entry → ⊥
+  pub unit : IsUnlistedUnitEntry file entry → ⊥
+  pub abbreviation : IsUnlistedAbbreviationEntry file entry → ⊥
+  pub code : IsUnlistedTypeEntry file entry → ⊥
+
+-- on a DATA row, but for its key
+pub record KeepsRow (entries : Entries) (file : List Contents) (group : Contents) (fields : List (List ℕ)) : Type 0 where
+  pub each : (h : List ℕ) → Contains group.headings h → KeepsEntry file (entry_in group fields h)
+  pub links : (h : List ℕ) → Contains group.headings h → IsBrokenLink entries file (row_in group fields) h → ⊥
+  pub required : (h : List ℕ) → Contains (required_of entries group.name) h → entry_of (row_in group fields) h ≡ [] → ⊥
+  pub parent : LacksParentRow entries file (row_in group fields) → ⊥
+  pub file_set : IsUnlistedFileSet file (row_in group fields) → ⊥
+
+-- and on the file
+pub record KeepsRows (entries : Entries) (file : List Contents) : Type 0 where
+  pub units : (group : Contents) → Contains file group → (h : List ℕ) → Contains group.headings h → IsUnlistedUnit file (unit_over group h) → ⊥
+  pub types : (group : Contents) → Contains file group → (h : List ℕ) → Contains group.headings h → IsUnlistedType file (type_over group h) → ⊥
+  pub rows : (group : Contents) → Contains file group → (fields : List (List ℕ)) → Contains group.rows fields → KeepsRow entries file group fields
+  pub keys : (number : ℕ) (row : DataRow) → IsDataRow (data_rows file) number row → RepeatsKey entries file number row → ⊥
+
+-- the rules of both phases, under entries
+abbrev pub Keeps : Entries → Entries → List Contents → Type 0
+Keeps given entries file = KeepsHeaders given entries file × KeepsRows entries file
+
+-- the same under the dictionary given, which the file's own DICT extends
+abbrev pub KeepsRules : Entries → List Contents → Type 0
+KeepsRules given file = Keeps given (extended given file) file

@@ -1,0 +1,201 @@
+//! What a file lists: its units, types, file sets and abbreviations.
+
+ghost use Rattle.std.specs.Prelude.{◌≡◌, ◌≢◌, ◌++◌, ◌↔◌, [], None, true, false, IsTrue, IfOk, OnOk, map, codes, if◌then◌else◌};
+ghost use Rattle.std.specs.Str.{bytes_eq};
+ghost use Rattle.ags_rows.specs.Contents.{place_in, under, group_contents, contents_of};
+ghost use Rattle.ags_check.specs.CodeLists.{listed_texts, abbreviation_in, abbreviations, pair_texts, has_pair, lacks_part};
+ghost use Rattle.ags_check.specs.RowRules.{IsUnlisted, IsUnlistedUnit, IsUnlistedType, IsUnlistedAbbreviation};
+
+use crate::rows::abbreviations::Abbreviations;
+use ags_links::separators_in;
+use ags_rows::{Group, Places, under};
+use std::alloc::{AllocError, Global};
+use std::marker::Model;
+
+/// What a file lists, to be looked up. Contracts see what the file holds.
+#[derive(Drop)]
+pub struct CodeLists<'a> {
+    groups: &'a [Group<'a>],
+    units: Places<'a>,
+    types: Places<'a>,
+    file_sets: Places<'a>,
+    abbreviations: Abbreviations<'a>,
+    concatenator: u8,
+}
+
+impl<'a> Model for CodeLists<'a> {
+    ghost use Rattle.std.specs.Prelude.{List};
+    ghost use Rattle.ags_rows.specs.Contents.{Contents, contents_of};
+    ghost use Rattle.ags_check.specs.CodeLists.{AreCodeLists};
+
+    ghost Value = { List Contents };
+
+    ghost view = { λ l. contents_of l.groups.now };
+
+    ghost invariant = { λ l. AreCodeLists (contents_of l.groups.now) l.units l.types l.file_sets l.abbreviations.held l.concatenator };
+}
+
+/// Adds what stands under a heading in the rows of a group.
+fn push_texts<'a>(
+    group: &'a Group<'_>,
+    heading: &[u8],
+    texts: &mut Vec<&'a [u8]>,
+) -> Result<(), AllocError>
+    ensures { OnOk result (map (λ text. text.now) texts.new.items
+        ≡ map (λ text. text.now) texts.old.items ++ map (λ fields. under group.now.headings fields heading.now) (group_contents group.now).rows) }
+{
+    let headings = group.headings.as_slice();
+    let rows = group.rows.as_slice();
+    for (i, row) in rows.iter().enumerate() {
+        texts.push(under(headings, row.cells.as_slice(), heading))?;
+    }
+    Ok(())
+}
+
+/// The same, if the group has this name.
+fn push_named<'a>(
+    group: &'a Group<'_>,
+    name: &[u8],
+    heading: &[u8],
+    texts: &mut Vec<&'a [u8]>,
+) -> Result<(), AllocError>
+    ensures { OnOk result (map (λ text. text.now) texts.new.items
+        ≡ map (λ text. text.now) texts.old.items
+        ++ (if bytes_eq group.now.name name.now then map (λ fields. under group.now.headings fields heading.now) (group_contents group.now).rows else [])) }
+{
+    if group.name.as_slice() == name {
+        push_texts(group, heading, texts)?;
+    }
+    Ok(())
+}
+
+/// What stands under a heading in the groups of this name.
+fn texts<'a>(
+    alloc: Global,
+    groups: &'a [Group<'_>],
+    name: &[u8],
+    heading: &[u8],
+) -> Result<Vec<&'a [u8]>, AllocError>
+    ensures { IfOk result (λ texts. map (λ text. text.now) texts.items ≡ listed_texts (contents_of groups.now) name.now heading.now) }
+{
+    let mut texts = Vec::new(alloc);
+    for (i, group) in groups.iter().enumerate() {
+        push_named(group, name, heading, &mut texts)?;
+    }
+    Ok(texts)
+}
+
+/// Adds the headings and codes of the rows of ABBR.
+fn push_pairs<'a>(
+    group: &'a Group<'_>,
+    pairs: &mut Vec<(&'a [u8], &'a [u8])>,
+) -> Result<(), AllocError>
+    ensures { OnOk result (map pair_texts pairs.new.items
+        ≡ map pair_texts pairs.old.items ++ map (abbreviation_in group.now.headings) (group_contents group.now).rows) }
+{
+    let headings = group.headings.as_slice();
+    let rows = group.rows.as_slice();
+    for (i, row) in rows.iter().enumerate() {
+        let heading = under(headings, row.cells.as_slice(), b"ABBR_HDNG");
+        let code = under(headings, row.cells.as_slice(), b"ABBR_CODE");
+        pairs.push((heading, code))?;
+    }
+    Ok(())
+}
+
+/// The headings and codes of ABBR.
+fn pairs<'a>(
+    alloc: Global,
+    groups: &'a [Group<'_>],
+) -> Result<Vec<(&'a [u8], &'a [u8])>, AllocError>
+    ensures { IfOk result (λ pairs. map pair_texts pairs.items ≡ abbreviations (contents_of groups.now)) }
+{
+    let mut pairs = Vec::new(alloc);
+    for (i, group) in groups.iter().enumerate() {
+        if group.name.as_slice() == b"ABBR".as_slice() {
+            push_pairs(group, &mut pairs)?;
+        }
+    }
+    Ok(pairs)
+}
+
+/// The texts that stand under a heading in the groups of this name, to be looked up.
+fn places<'a>(
+    alloc: Global,
+    groups: &'a [Group<'_>],
+    name: &[u8],
+    heading: &[u8],
+) -> Result<Places<'a>, AllocError>
+    ensures { IfOk result (λ places. places ≡ listed_texts (contents_of groups.now) name.now heading.now) }
+{
+    let texts = texts(alloc, groups, name, heading)?;
+    Places::of(alloc, texts)
+}
+
+/// Whether a text is not null, and is not among these.
+fn is_unlisted(places: &Places, text: &[u8]) -> bool
+    ensures { IsTrue result ↔ (text.now ≢ []) × (place_in places.now text.now ≡ None) }
+{
+    !text.is_empty() && places.find(text).is_none()
+}
+
+/// Whether a text is not null and no abbreviation under the heading, nor are all of its parts.
+fn is_unlisted_pair<'a>(
+    abbreviations: &Abbreviations<'a>,
+    separator: u8,
+    heading: &'a [u8],
+    text: &'a [u8],
+) -> bool
+    ensures { IsTrue result ↔ (text.now ≢ [])
+        × (has_pair abbreviations.now.held heading.now text.now ≡ false)
+        × (lacks_part abbreviations.now.held separator heading.now text.now ≡ true) }
+{
+    !text.is_empty()
+        && !abbreviations.has(heading, text)
+        && abbreviations.lacks_part(separator, heading, text)
+}
+
+impl<'a> CodeLists<'a> {
+    /// What these groups list.
+    pub fn of(alloc: Global, groups: &'a [Group<'a>]) -> Result<Self, AllocError>
+        ensures { IfOk result (λ listed. listed ≡ contents_of groups.now) }
+    {
+        let pairs = pairs(alloc, groups)?;
+        Ok(CodeLists {
+            groups,
+            units: places(alloc, groups, b"UNIT", b"UNIT_UNIT")?,
+            types: places(alloc, groups, b"TYPE", b"TYPE_TYPE")?,
+            file_sets: places(alloc, groups, b"FILE", b"FILE_FSET")?,
+            abbreviations: Abbreviations::of(alloc, pairs.as_slice())?,
+            concatenator: separators_in(groups).concatenator,
+        })
+    }
+
+    /// Rule 15: whether the unit is not null, and not listed in UNIT.
+    pub fn is_unlisted_unit(&self, unit: &[u8]) -> bool
+        ensures { IsTrue result ↔ IsUnlistedUnit self.now unit.now }
+    {
+        is_unlisted(&self.units, unit)
+    }
+
+    /// Rule 17: whether the type is not null, and not listed in TYPE.
+    pub fn is_unlisted_type(&self, code: &[u8]) -> bool
+        ensures { IsTrue result ↔ IsUnlistedType self.now code.now }
+    {
+        is_unlisted(&self.types, code)
+    }
+
+    /// Rule 20: whether the file set is not null, and not listed in FILE.
+    pub fn is_unlisted_file_set(&self, file_set: &[u8]) -> bool
+        ensures { IsTrue result ↔ IsUnlisted self.now (codes "FILE") (codes "FILE_FSET") file_set.now }
+    {
+        is_unlisted(&self.file_sets, file_set)
+    }
+
+    /// Rule 16: whether the text is not null and no abbreviation under the heading, nor are all of its parts.
+    pub fn is_unlisted_abbreviation(&self, heading: &'a [u8], text: &'a [u8]) -> bool
+        ensures { IsTrue result ↔ IsUnlistedAbbreviation self.now heading.now text.now }
+    {
+        is_unlisted_pair(&self.abbreviations, self.concatenator, heading, text)
+    }
+}

@@ -1,0 +1,29 @@
+-- Laws over the definitions alone.
+use Rattle.std.specs.Prelude.{◌≡◌, ◌↔◌, ℕ, List, Bool, true}
+use Rattle.ags_rows.specs.Contents.{Contents}
+use Rattle.ags_rows.specs.Names.{is_definition}
+use Rattle.ags_links.specs.DataRows.{DataFile, DataRow, IsDataRow, IsRowOfGroup, data_rows}
+use Rattle.ags_links.specs.Steps.{StepAt, IsGraphOf}
+use Rattle.ags_links.specs.Walks.{Wiring, HasStep, Reaches, IsMarked, IsShown, IsReached}
+
+-- Each number of a DATA row is that of one row of one group, and back.
+abbrev pub RowsAreNumbered : Type 0
+RowsAreNumbered = (file : List Contents) (n : ℕ) (row : DataRow) → IsDataRow (data_rows file) n row ↔ IsRowOfGroup file n row
+
+-- A row of a definition group has no step.
+abbrev pub DefinitionsHaveNoStep : Type 0
+DefinitionsHaveNoStep = (file : DataFile) (n m : ℕ) (row : DataRow) → IsDataRow (data_rows file.contents) n row → is_definition row.group ≡ true → StepAt file n m → ⊥
+
+-- A file has one graph.
+abbrev pub OneGraph : Type 0
+OneGraph = (file : DataFile) (graph other : Wiring) → IsGraphOf file graph → IsGraphOf file other → graph ≡ other
+
+-- What a file's graph reaches and shows is what the file's steps reach and show.
+pub record WalksAsFile (file : DataFile) (graph : Wiring) : Type 0 where
+  pub steps : (n m : ℕ) → HasStep graph.steps n m ↔ StepAt file n m
+  pub reaches : (n m : ℕ) → Reaches (HasStep graph.steps) n m ↔ Reaches (StepAt file) n m
+  pub shown : (permitted : List Bool) (n : ℕ) → IsShown (HasStep graph.steps) (IsMarked permitted) n ↔ IsShown (StepAt file) (IsMarked permitted) n
+  pub reached : (from : List Bool) (n : ℕ) → IsReached (HasStep graph.steps) (IsMarked from) n ↔ IsReached (StepAt file) (IsMarked from) n
+
+abbrev pub GraphsWalkAsFiles : Type 0
+GraphsWalkAsFiles = (file : DataFile) (graph : Wiring) → IsGraphOf file graph → WalksAsFile file graph

@@ -1,0 +1,23 @@
+//! Laws over the definitions alone.
+
+ghost use Rattle.ags_links.specs.Laws.{RowsAreNumbered, DefinitionsHaveNoStep, OneGraph, GraphsWalkAsFiles};
+
+/// Each number of a DATA row is that of one row of one group, and back.
+pub fn rows_are_numbered()
+    ensures { RowsAreNumbered }
+{}
+
+/// A row of a definition group has no step.
+pub fn definitions_have_no_step()
+    ensures { DefinitionsHaveNoStep }
+{}
+
+/// A file has one graph.
+pub fn one_graph()
+    ensures { OneGraph }
+{}
+
+/// What a file's graph reaches and shows is what the file's steps reach and show.
+pub fn graphs_walk_as_files()
+    ensures { GraphsWalkAsFiles }
+{}
