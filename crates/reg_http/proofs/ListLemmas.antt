@@ -1,7 +1,7 @@
 -- Several connections, one more each time.
 use Rattle.std.proofs.Common.{◌≡◌, ℕ, ℤ, zero, suc, ◌+◌, ◌<◌, ◌≤◌, List, [], ◌∷◌, ◌++◌, length, take, drop, get_or, set, Option, Result, refl, sym, ap, ◌∙◌, arith, subst, add-one}
 use Rattle.std.proofs.lemmas.List.{take_all, drop-set-lt, length-set}
-use Rattle.reg_policy.specs.declared.callers.Listing.{Listing}
+use Rattle.reg_policy.specs.declared.callers.Credential.{Credential}
 use Rattle.reg_http.specs.Connections.{AreFresh, ServesAll, ServesConnection}
 use Rattle.reg_http.specs.Desks.{Asked}
 use Rattle.reg_http.specs.Tallies.{IsFresh}
@@ -28,7 +28,7 @@ module _ {R W : Type 0} where
   fresh_at (d ∷ cs) (n ∷ now) (suc i) c fresh rest inside is = fresh_at cs now i c fresh.1 rest (omega arith) is
 
 module _ {D R W : Type 0} (answers : D → Asked → Answer → D → Type 0) (remaining : R → Option (List ℕ)) (contents : W → Option (List ℕ))
-    (callers : List Listing) (day : ℤ) where
+    (callers : List Credential) (day : ℤ) where
   -- one connection more
   serve_more : (os ns : List (Tally R × Tally W)) (rs : List (Result Served IoFault)) (o n : Tally R × Tally W) (r : Result Served IoFault) (d m e : D)
       → ServesAll answers remaining contents callers day os rs ns d m → ServesConnection answers remaining contents callers day o n m e r

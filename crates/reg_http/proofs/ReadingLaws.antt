@@ -2,7 +2,7 @@
 use Rattle.std.proofs.Common.{◌≡◌, ℕ, ℤ, ◌<◌, ◌≤◌, List, [], length, take, Result, Ok, Err, refl, sym, ap, ◌∙◌, arith}
 use Rattle.httparse.specs.Grammar.{RequestHead}
 use Rattle.httparse.proofs.GrammarLemmas.{request_unique}
-use Rattle.reg_policy.specs.declared.callers.Listing.{Listing}
+use Rattle.reg_policy.specs.declared.callers.Credential.{Credential}
 use Rattle.reg_http.specs.Asks.{Asking, ask_of, asked_of}
 use Rattle.reg_http.specs.Heads.{IsHead, HasNoHead}
 use Rattle.reg_http.specs.Parts.{parts_of}
@@ -17,7 +17,7 @@ none_of_nothing bytes h rest none head =
     let few = head.few in
     omega arith
 
-module _ (callers : List Listing) (day : ℤ) (bytes : List ℕ) where
+module _ (callers : List Credential) (day : ℤ) (bytes : List ℕ) where
   -- what two heads of the same bytes ask is the same
   same_ask : (h k : RequestHead) (rest more : List ℕ) (a b : Result Asking Refusal) → IsHead bytes h rest → IsHead bytes k more
       → ask_of callers day (parts_of h) ≡ a → ask_of callers day (parts_of k) ≡ b → (a ≡ b) × (rest ≡ more)

@@ -1,4 +1,4 @@
--- What the bodies of the answers are made of is text, and has no float.
+-- The bodies of the answers: subjects in print are ASCII, and no body has a float.
 use Rattle.std.proofs.Common.{lit<, ◌≡◌, ℕ, ℤ, pos, ◌+◌, ◌/◌, ◌%◌, ◌<◌, ◌≤◌, List, [], ◌∷◌, ◌++◌, map, refl, sym, ap, ◌∙◌, subst, arith, codes, Bool, true, false, ◌||◌, zero, suc, length, take, get_or, Result, Ok, Err}
 use Rattle.std.specs.Prelude.{IfOk, Vec, encode_utf8_all}
 use Rattle.std.specs.declared.alloc.AllocError.{AllocError}
@@ -7,59 +7,20 @@ use Rattle.serde_json.specs.declared.value.Value.{Value}
 use Rattle.std.specs.Str.{IsUtf8}
 use Rattle.std.specs.List.{All, AllZip}
 use Rattle.std.proofs.lemmas.Bool.Decides.{nat_tests}
-use Rattle.std.proofs.lemmas.Int.{ints}
 use Rattle.std.proofs.lemmas.Str.{IsUtf8-from_ascii, encodes-IsAscii}
 use Rattle.std.proofs.lemmas.Str.Ascii.{IsAscii-from_all}
 use Rattle.std.proofs.lemmas.List.Elements.{All-nil, All-cons}
 use Rattle.std.proofs.lemmas.List.{map-append, take_all}
-use Rattle.jiff.specs.Words.{days_in_month}
-use Rattle.jiff_core.proofs.CalendarLemmas.{days_in_month_bounds}
 use Rattle.serde_json.specs.Data.{Data}
 use Rattle.serde_json.specs.View.{items_of, view}
 use Rattle.serde_json.specs.Written.{has_float, items_have_float}
-use Rattle.ags_rows.specs.Codes.{code_text}
-use Rattle.ags_rows.specs.declared.codes.Code.{Code}
-use Rattle.ags_rows.specs.declared.codes.Code.TheVariants.{Rule1, Rule2, Rule2a, Rule2b, Rule3, Rule4, Rule5, Rule6, Rule7, Rule8, Rule9, Rule10a, Rule10b, Rule10c, Rule11a, Rule11b, Rule11c, Rule13, Rule14, Rule15, Rule16, Rule17, Rule18, Rule19, Rule19a, Rule19b, Rule20, P1, P2}
-use Rattle.ags_rows.specs.declared.codes.Finding.{Finding}
-use Rattle.reg_policy.specs.Days.{Writes, day_text, two_digits, digit}
+use Rattle.ags_rows.specs.declared.finding.Finding.{Finding}
+use Rattle.reg_policy.specs.Days.{Writes}
 use Rattle.reg_http.specs.declared.desk.Listed.{Listed}
 use Rattle.reg_http.specs.Bodies.{shown_byte, IsListed, IsListing, IsReceipt, finding_data, findings_data, listed_data, listing_data, receipt_data}
 use Rattle.reg_http.specs.Rendering.{IsBody, IsRendered, answer_kind, answer_status}
 use Rattle.reg_http.specs.Replies.{reply_text}
 use Rattle.reg_http.specs.declared.desk.Answer.{Answer}
-
--- the codes are text
-pub code_is_text : (c : Code) → IsUtf8 (code_text c)
-unfolding lib.Utf8.encode
-code_is_text Rule1 = (codes "1", (refl, refl))
-code_is_text Rule2 = (codes "2", (refl, refl))
-code_is_text Rule2a = (codes "2a", (refl, refl))
-code_is_text Rule2b = (codes "2b", (refl, refl))
-code_is_text Rule3 = (codes "3", (refl, refl))
-code_is_text Rule4 = (codes "4", (refl, refl))
-code_is_text Rule5 = (codes "5", (refl, refl))
-code_is_text Rule6 = (codes "6", (refl, refl))
-code_is_text Rule7 = (codes "7", (refl, refl))
-code_is_text Rule8 = (codes "8", (refl, refl))
-code_is_text Rule9 = (codes "9", (refl, refl))
-code_is_text Rule10a = (codes "10a", (refl, refl))
-code_is_text Rule10b = (codes "10b", (refl, refl))
-code_is_text Rule10c = (codes "10c", (refl, refl))
-code_is_text Rule11a = (codes "11a", (refl, refl))
-code_is_text Rule11b = (codes "11b", (refl, refl))
-code_is_text Rule11c = (codes "11c", (refl, refl))
-code_is_text Rule13 = (codes "13", (refl, refl))
-code_is_text Rule14 = (codes "14", (refl, refl))
-code_is_text Rule15 = (codes "15", (refl, refl))
-code_is_text Rule16 = (codes "16", (refl, refl))
-code_is_text Rule17 = (codes "17", (refl, refl))
-code_is_text Rule18 = (codes "18", (refl, refl))
-code_is_text Rule19 = (codes "19", (refl, refl))
-code_is_text Rule19a = (codes "19a", (refl, refl))
-code_is_text Rule19b = (codes "19b", (refl, refl))
-code_is_text Rule20 = (codes "20", (refl, refl))
-code_is_text P1 = (codes "P1", (refl, refl))
-code_is_text P2 = (codes "P2", (refl, refl))
 
 abbrev IsAsciiByte : ℕ → Type 0
 IsAsciiByte b = b < 128
@@ -74,34 +35,6 @@ shown_are_ascii (b ∷ s) = All-cons IsAsciiByte (shown_byte b) (map shown_byte 
 
 pub shown_encodes : (s : List ℕ) → encode_utf8_all (map shown_byte s) ≡ map shown_byte s
 shown_encodes s = encodes-IsAscii (map shown_byte s) (IsAscii-from_all (map shown_byte s) (shown_are_ascii s))
-
-digit_is_ascii : (n : ℕ) → n < 80 → IsAsciiByte (digit n)
-digit_is_ascii n small = omega arith
-
-hyphen_is_ascii : IsAsciiByte 45
-hyphen_is_ascii = lit< tt
-
-two_text : (n : ℕ) (rest : List ℕ) → n < 100 → All IsAsciiByte rest → All IsAsciiByte (digit (n / 10) ∷ digit (n % 10) ∷ rest)
-two_text n rest small more =
-    All-cons IsAsciiByte (digit (n / 10)) (digit (n % 10) ∷ rest) (digit_is_ascii (n / 10) (omega arith))
-    (All-cons IsAsciiByte (digit (n % 10)) rest (digit_is_ascii (n % 10) (omega arith)) more)
-
--- a day's text is text
-pub date_is_text : (t : List ℕ) (n : ℤ) → Writes t n → IsUtf8 t
-date_is_text t n w =
-    let year : ℕ = w.0 in
-    let month : ℕ = w.1 in
-    let day : ℕ = w.2 in
-    let date = w.3.1.0 in
-    let short = (days_in_month_bounds (pos year) month).0 in
-    let small_month : month < 100 = omega (arith, ints, date.1) in
-    let small_day : day < 100 = omega (arith, ints, date.2, short) in
-    let tail : All IsAsciiByte (45 ∷ two_digits day) = All-cons IsAsciiByte 45 (two_digits day) hyphen_is_ascii (two_text day [] small_day (All-nil IsAsciiByte)) in
-    let later : All IsAsciiByte (45 ∷ two_digits month ++ 45 ∷ two_digits day) = All-cons IsAsciiByte 45 (two_digits month ++ 45 ∷ two_digits day) hyphen_is_ascii (two_text month (45 ∷ two_digits day) small_month tail) in
-    let all : All IsAsciiByte (day_text year month day) =
-    two_text (year / 100) (two_digits (year % 100) ++ 45 ∷ two_digits month ++ 45 ∷ two_digits day) (omega arith)
-    (two_text (year % 100) (45 ∷ two_digits month ++ 45 ∷ two_digits day) (omega arith) later) in
-    subst IsUtf8 (sym w.4) (IsUtf8-from_ascii (day_text year month day) (IsAscii-from_all (day_text year month day) all))
 
 items_no_float : (fs : List Finding) → items_have_float (items_of (map finding_data fs)) ≡ false
 items_no_float [] = refl

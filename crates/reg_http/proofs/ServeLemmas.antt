@@ -11,7 +11,7 @@ use Rattle.httparse.proofs.GrammarLemmas.{ReadsRequest-append}
 use Rattle.httparse.specs.declared.spans.HeaderSpan.{HeaderSpan}
 use Rattle.httparse.specs.declared.spans.RequestSpans.{RequestSpans}
 use Rattle.httparse.specs.Spans.{IsRequestAt}
-use Rattle.reg_policy.specs.declared.callers.Listing.{Listing}
+use Rattle.reg_policy.specs.declared.callers.Credential.{Credential}
 use Rattle.reg_http.specs.Agree.{is_memory}
 use Rattle.reg_http.specs.Asks.{Asking, ask_of, asked_of}
 use Rattle.reg_http.specs.Desks.{Asked, Serves}
@@ -47,7 +47,7 @@ memory_is BadParameter e = cc
 memory_is ShortBody e = cc
 memory_is OutOfMemory e = refl
 
-module _ {D : Type 0} (answers : D → Asked → Answer → D → Type 0) (callers : List Listing) (day : ℤ) where
+module _ {D : Type 0} (answers : D → Asked → Answer → D → Type 0) (callers : List Credential) (day : ℤ) where
   -- nothing came
   pub serve_silent : (old : Option (List ℕ)) (d : D) (w : Option (List ℕ)) → IfSome old (λ bytes. bytes ≡ [])
       → IfSome old (λ bytes. ServesOne answers callers day bytes d d w w (Ok (record { status = 0 })))
@@ -80,7 +80,7 @@ head_of bytes left buf headers spans filled held small split =
       few = held.few;
     }
 
-module _ {D : Type 0} (answers : D → Asked → Answer → D → Type 0) (callers : List Listing) (day : ℤ) where
+module _ {D : Type 0} (answers : D → Asked → Answer → D → Type 0) (callers : List Credential) (day : ℤ) where
   -- a refusal at a head, or want of memory
   at_head : (bytes : List ℕ) (d : D) (u w : Option (List ℕ)) (r : Refusal) (result : Result Served IoFault) (h : RequestHead) (rest : List ℕ)
       → IsHead bytes h rest → (is_memory r ≡ false → ask_of callers day (parts_of h) ≡ Err r) → Written u w (rendered r) (status_of r) result

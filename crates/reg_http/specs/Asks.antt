@@ -4,7 +4,7 @@ use Rattle.std.specs.List.{starts_with}
 use Rattle.form_urlencoded.specs.Form.{raw_pairs}
 use Rattle.reg_policy.specs.Callers.{caller_of}
 use Rattle.reg_policy.specs.declared.callers.Caller.{Caller}
-use Rattle.reg_policy.specs.declared.callers.Listing.{Listing}
+use Rattle.reg_policy.specs.declared.callers.Credential.{Credential}
 use Rattle.reg_http.specs.Agree.{and_then}
 use Rattle.reg_http.specs.Desks.{Asked}
 use Rattle.reg_http.specs.Desks as requests
@@ -25,12 +25,12 @@ abbrev pub known : Option Caller → Result Caller Refusal
 known None = Err NoCaller
 known (Some caller) = Ok caller
 
-abbrev pub caller_by : List Listing → Option (List ℕ) → Result Caller Refusal
+abbrev pub caller_by : List Credential → Option (List ℕ) → Result Caller Refusal
 caller_by callers None = Err NoCaller
 caller_by callers (Some token) = known (caller_of token callers)
 
 -- the caller by the Authorization fields: exactly one, with a known token
-abbrev pub caller_in : List Listing → Few → Result Caller Refusal
+abbrev pub caller_in : List Credential → Few → Result Caller Refusal
 caller_in callers none = Err NoCaller
 caller_in callers (one value) = caller_by callers (token_in value)
 caller_in callers many = Err NoCaller
@@ -48,7 +48,7 @@ pub record Asking : Type 0 where
   pub length : ℕ
 
 -- Caller, length of the body, and parameters: each refuses before the next is looked at.
-abbrev pub ask_kind : List Listing → ℤ → HeadParts → FoundAt → Kind → Result Asking Refusal
+abbrev pub ask_kind : List Credential → ℤ → HeadParts → FoundAt → Kind → Result Asking Refusal
 ask_kind callers day parts found kind =
     and_then (caller_in callers (values_in parts (codes "authorization"))) (λ caller.
     and_then (body_length kind parts) (λ n.
@@ -57,7 +57,7 @@ ask_kind callers day parts found kind =
     Ok (record { caller = caller; project = project; sought = sought; length = n })))))
 
 -- Route and method come first.
-abbrev pub ask_of : List Listing → ℤ → HeadParts → Result Asking Refusal
+abbrev pub ask_of : List Credential → ℤ → HeadParts → Result Asking Refusal
 ask_of callers day parts =
     and_then (found_in parts.path) (λ found.
     and_then (kind_in found.page parts.method) (λ kind.

@@ -4,7 +4,7 @@ use Rattle.std.specs.List.{AllZip}
 use Rattle.serde_json.specs.Data.{Data, number, unsigned, string, boolean, array, object, member, no_members}
 use Rattle.serde_json.specs.View.{items_of}
 use Rattle.ags_rows.specs.Codes.{code_text}
-use Rattle.ags_rows.specs.declared.codes.Finding.{Finding}
+use Rattle.ags_rows.specs.declared.finding.Finding.{Finding}
 use Rattle.reg_policy.specs.Days.{Writes}
 use Rattle.reg_http.specs.declared.desk.Listed.{Listed}
 

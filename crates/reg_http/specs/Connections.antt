@@ -1,7 +1,7 @@
 -- What serving several connections does, one after the other.
 use Rattle.std.specs.Prelude.{◌≡◌, ◌+◌, ℕ, ℤ, ◌≤◌, List, [], ◌∷◌, Option, Result, IfSome, IsTrue, ⊤}
 use Rattle.ags_rows.specs.declared.TheConstants.{LIMIT}
-use Rattle.reg_policy.specs.declared.callers.Listing.{Listing}
+use Rattle.reg_policy.specs.declared.callers.Credential.{Credential}
 use Rattle.reg_http.specs.Desks.{Asked}
 use Rattle.reg_http.specs.Heads.{longest_head}
 use Rattle.reg_http.specs.Serving.{ServesOne, is_read, is_write}
@@ -22,7 +22,7 @@ module _ {R W : Type 0} where
   AreFresh (c ∷ cs) = (IsFresh c.0 × IsFresh c.1) × AreFresh cs
 
 module _ {D R W : Type 0} (answers : D → Asked → Answer → D → Type 0) (remaining : R → Option (List ℕ)) (contents : W → Option (List ℕ))
-    (callers : List Listing) (day : ℤ) where
+    (callers : List Credential) (day : ℤ) where
   -- one connection: reader and writer before and after, and the desk before and after
   pub record ServesConnection (old new : Tally R × Tally W) (before after : D) (r : Result Served IoFault) : Type 0 where
     pub served : IfSome (remaining (inner_of old.0)) (λ bytes. ServesOne answers callers day bytes before after (contents (inner_of old.1)) (contents (inner_of new.1)) r)

@@ -1,8 +1,9 @@
 -- The numbers that a head may have: the length of a body, and the number of a deposit.
-use Rattle.std.specs.Prelude.{ℕ, Bool, true, false, ◌&&◌, not, ◌==◌, nat_le, List, [], ◌∷◌, length, Result, Ok, Err, if◌then◌else◌}
+use Rattle.std.specs.Prelude.{ℕ, Bool, true, false, ◌&&◌, not, ◌==◌, nat_le, List, [], ◌∷◌, Result, Ok, Err, if◌then◌else◌}
 use Rattle.std.specs.List.{list_all}
 use Rattle.std.specs.Char.{is_ascii_digit}
 use Rattle.ags_rows.specs.Bytes.{first_digit}
+use Rattle.ags_rows.specs.Names.{is_within}
 use Rattle.ags_rows.specs.declared.TheConstants.{LIMIT}
 use Rattle.reg_policy.specs.Days.{number_in}
 use Rattle.reg_http.specs.Fields.{Few, none, one, many}
@@ -11,7 +12,7 @@ use Rattle.reg_http.specs.declared.refusal.Refusal.TheVariants.{LengthRequired, 
 
 -- digits, at least one and at most so many
 abbrev pub is_number : ℕ → List ℕ → Bool
-is_number most text = nat_le 1 (length text) && nat_le (length text) most && list_all is_ascii_digit text
+is_number most text = is_within most text && list_all is_ascii_digit text
 
 -- a length of 1 to 10 digits, up to the limit of a deposit
 abbrev pub length_by : List ℕ → Result ℕ Refusal

@@ -1,7 +1,7 @@
 -- What the bytes of a connection are read as: nothing, a refusal, or a request.
 use Rattle.std.specs.Prelude.{◌≡◌, ℕ, ℤ, ◌≤◌, ◌<◌, List, [], length, take, Ok, Err}
 use Rattle.httparse.specs.Grammar.{RequestHead}
-use Rattle.reg_policy.specs.declared.callers.Listing.{Listing}
+use Rattle.reg_policy.specs.declared.callers.Credential.{Credential}
 use Rattle.reg_http.specs.Asks.{Asking, ask_of, asked_of}
 use Rattle.reg_http.specs.Desks.{Asked}
 use Rattle.reg_http.specs.Heads.{IsHead, HasNoHead}
@@ -16,7 +16,7 @@ pub data Read : Type 0 where
 
 -- Head, what it asks, and body are three definitions, joined here. The body is what follows the head, up to the length
 -- that was asked; bytes beyond it are ignored.
-pub data ReadAs (callers : List Listing) (day : ℤ) (bytes : List ℕ) : Read → Type 0 where
+pub data ReadAs (callers : List Credential) (day : ℤ) (bytes : List ℕ) : Read → Type 0 where
   silent : bytes ≡ [] → ReadAs callers day bytes nothing
   bad_head : 0 < length bytes → HasNoHead bytes → ReadAs callers day bytes (refusal BadHead)
   refused : (h : RequestHead) (rest : List ℕ) (r : Refusal) → IsHead bytes h rest → ask_of callers day (parts_of h) ≡ Err r
@@ -28,4 +28,4 @@ pub data ReadAs (callers : List Listing) (day : ℤ) (bytes : List ℕ) : Read �
 
 -- Bytes are read as one thing.
 abbrev pub HasOneReading : Type 0
-HasOneReading = (callers : List Listing) (day : ℤ) (bytes : List ℕ) (a b : Read) → ReadAs callers day bytes a → ReadAs callers day bytes b → a ≡ b
+HasOneReading = (callers : List Credential) (day : ℤ) (bytes : List ℕ) (a b : Read) → ReadAs callers day bytes a → ReadAs callers day bytes b → a ≡ b

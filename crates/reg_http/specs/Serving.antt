@@ -2,7 +2,7 @@
 use Rattle.std.specs.Prelude.{◌≡◌, ◌⊎◌, ℕ, ℤ, ◌≤◌, ◌<◌, Bool, true, false, List, [], length, take, Option, Result, Ok, Err, ⊤}
 use Rattle.std.specs.Io.KnownBytes.{Appends}
 use Rattle.httparse.specs.Grammar.{RequestHead}
-use Rattle.reg_policy.specs.declared.callers.Listing.{Listing}
+use Rattle.reg_policy.specs.declared.callers.Credential.{Credential}
 use Rattle.reg_http.specs.Asks.{Asking, asked_of}
 use Rattle.reg_http.specs.Desks.{Asked}
 use Rattle.reg_http.specs.Heads.{IsHead}
@@ -53,7 +53,7 @@ ServesAsked answers a day all old new before after r =
     ⊎ ((length all < a.length) × (new ≡ old) × Written before after (rendered ShortBody) (status_of ShortBody) r)
     ⊎ ((new ≡ old) × Written before after (rendered OutOfMemory) (status_of OutOfMemory) r)
 
-module _ {D : Type 0} (answers : D → Asked → Answer → D → Type 0) (callers : List Listing) (day : ℤ) (bytes : List ℕ) where
+module _ {D : Type 0} (answers : D → Asked → Answer → D → Type 0) (callers : List Credential) (day : ℤ) (bytes : List ℕ) where
   -- The ways of a connection: the desk before and after, the text to be written, and its status. Want of memory in the
   -- engine can come at a head before the desk is asked, or where the reply to its answer is built.
   pub data Exchange : D → D → List ℕ → ℕ → Type 0 where

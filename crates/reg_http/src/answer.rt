@@ -18,17 +18,18 @@ use serde_json::Value;
 use std::alloc::{AllocError, Global};
 
 /// The status of an answer's reply.
-pub(crate) fn status_of(answer: &Answer) -> u16
+pub(crate) fn status_of(answer: &Answer) -> StatusCode
     ensures { result ≡ answer_status answer.now }
 {
     match answer {
-        Answer::Receipt { .. } | Answer::Clean | Answer::Listing(_) | Answer::Text(_) => 200,
-        Answer::Denied(_) => 403,
-        Answer::Unknown => 404,
-        Answer::TooLarge => 413,
-        Answer::Findings(_) => 422,
-        Answer::NoMemory | Answer::StoreFailed => 503,
-        Answer::Full => 507,
+        Answer::Receipt { .. } | Answer::Clean | Answer::Listing(_) => StatusCode::OK,
+        Answer::Text(_) => StatusCode::OK,
+        Answer::Denied(_) => StatusCode::FORBIDDEN,
+        Answer::Unknown => StatusCode::NOT_FOUND,
+        Answer::TooLarge => StatusCode::PAYLOAD_TOO_LARGE,
+        Answer::Findings(_) => StatusCode::UNPROCESSABLE_ENTITY,
+        Answer::NoMemory | Answer::StoreFailed => StatusCode::SERVICE_UNAVAILABLE,
+        Answer::Full => StatusCode::INSUFFICIENT_STORAGE,
     }
 }
 

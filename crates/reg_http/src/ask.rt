@@ -42,7 +42,11 @@ fn path_and_query(target: &str) -> (&str, &str)
 }
 
 /// The parts of a head that stands in the buffer.
-pub(crate) fn read_parts<'b>(buf: &'b [u8], headers: &'b [HeaderSpan], spans: &RequestSpans) -> Parts<'b>
+pub(crate) fn read_parts<'b>(
+    buf: &'b [u8],
+    headers: &'b [HeaderSpan],
+    spans: &RequestSpans,
+) -> Parts<'b>
     requires at { (h : RequestHead) × IsRequestAt buf.now headers.now spans.now h }
     requires within { IsRequestWithin buf.now headers.now spans.now }
     ensures { (h : RequestHead) → IsRequestAt buf.now headers.now spans.now h → parts_at result ≡ parts_of h }

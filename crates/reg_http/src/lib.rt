@@ -29,4 +29,3 @@ mod write;
 pub use list::serve_list;
 pub use serve::{IoFault, Served, serve_one};
 pub use tally::Tally;
-

@@ -3,6 +3,8 @@ ghost use Rattle.std.specs.Prelude.{◌≡◌};
 ghost use Rattle.reg_http.specs.Rendering.{rendered, status_of};
 ghost use Rattle.reg_http.specs.declared.refusal.Refusal.TheVariants as Refusal;
 
+use http::StatusCode;
+
 /// Why a request did not reach the desk, or has no answer. The first that holds, in this order, is the one.
 #[derive(Clone, Copy, Debug, PartialEq, Eq)]
 pub(crate) enum Refusal {
@@ -30,18 +32,18 @@ pub(crate) enum Refusal {
 
 impl Refusal {
     /// The status of its reply.
-    pub(crate) fn status(self) -> u16
+    pub(crate) fn status(self) -> StatusCode
         ensures { result ≡ status_of self }
     {
         match self {
-            Refusal::BadHead | Refusal::BadLength => 400,
-            Refusal::BadParameter | Refusal::ShortBody => 400,
-            Refusal::NoRoute => 404,
-            Refusal::Method => 405,
-            Refusal::NoCaller => 401,
-            Refusal::LengthRequired => 411,
-            Refusal::TooLarge => 413,
-            Refusal::OutOfMemory => 503,
+            Refusal::BadHead | Refusal::BadLength => StatusCode::BAD_REQUEST,
+            Refusal::BadParameter | Refusal::ShortBody => StatusCode::BAD_REQUEST,
+            Refusal::NoRoute => StatusCode::NOT_FOUND,
+            Refusal::Method => StatusCode::METHOD_NOT_ALLOWED,
+            Refusal::NoCaller => StatusCode::UNAUTHORIZED,
+            Refusal::LengthRequired => StatusCode::LENGTH_REQUIRED,
+            Refusal::TooLarge => StatusCode::PAYLOAD_TOO_LARGE,
+            Refusal::OutOfMemory => StatusCode::SERVICE_UNAVAILABLE,
         }
     }
 

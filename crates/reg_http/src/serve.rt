@@ -16,6 +16,7 @@ use crate::refusal::Refusal;
 use crate::request::{groups_sought, request_of};
 use crate::tally::Tally;
 use crate::write::write_text;
+use http::StatusCode;
 use httparse::spans::EMPTY_HEADER_SPAN;
 use reg_policy::{Callers, Day};
 use std::alloc::Global;
@@ -38,7 +39,11 @@ pub enum IoFault {
 }
 
 /// Writes a reply.
-fn finish<W: Write>(writer: &mut Tally<W>, status: u16, text: &[u8]) -> Result<Served, IoFault>
+fn finish<W: Write>(
+    writer: &mut Tally<W>,
+    status: StatusCode,
+    text: &[u8],
+) -> Result<Served, IoFault>
     requires { has_failed writer.old ≡ false }
     ensures written { Written (W.contents (inner_of writer.old)) (W.contents (inner_of writer.new))
         text.now status result }
@@ -46,6 +51,7 @@ fn finish<W: Write>(writer: &mut Tally<W>, status: u16, text: &[u8]) -> Result<S
     ensures no_read { is_read result ≡ false }
 {
     if write_text(writer, text) {
+        let status = status.as_u16();
         Ok(Served { status })
     } else {
         Err(IoFault::Write)
