@@ -26,6 +26,7 @@ HasRead-Adds u v w early before after n filled count read adds = record {
   taken = Consumes-then u v w read.more adds.more read.taken adds.taken;
 }
 
+-- no byte is the empty list
 no_bytes : (xs : List ℕ) → length xs ≡ 0 → xs ≡ []
 no_bytes [] e = refl
 no_bytes (x ∷ xs) e = absurd (omega arith)
@@ -48,6 +49,7 @@ body_whole n early more ys long = elim (cases_lt (length early) n) [
       )
 ]
 
+-- a body that was read whole
 pub ReadsBody-whole : (old new : Option (List ℕ)) (early : List ℕ) (n : ℕ) (body : Vec ℕ Global) → HasRead old new early n (take n body.items)
     → length body.items ≡ n → IfSome old (λ left. ReadsBody (early ++ left) n (Ok body))
 ReadsBody-whole None new early n body read long = tt

@@ -17,9 +17,11 @@ values-append name xs ys =
     let value : List ℕ × List ℕ → List ℕ = λ (n, v). v in
     ap (map value) (filter-append test xs ys) ∙ map-append value (filter test xs) (filter test ys)
 
+-- a field of the name alone
 one-same : (name n v : List ℕ) → str_eq_ignore_ascii_case n name ≡ true → values_of name ((n, v) ∷ []) ≡ v ∷ []
 one-same name n v same = rw same refl
 
+-- a field of another name alone
 one-other : (name n v : List ℕ) → str_eq_ignore_ascii_case n name ≡ false → values_of name ((n, v) ∷ []) ≡ []
 one-other name n v other = rw other refl
 

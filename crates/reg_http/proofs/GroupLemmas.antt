@@ -4,7 +4,7 @@ use Rattle.std.specs.Prelude.{not, ◌&&◌, Bool, true, false}
 use Rattle.std.specs.Borrow.{Bor}
 use Rattle.std.specs.List.{list_all}
 use Rattle.ags_rows.specs.Names.{is_group_name}
-use Rattle.reg_http.specs.Desks.{names_in}
+use Rattle.reg_desk.specs.Asked.{names_in}
 use Rattle.std.specs.List.{position_or_len, before_first, after_first}
 use Rattle.std.proofs.lemmas.Bool.{cond-true, cond-false, cases_eq, eq-eqb, ne_eqb}
 use Rattle.form_urlencoded.specs.Form.{split_once, onto_first, split}
@@ -55,6 +55,7 @@ split_whole s (b ∷ bs) none = ⊎_elim
     (λ other. split_other s b bs other ∙ ap (onto_first b) (split_whole s bs (omega (arith, position_other s b bs other, none))))
     (cases_eq b s)
 
+-- the piece before the first separator, by its place
 pub split_here : (s : ℕ) (bs : List ℕ) (i : ℕ) → position_or_len (λ x. x == s) bs ≡ i → i < length bs
     → split s bs ≡ take i bs ∷ split s (drop (i + 1) bs)
 split_here s bs i is inside =

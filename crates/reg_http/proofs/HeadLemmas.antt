@@ -22,9 +22,11 @@ none_at_first h rest reads =
     let more = length-append h.method (32 ∷ (h.target ++ 32 ∷ after)) in
     absurd (omega arith)
 
+-- an unfinished head is none
 pub none_if_partial : (bytes : List ℕ) → HasNoRequest bytes → HasNoFewRequest bytes
 none_if_partial bytes none h rest reads = absurd (none h rest reads)
 
+-- a head with more fields than the room is none
 pub none_if_full : (bytes : List ℕ) → RequestOverflows 32 bytes → HasNoFewRequest bytes
 none_if_full bytes over h rest reads = over [] h rest (rw append-nil reads)
 
@@ -61,7 +63,7 @@ pub few_fields : (buf : List ℕ) (headers : List HeaderSpan) (spans : RequestSp
     → IsRequestAt buf headers spans h → IsRequestWithin buf headers spans → length headers ≡ 32 → length h.fields ≤ 32
 few_fields buf headers spans h at within room =
     let fits = within.section.count_fits in
-    let shown = ap length at.fields in
+    let printed = ap length at.fields in
     let a : length (map (header_bytes buf) (take spans.headers headers)) ≡ length (take spans.headers headers) = simp length-map in
     let b : length (map name_and_value h.fields) ≡ length h.fields = simp length-map in
     let n = length-take-le spans.headers headers fits in
@@ -79,6 +81,7 @@ holds_whole buf headers spans filled fits room found within = record {
   fits = fits;
 }
 
+-- a whole head was read
 pub reads_whole : (old left : Option (List ℕ)) (buf : List ℕ) (headers : List HeaderSpan) (spans : RequestSpans) (filled : ℕ)
     → Consumes old left (take filled buf) → IfSome old (λ bytes. ReadsHead bytes left buf headers (Whole spans filled))
 reads_whole None left buf headers spans filled taken = tt

@@ -3,10 +3,10 @@ use Rattle.std.proofs.Common.{◌≡◌, ℕ, ℤ, zero, suc, ◌+◌, ◌<◌, 
 use Rattle.std.proofs.lemmas.List.{take_all, drop-set-lt, length-set}
 use Rattle.reg_policy.specs.declared.callers.Credential.{Credential}
 use Rattle.reg_http.specs.Connections.{AreFresh, ServesAll, ServesConnection}
-use Rattle.reg_http.specs.Desks.{Asked}
+use Rattle.reg_desk.specs.Asked.{Asked}
 use Rattle.reg_http.specs.Tallies.{IsFresh}
 use Rattle.reg_http.specs.declared.tally.Tally.{Tally}
-use Rattle.reg_http.specs.declared.desk.Answer.{Answer}
+use Rattle.reg_desk.specs.declared.answer.Answer.{Answer}
 use Rattle.reg_http.specs.declared.serve.Served.{Served}
 use Rattle.reg_http.specs.declared.serve.IoFault.{IoFault}
 
@@ -48,6 +48,7 @@ module _ {D R W : Type 0} (answers : D → Asked → Answer → D → Type 0) (r
     pub rest : drop i now ≡ drop i cs
     pub same_length : length now ≡ length cs
 
+  -- one connection more is served
   pub SoFar-next : (cs now : List (Tally R × Tally W)) (rs more : List (Result Served IoFault)) (i : ℕ) (d m e : D) (o n : Tally R × Tally W) (r : Result Served IoFault)
       → SoFar cs now rs i d m → i < length now → o ≡ get_or now i o → more ≡ rs ++ r ∷ [] → ServesConnection answers remaining contents callers day o n m e r
       → SoFar cs (set now i n) more (i + 1) d e
@@ -100,6 +101,7 @@ module _ {D R W : Type 0} (answers : D → Asked → Answer → D → Type 0) (r
       length_set : (bs : List (Tally R × Tally W)) (k : ℕ) (x : Tally R × Tally W) → length (set bs k x) ≡ length bs
       length_set bs k x = simp length-set
 
+  -- all of them are
   pub SoFar-end : (cs now : List (Tally R × Tally W)) (rs : List (Result Served IoFault)) (i : ℕ) (d e : D) → SoFar cs now rs i d e → length now ≤ i
       → ServesAll answers remaining contents callers day cs rs now d e
   SoFar-end cs now rs i d e so past =

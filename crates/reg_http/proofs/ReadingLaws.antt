@@ -5,8 +5,8 @@ use Rattle.httparse.proofs.GrammarLemmas.{request_unique}
 use Rattle.reg_policy.specs.declared.callers.Credential.{Credential}
 use Rattle.reg_http.specs.Asks.{Asking, ask_of, asked_of}
 use Rattle.reg_http.specs.Heads.{IsHead, HasNoHead}
-use Rattle.reg_http.specs.Parts.{parts_of}
-use Rattle.reg_http.specs.Reading.{HasOneReading, Read, ReadAs, bad_head, nothing, refusal, refused, request, short_body, silent, whole}
+use Rattle.reg_http.specs.HeadParts.{head_parts}
+use Rattle.reg_http.specs.Reading.{HasOneReading, Heard, ReadAs, bad_head, nothing, refusal, refused, request, short_body, silent, whole}
 use Rattle.reg_http.specs.declared.refusal.Refusal.{Refusal}
 use Rattle.reg_http.proofs.HeadLemmas.{none_at_first}
 
@@ -20,12 +20,13 @@ none_of_nothing bytes h rest none head =
 module _ (callers : List Credential) (day : ℤ) (bytes : List ℕ) where
   -- what two heads of the same bytes ask is the same
   same_ask : (h k : RequestHead) (rest more : List ℕ) (a b : Result Asking Refusal) → IsHead bytes h rest → IsHead bytes k more
-      → ask_of callers day (parts_of h) ≡ a → ask_of callers day (parts_of k) ≡ b → (a ≡ b) × (rest ≡ more)
+      → ask_of callers day (head_parts h) ≡ a → ask_of callers day (head_parts k) ≡ b → (a ≡ b) × (rest ≡ more)
   same_ask h k rest more a b x y p q =
       let same = request_unique bytes h k rest more x.reads y.reads in
-      (sym p ∙ ap (λ n. ask_of callers day (parts_of n)) same.0 ∙ q, same.1)
+      (sym p ∙ ap (λ n. ask_of callers day (head_parts n)) same.0 ∙ q, same.1)
 
-  one_reading_of : (a b : Read) → ReadAs callers day bytes a → ReadAs callers day bytes b → a ≡ b
+  -- case by case
+  one_reading_of : (a b : Heard) → ReadAs callers day bytes a → ReadAs callers day bytes b → a ≡ b
   one_reading_of a b (silent p) (silent q) = refl
   one_reading_of a b (silent p) (bad_head q n) = absurd (omega (arith, ap length p))
   one_reading_of a b (silent p) (refused k more r y q) = absurd (none_of_nothing bytes k more p y)

@@ -11,7 +11,7 @@ use Rattle.matchit.specs.Router.{RouteOf}
 use Rattle.matchit.specs.Seek.{own, step, seek, first, param_step, has_slash, segment, cuts, better, longest_suffix, with_suffix, after_param, slash}
 use Rattle.matchit.specs.Params.{walk, wild_from, wild_stop, part_of, next_at, after_token, AllText}
 use Rattle.matchit.proofs.LongestLemmas.{better-again, better-yes, better-no}
-use Rattle.reg_http.specs.Routes.{check_route, deposit_route, deposits_route, found_in, param, route_of, table, taken}
+use Rattle.reg_http.specs.Routes.{check_route, deposit_route, deposits_route, page_in, param, route_of, table, taken}
 use Rattle.reg_http.specs.declared.route.Page.{Page}
 use Rattle.reg_http.proofs.SeekLemmas.{all_bytes, with_token, with_tokens, param_none, seek_none, seek_drop, seek_end, seek_plain, begins, seek_wild, seek_last, seek_here, param_hit, param_miss}
 
@@ -28,18 +28,22 @@ below = with_token slash behind
 abbrev front_bytes : List ℕ
 front_bytes = codes "/v1/projects/"
 
+-- the table by its common front
 table_is : table ≡ with_tokens front_bytes (with_token param_token below)
 table_is = refl
 
+-- nothing is not something
 none-some : {T : Type 0} (r : RouteOf Page) → None ≡ Some r → T
 none-some r e = cc
 
 abbrev one_slash : List ℕ
 one_slash = slash ∷ []
 
+-- the longest end of a project is its slash
 longest_is : (seg : List ℕ) → longest_suffix seg below ≡ better seg [] one_slash
 longest_is seg = better-again seg (better seg [] one_slash) one_slash ∙ better-again seg [] one_slash
 
+-- dropping past the first
 drop_past : (n b : ℕ) (p : List ℕ) → 1 ≤ n → drop n (b ∷ p) ≡ drop (n - 1) p
 drop_past zero b p some = absurd (omega arith)
 drop_past (suc n) b p some = ap (λ k. drop k p) (omega arith)
@@ -79,12 +83,14 @@ Ends q r = (r ≡ check_route) ⊎ ((r ≡ deposits_route) ⊎ ((r ≡ deposit_r
 abbrev AreBytes : List ℕ → Type 0
 AreBytes p = (k : ℕ) → get_or p k 0 < 256
 
+-- what stands behind bytes is bytes
 bytes_behind : (w q : List ℕ) → AreBytes (w ++ q) → AreBytes q
 bytes_behind w q bytes k = omega (arith, get_or-append-add w q k 0, bytes (length w + k))
 
 abbrev last_rows : Rows
 last_rows = (slash ∷ param_token ∷ [], deposit_route) ∷ ([], deposits_route) ∷ []
 
+-- behind `deposits`
 last_ends : (q : List ℕ) (r : RouteOf Page) → AreBytes q → seek 0 last_rows q ≡ Some r → (r ≡ deposits_route) ⊎ ((r ≡ deposit_route) × (rest : List ℕ) × (q ≡ slash ∷ rest))
 last_ends [] r bytes e =
     let is : Some deposits_route ≡ Some r = sym (seek_end last_rows) ∙ e in
@@ -101,6 +107,7 @@ last_ends (y ∷ p) r bytes e = ⊎_elim
     none-some r (sym (seek_none 0 p) ∙ ap (λ s. seek 0 s p) (sym none) ∙ sym (seek_plain last_rows y p refl refl) ∙ e))
     (cases_eq slash y)
 
+-- behind the project
 ends_of : (q : List ℕ) (r : RouteOf Page) → AreBytes q → seek 0 behind q ≡ Some r → Ends q r
 ends_of [] r bytes e = none-some r (sym (seek_end behind) ∙ e)
 ends_of (y ∷ p) r bytes e = ⊎_elim check_here other_than_check (cases_eq 99 y)
@@ -164,6 +171,7 @@ record Cuts (path : List ℕ) : Type 0 where
 abbrev project_end : List ℕ → ℕ
 project_end path = 13 + length (segment (drop 13 path)) - 1
 
+-- the names of the parameters are text
 project_text : IsUtf8 (codes "project")
 unfolding lib.Utf8.encode
 project_text = (codes "project", (refl, refl))
@@ -172,18 +180,21 @@ number_text : IsUtf8 (codes "number")
 unfolding lib.Utf8.encode
 number_text = (codes "number", (refl, refl))
 
+-- the parts of a path to be checked are text
 check_text : (path : List ℕ) → Cuts path → AllText (taken check_route path)
 check_text path cut =
     let at : wild_from check_route.pattern (length path) 0 0 ≡ (13, 13) = wild_bytes front_bytes (param_token ∷ codes "/check") (length path) 0 0 refl cut.long in
     let P : ℕ × ℕ → Type 0 = λ w. IsUtf8 (part_of path w.1 (wild_stop check_route.pattern w.0 path w.1)) in
     (project_text, subst P (sym at) (part_text path 13 (project_end path) cut.text cut.from cut.to), tt)
 
+-- those of a path of deposits
 deposits_text : (path : List ℕ) → Cuts path → AllText (taken deposits_route path)
 deposits_text path cut =
     let at : wild_from deposits_route.pattern (length path) 0 0 ≡ (13, 13) = wild_bytes front_bytes (param_token ∷ codes "/deposits") (length path) 0 0 refl cut.long in
     let P : ℕ × ℕ → Type 0 = λ w. IsUtf8 (part_of path w.1 (wild_stop deposits_route.pattern w.0 path w.1)) in
     (project_text, subst P (sym at) (part_text path 13 (project_end path) cut.text cut.from cut.to), tt)
 
+-- those of a path of one deposit
 deposit_text : (path : List ℕ) → Cuts path → project_end path + 10 ≤ length path → IsCharBoundary path (project_end path + 10) → AllText (taken deposit_route path)
 deposit_text path cut fits boundary =
     let at : wild_from deposit_route.pattern (length path) 0 0 ≡ (13, 13) = wild_bytes front_bytes (param_token ∷ codes "/deposits/" ++ param_token ∷ []) (length path) 0 0 refl cut.long in
@@ -243,7 +254,7 @@ parts_are_text path r text bytes e =
 pub found_is : (path : List ℕ) (r : RouteOf Page) (project number : List ℕ) → IsUtf8 path → AreBytes path → route_of path ≡ Some r
     → (AllText (taken r path) → project ≡ param (codes "project") r path)
     → (AllText (taken r path) → number ≡ param (codes "number") r path)
-    → found_in path ≡ Ok (record { page = r.value; project = project; number = number })
+    → page_in path ≡ Ok (record { page = r.value; project = project; number = number })
 found_is path r project number text bytes found first_is second_is =
     let all = parts_are_text path r text bytes found in
     rw (found, first_is all, second_is all) refl

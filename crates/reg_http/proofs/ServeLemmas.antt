@@ -14,9 +14,9 @@ use Rattle.httparse.specs.Spans.{IsRequestAt}
 use Rattle.reg_policy.specs.declared.callers.Credential.{Credential}
 use Rattle.reg_http.specs.Agree.{is_memory}
 use Rattle.reg_http.specs.Asks.{Asking, ask_of, asked_of}
-use Rattle.reg_http.specs.Desks.{Asked, Serves}
+use Rattle.reg_desk.specs.Asked.{Asked}
 use Rattle.reg_http.specs.Heads.{HasNoHead, HoldsHead, IsHead}
-use Rattle.reg_http.specs.Parts.{HeadParts, parts_of}
+use Rattle.reg_http.specs.HeadParts.{HeadParts, head_parts}
 use Rattle.reg_http.specs.Rendering.{IsRendered, answer_status, rendered, status_of}
 use Rattle.reg_http.specs.Reading.{ReadAs, refusal}
 use Rattle.reg_http.specs.Serving.{Exchange, ServesAnswer, ServesAsked, ServesOne, ServesRequest, Written, is_read}
@@ -25,11 +25,12 @@ use Rattle.reg_http.specs.Reading as reading
 use Rattle.reg_http.specs.Serving as serving
 use Rattle.reg_http.specs.declared.refusal.Refusal.{Refusal}
 use Rattle.reg_http.specs.declared.refusal.Refusal.TheVariants.{BadHead, NoRoute, Method, NoCaller, LengthRequired, BadLength, TooLarge, BadParameter, OutOfMemory, ShortBody}
-use Rattle.reg_http.specs.declared.desk.Answer.{Answer}
+use Rattle.reg_desk.specs.declared.answer.Answer.{Answer}
 use Rattle.reg_http.specs.declared.serve.Served.{Served}
 use Rattle.reg_http.specs.declared.serve.IoFault.{IoFault}
 use Rattle.reg_http.specs.declared.serve.IoFault.TheVariants as fault
 
+-- nothing was written
 Appends-none : (u : Option (List ℕ)) → Appends u u []
 Appends-none None = tt
 Appends-none (Some xs) = sym (append-nil xs)
@@ -61,6 +62,7 @@ module _ {D : Type 0} (answers : D → Asked → Answer → D → Type 0) (calle
   serve_refused bytes d u w r (Err fault.Read) why written = tt
   serve_refused bytes d u w r (Err fault.Write) why written = (rendered r, (status_of r), serving.refused r why, written)
 
+  -- bytes without a head
   pub serve_bad : (old : Option (List ℕ)) (d : D) (u w : Option (List ℕ)) (result : Result Served IoFault)
       → IfSome old (λ bytes. (0 < length bytes) × HasNoHead bytes) → Written u w (rendered BadHead) (status_of BadHead) result
       → IfSome old (λ bytes. ServesOne answers callers day bytes d d u w result)
@@ -83,7 +85,7 @@ head_of bytes left buf headers spans filled held small split =
 module _ {D : Type 0} (answers : D → Asked → Answer → D → Type 0) (callers : List Credential) (day : ℤ) where
   -- a refusal at a head, or want of memory
   at_head : (bytes : List ℕ) (d : D) (u w : Option (List ℕ)) (r : Refusal) (result : Result Served IoFault) (h : RequestHead) (rest : List ℕ)
-      → IsHead bytes h rest → (is_memory r ≡ false → ask_of callers day (parts_of h) ≡ Err r) → Written u w (rendered r) (status_of r) result
+      → IsHead bytes h rest → (is_memory r ≡ false → ask_of callers day (head_parts h) ≡ Err r) → Written u w (rendered r) (status_of r) result
       → (is_memory r ≡ true) ⊎ (is_memory r ≡ false) → ServesOne answers callers day bytes d d u w result
   at_head bytes d u w r (Err fault.Read) h rest head agrees written memory = tt
   at_head bytes d u w r (Ok s) h rest head agrees written (inl memory) =
@@ -97,10 +99,11 @@ module _ {D : Type 0} (answers : D → Asked → Answer → D → Type 0) (calle
   at_head bytes d u w r (Err fault.Write) h rest head agrees written (inr other) =
       (rendered r, status_of r, serving.refused r (reading.refused h rest r head (agrees other)), written)
 
+  -- a refusal of what was read of a head
   pub serve_refused_at : (old left : Option (List ℕ)) (buf : List ℕ) (headers : List HeaderSpan) (spans : RequestSpans) (filled : ℕ)
       (d : D) (u w : Option (List ℕ)) (r : Refusal) (result : Result Served IoFault) (parts : HeadParts)
       → (held : HoldsHead buf headers spans filled) → filled ≤ 8192 → IfSome old (λ bytes. Consumes (Some bytes) left (take filled buf))
-      → ((h : RequestHead) → IsRequestAt (take filled buf) headers spans h → parts ≡ parts_of h)
+      → ((h : RequestHead) → IsRequestAt (take filled buf) headers spans h → parts ≡ head_parts h)
       → (is_memory r ≡ false → ask_of callers day parts ≡ Err r)
       → Written u w (rendered r) (status_of r) result
       → IfSome old (λ bytes. ServesOne answers callers day bytes d d u w result)
@@ -108,12 +111,12 @@ module _ {D : Type 0} (answers : D → Asked → Answer → D → Type 0) (calle
   serve_refused_at (Some bytes) None buf headers spans filled d u w r result parts held small taken reads agrees written = absurd taken
   serve_refused_at (Some bytes) (Some rest) buf headers spans filled d u w r result parts held small taken reads agrees written =
       let head = head_of bytes rest buf headers spans filled held small taken in
-      let same : parts ≡ parts_of held.head = reads held.head held.at in
+      let same : parts ≡ head_parts held.head = reads held.head held.at in
       at_head bytes d u w r result held.head _ head (λ e. ap (ask_of callers day) (sym same) ∙ agrees e) written (cases_Bool (is_memory r))
 
   -- the request at a head, and its body
   serve_body : (bytes all : List ℕ) (old new : D) (u w : Option (List ℕ)) (h : RequestHead) (a : Asking) (result : Result Served IoFault)
-      → IsHead bytes h all → ask_of callers day (parts_of h) ≡ Ok a
+      → IsHead bytes h all → ask_of callers day (head_parts h) ≡ Ok a
       → (((a.length ≤ length all) × ServesRequest answers (asked_of a (take a.length all) day) old new u w result)
       ⊎ (((length all < a.length) × (new ≡ old) × Written u w (rendered ShortBody) (status_of ShortBody) result)
       ⊎ ((new ≡ old) × Written u w (rendered OutOfMemory) (status_of OutOfMemory) result)))
@@ -129,18 +132,20 @@ module _ {D : Type 0} (answers : D → Asked → Answer → D → Type 0) (calle
       let P : D → Type 0 = λ e. Exchange answers callers day bytes old e (rendered OutOfMemory) (status_of OutOfMemory) in
       (_, _, subst P (sym same) (serving.no_memory h all head), written)
 
+  -- the same, whichever way it went
   serve_result : (bytes all : List ℕ) (old new : D) (u w : Option (List ℕ)) (h : RequestHead) (a : Asking) (result : Result Served IoFault)
-      → IsHead bytes h all → ask_of callers day (parts_of h) ≡ Ok a → ServesAsked answers a day all old new u w result
+      → IsHead bytes h all → ask_of callers day (head_parts h) ≡ Ok a → ServesAsked answers a day all old new u w result
       → ServesOne answers callers day bytes old new u w result
   serve_result bytes all old new u w h a (Ok s) head asks way = serve_body bytes all old new u w h a (Ok s) head asks way
   serve_result bytes all old new u w h a (Err fault.Read) head asks way = tt
   serve_result bytes all old new u w h a (Err fault.Write) head asks way = serve_body bytes all old new u w h a (Err fault.Write) head asks way
 
+  -- a request as it was read
   pub serve_asked_at : (old left : Option (List ℕ)) (buf : List ℕ) (headers : List HeaderSpan) (spans : RequestSpans) (filled : ℕ) (early : List ℕ)
       (d e : D) (u w : Option (List ℕ)) (a : Asking) (result : Result Served IoFault) (parts : HeadParts)
       → (held : HoldsHead buf headers spans filled) → filled ≤ 8192 → early ≡ drop spans.len (take filled buf)
       → IfSome old (λ bytes. Consumes (Some bytes) left (take filled buf))
-      → ((h : RequestHead) → IsRequestAt (take filled buf) headers spans h → parts ≡ parts_of h)
+      → ((h : RequestHead) → IsRequestAt (take filled buf) headers spans h → parts ≡ head_parts h)
       → ask_of callers day parts ≡ Ok a
       → IfSome left (λ rest. ServesAsked answers a day (early ++ rest) d e u w result)
       → IfSome old (λ bytes. ServesOne answers callers day bytes d e u w result)
@@ -178,10 +183,12 @@ pub silent_bad : (old : Option (List ℕ)) (P : Type 0) → IfSome old (λ bytes
 silent_bad None P bad = tt
 silent_bad (Some bytes) P bad = λ none. absurd (omega (arith, bad.0, ap length none))
 
+-- nothing has no front
 nothing_in_front : (xs ys : List ℕ) → [] ≡ xs ++ ys → xs ≡ []
 nothing_in_front [] ys e = refl
 nothing_in_front (x ∷ xs) ys e = cc
 
+-- where no byte comes there is no head
 pub silent_whole : (old left : Option (List ℕ)) (buf : List ℕ) (headers : List HeaderSpan) (spans : RequestSpans) (filled : ℕ) (P : Type 0)
     → HoldsHead buf headers spans filled → IfSome old (λ bytes. Consumes (Some bytes) left (take filled buf)) → IfSome old (λ bytes. bytes ≡ [] → P)
 silent_whole None left buf headers spans filled P held taken = tt

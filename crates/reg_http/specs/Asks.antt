@@ -6,13 +6,13 @@ use Rattle.reg_policy.specs.Callers.{caller_of}
 use Rattle.reg_policy.specs.declared.callers.Caller.{Caller}
 use Rattle.reg_policy.specs.declared.callers.Credential.{Credential}
 use Rattle.reg_http.specs.Agree.{and_then}
-use Rattle.reg_http.specs.Desks.{Asked}
-use Rattle.reg_http.specs.Desks as requests
+use Rattle.reg_desk.specs.Asked.{Asked}
+use Rattle.reg_desk.specs.Asked as requests
 use Rattle.reg_http.specs.Fields.{Few, none, one, many}
 use Rattle.reg_http.specs.Numbers.{length_in}
-use Rattle.reg_http.specs.Parts.{HeadParts, values_in}
+use Rattle.reg_http.specs.HeadParts.{HeadParts, values_in}
 use Rattle.reg_http.specs.Queries.{Sought, deposit, check, listing, extract, project_in, sought_in}
-use Rattle.reg_http.specs.Routes.{FoundAt, found_in, has_body, kind_in}
+use Rattle.reg_http.specs.Routes.{FoundAt, page_in, has_body, kind_in}
 use Rattle.reg_http.specs.declared.route.Kind.{Kind}
 use Rattle.reg_http.specs.declared.refusal.Refusal.{Refusal}
 use Rattle.reg_http.specs.declared.refusal.Refusal.TheVariants.{NoCaller}
@@ -59,7 +59,7 @@ ask_kind callers day parts found kind =
 -- Route and method come first.
 abbrev pub ask_of : List Credential → ℤ → HeadParts → Result Asking Refusal
 ask_of callers day parts =
-    and_then (found_in parts.path) (λ found.
+    and_then (page_in parts.path) (λ found.
     and_then (kind_in found.page parts.method) (λ kind.
     ask_kind callers day parts found kind))
 

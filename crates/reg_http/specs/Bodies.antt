@@ -6,7 +6,7 @@ use Rattle.serde_json.specs.View.{items_of}
 use Rattle.ags_rows.specs.Codes.{code_text}
 use Rattle.ags_rows.specs.declared.finding.Finding.{Finding}
 use Rattle.reg_policy.specs.Days.{Writes}
-use Rattle.reg_http.specs.declared.desk.Listed.{Listed}
+use Rattle.reg_desk.specs.declared.answer.Listed.{Listed}
 
 -- the characters that show are those from the space to the tilde
 abbrev pub first_shown : ℕ
@@ -23,14 +23,14 @@ abbrev pub shown_byte : ℕ → ℕ
 shown_byte b = if nat_lt b first_shown || nat_lt last_shown b then question_mark else b
 
 -- a subject as it is printed
-abbrev pub shown : List ℕ → List ℕ
-shown subject = map shown_byte subject
+abbrev pub printed : List ℕ → List ℕ
+printed subject = map shown_byte subject
 
 abbrev pub finding_data : Finding → Data
 finding_data f = object
     (member (codes "code") (string (code_text f.code))
     (member (codes "line") (number (unsigned f.line))
-    (member (codes "subject") (string (shown f.subject)) no_members)))
+    (member (codes "subject") (string (printed f.subject)) no_members)))
 
 abbrev pub findings_data : List Finding → Data
 findings_data fs = object (member (codes "findings") (array (items_of (map finding_data fs))) no_members)
@@ -47,8 +47,8 @@ receipt_data embargo n = object
     (member (codes "embargo") (string embargo)
     (member (codes "number") (number (unsigned n)) no_members))
 
-abbrev pub IsReceipt : ℕ → ℤ → Data → Type 0
-IsReceipt n embargo data_of = (text : List ℕ) × Writes text embargo × (data_of ≡ receipt_data text n)
+abbrev pub IsReceiptData : ℕ → ℤ → Data → Type 0
+IsReceiptData n embargo data_of = (text : List ℕ) × Writes text embargo × (data_of ≡ receipt_data text n)
 
 -- a deposit of a listing, with the text of its embargo day
 abbrev pub listed_data : List ℕ → Listed → Data
@@ -57,12 +57,12 @@ listed_data embargo l = object
     (member (codes "firm") (string l.firm)
     (member (codes "number") (number (unsigned l.number)) no_members)))
 
-abbrev pub IsListed : Listed → Data → Type 0
-IsListed l data_of = (text : List ℕ) × Writes text l.embargo × (data_of ≡ listed_data text l)
+abbrev pub IsListedData : Listed → Data → Type 0
+IsListedData l data_of = (text : List ℕ) × Writes text l.embargo × (data_of ≡ listed_data text l)
 
 abbrev pub listing_data : List Data → Data
 listing_data items = object (member (codes "deposits") (array (items_of items)) no_members)
 
 -- the deposits of a listing, in its order
-abbrev pub IsListing : List Listed → Data → Type 0
-IsListing ls data_of = (items : List Data) × AllZip IsListed ls items × (data_of ≡ listing_data items)
+abbrev pub IsListingData : List Listed → Data → Type 0
+IsListingData ls data_of = (items : List Data) × AllZip IsListedData ls items × (data_of ≡ listing_data items)

@@ -2,12 +2,12 @@
 use Rattle.std.specs.Prelude.{◌≡◌, ◌+◌, ℕ, ℤ, ◌≤◌, List, [], ◌∷◌, Option, Result, IfSome, IsTrue, ⊤}
 use Rattle.ags_rows.specs.declared.TheConstants.{LIMIT}
 use Rattle.reg_policy.specs.declared.callers.Credential.{Credential}
-use Rattle.reg_http.specs.Desks.{Asked}
+use Rattle.reg_desk.specs.Asked.{Asked}
 use Rattle.reg_http.specs.Heads.{longest_head}
 use Rattle.reg_http.specs.Serving.{ServesOne, is_read, is_write}
 use Rattle.reg_http.specs.Tallies.{IsFresh, inner_of, calls_of, has_failed}
 use Rattle.reg_http.specs.declared.tally.Tally.{Tally}
-use Rattle.reg_http.specs.declared.desk.Answer.{Answer}
+use Rattle.reg_desk.specs.declared.answer.Answer.{Answer}
 use Rattle.reg_http.specs.declared.serve.Served.{Served}
 use Rattle.reg_http.specs.declared.serve.IoFault.{IoFault}
 

@@ -1,14 +1,13 @@
 pub mod Tallies
 pub mod Fills
 pub mod Writes
-pub mod Desks
 pub mod Heads
 pub mod Fields
 pub mod Replies
 pub mod Bodies
 pub mod Rendering
 pub mod Agree
-pub mod Parts
+pub mod HeadParts
 pub mod Routes
 pub mod Numbers
 pub mod Queries

@@ -16,13 +16,13 @@ use Rattle.reg_http.specs.declared.route.Kind.{Kind}
 use Rattle.reg_http.specs.declared.route.Kind.TheVariants as kinds
 
 -- what an encoded name or value is read as: `+` and percent escapes decoded
-abbrev pub text_of : List ℕ → List ℕ
-text_of encoded = utf8_lossy (decode encoded)
+abbrev pub decoded : List ℕ → List ℕ
+decoded encoded = utf8_lossy (decode encoded)
 
 -- The value of the parameter of this name, if it is given: of the pairs there is none, or the one of this name.
 abbrev pub value_of : List ℕ → List (List ℕ × List ℕ) → Result (Option (List ℕ)) Refusal
 value_of name [] = Ok None
-value_of name (pair ∷ []) = if bytes_eq (text_of pair.0) name then Ok (Some (text_of pair.1)) else Err BadParameter
+value_of name (pair ∷ []) = if bytes_eq (decoded pair.0) name then Ok (Some (decoded pair.1)) else Err BadParameter
 value_of name (pair ∷ other ∷ pairs) = Err BadParameter
 
 -- no parameter is given

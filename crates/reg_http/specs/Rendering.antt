@@ -3,11 +3,11 @@ use Rattle.std.specs.Prelude.{◌≡◌, ℕ, List, Bool, true, false, codes}
 use Rattle.serde_json.specs.Data.{Data}
 use Rattle.serde_json.specs.Written.{compact_text}
 use Rattle.reg_http.specs.Replies.{reply_text, json_kind, text_kind, error_body}
-use Rattle.reg_http.specs.Bodies.{clean_data, denied_data, findings_data, IsReceipt, IsListing}
+use Rattle.reg_http.specs.Bodies.{clean_data, denied_data, findings_data, IsReceiptData, IsListingData}
 use Rattle.reg_http.specs.declared.refusal.Refusal.{Refusal}
 use Rattle.reg_http.specs.declared.refusal.Refusal.TheVariants.{BadHead, NoRoute, Method, NoCaller, LengthRequired, BadLength, TooLarge, BadParameter, ShortBody, OutOfMemory}
-use Rattle.reg_http.specs.declared.desk.Answer.{Answer}
-use Rattle.reg_http.specs.declared.desk.Answer.TheVariants as answers
+use Rattle.reg_desk.specs.declared.answer.Answer.{Answer}
+use Rattle.reg_desk.specs.declared.answer.Answer.TheVariants as answers
 
 -- the status of a refusal
 abbrev pub status_of : Refusal → ℕ
@@ -60,9 +60,9 @@ answer_kind _ = json_kind
 
 -- the body of an answer
 abbrev pub IsBody : Answer → List ℕ → Type 0
-IsBody (answers.Receipt n embargo) body = (d : Data) × IsReceipt n embargo d × (body ≡ compact_text d)
+IsBody (answers.Receipt n embargo) body = (d : Data) × IsReceiptData n embargo d × (body ≡ compact_text d)
 IsBody answers.Clean body = body ≡ compact_text clean_data
-IsBody (answers.Listing ls) body = (d : Data) × IsListing ls d × (body ≡ compact_text d)
+IsBody (answers.Listing ls) body = (d : Data) × IsListingData ls d × (body ≡ compact_text d)
 IsBody (answers.Text text) body = body ≡ text
 IsBody (answers.Denied n) body = body ≡ compact_text (denied_data n)
 IsBody (answers.Findings fs) body = body ≡ compact_text (findings_data fs)

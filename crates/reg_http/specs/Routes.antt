@@ -71,13 +71,13 @@ pub record FoundAt : Type 0 where
   pub project : List ℕ
   pub number : List ℕ
 
-abbrev pub found_by : List ℕ → Option (RouteOf Page) → Result FoundAt Refusal
-found_by path None = Err NoRoute
-found_by path (Some r) = Ok (record { page = r.value; project = param (codes "project") r path; number = param (codes "number") r path })
+abbrev pub page_by : List ℕ → Option (RouteOf Page) → Result FoundAt Refusal
+page_by path None = Err NoRoute
+page_by path (Some r) = Ok (record { page = r.value; project = param (codes "project") r path; number = param (codes "number") r path })
 
 -- the page of a path
-abbrev pub found_in : List ℕ → Result FoundAt Refusal
-found_in path = found_by path (route_of path)
+abbrev pub page_in : List ℕ → Result FoundAt Refusal
+page_in path = page_by path (route_of path)
 
 -- what a method asks of a page; methods are compared by their bytes
 abbrev pub method_of : Page → List ℕ → Option Kind

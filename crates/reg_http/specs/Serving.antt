@@ -4,13 +4,13 @@ use Rattle.std.specs.Io.KnownBytes.{Appends}
 use Rattle.httparse.specs.Grammar.{RequestHead}
 use Rattle.reg_policy.specs.declared.callers.Credential.{Credential}
 use Rattle.reg_http.specs.Asks.{Asking, asked_of}
-use Rattle.reg_http.specs.Desks.{Asked}
+use Rattle.reg_desk.specs.Asked.{Asked}
 use Rattle.reg_http.specs.Heads.{IsHead}
 use Rattle.reg_http.specs.Reading.{ReadAs, nothing, refusal, request}
 use Rattle.reg_http.specs.Rendering.{IsRendered, answer_status, is_fixed, rendered, status_of}
 use Rattle.reg_http.specs.declared.refusal.Refusal.{Refusal}
 use Rattle.reg_http.specs.declared.refusal.Refusal.TheVariants.{OutOfMemory, ShortBody}
-use Rattle.reg_http.specs.declared.desk.Answer.{Answer}
+use Rattle.reg_desk.specs.declared.answer.Answer.{Answer}
 use Rattle.reg_http.specs.declared.serve.Served.{Served}
 use Rattle.reg_http.specs.declared.serve.IoFault.{IoFault}
 use Rattle.reg_http.specs.declared.serve.IoFault.TheVariants as fault

@@ -21,8 +21,8 @@ itself a = a
 abbrev pub lent_caller : Bor Caller → Caller
 lent_caller c = c.now
 
-abbrev pub found_at : Found → FoundAt
-found_at f = record { page = f.page; project = f.project.now; number = f.number.now }
+abbrev pub found_page : Found → FoundAt
+found_page f = record { page = f.page; project = f.project.now; number = f.number.now }
 
 -- a text that may have been given
 abbrev pub text_at : {Z : Type 0} → Option (CowStr Z) → Option (List ℕ)

@@ -5,7 +5,6 @@ ghost use Rattle.serde_json.specs.Written.{compact_text, has_float};
 ghost use Rattle.reg_http.specs.Rendering.{answer_status, is_fixed, IsRendered};
 ghost use Rattle.reg_http.specs.Replies.{json_kind, reply_text};
 
-use crate::desk::{Answer, Listed};
 use crate::refusal::{out_of_memory_reply, too_large_reply};
 use crate::render::{
     body_text, clean_value, denied_value, findings_value, listing_value, receipt_value,
@@ -13,6 +12,7 @@ use crate::render::{
 use crate::reply::whole_reply;
 use ags_rows::Finding;
 use http::StatusCode;
+use reg_desk::{Answer, Listed};
 use reg_policy::Day;
 use serde_json::Value;
 use std::alloc::{AllocError, Global};

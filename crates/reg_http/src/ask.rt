@@ -6,8 +6,8 @@ ghost use Rattle.reg_http.specs.Agree.{Agrees};
 ghost use Rattle.reg_http.specs.Asks.{ask_kind, ask_of, body_length, caller_by, caller_in, token_in};
 ghost use Rattle.reg_http.specs.Fields.{few_at};
 ghost use Rattle.reg_http.specs.Numbers.{length_in};
-ghost use Rattle.reg_http.specs.Parts.{parts_at, parts_of, path_of, query_of, values_in};
-ghost use Rattle.reg_http.specs.Views.{asking_at, found_at, lent_caller};
+ghost use Rattle.reg_http.specs.HeadParts.{parts_seen, head_parts, path_of, query_of, values_in};
+ghost use Rattle.reg_http.specs.Views.{asking_at, found_page, lent_caller};
 
 use crate::fields::{Values, values_named};
 use crate::number::length_of;
@@ -15,7 +15,7 @@ use crate::parts::Parts;
 use crate::query::{Seeks, project_of, read_seeks};
 use crate::refusal::Refusal;
 use crate::route::{Found, Kind, find};
-use crate::text::text_of;
+use crate::text::as_text;
 use ags_rows::LIMIT;
 use httparse::spans::{HeaderSpan, RequestSpans};
 use reg_policy::{Caller, Callers, Day, Name};
@@ -42,16 +42,16 @@ fn path_and_query(target: &str) -> (&str, &str)
 }
 
 /// The parts of a head that stands in the buffer.
-pub(crate) fn read_parts<'b>(
+pub(crate) fn head_parts<'b>(
     buf: &'b [u8],
     headers: &'b [HeaderSpan],
     spans: &RequestSpans,
 ) -> Parts<'b>
     requires at { (h : RequestHead) × IsRequestAt buf.now headers.now spans.now h }
     requires within { IsRequestWithin buf.now headers.now spans.now }
-    ensures { (h : RequestHead) → IsRequestAt buf.now headers.now spans.now h → parts_at result ≡ parts_of h }
+    ensures { (h : RequestHead) → IsRequestAt buf.now headers.now spans.now h → parts_seen result ≡ head_parts h }
 {
-    let (path, query) = path_and_query(text_of(spans.path.of(buf)));
+    let (path, query) = path_and_query(as_text(spans.path.of(buf)));
     Parts {
         method: spans.method.of(buf),
         path,
@@ -63,7 +63,7 @@ pub(crate) fn read_parts<'b>(
 
 /// The values of the fields of this name.
 fn values<'b>(parts: &Parts<'b>, name: &[u8]) -> Values<'b>
-    ensures { few_at result ≡ values_in (parts_at parts.now) name.now }
+    ensures { few_at result ≡ values_in (parts_seen parts.now) name.now }
 {
     values_named(parts.buf, parts.fields, name)
 }
@@ -92,7 +92,7 @@ fn caller_by<'c>(callers: &'c Callers, token: Option<&[u8]>) -> Result<&'c Calle
 }
 
 /// The caller by the Authorization fields.
-fn caller_of<'c>(callers: &'c Callers, values: Values<'_>) -> Result<&'c Caller, Refusal>
+fn caller_in<'c>(callers: &'c Callers, values: Values<'_>) -> Result<&'c Caller, Refusal>
     ensures { Agrees lent_caller (caller_in callers.now (few_at values.entry)) result }
 {
     match values {
@@ -114,7 +114,7 @@ fn length_by(codings: Values<'_>, lengths: Values<'_>) -> Result<usize, Refusal>
 }
 
 fn body_length(kind: Kind, parts: &Parts<'_>) -> Result<usize, Refusal>
-    ensures value { result ≡ body_length kind (parts_at parts.now) }
+    ensures value { result ≡ body_length kind (parts_seen parts.now) }
     ensures limit { IfOk result (λ n. n ≤ LIMIT) }
 {
     if !kind.has_body() {
@@ -136,9 +136,9 @@ fn ask_kind<'b>(
     kind: Kind,
 ) -> Result<Ask<'b>, Refusal>
     ensures limit { IfOk result (λ a. a.length ≤ LIMIT) }
-    ensures agrees { Agrees asking_at (ask_kind callers.now day (parts_at parts.now) (found_at found.now) kind) result }
+    ensures agrees { Agrees asking_at (ask_kind callers.now day (parts_seen parts.now) (found_page found.now) kind) result }
 {
-    let caller = caller_of(callers, values(parts, b"authorization"))?;
+    let caller = caller_in(callers, values(parts, b"authorization"))?;
     let length = body_length(kind, parts)?;
     let project = project_of(alloc, found.project)?;
     let seeks = read_seeks(alloc, kind, found.number, parts.query.as_bytes(), day)?;
@@ -158,7 +158,7 @@ pub(crate) fn read_ask<'b>(
     parts: &Parts<'b>,
 ) -> Result<Ask<'b>, Refusal>
     ensures limit { IfOk result (λ a. a.length ≤ LIMIT) }
-    ensures agrees { Agrees asking_at (ask_of callers.now day (parts_at parts.now)) result }
+    ensures agrees { Agrees asking_at (ask_of callers.now day (parts_seen parts.now)) result }
 {
     let found = find(alloc, parts.path)?;
     let kind = found.page.kind(parts.method)?;

@@ -7,7 +7,6 @@
 mod answer;
 mod ask;
 mod body;
-pub mod desk;
 mod fields;
 mod fill;
 mod head;

@@ -1,13 +1,14 @@
 //! Several connections, one after the other.
 ghost use Rattle.std.specs.Prelude.{◌≡◌, IfOk, OnErr};
-ghost use Rattle.reg_http.specs.Desks.{AnsweredBy};
+ghost use Rattle.reg_desk.specs.Desks.{AnsweredBy};
 ghost use Rattle.reg_http.specs.Connections.{AreFresh, ServesAll, ServesConnection};
 ghost use Rattle.reg_http.specs.Tallies.{IsFresh};
 
-use crate::desk::{Desk, Keep};
 use crate::serve::{IoFault, Served, serve_one};
 use crate::tally::Tally;
+use reg_desk::Desk;
 use reg_policy::{Callers, Day};
+use reg_store::Keep;
 use std::alloc::{AllocError, Global};
 use std::io::{Read, Write};
 
@@ -20,7 +21,7 @@ fn serve_pair<K: Keep, R: Read, W: Write>(
 ) -> Result<Served, IoFault>
     requires reader_fresh { IsFresh connection.old.0 }
     requires writer_fresh { IsFresh connection.old.1 }
-    ensures { ServesConnection (AnsweredBy K.deposits K.limit K.failed K.sound) R.remaining W.contents callers.now day
+    ensures { ServesConnection (AnsweredBy K.Keep) R.remaining W.contents callers.now day
         connection.old connection.new desk.old desk.new result }
 {
     serve_one(
@@ -43,7 +44,7 @@ pub fn serve_list<K: Keep, R: Read, W: Write>(
     connections: &mut [(Tally<R>, Tally<W>)],
 ) -> Result<Vec<Result<Served, IoFault>>, AllocError>
     requires { AreFresh connections.old }
-    ensures served { IfOk result (λ results. ServesAll (AnsweredBy K.deposits K.limit K.failed K.sound) R.remaining W.contents callers.now day
+    ensures served { IfOk result (λ results. ServesAll (AnsweredBy K.Keep) R.remaining W.contents callers.now day
         connections.old results.items connections.new desk.old desk.new) }
     ensures unserved { OnErr result ((desk.new ≡ desk.old) × (connections.new ≡ connections.old)) }
 {

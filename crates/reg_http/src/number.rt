@@ -22,7 +22,7 @@ fn has_digits(text: &[u8]) -> bool
 }
 
 /// The number that the digits write.
-fn number_of(text: &[u8]) -> u64
+fn number_in(text: &[u8]) -> u64
     requires few { length text.now ≤ 10 }
     requires digits { list_all is_ascii_digit text.now ≡ true }
     ensures value { result ≡ number_in text.now }
@@ -43,7 +43,7 @@ pub(crate) fn length_of(value: &[u8]) -> Result<usize, Refusal>
     if !is_number(value, 10) {
         return Err(Refusal::BadLength);
     }
-    let number = number_of(value);
+    let number = number_in(value);
     if number > LIMIT as u64 {
         return Err(Refusal::TooLarge);
     }
@@ -66,5 +66,5 @@ pub(crate) fn deposit_number(text: &[u8]) -> Result<u32, Refusal>
     if !is_number(text, 6) || begins_with_zero(text) {
         return Err(Refusal::BadParameter);
     }
-    Ok(number_of(text) as u32)
+    Ok(number_in(text) as u32)
 }

@@ -6,9 +6,9 @@ ghost use Rattle.form_urlencoded.specs.Form.{raw_pairs, split};
 ghost use Rattle.ags_rows.specs.Bytes.{comma};
 ghost use Rattle.ags_rows.specs.Names.{is_group_name};
 ghost use Rattle.reg_http.specs.Agree.{Agrees, and_then};
-ghost use Rattle.reg_http.specs.Desks.{names_in};
+ghost use Rattle.reg_desk.specs.Asked.{names_in};
 ghost use Rattle.reg_http.specs.Numbers.{deposit_number};
-ghost use Rattle.reg_http.specs.Queries.{embargo_in, extract_in, groups_in, no_pairs, project_in, sought_in, text_of, value_of};
+ghost use Rattle.reg_http.specs.Queries.{embargo_in, extract_in, groups_in, no_pairs, project_in, sought_in, decoded, value_of};
 ghost use Rattle.reg_http.specs.Views.{itself, sought_at, text_at};
 
 use crate::number::deposit_number;
@@ -33,7 +33,7 @@ pub(crate) enum Seeks<'b> {
 
 /// A name or a value of the query: `+` and percent escapes are decoded.
 fn decoded<'b>(alloc: Global, encoded: &'b [u8]) -> Result<CowStr<'b>, Refusal>
-    ensures { Agrees cow_str_bytes (Ok (text_of encoded.now)) result }
+    ensures { Agrees cow_str_bytes (Ok (decoded encoded.now)) result }
 {
     match decode(alloc, encoded) {
         Ok(text) => Ok(text),

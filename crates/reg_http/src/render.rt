@@ -3,18 +3,18 @@ ghost use Rattle.std.specs.Prelude.{◌≡◌, false, IfOk, map, string_bytes};
 ghost use Rattle.std.specs.List.{AllZip};
 ghost use Rattle.serde_json.specs.View.{view};
 ghost use Rattle.serde_json.specs.Written.{compact_text, has_float};
-ghost use Rattle.reg_http.specs.Bodies.{clean_data, denied_data, finding_data, findings_data, listed_data, listing_data, receipt_data, IsListed, IsListing, IsReceipt, shown};
+ghost use Rattle.reg_http.specs.Bodies.{clean_data, denied_data, finding_data, findings_data, listed_data, listing_data, receipt_data, IsListedData, IsListingData, IsReceiptData, printed};
 
-use crate::desk::Listed;
-use crate::text::text_of;
+use crate::text::as_text;
 use ags_rows::Finding;
+use reg_desk::Listed;
 use reg_policy::Day;
 use serde_json::{Value, json};
 use std::alloc::{AllocError, Global};
 
 /// A subject as it is printed: `?` stands for each byte that does not show.
-fn shown_subject(alloc: Global, subject: &[u8]) -> Result<String, AllocError>
-    ensures { IfOk result (λ text. string_bytes text ≡ shown subject.now) }
+fn printed(alloc: Global, subject: &[u8]) -> Result<String, AllocError>
+    ensures { IfOk result (λ text. string_bytes text ≡ printed subject.now) }
 {
     subject
         .iter()
@@ -25,8 +25,8 @@ fn shown_subject(alloc: Global, subject: &[u8]) -> Result<String, AllocError>
 fn finding_value(alloc: Global, finding: &Finding) -> Result<Value, AllocError>
     ensures { IfOk result (λ value. view value ≡ finding_data finding.now) }
 {
-    let code = text_of(finding.code.text());
-    let subject = shown_subject(alloc, finding.subject.as_slice())?;
+    let code = as_text(finding.code.text());
+    let subject = printed(alloc, finding.subject.as_slice())?;
     json!(in alloc; {"code": code, "line": finding.line, "subject": subject})
 }
 
@@ -64,10 +64,10 @@ fn dated_value(alloc: Global, embargo: &str, number: u32) -> Result<Value, Alloc
 
 /// The body of a receipt.
 pub(crate) fn receipt_value(alloc: Global, number: u32, embargo: Day) -> Result<Value, AllocError>
-    ensures { IfOk result (λ value. IsReceipt number embargo (view value)) }
+    ensures { IfOk result (λ value. IsReceiptData number embargo (view value)) }
 {
     let day = embargo.text();
-    dated_value(alloc, text_of(&day), number)
+    dated_value(alloc, as_text(&day), number)
 }
 
 /// A deposit of a listing, with the text of its embargo day.
@@ -79,14 +79,14 @@ fn signed_value(alloc: Global, embargo: &str, listed: &Listed) -> Result<Value, 
 }
 
 fn listed_value(alloc: Global, listed: &Listed) -> Result<Value, AllocError>
-    ensures { IfOk result (λ value. IsListed listed.now (view value)) }
+    ensures { IfOk result (λ value. IsListedData listed.now (view value)) }
 {
     let day = listed.embargo.text();
-    signed_value(alloc, text_of(&day), listed)
+    signed_value(alloc, as_text(&day), listed)
 }
 
 fn listed_values(alloc: Global, listing: &[Listed]) -> Result<Vec<Value>, AllocError>
-    ensures { IfOk result (λ list. AllZip IsListed listing.now (map view list.items)) }
+    ensures { IfOk result (λ list. AllZip IsListedData listing.now (map view list.items)) }
 {
     let mut list = Vec::new(alloc);
     for listed in listing {
@@ -103,7 +103,7 @@ fn deposits_value(alloc: Global, list: Vec<Value>) -> Result<Value, AllocError>
 
 /// The body of a listing.
 pub(crate) fn listing_value(alloc: Global, listing: &[Listed]) -> Result<Value, AllocError>
-    ensures { IfOk result (λ value. IsListing listing.now (view value)) }
+    ensures { IfOk result (λ value. IsListingData listing.now (view value)) }
 {
     let list = listed_values(alloc, listing)?;
     deposits_value(alloc, list)

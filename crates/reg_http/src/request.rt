@@ -1,12 +1,12 @@
 //! The request that is put to the desk.
 ghost use Rattle.std.specs.Prelude.{◌≡◌, IfOk};
 ghost use Rattle.reg_http.specs.Asks.{asked_of};
-ghost use Rattle.reg_http.specs.Desks.{asked, names_in};
+ghost use Rattle.reg_desk.specs.Asked.{asked, names_in};
 ghost use Rattle.reg_http.specs.Views.{asking_at, groups_sought};
 
 use crate::ask::Ask;
-use crate::desk::Request;
 use crate::query::{Seeks, groups_of};
+use reg_desk::Request;
 use reg_policy::Day;
 use std::alloc::{AllocError, Global};
 

@@ -2,8 +2,8 @@
 ghost use Rattle.std.specs.Prelude.{◌≡◌, IfOk, [], unwrap_or};
 ghost use Rattle.matchit.specs.Params.{walk, named, AllText};
 ghost use Rattle.reg_http.specs.Agree.{Agrees};
-ghost use Rattle.reg_http.specs.Routes.{found_in, has_body, kind_in, method_of, table};
-ghost use Rattle.reg_http.specs.Views.{found_at};
+ghost use Rattle.reg_http.specs.Routes.{page_in, has_body, kind_in, method_of, table};
+ghost use Rattle.reg_http.specs.Views.{found_page};
 
 use crate::refusal::Refusal;
 use matchit::{InsertError, Params, Router};
@@ -102,7 +102,7 @@ pub(crate) struct Found<'p> {
 
 /// The page of a path.
 pub(crate) fn find<'p>(alloc: Global, path: &'p str) -> Result<Found<'p>, Refusal>
-    ensures { Agrees found_at (found_in path.now) result }
+    ensures { Agrees found_page (page_in path.now) result }
 {
     let Ok(routes) = router(alloc) else {
         return Err(Refusal::OutOfMemory);

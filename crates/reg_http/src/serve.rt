@@ -1,16 +1,16 @@
 //! One connection.
 ghost use Rattle.std.specs.Prelude.{◌≡◌, ◌≤◌, ◌+◌, ◌++◌, false, [], IfSome, IsTrue};
 ghost use Rattle.reg_http.specs.Connections.{most_calls};
-ghost use Rattle.reg_http.specs.Desks.{asked, AnsweredBy};
+ghost use Rattle.reg_desk.specs.Asked.{asked};
+ghost use Rattle.reg_desk.specs.Desks.{AnsweredBy};
 ghost use Rattle.reg_http.specs.Rendering.{is_fixed, rendered, status_of};
 ghost use Rattle.reg_http.specs.Serving.{ServesOne, ServesAnswer, ServesAsked, ServesRequest, Written, is_read, is_write};
 ghost use Rattle.reg_http.specs.Tallies.{inner_of, calls_of, has_failed, IsFresh};
 ghost use Rattle.reg_http.specs.Views.{asking_at};
 
 use crate::answer::{built_reply, fixed_reply, status_of};
-use crate::ask::{Ask, read_ask, read_parts};
+use crate::ask::{Ask, head_parts, read_ask};
 use crate::body::{BodyFault, read_body};
-use crate::desk::{Answer, Desk, Keep, Request};
 use crate::head::{HeadRead, LONGEST_HEAD, MOST_FIELDS, read_head};
 use crate::refusal::Refusal;
 use crate::request::{groups_sought, request_of};
@@ -18,7 +18,9 @@ use crate::tally::Tally;
 use crate::write::write_text;
 use http::StatusCode;
 use httparse::spans::EMPTY_HEADER_SPAN;
+use reg_desk::{Answer, Desk, Request};
 use reg_policy::{Callers, Day};
+use reg_store::Keep;
 use std::alloc::Global;
 use std::io::{Read, Write};
 
@@ -112,7 +114,7 @@ fn serve_request<K: Keep, W: Write>(
     writer: &mut Tally<W>,
 ) -> Result<Served, IoFault>
     requires { has_failed writer.old ≡ false }
-    ensures served { ServesRequest (AnsweredBy K.deposits K.limit K.failed K.sound) (asked request.entry.now) desk.old desk.new
+    ensures served { ServesRequest (AnsweredBy K.Keep) (asked request.entry.now) desk.old desk.new
         (W.contents (inner_of writer.old)) (W.contents (inner_of writer.new)) result }
     ensures write_fault { has_failed writer.new ≡ is_write result }
     ensures no_read { is_read result ≡ false }
@@ -134,7 +136,7 @@ fn serve_asked<K: Keep, R: Read, W: Write>(
     requires reader_sound { has_failed reader.old ≡ false }
     requires writer_sound { has_failed writer.old ≡ false }
     ensures served { IfSome (R.remaining (inner_of reader.old)) (λ left.
-        ServesAsked (AnsweredBy K.deposits K.limit K.failed K.sound) (asking_at ask.now) day (early.now ++ left) desk.old desk.new
+        ServesAsked (AnsweredBy K.Keep) (asking_at ask.now) day (early.now ++ left) desk.old desk.new
         (W.contents (inner_of writer.old)) (W.contents (inner_of writer.new)) result) }
     ensures read_fault { has_failed reader.new ≡ is_read result }
     ensures write_fault { has_failed writer.new ≡ is_write result }
@@ -169,7 +171,7 @@ pub fn serve_one<K: Keep, R: Read, W: Write>(
 
     // What is written and what the desk is then, by what the bytes of the reader are read as.
     ensures served { IfSome (R.remaining (inner_of reader.old)) (λ bytes.
-        ServesOne (AnsweredBy K.deposits K.limit K.failed K.sound) callers.now day bytes desk.old desk.new
+        ServesOne (AnsweredBy K.Keep) callers.now day bytes desk.old desk.new
         (W.contents (inner_of writer.old)) (W.contents (inner_of writer.new)) result) }
 
     // Faults are those of the two sides, each exactly.
@@ -187,7 +189,7 @@ pub fn serve_one<K: Keep, R: Read, W: Write>(
         HeadRead::Bad => refuse(writer, Refusal::BadHead),
         HeadRead::Whole(spans, filled) => {
             let bytes = &buf[..filled];
-            let parts = read_parts(bytes, &headers, &spans);
+            let parts = head_parts(bytes, &headers, &spans);
             match read_ask(alloc, callers, day, &parts) {
                 Ok(ask) => serve_asked(alloc, desk, day, &ask, &bytes[spans.len..], reader, writer),
                 Err(refusal) => refuse(writer, refusal),

@@ -1,7 +1,7 @@
 use Rattle.std.proofs.Common.{◌≡◌, ◌++◌, length}
 use Rattle.form_urlencoded.specs.Form.{split}
 use Rattle.ags_rows.specs.Bytes.{comma}
-use Rattle.reg_http.specs.Desks.{names_in}
+use Rattle.reg_desk.specs.Asked.{names_in}
 use Rattle.reg_http.proofs.query.pieces.Given as goal
 
 abbrev pub invariant-pieces : goal.invariant-pieces

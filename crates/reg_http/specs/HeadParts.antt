@@ -22,12 +22,12 @@ path_of target = before_first (λ b. b == question_mark) target
 abbrev pub query_of : List ℕ → List ℕ
 query_of target = after_first (λ b. b == question_mark) target
 
-abbrev pub parts_of : RequestHead → HeadParts
-parts_of h = record { method = h.method; path = path_of h.target; query = query_of h.target; fields = map name_and_value h.fields }
+abbrev pub head_parts : RequestHead → HeadParts
+head_parts h = record { method = h.method; path = path_of h.target; query = query_of h.target; fields = map name_and_value h.fields }
 
 -- the parts as the code holds them
-abbrev pub parts_at : Parts → HeadParts
-parts_at p = record { method = p.method.now; path = p.path.now; query = p.query.now; fields = map (header_bytes p.buf.now) p.fields.now }
+abbrev pub parts_seen : Parts → HeadParts
+parts_seen p = record { method = p.method.now; path = p.path.now; query = p.query.now; fields = map (header_bytes p.buf.now) p.fields.now }
 
 -- how many fields have the name, and the value of the one
 abbrev pub values_in : HeadParts → List ℕ → Few
