@@ -1,5 +1,5 @@
 -- What a query of the register leaves of a connection.
-use Rattle.std.proofs.Common.{◌≡◌, ℕ, List, [], ◌∷◌, true, false, Option, Some, None, Ok, Err, Result, IfOk, IfErr, OnOk, IsTrue, inl, inr, refl, sym, ap, subst, ◌∙◌, arith}
+use Rattle.std.proofs.Common.{◌≡◌, ℕ, List, [], ◌∷◌, Bool, true, false, Option, Some, None, Ok, Err, Result, IfOk, IfErr, OnOk, IsTrue, inl, inr, refl, sym, ap, subst, ◌∙◌, arith}
 use Rattle.sqlite.specs.Order.{Row}
 use Rattle.sqlite.specs.declared.error.Error.{Error}
 use Rattle.sqlite_schema.specs.declared.command.Returning.{Returning}
@@ -52,12 +52,14 @@ module _ (sql : List ℕ) (plain : IsPlain (understood register_schema sql)) whe
         go (Ok x) h f = let it = (shown_same sql old new params (items x) (plain_at sql old plain has) h).0 in (it.was_open, it.now_is, it.committed_is)
         go (Err e) h f = fails_keeps sql params old new e settled is_open f
 
+both_open : {a b : Bool} → IsTrue a → IsTrue b → a ≡ b
+both_open p q = p ∙ sym q
+
 -- the query did not fail, or the connection is still open
 pub ok_quiet : (old new : State) → new.in_transaction ≡ false → (HasCleanDisk new → IsTrue new.is_open) → (HasCleanDisk new → IsTrue new.is_open → IsAsBefore old new) → Survives old new (λ _. ⊥) → IsQuiet old new false
 ok_quiet old new idle is_open stays survives = record {
   idle = idle;
-  was_open = λ clean _. (stays clean (is_open clean)).0;
-  is_open = λ clean _. is_open clean;
+  is_open = λ clean _. both_open (is_open clean) (stays clean (is_open clean)).0;
   same = λ clean _. (let it = stays clean (is_open clean) in (it.1, it.2));
   survives = survives;
 }
@@ -66,15 +68,14 @@ ok_quiet old new idle is_open stays survives = record {
 pub open_quiet : (old mid new : State) → new.in_transaction ≡ false → (HasCleanDisk mid → IsTrue mid.is_open → IsAsBefore old mid) → Survives old mid (λ _. ⊥) → (HasCleanDisk new → IsUnchanged mid new) → Survives mid new (λ _. ⊥) → IsQuiet old new false
 open_quiet old mid new idle stays survives unchanged probed = record {
   idle = idle;
-  was_open = λ clean _. (stays (clean_before mid new probed clean) (unchanged clean).0.was_open).0;
-  is_open = λ clean _. (unchanged clean).0.is_open;
+  is_open = λ clean _. both_open (unchanged clean).0.is_open (stays (clean_before mid new probed clean) (unchanged clean).0.was_open).0;
   same = λ clean _. (let at = (unchanged clean).0 in let was = stays (clean_before mid new probed clean) at.was_open in (at.now_is ∙ was.1, at.committed_is ∙ was.2));
   survives = survives_then old mid new _ _ (λ _. ⊥) (λ _ db none. none) (λ _ db none. none) survives probed;
 }
 
 -- the store failed
 pub failed_quiet : (old new : State) → new.in_transaction ≡ false → Survives old new (λ _. ⊥) → IsQuiet old new true
-failed_quiet old new idle survives = record { idle = idle; was_open = λ clean e. absurd cc; is_open = λ clean e. absurd cc; same = λ clean e. absurd cc; survives = survives }
+failed_quiet old new idle survives = record { idle = idle; is_open = λ clean e. absurd cc; same = λ clean e. absurd cc; survives = survives }
 
 pub failed_then : (old mid new : State) → new.in_transaction ≡ false → Survives old mid (λ _. ⊥) → Survives mid new (λ _. ⊥) → IsQuiet old new true
 failed_then old mid new idle one two = failed_quiet old new idle (survives_then old mid new _ _ (λ _. ⊥) (λ _ db none. none) (λ _ db none. none) one two)

@@ -165,13 +165,31 @@ found_at firm project bytes (Err e) h ok = tt
 pub idle_at : (s : State) {dictionary : Entries} {count : ℕ} → s.in_transaction ≡ false → (HasCleanDisk s → ∥ Keeps s dictionary count ∥₁) → IsIdle s
 idle_at s idle kept = record { idle = idle; schema = λ clean. schema_at (kept clean); settled = λ clean _. settled_of (kept clean) }
 
+still_open : {s : State} {dictionary : Entries} {count : ℕ} {now : Bool} → ∥ Keeps s dictionary count ∥₁ → now ≡ s.is_open → IsTrue now
+still_open {s} {dictionary} {count} kept same = subst IsTrue (sym same) (∥∥₁_elim kept (Prim.hlevel props) (λ (k : Keeps s dictionary count). k.is_open))
+
 pub keeps_quiet : (old new : State) {dictionary : Entries} {count : ℕ} {failed : Bool} → (HasCleanDisk old → ∥ Keeps old dictionary count ∥₁) → IsQuiet old new failed → HasCleanDisk new → failed ≡ false → ∥ Keeps new dictionary count ∥₁
 keeps_quiet old new kept quiet clean well =
     let same = quiet.same clean well in
-    keeps_same {old = old} {new = new} (kept (clean_before old new quiet.survives clean)) (quiet.is_open clean well) same.0 same.1
+    keeps_same {old = old} {new = new} (kept (clean_before old new quiet.survives clean)) (still_open {s = old} (kept (clean_before old new quiet.survives clean)) (quiet.is_open clean well)) same.0 same.1
 
 pub crash_same : (old new : State) {dictionary : Entries} → Survives old new (λ _. ⊥) → HasCleanDisk new → (list : List Deposit) → LeavesList new.may_leave dictionary list → LeavesList old.may_leave dictionary list
 crash_same old new survives clean list left = elim (survives.crash clean left.0 left.1) [ inl may ↦ (left.0, may, left.2) | inr none ↦ absurd none ]
 
 pub few_at : {s : State} {dictionary : Entries} {count : ℕ} → ∥ Keeps s dictionary count ∥₁ → (length (deposits_in s.committed.trees) ≤ 999999) × (999999 ≤ 999999)
 few_at {s} {dictionary} {count} h = (∥∥₁_elim h (Prim.hlevel props) (λ (k : Keeps s dictionary count). k.register.few), omega arith)
+
+-- a register that was found is kept
+pub adopted_keeps : (old new : State) (dictionary : Entries) (count : ℕ) → IsTrue new.is_open → new.now ≡ old.now → new.committed ≡ new.now → ∥ ((list : List Deposit) × IsRegister old.now dictionary list × (length list ≡ count)) ∥₁ → ∥ Keeps new dictionary count ∥₁
+adopted_keeps old new dictionary count is_open same settled found = ∥∥₁_map found keep
+  where
+    keep : (list : List Deposit) × IsRegister old.now dictionary list × (length list ≡ count) → Keeps new dictionary count
+    keep p =
+        let there : IsRegister new.now dictionary p.0 = subst (λ (db : Database). IsRegister db dictionary p.0) (sym same) p.1 in
+        let read : deposits_in new.committed.trees ≡ p.0 = ap (λ (db : Database). deposits_in db.trees) settled ∙ read_back new.now.trees p.0 there.deposits in
+        record { is_open = is_open; settled = settled; register = subst (IsRegister new.now dictionary) (sym read) there; counted = sym p.2 ∙ ap length (sym read) }
+
+pub adopted_list : (old new : State) (dictionary : Entries) (count : ℕ) → new.now ≡ old.now → new.committed ≡ new.now → ∥ ((list : List Deposit) × IsRegister old.now dictionary list × (length list ≡ count)) ∥₁ → ∥ IsRegister old.now dictionary (deposits_in new.committed.trees) ∥₁
+adopted_list old new dictionary count same settled found = ∥∥₁_map found (λ (p : (list : List Deposit) × IsRegister old.now dictionary list × (length list ≡ count)).
+    (let read : deposits_in new.committed.trees ≡ p.0 = ap (λ (db : Database). deposits_in db.trees) (settled ∙ same) ∙ read_back old.now.trees p.0 p.1.deposits in
+    let register : IsRegister old.now dictionary (deposits_in new.committed.trees) = subst (IsRegister old.now dictionary) (sym read) p.1 in register))

@@ -48,7 +48,7 @@ head_at n (Err e) h ok = tt
 abbrev of_row : Row → Deposit
 of_row c = record { firm = bytes (column c 1); project = bytes (column c 2); embargo = number_in (column c 3); bytes = bytes (column c 4) }
 
-slice_get_in : {X : Type 0} (xs : List X) (k : ℕ) → k < length xs → (x : X) × (slice_get xs k ≡ Some x)
+pub slice_get_in : {X : Type 0} (xs : List X) (k : ℕ) → k < length xs → (x : X) × (slice_get xs k ≡ Some x)
 slice_get_in [] k low = absurd (omega (arith, low))
 slice_get_in (x ∷ xs) zero low = (x, refl)
 slice_get_in (x ∷ xs) (suc k) low = slice_get_in xs k (omega (arith, low))
@@ -68,7 +68,7 @@ deposit_at n (Err e) low high h ok = tt
 rows_set : (a b : List KeptRow) → IsProp (a ≡ b)
 rows_set a b = Prim.hlevel props
 
-zip_at : {A B : Type 0} (R : A → B → Type 0) (xs : List A) (ys : List B) (k : ℕ) (x : A) → AllZip R xs ys → slice_get xs k ≡ Some x → (y : B) × (slice_get ys k ≡ Some y) × R x y
+pub zip_at : {A B : Type 0} (R : A → B → Type 0) (xs : List A) (ys : List B) (k : ℕ) (x : A) → AllZip R xs ys → slice_get xs k ≡ Some x → (y : B) × (slice_get ys k ≡ Some y) × R x y
 zip_at R [] ys k x h at = absurd cc
 zip_at R (a ∷ xs) [] k x h at = absurd h
 zip_at R (a ∷ xs) (b ∷ ys) zero x h at = let same : a ≡ x = cc in (b, refl, subst (λ z. R z b) same h.0)

@@ -1,6 +1,6 @@
 //! One query.
 
-ghost use Rattle.std.specs.Prelude.{◌≡◌, ◌≢◌, false, IsTrue, IfOk, IfErr, OnOk};
+ghost use Rattle.std.specs.Prelude.{◌≡◌, ◌≢◌, ◌↔◌, false, IsTrue, IfOk, IfErr, OnOk};
 ghost use Rattle.sqlite.specs.Values.{bound};
 ghost use Rattle.sqlite.specs.State.{HasCleanDisk, Survives, IsUnchanged, Shown};
 ghost use Rattle.sqlite.specs.Held.{state};
@@ -14,7 +14,10 @@ use crate::keep::KeepError;
 use sqlite::types::ValueRef;
 use sqlite::{Alter, Connection, Error, ErrorCode, Row};
 
-pub(crate) fn is_memory(error: &Error) -> bool {
+/// Whether memory is wanting.
+pub(crate) fn is_memory(error: &Error) -> bool
+    ensures { IsTrue result ↔ (error.now ≡ Error.SqliteFailure ErrorCode.OutOfMemory) }
+{
     matches!(error, Error::SqliteFailure(ErrorCode::OutOfMemory))
 }
 
@@ -53,6 +56,7 @@ pub(crate) fn query<S: Alter>(
     requires plain { IsPlain (understood register_schema sql.now) }
     requires idle { IsIdle (state S.Store conn.old) }
     ensures shown { HasCleanDisk (state S.Store conn.new) → IfOk result (λ rows. Shown sql.now (bound params.now) (state S.Store conn.old) (state S.Store conn.new) rows.items) }
+    ensures open { HasCleanDisk (state S.Store conn.new) → fails result ≡ false → IsTrue (state S.Store conn.new).is_open }
     ensures named { IfErr result (λ e. e ≢ KeepError.Full) }
     ensures quiet { IsQuiet (state S.Store conn.old) (state S.Store conn.new) (fails result) }
 {

@@ -19,16 +19,16 @@ ghost use Rattle.reg_store.specs.Fit.{IsNamed};
 ghost use Rattle.reg_store.specs.Shows.{Holds, head_row};
 ghost use Rattle.reg_store.specs.Register.{deposit_rows, has_number, meta_columns};
 ghost use Rattle.reg_store.specs.Apart.{AreApart};
+ghost use Rattle.reg_store.specs.Finds.{is_equal};
 
 use crate::keep::{KeepError, Kept, KeptHead, KeptRow};
 use crate::queries::{is_memory, query};
-use crate::readers::{read_deposit, read_head, read_lines, read_meta, read_numbers, read_steps};
+use crate::readers::{read_deposit, read_head, read_lines, read_numbers, read_steps};
 use ags_links::Graph;
-use ags_rows::Bytes;
-use sqlite::{Alter, Connection, Error, Row, params};
+use sqlite::{Alter, Connection, Error, ErrorCode, Row, params};
 use std::alloc::Global;
 
-fn equal_rows<S: Alter>(
+pub(crate) fn equal_rows<S: Alter>(
     conn: &mut Connection<S>,
     firm: &str,
     project: &str,
@@ -37,6 +37,7 @@ fn equal_rows<S: Alter>(
     requires idle { IsIdle (state S.Store conn.old) }
     ensures found { HasCleanDisk (state S.Store conn.new) → IfOk result (λ rows. (list : List Deposit) → IsPermutation (deposit_rows 1 list) (deposit_table (state S.Store conn.old).now.trees) → AreApart list
         → rows.items ≡ map (λ n. Int (pos n) ∷ []) (option_to_list (number_of firm.now project.now bytes.now list))) }
+    ensures many { HasCleanDisk (state S.Store conn.new) → IfOk result (λ rows. length rows.items ≡ length (filter (is_equal firm.now project.now bytes.now) (deposit_table (state S.Store conn.old).now.trees))) }
     ensures named { IfErr result (λ e. e ≢ KeepError.Full) }
     ensures quiet { IsQuiet (state S.Store conn.old) (state S.Store conn.new) (fails result) }
 {
@@ -62,7 +63,8 @@ fn first_number(rows: &[Row]) -> Result<Option<u32>, KeepError>
 
 /// Why a row is not read: want of memory, or it is not one of a register.
 pub(crate) fn read_error(error: &Error) -> KeepError
-    ensures { result ≢ KeepError.Full }
+    ensures named { result ≢ KeepError.Full }
+    ensures store { result ≡ KeepError.Store → error.now ≢ Error.SqliteFailure ErrorCode.OutOfMemory }
 {
     if is_memory(error) {
         KeepError::NoMemory
@@ -152,7 +154,7 @@ pub(crate) fn find_head<S: Alter>(
     }
 }
 
-fn numbered_rows<S: Alter>(conn: &mut Connection<S>, number: u32) -> Result<Vec<Row>, KeepError>
+pub(crate) fn numbered_rows<S: Alter>(conn: &mut Connection<S>, number: u32) -> Result<Vec<Row>, KeepError>
     requires idle { IsIdle (state S.Store conn.old) }
     ensures found { HasCleanDisk (state S.Store conn.new) → IfOk result (λ rows. IsPermutation rows.items (filter (has_number number) (deposit_table (state S.Store conn.old).now.trees))) }
     ensures named { IfErr result (λ e. e ≢ KeepError.Full) }
@@ -183,7 +185,7 @@ pub(crate) fn find_deposit<S: Alter>(
     }
 }
 
-fn line_rows<S: Alter>(conn: &mut Connection<S>, number: u32) -> Result<Vec<Row>, KeepError>
+pub(crate) fn line_rows<S: Alter>(conn: &mut Connection<S>, number: u32) -> Result<Vec<Row>, KeepError>
     requires idle { IsIdle (state S.Store conn.old) }
     ensures found { HasCleanDisk (state S.Store conn.new) → IfOk result (λ rows. (file : List KeptRow) → IsPermutation (place_rows 0 file) (rows_of number (line_table (state S.Store conn.old).now.trees)) → rows.items ≡ place_rows 0 file) }
     ensures all { HasCleanDisk (state S.Store conn.new) → IfOk result (λ rows. IsPermutation rows.items (rows_of number (line_table (state S.Store conn.old).now.trees))) }
@@ -215,7 +217,7 @@ pub(crate) fn find_lines<S: Alter>(
     }
 }
 
-fn step_rows<S: Alter>(conn: &mut Connection<S>, number: u32) -> Result<Vec<Row>, KeepError>
+pub(crate) fn step_rows<S: Alter>(conn: &mut Connection<S>, number: u32) -> Result<Vec<Row>, KeepError>
     requires idle { IsIdle (state S.Store conn.old) }
     ensures found { HasCleanDisk (state S.Store conn.new) → IfOk result (λ rows. (steps : List (ℕ × ℕ)) → IsAscending IsBefore steps → IsPermutation (map step_pair steps) (rows_of number (step_table (state S.Store conn.old).now.trees)) → rows.items ≡ map step_pair steps) }
     ensures all { HasCleanDisk (state S.Store conn.new) → IfOk result (λ rows. IsPermutation rows.items (rows_of number (step_table (state S.Store conn.old).now.trees))) }
@@ -318,24 +320,13 @@ pub(crate) fn find_graph<S: Alter>(
     }
 }
 
-fn meta_rows<S: Alter>(conn: &mut Connection<S>) -> Result<Vec<Row>, KeepError>
+pub(crate) fn meta_rows<S: Alter>(conn: &mut Connection<S>) -> Result<Vec<Row>, KeepError>
     requires idle { IsIdle (state S.Store conn.old) }
     ensures all { HasCleanDisk (state S.Store conn.new) → IfOk result (λ rows. IsPermutation rows.items (map columns_3 ((state S.Store conn.old).now.trees 0))) }
+    ensures found { HasCleanDisk (state S.Store conn.new) → IfOk result (λ rows. (text : List ℕ) → IsPermutation (meta_columns text) (map columns_3 ((state S.Store conn.old).now.trees 0)) → rows.items ≡ meta_columns text) }
+    ensures open { HasCleanDisk (state S.Store conn.new) → fails result ≡ false → IsTrue (state S.Store conn.new).is_open }
     ensures named { IfErr result (λ e. e ≢ KeepError.Full) }
     ensures quiet { IsQuiet (state S.Store conn.old) (state S.Store conn.new) (fails result) }
 {
     query(conn, "SELECT name, num, body FROM meta ORDER BY name", &[])
-}
-
-/// The bytes of the dictionary, where meta holds that of format 1 and nothing else.
-pub(crate) fn find_meta<S: Alter>(conn: &mut Connection<S>) -> Result<Bytes, KeepError>
-    requires idle { IsIdle (state S.Store conn.old) }
-    ensures held { HasCleanDisk (state S.Store conn.new) → IfOk result (λ text. IsPermutation (meta_columns text) (map columns_3 ((state S.Store conn.old).now.trees 0))) }
-    ensures named { IfErr result (λ e. e ≢ KeepError.Full) }
-    ensures quiet { IsQuiet (state S.Store conn.old) (state S.Store conn.new) (fails result) }
-{
-    match meta_rows(conn) {
-        Ok(rows) => read_meta(&rows),
-        Err(error) => Err(error),
-    }
 }

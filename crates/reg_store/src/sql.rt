@@ -31,11 +31,11 @@ pub const MOST: u32 = 999_999;
 /// Deposits in a database.
 #[derive(Drop)]
 pub struct SqlKeep<S: Alter> {
-    connection: Connection<S>,
-    dictionary: Dictionary,
-    count: u32,
-    has_failed: bool,
-    alloc: Global,
+    pub(crate) connection: Connection<S>,
+    pub(crate) dictionary: Dictionary,
+    pub(crate) count: u32,
+    pub(crate) has_failed: bool,
+    pub(crate) alloc: Global,
     ghost idle: { connection.in_transaction ≡ false },
     ghost few: { count ≤ 999999 },
     ghost kept: { has_failed ≡ false → HasCleanDisk (state S.Store connection) → ∥ Keeps (state S.Store connection) dictionary count ∥₁ },
