@@ -6,7 +6,7 @@ mod examples;
 
 use crate::{Answer, Desk, Listed, Request};
 use ags_dict::Dictionary;
-use ags_rows::vectors::{FILE_A, MINI};
+use ags_rows::vectors::{FILE_A, FILE_B, FILE_C, MINI};
 use reg_policy::vectors::{CALLERS, POLICY};
 use reg_policy::{Caller, Callers, Day, Name, Policy};
 use reg_store::{Keep, PlainKeep};
@@ -23,11 +23,19 @@ pub struct Edit {
     pub lines: &'static str,
 }
 
+/// A file of the worked examples.
+#[derive(Clone, Copy)]
+pub enum File {
+    A,
+    B,
+    C,
+}
+
 /// A file with edits in the order of its lines, after these bytes and before so many spaces.
 #[derive(Clone, Copy)]
 pub struct Body {
     pub front: &'static [u8],
-    pub file: &'static [u8],
+    pub file: File,
     pub edits: &'static [Edit],
     pub spaces: usize,
 }
@@ -63,12 +71,21 @@ pub struct Example {
     pub steps: &'static [Step],
 }
 
+/// The bytes of a file.
+fn file_bytes(file: File) -> &'static [u8] {
+    match file {
+        File::A => FILE_A,
+        File::B => FILE_B,
+        File::C => FILE_C,
+    }
+}
+
 /// The bytes of a body.
 fn bytes_of(alloc: Global, body: &Body) -> Result<Vec<u8>, AllocError> {
     let mut text = Vec::from_slice(alloc, body.front)?;
     let mut line = 1usize;
     let mut begins = true;
-    for byte in body.file {
+    for byte in file_bytes(body.file) {
         for edit in body.edits {
             if begins && edit.first == line {
                 text.extend_from_slice(edit.lines.as_bytes())?;

@@ -1,7 +1,6 @@
 //! Requests to a register, and their answers. A deposit is sent on 2024-05-01 under an embargo until 2024-06-01 where nothing else is said.
 
-use super::{Ask, Body, Edit, Example, Step, Want};
-use ags_rows::vectors::{FILE_A, FILE_B, FILE_C};
+use super::{Ask, Body, Edit, Example, File, Step, Want};
 
 const MOST: u32 = 999_999;
 
@@ -16,7 +15,7 @@ const SECOND: Want = Want::Says("receipt 2 2024-06-01");
 /// The first file.
 const A: Body = Body {
     front: b"",
-    file: FILE_A,
+    file: File::A,
     edits: &[],
     spaces: 0,
 };
@@ -24,7 +23,7 @@ const A: Body = Body {
 /// It with another borehole.
 const A_OTHER: Body = Body {
     front: b"",
-    file: FILE_A,
+    file: File::A,
     edits: &[Edit {
         first: 30,
         last: 30,
@@ -36,7 +35,7 @@ const A_OTHER: Body = Body {
 /// It without its row of types.
 const A_UNENDED: Body = Body {
     front: b"",
-    file: FILE_A,
+    file: File::A,
     edits: &[Edit {
         first: 29,
         last: 29,
@@ -48,23 +47,23 @@ const A_UNENDED: Body = Body {
 /// It before spaces, as long as a body may be.
 const A_LONGEST: Body = Body {
     front: b"",
-    file: FILE_A,
+    file: File::A,
     edits: &[],
-    spaces: 4193761,
+    spaces: 4_193_761,
 };
 
 /// One space more.
 const A_TOO_LONG: Body = Body {
     front: b"",
-    file: FILE_A,
+    file: File::A,
     edits: &[],
-    spaces: 4193762,
+    spaces: 4_193_762,
 };
 
 /// It behind a byte order mark, with spaces and quotes in line 5, and without its last line end.
 const A_SPACED: Body = Body {
     front: b"\xEF\xBB\xBF",
-    file: FILE_A,
+    file: File::A,
     edits: &[
         Edit {
             first: 5,
@@ -83,7 +82,7 @@ const A_SPACED: Body = Body {
 /// As an extract spells that.
 const A_PLAIN: Body = Body {
     front: b"",
-    file: FILE_A,
+    file: File::A,
     edits: &[Edit {
         first: 5,
         last: 5,
@@ -95,7 +94,7 @@ const A_PLAIN: Body = Body {
 /// The second file.
 const B: Body = Body {
     front: b"",
-    file: FILE_B,
+    file: File::B,
     edits: &[],
     spaces: 0,
 };
@@ -103,7 +102,7 @@ const B: Body = Body {
 /// What Echo may see of it, 956 bytes: all but the second borehole with its sample and its test.
 const B_SHOWN: Body = Body {
     front: b"",
-    file: FILE_B,
+    file: File::B,
     edits: &[
         Edit {
             first: 33,
@@ -127,7 +126,7 @@ const B_SHOWN: Body = Body {
 /// The first borehole of it with the project, 626 bytes.
 const B_BOREHOLE: Body = Body {
     front: b"",
-    file: FILE_B,
+    file: File::B,
     edits: &[Edit {
         first: 33,
         last: 47,
@@ -139,7 +138,7 @@ const B_BOREHOLE: Body = Body {
 /// It with another result in a hidden row.
 const B_WETTER: Body = Body {
     front: b"",
-    file: FILE_B,
+    file: File::B,
     edits: &[Edit {
         first: 47,
         last: 47,
@@ -151,7 +150,7 @@ const B_WETTER: Body = Body {
 /// It with one hidden row more.
 const B_TESTED: Body = Body {
     front: b"",
-    file: FILE_B,
+    file: File::B,
     edits: &[Edit {
         first: 48,
         last: 47,
@@ -163,7 +162,7 @@ const B_TESTED: Body = Body {
 /// The third file, with a ring of record links.
 const C: Body = Body {
     front: b"",
-    file: FILE_C,
+    file: File::C,
     edits: &[],
     spaces: 0,
 };
@@ -171,7 +170,7 @@ const C: Body = Body {
 /// What Echo may see of it: a hidden sample hides what is linked to it.
 const C_SHOWN: Body = Body {
     front: b"",
-    file: FILE_C,
+    file: File::C,
     edits: &[
         Edit {
             first: 39,
