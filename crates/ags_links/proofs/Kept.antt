@@ -120,13 +120,6 @@ first_of_group by_group rows group numbers x finds e lt at =
     let h = (finds.exact group n).0 (subst (λ l. Contains l n) e (Contains-get_or numbers 0 0 lt)) in
     ap (λ (r : DataRow). r.group) (one_at (map row_of rows) n (row_of x) h.0 (at_map row_of rows n x at) h.1) ∙ h.2
 
--- where no row is found, there is none of the group
-pub no_row_found : (by_group : Lookup) (rows : List DataRow) (group : List ℕ) (numbers : List ℕ) → Finds by_group (HasText rows HasGroupName) → numbers ≡ found by_group group → numbers ≡ []
-    → (n : ℕ) (r : DataRow) → IsDataRow rows n r → r.group ≡ group → ⊥
-no_row_found by_group rows group numbers finds e empty n r row named =
-    let h = subst (λ l. Contains l n) (sym e ∙ empty) ((finds.exact group n).1 (r, row, named)) in
-    omega (arith, h.1)
-
 -- ---- the headings of a list that stand in a HEADING row
 
 pub filter_push : (p : List ℕ → Bool) (xs : List (List ℕ)) (x : List ℕ) → filter p (xs ++ x ∷ []) ≡ filter p xs ++ cond (p x) (x ∷ []) []

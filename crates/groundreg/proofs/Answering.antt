@@ -2,7 +2,7 @@
 use Rattle.std.proofs.Common.{ap, length, ◌≡◌, ◌≤◌, ◌∷◌, ◌↔◌, ◌||◌, ℕ, Bool, true, false, IsTrue, inl, inr, [], List, Option, None, Some, Ok, Err, IfSome, refl, sym, subst, ◌∙◌, arith, rules}
 use Rattle.groundreg.specs.declared.fault.Fault.{Fault}
 use Rattle.groundreg.specs.declared.fault.Fault.TheVariants.{WordsRefused, TooLarge, NoMemory, Stream}
-use Rattle.ags_rows.specs.declared.codes.Finding.{Finding}
+use Rattle.ags_rows.specs.declared.finding.Finding.{Finding}
 use Rattle.groundreg.specs.declared.report.Report.{Report}
 use Rattle.groundreg.specs.Answers.{Answers, reported, too_large, no_memory, answered, not_read, not_printed, not_said, AnswersOn, ReportsOn}
 use Rattle.groundreg.specs.Faults.{Tells, fault_text, fault_status, is_stream}

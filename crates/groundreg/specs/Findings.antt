@@ -1,6 +1,6 @@
 -- The findings that are printed of a file.
 use Rattle.std.specs.Prelude.{ℕ, List}
-use Rattle.ags_rows.specs.declared.codes.Finding.{Finding}
+use Rattle.ags_rows.specs.declared.finding.Finding.{Finding}
 use Rattle.ags_dict.specs.Mini.{mini_entries}
 use Rattle.ags_check.specs.Findings.{Findings}
 

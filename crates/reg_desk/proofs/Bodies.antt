@@ -2,7 +2,7 @@
 use Rattle.std.proofs.Common.{◌≡◌, ◌≢◌, ℕ, ◌<◌, ◌≤◌, Bool, true, false, List, [], ◌∷◌, refl, sym, subst, inl, inr, arith}
 use Rattle.std.specs.Prelude.{ℤ, nat_lt, length}
 use Rattle.std.proofs.lemmas.Bool.{true≢false, cases_Bool, ltb-true, lt-ltb}
-use Rattle.ags_rows.specs.declared.codes.Finding.{Finding}
+use Rattle.ags_rows.specs.declared.finding.Finding.{Finding}
 use Rattle.ags_rows.specs.declared.TheConstants.{LIMIT}
 use Rattle.ags_check.specs.Findings.{Findings as AreFindings}
 use Rattle.reg_policy.specs.declared.rule.Rule.{Rule}

@@ -7,12 +7,12 @@ use Rattle.std.proofs.lemmas.Int.{ints}
 use Rattle.std.proofs.lemmas.List.Elements.{All-nil, All-cons}
 use Rattle.std.proofs.lemmas.Str.{IsUtf8-from_ascii}
 use Rattle.std.proofs.lemmas.Str.Ascii.{IsAscii-from_all}
-use Rattle.jiff.specs.Words.{IsDate, days_in_month}
+use Rattle.jiff.specs.Words.{IsDate}
 use Rattle.jiff_core.specs.Calendar.{IsCivilDate, day_count, days_from_civil}
 use Rattle.jiff_core.proofs.CalendarLemmas.{day_count-day, day_count-lt_month, day_count-lt_year, days_from_civil-day_count, days_in_month_bounds}
 use Rattle.ags_rows.specs.Bytes.{ascii_end, first_digit}
 use Rattle.reg_policy.specs.Names.{dash}
-use Rattle.reg_policy.specs.Days.{OneTextOfDay, Writes, day_text, tens_and_ones, year_text}
+use Rattle.reg_policy.specs.Days.{OneTextOfDay, Writes, day_text, tens_and_ones}
 
 abbrev IsAsciiByte : ℕ → Type 0
 IsAsciiByte b = b < ascii_end

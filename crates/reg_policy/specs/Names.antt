@@ -1,16 +1,12 @@
 -- Which texts are names of firms, roles and projects, which are tokens, and the words of the verbs.
-use Rattle.std.specs.Prelude.{ℕ, List, length, nat_le, Bool, ◌&&◌, ◌||◌, ◌==◌, codes}
+use Rattle.std.specs.Prelude.{ℕ, List, nat_le, Bool, ◌&&◌, ◌||◌, ◌==◌, codes}
 use Rattle.std.specs.List.{list_all}
 use Rattle.ags_rows.specs.Bytes.{low_line}
-use Rattle.ags_rows.specs.Names.{is_capital, is_digit}
+use Rattle.ags_rows.specs.Names.{is_capital, is_digit, is_within}
 use Rattle.reg_policy.specs.declared.subject.Verb.{Verb}
 use Rattle.reg_policy.specs.declared.subject.Verb.TheVariants.{Deposit, Check, List as ListDeposits, Extract, See}
 
--- it has at least one byte, and at most so many
-abbrev pub is_within : ℕ → List ℕ → Bool
-is_within most text = nat_le 1 (length text) && nat_le (length text) most
-
--- the dash
+-- `-`
 abbrev pub dash : ℕ
 dash = 45
 

@@ -9,9 +9,8 @@ ghost use Rattle.reg_policy.specs.Readers.{Gives};
 ghost use Rattle.reg_policy.specs.declared.callers.Credential.{Credential as CredentialValue};
 
 use crate::document::{FromTable, ReadError, copied, read_list, string_at};
-use crate::name::is_within;
 use crate::{Name, NameError};
-use ags_rows::Bytes;
+use ags_rows::{Bytes, is_within};
 use std::alloc::Global;
 use std::collections::BTreeSet;
 use std::marker::Model;

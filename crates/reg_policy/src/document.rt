@@ -6,7 +6,7 @@ ghost use Rattle.toml.specs.View.{items_view, table_view, view};
 ghost use Rattle.reg_policy.specs.Documents.{Each, InTable, TablesSay, all_keys, has_known_keys, have_known_keys, is_known_key, is_known};
 ghost use Rattle.reg_policy.specs.Readers.{Gives, GivesCopy, GivesList, GivesText, Opens, ReadsList};
 
-use ags_rows::Bytes;
+use ags_rows::{Bytes, copy};
 use std::alloc::Global;
 use toml::{Table, Value};
 
@@ -161,8 +161,5 @@ pub(crate) fn string_at<'a>(table: &'a Table, key: &str) -> Result<Option<&'a st
 pub(crate) fn copied(alloc: Global, text: &str) -> Result<Bytes, ReadError>
     ensures { GivesCopy text.now result }
 {
-    match text.as_bytes().to_vec(alloc) {
-        Ok(copy) => Ok(Bytes::from_vec(copy)),
-        Err(_) => Err(ReadError::NoMemory),
-    }
+    copy(alloc, text.as_bytes()).map_err(|_| ReadError::NoMemory)
 }

@@ -7,8 +7,9 @@ ghost use Rattle.std.specs.Cmp.Rules.{comparing};
 ghost use Rattle.std.specs.Ordering.{as_partial_cmp, nat_cmp};
 ghost use Rattle.std.specs.Str.{bytes_eq};
 ghost use Rattle.std.proofs.Common.{rules};
-ghost use Rattle.reg_policy.specs.Names.{is_name, is_name_byte, is_within};
+ghost use Rattle.reg_policy.specs.Names.{is_name, is_name_byte};
 
+use ags_rows::is_within;
 use std::alloc::{AllocError, Global};
 use std::cmp::Ordering;
 use std::marker::Model;
@@ -118,13 +119,6 @@ fn is_name(text: &[u8]) -> bool
     ensures { result ≡ is_name text.now }
 {
     is_within(text, 32) && has_name_bytes(text)
-}
-
-/// Whether a text has at least one byte, and at most so many.
-pub(crate) fn is_within(text: &[u8], most: usize) -> bool
-    ensures { result ≡ is_within most text.now }
-{
-    1 <= text.len() && text.len() <= most
 }
 
 fn has_name_bytes(text: &[u8]) -> bool
