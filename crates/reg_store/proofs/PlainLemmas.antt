@@ -58,12 +58,12 @@ fit_push dictionary old kept true one all =
     (All-append (IsFit dictionary) (map deposit_of old) (deposit_of kept ∷ []) h (one_fit dictionary (deposit_of kept) one)) in r)
 
 -- the deposit at a place
-pub fit_at : (dictionary : Entries) (kept : List Kept) (k : ℕ) (one : Kept) → ∥ All (IsFit dictionary) (map deposit_of kept) ∥₁ → k < length (map deposit_of kept) → one ≡ get_or kept k one → IsFit dictionary (deposit_of one)
-fit_at dictionary kept k one all low is =
+pub kept_is_fit : (dictionary : Entries) (kept : List Kept) (k : ℕ) (one : Kept) → ∥ All (IsFit dictionary) (map deposit_of kept) ∥₁ → k < length (map deposit_of kept) → one ≡ get_or kept k one → IsFit dictionary (deposit_of one)
+kept_is_fit dictionary kept k one all low is =
     subst (IsFit dictionary) (get_or-map deposit_of kept k one ∙ ap deposit_of (sym is)) (fit_of dictionary (map deposit_of kept) all k (deposit_of one) low)
 
-pub deposit_at : (kept : List Kept) (k : ℕ) (one : Kept) (d : Deposit) → one ≡ get_or kept k one → slice_get (map deposit_of kept) k ≡ Some d → d ≡ deposit_of one
-deposit_at kept k one d is there = sym (get_or_from_slice_get (map deposit_of kept) k d (deposit_of one) there) ∙ get_or-map deposit_of kept k one ∙ ap deposit_of (sym is)
+pub kept_is_deposit : (kept : List Kept) (k : ℕ) (one : Kept) (d : Deposit) → one ≡ get_or kept k one → slice_get (map deposit_of kept) k ≡ Some d → d ≡ deposit_of one
+kept_is_deposit kept k one d is there = sym (get_or_from_slice_get (map deposit_of kept) k d (deposit_of one) there) ∙ get_or-map deposit_of kept k one ∙ ap deposit_of (sym is)
 
 -- ---- its file
 

@@ -10,15 +10,13 @@ ghost use Rattle.reg_store.specs.PlainLaws.{few_of, fit_of};
 
 use crate::keep::{Keep, KeepError, Kept, KeptHead, KeptRow};
 use crate::rows::kept_rows;
+use crate::sql::MOST;
 use ags_check::{CheckError, Checked, check};
 use ags_dict::Dictionary;
 use ags_links::Graph;
 use ags_rows::copy;
 use reg_policy::{Day, Name, NameError};
 use std::alloc::{AllocError, Global};
-
-/// The greatest number of deposits that a register holds.
-pub(crate) const MOST: u32 = 999_999;
 
 /// A register in memory. It answers what its database twin does, and never `Store`.
 #[derive(Drop)]

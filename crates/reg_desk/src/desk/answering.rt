@@ -37,6 +37,9 @@ impl<K: Keep> Desk<K> {
     ) -> Result<Vec<Answer>, AllocError>
         ensures unasked { OnErr result (self.new ≡ self.old) }
         ensures policy { self.new.policy ≡ self.old.policy }
+        ensures dictionary { K.dictionary self.new.keep ≡ K.dictionary self.old.keep }
+        ensures limit { K.limit self.new.keep ≡ K.limit self.old.keep }
+        ensures sound { K.is_sound self.new.keep → K.is_sound self.old.keep }
         ensures count { IfOk result (λ answers. length answers.items ≡ length requests.entry.now) }
         ensures failed { IfOk result (λ answers. self.new.failed ≡ (self.old.failed || list_any is_failed answers.items)) }
         ensures stuck { self.old.failed ≡ true → IfOk result (λ answers. AreFailed (map asked requests.entry.now) answers.items × (self.new.keep ≡ self.old.keep)) }

@@ -43,6 +43,15 @@ loop-request-preserved g c =
           (λ e. subst (λ (rules : List Rule). Serves g.K.Keep rules (asked c.request-item.result) mid.keep new.keep c.answer-answer.result) was.policy (by.served e))));
     }
 
+pub returns-clause-dictionary : goal.returns-clause-dictionary
+returns-clause-dictionary g c = c.loop-request.invariant.going.same_dictionary
+
+pub returns-clause-limit : goal.returns-clause-limit
+returns-clause-limit g c = c.loop-request.invariant.going.same_limit
+
+pub returns-clause-sound : goal.returns-clause-sound
+returns-clause-sound g c = c.loop-request.invariant.going.sound
+
 pub returns-clause-failed : goal.returns-clause-failed
 returns-clause-failed g c = c.loop-request.invariant.going.flag
 
