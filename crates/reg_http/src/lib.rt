@@ -28,3 +28,6 @@ mod write;
 pub use list::serve_list;
 pub use serve::{IoFault, Served, serve_one};
 pub use tally::Tally;
+
+#[cfg(test)]
+mod tests;
