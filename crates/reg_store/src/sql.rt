@@ -1,29 +1,23 @@
 //! A keep over a database.
 
-ghost use Rattle.std.specs.Prelude.{◌≡◌, ◌≢◌, ◌≤◌, ◌⊎◌, [], pos, false, length, IfOk, IfErr, IsTrue};
+ghost use Rattle.std.specs.Prelude.{◌≡◌, ◌≤◌, pos, false, IsTrue};
 ghost use Rattle.reg_policy.specs.Days.{is_day_number};
 ghost use Rattle.reg_store.specs.Keep.{fails, is_store as store_error};
 ghost use Rattle.reg_store.specs.KeepLaws.{few_at, fit_at, settled_at, stays_at};
-ghost use Rattle.sqlite.specs.State.{HasCleanDisk, Survives};
+ghost use Rattle.sqlite.specs.State.{HasCleanDisk};
 ghost use Rattle.sqlite.specs.Held.{state};
-ghost use Rattle.ags_dict.specs.Reading.{IsDictionary};
-ghost use Rattle.reg_store.specs.Tables.{no_schema, register_schema};
-ghost use Rattle.reg_store.specs.Creates.{IsNewRegister};
 ghost use Rattle.reg_store.specs.Register.{deposits_in, LeavesList, Keeps};
 
-use crate::creating::make_register;
 use crate::keep::{Keep, KeepError, Kept, KeptHead, KeptRow};
 use crate::reading::{find_deposit, find_graph, find_head, find_lines, find_number, find_numbers};
 use crate::rows::kept_rows;
 use crate::statements::{Filed, add_file};
 use ags_check::Checked;
-use ags_dict::{DictError, Dictionary};
+use ags_dict::Dictionary;
 use ags_links::Graph;
-use ags_rows::READABLE;
 use reg_policy::{Day, Name};
 use sqlite::{Alter, Connection};
 use std::alloc::Global;
-use thiserror::Error;
 
 /// The greatest number of deposits.
 pub const MOST: u32 = 999_999;
@@ -41,72 +35,7 @@ pub struct SqlKeep<S: Alter> {
     ghost kept: { has_failed ≡ false → HasCleanDisk (state S.Store connection) → ∥ Keeps (state S.Store connection) dictionary count ∥₁ },
 }
 
-/// Why a register is not made.
-#[derive(Debug, Drop, Error)]
-pub enum CreateError {
-    /// The bytes are no dictionary.
-    #[error("not a dictionary")]
-    Dictionary(DictError),
-    /// A table of a register is there.
-    #[error("the store is not empty")]
-    NotEmpty,
-    /// The database failed: it is as it was, or holds an empty register.
-    #[error("the store failed")]
-    Store,
-    /// Memory is wanting.
-    #[error("out of memory")]
-    NoMemory,
-}
-
-fn dictionary_error(error: DictError) -> CreateError
-    ensures { result ≢ CreateError.NotEmpty }
-{
-    match error {
-        DictError::NoMemory => CreateError::NoMemory,
-        error => CreateError::Dictionary(error),
-    }
-}
-
 impl<S: Alter> SqlKeep<S> {
-    /// An empty register in a database that has no table, under the dictionary that the bytes are.
-    pub fn create_in(
-        alloc: Global,
-        mut connection: Connection<S>,
-        bytes: &[u8],
-    ) -> Result<SqlKeep<S>, (CreateError, Connection<S>)>
-        requires short { length bytes.now ≤ READABLE }
-        requires premise { HasCleanDisk (state S.Store connection) → ((state S.Store connection).now.schema ≡ no_schema) ⊎ ((state S.Store connection).now.schema ≡ register_schema) }
-        ensures empty { IfOk result (λ k. HasCleanDisk (state S.Store k.connection) → deposits_in (state S.Store k.connection).committed.trees ≡ []) }
-        ensures dictionary { IfOk result (λ k. IsDictionary bytes.now k.dictionary) }
-        ensures working { IfOk result (λ k. k.has_failed ≡ false) }
-        ensures not_empty { IfErr result (λ e. e.0 ≡ CreateError.NotEmpty → HasCleanDisk (state S.Store connection) → (state S.Store connection).now.schema ≡ register_schema) }
-        ensures made { IfOk result (λ k. Survives (state S.Store connection) (state S.Store k.connection) (λ trees. (db : _) × IsNewRegister bytes.now db × (trees ≡ db.trees))) }
-        ensures left { IfErr result (λ e. Survives (state S.Store connection) (state S.Store e.1) (λ trees. (db : _) × IsNewRegister bytes.now db × (trees ≡ db.trees))) }
-    {
-        let dictionary = match Dictionary::read(alloc, bytes) {
-            Ok(dictionary) => dictionary,
-            Err(error) => return Err((dictionary_error(error), connection)),
-        };
-        if !connection.schema().tables.is_empty() {
-            return Err((CreateError::NotEmpty, connection));
-        }
-        if !connection.is_autocommit() {
-            return Err((CreateError::Store, connection));
-        }
-        let made = make_register(&mut connection, bytes);
-        match made {
-            Ok(()) => Ok(SqlKeep {
-                connection,
-                dictionary,
-                count: 0,
-                has_failed: false,
-                alloc,
-            }),
-            Err(KeepError::NoMemory) => Err((CreateError::NoMemory, connection)),
-            Err(_) => Err((CreateError::Store, connection)),
-        }
-    }
-
     /// The connection, whose tables are the register of this list where the keep has not failed.
     pub fn into_connection(self) -> Connection<S>
         ensures connection { result ≡ self.connection }
