@@ -12,7 +12,7 @@ use Rattle.httparse.specs.declared.spans.HeaderSpan.{HeaderSpan}
 use Rattle.httparse.specs.declared.spans.RequestSpans.{RequestSpans}
 use Rattle.httparse.specs.Spans.{IsRequestAt}
 use Rattle.reg_policy.specs.declared.callers.Credential.{Credential}
-use Rattle.reg_http.specs.Agree.{is_memory}
+use Rattle.reg_http.specs.Agree.{is_want_of_memory}
 use Rattle.reg_http.specs.Asks.{Asking, ask_of, asked_of}
 use Rattle.reg_desk.specs.Asked.{Asked}
 use Rattle.reg_http.specs.Heads.{HasNoHead, HoldsHead, IsHead}
@@ -36,7 +36,7 @@ Appends-none None = tt
 Appends-none (Some xs) = sym (append-nil xs)
 
 -- the one refusal for want of memory
-memory_is : (r : Refusal) → is_memory r ≡ true → OutOfMemory ≡ r
+memory_is : (r : Refusal) → is_want_of_memory r ≡ true → OutOfMemory ≡ r
 memory_is BadHead e = cc
 memory_is NoRoute e = cc
 memory_is Method e = cc
@@ -85,8 +85,8 @@ head_of bytes left buf headers spans filled held small split =
 module _ {D : Type 0} (answers : D → Asked → Answer → D → Type 0) (callers : List Credential) (day : ℤ) where
   -- a refusal at a head, or want of memory
   at_head : (bytes : List ℕ) (d : D) (u w : Option (List ℕ)) (r : Refusal) (result : Result Served IoFault) (h : RequestHead) (rest : List ℕ)
-      → IsHead bytes h rest → (is_memory r ≡ false → ask_of callers day (head_parts h) ≡ Err r) → Written u w (rendered r) (status_of r) result
-      → (is_memory r ≡ true) ⊎ (is_memory r ≡ false) → ServesOne answers callers day bytes d d u w result
+      → IsHead bytes h rest → (is_want_of_memory r ≡ false → ask_of callers day (head_parts h) ≡ Err r) → Written u w (rendered r) (status_of r) result
+      → (is_want_of_memory r ≡ true) ⊎ (is_want_of_memory r ≡ false) → ServesOne answers callers day bytes d d u w result
   at_head bytes d u w r (Err fault.Read) h rest head agrees written memory = tt
   at_head bytes d u w r (Ok s) h rest head agrees written (inl memory) =
       let P : Refusal → Type 0 = λ x. Exchange answers callers day bytes d d (rendered x) (status_of x) in
@@ -104,7 +104,7 @@ module _ {D : Type 0} (answers : D → Asked → Answer → D → Type 0) (calle
       (d : D) (u w : Option (List ℕ)) (r : Refusal) (result : Result Served IoFault) (parts : HeadParts)
       → (held : HoldsHead buf headers spans filled) → filled ≤ 8192 → IfSome old (λ bytes. Consumes (Some bytes) left (take filled buf))
       → ((h : RequestHead) → IsRequestAt (take filled buf) headers spans h → parts ≡ head_parts h)
-      → (is_memory r ≡ false → ask_of callers day parts ≡ Err r)
+      → (is_want_of_memory r ≡ false → ask_of callers day parts ≡ Err r)
       → Written u w (rendered r) (status_of r) result
       → IfSome old (λ bytes. ServesOne answers callers day bytes d d u w result)
   serve_refused_at None left buf headers spans filled d u w r result parts held small taken reads agrees written = tt
@@ -112,7 +112,7 @@ module _ {D : Type 0} (answers : D → Asked → Answer → D → Type 0) (calle
   serve_refused_at (Some bytes) (Some rest) buf headers spans filled d u w r result parts held small taken reads agrees written =
       let head = head_of bytes rest buf headers spans filled held small taken in
       let same : parts ≡ head_parts held.head = reads held.head held.at in
-      at_head bytes d u w r result held.head _ head (λ e. ap (ask_of callers day) (sym same) ∙ agrees e) written (cases_Bool (is_memory r))
+      at_head bytes d u w r result held.head _ head (λ e. ap (ask_of callers day) (sym same) ∙ agrees e) written (cases_Bool (is_want_of_memory r))
 
   -- the request at a head, and its body
   serve_body : (bytes all : List ℕ) (old new : D) (u w : Option (List ℕ)) (h : RequestHead) (a : Asking) (result : Result Served IoFault)

@@ -20,8 +20,8 @@ pub record IsFresh {T : Type 0} (t : Tally T) : Type 0 where
   pub no_fault : has_failed t ≡ false
 
 -- one call more; the count stays at the greatest value of 64 bits
-abbrev pub one_more : ℕ → ℕ
-one_more n = min (n + 1) (2 ^ 64 - 1)
+abbrev pub one_call_more : ℕ → ℕ
+one_call_more n = min (n + 1) (2 ^ 64 - 1)
 
 -- a write failed: it answered a fault, or took no byte of some
 abbrev pub is_refused : {E : Type 0} → Result ℕ E → List ℕ → Bool

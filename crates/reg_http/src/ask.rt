@@ -4,7 +4,7 @@ ghost use Rattle.httparse.specs.Grammar.{RequestHead};
 ghost use Rattle.httparse.specs.Spans.{IsRequestAt, IsRequestWithin};
 ghost use Rattle.reg_http.specs.Agree.{Agrees};
 ghost use Rattle.reg_http.specs.Asks.{ask_kind, ask_of, body_length, caller_by, caller_in, token_in};
-ghost use Rattle.reg_http.specs.Fields.{few_at};
+ghost use Rattle.reg_http.specs.Fields.{few_seen};
 ghost use Rattle.reg_http.specs.Numbers.{length_in};
 ghost use Rattle.reg_http.specs.HeadParts.{parts_seen, head_parts, path_of, query_of, values_in};
 ghost use Rattle.reg_http.specs.Views.{asking_at, found_page, lent_caller};
@@ -63,7 +63,7 @@ pub(crate) fn head_parts<'b>(
 
 /// The values of the fields of this name.
 fn values<'b>(parts: &Parts<'b>, name: &[u8]) -> Values<'b>
-    ensures { few_at result ≡ values_in (parts_seen parts.now) name.now }
+    ensures { few_seen result ≡ values_in (parts_seen parts.now) name.now }
 {
     values_named(parts.buf, parts.fields, name)
 }
@@ -93,7 +93,7 @@ fn caller_by<'c>(callers: &'c Callers, token: Option<&[u8]>) -> Result<&'c Calle
 
 /// The caller by the Authorization fields.
 fn caller_in<'c>(callers: &'c Callers, values: Values<'_>) -> Result<&'c Caller, Refusal>
-    ensures { Agrees lent_caller (caller_in callers.now (few_at values.entry)) result }
+    ensures { Agrees lent_caller (caller_in callers.now (few_seen values.entry)) result }
 {
     match values {
         Values::One(value) => caller_by(callers, token_of(value)),
@@ -103,7 +103,7 @@ fn caller_in<'c>(callers: &'c Callers, values: Values<'_>) -> Result<&'c Caller,
 
 /// The length by the fields Transfer-Encoding and Content-Length.
 fn length_by(codings: Values<'_>, lengths: Values<'_>) -> Result<usize, Refusal>
-    ensures value { result ≡ length_in (few_at codings.entry) (few_at lengths.entry) }
+    ensures value { result ≡ length_in (few_seen codings.entry) (few_seen lengths.entry) }
     ensures limit { IfOk result (λ n. n ≤ LIMIT) }
 {
     match (codings, lengths) {

@@ -1,6 +1,6 @@
 //! The body of a request.
 ghost use Rattle.std.specs.Prelude.{◌≡◌, ◌≤◌, ◌<◌, ◌+◌, ◌++◌, ◌||◌, false, IfSome, is_none, take, Some};
-ghost use Rattle.reg_http.specs.Tallies.{inner_of, calls_of, has_failed, one_more};
+ghost use Rattle.reg_http.specs.Tallies.{inner_of, calls_of, has_failed, one_call_more};
 ghost use Rattle.std.specs.Io.KnownBytes.{Consumes, IsAtEnd};
 ghost use Rattle.reg_http.specs.Views.{ReadsBody, is_read_fault};
 
@@ -22,7 +22,7 @@ pub(crate) enum BodyFault {
 
 /// The body of this length: what came with the head, and then what the reader gives. No byte beyond it is read.
 /// Its memory grows with what comes, not with the length that is announced.
-pub(crate) fn read_body<R: Read>(
+pub(crate) fn receive_body<R: Read>(
     alloc: Global,
     reader: &mut Tally<R>,
     early: &[u8],
@@ -59,7 +59,7 @@ fn read_chunk<R: Read>(reader: &mut Tally<R>, chunk: &mut [u8; 4096], room: usiz
     ensures filled { IfSome result (λ n. (n ≤ room) × Consumes (R.remaining (inner_of reader.old)) (R.remaining (inner_of reader.new))
         (take n chunk.new)) }
     ensures at_end { result ≡ Some 0 → 0 < room → IsAtEnd (R.remaining (inner_of reader.new)) }
-    ensures calls { calls_of reader.new ≡ one_more (calls_of reader.old) }
+    ensures calls { calls_of reader.new ≡ one_call_more (calls_of reader.old) }
     ensures failed { has_failed reader.new ≡ (has_failed reader.old || is_none result) }
 {
     read_more(reader, &mut chunk[..room], 0)

@@ -1,6 +1,6 @@
 //! One read into the rest of a buffer.
 ghost use Rattle.std.specs.Prelude.{◌≡◌, ◌≤◌, ◌||◌, is_none, length};
-ghost use Rattle.reg_http.specs.Tallies.{inner_of, calls_of, has_failed, one_more};
+ghost use Rattle.reg_http.specs.Tallies.{inner_of, calls_of, has_failed, one_call_more};
 ghost use Rattle.reg_http.specs.Fills.{Fills};
 
 use crate::tally::Tally;
@@ -15,7 +15,7 @@ pub(crate) fn read_more<R: Read>(
     requires { filled ≤ length buf.old }
     ensures filled { Fills (R.remaining (inner_of reader.old)) (R.remaining (inner_of reader.new))
         buf.old buf.new filled result }
-    ensures calls { calls_of reader.new ≡ one_more (calls_of reader.old) }
+    ensures calls { calls_of reader.new ≡ one_call_more (calls_of reader.old) }
     ensures failed { has_failed reader.new ≡ (has_failed reader.old || is_none result) }
 {
     match reader.read(&mut buf[filled..]) {

@@ -29,7 +29,7 @@ pub(crate) enum HeadRead {
 }
 
 /// Reads until a head is whole, or none can come any more. Bytes behind the head may have been read with it.
-pub(crate) fn read_head<R: Read>(
+pub(crate) fn receive_head<R: Read>(
     reader: &mut Tally<R>,
     buf: &mut [u8; LONGEST_HEAD],
     headers: &mut [HeaderSpan; MOST_FIELDS],

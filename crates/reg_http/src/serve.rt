@@ -10,8 +10,8 @@ ghost use Rattle.reg_http.specs.Views.{asking_at};
 
 use crate::answer::{built_reply, fixed_reply, status_of};
 use crate::ask::{Ask, head_parts, read_ask};
-use crate::body::{BodyFault, read_body};
-use crate::head::{HeadRead, LONGEST_HEAD, MOST_FIELDS, read_head};
+use crate::body::{BodyFault, receive_body};
+use crate::head::{HeadRead, LONGEST_HEAD, MOST_FIELDS, receive_head};
 use crate::refusal::Refusal;
 use crate::request::{groups_sought, request_of};
 use crate::tally::Tally;
@@ -143,7 +143,7 @@ fn serve_asked<K: Keep, R: Read, W: Write>(
     ensures unread { IsTrue (is_read result) → (desk.new ≡ desk.old) × (writer.new ≡ writer.old) }
     ensures calls { calls_of reader.new ≤ calls_of reader.old + ask.now.length + 1 }
 {
-    let body = match read_body(alloc, reader, early, ask.length) {
+    let body = match receive_body(alloc, reader, early, ask.length) {
         Ok(body) => body,
         Err(BodyFault::Read) => return Err(IoFault::Read),
         Err(BodyFault::Short) => return refuse(writer, Refusal::ShortBody),
@@ -183,7 +183,7 @@ pub fn serve_one<K: Keep, R: Read, W: Write>(
 {
     let mut buf = [0u8; LONGEST_HEAD];
     let mut headers = [EMPTY_HEADER_SPAN; MOST_FIELDS];
-    match read_head(reader, &mut buf, &mut headers) {
+    match receive_head(reader, &mut buf, &mut headers) {
         HeadRead::Empty => Ok(Served { status: 0 }),
         HeadRead::Fault => Err(IoFault::Read),
         HeadRead::Bad => refuse(writer, Refusal::BadHead),

@@ -2,7 +2,7 @@
 ghost use Rattle.std.specs.Prelude.{◌≡◌, ◌||◌, is_err};
 ghost use Rattle.std.specs.Io.{ReadsAtMost, WritesAtMost};
 ghost use Rattle.std.specs.Io.KnownBytes.{Keeps, ReadConsumes, WriteAppends};
-ghost use Rattle.reg_http.specs.Tallies.{inner_of, calls_of, has_failed, IsFresh, one_more, is_refused};
+ghost use Rattle.reg_http.specs.Tallies.{inner_of, calls_of, has_failed, IsFresh, one_call_more, is_refused};
 
 use std::io;
 use std::io::{Read, Write};
@@ -43,7 +43,7 @@ impl<T> Tally<T> {
     }
 
     fn count(&mut self)
-        ensures calls { calls_of self.new ≡ one_more (calls_of self.old) }
+        ensures calls { calls_of self.new ≡ one_call_more (calls_of self.old) }
         ensures failed { has_failed self.new ≡ has_failed self.old }
         ensures inner { inner_of self.new ≡ inner_of self.old }
     {
@@ -60,7 +60,7 @@ impl<R: Read> Read for Tally<R> {
         ensures bound { ReadsAtMost result buf.new }
         ensures bytes { ReadConsumes (R.remaining (inner_of self.old)) (R.remaining (inner_of self.new))
             result buf.new }
-        ensures calls { calls_of self.new ≡ one_more (calls_of self.old) }
+        ensures calls { calls_of self.new ≡ one_call_more (calls_of self.old) }
         ensures failed { has_failed self.new ≡ (has_failed self.old || is_err result) }
     {
         self.count();
@@ -81,7 +81,7 @@ impl<W: Write> Write for Tally<W> {
         ensures bound { WritesAtMost result buf.now }
         ensures bytes { WriteAppends (W.contents (inner_of self.old)) (W.contents (inner_of self.new))
             result buf.now }
-        ensures calls { calls_of self.new ≡ one_more (calls_of self.old) }
+        ensures calls { calls_of self.new ≡ one_call_more (calls_of self.old) }
         ensures failed { has_failed self.new ≡ (has_failed self.old || is_refused result buf.now) }
     {
         self.count();

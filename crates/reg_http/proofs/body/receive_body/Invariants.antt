@@ -1,7 +1,7 @@
 use Rattle.std.proofs.Common.{◌-◌, ◌+◌, ◌≡◌, ◌≤◌, false, length, take, vec_len}
 use Rattle.reg_http.specs.Tallies.{calls_of, has_failed, inner_of}
 use Rattle.reg_http.proofs.BodyLemmas.{HasRead}
-use Rattle.reg_http.proofs.body.read_body.Given as goal
+use Rattle.reg_http.proofs.body.receive_body.Given as goal
 
 abbrev pub invariant-reads : goal.invariant-reads
 invariant-reads g l = record {

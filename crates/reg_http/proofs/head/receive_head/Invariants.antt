@@ -2,7 +2,7 @@ use Rattle.std.proofs.Common.{◌-◌, ◌≡◌, ◌≤◌, ◌+◌, false, ℕ
 use Rattle.std.specs.Io.KnownBytes.{Consumes}
 use Rattle.reg_http.specs.Heads.{HasNoFewRequest}
 use Rattle.reg_http.specs.Tallies.{calls_of, has_failed, inner_of}
-use Rattle.reg_http.proofs.head.read_head.Given as goal
+use Rattle.reg_http.proofs.head.receive_head.Given as goal
 
 abbrev pub invariant-reads : goal.invariant-reads
 invariant-reads g l = record {
