@@ -1,9 +1,9 @@
 -- A deposit with a receipt is held from then on, whatever a crash leaves.
-use Rattle.std.proofs.Common.{◌≡◌, ◌≢◌, ℕ, zero, suc, ◌+◌, ◌<◌, ◌≤◌, Bool, true, false, cond, Option, Some, None, List, [], ◌∷◌, ◌++◌, length, refl, sym, ap, subst, ◌∙◌, inl, inr, ◌⊎◌, arith, append_assoc, append-nil, ◌&&◌}
+use Rattle.std.proofs.Common.{◌≡◌, ◌≢◌, ℕ, zero, suc, ◌+◌, Bool, true, false, cond, Option, Some, None, List, [], ◌∷◌, ◌++◌, length, refl, sym, ap, subst, ◌∙◌, inl, inr, arith, append_assoc, append-nil, ◌&&◌}
 use Rattle.std.specs.Prelude.{ℤ, nat_lt, slice_get}
 use Rattle.std.specs.List.{AllZip}
 use Rattle.std.specs.Str.{bytes_eq}
-use Rattle.std.proofs.lemmas.Bool.{true≢false, cases_Bool}
+use Rattle.std.proofs.lemmas.Bool.{true≢false}
 use Rattle.std.proofs.lemmas.Slice.Eq.{bytes_eq-Decides}
 use Rattle.std.proofs.lemmas.Option.{same_Some}
 use Rattle.ags_rows.specs.declared.finding.Finding.{Finding}
@@ -19,7 +19,7 @@ use Rattle.reg_store.specs.declared.keep.Keep.{Ghosts}
 use Rattle.reg_desk.specs.Asked.{Asked, deposit, check, listing, extract}
 use Rattle.reg_desk.specs.declared.answer.Answer.{Answer}
 use Rattle.reg_desk.specs.declared.answer.Answer.TheVariants.{Receipt, Clean, Findings, Listing, Text, Denied, Unknown, TooLarge, Full, NoMemory, StoreFailed}
-use Rattle.reg_desk.specs.Machine.{Register, decided, Where, OrDenied, OrFound, OrRefused, first_equal, receipt_of, held, IsReply, IsTaken, IsNext}
+use Rattle.reg_desk.specs.Machine.{Register, decided, Where, OrDenied, OrFound, OrRefused, first_equal, receipt_of, held, IsReply, IsNext}
 use Rattle.reg_desk.specs.Serving.{is_failed, IsAnswer, IsAfter, AddsAsked, register_at}
 use Rattle.reg_desk.specs.Running.{AreFailed, AreAnswers, failing, IsLeft, Runs, IsHeldIn}
 use Rattle.reg_desk.proofs.Taken.{taken_received}
@@ -122,11 +122,11 @@ receipt_fields n m e f h = (cc, cc)
 -- the receipt of a deposit that is not taken is that of an equal one
 receipt_first : (register : Register) (embargo : ℤ) (count : ℕ) (first : Option (ℕ × ℤ)) (n : ℕ) (e : ℤ) → Receipt n e ≡ receipt_of register embargo count first → (Receipt n e ≢ Receipt (count + 1) embargo) → first ≡ Some (n, e)
 receipt_first register embargo count (Some was) n e h other = let f = receipt_fields n was.0 e was.1 h in ap (λ (k : ℕ). Some (k, was.1)) (sym f.0) ∙ ap (λ (x : ℤ). Some (n, x)) (sym f.1)
-receipt_first register embargo count None n e h other = full (nat_lt count register.limit) h
+receipt_first register embargo count None n e h other = absurd (full (nat_lt count register.limit) h)
   where
-    full : (t : Bool) → Receipt n e ≡ cond t (Receipt (count + 1) embargo) Full → None ≡ Some (n, e)
-    full true h = absurd (other h)
-    full false h = absurd cc
+    full : (t : Bool) → Receipt n e ≡ cond t (Receipt (count + 1) embargo) Full → ⊥
+    full true h = other h
+    full false h = cc
 
 receipt_held : (register : Register) (caller : Caller) (project : List ℕ) (embargo : ℤ) (bytes : List ℕ) (day : ℤ) (state next : List Deposit) (n : ℕ) (e : ℤ) → IsReply register state (deposit caller project embargo bytes day) (Receipt n e)
     → IsNext register state (deposit caller project embargo bytes day) next → held n next ≡ Some (record { firm = caller.firm; project = project; embargo = e; bytes = bytes })
@@ -160,10 +160,18 @@ held_then state list (check caller project bytes day) a front h = tt
 held_then state list (listing caller project day) a front h = tt
 held_then state list (extract caller project number groups day) a front h = tt
 
-held_next : (register : Register) (state next : List Deposit) (request : Asked) (a : Answer) → IsAnswer register state request a → IsAfter register state request a next → IsHeldIn next request a
+receipt_reply : (register : Register) (state : List Deposit) (request : Asked) (n : ℕ) (e : ℤ) → IsAnswer register state request (Receipt n e) → IsReply register state request (Receipt n e)
 unfolding IsAnswer
+receipt_reply register state request n e is = is
+
+receipt_next : (register : Register) (state next : List Deposit) (request : Asked) (n : ℕ) (e : ℤ) → IsAfter register state request (Receipt n e) next → IsNext register state request next
 unfolding IsAfter
-held_next register state next (deposit caller project embargo bytes day) (Receipt n e) is after = receipt_held register caller project embargo bytes day state next n e is after
+receipt_next register state next request n e after = after
+
+held_next : (register : Register) (state next : List Deposit) (request : Asked) (a : Answer) → IsAnswer register state request a → IsAfter register state request a next → IsHeldIn next request a
+held_next register state next (deposit caller project embargo bytes day) (Receipt n e) is after =
+    let request = deposit caller project embargo bytes day in
+    receipt_held register caller project embargo bytes day state next n e (receipt_reply register state request n e is) (receipt_next register state next request n e after)
 held_next register state next (deposit caller project embargo bytes day) Clean is after = tt
 held_next register state next (deposit caller project embargo bytes day) (Findings l) is after = tt
 held_next register state next (deposit caller project embargo bytes day) (Listing l) is after = tt
@@ -207,7 +215,6 @@ is_store_failed StoreFailed h = refl
 abbrev Lasts : Register → List Deposit → List Asked → List Answer → List Deposit → List Deposit → Type 0
 Lasts register state requests answers last list = IsFront state last × AllZip (IsHeldIn list) requests answers
 
-lasts : (register : Register) (state : List Deposit) (requests : List Asked) (answers : List Answer) (last list : List Deposit) → AreAnswers register state requests answers last → IsFront last list → Lasts register state requests answers last list
 lasts_step : (register : Register) (state : List Deposit) (r : Asked) (requests : List Asked) (a : Answer) (answers : List Answer) (last list : List Deposit) (t : Bool) → is_failed a ≡ t → IsAnswer register state r a → IsFront last list
     → ((next : List Deposit) → AreAnswers register next requests answers last → Lasts register next requests answers last list)
     → Where t ((last ≡ state) × AreFailed requests answers) ((next : List Deposit) × IsAfter register state r a next × AreAnswers register next requests answers last) → Lasts register state (r ∷ requests) (a ∷ answers) last list
@@ -217,6 +224,7 @@ lasts_step register state r requests a answers last list false lives is front re
     let grows = after_front register r state w.0 a lives w.1 in
     (front_then state w.0 last grows more.0, (held_then w.0 list r a (front_then w.0 last list more.0 front) (held_next register state w.0 r a is w.1), more.1))
 
+lasts : (register : Register) (state : List Deposit) (requests : List Asked) (answers : List Answer) (last list : List Deposit) → AreAnswers register state requests answers last → IsFront last list → Lasts register state requests answers last list
 lasts register state [] [] last list h front = (front_itself state last h, tt)
 lasts register state [] (a ∷ answers) last list h front = absurd h
 lasts register state (r ∷ requests) [] last list h front = absurd h

@@ -1,8 +1,7 @@
-use Rattle.std.proofs.Common.{◌≡◌, ◌∙◌, sym, ap, subst, refl, true, false, ℕ, ◌+◌, ◌<◌, ◌≤◌, List, [], ◌∷◌, ◌++◌, length, map, take, get_or, suc, arith}
+use Rattle.std.proofs.Common.{◌≡◌, ◌∙◌, sym, ap, subst, refl, ℕ, ◌+◌, List, [], ◌∷◌, ◌++◌, map, take, suc, arith}
 use Rattle.reg_policy.specs.declared.rule.Rule.{Rule}
 use Rattle.reg_desk.specs.Asked.{Asked, asked}
 use Rattle.reg_desk.specs.declared.request.Request.{Request}
-use Rattle.reg_desk.specs.declared.answer.Answer.{Answer}
 use Rattle.std.specs.List.{AllZip}
 use Rattle.std.proofs.Math.Logic.{∥∥₁_map}
 use Rattle.reg_desk.specs.Running.{AreFailed, IsHeldIn, Runs}
