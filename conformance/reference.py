@@ -394,15 +394,15 @@ def fifth_phase(groups, words):
     return found
 
 
-def findings(data, phases=5):
-    """All findings of the first of the phases that has any, in order."""
+def findings(data, phases=5, standard=None):
+    """All findings of the first of the phases that has any, in order, under the entries of a standard dictionary (the built-in one)."""
     found, rows = first_phase(lines_of(data), False)
     if not found and phases >= 2:
         found = second_phase(rows)
     if not found and phases >= 3:
         groups = cut(rows)
         found = third_phase(groups)
-        words = Dictionary(extended(built_in(), own_entries(groups))) if not found else None
+        words = Dictionary(extended(built_in() if standard is None else standard, own_entries(groups))) if not found else None
         if not found and phases >= 4:
             found = fourth_phase(groups, words)
         if not found and phases >= 5:
@@ -413,7 +413,7 @@ def findings(data, phases=5):
 def printed(found):
     out = []
     for line, code, subject in found:
-        text = "".join("?" if b < 32 or b == 127 else chr(b) for b in subject) or "-"
+        text = "".join("?" if b < 32 or b > 126 else chr(b) for b in subject) or "-"
         out.append(f"{code} {line} {text}")
     return out or ["clean"]
 

@@ -6,7 +6,7 @@ use Rattle.jiff_core.proofs.CalendarLemmas.{days_in_month_bounds}
 use Rattle.jiff.specs.Words.{IsDate, IsYear, IsBetween, days_in_month}
 use Rattle.ags_cells.specs.Bytes.{hyphen}
 use Rattle.ags_cells.specs.Parts.{two_digits, four_digits}
-use Rattle.ags_cells.specs.Times.{Day}
+use Rattle.ags_cells.specs.Times.{CalendarDay}
 use Rattle.ags_cells.specs.Readers.{◌>>=◌, after_mark, read_two, has_day, after_day}
 use Rattle.ags_cells.proofs.Strips.{Strips, Anything, mark}
 use Rattle.ags_cells.proofs.PartReaders.{two_sound, two_complete}
@@ -93,7 +93,7 @@ year_sound c t r e =
     let (m, d, sm, sd, ok, rest) = month_sound (100 * c + p.0) q r g in
     (p.0, m, d, small, ok, split ∙ ap (λ z. two_digits p.0 ++ z) (mark_gives hyphen p.1 q marked ∙ ap (λ z. hyphen ∷ z) rest))
 
-day_sound : (t r : List ℕ) → after_day t ≡ Some r → (a : List ℕ) × (t ≡ a ++ r) × Day a
+day_sound : (t r : List ℕ) → after_day t ≡ Some r → (a : List ℕ) × (t ≡ a ++ r) × CalendarDay a
 unfolding after_day
 day_sound t r e =
     let (p, is, f) = invert (read_two t) (λ c. day_year c.0 c.1) r e in
@@ -112,13 +112,13 @@ day_sound t r e =
 small_parts : (y m d n : ℕ) → n ≤ 31 → InMonth m d n → (m < 100) × (d < 100)
 small_parts y m d n h w = (omega arith, omega arith)
 
-day_complete : (a r : List ℕ) → Day a → Anything r → after_day (a ++ r) ≡ Some r
+day_complete : (a r : List ℕ) → CalendarDay a → Anything r → after_day (a ++ r) ≡ Some r
 day_complete a r (y, m, d, hy, date, split) stop =
     let ok = (has_day_Decides y m d hy).1 date in
     let (sm, sd) = small_parts y m d (days_in_month (pos y) m) ((days_in_month_bounds (pos y) m).0) (month_from m d (days_in_month (pos y) m) date.1 date.2) in
     rw split (day_there y m d r hy sm sd ok)
 
-pub day : Strips after_day Day Anything
+pub day : Strips after_day CalendarDay Anything
 day = record {
   sound = day_sound;
   complete = day_complete;

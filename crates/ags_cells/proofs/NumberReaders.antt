@@ -2,9 +2,9 @@
 use Rattle.std.proofs.Common.{◌≡◌, ℕ, Bool, false, List, [], ◌++◌, Some, refl, inl, inr, append_assoc, arith}
 use Rattle.std.proofs.lemmas.Bool.Decides.{nat_tests}
 use Rattle.std.specs.Char.{is_ascii_digit}
-use Rattle.ags_cells.specs.Bytes.{point, colon, capital_e, small_e, IsDigit}
+use Rattle.ags_cells.specs.Bytes.{decimal_point, colon, capital_e, small_e, IsDigit}
 use Rattle.ags_cells.specs.Parts.{◌⨾◌, Optional, Empty, Mark, Digits, DigitsOf, Sign, TwoDigits}
-use Rattle.ags_cells.specs.Numbers.{Places, Fraction, Exponent, ExponentMark, Sixtieth}
+use Rattle.ags_cells.specs.Numbers.{PlacesAfterPoint, Fraction, Exponent, ExponentMark, Sixtieth}
 use Rattle.ags_cells.specs.Readers.{◌>>=◌, if_any, after_sign, after_digits, after_some_digits, after_fraction, after_places, after_exponent, after_sixtieth, after_decimal, after_moisture, after_significant, after_scientific, after_angle}
 use Rattle.ags_cells.proofs.Strips.{Strips, NotFirst, is_sign, seq, sign}
 use Rattle.ags_cells.proofs.PartReaders.{Leads, Passes, leads_mark, leads_seq, passes_optional, leads_digits, is_digit_or_point, not_digit, digits, some_digits, fraction, places, exponent, any, sixtieth}
@@ -15,12 +15,12 @@ not_sign c d = grind (arith, nat_tests)
 leads_exponent : (p : ℕ → Bool) → p capital_e ≡ false → p small_e ≡ false → Leads p Exponent
 leads_exponent p e f = leads_seq p ExponentMark _ (λ a r m. elim m [ inl x ↦ rw x e | inr x ↦ rw x f ])
 
-passes_fraction : (p : ℕ → Bool) → p point ≡ false → Passes p Fraction
-passes_fraction p e = passes_optional p _ (leads_seq p (Mark point) Digits (leads_mark p point e))
+passes_fraction : (p : ℕ → Bool) → p decimal_point ≡ false → Passes p Fraction
+passes_fraction p e = passes_optional p _ (leads_seq p (Mark decimal_point) Digits (leads_mark p decimal_point e))
 
-passes_places : (p : ℕ → Bool) → p point ≡ false → (n : ℕ) → Passes p (Places n)
+passes_places : (p : ℕ → Bool) → p decimal_point ≡ false → (n : ℕ) → Passes p (PlacesAfterPoint n)
 passes_places p e n a r (inl x) stop = rw x.1 stop
-passes_places p e n a r (inr x) stop = leads_seq p (Mark point) (DigitsOf n n) (leads_mark p point e) a r x.1
+passes_places p e n a r (inr x) stop = leads_seq p (Mark decimal_point) (DigitsOf n n) (leads_mark p decimal_point e) a r x.1
 
 -- digits come first, and no sign
 signless : (Q : List ℕ → Type 0) → Leads is_sign (Digits ⨾ Q)
@@ -29,11 +29,11 @@ signless Q = leads_seq is_sign Digits Q (λ a r d. leads_digits is_sign not_sign
 signless_of : (high : ℕ) (Q : List ℕ → Type 0) → Leads is_sign (DigitsOf 1 high ⨾ Q)
 signless_of high Q = leads_seq is_sign (DigitsOf 1 high) Q (λ a r d. leads_digits is_sign not_sign a r d.0 d.2)
 
-pub decimal : (n : ℕ) → Strips (after_decimal n) (Optional Sign ⨾ Digits ⨾ Places n) (NotFirst is_ascii_digit)
+pub decimal : (n : ℕ) → Strips (after_decimal n) (Optional Sign ⨾ Digits ⨾ PlacesAfterPoint n) (NotFirst is_ascii_digit)
 unfolding after_decimal
 decimal n = seq (λ t. Some (after_sign t)) (λ t. after_some_digits t >>= after_places n) sign
     (seq after_some_digits (after_places n) some_digits (places n) (passes_places is_ascii_digit refl n))
-    (λ a r q stop. signless (Places n) a r q)
+    (λ a r q stop. signless (PlacesAfterPoint n) a r q)
 
 pub moisture : Strips after_moisture (Optional Sign ⨾ Digits ⨾ Fraction) (NotFirst is_digit_or_point)
 unfolding after_moisture
@@ -61,13 +61,13 @@ significant = seq (λ t. Some (after_sign t)) (λ t. after_some_digits t >>= (λ
     (λ a r q stop. passes_end is_ascii_digit _ (passes_seq is_ascii_digit Fraction _ (passes_fraction is_ascii_digit refl) (passes_exponent is_ascii_digit refl refl)) a r q stop))
     (λ a r q stop. signless _ a r q)
 
-pub scientific : (n : ℕ) → Strips (after_scientific n) (Optional Sign ⨾ DigitsOf 1 1 ⨾ Places n ⨾ Exponent) (NotFirst is_ascii_digit)
+pub scientific : (n : ℕ) → Strips (after_scientific n) (Optional Sign ⨾ DigitsOf 1 1 ⨾ PlacesAfterPoint n ⨾ Exponent) (NotFirst is_ascii_digit)
 unfolding after_scientific
 scientific n = seq (λ t. Some (after_sign t)) (λ t. after_digits 1 1 t >>= (λ u. after_places n u >>= after_exponent)) sign
     (seq (after_digits 1 1) (λ u. after_places n u >>= after_exponent) (digits 1 1)
     (seq (after_places n) after_exponent (places n) exponent
     (λ a r q stop. leads_exponent is_ascii_digit refl refl a r q))
-    (λ a r q stop. passes_seq is_ascii_digit (Places n) Exponent (passes_places is_ascii_digit refl n) (λ b s w _. leads_exponent is_ascii_digit refl refl b s w) a r q stop))
+    (λ a r q stop. passes_seq is_ascii_digit (PlacesAfterPoint n) Exponent (passes_places is_ascii_digit refl n) (λ b s w _. leads_exponent is_ascii_digit refl refl b s w) a r q stop))
     (λ a r q stop. signless_of 1 _ a r q)
 
 pub leads_sixtieth : (Q : List ℕ → Type 0) → Leads is_ascii_digit (Sixtieth ⨾ Q)

@@ -7,9 +7,9 @@ use Rattle.std.proofs.lemmas.List.Sums.{prefix_len-le-length, prefix_len_passes}
 use Rattle.std.proofs.Math.Seq.{drop-append_seam}
 use Rattle.std.specs.List.{All, prefix_len}
 use Rattle.std.specs.Char.{is_ascii_digit}
-use Rattle.ags_cells.specs.Bytes.{point, colon, capital_e, small_e, digit, IsDigit}
+use Rattle.ags_cells.specs.Bytes.{decimal_point, colon, capital_e, small_e, digit, IsDigit}
 use Rattle.ags_cells.specs.Parts.{◌⨾◌, Optional, Empty, Mark, Digits, DigitsOf, Sign, two_digits, TwoDigits}
-use Rattle.ags_cells.specs.Numbers.{Places, Fraction, Exponent, ExponentMark, Sixtieth}
+use Rattle.ags_cells.specs.Numbers.{PlacesAfterPoint, Fraction, Exponent, ExponentMark, Sixtieth}
 use Rattle.ags_cells.specs.Readers.{◌>>=◌, after_sign, after_mark, after_digits, after_some_digits, fraction_after, after_fraction, after_places, after_exponent_mark, after_exponent, if_any, read_two, after_two_digits, after_sixtieth}
 use Rattle.ags_cells.proofs.Strips.{Strips, NotFirst, Anything, is_sign, is_digit_yes, is_digit_tells, seq, sign, mark}
 
@@ -86,22 +86,22 @@ some_digits = record {
 }
 
 abbrev pub is_digit_or_point : ℕ → Bool
-is_digit_or_point c = is_ascii_digit c || eqb c point
+is_digit_or_point c = is_ascii_digit c || eqb c decimal_point
 
 -- a text that begins with no byte of two tests begins with none of either
 pub not_digit : (r : List ℕ) → NotFirst is_digit_or_point r → NotFirst is_ascii_digit r
 not_digit [] h = tt
 not_digit (c ∷ cs) h = grind (arith, nat_tests)
 
-not_point : (r : List ℕ) → NotFirst is_digit_or_point r → after_mark point r ≡ None
+not_point : (r : List ℕ) → NotFirst is_digit_or_point r → after_mark decimal_point r ≡ None
 unfolding after_mark
 not_point [] h = refl
 not_point (c ∷ cs) h = grind (arith, nat_tests)
 
-fraction_sound : (t r : List ℕ) (o : Option (List ℕ)) → after_mark point t ≡ o → fraction_after t o ≡ Some r → (a : List ℕ) × (t ≡ a ++ r) × Fraction a
+fraction_sound : (t r : List ℕ) (o : Option (List ℕ)) → after_mark decimal_point t ≡ o → fraction_after t o ≡ Some r → (a : List ℕ) × (t ≡ a ++ r) × Fraction a
 fraction_sound t r None e f = let g : t ≡ r = cc in ([], g, inl refl)
 fraction_sound t r (Some m) e f =
-    let (a, ta, pa) = (mark point).sound t m e in
+    let (a, ta, pa) = (mark decimal_point).sound t m e in
     let (b, mb, qb) = some_digits.sound m r f in
     (a ++ b, ta ∙ ap (λ x. a ++ x) mb ∙ sym (append_assoc a b r), inr (a, b, refl, pa, qb))
 
@@ -109,18 +109,18 @@ fraction_complete : (a r : List ℕ) → Fraction a → NotFirst is_digit_or_poi
 unfolding after_fraction
 fraction_complete a r (inl e) stop = rw (e, not_point r stop)
 fraction_complete c r (inr (a, b, split, pa, qb)) stop =
-    let e : after_mark point (c ++ r) ≡ Some (b ++ r) =
-    ap (after_mark point) (ap (λ x. x ++ r) split ∙ append_assoc a b r) ∙ (mark point).complete a (b ++ r) pa tt in
+    let e : after_mark decimal_point (c ++ r) ≡ Some (b ++ r) =
+    ap (after_mark decimal_point) (ap (λ x. x ++ r) split ∙ append_assoc a b r) ∙ (mark decimal_point).complete a (b ++ r) pa tt in
     rw e (some_digits.complete b r qb (not_digit r stop))
 
 pub fraction : Strips after_fraction Fraction (NotFirst is_digit_or_point)
 unfolding after_fraction
-fraction = record { sound = λ t r e. fraction_sound t r (after_mark point t) refl e; complete = fraction_complete }
+fraction = record { sound = λ t r e. fraction_sound t r (after_mark decimal_point t) refl e; complete = fraction_complete }
 
-pub places : (n : ℕ) → Strips (after_places n) (Places n) (NotFirst is_ascii_digit)
+pub places : (n : ℕ) → Strips (after_places n) (PlacesAfterPoint n) (NotFirst is_ascii_digit)
 unfolding after_places
 places n =
-    let point = seq (after_mark point) (after_digits n n) (mark point) (digits n n) (λ a r q stop. tt) in
+    let decimals = seq (after_mark decimal_point) (after_digits n n) (mark decimal_point) (digits n n) (λ a r q stop. tt) in
     elim (eqb_tells n 0) [
       | inl z ↦ record {
         sound = λ t r e. let f : Some t ≡ Some r = rw z.0 at e in let g : t ≡ r = cc in ([], g, inl (z.1, refl));
@@ -130,10 +130,10 @@ places n =
         ];
       }
       | inr s ↦ record {
-        sound = λ t r e. let (a, ta, pa) = point.sound t r (rw s.0 at e) in (a, ta, inr (omega (arith, s.1), pa));
+        sound = λ t r e. let (a, ta, pa) = decimals.sound t r (rw s.0 at e) in (a, ta, inr (omega (arith, s.1), pa));
         complete = λ a r p stop. elim p [
           | inl w ↦ absurd (s.1 w.0)
-          | inr w ↦ rw s.0 (point.complete a r w.1 stop)
+          | inr w ↦ rw s.0 (decimals.complete a r w.1 stop)
         ];
       }
     ]

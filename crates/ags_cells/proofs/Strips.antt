@@ -3,7 +3,7 @@ use Rattle.std.proofs.Common.{◌≡◌, ℕ, Bool, true, false, cond, eqb, ◌|
 use Rattle.std.proofs.lemmas.Bool.{false≢true}
 use Rattle.std.proofs.lemmas.Bool.Decides.{eqb_tells, nat_tests}
 use Rattle.std.specs.Char.{is_ascii_digit}
-use Rattle.ags_cells.specs.Bytes.{plus, hyphen, IsDigit}
+use Rattle.ags_cells.specs.Bytes.{plus_sign, hyphen, IsDigit}
 use Rattle.ags_cells.specs.Parts.{◌⨾◌, Optional, Mark, Sign}
 use Rattle.ags_cells.specs.Readers.{◌>>=◌, then_rest, is_empty, after_sign, after_mark}
 
@@ -55,10 +55,10 @@ abbrev pub Anything : List ℕ → Type 0
 Anything t = Unit {0}
 
 abbrev pub is_sign : ℕ → Bool
-is_sign c = eqb c plus || eqb c hyphen
+is_sign c = eqb c plus_sign || eqb c hyphen
 
 sign_sound : (c : ℕ) (cs r : List ℕ) → cond (is_sign c) cs (c ∷ cs) ≡ r → (a : List ℕ) × (c ∷ cs ≡ a ++ r) × Optional Sign a
-sign_sound c cs r e = elim (eqb_tells c plus) [
+sign_sound c cs r e = elim (eqb_tells c plus_sign) [
   | inl y ↦ (c ∷ [], ap (λ x. c ∷ x) (rw y.0 at e), inr (inl (ap (λ x. x ∷ []) y.1)))
   | inr n ↦ elim (eqb_tells c hyphen) [
     | inl y ↦ (c ∷ [], ap (λ x. c ∷ x) (rw (n.0, y.0) at e), inr (inr (ap (λ x. x ∷ []) y.1)))

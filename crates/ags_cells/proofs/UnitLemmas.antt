@@ -3,7 +3,7 @@ use Rattle.std.proofs.Common.{◌≡◌, ◌≢◌, ℕ, ◌==◌, length, Bool,
 use Rattle.std.proofs.lemmas.Bool.Decides.{Decides-like, Decides-at}
 use Rattle.std.proofs.lemmas.Bool.{false≢true}
 use Rattle.std.specs.Str.{bytes_eq}
-use Rattle.ags_cells.specs.Times.{Year, Month, Day, ClockMinutes, ClockSeconds, DayWith, FitsUnit}
+use Rattle.ags_cells.specs.Times.{Year, Month, CalendarDay, ClockMinutes, ClockSeconds, DayWith, FitsUnit}
 use Rattle.ags_cells.specs.Fits.{Fits, IsEntryOf}
 use Rattle.ags_cells.specs.TimeUnits.{IsListedUnit, IsUnitOf}
 use Rattle.ags_cells.specs.declared.time_unit.TimeUnit.{TimeUnit}
@@ -49,7 +49,7 @@ same_unit t Units.Other v is h = absurd (is v h)
 abbrev pub IsUnderUnit : (M S : List ℕ → Type 0) → TimeUnit → List ℕ → Type 0
 IsUnderUnit M S Units.Year text = Year text
 IsUnderUnit M S Units.Month text = Month text
-IsUnderUnit M S Units.Day text = Day text
+IsUnderUnit M S Units.Day text = CalendarDay text
 IsUnderUnit M S Units.DayMinutes text = DayWith ClockMinutes text
 IsUnderUnit M S Units.DaySeconds text = DayWith ClockSeconds text
 IsUnderUnit M S Units.Minutes text = M text

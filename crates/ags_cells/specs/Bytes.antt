@@ -1,14 +1,14 @@
 -- The bytes that cells are written in, by name. They are ASCII (Rule 1).
 use Rattle.std.specs.Prelude.{ℕ, ◌+◌, ◌≤◌}
 
-abbrev pub plus : ℕ
-plus = 43
+abbrev pub plus_sign : ℕ
+plus_sign = 43
 
 abbrev pub hyphen : ℕ
 hyphen = 45
 
-abbrev pub point : ℕ
-point = 46
+abbrev pub decimal_point : ℕ
+decimal_point = 46
 
 abbrev pub colon : ℕ
 colon = 58

@@ -1,15 +1,15 @@
 -- How numbers and angles are written (Rule 8). The standard leaves the spelling open: this is the profile's.
 use Rattle.std.specs.Prelude.{◌≡◌, ◌⊎◌, ℕ, ◌<◌, List}
-use Rattle.ags_cells.specs.Bytes.{point, colon, capital_e, small_e}
+use Rattle.ags_cells.specs.Bytes.{decimal_point, colon, capital_e, small_e}
 use Rattle.ags_cells.specs.Parts.{◌⨾◌, Empty, Optional, Mark, Sign, Digits, DigitsOf, TwoDigits}
 
 -- for n above 0 a point and exactly n digits, and nothing for n = 0
-abbrev pub Places : ℕ → List ℕ → Type 0
-Places n text = ((n ≡ 0) × Empty text) ⊎ ((0 < n) × (Mark point ⨾ DigitsOf n n) text)
+abbrev pub PlacesAfterPoint : ℕ → List ℕ → Type 0
+PlacesAfterPoint n text = ((n ≡ 0) × Empty text) ⊎ ((0 < n) × (Mark decimal_point ⨾ DigitsOf n n) text)
 
 -- optionally a point and digits
 abbrev pub Fraction : List ℕ → Type 0
-Fraction = Optional (Mark point ⨾ Digits)
+Fraction = Optional (Mark decimal_point ⨾ Digits)
 
 -- `E` or `e`
 abbrev pub ExponentMark : List ℕ → Type 0
@@ -21,7 +21,7 @@ Exponent = ExponentMark ⨾ Optional Sign ⨾ DigitsOf 1 3
 
 -- nDP: optionally a sign, digits, n places
 abbrev pub Decimal : ℕ → List ℕ → Type 0
-Decimal n = Optional Sign ⨾ Digits ⨾ Places n
+Decimal n = Optional Sign ⨾ Digits ⨾ PlacesAfterPoint n
 
 -- nSF: optionally a sign, digits, optionally a point and digits, optionally an exponent. How many figures there are plays no part
 abbrev pub Significant : List ℕ → Type 0
@@ -29,7 +29,7 @@ Significant = Optional Sign ⨾ Digits ⨾ Fraction ⨾ Optional Exponent
 
 -- nSCI: optionally a sign, one digit, n places, an exponent
 abbrev pub Scientific : ℕ → List ℕ → Type 0
-Scientific n = Optional Sign ⨾ DigitsOf 1 1 ⨾ Places n ⨾ Exponent
+Scientific n = Optional Sign ⨾ DigitsOf 1 1 ⨾ PlacesAfterPoint n ⨾ Exponent
 
 -- MC: optionally a sign, digits, optionally a point and digits
 abbrev pub Moisture : List ℕ → Type 0

@@ -1,7 +1,7 @@
 -- Sets of texts, and the parts that the texts of a cell are joined from. A set is a fact about a text.
 use Rattle.std.specs.Prelude.{◌≡◌, ◌⊎◌, ℕ, ◌/◌, ◌%◌, ◌≤◌, List, [], ◌∷◌, ◌++◌, length}
 use Rattle.std.specs.List.{All}
-use Rattle.ags_cells.specs.Bytes.{plus, hyphen, digit, IsDigit}
+use Rattle.ags_cells.specs.Bytes.{plus_sign, hyphen, digit, IsDigit}
 
 infixr 20 ◌⨾◌
 -- a text of P and, right after it, one of Q
@@ -22,7 +22,7 @@ Mark byte text = text ≡ byte ∷ []
 
 -- `+` or `-`
 abbrev pub Sign : List ℕ → Type 0
-Sign text = Mark plus text ⊎ Mark hyphen text
+Sign text = Mark plus_sign text ⊎ Mark hyphen text
 
 -- one digit or more
 abbrev pub Digits : List ℕ → Type 0

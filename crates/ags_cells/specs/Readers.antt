@@ -4,7 +4,7 @@ use Rattle.std.specs.Prelude.{ℕ, ◌+◌, ◌-◌, ◌*◌, Bool, true, false,
 use Rattle.std.specs.List.{prefix_len}
 use Rattle.std.specs.Char.{is_ascii_digit}
 use Rattle.jiff.specs.Words.{days_in_month}
-use Rattle.ags_cells.specs.Bytes.{plus, hyphen, point, colon, capital_e, small_e, capital_t, digit}
+use Rattle.ags_cells.specs.Bytes.{plus_sign, hyphen, decimal_point, colon, capital_e, small_e, capital_t, digit}
 use Rattle.ags_cells.specs.declared.time_unit.TimeUnit.{TimeUnit}
 use Rattle.ags_cells.specs.declared.time_unit.TimeUnit.TheVariants as Units
 
@@ -30,7 +30,7 @@ if_any reader (byte ∷ rest) = reader (byte ∷ rest)
 
 unfoldable pub after_sign : List ℕ → List ℕ
 after_sign [] = []
-after_sign (byte ∷ rest) = if (byte == plus) || (byte == hyphen) then rest else byte ∷ rest
+after_sign (byte ∷ rest) = if (byte == plus_sign) || (byte == hyphen) then rest else byte ∷ rest
 
 unfoldable pub after_mark : ℕ → List ℕ → Option (List ℕ)
 after_mark mark [] = None
@@ -51,10 +51,10 @@ fraction_after text None = Some text
 fraction_after text (Some rest) = after_some_digits rest
 
 unfoldable pub after_fraction : List ℕ → Option (List ℕ)
-after_fraction text = fraction_after text (after_mark point text)
+after_fraction text = fraction_after text (after_mark decimal_point text)
 
 unfoldable pub after_places : ℕ → List ℕ → Option (List ℕ)
-after_places n text = if n == 0 then Some text else (after_mark point text >>= after_digits n n)
+after_places n text = if n == 0 then Some text else (after_mark decimal_point text >>= after_digits n n)
 
 unfoldable pub after_exponent_mark : List ℕ → Option (List ℕ)
 after_exponent_mark [] = None

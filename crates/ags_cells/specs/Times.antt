@@ -15,8 +15,8 @@ abbrev pub Month : List ℕ → Type 0
 Month = Year ⨾ Mark hyphen ⨾ TwoDigits 1 12
 
 -- `yyyy-mm-dd`: a day that the Gregorian calendar has
-abbrev pub Day : List ℕ → Type 0
-Day text = (year : ℕ) × (month : ℕ) × (day : ℕ) × (year < 10000) × IsDate (pos year) (pos month) (pos day)
+abbrev pub CalendarDay : List ℕ → Type 0
+CalendarDay text = (year : ℕ) × (month : ℕ) × (day : ℕ) × (year < 10000) × IsDate (pos year) (pos month) (pos day)
     × (text ≡ four_digits year ++ hyphen ∷ two_digits month ++ hyphen ∷ two_digits day)
 
 -- `hh:mm` of a day: hours 00 to 23, minutes 00 to 59
@@ -37,13 +37,13 @@ ElapsedSeconds = DigitsOf 2 4 ⨾ Sixtieth ⨾ Sixtieth
 
 -- a day, optionally followed by `T` and a time of day: under a unit of date and time a date alone fits
 abbrev pub DayWith : (List ℕ → Type 0) → List ℕ → Type 0
-DayWith Time = Day ⨾ Optional (Mark capital_t ⨾ Time)
+DayWith Time = CalendarDay ⨾ Optional (Mark capital_t ⨾ Time)
 
 -- the texts under a unit, where Minutes and Seconds are those of `hh:mm` and `hh:mm:ss`. Under any other unit every text is one
 pub record FitsUnit (Minutes Seconds : List ℕ → Type 0) (unit text : List ℕ) : Type 0 where
   pub year : unit ≡ codes "yyyy" → Year text
   pub month : unit ≡ codes "yyyy-mm" → Month text
-  pub day : unit ≡ codes "yyyy-mm-dd" → Day text
+  pub day : unit ≡ codes "yyyy-mm-dd" → CalendarDay text
   pub day_minutes : unit ≡ codes "yyyy-mm-ddThh:mm" → DayWith ClockMinutes text
   pub day_seconds : unit ≡ codes "yyyy-mm-ddThh:mm:ss" → DayWith ClockSeconds text
   pub minutes : unit ≡ codes "hh:mm" → Minutes text

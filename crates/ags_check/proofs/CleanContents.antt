@@ -1,11 +1,11 @@
 -- A file without findings in the rows keeps the rules of contents where it has no finding at all.
 use Rattle.std.proofs.Common.{◌≡◌, List, [], ◌∷◌, refl, ap, subst, ◌∙◌, inr}
 use Rattle.std.specs.Prelude.{ℕ}
-use Rattle.ags_rows.specs.declared.codes.Finding.{Finding}
+use Rattle.ags_rows.specs.declared.finding.Finding.{Finding}
 use Rattle.ags_rows.specs.declared.rows.Group.{Group}
 use Rattle.ags_rows.specs.Collecting.{OneOf}
 use Rattle.ags_rows.specs.Contents.{contents_of}
-use Rattle.ags_rows.specs.Findings.{File, FirstFound, FileGroups}
+use Rattle.ags_rows.specs.Findings.{FileParts, FirstFound, FileGroups}
 use Rattle.ags_rows.specs.Stands.{StandsInLines, StandsInOrder, StandsInGroups}
 use Rattle.ags_rows.proofs.Once.{same_file}
 use Rattle.ags_rows.proofs.WellFormed.{clear_first}
@@ -25,7 +25,7 @@ clear_headers given entries groups = (headers_kept given entries groups, headers
 pub clear_rows : ClearRows
 clear_rows entries groups = (rows_kept entries groups, rows_clear entries groups)
 
-last_phases : (file : File) (later : List (Finding → Type 0)) → FirstFound (StandsInLines file.lines ∷ StandsInOrder file.rows ∷ StandsInGroups file.groups ∷ later) [] → FirstFound later []
+last_phases : (file : FileParts) (later : List (Finding → Type 0)) → FirstFound (StandsInLines file.lines ∷ StandsInOrder file.rows ∷ StandsInGroups file.groups ∷ later) [] → FirstFound later []
 last_phases file later h =
     let a = clear_first (StandsInLines file.lines) (StandsInOrder file.rows ∷ StandsInGroups file.groups ∷ later) h in
     let b = clear_first (StandsInOrder file.rows) (StandsInGroups file.groups ∷ later) a.1 in
@@ -41,7 +41,7 @@ pub clean_keeps : (given : Entries) (bytes : List ℕ) (groups : List Group) →
 clean_keeps given bytes groups read found =
     let last = last_phases found.0 (dictionary_phases given (extended given (contents_of found.0.groups)) found.0.groups) found.2 in
     let kept = phases_kept given (extended given (contents_of found.0.groups)) found.0.groups last in
-    let same : found.0.groups ≡ groups = ap (λ (file : File). file.groups) (same_file bytes found.0 read.0 found.1 read.1) ∙ read.4 in
+    let same : found.0.groups ≡ groups = ap (λ (file : FileParts). file.groups) (same_file bytes found.0 read.0 found.1 read.1) ∙ read.4 in
     subst (λ (g : List Group). KeepsRules given (contents_of g)) same kept
 
 pub keeps_clean : (given : Entries) (bytes : List ℕ) (groups : List Group) → FileGroups bytes groups → KeepsRules given (contents_of groups) → Findings given bytes []

@@ -5,15 +5,16 @@ use Rattle.std.specs.List.{list_any}
 use Rattle.std.specs.Str.{bytes_eq}
 use Rattle.std.proofs.lemmas.Bool.{true≢false, cond-true, cond-false}
 use Rattle.std.proofs.lemmas.Option.{none-some, same_Some, slice_get-map}
-use Rattle.ags_rows.specs.declared.codes.Code.TheVariants.{Rule9, Rule18}
+use Rattle.ags_rows.specs.declared.code.Code.TheVariants.{Rule9, Rule18}
 use Rattle.ags_rows.specs.declared.rows.Group.{Group}
 use Rattle.ags_rows.specs.Collecting.{At}
 use Rattle.ags_rows.specs.Contents.{Contents, group_contents, contents_of, place_in}
 use Rattle.ags_dict.specs.Entries.{Entries, parent_of, is_dict}
 use Rattle.ags_check.specs.Header.{HasGroup, LacksParentGroup}
 use Rattle.ags_check.specs.HeaderPhase.{unknown_code}
-use Rattle.ags_check.proofs.Naming.{contains_at, at_contained}
-use Rattle.ags_check.proofs.HeaderRules.{placed, has_place, place_of}
+use Rattle.ags_rows.proofs.AtPlaces.{contains_at, at_contained}
+use Rattle.ags_links.proofs.Heading.{placed, place_of}
+use Rattle.ags_check.proofs.HeaderRules.{has_place}
 
 -- ---- places in a list, and in what is made of it
 
@@ -56,18 +57,6 @@ named groups name = (
     | inr none ↦ absurd (placed (map name_of groups) name (name_contained groups name h) none)
   ],
 )
-
--- ---- the code of what the dictionary does not know
-
-dict_among : (groups : List Group) → list_any (λ group. bytes_eq group.name (codes "DICT")) groups ≡ list_any is_dict (map group_contents groups)
-dict_among [] = refl
-dict_among (g ∷ groups) = ap (λ (b : Bool). bytes_eq g.name (codes "DICT") || b) (dict_among groups)
-
-pub code_nine : (groups : List Group) (b : Bool) → b ≡ list_any (λ group. bytes_eq group.name (codes "DICT")) groups → b ≡ true → Rule9 ≡ unknown_code (contents_of groups)
-code_nine groups b is e = sym (cond-true (list_any is_dict (map group_contents groups)) Rule9 Rule18 (sym (dict_among groups) ∙ sym is ∙ e))
-
-pub code_eighteen : (groups : List Group) (b : Bool) → b ≡ list_any (λ group. bytes_eq group.name (codes "DICT")) groups → b ≡ false → Rule18 ≡ unknown_code (contents_of groups)
-code_eighteen groups b is e = sym (cond-false (list_any is_dict (map group_contents groups)) Rule9 Rule18 (sym (dict_among groups) ∙ sym is ∙ e))
 
 -- ---- the parent group
 

@@ -8,41 +8,25 @@ use Rattle.std.proofs.lemmas.List.Sums.{fails_before_first}
 use Rattle.std.proofs.lemmas.List.Quantifiers.{position-Some}
 use Rattle.std.proofs.lemmas.Option.{none-some}
 use Rattle.std.proofs.lemmas.Slice.Eq.{bytes_eq-Decides}
-use Rattle.ags_rows.specs.declared.codes.Code.{Code}
-use Rattle.ags_rows.specs.declared.codes.Finding.{Finding}
+use Rattle.ags_rows.specs.declared.code.Code.{Code}
+use Rattle.ags_rows.specs.declared.finding.Finding.{Finding}
 use Rattle.ags_rows.specs.declared.rows.Group.{Group}
 use Rattle.ags_rows.specs.Collecting.{At, Adds}
 use Rattle.ags_rows.specs.Contents.{place_in, group_contents}
 use Rattle.ags_dict.specs.Entries.{Entries, order_of, keys_of, required_of}
+use Rattle.ags_links.proofs.Heading.{placed, place_of, at_place}
 use Rattle.ags_check.specs.Header.{IsUnknownHeading, IsOvertaken, IsMisplaced, LacksKey, LacksRequired, IsMisnamed}
 use Rattle.ags_check.specs.HeaderSteps.{IsMisnamedBy}
 use Rattle.ags_check.specs.Placing.{AtNames, AtHeading}
-use Rattle.ags_check.proofs.Naming.{contains_at, at_contained, at_heading}
+use Rattle.ags_rows.proofs.AtPlaces.{contains_at, at_contained}
+use Rattle.ags_check.proofs.Naming.{at_heading}
 
 -- ---- whether a name has a place
-
--- a name of the list has a place
-pub placed : (names : List (List ℕ)) (name : List ℕ) → Contains names name → place_in names name ≡ None → ⊥
-placed names name h none =
-    let test : List ℕ → Bool = λ n. bytes_eq n name in
-    elim (cases_lt h.0 (position_or_len test names)) [
-      | inl lt ↦
-          let fails : bytes_eq (get_or names h.0 name) name ≡ false = fails_before_first test names h.0 name lt in
-          true≢false (sym ((bytes_eq-Decides (get_or names h.0 name) name).1 h.2) ∙ fails)
-      | inr le ↦
-          let found : ltb (position_or_len test names) (length names) ≡ true = lt-ltb (position_or_len test names) (length names) (omega (arith, h.1, le)) in
-          none-some (position_or_len test names) (sym none ∙ ap (λ (b : Bool). cond {A = Option ℕ} b (Some (position_or_len test names)) None) found)
-    ]
-
-pub place_of : (place : Option ℕ) → ((i : ℕ) × (place ≡ Some i)) ⊎ (place ≡ None)
-place_of None = inr refl
-place_of (Some i) = inl (i, refl)
 
 -- a place has the name
 pub has_place : (names : List (List ℕ)) (name : List ℕ) (i : ℕ) → place_in names name ≡ Some i → Contains names name
 has_place names name i e =
-    let h = position-Some (λ n. bytes_eq n name) names i name e in
-    (i, h.0, (bytes_eq-Decides (get_or names i name) name).0 h.1)
+    let h = at_place names name i e in (i, h.0, h.1)
 
 pub unplaced : (names : List (List ℕ)) (name : List ℕ) → (Contains names name → ⊥) → place_in names name ≡ None
 unplaced names name absent = elim (place_of (place_in names name)) [

@@ -1,7 +1,7 @@
 -- Nothing stands in the fourth and the fifth phase against groups whose contents keep the rules.
 use Rattle.std.proofs.Common.{ℕ, ◌+◌, List, inl, inr, Contains}
-use Rattle.ags_rows.specs.declared.codes.Code.{Code}
-use Rattle.ags_rows.specs.declared.codes.Finding.{Finding}
+use Rattle.ags_rows.specs.declared.code.Code.{Code}
+use Rattle.ags_rows.specs.declared.finding.Finding.{Finding}
 use Rattle.ags_rows.specs.declared.rows.Row.{Row}
 use Rattle.ags_rows.specs.declared.rows.Group.{Group}
 use Rattle.ags_rows.specs.Collecting.{At, OneOf}
@@ -14,7 +14,7 @@ use Rattle.ags_check.specs.RowPhase.{data_entry_rules, data_row_rules, entry_rul
 use Rattle.ags_check.specs.Keeping.{KeepsOnlyRow, KeepsHeader, KeepsHeaders, KeepsEntry, KeepsRow, KeepsRows}
 use Rattle.ags_check.specs.Findings.{IsClear}
 use Rattle.ags_check.proofs.Groups.{at_map}
-use Rattle.ags_check.proofs.Naming.{contains_at}
+use Rattle.ags_rows.proofs.AtPlaces.{contains_at}
 use Rattle.ags_check.proofs.Numbering.{group_stands}
 
 contents_contain : (groups : List Group) (k : ℕ) (g : Group) → At groups k g → Contains (contents_of groups) (group_contents g)

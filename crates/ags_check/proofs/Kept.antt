@@ -3,9 +3,9 @@ use Rattle.std.proofs.Common.{◌≡◌, ℕ, suc, ◌+◌, true, List, [], ◌�
 use Rattle.std.specs.Prelude.{codes}
 use Rattle.std.proofs.lemmas.Bool.{true_from_ne_false}
 use Rattle.std.proofs.lemmas.List.{length-append, length-map}
-use Rattle.ags_rows.specs.declared.codes.Code.{Code}
-use Rattle.ags_rows.specs.declared.codes.Code.TheVariants as rule
-use Rattle.ags_rows.specs.declared.codes.Finding.{Finding}
+use Rattle.ags_rows.specs.declared.code.Code.{Code}
+use Rattle.ags_rows.specs.declared.code.Code.TheVariants as rule
+use Rattle.ags_rows.specs.declared.finding.Finding.{Finding}
 use Rattle.ags_rows.specs.declared.rows.Row.{Row}
 use Rattle.ags_rows.specs.declared.rows.Group.{Group}
 use Rattle.ags_rows.specs.Collecting.{At, OneOf}
@@ -18,7 +18,8 @@ use Rattle.ags_check.specs.RowRules.{unit_over, type_over, IsUnlistedUnit, IsUnl
 use Rattle.ags_check.specs.RowPhase.{data_row_rules, entry_rules}
 use Rattle.ags_check.specs.Findings.{IsClear}
 use Rattle.ags_check.proofs.Groups.{map_at}
-use Rattle.ags_check.proofs.Naming.{at_contained, at_stands}
+use Rattle.ags_rows.proofs.AtPlaces.{at_contained}
+use Rattle.ags_check.proofs.Naming.{at_stands}
 use Rattle.ags_check.specs.Keeping.{KeepsOnlyRow, KeepsHeader, KeepsHeaders, KeepsRow, KeepsRows}
 
 abbrev noted : ℕ → Code → List ℕ → Finding

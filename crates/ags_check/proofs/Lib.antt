@@ -14,3 +14,4 @@ pub mod Keeping
 pub mod Kept
 pub mod CleanContents
 pub mod OneFile
+pub mod FileSets

@@ -2,8 +2,8 @@
 use Rattle.std.proofs.Common.{◌≡◌, ◌≢◌, ℕ, ◌+◌, ◌<◌, Bool, true, false, eqb, List, [], ◌∷◌, ◌++◌, length, get_or, refl, sym, ap, subst, ◌∙◌, arith, inl, inr}
 use Rattle.std.specs.Prelude.{◌↔◌, IsTrue, Contains, codes}
 use Rattle.std.proofs.lemmas.Bool.{true≢false, eqb-true}
-use Rattle.ags_rows.specs.declared.codes.Code.TheVariants.{Rule10b, Rule11c}
-use Rattle.ags_rows.specs.declared.codes.Finding.{Finding}
+use Rattle.ags_rows.specs.declared.code.Code.TheVariants.{Rule10b, Rule11c}
+use Rattle.ags_rows.specs.declared.finding.Finding.{Finding}
 use Rattle.ags_rows.specs.Collecting.{Adds, AmongBefore, OneOf}
 use Rattle.ags_rows.specs.Contents.{Contents, under, field_at}
 use Rattle.ags_rows.specs.Names.{is_definition}
@@ -15,7 +15,7 @@ use Rattle.ags_check.specs.declared.rows.columns.Column.{Column}
 use Rattle.ags_check.specs.Columns.{IsColumn, AreColumns, column_text}
 use Rattle.ags_check.specs.RowRules.{IsBrokenLink}
 use Rattle.ags_check.specs.RowPhase.{InHeadings, link_rules, required_rules}
-use Rattle.ags_check.proofs.Naming.{contains_at}
+use Rattle.ags_rows.proofs.AtPlaces.{contains_at}
 use Rattle.ags_check.proofs.EntryNotes.{note_more, columns_more, heading_at, heading_of}
 
 -- what stands in the row at a column's place stands under its heading

@@ -13,10 +13,11 @@ use Rattle.ags_rows.specs.declared.rows.Group.{Group}
 use Rattle.ags_rows.proofs.Collecting.{none_is}
 use Rattle.ags_links.specs.RecordLinks.{separators_of}
 use Rattle.ags_links.proofs.Members.{contains_head, contains_tail, contains_cons, contains_map, map_contains}
-use Rattle.ags_dict.specs.Parts.{parts_at}
+use Rattle.ags_rows.specs.Parts.{parts_at}
 use Rattle.ags_check.specs.CodeLists.{read_rows, listed_texts, abbreviation_in, abbreviations, PairSet, has_pair, is_pair, HasPairs, lacks_part}
 use Rattle.ags_check.specs.RowRules.{IsListed, IsUnlisted, IsAbbreviation, IsUnlistedAbbreviation}
-use Rattle.ags_check.proofs.HeaderRules.{placed, unplaced}
+use Rattle.ags_links.proofs.Heading.{placed}
+use Rattle.ags_check.proofs.HeaderRules.{unplaced}
 
 -- a row of a group of the name, and what is read from it
 abbrev pub Read : {X : Type 0} → List ℕ → (List (List ℕ) → List (List ℕ) → X) → List Contents → X → Type 0

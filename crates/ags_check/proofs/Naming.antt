@@ -5,11 +5,12 @@ use Rattle.std.specs.Borrow.{Bor}
 use Rattle.std.proofs.lemmas.Bool.{true≢false}
 use Rattle.std.proofs.lemmas.List.{length-map}
 use Rattle.std.proofs.lemmas.Option.{slice_get-get_or, slice_get-map, slice_get_within, get_or_from_slice_get}
-use Rattle.ags_rows.specs.declared.codes.Code.{Code}
-use Rattle.ags_rows.specs.declared.codes.Finding.{Finding}
+use Rattle.ags_rows.specs.declared.code.Code.{Code}
+use Rattle.ags_rows.specs.declared.finding.Finding.{Finding}
 use Rattle.ags_rows.specs.declared.rows.Group.{Group}
 use Rattle.ags_rows.specs.Collecting.{At, Adds}
 use Rattle.ags_rows.specs.Collecting.{Notes, AmongBefore}
+use Rattle.ags_rows.proofs.AtPlaces.{at_within, at_read, at_from_read}
 use Rattle.ags_rows.proofs.Collecting.{adds_note, adds_same, among_more, among_all}
 use Rattle.ags_links.specs.DataRows.{IsAt}
 use Rattle.ags_check.specs.Placing.{AtNames, AtHeading}
@@ -51,17 +52,11 @@ is_none_from place false e n = absurd (true≢false (sym e ∙ ap is_some n))
 
 -- ---- from the names of a list to the HEADING row
 
-pub contains_at : {X : Type 0} (xs : List X) (k : ℕ) (x : X) → At xs k x → Contains xs x
-contains_at xs k x at = (k, slice_get_within xs k x at, get_or_from_slice_get xs k x x at)
-
-pub at_contained : {X : Type 0} (xs : List X) (x : X) (h : Contains xs x) → At xs h.0 x
-at_contained xs x h = slice_get-get_or xs h.0 x h.1 ∙ ap Some h.2
-
 pub stands_at : {X : Type 0} (xs : List X) (k : ℕ) (x : X) → At xs k x → IsAt xs k x
-stands_at xs k x at = (slice_get_within xs k x at, get_or_from_slice_get xs k x x at)
+stands_at xs k x at = (at_within xs k x at, at_read xs k x x at)
 
 pub at_stands : {X : Type 0} (xs : List X) (k : ℕ) (x : X) → IsAt xs k x → At xs k x
-at_stands xs k x is = slice_get-get_or xs k x is.0 ∙ ap Some is.1
+at_stands xs k x is = at_from_read xs k x x is.0 is.1
 
 -- what is noted of the names is the rule of the HEADING row
 pub at_heading : (names : List (List ℕ)) (group : Group) (code : Code) (Breaks : ℕ → List ℕ → Type 0) (Rule : List ℕ → Type 0) (old new : List Finding)

@@ -10,9 +10,8 @@ use Rattle.std.specs.BTreeSet.{UpdatesBy}
 use Rattle.std.specs.Str.{bytes_eq}
 use Rattle.std.proofs.lemmas.List.{take_rest}
 use Rattle.std.proofs.lemmas.Map.Text.{is_eq-slice_cmp}
-use Rattle.ags_dict.specs.Parts.{parts_at}
-use Rattle.ags_dict.proofs.Pieces.{parts_cut}
-use Rattle.ags_links.proofs.Cutting.{part_left}
+use Rattle.ags_rows.specs.Parts.{parts_at}
+use Rattle.ags_links.proofs.Cutting.{parts_cut, part_left}
 use Rattle.ags_check.specs.CodeLists.{PairSet, has_pair, is_pair, lacks_part}
 
 then_equal : (a b : Ordering) → is_eq (ordering_then a b) ≡ (is_eq a && is_eq b)

@@ -2,10 +2,10 @@
 use Rattle.std.proofs.Common.{◌≡◌, ◌≢◌, ℕ, List, [], length, take, false, eqb, refl, subst, sym, ap, ◌∙◌, inl, inr}
 use Rattle.std.proofs.Math.Seq.{take-append_seam}
 use Rattle.std.proofs.lemmas.Bool.{eqb-false}
-use Rattle.ags_rows.specs.declared.codes.Finding.{Finding}
+use Rattle.ags_rows.specs.declared.finding.Finding.{Finding}
 use Rattle.ags_rows.specs.declared.rows.Group.{Group}
 use Rattle.ags_rows.specs.Contents.{Contents, contents_of}
-use Rattle.ags_rows.specs.Findings.{File, phases, Lists, FirstFound, RowFindings, FileGroups}
+use Rattle.ags_rows.specs.Findings.{FileParts, phases, AreExactly, FirstFound, RowFindings, FileGroups}
 use Rattle.ags_rows.proofs.Collecting.{found_early, found_late}
 use Rattle.ags_rows.proofs.Once.{same_file, one_first_found}
 use Rattle.ags_dict.specs.declared.entries.GroupEntry.{GroupEntry}
@@ -19,11 +19,6 @@ use Rattle.ags_links.specs.Steps.{IsGraphOf}
 use Rattle.ags_links.specs.Walks.{Wiring}
 use Rattle.ags_rows.specs.Collecting.{OneOf}
 
--- what the rows break is what the file breaks
-pub rows_found : (given : Entries) (bytes : List ℕ) (found : List Finding) → RowFindings bytes found → found ≢ [] → Findings given bytes found
-rows_found given bytes found h some =
-    (h.0, h.1, found_early (phases h.0) (dictionary_phases given (extended given (contents_of h.0.groups)) h.0.groups) found h.2 some)
-
 -- where they break nothing, what the groups break is
 pub groups_found : (given entries : Entries) (bytes : List ℕ) (groups : List Group) (found : List Finding) → FileGroups bytes groups → entries ≡ extended given (contents_of groups)
     → FirstFound (dictionary_phases given entries groups) found → Findings given bytes found
@@ -35,12 +30,12 @@ groups_found given entries bytes groups found read same first =
 
 -- where the headers break something, that is found
 pub headers_found : (given entries : Entries) (bytes : List ℕ) (groups : List Group) (found : List Finding) → FileGroups bytes groups → entries ≡ extended given (contents_of groups)
-    → Lists (OneOf (header_rules given entries groups)) found → found ≢ [] → Findings given bytes found
+    → AreExactly (OneOf (header_rules given entries groups)) found → found ≢ [] → Findings given bytes found
 headers_found given entries bytes groups found read same lists some = groups_found given entries bytes groups found read same (inl (lists, some))
 
 -- where the headers break nothing, what the rows break is found
 pub entries_found : (given entries : Entries) (bytes : List ℕ) (groups : List Group) (found : List Finding) → FileGroups bytes groups → entries ≡ extended given (contents_of groups)
-    → IsClear (header_rules given entries groups) → Lists (OneOf (entry_rules entries groups)) found → found ≢ [] → Findings given bytes found
+    → IsClear (header_rules given entries groups) → AreExactly (OneOf (entry_rules entries groups)) found → found ≢ [] → Findings given bytes found
 entries_found given entries bytes groups found read same clear lists some = groups_found given entries bytes groups found read same (inr (clear, inl (lists, some)))
 
 -- and where these break nothing either, the file is clean
@@ -93,4 +88,4 @@ some_found found e none = eqb-false (length found) 0 (sym e) (ap length none)
 pub one_list : (given : Entries) (bytes : List ℕ) (found others : List Finding) → Findings given bytes found → Findings given bytes others → found ≡ others
 one_list given bytes found others h k =
     let same = same_file bytes k.0 h.0 k.1 h.1 in
-    one_first_found (all_phases given h.0) found others h.2 (subst (λ (file : File). FirstFound (all_phases given file) others) same k.2)
+    one_first_found (all_phases given h.0) found others h.2 (subst (λ (file : FileParts). FirstFound (all_phases given file) others) same k.2)

@@ -7,7 +7,7 @@ use Rattle.std.specs.Cmp.Lexicographic.{slice_cmp}
 use Rattle.std.specs.BTreeSet.{BTreeSet, contains_by}
 use Rattle.std.specs.Str.{bytes_eq}
 use Rattle.ags_rows.specs.Contents.{Contents, under}
-use Rattle.ags_dict.specs.Parts.{parts_at}
+use Rattle.ags_rows.specs.Parts.{parts_at}
 use Rattle.ags_links.specs.RecordLinks.{separators_of}
 
 -- ---- the lists
@@ -54,9 +54,8 @@ lacks_part held separator heading text = list_any (λ part. not (has_pair held h
 
 -- ---- all that is looked up
 
-pub record AreCodeLists (file : List Contents) (unit_texts type_texts file_set_texts : List (List ℕ)) (pair_set : PairSet) (separator : ℕ) : Type 0 where
+pub record AreCodeLists (file : List Contents) (unit_texts type_texts : List (List ℕ)) (pair_set : PairSet) (separator : ℕ) : Type 0 where
   pub units : unit_texts ≡ listed_texts file (codes "UNIT") (codes "UNIT_UNIT")
   pub types : type_texts ≡ listed_texts file (codes "TYPE") (codes "TYPE_TYPE")
-  pub file_sets : file_set_texts ≡ listed_texts file (codes "FILE") (codes "FILE_FSET")
   pub pairs : HasPairs pair_set (abbreviations file)
   pub concatenator : separator ≡ (separators_of file).concatenator

@@ -1,7 +1,7 @@
 -- What a group says of its headings, and what the dictionary says of the group: looked up once a group.
 use Rattle.std.specs.Prelude.{◌≡◌, ◌≢◌, ◌↔◌, ◌+◌, ℕ, List, [], ◌∷◌, Bool, not, All, Option, map, codes, is_some, IsTrue}
-use Rattle.ags_rows.specs.declared.codes.Code.TheVariants.{Rule15, Rule17}
-use Rattle.ags_rows.specs.declared.codes.Finding.{Finding}
+use Rattle.ags_rows.specs.declared.code.Code.TheVariants.{Rule15, Rule17}
+use Rattle.ags_rows.specs.declared.finding.Finding.{Finding}
 use Rattle.ags_rows.specs.declared.rows.Group.{Group}
 use Rattle.ags_rows.specs.declared.rows.Row.{Row}
 use Rattle.ags_rows.specs.Collecting.{At, Notes}

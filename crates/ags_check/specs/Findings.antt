@@ -1,10 +1,10 @@
 -- The findings of a file under a dictionary, and a file without any.
 use Rattle.std.specs.Prelude.{◌≡◌, ℕ, List, [], ◌∷◌, ◌++◌, take}
-use Rattle.ags_rows.specs.declared.codes.Finding.{Finding}
+use Rattle.ags_rows.specs.declared.finding.Finding.{Finding}
 use Rattle.ags_rows.specs.declared.rows.Group.{Group}
 use Rattle.ags_rows.specs.Contents.{Contents, contents_of}
 use Rattle.ags_rows.specs.Collecting.{OneOf}
-use Rattle.ags_rows.specs.Findings.{File, IsFile, phases, FirstFound, FileGroups}
+use Rattle.ags_rows.specs.Findings.{FileParts, ArePartsOf, phases, FirstFound, FileGroups}
 use Rattle.ags_dict.specs.Entries.{Entries, extended}
 use Rattle.ags_links.specs.DataRows.{DataFile}
 use Rattle.ags_links.specs.Steps.{IsGraphOf}
@@ -21,12 +21,12 @@ abbrev pub IsClear : List (Finding → Type 0) → Type 0
 IsClear rules = (found : Finding) → OneOf rules found → ⊥
 
 -- All phases of a file under a dictionary, which the file's own DICT extends.
-abbrev pub all_phases : Entries → File → List (Finding → Type 0)
+abbrev pub all_phases : Entries → FileParts → List (Finding → Type 0)
 all_phases given file = phases file ++ dictionary_phases given (extended given (contents_of file.groups)) file.groups
 
 -- The findings of a file under a dictionary.
 abbrev pub Findings : Entries → List ℕ → List Finding → Type 0
-Findings given bytes found = (file : File) × IsFile bytes file × FirstFound (all_phases given file) found
+Findings given bytes found = (file : FileParts) × ArePartsOf bytes file × FirstFound (all_phases given file) found
 
 -- contents, read under the entries given and those of their own DICT
 abbrev pub read_under : Entries → List Contents → DataFile

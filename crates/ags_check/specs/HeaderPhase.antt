@@ -1,8 +1,8 @@
 -- The rules of the fourth phase as findings.
 use Rattle.std.specs.Prelude.{List, [], ◌∷◌, codes, if◌then◌else◌}
-use Rattle.ags_rows.specs.declared.codes.Code.{Code}
-use Rattle.ags_rows.specs.declared.codes.Code.TheVariants.{Rule7, Rule9, Rule10a, Rule10b, Rule10c, Rule11a, Rule11b, Rule13, Rule14, Rule15, Rule17, Rule18, Rule19b}
-use Rattle.ags_rows.specs.declared.codes.Finding.{Finding}
+use Rattle.ags_rows.specs.declared.code.Code.{Code}
+use Rattle.ags_rows.specs.declared.code.Code.TheVariants.{Rule7, Rule9, Rule10a, Rule10b, Rule10c, Rule11a, Rule11b, Rule13, Rule14, Rule15, Rule17, Rule18, Rule19b}
+use Rattle.ags_rows.specs.declared.finding.Finding.{Finding}
 use Rattle.ags_rows.specs.declared.rows.Group.{Group}
 use Rattle.ags_rows.specs.Contents.{Contents, group_contents, contents_of}
 use Rattle.ags_rows.specs.Collecting.{OneOf}

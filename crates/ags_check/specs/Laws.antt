@@ -1,6 +1,6 @@
 -- Laws over the definitions alone.
 use Rattle.std.specs.Prelude.{◌≡◌, ◌↔◌, ℕ, List, []}
-use Rattle.ags_rows.specs.declared.codes.Finding.{Finding}
+use Rattle.ags_rows.specs.declared.finding.Finding.{Finding}
 use Rattle.ags_rows.specs.declared.rows.Group.{Group}
 use Rattle.ags_rows.specs.Contents.{contents_of}
 use Rattle.ags_rows.specs.Findings.{FileGroups}

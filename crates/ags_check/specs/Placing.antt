@@ -1,7 +1,7 @@
 -- Where a rule's finding stands: one wrapper for each kind of row puts the line to a fact that knows none.
 use Rattle.std.specs.Prelude.{◌≡◌, ℕ, List, true}
-use Rattle.ags_rows.specs.declared.codes.Code.{Code}
-use Rattle.ags_rows.specs.declared.codes.Finding.{Finding}
+use Rattle.ags_rows.specs.declared.code.Code.{Code}
+use Rattle.ags_rows.specs.declared.finding.Finding.{Finding}
 use Rattle.ags_rows.specs.declared.rows.Group.{Group}
 use Rattle.ags_rows.specs.Contents.{fields_of}
 use Rattle.ags_rows.specs.Collecting.{Notes, Among, OneOf}

@@ -1,7 +1,7 @@
 -- The rules of the fifth phase as findings.
 use Rattle.std.specs.Prelude.{◌≡◌, ℕ, ◌+◌, List, [], ◌∷◌, codes}
-use Rattle.ags_rows.specs.declared.codes.Code.TheVariants.{Rule8, Rule10a, Rule10b, Rule10c, Rule11c, Rule15, Rule16, Rule17, Rule20}
-use Rattle.ags_rows.specs.declared.codes.Finding.{Finding}
+use Rattle.ags_rows.specs.declared.code.Code.TheVariants.{Rule8, Rule10a, Rule10b, Rule10c, Rule11c, Rule15, Rule16, Rule17, Rule20}
+use Rattle.ags_rows.specs.declared.finding.Finding.{Finding}
 use Rattle.ags_rows.specs.declared.rows.Group.{Group}
 use Rattle.ags_rows.specs.declared.rows.Row.{Row}
 use Rattle.ags_rows.specs.Collecting.{Notes, Among, OneOf}

@@ -4,7 +4,7 @@
 use Rattle.std.specs.Prelude.{◌≡◌, ◌≢◌, ℕ, ◌<◌, List, [], codes, false, Some, Contains}
 use Rattle.ags_rows.specs.Names.{is_definition}
 use Rattle.ags_rows.specs.Contents.{Contents, under}
-use Rattle.ags_dict.specs.Parts.{parts_at}
+use Rattle.ags_rows.specs.Parts.{parts_at}
 use Rattle.ags_dict.specs.Entries.{Entries, keys_of, parent_of}
 use Rattle.ags_cells.specs.Fits.{FitsTypeCode}
 use Rattle.ags_links.specs.DataRows.{DataRow, IsDataRow, entry_of, data_rows}

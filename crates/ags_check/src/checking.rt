@@ -1,10 +1,10 @@
 //! Checking a file.
 
 ghost use Rattle.std.specs.Prelude.{◌≡◌, ◌≢◌, ◌≤◌, List, [], length, IfOk, OnOk, IsErrOf};
-ghost use Rattle.ags_rows.specs.declared.codes.Finding.{Finding};
+ghost use Rattle.ags_rows.specs.declared.finding.Finding.{Finding};
 ghost use Rattle.ags_rows.specs.Collecting.{OneOf};
 ghost use Rattle.ags_rows.specs.Contents.{contents_of};
-ghost use Rattle.ags_rows.specs.Findings.{Lists, RowFindings, FileGroups};
+ghost use Rattle.ags_rows.specs.Findings.{AreExactly, RowFindings, FileGroups};
 ghost use Rattle.ags_check.specs.declared.checking.CheckError.TheVariants.{NoMemory};
 ghost use Rattle.ags_links.specs.Steps.{IsGraphOf};
 ghost use Rattle.ags_check.specs.Findings.{IsClear, Findings, IsClean};
@@ -71,7 +71,7 @@ fn check_headers(
     scan: &Scan,
 ) -> Result<(), CheckError>
     ensures clear { OnOk result (IsClear (header_rules given.now extended.now scan.now)) }
-    ensures findings { (found : List Finding) → IsErrOf result (CheckError.Findings found) → Lists (OneOf (header_rules given.now extended.now scan.now)) found × (found ≢ []) }
+    ensures findings { (found : List Finding) → IsErrOf result (CheckError.Findings found) → AreExactly (OneOf (header_rules given.now extended.now scan.now)) found × (found ≢ []) }
 {
     let file = NamedGroups::of(alloc, scan.groups())?;
     let found = header_findings(alloc, given, extended, &file)?;
@@ -85,7 +85,7 @@ fn check_headers(
 fn check_rows(alloc: Global, dictionary: &Dictionary, scan: &Scan) -> Result<Graph, CheckError>
     ensures graph { IfOk result (IsGraphOf (record { contents = contents_of scan.now; entries = dictionary.now })) }
     ensures clear { OnOk result (IsClear (entry_rules dictionary.now scan.now)) }
-    ensures findings { (found : List Finding) → IsErrOf result (CheckError.Findings found) → Lists (OneOf (entry_rules dictionary.now scan.now)) found × (found ≢ []) }
+    ensures findings { (found : List Finding) → IsErrOf result (CheckError.Findings found) → AreExactly (OneOf (entry_rules dictionary.now scan.now)) found × (found ≢ []) }
 {
     let index = Index::build(alloc, scan, dictionary)?;
     let of_rows = entry_findings(alloc, dictionary, &index, scan.groups())?;

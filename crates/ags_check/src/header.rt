@@ -3,13 +3,13 @@
 ghost use Rattle.std.specs.Prelude.{IfOk, OnOk};
 ghost use Rattle.ags_rows.specs.Collecting.{Adds, OneOf};
 ghost use Rattle.ags_rows.specs.Contents.{contents_of};
-ghost use Rattle.ags_rows.specs.Findings.{Lists};
+ghost use Rattle.ags_rows.specs.Findings.{AreExactly};
 ghost use Rattle.ags_check.specs.Placing.{OfKnown, InGroups};
 ghost use Rattle.ags_check.specs.HeaderPhase.{heading_row_rules, only_row_rules, group_header_rules, file_rules, header_rules};
 
-pub mod groups;
-pub mod headings;
-pub mod only_rows;
+pub(crate) mod groups;
+pub(crate) mod headings;
+pub(crate) mod only_rows;
 
 use crate::header::groups::{
     note_absent_group, note_lacking_parent, note_unknown_group, unknown_code,
@@ -117,7 +117,7 @@ fn note_all_header_rows(
     ensures { OnOk result (Adds (InGroups file.now (group_header_rules given.now extended.now (contents_of file.now) code)) findings.old.items findings.new.items) }
 {
     let groups = file.groups();
-    for (i, group) in groups.iter().enumerate() {
+    for group in groups {
         note_header_rows(alloc, given, extended, file, code, group, findings)?;
     }
     Ok(())
@@ -139,13 +139,13 @@ fn note_absent_groups(
 }
 
 /// The findings of the fourth phase, in order, each once.
-pub fn header_findings(
+pub(crate) fn header_findings(
     alloc: Global,
     given: &Dictionary,
     extended: &Dictionary,
     file: &NamedGroups,
 ) -> Result<Sequence<Finding>, AllocError>
-    ensures { IfOk result (Lists (OneOf (header_rules given.now extended.now file.now))) }
+    ensures { IfOk result (AreExactly (OneOf (header_rules given.now extended.now file.now))) }
 {
     let mut findings = Vec::new(alloc);
     let code = unknown_code(file.groups());

@@ -10,7 +10,7 @@ use std::marker::Model;
 
 /// The groups of a file in their order, with an index of their names. Contracts see the groups.
 #[derive(Drop)]
-pub struct NamedGroups<'f, 'a> {
+pub(crate) struct NamedGroups<'f, 'a> {
     groups: &'f [Group<'a>],
     names: Places<'f>,
 }
@@ -27,11 +27,11 @@ impl<'f, 'a> Model for NamedGroups<'f, 'a> {
 }
 
 /// The names of groups.
-fn group_names<'g>(alloc: Global, groups: &'g [Group]) -> Result<Vec<&'g [u8]>, AllocError>
+fn all_names<'g>(alloc: Global, groups: &'g [Group]) -> Result<Vec<&'g [u8]>, AllocError>
     ensures { IfOk result (λ names. map (λ name. name.now) names.items ≡ map (λ group. group.name) groups.now) }
 {
     let mut names = Vec::new(alloc);
-    for (i, group) in groups.iter().enumerate() {
+    for group in groups {
         names.push(group.name.as_slice())?;
     }
     Ok(names)
@@ -39,23 +39,23 @@ fn group_names<'g>(alloc: Global, groups: &'g [Group]) -> Result<Vec<&'g [u8]>, 
 
 impl<'f, 'a> NamedGroups<'f, 'a> {
     /// The file of these groups.
-    pub fn of(alloc: Global, groups: &'f [Group<'a>]) -> Result<Self, AllocError>
+    pub(crate) fn of(alloc: Global, groups: &'f [Group<'a>]) -> Result<Self, AllocError>
         ensures { IfOk result (λ file. file ≡ groups.now) }
     {
-        let names = group_names(alloc, groups)?;
+        let names = all_names(alloc, groups)?;
         let names = Places::of(alloc, names)?;
         Ok(NamedGroups { groups, names })
     }
 
     /// The groups in their order.
-    pub fn groups(&self) -> &'f [Group<'a>]
+    pub(crate) fn groups(&self) -> &'f [Group<'a>]
         ensures { result.now ≡ self.now }
     {
         self.groups
     }
 
     /// Whether a group of this name is in the file.
-    pub fn has(&self, name: &[u8]) -> bool
+    pub(crate) fn has(&self, name: &[u8]) -> bool
         ensures { IsTrue result ↔ HasGroup (contents_of self.now) name.now }
     {
         self.names.find(name).is_some()

@@ -1,7 +1,7 @@
 //! The fifth phase: the UNIT, TYPE and DATA rows.
 
 ghost use Rattle.std.specs.Prelude.{◌≡◌, ◌<◌, ◌+◌, ◌^◌, IfOk, OnOk, length};
-ghost use Rattle.ags_rows.specs.Findings.{Lists};
+ghost use Rattle.ags_rows.specs.Findings.{AreExactly};
 ghost use Rattle.ags_rows.specs.Collecting.{Adds, OneOf, Among};
 ghost use Rattle.ags_rows.specs.Contents.{group_contents, contents_of, fields_of};
 ghost use Rattle.ags_links.specs.DataRows.{data_rows, row_in, IsDataRow};
@@ -11,12 +11,12 @@ ghost use Rattle.ags_check.specs.RowRules.{entry_in};
 ghost use Rattle.ags_dict.specs.Entries.{required_of};
 ghost use Rattle.ags_check.specs.RowPhase.{InHeadings, unit_and_type_rules, data_entry_rules, link_rules, required_rules, data_row_rules, entry_rules_of, entry_rules};
 
-pub mod abbreviations;
-pub mod code_lists;
-pub mod columns;
-pub mod entries;
-pub mod links;
-pub mod outline;
+pub(crate) mod abbreviations;
+pub(crate) mod code_lists;
+pub(crate) mod columns;
+pub(crate) mod entries;
+pub(crate) mod links;
+pub(crate) mod outline;
 
 use crate::rows::code_lists::CodeLists;
 use crate::rows::entries::{note_columns, note_entries, note_lacking};
@@ -116,7 +116,8 @@ fn note_data_row<'a>(
     let name = outline.name();
     let repeats = outline.repeats_key(index, number)?;
     let is_orphan = outline.lacks_parent(index, number)?;
-    let is_unlisted = outline.is_unlisted_file_set(row.cells.as_slice(), listed);
+    let has_file = index.has_file(number);
+    let is_unlisted = outline.is_unlisted_file_set(row.cells.as_slice(), has_file);
     note_row_entries(alloc, listed, outline, row, findings)?;
     note_row_links(alloc, index, outline, row, number, findings)?;
     note_row_lacking(alloc, outline, row, findings)?;
@@ -216,7 +217,7 @@ fn note_all_entries<'a>(
 {
     let listed = CodeLists::of(alloc, groups)?;
     let mut first = 0;
-    for (i, group) in groups.iter().enumerate() {
+    for group in groups {
         let size = group.rows.len();
         note_group_entries(alloc, dictionary, index, &listed, group, first, findings)?;
         first += size as u32;
@@ -225,7 +226,7 @@ fn note_all_entries<'a>(
 }
 
 /// The findings of the fifth phase, in order, each once.
-pub fn entry_findings<'a>(
+pub(crate) fn entry_findings<'a>(
     alloc: Global,
     dictionary: &'a Dictionary,
     index: &Index,
@@ -233,7 +234,7 @@ pub fn entry_findings<'a>(
 ) -> Result<Sequence<Finding>, AllocError>
     requires contents { index.now.contents ≡ contents_of groups.now }
     requires entries { dictionary.now ≡ index.now.entries }
-    ensures { IfOk result (Lists (OneOf (entry_rules dictionary.now groups.now))) }
+    ensures { IfOk result (AreExactly (OneOf (entry_rules dictionary.now groups.now))) }
 {
     let mut findings = Vec::new(alloc);
     // the index counts its rows with a number below 2^32, so each has its own

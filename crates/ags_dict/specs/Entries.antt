@@ -4,7 +4,8 @@ use Rattle.std.specs.Prelude.{ℕ, List, [], ◌∷◌, ◌++◌, map, flat_map,
 use Rattle.std.specs.List.{filter, find, list_any, list_all}
 use Rattle.std.specs.Str.{bytes_eq}
 use Rattle.ags_rows.specs.Contents.{Contents, under}
-use Rattle.ags_dict.specs.Parts.{has_part}
+use Rattle.ags_rows.specs.Bytes.{plus}
+use Rattle.ags_rows.specs.Parts.{has_part}
 use Rattle.ags_dict.specs.declared.entries.GroupEntry.{GroupEntry}
 use Rattle.ags_dict.specs.declared.entries.HeadingEntry.{HeadingEntry}
 
@@ -96,10 +97,6 @@ heading_of entry = entry.heading
 
 abbrev pub of_group : List ℕ → HeadingEntry → Bool
 of_group group entry = bytes_eq entry.group group
-
--- where statuses are joined, as in KEY+REQUIRED
-abbrev pub plus : ℕ
-plus = 43
 
 -- an entry of the group whose status, cut at `+`, has this word
 abbrev pub of_status : List ℕ → List ℕ → HeadingEntry → Bool

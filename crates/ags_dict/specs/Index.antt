@@ -11,7 +11,7 @@ use Rattle.std.specs.declared.vec.Vec.{Vec}
 use Rattle.ags_rows.specs.Contents.{place_in}
 use Rattle.ags_dict.specs.declared.entries.GroupEntry.{GroupEntry}
 use Rattle.ags_dict.specs.declared.entries.HeadingEntry.{HeadingEntry}
-use Rattle.ags_dict.specs.declared.places.Places.{Places}
+use Rattle.ags_dict.specs.declared.places.PlacesByText.{PlacesByText}
 use Rattle.ags_dict.specs.declared.places.Ranks.{Ranks}
 use Rattle.ags_dict.specs.Entries.{of_group, heading_of}
 
@@ -20,7 +20,7 @@ abbrev pub found_at : {X : Type 0} → BTreeMap (Vec ℕ Global) X → List ℕ 
 found_at held text = get_by (λ k. slice_cmp nat_cmp text k.items) held
 
 -- the places that are kept for a text
-abbrev pub places_at : Places → List ℕ → List ℕ
+abbrev pub places_at : PlacesByText → List ℕ → List ℕ
 places_at places text = option_map_or (λ v. v.items) (found_at places.held text) []
 
 -- the place in a group's order that is kept for a heading
@@ -46,11 +46,11 @@ abbrev pub is_of_other : List HeadingEntry → List ℕ → ℕ → Bool
 is_of_other entries group place = option_map_or (λ e. not (of_group group e)) (slice_get entries place) false
 
 -- each group's entries are found by its name
-abbrev pub FindsGroups : List GroupEntry → Places → Type 0
+abbrev pub FindsGroups : List GroupEntry → PlacesByText → Type 0
 FindsGroups entries by_name = (group : List ℕ) → ArePlaces (is_for group) entries (places_at by_name group)
 
 -- a group's entries are found by its name, those of a heading by its, and a heading's place in the order of its group by both
-pub record FindsHeadings (entries : List HeadingEntry) (by_group by_heading : Places) (ranks : Ranks) : Type 0 where
+pub record FindsHeadings (entries : List HeadingEntry) (by_group by_heading : PlacesByText) (ranks : Ranks) : Type 0 where
   pub groups : (group : List ℕ) → ArePlaces (of_group group) entries (places_at by_group group)
   pub headings : (heading : List ℕ) → ArePlaces (is_named heading) entries (places_at by_heading heading)
   pub orders : (group heading : List ℕ) → rank_at ranks group heading ≡ place_in (map heading_of (filter (of_group group) entries)) heading

@@ -1,8 +1,10 @@
 -- Which bytes are a dictionary: a file with a group DICT, and what is refused, in this order.
-use Rattle.std.specs.Prelude.{◌≡◌, ℕ, List, true, false}
+use Rattle.std.specs.Prelude.{◌≡◌, ◌≢◌, ℕ, List, [], true, false, Result, Ok, Err}
 use Rattle.ags_rows.specs.declared.rows.Group.{Group}
 use Rattle.ags_rows.specs.Contents.{Contents, contents_of}
-use Rattle.ags_rows.specs.Findings.{LooseGroups}
+use Rattle.ags_rows.specs.Findings.{LooseGroups, LooseFindings}
+use Rattle.ags_dict.specs.declared.reading.DictError.{DictError}
+use Rattle.ags_dict.specs.declared.reading.DictError.TheVariants.{NotDictionary, NoDict, MissingHeading, NoMemory}
 use Rattle.ags_dict.specs.Entries.{Entries, has_dict, lacks_heading, standard_entries}
 
 -- The bytes are a file of these contents. Bytes beyond ASCII and lines that end in LF alone are taken.
@@ -21,3 +23,13 @@ LacksHeading bytes = (contents : List Contents) × HasContents bytes contents ×
 abbrev pub IsDictionary : List ℕ → Entries → Type 0
 IsDictionary bytes entries =
     (contents : List Contents) × HasContents bytes contents × (has_dict contents ≡ true) × (lacks_heading contents ≡ false) × (entries ≡ standard_entries contents)
+
+-- What reading a dictionary gives: its entries, or the first refusal that holds.
+abbrev pub ReadsDictionary : List ℕ → Result Entries DictError → Type 0
+ReadsDictionary bytes (Ok entries) = IsDictionary bytes entries
+-- it breaks rules other than 1 and 2a, and these are its findings
+ReadsDictionary bytes (Err (NotDictionary found)) = LooseFindings bytes found × (found ≢ [])
+ReadsDictionary bytes (Err NoDict) = LacksDict bytes
+ReadsDictionary bytes (Err MissingHeading) = LacksHeading bytes
+-- memory was refused, which says nothing of the bytes
+ReadsDictionary bytes (Err NoMemory) = Unit {0}

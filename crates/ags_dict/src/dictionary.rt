@@ -32,10 +32,10 @@ impl Model for Dictionary {
 fn has_no_parent(group: &[u8]) -> bool
     ensures { result ≡ has_no_parent group.now }
 {
-    match group {
-        b"PROJ" | b"TRAN" | b"ABBR" | b"DICT" | b"UNIT" | b"TYPE" | b"FILE" => true,
-        _ => false,
-    }
+    matches!(
+        group,
+        b"PROJ" | b"TRAN" | b"ABBR" | b"DICT" | b"UNIT" | b"TYPE" | b"FILE"
+    )
 }
 
 impl Dictionary {

@@ -60,7 +60,7 @@ fn take_rows(alloc: Global, group: &Group, dictionary: Dictionary) -> Result<Dic
         mut headings,
     } = dictionary;
     let names = group.headings.as_slice();
-    for (i, row) in group.rows.as_slice().iter().enumerate() {
+    for row in group.rows.as_slice() {
         let cells = row.cells.as_slice();
         groups = take_group_row(alloc, names, cells, groups)?;
         headings = take_heading_row(alloc, names, cells, headings)?;
@@ -95,7 +95,7 @@ pub(crate) fn take_contents(
     ensures { IfOk result (λ taken. taken ≡ extended dictionary (contents_of found.now)) }
 {
     let mut taken = dictionary;
-    for (i, group) in found.iter().enumerate() {
+    for group in found {
         taken = take_dict(alloc, group, taken)?;
     }
     Ok(taken)

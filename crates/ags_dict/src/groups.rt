@@ -6,16 +6,16 @@ ghost use Rattle.ags_dict.specs.Entries.{same_group, with_unstated};
 ghost use Rattle.ags_dict.specs.Index.{is_for};
 
 use crate::entries::GroupEntry;
-use crate::places::Places;
+use crate::places::PlacesByText;
 use ags_rows::copy;
 use std::alloc::{AllocError, Global};
 use std::marker::Model;
 
 /// The entries for groups in their order, found by the group's name.
 #[derive(Drop)]
-pub struct GroupEntries {
+pub(crate) struct GroupEntries {
     entries: Vec<GroupEntry>,
-    by_name: Places,
+    by_name: PlacesByText,
 }
 
 impl Model for GroupEntries {
@@ -33,17 +33,17 @@ impl Model for GroupEntries {
 
 impl GroupEntries {
     /// No entries.
-    pub fn new(alloc: Global) -> GroupEntries
+    pub(crate) fn new(alloc: Global) -> GroupEntries
         ensures { result ≡ [] }
     {
         GroupEntries {
             entries: Vec::new(alloc),
-            by_name: Places::new(alloc),
+            by_name: PlacesByText::new(alloc),
         }
     }
 
     /// How many entries there are.
-    pub fn len(&self) -> usize
+    pub(crate) fn len(&self) -> usize
         ensures { result ≡ length self.now }
     {
         self.entries.len()
@@ -57,14 +57,14 @@ impl GroupEntries {
     }
 
     /// The group's entry.
-    pub fn find(&self, group: &[u8]) -> Option<&GroupEntry>
+    pub(crate) fn find(&self, group: &[u8]) -> Option<&GroupEntry>
         ensures { option_copied result ≡ find (is_for group.now) self.now }
     {
         self.at(self.by_name.nth(group, 0)?)
     }
 
     /// The entries, and one more.
-    pub fn with(self, alloc: Global, entry: GroupEntry) -> Result<GroupEntries, AllocError>
+    pub(crate) fn with(self, alloc: Global, entry: GroupEntry) -> Result<GroupEntries, AllocError>
         ensures { IfOk result (λ entries. entries ≡ self ++ entry ∷ []) }
     {
         let GroupEntries {
@@ -77,7 +77,11 @@ impl GroupEntries {
     }
 
     /// The entries, and one more unless its group has one.
-    pub fn with_unstated(self, alloc: Global, entry: GroupEntry) -> Result<GroupEntries, AllocError>
+    pub(crate) fn with_unstated(
+        self,
+        alloc: Global,
+        entry: GroupEntry,
+    ) -> Result<GroupEntries, AllocError>
         ensures { IfOk result (λ entries. entries ≡ with_unstated same_group self (entry ∷ [])) }
     {
         if self.find(entry.group.as_slice()).is_some() {
@@ -87,7 +91,7 @@ impl GroupEntries {
     }
 
     /// The same entries.
-    pub fn copied(&self, alloc: Global) -> Result<GroupEntries, AllocError>
+    pub(crate) fn copied(&self, alloc: Global) -> Result<GroupEntries, AllocError>
         ensures { IfOk result (λ entries. entries ≡ self.now) }
     {
         let mut copied = GroupEntries::new(alloc);

@@ -7,17 +7,17 @@ ghost use Rattle.ags_dict.specs.Entries.{same_heading, with_unstated, of_group, 
 ghost use Rattle.ags_dict.specs.Index.{is_named, is_of_other, is_heading};
 
 use crate::entries::HeadingEntry;
-use crate::places::{Places, Ranks};
+use crate::places::{PlacesByText, Ranks};
 use ags_rows::copy;
 use std::alloc::{AllocError, Global};
 use std::marker::Model;
 
 /// The entries for headings in their order, found by group, by heading, and by both.
 #[derive(Drop)]
-pub struct HeadingEntries {
+pub(crate) struct HeadingEntries {
     entries: Vec<HeadingEntry>,
-    by_group: Places,
-    by_heading: Places,
+    by_group: PlacesByText,
+    by_heading: PlacesByText,
     ranks: Ranks,
 }
 
@@ -36,19 +36,19 @@ impl Model for HeadingEntries {
 
 impl HeadingEntries {
     /// No entries.
-    pub fn new(alloc: Global) -> HeadingEntries
+    pub(crate) fn new(alloc: Global) -> HeadingEntries
         ensures { result ≡ [] }
     {
         HeadingEntries {
             entries: Vec::new(alloc),
-            by_group: Places::new(alloc),
-            by_heading: Places::new(alloc),
+            by_group: PlacesByText::new(alloc),
+            by_heading: PlacesByText::new(alloc),
             ranks: Ranks::new(alloc),
         }
     }
 
     /// How many entries there are.
-    pub fn len(&self) -> usize
+    pub(crate) fn len(&self) -> usize
         ensures { result ≡ length self.now }
     {
         self.entries.len()
@@ -62,7 +62,11 @@ impl HeadingEntries {
     }
 
     /// The group's entries in their order.
-    pub fn of_group(&self, alloc: Global, group: &[u8]) -> Result<Vec<&HeadingEntry>, AllocError>
+    pub(crate) fn of_group(
+        &self,
+        alloc: Global,
+        group: &[u8],
+    ) -> Result<Vec<&HeadingEntry>, AllocError>
         ensures { IfOk result (λ found. map (λ e. e.now) found.items ≡ filter (of_group group.now) self.now) }
     {
         let mut found = Vec::new(alloc);
@@ -75,14 +79,14 @@ impl HeadingEntries {
     }
 
     /// The place of a heading in the order of its group.
-    pub fn place_in_order(&self, group: &[u8], heading: &[u8]) -> Option<usize>
+    pub(crate) fn place_in_order(&self, group: &[u8], heading: &[u8]) -> Option<usize>
         ensures { result ≡ place_in (map heading_of (filter (of_group group.now) self.now)) heading.now }
     {
         self.ranks.of(group, heading)
     }
 
     /// The entry for a heading of a group.
-    pub fn find(&self, group: &[u8], heading: &[u8]) -> Option<&HeadingEntry>
+    pub(crate) fn find(&self, group: &[u8], heading: &[u8]) -> Option<&HeadingEntry>
         ensures { option_copied result ≡ find (is_heading group.now heading.now) self.now }
     {
         let rank = self.ranks.of(group, heading)?;
@@ -100,7 +104,7 @@ impl HeadingEntries {
     }
 
     /// Whether another group has a heading of this name.
-    pub fn elsewhere(&self, group: &[u8], heading: &[u8]) -> bool
+    pub(crate) fn elsewhere(&self, group: &[u8], heading: &[u8]) -> bool
         ensures { result ≡ list_any (λ e. is_named heading.now e && not (of_group group.now e)) self.now }
     {
         for place in self.by_heading.of(heading) {
@@ -112,7 +116,11 @@ impl HeadingEntries {
     }
 
     /// The entries, and one more.
-    pub fn with(self, alloc: Global, entry: HeadingEntry) -> Result<HeadingEntries, AllocError>
+    pub(crate) fn with(
+        self,
+        alloc: Global,
+        entry: HeadingEntry,
+    ) -> Result<HeadingEntries, AllocError>
         ensures { IfOk result (λ entries. entries ≡ self ++ entry ∷ []) }
     {
         let HeadingEntries {
@@ -136,7 +144,7 @@ impl HeadingEntries {
     }
 
     /// The entries, and one more unless its group has one for its heading.
-    pub fn with_unstated(
+    pub(crate) fn with_unstated(
         self,
         alloc: Global,
         entry: HeadingEntry,
@@ -151,7 +159,7 @@ impl HeadingEntries {
     }
 
     /// The same entries.
-    pub fn copied(&self, alloc: Global) -> Result<HeadingEntries, AllocError>
+    pub(crate) fn copied(&self, alloc: Global) -> Result<HeadingEntries, AllocError>
         ensures { IfOk result (λ entries. entries ≡ self.now) }
     {
         let mut copied = HeadingEntries::new(alloc);

@@ -14,4 +14,4 @@ mod reading;
 mod tests;
 
 pub use dictionary::Dictionary;
-pub use reading::DictError;
+pub use reading::{DictError, has_dict};

@@ -10,22 +10,22 @@ use std::collections::BTreeMap;
 
 /// For each text, the places of a list at which it stands, rising.
 #[derive(Drop)]
-pub struct Places {
+pub(crate) struct PlacesByText {
     pub(crate) held: BTreeMap<Vec<u8>, Vec<usize>>,
 }
 
-impl Places {
+impl PlacesByText {
     /// No places.
-    pub fn new(alloc: Global) -> Places
+    pub(crate) fn new(alloc: Global) -> PlacesByText
         ensures { (text : List ℕ) → places_at result text ≡ [] }
     {
-        Places {
+        PlacesByText {
             held: BTreeMap::new(alloc),
         }
     }
 
     /// The places of a text.
-    pub fn of(&self, text: &[u8]) -> &[usize]
+    pub(crate) fn of(&self, text: &[u8]) -> &[usize]
         ensures { result.now ≡ places_at self.now text.now }
     {
         match self.held.get(text) {
@@ -35,14 +35,19 @@ impl Places {
     }
 
     /// The n-th place of a text, counted from 0.
-    pub fn nth(&self, text: &[u8], n: usize) -> Option<usize>
+    pub(crate) fn nth(&self, text: &[u8], n: usize) -> Option<usize>
         ensures { result ≡ slice_get (places_at self.now text.now) n }
     {
         self.of(text).get(n).copied()
     }
 
     /// Notes one more place of a text.
-    pub fn note(&mut self, alloc: Global, text: &[u8], place: usize) -> Result<(), AllocError>
+    pub(crate) fn note(
+        &mut self,
+        alloc: Global,
+        text: &[u8],
+        place: usize,
+    ) -> Result<(), AllocError>
         ensures { OnOk result ((other : List ℕ) → places_at self.new other
             ≡ (if bytes_eq text.now other then places_at self.old other ++ place ∷ [] else places_at self.old other)) }
     {
@@ -59,13 +64,13 @@ impl Places {
 
 /// For each heading of a group, its place in the group's order.
 #[derive(Drop)]
-pub struct Ranks {
+pub(crate) struct Ranks {
     pub(crate) held: BTreeMap<Vec<u8>, BTreeMap<Vec<u8>, usize>>,
 }
 
 impl Ranks {
     /// No headings.
-    pub fn new(alloc: Global) -> Ranks
+    pub(crate) fn new(alloc: Global) -> Ranks
         ensures { (group heading : List ℕ) → rank_at result group heading ≡ None }
     {
         Ranks {
@@ -74,14 +79,14 @@ impl Ranks {
     }
 
     /// The place of a heading in its group's order.
-    pub fn of(&self, group: &[u8], heading: &[u8]) -> Option<usize>
+    pub(crate) fn of(&self, group: &[u8], heading: &[u8]) -> Option<usize>
         ensures { result ≡ rank_at self.now group.now heading.now }
     {
         self.held.get(group)?.get(heading).copied()
     }
 
     /// Notes the place of a heading in its group's order, unless one is noted.
-    pub fn note(
+    pub(crate) fn note(
         &mut self,
         alloc: Global,
         group: &[u8],

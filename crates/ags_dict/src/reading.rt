@@ -1,14 +1,12 @@
 //! Reading a dictionary.
 
-ghost use Rattle.std.specs.Prelude.{◌≡◌, ◌≢◌, ◌≤◌, List, [], length, IfOk, IsErrOf};
+ghost use Rattle.std.specs.Prelude.{◌≡◌, ◌≤◌, length};
 ghost use Rattle.std.specs.List.{list_any};
 ghost use Rattle.std.specs.Str.{bytes_eq};
-ghost use Rattle.ags_rows.specs.declared.codes.Finding.{Finding};
 ghost use Rattle.ags_rows.specs.Contents.{group_contents, contents_of};
-ghost use Rattle.ags_rows.specs.Findings.{LooseFindings};
 ghost use Rattle.ags_dict.specs.declared.reading.DictError.TheVariants.{NoMemory};
 ghost use Rattle.ags_dict.specs.Entries.{has_dict, has_dict_headings, is_incomplete, lacks_heading};
-ghost use Rattle.ags_dict.specs.Reading.{IsDictionary, LacksDict, LacksHeading};
+ghost use Rattle.ags_dict.specs.Reading.{ReadsDictionary};
 
 use crate::dictionary::Dictionary;
 use crate::extending::{is_dict, take_contents};
@@ -20,7 +18,7 @@ use thiserror::Error;
 /// Why bytes are no dictionary.
 #[derive(Drop, Error)]
 pub enum DictError {
-    /// The file has findings, other than of Rules 1 and 2a.
+    /// The file has findings, other than of Rules 1 and 2a: all of the first phase that has any, at least one.
     #[error("not a dictionary")]
     NotDictionary(Sequence<Finding>),
     /// The file has no group DICT.
@@ -29,6 +27,7 @@ pub enum DictError {
     /// DICT lacks DICT_TYPE, DICT_GRP, DICT_HDNG, DICT_STAT or DICT_PGRP.
     #[error("a heading of DICT is missing")]
     MissingHeading,
+    /// Memory was refused.
     #[error("out of memory")]
     NoMemory,
 }
@@ -47,16 +46,11 @@ impl From<AllocError> for DictError {
     }
 }
 
-/// Whether the file has a group DICT.
-fn has_dict(groups: &[Group]) -> bool
+/// Whether one of the groups is DICT.
+pub fn has_dict(groups: &[Group]) -> bool
     ensures { result ≡ has_dict (contents_of groups.now) }
 {
-    for (i, group) in groups.iter().enumerate() {
-        if is_dict(group) {
-            return true;
-        }
-    }
-    false
+    groups.iter().any(|group| is_dict(group))
 }
 
 /// Whether a HEADING row has a heading.
@@ -88,22 +82,14 @@ fn is_incomplete(group: &Group) -> bool
 fn lacks_heading(groups: &[Group]) -> bool
     ensures { result ≡ lacks_heading (contents_of groups.now) }
 {
-    for (i, group) in groups.iter().enumerate() {
-        if is_incomplete(group) {
-            return true;
-        }
-    }
-    false
+    groups.iter().any(|group| is_incomplete(group))
 }
 
 impl Dictionary {
     /// The dictionary that a file is.
     pub fn read(alloc: Global, bytes: &[u8]) -> Result<Dictionary, DictError>
         requires { length bytes.now ≤ READABLE }
-        ensures entries { IfOk result (λ dictionary. IsDictionary bytes.now dictionary) }
-        ensures findings { (found : List Finding) → IsErrOf result (DictError.NotDictionary found) → LooseFindings bytes.now found × (found ≢ []) }
-        ensures no_dict { IsErrOf result DictError.NoDict → LacksDict bytes.now }
-        ensures missing_heading { IsErrOf result DictError.MissingHeading → LacksHeading bytes.now }
+        ensures { ReadsDictionary bytes.now result }
     {
         let scan = match Scan::read_loose(alloc, bytes) {
             Ok(scan) => scan,

@@ -163,12 +163,27 @@ fn mini_is_read(rt: HostRuntime) -> Result<(), Fail> {
 #[test]
 fn questions(rt: HostRuntime) -> Result<(), Fail> {
     let mini = read(rt.alloc(), MINI)?;
-    assert_eq!(rt; mini.parent(b"SAMP"), Some(b"LOCA".as_slice()));
-    assert!(rt; mini.has_group(b"LNMC"));
-    assert!(rt; !mini.has_group(b"LNM"));
-    assert_eq!(rt; mini.place_in_order(b"LNMC", b"SPEC_DPTH"), Some(3));
-    assert!(rt; mini.elsewhere(b"SAMP", b"LOCA_ID"));
-    assert!(rt; !mini.elsewhere(b"LNMC", b"LNMC_MC"));
+    for (group, heading, place, is_group, is_elsewhere) in [
+        (
+            b"LNMC".as_slice(),
+            b"SPEC_DPTH".as_slice(),
+            Some(3),
+            true,
+            false,
+        ),
+        (b"LNMC", b"LNMC_MC", Some(4), true, false),
+        (b"SAMP", b"LOCA_ID", Some(0), true, true),
+        (b"LNM", b"LOCA_ID", None, false, true),
+    ] {
+        assert_eq!(rt;
+            (
+                mini.place_in_order(group, heading),
+                mini.has_group(group),
+                mini.elsewhere(group, heading)
+            ),
+            (place, is_group, is_elsewhere)
+        );
+    }
     assert_eq!(rt; (mini.group_count(), mini.heading_count()), (10, 38));
     Ok(())
 }
@@ -237,16 +252,6 @@ fn statuses_and_parents(rt: HostRuntime) -> Result<(), Fail> {
         let changed = read(alloc, bytes.as_slice())?;
         assert_eq!(rt; said(alloc, &changed, group)?.as_slice(), want);
     }
-    Ok(())
-}
-
-#[test]
-fn refusals_are_printed(rt: HostRuntime) -> Result<(), Fail> {
-    let text = format!(in rt.alloc(); "{}, {:?}", DictError::NoDict, DictError::MissingHeading)?;
-    assert_eq!(rt;
-        text.as_str(),
-        "no group DICT, a heading of DICT is missing"
-    );
     Ok(())
 }
 
@@ -335,9 +340,14 @@ fn own_entries_come_last(rt: HostRuntime) -> Result<(), Fail> {
 #[test]
 fn own_entries_are_found(rt: HostRuntime) -> Result<(), Fail> {
     let extended = extended(rt.alloc(), OWN_DICT)?;
-    assert_eq!(rt; extended.place_in_order(b"LOCA", b"LOCA_XTRA"), Some(5));
-    assert!(rt; !extended.elsewhere(b"LOCA", b"LOCA_XTRA"));
-    assert!(rt; extended.elsewhere(b"SAMP", b"LOCA_XTRA"));
+    assert_eq!(rt;
+        (
+            extended.place_in_order(b"LOCA", b"LOCA_XTRA"),
+            extended.elsewhere(b"LOCA", b"LOCA_XTRA"),
+            extended.elsewhere(b"SAMP", b"LOCA_XTRA")
+        ),
+        (Some(5), false, true)
+    );
     assert_eq!(rt;
         (extended.group_count(), extended.heading_count()),
         (11, 39)
@@ -345,26 +355,24 @@ fn own_entries_are_found(rt: HostRuntime) -> Result<(), Fail> {
     Ok(())
 }
 
-/// A refusal as it is printed.
-fn words(alloc: Global, refusal: &DictError) -> Result<String, Fail> {
-    let mut text = String::new(alloc);
-    write!(text, "{refusal}")?;
-    Ok(text)
-}
-
 #[test]
 fn refusals_as_printed(rt: HostRuntime) -> Result<(), Fail> {
     let alloc = rt.alloc();
-    let findings = DictError::NotDictionary(Sequence::from_vec(Vec::new(alloc)));
-    assert_eq!(rt; words(alloc, &findings)?.as_str(), "not a dictionary");
-    assert_eq!(rt; words(alloc, &DictError::NoDict)?.as_str(), "no group DICT");
-    assert_eq!(rt;
-        words(alloc, &DictError::MissingHeading)?.as_str(),
-        "a heading of DICT is missing"
-    );
-    assert_eq!(rt;
-        words(alloc, &DictError::NoMemory)?.as_str(),
-        "out of memory"
-    );
+    let findings = Sequence::from_vec(Vec::new(alloc));
+    for (refusal, want) in &[
+        (
+            DictError::NotDictionary(findings),
+            "not a dictionary, not a dictionary",
+        ),
+        (DictError::NoDict, "no group DICT, no group DICT"),
+        (
+            DictError::MissingHeading,
+            "a heading of DICT is missing, a heading of DICT is missing",
+        ),
+        (DictError::NoMemory, "out of memory, out of memory"),
+    ] {
+        let text = format!(in alloc; "{refusal}, {refusal:?}")?;
+        assert_eq!(rt; text.as_str(), *want);
+    }
     Ok(())
 }

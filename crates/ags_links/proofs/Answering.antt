@@ -2,7 +2,7 @@
 use Rattle.std.proofs.Common.{◌≡◌, ℕ, ◌<◌, List, [], ◌∷◌, length, get_or, map, refl, sym, ap, subst, ◌∙◌, arith, inl, inr, Contains, Some, codes}
 use Rattle.std.specs.List.Sorted.{IsStrictlyIncreasing}
 use Rattle.ags_dict.specs.Entries.{Entries, parent_of}
-use Rattle.ags_dict.specs.Parts.{parts_at}
+use Rattle.ags_rows.specs.Parts.{parts_at}
 use Rattle.ags_links.specs.declared.lookup.Lookup.{Lookup}
 use Rattle.ags_links.specs.DataRows.{DataRow, IsDataRow, Between, ListsRows, entry_of}
 use Rattle.ags_links.specs.Families.{HasText, HasKeyText, HasFileSet}
@@ -14,7 +14,7 @@ use Rattle.ags_links.specs.Parents.{IsParentRow}
 use Rattle.ags_links.specs.RecordLinks.{Names}
 use Rattle.ags_links.specs.Steps.{IsFileRow}
 use Rattle.ags_links.proofs.Members.{contains_head, contains_tail, contains_cons}
-use Rattle.ags_links.proofs.Rising.{rising_nil, first_is_least}
+use Rattle.ags_links.proofs.Rising.{first_is_least}
 use Rattle.ags_links.proofs.RowLemmas.{one_at}
 use Rattle.ags_links.proofs.Spelled.{key_text_same}
 
@@ -45,12 +45,6 @@ lists_found lookup Has text numbers IsOne finds e to from = record {
     λ h. to n ((finds.exact text n).0 (subst (λ l. Contains l n) e h)),
     λ h. subst (λ l. Contains l n) (sym e) ((finds.exact text n).1 (from n h)),
   );
-}
-
-pub lists_none : (IsOne : ℕ → Type 0) → ((n : ℕ) → IsOne n → ⊥) → ListsRows [] IsOne
-lists_none IsOne none = record {
-  rising = rising_nil;
-  exact = λ n. (λ h. absurd (omega (arith, h.1)), λ h. absurd (none n h));
 }
 
 -- ---- parents
@@ -129,9 +123,3 @@ files_listed rows n r lookup text numbers row finds spelled some e =
     let is : h.0 ≡ r = one_at rows n h.0 r h.2 row in
     let file : IsFileRow r h.1 = subst (λ q. IsFileRow q h.1) is h.4 in
     (h.1, h.3, (file.0, file.2 ∙ sym spelled)))
-
-pub no_files : (rows : List DataRow) (n : ℕ) (r : DataRow) → IsDataRow rows n r → entry_of r (codes "FILE_FSET") ≡ [] → ListsRows [] (Between rows IsFileRow n)
-no_files rows n r row null = lists_none (Between rows IsFileRow n) (λ m h.
-    let is : h.0 ≡ r = one_at rows n h.0 r h.2 row in
-    let file : IsFileRow r h.1 = subst (λ q. IsFileRow q h.1) is h.4 in
-    file.1 null)

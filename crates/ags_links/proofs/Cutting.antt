@@ -5,7 +5,8 @@ use Rattle.std.specs.List.{position_or_len}
 use Rattle.std.proofs.lemmas.Bool.{cases_lt, lt-ltb, cond-true}
 use Rattle.std.proofs.lemmas.List.{take_rest}
 use Rattle.std.proofs.lemmas.List.Sums.{fails_before_first}
-use Rattle.ags_dict.specs.Parts.{parts_at, onto_first}
+use Rattle.ags_rows.specs.Parts.{parts_at}
+use Rattle.std.specs.List.{onto_first}
 use Rattle.ags_links.specs.KeyTexts.{end_mark, byte_text, ended_text, key_text}
 
 -- no separator stands in the text
@@ -21,7 +22,7 @@ first_cut s (b ∷ text) zero lt at before = rw at refl
 first_cut s (b ∷ text) (suc k) lt at before =
     rw (before 0 (omega arith), first_cut s text k (omega (arith, lt)) at (λ j l. before (suc j) (omega (arith, l)))) refl
 
-parts_cut : (s : ℕ) (text : List ℕ) (k : ℕ) → position (λ b. eqb b s) text ≡ Some k → parts_at s text ≡ take k text ∷ parts_at s (drop (k + 1) text)
+pub parts_cut : (s : ℕ) (text : List ℕ) (k : ℕ) → position (λ b. eqb b s) text ≡ Some k → parts_at s text ≡ take k text ∷ parts_at s (drop (k + 1) text)
 parts_cut s text k e =
     let h = position-Some (λ b. eqb b s) text k 0 e in
     let n : suc k ≡ k + 1 = omega arith in

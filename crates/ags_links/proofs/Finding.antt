@@ -123,9 +123,6 @@ finds_over old Has rows i x lt is so_far none =
     let next = rows_next rows i x lt ∙ ap (λ y. map row_of (take i rows) ++ row_of y ∷ []) (sym is) in
     subst (λ rs. Finds old (HasText rs Has)) (sym next) (finds_past old Has (map row_of (take i rows)) (row_of x) so_far none)
 
-pub finds_end : (lookup : Lookup) (Has : DataRow → List ℕ → Type 0) (rows : List PlacedRow) (i : ℕ) → length rows ≤ i → Finds lookup (HasText (map row_of (take i rows)) Has) → Finds lookup (HasText (map row_of rows) Has)
-finds_end lookup Has rows i le so_far = subst (λ rs. Finds lookup (HasText (map row_of rs) Has)) (take_all i rows le) so_far
-
 -- ---- rows of a list of numbers
 
 before_next : (numbers : List ℕ) (i m : ℕ) → IsStrictlyIncreasing numbers → i < length numbers → Contains (take i numbers) m → m < get_or numbers i 0

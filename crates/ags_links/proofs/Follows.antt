@@ -7,9 +7,8 @@ use Rattle.ags_links.specs.Walks.{IsMarked, HasStep, IsReached}
 use Rattle.ags_links.specs.Turns.{turns_of}
 use Rattle.ags_links.specs.Work.{Looked, weigh, targets}
 use Rattle.ags_links.proofs.Weights.{weigh_turns, weigh_one, degree}
-use Rattle.ags_links.proofs.WalkLemmas.{reached_more, reached_itself}
+use Rattle.ags_links.proofs.WalkLemmas.{reach_keeps, reached_more, reached_itself}
 use Rattle.ags_links.proofs.Members.{target_of_step, step_of_target}
-use Rattle.ags_links.proofs.Passes.{marks_are_reached}
 
 -- a turn for a row and one for each step that starts at it
 abbrev pub cost : List (ℕ × ℕ) → ℕ → ℕ
@@ -58,6 +57,11 @@ follow_more steps from marks work turns row more next so_far looked =
       ];
       balance = omega (arith, so_far.balance, looked.balance (cost steps), sum_by_push (cost steps) work row);
     }
+
+-- what the start has, each step keeps and nothing else has is what is reached
+marks_are_reached : (steps : List (ℕ × ℕ)) (from marks : List Bool) → ((r : ℕ) → IsMarked from r → IsMarked marks r) → ((s : ℕ) → IsMarked marks s → IsReached (HasStep steps) (IsMarked from) s) → ((r s : ℕ) → HasStep steps r s → IsMarked marks r → IsMarked marks s) → (s : ℕ) → IsMarked marks s ↔ IsReached (HasStep steps) (IsMarked from) s
+marks_are_reached steps from marks grows sound closed s =
+    (sound s, λ h. reach_keeps (HasStep steps) (IsMarked marks) closed h.0 s h.2 (grows h.0 h.1))
 
 pub follow_ends : (steps : List (ℕ × ℕ)) (from marks : List Bool) (turns : ℕ) → Following steps from marks [] turns → (s : ℕ) → IsMarked marks s ↔ IsReached (HasStep steps) (IsMarked from) s
 follow_ends steps from marks turns so_far =

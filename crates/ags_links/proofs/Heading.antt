@@ -21,7 +21,8 @@ use Rattle.ags_links.proofs.Members.{contains_filter, filter_contains, contains_
 
 -- ---- whether a name has a place
 
-placed : (names : List (List ℕ)) (name : List ℕ) → Contains names name → place_in names name ≡ None → ⊥
+-- a name of the list has a place
+pub placed : (names : List (List ℕ)) (name : List ℕ) → Contains names name → place_in names name ≡ None → ⊥
 placed names name h none =
     let test : List ℕ → Bool = λ n. bytes_eq n name in
     elim (cases_lt h.0 (position_or_len test names)) [
@@ -33,7 +34,7 @@ placed names name h none =
           none-some (position_or_len test names) (sym none ∙ ap (λ (b : Bool). cond {A = Option ℕ} b (Some (position_or_len test names)) None) found)
     ]
 
-place_of : (place : Option ℕ) → ((i : ℕ) × (place ≡ Some i)) ⊎ (place ≡ None)
+pub place_of : (place : Option ℕ) → ((i : ℕ) × (place ≡ Some i)) ⊎ (place ≡ None)
 place_of None = inr refl
 place_of (Some i) = inl (i, refl)
 

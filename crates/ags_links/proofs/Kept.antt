@@ -10,7 +10,7 @@ use Rattle.ags_dict.specs.Entries.{Entries}
 use Rattle.ags_links.specs.declared.families.Family.{Family}
 use Rattle.ags_links.specs.declared.lookup.Lookup.{Lookup}
 use Rattle.ags_links.specs.declared.placed.PlacedRow.{PlacedRow}
-use Rattle.ags_links.specs.DataRows.{DataRow, IsAt, IsDataRow, data_rows, group_rows, row_in}
+use Rattle.ags_links.specs.DataRows.{DataRow, IsAt, data_rows, group_rows, row_in}
 use Rattle.ags_links.specs.Families.{HasText, HasGroupName, HasFamily, IsFamily, AreKept, AreFamilies}
 use Rattle.ags_links.specs.Lookups.{found, Finds}
 use Rattle.ags_links.specs.Placing.{IsPlaced, row_of}
@@ -119,13 +119,6 @@ first_of_group by_group rows group numbers x finds e lt at =
     let n = get_or numbers 0 0 in
     let h = (finds.exact group n).0 (subst (λ l. Contains l n) e (Contains-get_or numbers 0 0 lt)) in
     ap (λ (r : DataRow). r.group) (one_at (map row_of rows) n (row_of x) h.0 (at_map row_of rows n x at) h.1) ∙ h.2
-
--- where no row is found, there is none of the group
-pub no_row_found : (by_group : Lookup) (rows : List DataRow) (group : List ℕ) (numbers : List ℕ) → Finds by_group (HasText rows HasGroupName) → numbers ≡ found by_group group → numbers ≡ []
-    → (n : ℕ) (r : DataRow) → IsDataRow rows n r → r.group ≡ group → ⊥
-no_row_found by_group rows group numbers finds e empty n r row named =
-    let h = subst (λ l. Contains l n) (sym e ∙ empty) ((finds.exact group n).1 (r, row, named)) in
-    omega (arith, h.1)
 
 -- ---- the headings of a list that stand in a HEADING row
 

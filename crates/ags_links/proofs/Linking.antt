@@ -1,14 +1,16 @@
 -- The rows that record links name, part after part.
-use Rattle.std.proofs.Common.{◌≡◌, ℕ, Bool, true, false, not, eqb, List, [], ◌∷◌, ◌++◌, length, refl, sym, subst, ◌∙◌, arith, inl, inr, ◌⊎◌, ◌↔◌, Contains, IsTrue}
+use Rattle.std.proofs.Common.{◌≡◌, ℕ, ◌+◌, ◌<◌, ◌≤◌, Bool, true, false, not, eqb, List, [], ◌∷◌, ◌++◌, length, get_or, take, refl, sym, subst, ◌∙◌, arith, inl, inr, ◌⊎◌, ◌↔◌, Contains, IsTrue, Bor}
 use Rattle.std.specs.List.Sorted.{IsStrictlyIncreasing}
 use Rattle.std.proofs.lemmas.Bool.{true≢false, eqb-true}
-use Rattle.std.proofs.lemmas.List.Elements.{Contains-push, Contains-push_cases, Contains-append_left, Contains-append_right, Contains-append_cases}
+use Rattle.std.proofs.lemmas.List.{take_all}
+use Rattle.std.proofs.lemmas.List.Elements.{Contains-get_or, Contains-push, Contains-push_cases, Contains-append_left, Contains-append_right, Contains-append_cases}
 use Rattle.ags_links.specs.Adding.{AddsRows}
 use Rattle.ags_links.specs.DataRows.{DataFile, DataRow, IsDataRow, ListsRows}
 use Rattle.ags_links.specs.Indexing.{rows_in, IsNamedBy, IsNamedAmong, IsLinkedAt}
-use Rattle.ags_links.specs.RecordLinks.{separators_of, IsPartOf, IsLinkRow}
+use Rattle.ags_links.specs.RecordLinks.{separators_of, IsPartOf, IsLinkRow, IsBroken}
 use Rattle.ags_links.specs.Steps.{IsLinkedPart, Linked}
-use Rattle.ags_links.proofs.Members.{contains_head}
+use Rattle.ags_links.proofs.Kept.{texts, texts_next}
+use Rattle.ags_links.proofs.Members.{contains_head, contains_map}
 use Rattle.ags_links.proofs.RowLemmas.{one_at}
 
 -- ---- what is added
@@ -60,9 +62,6 @@ among_next file old found new rows parts part so_far lists e =
 -- each of the parts names a row
 abbrev pub EachNames : DataFile → List (List ℕ) → Type 0
 EachNames file parts = (part : List ℕ) → Contains parts part → (n : ℕ) × IsNamedBy file part n
-
-pub each_begins : (file : DataFile) → EachNames file []
-each_begins file part h = absurd (omega (arith, h.1))
 
 some_listed : (rows : List ℕ) (IsOne : ℕ → Type 0) → ListsRows rows IsOne → (t : Bool) → t ≡ eqb (length rows) 0 → t ≡ false → (n : ℕ) × IsOne n
 some_listed [] IsOne lists t e is = absurd (true≢false (sym e ∙ is))
@@ -119,3 +118,30 @@ link_lists file r heading parts found once cut adds same rises =
     (λ m h. (h.2.0, h.2.1, (h.0, (cut h.0).0 h.1, h.2.2)))
     (λ m h. (h.2.0, (cut h.2.0).1 h.2.1, (h.0, h.1, h.2.2))))
     same rises
+
+-- ---- going over the parts of a cell
+
+-- the parts of what stands in the row under a heading
+abbrev pub ArePartsOf : DataFile → DataRow → List ℕ → List (Bor (List ℕ)) → Type 0
+ArePartsOf file r heading parts = (part : List ℕ) → Contains (texts parts) part ↔ IsPartOf (separators_of file.contents) r heading part
+
+-- a part more names a row
+pub part_names : (file : DataFile) (parts : List (Bor (List ℕ))) (i : ℕ) (rows : List ℕ) (d : Bor (List ℕ)) → i < length parts → EachNames file (texts (take i parts)) → ListsRows rows (IsNamedBy file (get_or parts i d).now)
+    → (t : Bool) → t ≡ eqb (length rows) 0 → t ≡ false → EachNames file (texts (take (i + 1) parts))
+part_names file parts i rows d lt so_far lists t e is =
+    subst (EachNames file) (sym (texts_next parts i d lt)) (each_next file (texts (take i parts)) (get_or parts i d).now rows so_far lists t e is)
+
+-- a part names no row
+pub part_broken : (file : DataFile) (r : DataRow) (heading : List ℕ) (parts : List (Bor (List ℕ))) (i : ℕ) (rows : List ℕ) (d : Bor (List ℕ)) → ArePartsOf file r heading parts → i < length parts
+    → ListsRows rows (IsNamedBy file (get_or parts i d).now) → (t : Bool) → t ≡ eqb (length rows) 0 → t ≡ true → IsBroken file.entries (separators_of file.contents) (rows_in file) r heading
+part_broken file r heading parts i rows d are lt lists t e is =
+    let part = get_or parts i d in (
+      part.now,
+      (are part.now).0 (contains_map (λ (p : Bor (List ℕ)). p.now) parts part (Contains-get_or parts i d lt)),
+      none_listed rows (IsNamedBy file part.now) lists t e is,
+    )
+
+-- no part is left
+pub parts_named : (file : DataFile) (r : DataRow) (heading : List ℕ) (parts : List (Bor (List ℕ))) (i : ℕ) → ArePartsOf file r heading parts → length parts ≤ i → EachNames file (texts (take i parts))
+    → (part : List ℕ) → IsPartOf (separators_of file.contents) r heading part → (n : ℕ) × IsNamedBy file part n
+parts_named file r heading parts i are past each part is = subst (λ ps. EachNames file (texts ps)) (take_all i parts past) each part ((are part).1 is)

@@ -1,7 +1,7 @@
 -- Steps beside a row, looked at one after another.
-use Rattle.std.proofs.Common.{◌≡◌, ℕ, ◌+◌, ◌<◌, ◌≤◌, Bool, true, false, List, [], ◌∷◌, ◌++◌, length, get_or, set, take, refl, sym, subst, arith, inl, inr, Contains}
+use Rattle.std.proofs.Common.{◌≡◌, ℕ, ◌+◌, ◌<◌, Bool, true, false, List, [], ◌∷◌, ◌++◌, length, get_or, set, take, refl, sym, subst, arith, inl, inr, Contains}
 use Rattle.std.proofs.lemmas.List.Elements.{All-push, All-nil, All-weaker, Contains-push, Contains-append_left, Contains-push_cases}
-use Rattle.std.proofs.lemmas.List.{take_more, take_all}
+use Rattle.std.proofs.lemmas.List.{take_more}
 use Rattle.std.proofs.lemmas.List.Sums.{sum_by_push}
 use Rattle.ags_links.specs.Walks.{IsMarked}
 use Rattle.ags_links.specs.Work.{Looked}
@@ -52,7 +52,3 @@ look_over_next beside i old marks before work lt so_far here = subst (λ seen. L
 
 pub look_marks_next : (beside : List ℕ) (i : ℕ) (old marks : List Bool) (before work : List ℕ) → i < length beside → Looked (take i beside) old marks before work → get_or beside i 0 < length marks → get_or marks (get_or beside i 0) false ≡ false → Looked (take (i + 1) beside) old (set marks (get_or beside i 0) true) before (work ++ get_or beside i 0 ∷ [])
 look_marks_next beside i old marks before work lt so_far row new = subst (λ seen. Looked seen old (set marks (get_or beside i 0) true) before (work ++ get_or beside i 0 ∷ [])) (sym (take_more beside i 0 lt)) (look_marks (take i beside) (get_or beside i 0) old marks before work so_far row new)
-
--- all of the list
-pub looked_all : (beside : List ℕ) (i : ℕ) (old marks : List Bool) (before work : List ℕ) → length beside ≤ i → Looked (take i beside) old marks before work → Looked beside old marks before work
-looked_all beside i old marks before work le so_far = subst (λ seen. Looked seen old marks before work) (take_all i beside le) so_far

@@ -1,7 +1,6 @@
 -- What one more mark does.
-use Rattle.std.proofs.Common.{◌≡◌, ℕ, zero, suc, ◌+◌, ◌<◌, Bool, true, false, not, cond, List, [], ◌∷◌, length, get_or, set, sym, subst, ap, ◌∙◌, arith, inl, inr, ◌⊎◌, get_or-set_same, get_or-set_other, count_by}
+use Rattle.std.proofs.Common.{◌≡◌, ℕ, zero, suc, ◌<◌, Bool, true, false, List, [], ◌∷◌, length, set, sym, subst, ◌∙◌, arith, inl, inr, ◌⊎◌, get_or-set_same, get_or-set_other}
 use Rattle.std.proofs.lemmas.Bool.{cases_eq, true≢false}
-use Rattle.std.proofs.lemmas.List.Sums.{sum_by-set}
 use Rattle.ags_links.specs.Walks.{IsMarked}
 
 -- a marked row is a row
@@ -25,10 +24,3 @@ mark_cases marks s r h = elim (cases_eq r s) [
 
 pub mark_same : (marks : List Bool) (s : ℕ) → s < length marks → IsMarked (set marks s true) s
 mark_same marks s lt = get_or-set_same marks s true false lt
-
--- fewer rows are unmarked
-pub mark_fewer : (marks : List Bool) (s : ℕ) → s < length marks → get_or marks s false ≡ false → count_by not (set marks s true) + 1 ≡ count_by not marks
-mark_fewer marks s lt h =
-    let e = sum_by-set (λ (b : Bool). cond (not b) 1 0) marks s true false lt in
-    let one : ℕ = 1 in let k : cond (not (get_or marks s false)) one 0 ≡ one = ap (λ b. cond (not b) one 0) h in
-    omega (arith, e, k)

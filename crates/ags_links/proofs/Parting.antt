@@ -6,7 +6,7 @@ use Rattle.std.proofs.lemmas.Slice.Eq.{bytes_eq-Decides}
 use Rattle.std.proofs.lemmas.List.{get_or_default}
 use Rattle.std.proofs.lemmas.List.Elements.{Contains-push, Contains-push_cases, Contains-append_left, Contains-append_right, Contains-append_cases}
 use Rattle.ags_rows.specs.Contents.{place_in, field_at, under}
-use Rattle.ags_dict.specs.Parts.{parts_at}
+use Rattle.ags_rows.specs.Parts.{parts_at}
 use Rattle.ags_links.specs.DataRows.{DataRow}
 use Rattle.ags_links.specs.Families.{record_links}
 use Rattle.ags_links.specs.Placing.{IsPartAmong}

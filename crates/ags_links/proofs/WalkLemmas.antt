@@ -73,7 +73,3 @@ reached_more Step From r s known step = (known.0, known.1, reach_last Step known
 
 pub reached_itself : (Step : ℕ → ℕ → Type 0) (From : ℕ → Type 0) (r : ℕ) → From r → IsReached Step From r
 reached_itself Step From r from = (r, from, reach_itself Step r)
-
--- what is reached from what is reached
-pub reached_again : (Step : ℕ → ℕ → Type 0) (From Mid : ℕ → Type 0) → ((r : ℕ) → Mid r → IsReached Step From r) → (s : ℕ) → IsReached Step Mid s → IsReached Step From s
-reached_again Step From Mid known s h = let k = known h.0 h.1 in (k.0, k.1, reach_then Step k.0 h.0 s k.2 h.2)

@@ -2,7 +2,7 @@
 use Rattle.std.specs.Prelude.{◌≡◌, ◌≢◌, ◌<◌, ℕ, List, [], Option, Contains, length, slice_index_or}
 use Rattle.ags_rows.specs.declared.rows.Group.{Group}
 use Rattle.ags_rows.specs.Contents.{group_contents, fields_of, field_at}
-use Rattle.ags_dict.specs.Parts.{parts_at}
+use Rattle.ags_rows.specs.Parts.{parts_at}
 use Rattle.ags_links.specs.DataRows.{DataRow, row_in}
 use Rattle.ags_links.specs.declared.placed.PlacedRow.{PlacedRow}
 

@@ -3,8 +3,9 @@ use Rattle.std.specs.Prelude.{◌≡◌, ◌==◌, ℕ, List, [], ◌∷◌, Opt
 use Rattle.std.specs.List.{find}
 use Rattle.std.specs.Str.{bytes_eq}
 use Rattle.ags_rows.specs.Contents.{Contents, under}
-use Rattle.ags_dict.specs.Entries.{Entries, plus}
-use Rattle.ags_dict.specs.Parts.{parts_at}
+use Rattle.ags_rows.specs.Bytes.{plus}
+use Rattle.ags_dict.specs.Entries.{Entries}
+use Rattle.ags_rows.specs.Parts.{parts_at}
 use Rattle.ags_links.specs.declared.separators.Separators.{Separators}
 use Rattle.ags_links.specs.DataRows.{DataRow, entry_of, IsDataRow}
 use Rattle.ags_links.specs.Keys.{key_of}

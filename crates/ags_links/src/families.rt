@@ -7,10 +7,10 @@ ghost use Rattle.ags_links.specs.Families.{HasText, HasGroupName, HasKeyText, Ha
 ghost use Rattle.ags_links.specs.Placing.{IsPlaced, row_of};
 
 use crate::lookup::{Lookup, add_row, no_rows};
-use crate::placed::{PlacedRow, cell_at, field};
+use crate::placed::{PlacedRow, field};
 use crate::texts::group_text;
 use ags_dict::Dictionary;
-use ags_rows::{Group, Places};
+use ags_rows::{Group, Places, cell_at};
 use std::alloc::{AllocError, Global};
 
 /// A group's headings and KEY headings, and the places in its rows of the KEY headings, of FILE_FSET and of the

@@ -1,7 +1,4 @@
-use crate::placed::{PlacedRow, place_rows};
-use crate::plain::passes::{reached_by_passes, shown_by_passes};
-use crate::plain::search::{first_of_key_by_search, parents_by_search};
-use crate::{Graph, Index, Targets, reached, shown};
+use crate::{Graph, Index, Targets};
 use ags_dict::Dictionary;
 use ags_rows::vectors::{FILE_A, FILE_B, FILE_C, MINI};
 use ags_rows::{READABLE, Scan};
@@ -84,32 +81,35 @@ fn edited(rt: &impl AllocGlobal, file: &[u8], old: &[u8], new: &[u8]) -> Result<
     Ok(text)
 }
 
+/// The steps of the third file: of rows to their parents, and of record links.
+const STEPS_OF_C: &[(u32, u32)] = &[
+    (7, 0),
+    (8, 0),
+    (9, 7),
+    (9, 11),
+    (10, 8),
+    (11, 7),
+    (11, 9),
+    (12, 7),
+    (12, 9),
+    (13, 9),
+    (14, 10),
+];
+
+const STEPS_OF_B: &[(u32, u32)] = &[(7, 0), (8, 0), (9, 7), (10, 8), (11, 9), (12, 10)];
+
 #[test]
 fn steps_of_files(rt: HostRuntime) -> Result<(), Fail> {
-    let graph = graph_of(&rt, FILE_A)?;
-    assert_eq!(rt; graph.rows(), 6);
-    assert!(rt; graph.steps() == [(5, 0)].as_slice());
-    let graph = graph_of(&rt, FILE_B)?;
-    assert_eq!(rt; graph.rows(), 13);
-    let parents = [(7, 0), (8, 0), (9, 7), (10, 8), (11, 9), (12, 10)];
-    assert!(rt; graph.steps() == parents.as_slice());
-    let graph = graph_of(&rt, FILE_C)?;
-    let parents_and_links = [
-        (7, 0),
-        (8, 0),
-        (9, 7),
-        (9, 11),
-        (10, 8),
-        (11, 7),
-        (11, 9),
-        (12, 7),
-        (12, 9),
-        (13, 9),
-        (14, 10),
-    ];
-    assert!(rt; graph.steps() == parents_and_links.as_slice());
-    let graph = graph_of(&rt, FILES)?;
-    assert!(rt; graph.steps() == [(0, 1), (0, 2)].as_slice());
+    for (file, rows, steps) in [
+        (FILE_A, 6, [(5, 0)].as_slice()),
+        (FILE_B, 13, STEPS_OF_B),
+        (FILE_C, 15, STEPS_OF_C),
+        (FILES, 4, [(0, 1), (0, 2)].as_slice()),
+    ] {
+        let graph = graph_of(&rt, file)?;
+        assert_eq!(rt; graph.rows(), rows);
+        assert!(rt; graph.steps() == steps, "{rows} rows");
+    }
     Ok(())
 }
 
@@ -171,56 +171,15 @@ fn separators_of_tran(rt: HostRuntime) -> Result<(), Fail> {
     Ok(())
 }
 
-/// Asks the index for each row, and the plain programs beside it.
-fn compare(rt: &(impl Abort + AllocGlobal), file: &[u8]) -> Result<(), Fail> {
-    let dictionary = dictionary(rt);
-    let scan = scanned(rt, file);
-    let index = Index::build(rt.alloc(), &scan, &dictionary)?;
-    let rows = place_rows(rt.alloc(), &scan)?;
-    for row in 0..index.row_count() {
-        compare_row(rt, &index, &dictionary, &rows, row)?;
-    }
-    Ok(())
-}
-
-/// The same of one row.
-fn compare_row(
-    rt: &(impl Abort + AllocGlobal),
-    index: &Index<'_, '_, '_>,
-    dictionary: &Dictionary,
-    rows: &[PlacedRow<'_, '_>],
-    row: u32,
-) -> Result<(), Fail> {
-    assert_eq!(rt; rows.len(), index.row_count() as usize);
-    assert!(rt; row < index.row_count());
-    assert!(rt; (row as usize) < rows.len());
-    assert!(rt; rows.len() <= READABLE);
-    let parents = index.parents(row)?;
-    let has_parent = index.has_parent(row)?;
-    let first = index.first_of_key(row)?;
-    let searched = parents_by_search(rt.alloc(), dictionary, rows, row)?;
-    let first_searched = first_of_key_by_search(rt.alloc(), dictionary, rows, row)?;
-    assert_eq!(rt; has_parent, !parents.is_empty());
-    assert!(rt; parents == searched);
-    assert_eq!(rt; first, first_searched);
-    Ok(())
-}
-
-#[test]
-fn index_and_search_agree(rt: HostRuntime) -> Result<(), Fail> {
-    for file in [FILE_A, FILE_B, FILE_C, FILES] {
-        compare(&rt, file)?;
-    }
-    Ok(())
-}
-
 /// The first row with the row's key, and the rows of FILE with its FILE_FSET.
 fn asked(rt: &(impl Abort + AllocGlobal), file: &[u8], row: u32) -> Result<(u32, Vec<u32>), Fail> {
     let dictionary = dictionary(rt);
     let scan = scanned(rt, file);
     let index = Index::build(rt.alloc(), &scan, &dictionary)?;
     assert!(rt; row < Graph::of(rt.alloc(), &index)?.rows());
-    Ok((index.first_of_key(row)?, index.files(row)?))
+    let files = index.files(row)?;
+    assert_eq!(rt; index.has_file(row), !files.is_empty());
+    Ok((index.first_of_key(row)?, files))
 }
 
 #[test]
@@ -231,7 +190,6 @@ fn equal_keys(rt: HostRuntime) -> Result<(), Fail> {
         b"\"BH2\",\"2.00\",\"S2\",\"\"",
         b"\"BH1\",\"1.50\",\"S1\",\"\"",
     )?;
-    compare(&rt, &file)?;
     let (first, files) = asked(&rt, &file, 10)?;
     assert_eq!(rt; first, 9);
     assert_eq!(rt; files.len(), 0);
@@ -248,30 +206,27 @@ fn rows_of_a_set(rt: HostRuntime) -> Result<(), Fail> {
     Ok(())
 }
 
-/// Closes the graph of a file from one row, and with one row that is not permitted, both ways.
-fn close(rt: &(impl Abort + AllocGlobal), file: &[u8]) -> Result<(), Fail> {
-    let graph = graph_of(rt, file)?;
-    for row in 0..graph.rows() {
-        let mut one = Vec::new(rt.alloc());
-        let mut others = Vec::new(rt.alloc());
-        for number in 0..graph.rows() {
-            one.push(number == row)?;
-            others.push(number != row)?;
-        }
-        assert_eq!(rt; one.len(), graph.rows() as usize);
-        assert_eq!(rt; others.len(), graph.rows() as usize);
-        let (from, _) = reached(rt.alloc(), &graph, &one)?;
-        assert!(rt; from == reached_by_passes(rt.alloc(), &graph, &one)?);
-        let (visible, _) = shown(rt.alloc(), &graph, &others)?;
-        assert!(rt; visible == shown_by_passes(rt.alloc(), &graph, &others)?);
-    }
-    Ok(())
+/// The parent rows of a row.
+fn parents_of(rt: &(impl Abort + AllocGlobal), file: &[u8], row: u32) -> Result<Vec<u32>, Fail> {
+    let dictionary = dictionary(rt);
+    let scan = scanned(rt, file);
+    let index = Index::build(rt.alloc(), &scan, &dictionary)?;
+    assert!(rt; row < Graph::of(rt.alloc(), &index)?.rows());
+    let parents = index.parents(row)?;
+    assert_eq!(rt; index.has_parent(row)?, !parents.is_empty());
+    Ok(parents)
 }
 
 #[test]
-fn closures_of_files_agree(rt: HostRuntime) -> Result<(), Fail> {
-    for file in [FILE_A, FILE_B, FILE_C, FILES] {
-        close(&rt, file)?;
+fn parents_of_rows(rt: HostRuntime) -> Result<(), Fail> {
+    for (row, want) in [
+        (0, [].as_slice()),
+        (7, [0].as_slice()),
+        (10, [8].as_slice()),
+        (12, [10].as_slice()),
+    ] {
+        let parents = parents_of(&rt, FILE_B, row)?;
+        assert!(rt; parents.as_slice() == want, "row {row}");
     }
     Ok(())
 }

@@ -11,8 +11,6 @@ pub mod laws;
 mod lookup;
 mod parents;
 mod placed;
-#[cfg(test)]
-mod plain;
 mod separators;
 mod steps;
 #[cfg(test)]
@@ -23,3 +21,4 @@ pub use closure::{reached, shown};
 pub use graph::Graph;
 pub use index::{Index, Targets};
 pub use separators::{Separators, separators_in};
+pub use texts::find_byte;

@@ -6,7 +6,7 @@ ghost use Rattle.ags_links.specs.DataRows.{data_rows, group_rows};
 ghost use Rattle.ags_links.specs.Placing.{IsPlaced, row_of};
 ghost use Rattle.ags_rows.specs.declared.rows.Group.{Group};
 
-use ags_rows::{Cell, Group, Row, Scan};
+use ags_rows::{Group, Row, Scan, cell_at};
 use std::alloc::{AllocError, Global};
 
 /// A DATA row, its group, and the group's place in the file.
@@ -15,16 +15,6 @@ pub(crate) struct PlacedRow<'s, 'f> {
     pub(crate) place: usize,
     pub(crate) group: &'s Group<'f>,
     pub(crate) row: &'s Row<'f>,
-}
-
-/// What stands in a row of cells at a place; null where there is none.
-pub(crate) fn cell_at<'r>(cells: &'r [Cell], place: Option<usize>) -> &'r [u8]
-    ensures { result.now ≡ field_at cells.now place }
-{
-    match place {
-        Some(place) if place < cells.len() => cells[place].as_slice(),
-        _ => b"",
-    }
 }
 
 /// What stands in the row at a place; null where there is none.

@@ -1,4 +1,3 @@
-use crate::plain::passes::{reached_by_passes, shown_by_passes};
 use crate::{Graph, reached, shown};
 use std::process::Abort;
 use std::test::Fail;
@@ -21,7 +20,7 @@ fn same(marks: &[bool], want: &[bool]) -> bool {
     marks == want
 }
 
-/// Closes a case's graph both ways from its marks, by the work list and by passes.
+/// Closes a case's graph from its marks.
 fn check_reached(rt: &(impl Abort + AllocGlobal), case: &Case) -> Result<(), Fail> {
     let steps = Vec::from_slice(rt.alloc(), case.steps)?;
     let graph = Graph::new(case.rows, steps).expect(rt, "in range");
@@ -29,8 +28,6 @@ fn check_reached(rt: &(impl Abort + AllocGlobal), case: &Case) -> Result<(), Fai
     let (marks, turns) = reached(rt.alloc(), &graph, case.marks)?;
     assert!(rt; same(&marks, case.want), "{}", case.what);
     assert_eq!(rt; turns, case.turns, "{}", case.what);
-    let plain = reached_by_passes(rt.alloc(), &graph, case.marks)?;
-    assert!(rt; plain == marks, "{}", case.what);
     Ok(())
 }
 
@@ -41,8 +38,6 @@ fn check_shown(rt: &(impl Abort + AllocGlobal), case: &Case) -> Result<(), Fail>
     let (marks, turns) = shown(rt.alloc(), &graph, case.marks)?;
     assert!(rt; same(&marks, case.want), "{}", case.what);
     assert_eq!(rt; turns, case.turns, "{}", case.what);
-    let plain = shown_by_passes(rt.alloc(), &graph, case.marks)?;
-    assert!(rt; plain == marks, "{}", case.what);
     Ok(())
 }
 
@@ -178,39 +173,5 @@ fn a_chain_of_a_hundred_thousand_rows(rt: HostRuntime) -> Result<(), Fail> {
         counted(&rt, &graph, &all_but_last)?,
         [100_000, 199_999, 0, 199_999]
     );
-    Ok(())
-}
-
-/// The next of a row of numbers without a plan.
-fn next_number(number: u64) -> u64 {
-    number
-        .wrapping_mul(6_364_136_223_846_793_005)
-        .wrapping_add(1_442_695_040_888_963_407)
-}
-
-#[test]
-fn work_lists_and_passes_agree(rt: HostRuntime) -> Result<(), Fail> {
-    let rows = 300;
-    let mut number = 7;
-    for count in [0, 60, 250, 330, 600] {
-        let mut steps = Vec::new(rt.alloc());
-        for _ in 0..count {
-            number = next_number(number);
-            steps.push((((number >> 20) % 300) as u32, ((number >> 40) % 300) as u32))?;
-        }
-        let graph = Graph::new(rows, steps).expect(&rt, "in range");
-        let mut marks = Vec::new(rt.alloc());
-        for _ in 0..rows {
-            number = next_number(number);
-            marks.push((number >> 33) % 8 == 0)?;
-        }
-        assert_eq!(rt; marks.len(), graph.rows() as usize);
-        let (from, _) = reached(rt.alloc(), &graph, &marks)?;
-        let plain = reached_by_passes(rt.alloc(), &graph, &marks)?;
-        assert!(rt; from == plain, "{count} steps");
-        let (visible, _) = shown(rt.alloc(), &graph, &marks)?;
-        let plain = shown_by_passes(rt.alloc(), &graph, &marks)?;
-        assert!(rt; visible == plain, "{count} steps");
-    }
     Ok(())
 }

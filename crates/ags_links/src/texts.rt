@@ -2,7 +2,7 @@
 
 ghost use Rattle.std.specs.Prelude.{◌≡◌, ◌==◌, ◌<◌, ◌+◌, ◌^◌, ◌++◌, ◌∷◌, ◌↔◌, ℕ, List, [], Contains, IfOk, OnOk, IfSome, IsTrue, Some, map, length, position};
 ghost use Rattle.ags_rows.specs.Contents.{field_at, place_in};
-ghost use Rattle.ags_dict.specs.Parts.{parts_at};
+ghost use Rattle.ags_rows.specs.Parts.{parts_at};
 ghost use Rattle.ags_links.specs.KeyTexts.{byte_text, ended_text, key_text};
 ghost use Rattle.ags_links.specs.Placing.{row_of, IsPartAmong};
 
@@ -16,7 +16,8 @@ const END_MARK: u8 = 0;
 /// Stands before a byte of a text that is a mark itself.
 const ESCAPE_MARK: u8 = 1;
 
-fn push_byte(out: &mut Vec<u8>, byte: u8) -> Result<(), AllocError>
+/// Adds a byte of a text, behind an escape mark where it is a mark itself.
+fn push_marked(out: &mut Vec<u8>, byte: u8) -> Result<(), AllocError>
     ensures { OnOk result (out.new.items ≡ out.old.items ++ byte_text byte) }
 {
     if byte <= ESCAPE_MARK {
@@ -31,7 +32,7 @@ fn push_text(out: &mut Vec<u8>, text: &[u8]) -> Result<(), AllocError>
     ensures { OnOk result (out.new.items ≡ out.old.items ++ ended_text text.now) }
 {
     for byte in text {
-        push_byte(out, *byte)?;
+        push_marked(out, *byte)?;
     }
     out.push(END_MARK)?;
     Ok(())
@@ -104,7 +105,7 @@ pub(crate) fn pieces_text(alloc: Global, delimiter: u8, part: &[u8]) -> Result<V
         if *byte == delimiter {
             text.push(END_MARK)?;
         } else {
-            push_byte(&mut text, *byte)?;
+            push_marked(&mut text, *byte)?;
         }
     }
     text.push(END_MARK)?;
@@ -112,7 +113,7 @@ pub(crate) fn pieces_text(alloc: Global, delimiter: u8, part: &[u8]) -> Result<V
 }
 
 /// The place of the first such byte.
-fn find_byte(text: &[u8], byte: u8) -> Option<usize>
+pub fn find_byte(text: &[u8], byte: u8) -> Option<usize>
     ensures place { result ≡ position (λ b. b == byte) text.now }
     ensures within { IfSome result (λ place. place < length text.now) }
     ensures small { IfSome result (λ place. place + 1 < 2 ^ 64) }
@@ -129,6 +130,7 @@ pub(crate) fn push_parts<'t>(
     ensures { OnOk result (map (λ p. p.now) out.new.items ≡ map (λ p. p.now) out.old.items ++ parts_at separator text.now) }
 {
     let mut rest = text;
+    // the label is the loop's name in its proof
     'cutting: while let Some(place) = find_byte(rest, separator) {
         out.push(&rest[..place])?;
         rest = &rest[place + 1..];

@@ -9,7 +9,7 @@ use Rattle.std.proofs.lemmas.Map.Made.{AllPairs-from_IsDistinct}
 use Rattle.ags_rows.specs.Bytes.{ascii_end, carriage_return, line_feed}
 use Rattle.ags_rows.specs.Names.{is_group_name, is_heading_name}
 use Rattle.ags_rows.specs.Contents.{Contents}
-use Rattle.ags_rows.specs.Writing.{IsPlainByte, ArePlain, StandOnce, AreUnder, AreHeadings, IsWellFormedGroup, IsWellFormed, names_of}
+use Rattle.ags_rows.specs.Writing.{IsPlainByte, ArePlain, StandOnce, AreUnder, AreHeadings, IsWellFormedGroup, IsWellFormed, group_names}
 use Rattle.ags_rows.proofs.Repeats.{not_is}
 
 -- ---- the tests
@@ -41,7 +41,7 @@ is_well_formed_group group =
     && (is_filled group.rows && list_all (are_under group.headings) group.rows))
 
 abbrev pub is_well_formed : List Contents → Bool
-is_well_formed groups = is_filled groups && (list_all is_well_formed_group groups && stand_once (names_of groups))
+is_well_formed groups = is_filled groups && (list_all is_well_formed_group groups && stand_once (group_names groups))
 
 -- ---- what they say
 
@@ -114,10 +114,10 @@ group_formed group e =
 -- contents that pass the tests are well formed
 pub formed_by_test : (groups : List Contents) → is_well_formed groups ≡ true → IsWellFormed groups
 formed_by_test groups e =
-    let parts = and_parts (is_filled groups) (list_all is_well_formed_group groups && stand_once (names_of groups)) e in
-    let rest = and_parts (list_all is_well_formed_group groups) (stand_once (names_of groups)) parts.1 in
+    let parts = and_parts (is_filled groups) (list_all is_well_formed_group groups && stand_once (group_names groups)) e in
+    let rest = and_parts (list_all is_well_formed_group groups) (stand_once (group_names groups)) parts.1 in
     record {
       some = filled groups parts.0;
       each = all_by_test IsWellFormedGroup is_well_formed_group group_formed groups rest.0;
-      names_once = once (names_of groups) rest.1;
+      names_once = once (group_names groups) rest.1;
     }

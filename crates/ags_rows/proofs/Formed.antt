@@ -4,23 +4,23 @@ use Rattle.std.specs.List.{AllByRecursion}
 use Rattle.std.proofs.lemmas.Bool.{cases_eq, true_from_ne_false}
 use Rattle.ags_rows.specs.declared.rows.Row.{Row}
 use Rattle.ags_rows.specs.declared.rows.Group.{Group}
-use Rattle.ags_rows.specs.declared.codes.Code.{Code}
-use Rattle.ags_rows.specs.declared.codes.Code.TheVariants.{Rule2, Rule4, Rule19, Rule19a, P1, P2}
-use Rattle.ags_rows.specs.declared.codes.Finding.{Finding}
+use Rattle.ags_rows.specs.declared.code.Code.{Code}
+use Rattle.ags_rows.specs.declared.code.Code.TheVariants.{Rule2, Rule4, Rule19, Rule19a, P1, P2}
+use Rattle.ags_rows.specs.declared.finding.Finding.{Finding}
 use Rattle.ags_rows.specs.Names.{is_group_name, is_heading_name}
 use Rattle.ags_rows.specs.Collecting.{At, OneOf}
 use Rattle.ags_rows.specs.Stands.{shape_rules, name_rules, StandsInHeadings, StandsInGroups}
 use Rattle.ags_rows.specs.Contents.{contents_of, fields_of, group_contents}
-use Rattle.ags_rows.specs.Writing.{ArePlain, AreUnder, AreHeadings, StandOnce, names_of, IsWellFormedGroup, IsWellFormed}
+use Rattle.ags_rows.specs.Writing.{ArePlain, AreUnder, AreHeadings, StandOnce, group_names, IsWellFormedGroup, IsWellFormed}
 use Rattle.ags_rows.proofs.Written.{IsPlainGroup, all_at}
 use Rattle.ags_rows.proofs.WellFormed.{all_from_at, once_apart, once_from, map_at, at_map}
 
 -- ---- the names of groups
 
-abbrev group_names : List Group → List (List ℕ)
-group_names groups = map (λ group. group.name) groups
+abbrev scanned_names : List Group → List (List ℕ)
+scanned_names groups = map (λ group. group.name) groups
 
-same_names : (groups : List Group) → names_of (contents_of groups) ≡ group_names groups
+same_names : (groups : List Group) → group_names (contents_of groups) ≡ scanned_names groups
 same_names [] = refl
 same_names (g ∷ groups) = ap (λ (names : List (List ℕ)). g.name ∷ names) (same_names groups)
 
@@ -39,9 +39,9 @@ shape_clear g w f (inr (inr (inr (inr (inl n))))) =
     n.3.0 under.count
 shape_clear g w f (inr (inr (inr (inr (inr n))))) = n
 
-name_clear : (groups : List Group) (k : ℕ) (g : Group) → At groups k g → IsWellFormedGroup (group_contents g) → StandOnce (group_names groups) → (f : Finding) → OneOf (name_rules (group_names groups) k g) f → ⊥
+name_clear : (groups : List Group) (k : ℕ) (g : Group) → At groups k g → IsWellFormedGroup (group_contents g) → StandOnce (scanned_names groups) → (f : Finding) → OneOf (name_rules (scanned_names groups) k g) f → ⊥
 name_clear groups k g at w once f (inl n) = not_both (is_group_name g.name) w.name n.0
-name_clear groups k g at w once f (inr (inl n)) = once_apart (group_names groups) n.0.0 k g.name g.name once n.0.1 n.0.2 (map_at (λ (x : Group). x.name) groups k g at) refl
+name_clear groups k g at w once f (inr (inl n)) = once_apart (scanned_names groups) n.0.0 k g.name g.name once n.0.1 n.0.2 (map_at (λ (x : Group). x.name) groups k g at) refl
 name_clear groups k g at w once f (inr (inr n)) = n
 
 headings_clear : (g : Group) → IsWellFormedGroup (group_contents g) → (f : Finding) → StandsInHeadings g f → ⊥
@@ -113,11 +113,11 @@ group_formed groups clear k g at plain = record {
   rows = rows_formed groups clear k g at plain.rows;
 }
 
-names_formed : (groups : List Group) → Clear groups → StandOnce (group_names groups)
+names_formed : (groups : List Group) → Clear groups → StandOnce (scanned_names groups)
 names_formed groups clear =
-    once_from (group_names groups) (λ i j x y lt a b e.
+    once_from (scanned_names groups) (λ i j x y lt a b e.
     let group = at_map (λ (g : Group). g.name) groups j y b in
-    let earlier : At (group_names groups) i group.0.name = subst (At (group_names groups) i) (e ∙ sym group.2) a in
+    let earlier : At (scanned_names groups) i group.0.name = subst (At (scanned_names groups) i) (e ∙ sym group.2) a in
     clear (found_at group.0.line P1 group.0.name) (j, group.0, group.1, inr (inl (inr (inl ((i, lt, earlier), refl, refl, refl))))))
 
 pub clear_formed : (groups : List Group) → groups ≢ [] → AllByRecursion IsPlainGroup (contents_of groups) → ((f : Finding) → StandsInGroups groups f → ⊥) → IsWellFormed (contents_of groups)

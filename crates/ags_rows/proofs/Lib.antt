@@ -1,3 +1,4 @@
+pub mod AtPlaces
 pub mod Collecting
 pub mod Pieces
 pub mod Fields
@@ -8,6 +9,7 @@ pub mod Cuts
 pub mod Files
 pub mod FewRows
 pub mod Once
+pub mod FirstPhase
 pub mod Appending
 pub mod Written
 pub mod WellFormed
@@ -18,3 +20,4 @@ pub mod FirstPlaces
 pub mod Loosely
 pub mod ByTest
 pub mod Mini
+pub mod RowTexts

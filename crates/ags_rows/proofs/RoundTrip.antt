@@ -1,10 +1,10 @@
 -- A file that is written is read as what was written, and what is read can be written.
 use Rattle.std.proofs.Common.{ℕ, List, [], ◌∷◌, flat_map, refl, sym, ap, subst, ◌∙◌, inl, inr}
 use Rattle.ags_rows.specs.declared.rows.Group.{Group}
-use Rattle.ags_rows.specs.declared.codes.Finding.{Finding}
+use Rattle.ags_rows.specs.declared.finding.Finding.{Finding}
 use Rattle.ags_rows.specs.Groups.{rows_of}
 use Rattle.ags_rows.specs.Stands.{StandsInLines, StandsInOrder, StandsInGroups}
-use Rattle.ags_rows.specs.Findings.{File, IsFile, FirstFound, phases, later_phases, FileGroups}
+use Rattle.ags_rows.specs.Findings.{FileParts, ArePartsOf, FirstFound, phases, later_phases, FileGroups}
 use Rattle.ags_rows.specs.Contents.{Contents, contents_of}
 use Rattle.ags_rows.specs.Writing.{written_lines, written_file, IsWellFormed}
 use Rattle.ags_rows.specs.Laws.{WrittenFileIsRead}
@@ -13,10 +13,10 @@ use Rattle.ags_rows.proofs.Written.{groups_from, groups_plain, lines_clear, rows
 use Rattle.ags_rows.proofs.WellFormed.{clear_first, read_plain}
 use Rattle.ags_rows.proofs.Formed.{formed_clear, clear_formed}
 
-abbrev file_of : List Contents → File
+abbrev file_of : List Contents → FileParts
 file_of gs = record { lines = written_lines gs; rows = flat_map rows_of (groups_from 1 gs); groups = groups_from 1 gs }
 
-file_is : (gs : List Contents) → IsWellFormed gs → IsFile (written_file gs) (file_of gs)
+file_is : (gs : List Contents) → IsWellFormed gs → ArePartsOf (written_file gs) (file_of gs)
 file_is gs h = record { lines = lines_are gs (groups_plain gs h); rows = rows_written 1 gs (groups_plain gs h); groups = inl refl }
 
 groups_clear : (gs : List Contents) → IsWellFormed gs → (f : Finding) → StandsInGroups (groups_from 1 gs) f → ⊥

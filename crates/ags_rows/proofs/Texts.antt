@@ -5,7 +5,7 @@ use Rattle.std.proofs.lemmas.List.{append-nil, map-append}
 use Rattle.ags_rows.specs.declared.rows.Descriptor.TheVariants as kinds
 use Rattle.ags_rows.specs.Lines.{TextLine, line_bytes}
 use Rattle.ags_rows.specs.Contents.{Contents}
-use Rattle.ags_rows.specs.Writing.{written_row, group_lines, empty_line, written_lines, text_of, written_file}
+use Rattle.ags_rows.specs.Writing.{written_row, contents_from, group_lines, empty_line, written_lines, text_of, written_file}
 
 -- the text of lines, and of more lines
 pub text_append : (front back : List TextLine) → text_of (front ++ back) ≡ text_of front ++ text_of back
@@ -19,7 +19,7 @@ text_push front line = text_append front (line ∷ []) ∙ ap (λ (text : List �
 
 -- the group with these DATA rows
 abbrev pub with_rows : Contents → List (List (List ℕ)) → Contents
-with_rows group rows = record { name = group.name; headings = group.headings; units = group.units; types = group.types; rows = rows }
+with_rows group rows = contents_from group.name group.headings group.units group.types rows
 
 -- a group is its header rows, and then its DATA rows
 pub group_parts : (group : Contents) (rows : List (List (List ℕ))) → group_lines (with_rows group rows) ≡ group_lines (with_rows group []) ++ map (written_row kinds.Data) rows

@@ -12,10 +12,10 @@ use Rattle.ags_rows.specs.declared.rows.Descriptor.TheVariants as kinds
 use Rattle.ags_rows.specs.declared.rows.FileRow.{FileRow}
 use Rattle.ags_rows.specs.declared.rows.Row.{Row}
 use Rattle.ags_rows.specs.declared.rows.Group.{Group}
-use Rattle.ags_rows.specs.declared.codes.Finding.{Finding}
+use Rattle.ags_rows.specs.declared.finding.Finding.{Finding}
 use Rattle.ags_rows.specs.Bytes.{Lacks}
 use Rattle.ags_rows.specs.Spelling.{Spells, doubled, quoted, line_of}
-use Rattle.ags_rows.specs.Lines.{TextLine, Lines, line_bytes, ending_bytes, after_mark}
+use Rattle.ags_rows.specs.Lines.{TextLine, Lines, line_bytes, ending_bytes, after_byte_order_mark}
 use Rattle.ags_rows.specs.Rows.{descriptor_text, IsRow, RowsFrom}
 use Rattle.ags_rows.specs.Order.{may_follow, is_header, OutOfPlace}
 use Rattle.ags_rows.specs.Groups.{data_row, rows_of}
@@ -342,9 +342,9 @@ rows_clear (g ∷ gs) some f h = order_clear _ _ refl (groups_behind (groups_fro
 
 -- ---- the text of a file that is written
 
-pub lines_are : (gs : List Contents) → AllByRecursion IsPlainGroup gs → Lines (after_mark (written_file gs)) (written_lines gs)
+pub lines_are : (gs : List Contents) → AllByRecursion IsPlainGroup gs → Lines (after_byte_order_mark (written_file gs)) (written_lines gs)
 lines_are gs h = lines_from_cut _ (written_lines gs) (subst (λ (t : List ℕ). AreCut t (written_lines gs)) (sym (no_mark gs)) (lines_written (written_lines gs) (lines_clean gs h))) where
-  no_mark : (gs : List Contents) → after_mark (written_file gs) ≡ written_file gs
+  no_mark : (gs : List Contents) → after_byte_order_mark (written_file gs) ≡ written_file gs
   no_mark [] = refl
   no_mark (g ∷ []) = refl
   no_mark (g ∷ k ∷ gs) = refl

@@ -1,14 +1,17 @@
 -- Laws over the definitions alone.
-use Rattle.std.specs.Prelude.{◌≡◌, ◌≢◌, ◌↔◌, ℕ, List, [], Contains, Option, Some, MatchOption}
+use Rattle.std.specs.Prelude.{◌≡◌, ◌≢◌, ◌≤◌, ◌↔◌, ℕ, List, [], ◌∷◌, map, filter, length, Contains, Option, Some, MatchOption}
 use Rattle.std.specs.List.{AllByRecursion}
 use Rattle.ags_rows.specs.Bytes.{carriage_return, line_feed, Lacks}
 use Rattle.ags_rows.specs.Spelling.{Spells, line_of}
-use Rattle.ags_rows.specs.declared.codes.Finding.{Finding}
+use Rattle.ags_rows.specs.declared.finding.Finding.{Finding}
 use Rattle.ags_rows.specs.Findings.{RowFindings, LooseFindings, FileGroups, LooseGroups}
 use Rattle.ags_rows.specs.declared.rows.Group.{Group}
 use Rattle.ags_rows.specs.Contents.{Contents, contents_of}
-use Rattle.ags_rows.specs.Writing.{IsWellFormed, written_file}
-use Rattle.ags_rows.specs.declared.TheConstants.{READABLE}
+use Rattle.ags_rows.specs.Writing.{group_lines, IsWellFormed, written_file}
+use Rattle.ags_rows.specs.declared.rows.Descriptor.TheVariants as kinds
+use Rattle.ags_rows.specs.Groups.{row_count}
+use Rattle.ags_rows.specs.RowTexts.{each_data_row, row_text, row_texts, is_data_text}
+use Rattle.ags_rows.specs.declared.TheConstants.{LIMIT, READABLE}
 use Rattle.ags_rows.specs.declared.vectors.TheConstants.{MINI}
 use Rattle.ags_rows.specs.Mini.{mini_contents}
 use Rattle.ags_rows.specs.FindingOrder.{finding_cmp}
@@ -64,6 +67,23 @@ abbrev pub MiniIsWritten : Type 0
 MiniIsWritten =
     IsWellFormed mini_contents × (MINI.now ≡ written_file mini_contents) × RowFindings MINI.now []
     × ((groups : List Group) × FileGroups MINI.now groups × (contents_of groups ≡ mini_contents))
+
+-- The lines that are written of a group are the spellings of its rows. Of the rows of a file those of kind DATA are its DATA rows, in their order, and as many as its groups have in all.
+abbrev pub RowsAreTheirTexts : Type 0
+RowsAreTheirTexts =
+    ((group : Contents) → map (λ line. line.content) (group_lines group) ≡ map (λ row. row.text) (row_texts (group ∷ [])))
+    × ((contents : List Contents) → filter is_data_text (row_texts contents) ≡ each_data_row (λ group. row_text group.name kinds.Data) contents)
+    × ((groups : List Group) → length (filter is_data_text (row_texts (contents_of groups))) ≡ row_count groups)
+
+-- A file has at most as many rows as bytes, read loosely or not.
+abbrev pub RowsWithinBytes : Type 0
+RowsWithinBytes =
+    ((bytes : List ℕ) (groups : List Group) → FileGroups bytes groups → length (row_texts (contents_of groups)) ≤ length bytes)
+    × ((bytes : List ℕ) (groups : List Group) → LooseGroups bytes groups → length (row_texts (contents_of groups)) ≤ length bytes)
+
+-- The longest file that is deposited has 4,194,304 bytes.
+abbrev pub LongestDeposit : Type 0
+LongestDeposit = LIMIT ≡ 4194304
 
 -- The longest text that is read has 67,108,864 bytes.
 abbrev pub LongestText : Type 0

@@ -10,10 +10,12 @@ pub mod Groups
 pub mod FindingOrder
 pub mod Names
 pub mod Contents
+pub mod Parts
 pub mod Places
 pub mod Stands
 pub mod Findings
 pub mod Parsing
+pub mod RowTexts
 pub mod Writing
 pub mod Mini
 pub mod Laws

@@ -18,13 +18,17 @@ is_group_letter b = is_capital b || is_digit b
 abbrev pub is_heading_letter : ℕ → Bool
 is_heading_letter b = is_group_letter b || b == low_line
 
+-- at least one byte and at most so many
+abbrev pub is_within : ℕ → List ℕ → Bool
+is_within most text = nat_le 1 (length text) && nat_le (length text) most
+
 -- Rule 19: 1 to 4 of A to Z and 0 to 9.
 abbrev pub is_group_name : List ℕ → Bool
-is_group_name name = (nat_le 1 (length name) && nat_le (length name) 4) && list_all is_group_letter name
+is_group_name name = is_within 4 name && list_all is_group_letter name
 
 -- Rule 19a: 1 to 9 of A to Z, 0 to 9 and the low line.
 abbrev pub is_heading_name : List ℕ → Bool
-is_heading_name name = (nat_le 1 (length name) && nat_le (length name) 9) && list_all is_heading_letter name
+is_heading_name name = is_within 9 name && list_all is_heading_letter name
 
 -- the groups that define what the others use
 abbrev pub definition_groups : List (List ℕ)

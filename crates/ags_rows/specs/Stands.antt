@@ -5,8 +5,8 @@ use Rattle.ags_rows.specs.declared.rows.Ending.TheVariants.{Lf}
 use Rattle.ags_rows.specs.declared.rows.Descriptor.{Descriptor}
 use Rattle.ags_rows.specs.declared.rows.Descriptor.TheVariants as kinds
 use Rattle.ags_rows.specs.declared.rows.FileRow.{FileRow}
-use Rattle.ags_rows.specs.declared.codes.Finding.{Finding}
-use Rattle.ags_rows.specs.declared.codes.Code.TheVariants.{Rule1, Rule2, Rule2a, Rule2b, Rule3, Rule4, Rule5, Rule6, Rule19, Rule19a, P1, P2}
+use Rattle.ags_rows.specs.declared.finding.Finding.{Finding}
+use Rattle.ags_rows.specs.declared.code.Code.TheVariants.{Rule1, Rule2, Rule2a, Rule2b, Rule3, Rule4, Rule5, Rule6, Rule19, Rule19a, P1, P2}
 use Rattle.ags_rows.specs.Bytes.{space, carriage_return, ascii_end, Lacks}
 use Rattle.ags_rows.specs.declared.rows.Group.{Group}
 use Rattle.ags_rows.specs.Names.{is_group_name, is_heading_name}

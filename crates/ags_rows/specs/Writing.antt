@@ -3,25 +3,23 @@ use Rattle.std.specs.Prelude.{◌≡◌, ◌≢◌, ◌<◌, ℕ, List, [], ◌�
 use Rattle.std.specs.List.{AllByRecursion, AllPairs}
 use Rattle.ags_rows.specs.declared.rows.Ending.TheVariants.{CrLf}
 use Rattle.ags_rows.specs.declared.rows.Descriptor.{Descriptor}
-use Rattle.ags_rows.specs.declared.rows.Descriptor.TheVariants as kinds
 use Rattle.ags_rows.specs.Bytes.{ascii_end, carriage_return, line_feed}
 use Rattle.ags_rows.specs.Names.{is_group_name, is_heading_name}
 use Rattle.ags_rows.specs.Contents.{Contents}
 use Rattle.ags_rows.specs.Lines.{TextLine, line_bytes}
-use Rattle.ags_rows.specs.Rows.{descriptor_text}
-use Rattle.ags_rows.specs.Spelling.{line_of}
+use Rattle.ags_rows.specs.RowTexts.{each_row, spelling_of}
 
--- the line of a row, without spaces
+-- the line of a row
 abbrev pub written_row : Descriptor → List (List ℕ) → TextLine
-written_row kind items = record { content = line_of (descriptor_text kind ∷ items); ending = CrLf }
+written_row kind items = record { content = spelling_of kind items; ending = CrLf }
 
+-- a group, part by part
+abbrev pub contents_from : List ℕ → List (List ℕ) → List (List ℕ) → List (List ℕ) → List (List (List ℕ)) → Contents
+contents_from name headings units types rows = record { name = name; headings = headings; units = units; types = types; rows = rows }
+
+-- the lines of a group: one for each of its rows
 abbrev pub group_lines : Contents → List TextLine
-group_lines group =
-    written_row kinds.Group (group.name ∷ [])
-    ∷ written_row kinds.Heading group.headings
-    ∷ written_row kinds.Unit group.units
-    ∷ written_row kinds.Type group.types
-    ∷ map (written_row kinds.Data) group.rows
+group_lines group = each_row written_row group
 
 -- a line of no bytes
 abbrev pub empty_line : TextLine
@@ -74,14 +72,14 @@ pub record IsWellFormedGroup (group : Contents) : Type 0 where
   pub rows : AllByRecursion (AreUnder group.headings) group.rows
 
 -- the names of groups, in their order
-abbrev pub names_of : List Contents → List (List ℕ)
-names_of groups = map (λ group. group.name) groups
+abbrev pub group_names : List Contents → List (List ℕ)
+group_names groups = map (λ group. group.name) groups
 
 -- Contents that can be written and read back: there is a group, each is well formed, and no name stands twice.
 pub record IsWellFormed (groups : List Contents) : Type 0 where
   pub some : groups ≢ []
   pub each : AllByRecursion IsWellFormedGroup groups
-  pub names_once : StandOnce (names_of groups)
+  pub names_once : StandOnce (group_names groups)
 
 -- the new bytes are the old ones and more
 abbrev pub IsLonger : List ℕ → List ℕ → Type 0

@@ -1,17 +1,18 @@
 //! What stands against the groups of a file.
 
 ghost use Rattle.std.specs.Prelude.{◌≡◌, ◌↔◌, ◌⊎◌, List, ℕ, ◌∷◌, [], OnOk, IfOk};
-ghost use Rattle.ags_rows.specs.declared.codes.Code.TheVariants.{Rule19, Rule19a, P1, P2};
+ghost use Rattle.ags_rows.specs.declared.code.Code.TheVariants.{Rule19, Rule19a, P1, P2};
 ghost use Rattle.ags_rows.specs.Names.{is_group_name, is_heading_name};
 ghost use Rattle.ags_rows.specs.Collecting.{OneOf, Notes, Adds};
 ghost use Rattle.ags_rows.specs.Stands.{shape_rules, StandsInRows, StandsInHeadings, StandsInGroups};
-ghost use Rattle.ags_rows.specs.Findings.{Lists};
+ghost use Rattle.ags_rows.specs.Findings.{AreExactly};
 ghost use Rattle.ags_rows.specs.Parsing.{IsMet, met_rules};
 
-use crate::codes::{Code, Finding, in_order, note};
+use crate::code::Code;
+use crate::finding::{Finding, in_order, note};
 use crate::names::{is_group_name, is_heading_name};
 use crate::rows::Group;
-use crate::seen::Sequence;
+use crate::sequence::Sequence;
 use std::alloc::{AllocError, Global};
 use std::collections::BTreeMap;
 
@@ -32,7 +33,7 @@ fn note_repeat<'g>(
 }
 
 /// Notes rows of a group with another number of items than its HEADING row (Rule 4).
-fn note_rows(alloc: Global, group: &Group, findings: &mut Vec<Finding>) -> Result<(), AllocError>
+fn note_widths(alloc: Global, group: &Group, findings: &mut Vec<Finding>) -> Result<(), AllocError>
     ensures { OnOk result (Adds (StandsInRows group.now) findings.old.items findings.new.items) }
 {
     let width = group.headings.len();
@@ -79,7 +80,7 @@ fn note_shape(alloc: Global, group: &Group, findings: &mut Vec<Finding>) -> Resu
         name,
         types_differ,
     )?;
-    note_rows(alloc, group, findings)
+    note_widths(alloc, group, findings)
 }
 
 /// Notes a name that no group may have, and one that an earlier group has (Rule 19, P1).
@@ -170,8 +171,11 @@ fn note_groups(
 }
 
 /// The findings of the third phase: each group.
-pub fn group_findings(alloc: Global, groups: &[Group]) -> Result<Sequence<Finding>, AllocError>
-    ensures { IfOk result (λ found. Lists (StandsInGroups groups.now) found) }
+pub(crate) fn group_findings(
+    alloc: Global,
+    groups: &[Group],
+) -> Result<Sequence<Finding>, AllocError>
+    ensures { IfOk result (λ found. AreExactly (StandsInGroups groups.now) found) }
 {
     let mut findings = Vec::new(alloc);
     note_groups(alloc, groups, &mut findings)?;

@@ -1,9 +1,11 @@
 //! Lines, rows and groups of an AGS4 file.
 #![tactic(auto)]
 
+mod cell;
 mod checking;
-mod codes;
+mod code;
 mod contents;
+mod finding;
 mod grouping;
 pub mod laws;
 mod names;
@@ -11,22 +13,24 @@ mod ordering;
 mod places;
 mod rows;
 mod scanning;
-mod seen;
+mod sequence;
 mod spelling;
 #[cfg(test)]
 mod tests;
 pub mod vectors;
 mod writing;
 
-pub use codes::{Code, Finding, in_order, note};
-pub use contents::{copy, place_in, under};
-pub use names::{is_definition, is_group_name, is_heading_name};
+pub use cell::Cell;
+pub use code::Code;
+pub use contents::{cell_at, copy, place_in, under};
+pub use finding::{Finding, in_order, note};
+pub use names::{is_definition, is_group_name, is_heading_name, is_within};
 pub use places::Places;
 pub use rows::{Descriptor, Group, Row};
 pub use scanning::{RowsError, Scan};
-pub use seen::{Bytes, Cell, Sequence};
+pub use sequence::{Bytes, Sequence};
 pub use spelling::cells;
-pub use writing::{quote, write_group, write_row};
+pub use writing::{quote, write_group, write_line, write_row};
 
 /// The greatest length of a deposited file.
 pub const LIMIT: usize = 4_194_304;

@@ -1,8 +1,8 @@
 //! Names of groups and headings.
 
-ghost use Rattle.std.specs.Prelude.{◌≡◌, ◌&&◌, nat_le, length};
+ghost use Rattle.std.specs.Prelude.{◌≡◌};
 ghost use Rattle.std.specs.List.{list_all};
-ghost use Rattle.ags_rows.specs.Names.{is_group_letter, is_heading_letter, is_group_name, is_heading_name, is_definition};
+ghost use Rattle.ags_rows.specs.Names.{is_within, is_group_letter, is_heading_letter, is_group_name, is_heading_name, is_definition};
 
 /// Whether a byte may stand in a group's name.
 fn is_group_letter(letter: u8) -> bool
@@ -32,11 +32,11 @@ fn has_heading_letters(name: &[u8]) -> bool
     name.iter().all(|letter| is_heading_letter(*letter))
 }
 
-/// Whether a name has at least one byte and at most so many.
-fn is_within(name: &[u8], most: usize) -> bool
-    ensures { result ≡ (nat_le 1 (length name.now) && nat_le (length name.now) most) }
+/// Whether a text has at least one byte and at most so many.
+pub fn is_within(text: &[u8], most: usize) -> bool
+    ensures { result ≡ is_within most text.now }
 {
-    1 <= name.len() && name.len() <= most
+    1 <= text.len() && text.len() <= most
 }
 
 /// Whether a group may have this name: 1 to 4 of `A` to `Z` and `0` to `9` (Rule 19).

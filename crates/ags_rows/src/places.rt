@@ -4,7 +4,7 @@ ghost use Rattle.std.specs.Prelude.{◌≡◌, ℕ, List, IfOk, OnOk, map};
 ghost use Rattle.ags_rows.specs.Contents.{place_in};
 ghost use Rattle.ags_rows.specs.Places.{first_of, place_if, place_at, AreFirst};
 
-use crate::seen::Cell;
+use crate::cell::Cell;
 use std::alloc::{AllocError, Global};
 use std::collections::BTreeMap;
 use std::marker::Model;
@@ -28,7 +28,7 @@ impl<'n> Model for Places<'n> {
 }
 
 /// Adds a name at a place, unless it stands at an earlier one.
-fn add<'n>(
+fn add_name<'n>(
     first: &mut BTreeMap<&'n [u8], usize>,
     name: &'n [u8],
     place: usize,
@@ -50,7 +50,7 @@ fn first_places<'n>(
 {
     let mut first = BTreeMap::new(alloc);
     for (place, name) in names.iter().enumerate() {
-        add(&mut first, name, place)?;
+        add_name(&mut first, name, place)?;
     }
     Ok(first)
 }
@@ -69,7 +69,7 @@ impl<'n> Places<'n> {
         ensures { IfOk result (λ places. places ≡ cells.now) }
     {
         let mut names = Vec::new(alloc);
-        for (i, cell) in cells.iter().enumerate() {
+        for cell in cells {
             names.push(cell.as_slice())?;
         }
         Places::of(alloc, names)

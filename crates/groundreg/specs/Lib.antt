@@ -1,4 +1,3 @@
-pub mod Findings
 pub mod Report
 pub mod Faults
 pub mod Reading

@@ -1,18 +1,23 @@
 -- What is printed for a file without findings and for one with findings.
-use Rattle.std.specs.Prelude.{ℕ, List, [], ◌++◌, map, flat_map, codes, if◌then◌else◌}
-use Rattle.std.specs.Char.{is_ascii_control}
+use Rattle.std.specs.Prelude.{ℕ, List, [], ◌++◌, map, flat_map, codes, nat_le, ◌&&◌, if◌then◌else◌}
 use Rattle.std.specs.Fmt.{decimal}
 use Rattle.ags_rows.specs.Codes.{code_text}
-use Rattle.ags_rows.specs.declared.codes.Finding.{Finding}
+use Rattle.ags_rows.specs.declared.finding.Finding.{Finding}
 use Rattle.groundreg.specs.declared.report.Report.{Report}
 
--- what stands for a control byte
+-- the bytes that are printed as they are: from the space to `~`
+abbrev pub first_printed : ℕ
+first_printed = 32
+
+abbrev pub last_printed : ℕ
+last_printed = 126
+
+-- what stands for each other byte
 abbrev pub question_mark : ℕ
 question_mark = 63
 
--- a byte as it is printed: a control byte (below 32, or 127) as `?`
 abbrev pub shown_byte : ℕ → ℕ
-shown_byte byte = if is_ascii_control byte then question_mark else byte
+shown_byte byte = if nat_le first_printed byte && nat_le byte last_printed then byte else question_mark
 
 -- a subject as it is printed: `-` where it is empty
 abbrev pub shown_subject : List ℕ → List ℕ

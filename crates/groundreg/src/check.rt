@@ -3,7 +3,6 @@
 ghost use Rattle.std.specs.Prelude.{◌≡◌, ◌↔◌, ◌||◌, IsTrue, false, ◌+◌, ◌≤◌, IfOk, IfErr, IfSome, length};
 ghost use Rattle.ags_dict.specs.Mini.{mini_entries};
 ghost use Rattle.ags_check.specs.Findings.{Findings};
-ghost use Rattle.groundreg.specs.Findings.{FileFindings};
 ghost use Rattle.groundreg.specs.Answers.{AnswersOn, ReportsOn};
 ghost use Rattle.groundreg.specs.declared.fault.Fault.TheVariants.{Stream};
 ghost use Rattle.groundreg.specs.Faults.{fault_status, is_stream_fault};
@@ -39,7 +38,7 @@ fn built_in(alloc: Global) -> Result<Dictionary, AllocError>
 }
 
 /// The findings of a file under a dictionary, none where it is clean.
-fn findings_under(
+fn findings_of(
     alloc: Global,
     dictionary: &Dictionary,
     bytes: &[u8],
@@ -54,29 +53,46 @@ fn findings_under(
     }
 }
 
-/// The findings of a file under the built-in dictionary.
-fn findings_of(alloc: Global, bytes: &[u8]) -> Result<Sequence<Finding>, AllocError>
-    requires { length bytes.now ≤ longest_file }
-    ensures { IfOk result (λ found. FileFindings bytes.now found) }
-{
-    let dictionary = built_in(alloc)?;
-    findings_under(alloc, &dictionary, bytes)
-}
-
 /// What is printed for the file that the stream carries.
-fn report_on<R: Read>(alloc: Global, input: &mut Watched<R>) -> Result<Report, Fault>
+fn report_on<R: Read>(
+    alloc: Global,
+    dictionary: &Dictionary,
+    input: &mut Watched<R>,
+) -> Result<Report, Fault>
     ensures taken { TakesAtMost (longest_file + 1) (R.remaining input.old.inner) (R.remaining input.new.inner) }
     ensures status { IfOk result (λ report. report.status ≤ 1) }
     ensures noted { input.new.failed ≡ (input.old.failed || is_stream_fault result) }
-    ensures answers { IfSome (R.remaining input.old.inner) (λ bytes. ReportsOn bytes result) }
+    ensures answers { IfSome (R.remaining input.old.inner) (λ bytes. ReportsOn dictionary.now bytes result) }
 {
     let bytes = read_file(alloc, input)?;
-    let found = findings_of(alloc, bytes.as_slice())?;
+    let found = findings_of(alloc, dictionary, bytes.as_slice())?;
     Ok(findings_report(alloc, found.as_slice())?)
 }
 
-/// Checks the file that the stream carries: prints its findings, or `clean`, and gives the status.
-pub fn check_stream<R: Read, W: Write, E: Write>(
+/// Checks the file that the stream carries: prints its findings under the dictionary, or `clean`, and gives the status.
+pub(crate) fn check_stream<R: Read, W: Write, E: Write>(
+    alloc: Global,
+    dictionary: &Dictionary,
+    input: &mut Watched<R>,
+    out: &mut Watched<W>,
+    err: &mut Watched<E>,
+) -> u8
+    requires input { input.old.failed ≡ false }
+    requires out { out.old.failed ≡ false }
+    requires err { err.old.failed ≡ false }
+    ensures failed { (result ≡ fault_status Stream) ↔ IsTrue (input.new.failed || (out.new.failed || err.new.failed)) }
+    ensures taken { TakesAtMost (longest_file + 1) (R.remaining input.old.inner) (R.remaining input.new.inner) }
+    ensures answers { IfSome (R.remaining input.old.inner) (λ bytes.
+        AnswersOn dictionary.now bytes (W.contents out.old.inner) (W.contents out.new.inner) (E.contents err.old.inner) (E.contents err.new.inner) input.new.failed out.new.failed err.new.failed result) }
+{
+    match report_on(alloc, dictionary, input) {
+        Ok(report) => report.print(out),
+        Err(fault) => fault.tell(err),
+    }
+}
+
+/// A run without words: checks the file that the stream carries under the dictionary that is built in.
+pub(crate) fn run_without_words<R: Read, W: Write, E: Write>(
     alloc: Global,
     input: &mut Watched<R>,
     out: &mut Watched<W>,
@@ -88,10 +104,10 @@ pub fn check_stream<R: Read, W: Write, E: Write>(
     ensures failed { (result ≡ fault_status Stream) ↔ IsTrue (input.new.failed || (out.new.failed || err.new.failed)) }
     ensures taken { TakesAtMost (longest_file + 1) (R.remaining input.old.inner) (R.remaining input.new.inner) }
     ensures answers { IfSome (R.remaining input.old.inner) (λ bytes.
-        AnswersOn bytes (W.contents out.old.inner) (W.contents out.new.inner) (E.contents err.old.inner) (E.contents err.new.inner) input.new.failed out.new.failed err.new.failed result) }
+        AnswersOn mini_entries bytes (W.contents out.old.inner) (W.contents out.new.inner) (E.contents err.old.inner) (E.contents err.new.inner) input.new.failed out.new.failed err.new.failed result) }
 {
-    match report_on(alloc, input) {
-        Ok(report) => report.print(out),
-        Err(fault) => fault.tell(err),
+    match built_in(alloc) {
+        Ok(dictionary) => check_stream(alloc, &dictionary, input, out, err),
+        Err(refused) => Fault::from(refused).tell(err),
     }
 }

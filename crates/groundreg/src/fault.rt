@@ -10,7 +10,7 @@ use std::io::Write;
 
 /// Why a run has no answer on its file.
 #[derive(Clone, Copy, Debug, PartialEq, Eq)]
-pub enum Fault {
+pub(crate) enum Fault {
     /// The command line has words, and no command is known.
     WordsRefused,
     /// The file has more than LIMIT bytes.
@@ -39,7 +39,7 @@ impl From<StreamFailed> for Fault {
 
 impl Fault {
     /// What is said of it on standard error; nothing of a stream that failed.
-    pub fn text(&self) -> &'static [u8]
+    pub(crate) fn text(&self) -> &'static [u8]
         ensures { result.now ≡ fault_text self.now }
     {
         match self {
@@ -51,7 +51,7 @@ impl Fault {
     }
 
     /// The status that the run ends with.
-    pub fn status(&self) -> u8
+    pub(crate) fn status(&self) -> u8
         ensures { result ≡ fault_status self.now }
     {
         match self {
@@ -62,7 +62,7 @@ impl Fault {
     }
 
     /// Says the fault, and gives the status that the run ends with.
-    pub fn tell<E: Write>(&self, err: &mut Watched<E>) -> u8
+    pub(crate) fn tell<E: Write>(&self, err: &mut Watched<E>) -> u8
         ensures { Tells (E.contents err.old.inner) (E.contents err.new.inner) (fault_text self.now) err.old.failed err.new.failed (fault_status self.now) result }
     {
         tell(err, self.text(), self.status())
@@ -70,7 +70,7 @@ impl Fault {
 }
 
 /// Writes a text: the status, or that of a stream that failed.
-pub fn tell<W: Write>(out: &mut Watched<W>, text: &[u8], status: u8) -> u8
+pub(crate) fn tell<W: Write>(out: &mut Watched<W>, text: &[u8], status: u8) -> u8
     ensures { Tells (W.contents out.old.inner) (W.contents out.new.inner) text.now out.old.failed out.new.failed status result }
 {
     match out.write_text(text) {

@@ -35,7 +35,7 @@ fn read_piece<R: Read>(
 }
 
 /// All bytes of the stream. No byte beyond the one after LIMIT is asked for.
-pub fn read_file<R: Read>(alloc: Global, input: &mut Watched<R>) -> Result<Vec<u8>, Fault>
+pub(crate) fn read_file<R: Read>(alloc: Global, input: &mut Watched<R>) -> Result<Vec<u8>, Fault>
     ensures taken { TakesAtMost (longest_file + 1) (R.remaining input.old.inner) (R.remaining input.new.inner) }
     ensures short { IfOk result (λ bytes. length bytes.items ≤ longest_file) }
     ensures noted { input.new.failed ≡ (input.old.failed || is_stream_fault result) }
@@ -43,7 +43,7 @@ pub fn read_file<R: Read>(alloc: Global, input: &mut Watched<R>) -> Result<Vec<u
 {
     let mut bytes = Vec::new(alloc);
     let mut piece = vec![in alloc; 0u8; PIECE].map_err(AllocError::from)?;
-    'reading: while bytes.len() <= LIMIT {
+    while bytes.len() <= LIMIT {
         let room = min(PIECE, LIMIT + 1 - bytes.len());
         let count = read_piece(input, &mut piece, room, &mut bytes)?;
         if count == 0 {

@@ -9,7 +9,7 @@ mod report;
 mod tests;
 mod watched;
 
-use check::check_stream;
+use check::run_without_words;
 use fault::Fault;
 use std::env;
 use std::io::ErrorKind;
@@ -27,7 +27,7 @@ fn refuse_words(rt: &HostRuntime) -> Result<(), Fault> {
 
 fn main(rt: HostRuntime) -> ExitCode {
     let status = match refuse_words(&rt) {
-        Ok(()) => check_stream(
+        Ok(()) => run_without_words(
             rt.alloc(),
             &mut Watched::new(rt.stdin()),
             &mut Watched::new(rt.stdout()),

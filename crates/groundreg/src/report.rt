@@ -12,25 +12,29 @@ use std::io::Write;
 
 /// The text that is printed for a file, and the status that the run ends with.
 #[derive(Drop)]
-pub struct Report {
-    pub text: Bytes,
-    pub status: u8,
+pub(crate) struct Report {
+    pub(crate) text: Bytes,
+    pub(crate) status: u8,
 }
 
 impl Report {
     /// Prints it, and gives the status.
-    pub fn print<W: Write>(&self, out: &mut Watched<W>) -> u8
+    pub(crate) fn print<W: Write>(&self, out: &mut Watched<W>) -> u8
         ensures { Tells (W.contents out.old.inner) (W.contents out.new.inner) self.now.text out.old.failed out.new.failed self.now.status result }
     {
         tell(out, self.text.as_slice(), self.status)
     }
 }
 
-/// A byte of a subject as it is printed: a control byte as `?`.
+/// A byte of a subject as it is printed: one below the space or above `~` as `?`.
 fn shown_byte(byte: u8) -> u8
     ensures { result ≡ shown_byte byte }
 {
-    if byte.is_ascii_control() { b'?' } else { byte }
+    if b' ' <= byte && byte <= b'~' {
+        byte
+    } else {
+        b'?'
+    }
 }
 
 /// Appends a subject, or `-` where it is empty.
@@ -59,7 +63,7 @@ fn push_line(text: &mut Vec<u8>, finding: &Finding) -> Result<(), AllocError>
 }
 
 /// What is printed for the findings of a file, `clean` where there is none.
-pub fn findings_report(alloc: Global, findings: &[Finding]) -> Result<Report, AllocError>
+pub(crate) fn findings_report(alloc: Global, findings: &[Finding]) -> Result<Report, AllocError>
     ensures { IfOk result (λ report. report ≡ report_of findings.now) }
 {
     let mut text = Vec::new(alloc);

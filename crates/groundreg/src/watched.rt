@@ -10,17 +10,17 @@ use std::io::{Read, Write};
 
 /// A read or a write that failed.
 #[derive(Clone, Copy, Debug, PartialEq, Eq)]
-pub struct StreamFailed;
+pub(crate) struct StreamFailed;
 
 /// A reader or a writer, and whether a call of it has failed.
 #[derive(Drop)]
-pub struct Watched<T> {
+pub(crate) struct Watched<T> {
     inner: T,
     failed: bool,
 }
 
 impl<T> Watched<T> {
-    pub fn new(inner: T) -> Self
+    pub(crate) fn new(inner: T) -> Self
         ensures inner { result.inner ≡ inner }
         ensures fresh { result.failed ≡ false }
     {
@@ -31,7 +31,7 @@ impl<T> Watched<T> {
     }
 
     /// Whether a call has failed.
-    pub fn has_failed(&self) -> bool
+    pub(crate) fn has_failed(&self) -> bool
         ensures { result ≡ self.now.failed }
     {
         self.failed
@@ -40,7 +40,7 @@ impl<T> Watched<T> {
 
 impl<R: Read> Watched<R> {
     /// One read.
-    pub fn read(&mut self, buf: &mut [u8]) -> Result<usize, StreamFailed>
+    pub(crate) fn read(&mut self, buf: &mut [u8]) -> Result<usize, StreamFailed>
         ensures bound { ReadsAtMost result buf.new }
         ensures bytes { ReadConsumes (R.remaining self.old.inner) (R.remaining self.new.inner) result buf.new }
         ensures noted { self.new.failed ≡ (self.old.failed || is_err result) }
@@ -78,7 +78,7 @@ impl<W: Write> Watched<W> {
     }
 
     /// Writes all of a text, and has the writer pass it on. An empty text calls nothing.
-    pub fn write_text(&mut self, text: &[u8]) -> Result<(), StreamFailed>
+    pub(crate) fn write_text(&mut self, text: &[u8]) -> Result<(), StreamFailed>
         ensures bytes { WritesText (W.contents self.old.inner) (W.contents self.new.inner) result text.now }
         ensures noted { self.new.failed ≡ (self.old.failed || is_err result) }
     {
@@ -86,7 +86,7 @@ impl<W: Write> Watched<W> {
             return Ok(());
         }
         let mut rest = text;
-        'writing: while !rest.is_empty() {
+        while !rest.is_empty() {
             let count = self.write(rest)?;
             rest = &rest[count..];
         }

@@ -6,12 +6,12 @@ use Rattle.std.proofs.lemmas.List.{at_drop_more}
 use Rattle.std.proofs.lemmas.List.Elements.{All-cons, All-nil}
 use Rattle.std.proofs.lemmas.Slice.Eq.{bytes_eq-Decides}
 use Rattle.std.specs.Str.{bytes_eq}
-use Rattle.reg_policy.specs.Decision.{Asked, Facts, IsFirstMatch, HasEntry, Matches, Meets, MeetsEntry, MeetsRow, decision_of, effect_of, has_entry, is_entry_met, is_met, is_row_met, matches, same_fact, same_verb}
-use Rattle.reg_policy.specs.declared.rule.Entry.{Entry}
+use Rattle.reg_policy.specs.Decision.{Question, Facts, IsFirstMatch, HasEntry, Matches, Meets, MeetsEntry, MeetsRow, decision_of, effect_of, has_entry, is_entry_met, is_met, is_row_met, matches, same_fact, same_verb}
+use Rattle.reg_policy.specs.declared.rule.WantedEntry.{WantedEntry}
 use Rattle.reg_policy.specs.declared.rule.Rule.{Rule}
 use Rattle.reg_policy.specs.declared.subject.Decision.{Decision}
 use Rattle.reg_policy.specs.declared.subject.Verb.{Verb}
-use Rattle.reg_policy.specs.declared.subject.Verb.TheVariants.{Deposit, Check, List as Listing, Extract, See}
+use Rattle.reg_policy.specs.declared.subject.Verb.TheVariants.{Deposit, Check, List as ListDeposits, Extract, See}
 
 is_met-Decides : {A : Type 0} (same : A → A → Bool) → ((x y : A) → Decides (same x y) (x ≡ y)) → (o : Option A) (x : A) → Decides (is_met same o x) (Meets o x)
 is_met-Decides same each None x = (λ _. tt, λ _. refl)
@@ -26,28 +26,28 @@ same_fact-Decides false false = (λ _. refl, λ _. refl)
 same_verb-Decides : (v w : Verb) → Decides (same_verb v w) (v ≡ w)
 same_verb-Decides Deposit Deposit = (λ _. refl, λ _. refl)
 same_verb-Decides Check Check = (λ _. refl, λ _. refl)
-same_verb-Decides Listing Listing = (λ _. refl, λ _. refl)
+same_verb-Decides ListDeposits ListDeposits = (λ _. refl, λ _. refl)
 same_verb-Decides Extract Extract = (λ _. refl, λ _. refl)
 same_verb-Decides See See = (λ _. refl, λ _. refl)
 same_verb-Decides v w = (λ e. absurd (false≢true e), λ e. absurd (cc))
 
 -- the entry at the first place, or further on
-entry_to : (e : Entry) (h c : List ℕ) (hs cs : List (List ℕ)) → ((h ≡ e.heading) × (c ≡ e.value)) ⊎ HasEntry e hs cs → HasEntry e (h ∷ hs) (c ∷ cs)
+entry_to : (e : WantedEntry) (h c : List ℕ) (hs cs : List (List ℕ)) → ((h ≡ e.heading) × (c ≡ e.value)) ⊎ HasEntry e hs cs → HasEntry e (h ∷ hs) (c ∷ cs)
 entry_to e h c hs cs (inl (a, b)) = (zero, ap Some a, ap Some b)
 entry_to e h c hs cs (inr (i, a, b)) = (suc i, a, b)
 
-entry_from : (e : Entry) (h c : List ℕ) (hs cs : List (List ℕ)) → HasEntry e (h ∷ hs) (c ∷ cs) → ((h ≡ e.heading) × (c ≡ e.value)) ⊎ HasEntry e hs cs
+entry_from : (e : WantedEntry) (h c : List ℕ) (hs cs : List (List ℕ)) → HasEntry e (h ∷ hs) (c ∷ cs) → ((h ≡ e.heading) × (c ≡ e.value)) ⊎ HasEntry e hs cs
 entry_from e h c hs cs (zero, a, b) = inl (cc, cc)
 entry_from e h c hs cs (suc i, a, b) = inr (i, a, b)
 
-has_entry-Decides : (e : Entry) (hs cs : List (List ℕ)) → Decides (has_entry e hs cs) (HasEntry e hs cs)
+has_entry-Decides : (e : WantedEntry) (hs cs : List (List ℕ)) → Decides (has_entry e hs cs) (HasEntry e hs cs)
 has_entry-Decides e [] cs = (λ f. absurd (false≢true f), λ (i, a, b). absurd (cc))
 has_entry-Decides e (h ∷ hs) [] = (λ f. absurd (false≢true f), λ (i, a, b). absurd (cc))
 has_entry-Decides e (h ∷ hs) (c ∷ cs) =
     Decides-like _ (entry_to e h c hs cs) (entry_from e h c hs cs)
     (Decides-or _ _ (Decides-and _ _ (bytes_eq-Decides h e.heading) (bytes_eq-Decides c e.value)) (has_entry-Decides e hs cs))
 
-is_entry_met-Decides : (o : Option Entry) (hs cs : List (List ℕ)) → Decides (is_entry_met o hs cs) (MeetsEntry o hs cs)
+is_entry_met-Decides : (o : Option WantedEntry) (hs cs : List (List ℕ)) → Decides (is_entry_met o hs cs) (MeetsEntry o hs cs)
 is_entry_met-Decides None hs cs = (λ _. tt, λ _. refl)
 is_entry_met-Decides (Some e) hs cs = has_entry-Decides e hs cs
 
@@ -65,7 +65,7 @@ is_row_met-Decides r None = four-Decides _ _ _ _ (is_none-Decides r.group) (is_n
 is_row_met-Decides r (Some f) = four-Decides _ _ _ _ (is_met-Decides bytes_eq bytes_eq-Decides r.group f.group) (is_met-Decides same_fact same_fact-Decides r.own f.own)
     (is_met-Decides same_fact same_fact-Decides r.past f.past) (is_entry_met-Decides r.entry f.headings f.cells)
 
-pub matches-Decides : (r : Rule) (s : Asked) → Decides (matches r s) (Matches r s)
+pub matches-Decides : (r : Rule) (s : Question) → Decides (matches r s) (Matches r s)
 matches-Decides r s =
     Decides-like _ (λ h. (h.0, h.1.0, h.1.1.0, h.1.1.1.0, h.1.1.1.1)) (λ h. (h.0, (h.1, (h.2, (h.3, h.4)))))
     (Decides-and _ _ (is_met-Decides bytes_eq bytes_eq-Decides r.firm s.firm) (Decides-and _ _ (is_met-Decides bytes_eq bytes_eq-Decides r.role s.role)
@@ -73,17 +73,17 @@ matches-Decides r s =
     (Decides-and _ _ (is_met-Decides same_verb same_verb-Decides r.verb s.verb) (is_row_met-Decides r s.row)))))
 
 -- one turn of the search for the first rule that matches
-pub decision_turn : (rules : List Rule) (s : Asked) (i : ℕ) (r : Rule) (b : Bool) → i < length rules → r ≡ get_or rules i r → b ≡ matches r s
+pub decision_turn : (rules : List Rule) (s : Question) (i : ℕ) (r : Rule) (b : Bool) → i < length rules → r ≡ get_or rules i r → b ≡ matches r s
     → decision_of (drop i rules) s ≡ cond b (effect_of r.effect r.number) (decision_of (drop (i + 1) rules) s)
 decision_turn rules s i r b low is test =
     at_drop_more (λ x. decision_of x s) rules i r low ∙ rw (← is, test)
 
 -- the decision is that of the first rule that matches
-decided_more : (r : Rule) (rules : List Rule) (s : Asked) (d : Decision) → ¬ (Matches r s) → IsFirstMatch rules s d → IsFirstMatch (r ∷ rules) s d
+decided_more : (r : Rule) (rules : List Rule) (s : Question) (d : Decision) → ¬ (Matches r s) → IsFirstMatch rules s d → IsFirstMatch (r ∷ rules) s d
 decided_more r rules s d apart (inl (before, x, after, e, none, m, is)) = inl (r ∷ before, x, after, ap (λ t. r ∷ t) e, All-cons (λ x. ¬ (Matches x s)) r before apart none, m, is)
 decided_more r rules s d apart (inr (none, is)) = inr (All-cons (λ x. ¬ (Matches x s)) r rules apart none, is)
 
-pub decided : (rules : List Rule) (s : Asked) → IsFirstMatch rules s (decision_of rules s)
+pub decided : (rules : List Rule) (s : Question) → IsFirstMatch rules s (decision_of rules s)
 decided [] s = inr (All-nil (λ x. ¬ (Matches x s)), refl)
 decided (r ∷ rules) s = elim (cases_Bool (matches r s)) [
   | inl same ↦ inl ([], r, rules, refl, All-nil (λ x. ¬ (Matches x s)), (matches-Decides r s).0 same, rw same)

@@ -1,12 +1,13 @@
 -- What the accessors of a document say of its keys and of its items.
-use Rattle.std.proofs.Common.{◌≡◌, ℕ, ◌+◌, ◌<◌, ◌≤◌, List, [], ◌∷◌, ◌++◌, Bool, true, ◌&&◌, zero, suc, length, get_or, take, Option, Some, None, Err, String, Global, string_bytes, refl, ap, ◌∙◌, subst, arith}
+use Rattle.std.proofs.Common.{◌≡◌, ℕ, ◌+◌, ◌<◌, ◌≤◌, List, [], ◌∷◌, ◌++◌, Bool, true, ◌&&◌, zero, suc, length, get_or, take, Option, Some, None, Err, String, Global, string_bytes, refl, sym, ap, ◌∙◌, subst, arith}
 use Rattle.std.proofs.lemmas.List.{take_more, take_all}
 use Rattle.std.specs.List.{list_all}
 use Rattle.std.specs.Map.{keys_of}
 use Rattle.toml.specs.Data.{Data, string, integer, float, boolean, datetime, array, table, Items, Members, as_array, as_table, get_member}
 use Rattle.toml.specs.View.{view, items_view, members_view}
+use Rattle.toml.proofs.Lines.{data_of_array, data_of_table}
 use Rattle.toml.specs.declared.value.Value.{Value}
-use Rattle.reg_policy.specs.Documents.{all_items, all_keys, have_known_keys, is_known, Each, InTable, Lists}
+use Rattle.reg_policy.specs.Documents.{all_items, all_keys, have_known_keys, is_known, Each, InTable, TablesSay}
 use Rattle.reg_policy.specs.Readers.{Gives}
 use Rattle.reg_policy.specs.declared.document.ReadError.{ReadError}
 use Rattle.reg_policy.specs.declared.document.ReadError.TheVariants.{Syntax, UnknownKey, BadValue, NoMemory}
@@ -14,22 +15,10 @@ use Rattle.std.specs.Str.{bytes_eq}
 
 -- a value whose accessor gives a table or an array
 pub table_is : (d : Data) (ms : Members) → Some ms ≡ as_table d → table ms ≡ d
-table_is (string s) ms e = cc
-table_is (integer z) ms e = cc
-table_is (float x) ms e = cc
-table_is (boolean b) ms e = cc
-table_is (datetime dt) ms e = cc
-table_is (array ds) ms e = cc
-table_is (table ns) ms e = cc
+table_is d ms e = sym (data_of_table d ms (sym e))
 
 pub array_is : (d : Data) (ds : Items) → Some ds ≡ as_array d → array ds ≡ d
-array_is (string s) ds e = cc
-array_is (integer z) ds e = cc
-array_is (float x) ds e = cc
-array_is (boolean b) ds e = cc
-array_is (datetime dt) ds e = cc
-array_is (array es) ds e = cc
-array_is (table ms) ds e = cc
+array_is d ds e = sym (data_of_array d ds (sym e))
 
 -- a value that is no table has nothing that a table has
 pub no_table : {A : Type 0} (P : Members → A → Type 0) (d : Data) → None ≡ as_table d → (a : A) → ¬ (InTable P d a)
@@ -77,7 +66,7 @@ none_each P (u ∷ vs) i v low is bad [] h = h
 none_each P (u ∷ vs) zero v low is bad (b ∷ bs) h = bad b (rw is h.0)
 none_each P (u ∷ vs) (suc i) v low is bad (b ∷ bs) h = none_each P vs i v (omega arith) is bad bs h.1
 
-no_array_in : {A : Type 0} (P : Members → A → Type 0) (d : Data) → None ≡ as_array d → (bs : List A) → ¬ (Lists P (Some d) bs)
+no_array_in : {A : Type 0} (P : Members → A → Type 0) (d : Data) → None ≡ as_array d → (bs : List A) → ¬ (TablesSay P (Some d) bs)
 no_array_in P (string s) e bs h = h
 no_array_in P (integer z) e bs h = h
 no_array_in P (float x) e bs h = h
@@ -87,7 +76,7 @@ no_array_in P (array ds) e bs h = cc
 no_array_in P (table ms) e bs h = h
 
 -- a value that is no array lists nothing
-pub no_array : {A : Type 0} (P : Members → A → Type 0) (o : Option Data) (d : Data) → Some d ≡ o → None ≡ as_array d → (bs : List A) → ¬ (Lists P o bs)
+pub no_array : {A : Type 0} (P : Members → A → Type 0) (o : Option Data) (d : Data) → Some d ≡ o → None ≡ as_array d → (bs : List A) → ¬ (TablesSay P o bs)
 no_array P o d found e bs h = no_array_in P d e bs (rw (← found) at h)
 
 -- a refusal of one part is one of a larger part, if the larger has no value without the smaller

@@ -1,6 +1,7 @@
 pub mod Chosen
-pub mod Entry
+pub mod RowEntries
 pub mod Days
+pub mod DayTexts
 pub mod Keys
 pub mod Items
 pub mod Tokens

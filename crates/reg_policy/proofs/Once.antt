@@ -5,16 +5,16 @@ use Rattle.std.proofs.lemmas.Slice.Eq.{bytes_eq-Decides}
 use Rattle.toml.specs.Data.{Data, string, integer, float, boolean, datetime, array, table, Items, no_items, item, Members, get_member}
 use Rattle.ags_rows.specs.Names.{is_group_name}
 use Rattle.reg_policy.specs.Callers.{IsCaller, IsText}
-use Rattle.reg_policy.specs.Documents.{Each, InTable, IsListOf, Lists}
+use Rattle.reg_policy.specs.Documents.{Each, InTable, IsListOf, TablesSay}
 use Rattle.reg_policy.specs.Names.{is_name, is_token, verb_text}
 use Rattle.reg_policy.specs.Rules.{IsEffect, IsEither, IsEntry, IsNumber, IsRule, IsVerb, IsWord, Sets, effect_text}
-use Rattle.reg_policy.specs.declared.callers.Listing.{Listing}
+use Rattle.reg_policy.specs.declared.callers.Credential.{Credential}
 use Rattle.reg_policy.specs.declared.rule.Effect.{Effect}
 use Rattle.reg_policy.specs.declared.rule.Effect.TheVariants.{Permit, Deny}
-use Rattle.reg_policy.specs.declared.rule.Entry.{Entry}
+use Rattle.reg_policy.specs.declared.rule.WantedEntry.{WantedEntry}
 use Rattle.reg_policy.specs.declared.rule.Rule.{Rule}
 use Rattle.reg_policy.specs.declared.subject.Verb.{Verb}
-use Rattle.reg_policy.specs.declared.subject.Verb.TheVariants.{Deposit, Check, List as Listed, Extract, See}
+use Rattle.reg_policy.specs.declared.subject.Verb.TheVariants.{Deposit, Check, List as ListDeposits, Extract, See}
 
 -- each table says one thing at most
 abbrev pub SaysOnce : {A : Type 0} → (Members → A → Type 0) → Type 0
@@ -38,7 +38,7 @@ once_each Says once (item d ds) (x ∷ xs) [] p q = absurd q
 once_each Says once (item d ds) (x ∷ xs) (y ∷ ys) p q =
     rw (once_in Says once d x y p.0 q.0, once_each Says once ds xs ys p.1 q.1)
 
-once_listed : {A : Type 0} (Says : Members → A → Type 0) → SaysOnce Says → (o : Option Data) (xs ys : List A) → Lists Says o xs → Lists Says o ys → xs ≡ ys
+once_listed : {A : Type 0} (Says : Members → A → Type 0) → SaysOnce Says → (o : Option Data) (xs ys : List A) → TablesSay Says o xs → TablesSay Says o ys → xs ≡ ys
 once_listed Says once None xs ys p q = p ∙ sym q
 once_listed Says once (Some (array ds)) xs ys p q = once_each Says once ds xs ys p q
 once_listed Says once (Some (table t)) xs ys p q = absurd p
@@ -82,7 +82,7 @@ verb_once s a b p q = verbs a b (sym p ∙ q)
     verbs : (a b : Verb) → verb_text a ≡ verb_text b → a ≡ b
     verbs Deposit Deposit e = refl
     verbs Check Check e = refl
-    verbs Listed Listed e = refl
+    verbs ListDeposits ListDeposits e = refl
     verbs Extract Extract e = refl
     verbs See See e = refl
     verbs a b e = absurd (false≢true ((bytes_eq-Decides (verb_text a) (verb_text b)).1 e))
@@ -112,13 +112,13 @@ number_once d a b p q =
     let e : Some (integer (pos a)) ≡ Some (integer (pos b)) = sym p.0 ∙ q.0 in
     cc
 
-entries : (a b : Entry) → a.heading ≡ b.heading → a.value ≡ b.value → a ≡ b
+entries : (a b : WantedEntry) → a.heading ≡ b.heading → a.value ≡ b.value → a ≡ b
 entries a b p q =
-    let make : List ℕ → List ℕ → Entry = λ h v. record { heading = h; value = v } in
+    let make : List ℕ → List ℕ → WantedEntry = λ h v. record { heading = h; value = v } in
     let same : make a.heading a.value ≡ make b.heading b.value = rw (p, q) in
     same
 
-entry_once : (h v : Option Data) (a b : Option Entry) → IsEntry h v a → IsEntry h v b → a ≡ b
+entry_once : (h v : Option Data) (a b : Option WantedEntry) → IsEntry h v a → IsEntry h v b → a ≡ b
 entry_once None None a b p q = p ∙ sym q
 entry_once (Some (string h)) (Some (string v)) (Some a) (Some b) p q = ap Some (entries a b (p.1 ∙ sym q.1) (p.2 ∙ sym q.2))
 entry_once (Some (string h)) (Some (string v)) (Some a) None p q = absurd q
@@ -136,7 +136,7 @@ rule_once t a b p q =
     let own = set_once (IsEither (codes "own") (codes "other")) (either_once (codes "own") (codes "other") own_other) (get_member (codes "owner") t) a.own b.own p.own q.own in
     let past = set_once (IsEither (codes "past") (codes "running")) (either_once (codes "past") (codes "running") past_running) (get_member (codes "embargo") t) a.past b.past p.past q.past in
     let entry = entry_once (get_member (codes "heading") t) (get_member (codes "value") t) a.entry b.entry p.entry q.entry in
-    let make : ℕ → Effect → Option (List ℕ) → Option (List ℕ) → Option (List ℕ) → Option Verb → Option (List ℕ) → Option Bool → Option Bool → Option Entry → Rule =
+    let make : ℕ → Effect → Option (List ℕ) → Option (List ℕ) → Option (List ℕ) → Option Verb → Option (List ℕ) → Option Bool → Option Bool → Option WantedEntry → Rule =
     λ number effect firm role project verb group own past entry. record {
       number = number;
       effect = effect;
@@ -163,6 +163,6 @@ caller_once t a b p q =
     let token = text_once is_token (get_member (codes "token") t) a.token b.token p.token q.token in
     let firm = text_once is_name (get_member (codes "firm") t) a.caller.firm b.caller.firm p.firm q.firm in
     let role = text_once is_name (get_member (codes "role") t) a.caller.role b.caller.role p.role q.role in
-    let make : List ℕ → List ℕ → List ℕ → Listing = λ token firm role. record { token = token; caller = record { firm = firm; role = role } } in
+    let make : List ℕ → List ℕ → List ℕ → Credential = λ token firm role. record { token = token; caller = record { firm = firm; role = role } } in
     let same : make a.token a.caller.firm a.caller.role ≡ make b.token b.caller.firm b.caller.role = rw (token, firm, role) in
     same

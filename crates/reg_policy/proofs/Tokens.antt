@@ -10,7 +10,7 @@ use Rattle.std.proofs.lemmas.Bool.{and_parts, cases_Bool, false≢true}
 use Rattle.std.proofs.lemmas.List.{at_drop_more}
 use Rattle.std.proofs.lemmas.Slice.Eq.{bytes_eq-Decides}
 use Rattle.reg_policy.specs.Callers.{are_unique, has_token}
-use Rattle.reg_policy.specs.declared.callers.Listing.{Listing}
+use Rattle.reg_policy.specs.declared.callers.Credential.{Credential}
 
 -- one of the keys has these bytes
 abbrev pub has_key : List ℕ → List (Bor (List ℕ)) → Bool
@@ -48,22 +48,22 @@ contains-has_key cmp same k [] = refl
 contains-has_key cmp same k (x ∷ xs) = rw (same k x, contains-has_key cmp same k xs)
 
 -- the callers from a place on, one by one
-unique_at : (xs : List Listing) (j : ℕ) (x : Listing) → j < length xs → x ≡ get_or xs j x
+unique_at : (xs : List Credential) (j : ℕ) (x : Credential) → j < length xs → x ≡ get_or xs j x
     → are_unique (drop j xs) ≡ (not (has_token x.token (drop (j + 1) xs)) && are_unique (drop (j + 1) xs))
 unique_at xs j x low is = at_drop_more are_unique xs j x low ∙ rw (← is) refl
 
-token_at : (token : List ℕ) (xs : List Listing) (j : ℕ) (x : Listing) → j < length xs → x ≡ get_or xs j x
+token_at : (token : List ℕ) (xs : List Credential) (j : ℕ) (x : Credential) → j < length xs → x ≡ get_or xs j x
     → has_token token (drop j xs) ≡ (bytes_eq token x.token || has_token token (drop (j + 1) xs))
 token_at token xs j x low is = at_drop_more (has_token token) xs j x low ∙ rw (← is) refl
 
-unique_later : (xs : List Listing) (i : ℕ) → are_unique xs ≡ true → are_unique (drop i xs) ≡ true
+unique_later : (xs : List Credential) (i : ℕ) → are_unique xs ≡ true → are_unique (drop i xs) ≡ true
 unique_later xs zero all = all
 unique_later [] (suc i) all = refl
 unique_later (x ∷ xs) (suc i) all = unique_later xs i (and_parts (not (has_token x.token xs)) (are_unique xs) all).1
 
 -- one caller more, whose token the set had not
 pub seen_more : (cmp : Bor (List ℕ) → Bor (List ℕ) → Ordering) → ((k x : Bor (List ℕ)) → is_eq (cmp k x) ≡ bytes_eq k.now x.now)
-    → (xs : List Listing) (j i : ℕ) (x : Listing) (k : Bor (List ℕ)) (before after : List (Bor (List ℕ))) → j + 1 ≡ i → j < length xs → x ≡ get_or xs j x
+    → (xs : List Credential) (j i : ℕ) (x : Credential) (k : Bor (List ℕ)) (before after : List (Bor (List ℕ))) → j + 1 ≡ i → j < length xs → x ≡ get_or xs j x
     → k.now ≡ x.token → after ≡ insert_key cmp before k → not (list_any (λ q. is_eq (cmp k q)) before) ≡ true
     → ((token : List ℕ) → has_key token before ≡ has_token token (drop i xs)) → are_unique (drop i xs) ≡ true
     → ((token : List ℕ) → has_key token after ≡ has_token token (drop j xs)) × (are_unique (drop j xs) ≡ true)
@@ -74,7 +74,7 @@ seen_more cmp same xs j i x k before after next low is key put new had all = (
 
 -- one whose token it had
 pub seen_twice : (cmp : Bor (List ℕ) → Bor (List ℕ) → Ordering) → ((k x : Bor (List ℕ)) → is_eq (cmp k x) ≡ bytes_eq k.now x.now)
-    → (xs : List Listing) (j i : ℕ) (x : Listing) (k : Bor (List ℕ)) (before : List (Bor (List ℕ))) → j + 1 ≡ i → j < length xs → x ≡ get_or xs j x
+    → (xs : List Credential) (j i : ℕ) (x : Credential) (k : Bor (List ℕ)) (before : List (Bor (List ℕ))) → j + 1 ≡ i → j < length xs → x ≡ get_or xs j x
     → k.now ≡ x.token → not (list_any (λ q. is_eq (cmp k q)) before) ≡ false
     → ((token : List ℕ) → has_key token before ≡ has_token token (drop i xs)) → are_unique xs ≡ false
 seen_twice cmp same xs j i x k before next low is key old had = elim (cases_Bool (are_unique xs)) [

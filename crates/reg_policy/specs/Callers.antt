@@ -6,7 +6,7 @@ use Rattle.toml.specs.Data.{Data, string, Members, get_member}
 use Rattle.reg_policy.specs.Documents.{IsListOf, IsRefused}
 use Rattle.reg_policy.specs.Names.{is_name, is_token}
 use Rattle.reg_policy.specs.declared.callers.Caller.{Caller}
-use Rattle.reg_policy.specs.declared.callers.Listing.{Listing}
+use Rattle.reg_policy.specs.declared.callers.Credential.{Credential}
 use Rattle.reg_policy.specs.declared.callers.CallersError.{CallersError}
 use Rattle.reg_policy.specs.declared.callers.CallersError.TheVariants.{Syntax, UnknownKey, BadValue, DuplicateToken, NoMemory}
 use Rattle.reg_policy.specs.declared.document.ReadError.{ReadError}
@@ -24,27 +24,27 @@ abbrev pub IsText : (List ℕ → Bool) → Option Data → List ℕ → Type 0
 IsText passes value text = (value ≡ Some (string text)) × IsTrue (passes text)
 
 -- The caller that a table lists, with its token.
-pub record IsCaller (table : Members) (l : Listing) : Type 0 where
+pub record IsCaller (table : Members) (l : Credential) : Type 0 where
   pub token : IsText is_token (get_member (codes "token") table) l.token
   pub firm : IsText is_name (get_member (codes "firm") table) l.caller.firm
   pub role : IsText is_name (get_member (codes "role") table) l.caller.role
 
 -- one of the callers has the token
-abbrev pub has_token : List ℕ → List Listing → Bool
+abbrev pub has_token : List ℕ → List Credential → Bool
 has_token token callers = list_any (λ l. bytes_eq token l.token) callers
 
 -- no token stands twice
-abbrev pub are_unique : List Listing → Bool
+abbrev pub are_unique : List Credential → Bool
 are_unique [] = true
 are_unique (l ∷ callers) = not (has_token l.token callers) && are_unique callers
 
 -- Who has the token.
-abbrev pub caller_of : List ℕ → List Listing → Option Caller
+abbrev pub caller_of : List ℕ → List Credential → Option Caller
 caller_of token [] = None
 caller_of token (l ∷ callers) = if bytes_eq token l.token then Some l.caller else caller_of token callers
 
 -- The text is a document with these callers.
-abbrev pub HasCallers : List ℕ → List Listing → Type 0
+abbrev pub HasCallers : List ℕ → List Credential → Type 0
 HasCallers text callers = IsListOf caller_key caller_keys IsCaller text callers
 
 -- what a refusal of a document is for the callers
@@ -55,10 +55,10 @@ callers_error ReadErrors.BadValue = BadValue
 callers_error ReadErrors.NoMemory = NoMemory
 
 -- What reading callers gives: them, or the first refusal that holds of the whole document.
-abbrev pub ReadsCallers : List ℕ → Result (List Listing) CallersError → Type 0
+abbrev pub ReadsCallers : List ℕ → Result (List Credential) CallersError → Type 0
 ReadsCallers text (Ok callers) = HasCallers text callers × (are_unique callers ≡ true)
 ReadsCallers text (Err Syntax) = IsRefused caller_key caller_keys IsCaller text ReadErrors.Syntax
 ReadsCallers text (Err UnknownKey) = IsRefused caller_key caller_keys IsCaller text ReadErrors.UnknownKey
 ReadsCallers text (Err BadValue) = IsRefused caller_key caller_keys IsCaller text ReadErrors.BadValue
-ReadsCallers text (Err DuplicateToken) = (callers : List Listing) × HasCallers text callers × (are_unique callers ≡ false)
+ReadsCallers text (Err DuplicateToken) = (callers : List Credential) × HasCallers text callers × (are_unique callers ≡ false)
 ReadsCallers text (Err NoMemory) = Unit {0}

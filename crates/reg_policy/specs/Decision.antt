@@ -1,14 +1,14 @@
 -- Which rule of a policy decides.
-use Rattle.std.specs.Prelude.{◌≡◌, ◌⊎◌, ℕ, List, [], ◌∷◌, ◌++◌, Bool, true, false, not, ◌&&◌, ◌||◌, if◌then◌else◌, is_none, Option, Some, None, option_map, slice_get}
+use Rattle.std.specs.Prelude.{◌≡◌, ◌⊎◌, ℕ, List, [], ◌∷◌, ◌++◌, Bool, true, false, not, ◌&&◌, ◌||◌, if◌then◌else◌, is_none, Option, Some, None, slice_get}
 use Rattle.std.specs.List.{All}
 use Rattle.std.specs.Str.{bytes_eq}
 use Rattle.reg_policy.specs.declared.subject.Verb.{Verb}
-use Rattle.reg_policy.specs.declared.subject.Verb.TheVariants.{Deposit, Check, List as Listing, Extract, See}
-use Rattle.reg_policy.specs.declared.subject.Subject.{Subject}
+use Rattle.reg_policy.specs.declared.subject.Verb.TheVariants.{Deposit, Check, List as ListDeposits, Extract, See}
+use Rattle.reg_policy.specs.declared.callers.Caller.{Caller}
 use Rattle.reg_policy.specs.declared.subject.RowFacts.{RowFacts}
 use Rattle.reg_policy.specs.declared.subject.Decision.{Decision}
 use Rattle.reg_policy.specs.declared.subject.Decision.TheVariants.{Permit, Deny}
-use Rattle.reg_policy.specs.declared.rule.Entry.{Entry}
+use Rattle.reg_policy.specs.declared.rule.WantedEntry.{WantedEntry}
 use Rattle.reg_policy.specs.declared.rule.Rule.{Rule}
 use Rattle.reg_policy.specs.declared.rule.Effect.{Effect}
 use Rattle.reg_policy.specs.declared.rule.Effect.TheVariants as Effects
@@ -21,20 +21,25 @@ pub record Facts : Type 0 where
   pub headings : List (List ℕ)
   pub cells : List (List ℕ)
 
--- What is asked: who wants to do what in which project, and the row, where one is to be seen.
-pub record Asked : Type 0 where
+-- What a policy is asked: who wants to do what in which project, and the row, where one is to be seen.
+pub record Question : Type 0 where
   pub firm : List ℕ
   pub role : List ℕ
   pub project : List ℕ
   pub verb : Verb
   pub row : Option Facts
 
--- the same of the values that a program asks with
+-- what a program knows of a row
 abbrev pub facts_of : RowFacts → Facts
 facts_of row = record { group = row.group.now; own = row.own; past = row.past; headings = row.headings.now; cells = row.cells.now }
 
-abbrev pub asked_of : Subject → Asked
-asked_of s = record { firm = s.firm.now; role = s.role.now; project = s.project.now; verb = s.verb; row = option_map facts_of s.row }
+-- a caller's request: it has no row
+abbrev pub request_question : Caller → List ℕ → Verb → Question
+request_question caller project verb = record { firm = caller.firm; role = caller.role; project = project; verb = verb; row = None }
+
+-- that a caller wants to see a row
+abbrev pub row_question : Caller → List ℕ → Facts → Question
+row_question caller project row = record { firm = caller.firm; role = caller.role; project = project; verb = See; row = Some row }
 
 -- what a rule sets is equal to what is asked; what it does not set matches all
 abbrev pub Meets : {A : Type 0} → Option A → A → Type 0
@@ -42,10 +47,10 @@ Meets None asked = Unit {0}
 Meets (Some set) asked = set ≡ asked
 
 -- at some place the row has the heading, and exactly the value
-abbrev pub HasEntry : Entry → List (List ℕ) → List (List ℕ) → Type 0
+abbrev pub HasEntry : WantedEntry → List (List ℕ) → List (List ℕ) → Type 0
 HasEntry entry headings cells = (place : ℕ) × (slice_get headings place ≡ Some entry.heading) × (slice_get cells place ≡ Some entry.value)
 
-abbrev pub MeetsEntry : Option Entry → List (List ℕ) → List (List ℕ) → Type 0
+abbrev pub MeetsEntry : Option WantedEntry → List (List ℕ) → List (List ℕ) → Type 0
 MeetsEntry None headings cells = Unit {0}
 MeetsEntry (Some entry) headings cells = HasEntry entry headings cells
 
@@ -55,7 +60,7 @@ MeetsRow r None = (r.group ≡ None) × (r.own ≡ None) × (r.past ≡ None) ×
 MeetsRow r (Some row) = Meets r.group row.group × Meets r.own row.own × Meets r.past row.past × MeetsEntry r.entry row.headings row.cells
 
 -- The rule matches what is asked: all that it sets is so.
-abbrev pub Matches : Rule → Asked → Type 0
+abbrev pub Matches : Rule → Question → Type 0
 Matches r asked = Meets r.firm asked.firm × Meets r.role asked.role × Meets r.project asked.project × Meets r.verb asked.verb × MeetsRow r asked.row
 
 -- the decision that a rule states
@@ -64,7 +69,7 @@ effect_of Effects.Permit number = Permit number
 effect_of Effects.Deny number = Deny number
 
 -- decision is that of the first rule that matches, or the denial 0 where none does
-abbrev pub IsFirstMatch : List Rule → Asked → Decision → Type 0
+abbrev pub IsFirstMatch : List Rule → Question → Decision → Type 0
 IsFirstMatch rules asked decision =
     ((before : List Rule) × (r : Rule) × (others : List Rule) × (rules ≡ before ++ r ∷ others)
     × All (λ x. ¬ (Matches x asked)) before × Matches r asked × (decision ≡ effect_of r.effect r.number))
@@ -82,16 +87,16 @@ same_fact false fact = not fact
 abbrev pub same_verb : Verb → Verb → Bool
 same_verb Deposit Deposit = true
 same_verb Check Check = true
-same_verb Listing Listing = true
+same_verb ListDeposits ListDeposits = true
 same_verb Extract Extract = true
 same_verb See See = true
 same_verb v w = false
 
-abbrev pub has_entry : Entry → List (List ℕ) → List (List ℕ) → Bool
+abbrev pub has_entry : WantedEntry → List (List ℕ) → List (List ℕ) → Bool
 has_entry entry (h ∷ headings) (c ∷ cells) = (bytes_eq h entry.heading && bytes_eq c entry.value) || has_entry entry headings cells
 has_entry entry headings cells = false
 
-abbrev pub is_entry_met : Option Entry → List (List ℕ) → List (List ℕ) → Bool
+abbrev pub is_entry_met : Option WantedEntry → List (List ℕ) → List (List ℕ) → Bool
 is_entry_met None headings cells = true
 is_entry_met (Some entry) headings cells = has_entry entry headings cells
 
@@ -100,11 +105,11 @@ is_row_met r None = is_none r.group && (is_none r.own && (is_none r.past && is_n
 is_row_met r (Some row) = is_met bytes_eq r.group row.group && (is_met same_fact r.own row.own && (is_met same_fact r.past row.past
     && is_entry_met r.entry row.headings row.cells))
 
-abbrev pub matches : Rule → Asked → Bool
+abbrev pub matches : Rule → Question → Bool
 matches r asked = is_met bytes_eq r.firm asked.firm && (is_met bytes_eq r.role asked.role && (is_met bytes_eq r.project asked.project
     && (is_met same_verb r.verb asked.verb && is_row_met r asked.row)))
 
 -- The decision: the effect and number of the first rule that matches, or the denial 0.
-abbrev pub decision_of : List Rule → Asked → Decision
+abbrev pub decision_of : List Rule → Question → Decision
 decision_of [] asked = Deny 0
 decision_of (r ∷ rules) asked = if matches r asked then effect_of r.effect r.number else decision_of rules asked

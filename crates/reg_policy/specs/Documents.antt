@@ -8,8 +8,8 @@ use Rattle.reg_policy.specs.declared.document.ReadError.{ReadError}
 use Rattle.reg_policy.specs.declared.document.ReadError.TheVariants.{Syntax, UnknownKey, BadValue, NoMemory}
 
 -- one of these keys
-abbrev pub is_among : List (List ℕ) → List ℕ → Bool
-is_among keys key = list_any (bytes_eq key) keys
+abbrev pub is_known_key : List (List ℕ) → List ℕ → Bool
+is_known_key keys key = list_any (bytes_eq key) keys
 
 -- each key of a table passes
 abbrev pub all_keys : (List ℕ → Bool) → Members → Bool
@@ -18,7 +18,7 @@ all_keys passes (member key d members) = passes key && all_keys passes members
 
 -- an item of the array has no other keys than these, where it is a table
 abbrev pub has_known_keys : List (List ℕ) → Data → Bool
-has_known_keys keys (table members) = all_keys (is_among keys) members
+has_known_keys keys (table members) = all_keys (is_known_key keys) members
 has_known_keys keys d = true
 
 abbrev pub all_items : (Data → Bool) → Items → Bool
@@ -46,10 +46,10 @@ Each Says (item d items) (a ∷ all) = InTable Says d a × Each Says items all
 Each Says items all = ⊥
 
 -- what the array lists: nothing where there is none
-abbrev pub Lists : {A : Type 0} → (Members → A → Type 0) → Option Data → List A → Type 0
-Lists Says None all = all ≡ []
-Lists Says (Some (array items)) all = Each Says items all
-Lists Says (Some d) all = ⊥
+abbrev pub TablesSay : {A : Type 0} → (Members → A → Type 0) → Option Data → List A → Type 0
+TablesSay Says None all = all ≡ []
+TablesSay Says (Some (array items)) all = Each Says items all
+TablesSay Says (Some d) all = ⊥
 
 -- the text is a TOML document of known keys
 abbrev pub IsDocument : List ℕ → List (List ℕ) → List ℕ → Members → Type 0
@@ -57,12 +57,12 @@ IsDocument key keys text document = (parse_document text ≡ Some document) × (
 
 -- The text is a document that lists all these.
 abbrev pub IsListOf : {A : Type 0} → List ℕ → List (List ℕ) → (Members → A → Type 0) → List ℕ → List A → Type 0
-IsListOf key keys Says text all = (document : Members) × IsDocument key keys text document × Lists Says (get_member key document) all
+IsListOf key keys Says text all = (document : Members) × IsDocument key keys text document × TablesSay Says (get_member key document) all
 
 -- The text is refused: it is no TOML; or a key is unknown; or what the array has is nothing that it may say.
 abbrev pub IsRefused : {A : Type 0} → List ℕ → List (List ℕ) → (Members → A → Type 0) → List ℕ → ReadError → Type 0
 IsRefused key keys Says text Syntax = parse_document text ≡ None
 IsRefused key keys Says text UnknownKey = (document : Members) × (parse_document text ≡ Some document) × (is_known key keys document ≡ false)
 IsRefused {A} key keys Says text BadValue =
-    (document : Members) × IsDocument key keys text document × ((all : List A) → ¬ (Lists Says (get_member key document) all))
+    (document : Members) × IsDocument key keys text document × ((all : List A) → ¬ (TablesSay Says (get_member key document) all))
 IsRefused key keys Says text NoMemory = Unit {0}

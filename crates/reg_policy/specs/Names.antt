@@ -1,18 +1,14 @@
 -- Which texts are names of firms, roles and projects, which are tokens, and the words of the verbs.
-use Rattle.std.specs.Prelude.{ℕ, List, length, nat_le, Bool, ◌&&◌, ◌||◌, ◌==◌, codes}
+use Rattle.std.specs.Prelude.{ℕ, List, nat_le, Bool, ◌&&◌, ◌||◌, ◌==◌, codes}
 use Rattle.std.specs.List.{list_all}
 use Rattle.ags_rows.specs.Bytes.{low_line}
-use Rattle.ags_rows.specs.Names.{is_capital, is_digit}
+use Rattle.ags_rows.specs.Names.{is_capital, is_digit, is_within}
 use Rattle.reg_policy.specs.declared.subject.Verb.{Verb}
-use Rattle.reg_policy.specs.declared.subject.Verb.TheVariants.{Deposit, Check, List as Listing, Extract, See}
+use Rattle.reg_policy.specs.declared.subject.Verb.TheVariants.{Deposit, Check, List as ListDeposits, Extract, See}
 
--- it has at least one byte, and at most so many
-abbrev pub is_within : ℕ → List ℕ → Bool
-is_within most text = nat_le 1 (length text) && nat_le (length text) most
-
--- the hyphen
-abbrev pub hyphen : ℕ
-hyphen = 45
+-- `-`
+abbrev pub dash : ℕ
+dash = 45
 
 -- a to z
 abbrev pub first_small : ℕ
@@ -26,7 +22,7 @@ is_small b = nat_le first_small b && nat_le b last_small
 
 -- a letter, a digit, `-` or `_`
 abbrev pub is_name_byte : ℕ → Bool
-is_name_byte b = is_capital b || is_small b || is_digit b || b == hyphen || b == low_line
+is_name_byte b = is_capital b || is_small b || is_digit b || b == dash || b == low_line
 
 -- A name of a firm, a role or a project: 1 to 32 letters, digits, `-` and `_`.
 abbrev pub is_name : List ℕ → Bool
@@ -50,6 +46,6 @@ is_token text = is_within 64 text && list_all is_token_byte text
 abbrev pub verb_text : Verb → List ℕ
 verb_text Deposit = codes "deposit"
 verb_text Check = codes "check"
-verb_text Listing = codes "list"
+verb_text ListDeposits = codes "list"
 verb_text Extract = codes "extract"
 verb_text See = codes "see"

@@ -4,7 +4,7 @@ use Rattle.toml.specs.Data.{Data, string, integer, Members, get_member}
 use Rattle.ags_rows.specs.Names.{is_group_name, is_heading_name}
 use Rattle.reg_policy.specs.Documents.{IsListOf, IsRefused}
 use Rattle.reg_policy.specs.Names.{is_name, verb_text}
-use Rattle.reg_policy.specs.declared.rule.Entry.{Entry}
+use Rattle.reg_policy.specs.declared.rule.WantedEntry.{WantedEntry}
 use Rattle.reg_policy.specs.declared.rule.Rule.{Rule}
 use Rattle.reg_policy.specs.declared.rule.Effect.{Effect}
 use Rattle.reg_policy.specs.declared.rule.Effect.TheVariants.{Permit, Deny}
@@ -52,7 +52,7 @@ abbrev pub IsEffect : Option Data → Effect → Type 0
 IsEffect value effect = value ≡ Some (string (effect_text effect))
 
 -- a heading (Rule 19a) and any text: both or neither
-abbrev pub IsEntry : Option Data → Option Data → Option Entry → Type 0
+abbrev pub IsEntry : Option Data → Option Data → Option WantedEntry → Type 0
 IsEntry None None set = set ≡ None
 IsEntry (Some (string heading)) (Some (string value)) (Some entry) = IsTrue (is_heading_name heading) × (entry.heading ≡ heading) × (entry.value ≡ value)
 IsEntry heading value set = ⊥

@@ -6,12 +6,11 @@ ghost use Rattle.toml.specs.View.{table_view};
 ghost use Rattle.reg_policy.specs.Callers.{IsCaller, IsText, ReadsCallers, are_unique, caller_key, caller_keys, caller_of, callers_error};
 ghost use Rattle.reg_policy.specs.Names.{is_name, is_token, is_token_byte};
 ghost use Rattle.reg_policy.specs.Readers.{Gives};
-ghost use Rattle.reg_policy.specs.declared.callers.Listing.{Listing as ListingValue};
+ghost use Rattle.reg_policy.specs.declared.callers.Credential.{Credential as CredentialValue};
 
-use crate::document::{Listed, ReadError, copied, read_list, text_at};
-use crate::name::is_within;
+use crate::document::{FromTable, ReadError, copied, read_list, string_at};
 use crate::{Name, NameError};
-use ags_rows::Bytes;
+use ags_rows::{Bytes, is_within};
 use std::alloc::Global;
 use std::collections::BTreeSet;
 use std::marker::Model;
@@ -60,7 +59,7 @@ pub struct Caller {
 
 /// A caller and the token that shows who it is.
 #[derive(Drop)]
-struct Listing {
+struct Credential {
     token: Bytes,
     caller: Caller,
 }
@@ -68,13 +67,13 @@ struct Listing {
 /// The callers, in the order of the text.
 #[derive(Drop)]
 pub struct Callers {
-    listings: Vec<Listing>,
+    credentials: Vec<Credential>,
 }
 
 impl Model for Callers {
-    ghost Value = { List ListingValue };
+    ghost Value = { List CredentialValue };
 
-    ghost view = { λ c. c.listings.items };
+    ghost view = { λ c. c.credentials.items };
 }
 
 impl Callers {
@@ -82,27 +81,27 @@ impl Callers {
     pub fn read(alloc: Global, text: &str) -> Result<Callers, CallersError>
         ensures { ReadsCallers text.now result }
     {
-        let listings = read_list(alloc, text)?;
-        if !are_unique(alloc, &listings)? {
+        let credentials = read_list(alloc, text)?;
+        if !are_unique(alloc, &credentials)? {
             return Err(CallersError::DuplicateToken);
         }
-        Ok(Callers { listings })
+        Ok(Callers { credentials })
     }
 
     /// The caller who has the token.
     pub fn find(&self, token: &[u8]) -> Option<&Caller>
         ensures { option_map (λ c. c.now) result ≡ caller_of token.now self.now }
     {
-        for listing in &self.listings {
-            if token == listing.token.as_slice() {
-                return Some(&listing.caller);
+        for credential in &self.credentials {
+            if token == credential.token.as_slice() {
+                return Some(&credential.caller);
             }
         }
         None
     }
 }
 
-impl Listed for Listing {
+impl FromTable for Credential {
     ghost array_key = { caller_key };
 
     ghost table_keys = { caller_keys };
@@ -117,11 +116,11 @@ impl Listed for Listing {
         key == "token" || key == "firm" || key == "role"
     }
 
-    fn of_table(alloc: Global, table: &Table) -> Result<Listing, ReadError> {
+    fn of_table(alloc: Global, table: &Table) -> Result<Credential, ReadError> {
         let token = token_at(alloc, table)?;
-        let firm = name_at(alloc, table, "firm")?;
-        let role = name_at(alloc, table, "role")?;
-        Ok(Listing {
+        let firm = caller_name_at(alloc, table, "firm")?;
+        let role = caller_name_at(alloc, table, "role")?;
+        Ok(Credential {
             token,
             caller: Caller { firm, role },
         })
@@ -131,22 +130,19 @@ impl Listed for Listing {
 fn token_at(alloc: Global, table: &Table) -> Result<Bytes, ReadError>
     ensures { Gives (IsText is_token (get_member (codes "token") (table_view table.now))) result }
 {
-    let Some(text) = text_at(table, "token")? else {
+    let Some(text) = string_at(table, "token")? else {
         return Err(ReadError::BadValue);
     };
     if !is_token(text.as_bytes()) {
         return Err(ReadError::BadValue);
     }
-    match copied(alloc, text) {
-        Ok(token) => Ok(token),
-        Err(error) => Err(error),
-    }
+    copied(alloc, text)
 }
 
-fn name_at(alloc: Global, table: &Table, key: &str) -> Result<Name, ReadError>
+fn caller_name_at(alloc: Global, table: &Table, key: &str) -> Result<Name, ReadError>
     ensures { Gives (IsText is_name (get_member key.now (table_view table.now))) result }
 {
-    let Some(text) = text_at(table, key)? else {
+    let Some(text) = string_at(table, key)? else {
         return Err(ReadError::BadValue);
     };
     match Name::read(alloc, text) {
@@ -176,15 +172,15 @@ fn is_token_byte(b: u8) -> bool
 }
 
 /// Whether no token stands twice: none is that of a later caller.
-fn are_unique(alloc: Global, listings: &[Listing]) -> Result<bool, ReadError>
-    ensures unique { IfOk result (λ unique. unique ≡ are_unique listings.now) }
+fn are_unique(alloc: Global, credentials: &[Credential]) -> Result<bool, ReadError>
+    ensures unique { IfOk result (λ unique. unique ≡ are_unique credentials.now) }
     ensures memory { IfErr result (λ error. error ≡ ReadError.NoMemory) }
 {
     let mut later = BTreeSet::new(alloc);
-    let mut i = listings.len();
+    let mut i = credentials.len();
     while i > 0 {
         i -= 1;
-        match later.insert(listings[i].token.as_slice()) {
+        match later.insert(credentials[i].token.as_slice()) {
             Ok(true) => {}
             Ok(false) => return Ok(false),
             Err(_) => return Err(ReadError::NoMemory),

@@ -1,9 +1,17 @@
 //! Names of firms, roles and projects.
 ghost use Rattle.std.specs.Prelude.{◌≡◌, ◌↔◌, ℕ, List, Err, IsTrue, IsFalse, IfOk, string_bytes};
 ghost use Rattle.std.specs.List.{list_all};
-ghost use Rattle.reg_policy.specs.Names.{is_name, is_name_byte, is_within};
+ghost use Rattle.std.specs.Cmp.{partial_order_from_own_ties};
+ghost use Rattle.std.specs.Cmp.Lexicographic.{slice_cmp};
+ghost use Rattle.std.specs.Cmp.Rules.{comparing};
+ghost use Rattle.std.specs.Ordering.{as_partial_cmp, nat_cmp};
+ghost use Rattle.std.specs.Str.{bytes_eq};
+ghost use Rattle.std.proofs.Common.{rules};
+ghost use Rattle.reg_policy.specs.Names.{is_name, is_name_byte};
 
-use std::alloc::Global;
+use ags_rows::is_within;
+use std::alloc::{AllocError, Global};
+use std::cmp::Ordering;
 use std::marker::Model;
 use thiserror::Error;
 
@@ -18,7 +26,7 @@ pub enum NameError {
     NoMemory,
 }
 
-/// The name of a firm, a role or a project: 1 to 32 letters, digits, `-` and `_`.
+/// The name of a firm, a role or a project: 1 to 32 letters, digits, `-` and `_`. Names compare by their bytes.
 #[derive(Drop)]
 pub struct Name {
     text: String,
@@ -57,17 +65,60 @@ impl Name {
     }
 }
 
+impl Clone for Name {
+    ghost is_clone = { λ name copy. copy ≡ name };
+
+    fn clone(&self) -> Result<Name, AllocError>
+        ensures { IfOk result (λ copy. copy ≡ self.now) }
+    {
+        Ok(Name {
+            text: self.text.clone()?,
+        })
+    }
+}
+
+impl PartialEq for Name {
+    ghost eq = { bytes_eq };
+
+    ghost laws = { Prim.search (comparing, rules) };
+
+    fn eq(&self, other: &Name) -> bool {
+        self.text() == other.text()
+    }
+}
+
+impl Eq for Name {
+    ghost laws = { Prim.search (comparing, rules) };
+}
+
+impl PartialOrd for Name {
+    ghost partial_cmp = { as_partial_cmp (slice_cmp nat_cmp) };
+
+    ghost laws = { partial_order_from_own_ties (Prim.search (comparing, rules)) (Prim.search (comparing, rules)) };
+
+    fn partial_cmp(&self, other: &Name) -> Option<Ordering> {
+        Some(self.cmp(other))
+    }
+}
+
+impl Ord for Name {
+    ghost cmp = { slice_cmp nat_cmp };
+
+    ghost total = { Prim.search (comparing, rules) };
+
+    ghost matches_partial_cmp = { Prim.search (comparing, rules) };
+
+    ghost matches_eq = { Prim.search (comparing, rules) };
+
+    fn cmp(&self, other: &Name) -> Ordering {
+        self.text().cmp(other.text())
+    }
+}
+
 fn is_name(text: &[u8]) -> bool
     ensures { result ≡ is_name text.now }
 {
     is_within(text, 32) && has_name_bytes(text)
-}
-
-/// Whether a text has at least one byte, and at most so many.
-pub(crate) fn is_within(text: &[u8], most: usize) -> bool
-    ensures { result ≡ is_within most text.now }
-{
-    1 <= text.len() && text.len() <= most
 }
 
 fn has_name_bytes(text: &[u8]) -> bool

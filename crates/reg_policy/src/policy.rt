@@ -1,6 +1,6 @@
 //! A policy: a list of rules, of which the first that matches decides.
 ghost use Rattle.std.specs.Prelude.{◌≡◌, ◌↔◌, List, IsTrue};
-ghost use Rattle.reg_policy.specs.Decision.{asked_of, decision_of};
+ghost use Rattle.reg_policy.specs.Decision.{decision_of};
 ghost use Rattle.reg_policy.specs.Rules.{IsRisingFrom, ReadsPolicy, policy_error};
 ghost use Rattle.reg_policy.specs.declared.rule.Rule.{Rule as RuleValue};
 
@@ -70,7 +70,7 @@ impl Policy {
 
     /// What the first rule that matches says.
     pub fn decide(&self, subject: &Subject) -> Decision
-        ensures { result ≡ decision_of self.now (asked_of subject.now) }
+        ensures { result ≡ decision_of self.now subject.now }
     {
         for rule in &self.rules {
             if rule.matches(subject) {

@@ -1,55 +1,55 @@
 //! One rule of a policy, and whether it matches what is asked.
 ghost use Rattle.std.specs.Prelude.{◌≡◌, ◌↔◌, IsTrue, option_map};
-ghost use Rattle.reg_policy.specs.Decision.{HasEntry, Matches, Meets, MeetsEntry, MeetsRow, asked_of, facts_of, matches};
+ghost use Rattle.reg_policy.specs.Decision.{HasEntry, Matches, Meets, MeetsEntry, MeetsRow, facts_of, matches};
 
 use crate::{Name, RowFacts, Subject, Verb};
 use ags_rows::{Bytes, Cell};
 
 #[derive(Clone, Copy, Debug, PartialEq, Eq)]
-pub enum Effect {
+pub(crate) enum Effect {
     Permit,
     Deny,
 }
 
 /// A heading and an entry under it.
 #[derive(Drop)]
-pub struct Entry {
-    pub heading: Bytes,
-    pub value: Bytes,
+pub(crate) struct WantedEntry {
+    pub(crate) heading: Bytes,
+    pub(crate) value: Bytes,
 }
 
 /// A rule. What it does not set matches all.
 #[derive(Drop)]
-pub struct Rule {
+pub(crate) struct Rule {
     /// From 1 to 9999.
-    pub number: u32,
-    pub effect: Effect,
-    pub firm: Option<Name>,
-    pub role: Option<Name>,
-    pub project: Option<Name>,
-    pub verb: Option<Verb>,
-    pub group: Option<Bytes>,
+    pub(crate) number: u32,
+    pub(crate) effect: Effect,
+    pub(crate) firm: Option<Name>,
+    pub(crate) role: Option<Name>,
+    pub(crate) project: Option<Name>,
+    pub(crate) verb: Option<Verb>,
+    pub(crate) group: Option<Bytes>,
     /// Whether the deposit's firm is the caller's.
-    pub own: Option<bool>,
+    pub(crate) own: Option<bool>,
     /// Whether the embargo is over.
-    pub past: Option<bool>,
-    pub entry: Option<Entry>,
+    pub(crate) past: Option<bool>,
+    pub(crate) entry: Option<WantedEntry>,
 }
 
 impl Rule {
     /// Whether all that the rule sets is so.
-    pub fn matches(&self, subject: &Subject) -> bool
-        ensures test { result ≡ matches self.now (asked_of subject.now) }
-        ensures relation { IsTrue result ↔ Matches self.now (asked_of subject.now) }
+    pub(crate) fn matches(&self, subject: &Subject) -> bool
+        ensures test { result ≡ matches self.now subject.now }
+        ensures relation { IsTrue result ↔ Matches self.now subject.now }
     {
         self.meets(subject)
     }
 
     fn meets(&self, subject: &Subject) -> bool
-        ensures { IsTrue result ↔ Matches self.now (asked_of subject.now) }
+        ensures { IsTrue result ↔ Matches self.now subject.now }
     {
-        meets_name(&self.firm, subject.firm)
-            && meets_name(&self.role, subject.role)
+        meets_name(&self.firm, &subject.caller.firm)
+            && meets_name(&self.role, &subject.caller.role)
             && meets_name(&self.project, subject.project)
             && meets_verb(self.verb, subject.verb)
             && self.meets_row(&subject.row)
@@ -80,7 +80,7 @@ fn meets_name(set: &Option<Name>, name: &Name) -> bool
     ensures { IsTrue result ↔ Meets set.now name.now }
 {
     match set {
-        Some(wanted) => wanted.text() == name.text(),
+        Some(wanted) => wanted == name,
         None => true,
     }
 }
@@ -112,7 +112,7 @@ fn meets_group(set: &Option<Bytes>, group: &[u8]) -> bool
     }
 }
 
-fn meets_entry(set: &Option<Entry>, headings: &[Cell], cells: &[Cell]) -> bool
+fn meets_entry(set: &Option<WantedEntry>, headings: &[Cell], cells: &[Cell]) -> bool
     ensures { IsTrue result ↔ MeetsEntry set.now headings.now cells.now }
 {
     match set {
@@ -122,7 +122,7 @@ fn meets_entry(set: &Option<Entry>, headings: &[Cell], cells: &[Cell]) -> bool
 }
 
 /// Whether the row has the entry under its heading.
-fn has_entry(entry: &Entry, headings: &[Cell], cells: &[Cell]) -> bool
+fn has_entry(entry: &WantedEntry, headings: &[Cell], cells: &[Cell]) -> bool
     ensures { IsTrue result ↔ HasEntry entry.now headings.now cells.now }
 {
     for (heading, cell) in headings.iter().zip(cells) {
@@ -133,7 +133,7 @@ fn has_entry(entry: &Entry, headings: &[Cell], cells: &[Cell]) -> bool
     false
 }
 
-fn is_entry(entry: &Entry, heading: &Cell, cell: &Cell) -> bool
+fn is_entry(entry: &WantedEntry, heading: &Cell, cell: &Cell) -> bool
     ensures { IsTrue result ↔ ((heading.now ≡ entry.now.heading) × (cell.now ≡ entry.now.value)) }
 {
     heading.as_slice() == entry.heading.as_slice() && cell.as_slice() == entry.value.as_slice()

@@ -8,14 +8,14 @@ ghost use Rattle.reg_policy.specs.Readers.{Gives, GivesWord};
 ghost use Rattle.reg_policy.specs.Rules.{IsEffect, IsEither, IsEntry, IsNumber, IsRule, IsVerb, IsWord, Sets, rule_key, rule_keys};
 ghost use Rattle.reg_policy.specs.declared.subject.Verb.{Verb as VerbValue};
 
-use crate::document::{Listed, ReadError, copied, text_at};
-use crate::rule::{Effect, Entry, Rule};
+use crate::document::{FromTable, ReadError, copied, string_at};
+use crate::rule::{Effect, Rule, WantedEntry};
 use crate::{Name, NameError, Verb};
 use ags_rows::{Bytes, is_group_name, is_heading_name};
 use std::alloc::Global;
 use toml::Table;
 
-impl Listed for Rule {
+impl FromTable for Rule {
     ghost array_key = { rule_key };
 
     ghost table_keys = { rule_keys };
@@ -87,7 +87,7 @@ fn integer_at(table: &Table, key: &str) -> Option<i64>
 fn effect_at(table: &Table) -> Result<Effect, ReadError>
     ensures { Gives (IsEffect (get_member (codes "effect") (table_view table.now))) result }
 {
-    match text_at(table, "effect")? {
+    match string_at(table, "effect")? {
         Some("permit") => Ok(Effect::Permit),
         Some("deny") => Ok(Effect::Deny),
         _ => Err(ReadError::BadValue),
@@ -98,7 +98,7 @@ fn effect_at(table: &Table) -> Result<Effect, ReadError>
 fn word_at<'a>(table: &'a Table, key: &str) -> Result<Option<&'a str>, ReadError>
     ensures { GivesWord (get_member key.now (table_view table.now)) result }
 {
-    match text_at(table, key)? {
+    match string_at(table, key)? {
         Some("*") => Ok(None),
         text => Ok(text),
     }
@@ -158,10 +158,7 @@ fn group_at(alloc: Global, table: &Table) -> Result<Option<Bytes>, ReadError>
     if !is_group_name(word.as_bytes()) {
         return Err(ReadError::BadValue);
     }
-    match copied(alloc, word) {
-        Ok(group) => Ok(Some(group)),
-        Err(error) => Err(error),
-    }
+    Ok(Some(copied(alloc, word)?))
 }
 
 /// Whether a key has the first of two words; none where it sets nothing.
@@ -181,15 +178,15 @@ fn either_at(table: &Table, key: &str, word: &str, other: &str) -> Result<Option
 }
 
 /// `heading` and `value`: both or neither.
-fn entry_at(alloc: Global, table: &Table) -> Result<Option<Entry>, ReadError>
+fn entry_at(alloc: Global, table: &Table) -> Result<Option<WantedEntry>, ReadError>
     ensures { Gives (IsEntry (get_member (codes "heading") (table_view table.now)) (get_member (codes "value") (table_view table.now))) result }
 {
-    match (text_at(table, "heading")?, text_at(table, "value")?) {
+    match (string_at(table, "heading")?, string_at(table, "value")?) {
         (None, None) => Ok(None),
         (Some(heading), Some(value)) if is_heading_name(heading.as_bytes()) => {
             let heading = copied(alloc, heading)?;
             let value = copied(alloc, value)?;
-            Ok(Some(Entry { heading, value }))
+            Ok(Some(WantedEntry { heading, value }))
         }
         _ => Err(ReadError::BadValue),
     }

@@ -1,7 +1,9 @@
 //! What a policy is asked about, and what it answers.
+ghost use Rattle.std.specs.Prelude.{◌≡◌};
 
-use crate::Name;
+use crate::{Caller, Name};
 use ags_rows::Cell;
+use std::marker::Model;
 
 /// What a caller wants to do.
 #[derive(Clone, Copy, Debug, PartialEq, Eq)]
@@ -28,15 +30,50 @@ pub struct RowFacts<'a> {
     pub cells: &'a [Cell<'a>],
 }
 
-/// Who asks for what.
-#[derive(Clone, Copy)]
+/// Who asks for what: a request, or to see one row.
+#[derive(Drop)]
 pub struct Subject<'a> {
-    pub firm: &'a Name,
-    pub role: &'a Name,
-    pub project: &'a Name,
-    pub verb: Verb,
-    /// The row that is to be seen; no other verb has one.
-    pub row: Option<RowFacts<'a>>,
+    pub(crate) caller: &'a Caller,
+    pub(crate) project: &'a Name,
+    pub(crate) verb: Verb,
+    pub(crate) row: Option<RowFacts<'a>>,
+}
+
+impl<'a> Model for Subject<'a> {
+    ghost use Rattle.std.specs.Prelude.{option_map};
+    ghost use Rattle.reg_policy.specs.Decision.{Question, facts_of};
+
+    ghost Value = { Question };
+
+    ghost view = { λ s. record { firm = s.caller.now.firm; role = s.caller.now.role; project = s.project.now; verb = s.verb; row = option_map facts_of s.row } };
+}
+
+impl<'a> Subject<'a> {
+    ghost use Rattle.reg_policy.specs.Decision.{facts_of, request_question, row_question};
+
+    /// A caller's request in a project. It meets no rule that sets something of a row.
+    pub fn of_request(caller: &'a Caller, project: &'a Name, verb: Verb) -> Subject<'a>
+        ensures { result ≡ request_question caller.now project.now verb }
+    {
+        Subject {
+            caller,
+            project,
+            verb,
+            row: None,
+        }
+    }
+
+    /// That a caller wants to see a row of a project: the verb is `See`.
+    pub fn of_row(caller: &'a Caller, project: &'a Name, row: RowFacts<'a>) -> Subject<'a>
+        ensures { result ≡ row_question caller.now project.now (facts_of row.entry) }
+    {
+        Subject {
+            caller,
+            project,
+            verb: Verb::See,
+            row: Some(row),
+        }
+    }
 }
 
 /// The answer, with the number of the rule that decides: 0 where no rule matches.

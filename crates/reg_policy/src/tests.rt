@@ -1,25 +1,56 @@
 //! The worked examples: what no clause says.
 use crate::{
-    Callers, CallersError, Day, Decision, Name, NameError, Policy, PolicyError, RowFacts, Subject,
-    Verb, vectors,
+    Caller, Callers, CallersError, Day, Decision, Name, NameError, Policy, PolicyError, RowFacts,
+    Subject, Verb, vectors,
 };
 use ags_rows::{Cell, cells};
 use std::alloc::Global;
+use std::cmp::Ordering;
 use std::fmt::{Display, Write};
 use std::test::Fail;
+
+/// Whether a text is read as a name, and shown as it was. Want of memory ends the test.
+fn is_name(alloc: Global, text: &str) -> Result<bool, NameError> {
+    match Name::read(alloc, text) {
+        Ok(name) => Ok(name.text() == text),
+        Err(NameError::BadName) => Ok(false),
+        Err(NameError::NoMemory) => Err(NameError::NoMemory),
+    }
+}
 
 #[test]
 fn names(rt: HostRuntime) -> Result<(), Fail> {
     let alloc = rt.alloc();
-    for text in ["N1", "Delta", "a-b_C-9", "12345678901234567890123456789012"] {
-        let name = Name::read(alloc, text)?;
-        assert!(rt; name.text() == text, "{text}");
+    for (text, want) in [
+        ("N1", true),
+        ("Delta", true),
+        ("a-b_C-9", true),
+        ("12345678901234567890123456789012", true),
+        ("", false),
+        ("N 1", false),
+        ("N.1", false),
+        ("é", false),
+        ("123456789012345678901234567890123", false),
+    ] {
+        let answer = is_name(alloc, text)?;
+        assert_eq!(rt; answer, want, "{text}");
     }
-    for text in ["", "N 1", "N.1", "é", "123456789012345678901234567890123"] {
-        assert!(rt;
-            matches!(Name::read(alloc, text), Err(NameError::BadName)),
-            "{text}"
-        );
+    Ok(())
+}
+
+#[test]
+fn names_compared_and_copied(rt: HostRuntime) -> Result<(), Fail> {
+    let alloc = rt.alloc();
+    for (one, other, want) in [
+        ("Delta", "Delta", Ordering::Equal),
+        ("Delta", "Delt", Ordering::Greater),
+        ("Delta", "Gamma", Ordering::Less),
+        ("a", "B", Ordering::Greater),
+    ] {
+        let copy = Name::read(alloc, one)?.clone()?;
+        let name = Name::read(alloc, other)?;
+        assert_eq!(rt; copy.cmp(&name), want, "{one} {other}");
+        assert_eq!(rt; copy == name, want == Ordering::Equal, "{one} {other}");
     }
     Ok(())
 }
@@ -32,9 +63,15 @@ fn days(rt: HostRuntime) -> Result<(), Fail> {
         ("9999-12-31", 2_932_896),
     ] {
         let day = Day::read(text).ok_or("day")?;
-        assert!(rt; day.number() == number, "{text}");
+        assert_eq!(rt; day.number(), number, "{text}");
         assert!(rt; day.text().as_slice() == text.as_bytes(), "{text}");
+        assert!(rt; Day::new(number) == Some(day), "{text}");
     }
+    Ok(())
+}
+
+#[test]
+fn texts_of_no_day(rt: HostRuntime) {
     for text in [
         "2024-6-1",
         "2023-02-29",
@@ -45,11 +82,13 @@ fn days(rt: HostRuntime) -> Result<(), Fail> {
     ] {
         assert!(rt; Day::read(text).is_none(), "{text}");
     }
-    assert!(rt; Day::new(-1).is_none());
-    assert!(rt; Day::new(2_932_897).is_none());
-    let last = Day::new(2_932_896).ok_or("last")?;
-    assert!(rt; last.text() == *b"9999-12-31");
-    Ok(())
+}
+
+#[test]
+fn numbers_of_no_day(rt: HostRuntime) {
+    for number in [-1, 2_932_897] {
+        assert!(rt; Day::new(number).is_none(), "{number}");
+    }
 }
 
 /// What reading a policy refuses; none where it is read. Want of memory ends the test.
@@ -64,82 +103,81 @@ fn refusal(alloc: Global, text: &str) -> Result<Option<PolicyError>, PolicyError
 const RULE: &str = "[[rule]]\nnumber = 1\neffect = \"permit\"\n";
 
 #[test]
-fn unreadable_policies_refused(rt: HostRuntime) -> Result<(), Fail> {
-    let alloc = rt.alloc();
-    for text in [
-        "[[rule",
-        "[[rule]]\nnumber = 99999999999999999999\neffect = \"deny\"\n",
+fn policies_refused(rt: HostRuntime) -> Result<(), Fail> {
+    for (text, want) in [
+        ("[[rule", PolicyError::Syntax),
+        (
+            "[[rule]]\nnumber = 99999999999999999999\neffect = \"deny\"\n",
+            PolicyError::Syntax,
+        ),
+        ("other = 1\n", PolicyError::UnknownKey),
+        (
+            "[[rule]]\nnumber = 0\neffect = \"deny\"\n[[rule]]\ncolour = 1\n",
+            PolicyError::UnknownKey,
+        ),
+        ("rule = [3, { colour = 1 }]\n", PolicyError::UnknownKey),
+        ("[rule]\ncolour = 1\n", PolicyError::BadValue),
+        ("rule = 3\n", PolicyError::BadValue),
+        ("rule = [3]\n", PolicyError::BadValue),
+        ("[[rule]]\nnumber = 1\n", PolicyError::BadValue),
+        ("[[rule]]\neffect = \"deny\"\n", PolicyError::BadValue),
+        (
+            "[[rule]]\nnumber = 0\neffect = \"deny\"\n",
+            PolicyError::BadValue,
+        ),
+        (
+            "[[rule]]\nnumber = 10000\neffect = \"deny\"\n",
+            PolicyError::BadValue,
+        ),
+        (
+            "[[rule]]\nnumber = 1\neffect = \"*\"\n",
+            PolicyError::BadValue,
+        ),
+        (
+            "[[rule]]\nnumber = 2\neffect = \"deny\"\n[[rule]]\nnumber = 1\n",
+            PolicyError::BadValue,
+        ),
+        (
+            "[[rule]]\nnumber = 20\neffect = \"deny\"\n[[rule]]\nnumber = 10\neffect = \"deny\"\n",
+            PolicyError::Order,
+        ),
+        (
+            "[[rule]]\nnumber = 1\neffect = \"deny\"\n[[rule]]\nnumber = 1\neffect = \"deny\"\n",
+            PolicyError::Order,
+        ),
     ] {
-        let answer = refusal(alloc, text)?;
-        assert!(rt; answer == Some(PolicyError::Syntax), "{text}");
-    }
-    for text in [
-        "other = 1\n",
-        "[[rule]]\nnumber = 0\neffect = \"deny\"\n[[rule]]\ncolour = 1\n",
-        "rule = [3, { colour = 1 }]\n",
-    ] {
-        let answer = refusal(alloc, text)?;
-        assert!(rt; answer == Some(PolicyError::UnknownKey), "{text}");
+        let answer = refusal(rt.alloc(), text)?;
+        assert_eq!(rt; answer, Some(want), "{text}");
     }
     Ok(())
 }
 
 #[test]
-fn bad_policies_refused(rt: HostRuntime) -> Result<(), Fail> {
-    let alloc = rt.alloc();
-    for text in [
-        "[rule]\ncolour = 1\n",
-        "rule = 3\n",
-        "rule = [3]\n",
-        "[[rule]]\nnumber = 1\n",
-        "[[rule]]\neffect = \"deny\"\n",
-        "[[rule]]\nnumber = 0\neffect = \"deny\"\n",
-        "[[rule]]\nnumber = 10000\neffect = \"deny\"\n",
-        "[[rule]]\nnumber = 1\neffect = \"*\"\n",
-        "[[rule]]\nnumber = 2\neffect = \"deny\"\n[[rule]]\nnumber = 1\n",
-    ] {
-        let answer = refusal(alloc, text)?;
-        assert!(rt; answer == Some(PolicyError::BadValue), "{text}");
-    }
-    for text in [
-        "[[rule]]\nnumber = 20\neffect = \"deny\"\n[[rule]]\nnumber = 10\neffect = \"deny\"\n",
-        "[[rule]]\nnumber = 1\neffect = \"deny\"\n[[rule]]\nnumber = 1\neffect = \"deny\"\n",
-    ] {
-        let answer = refusal(alloc, text)?;
-        assert!(rt; answer == Some(PolicyError::Order), "{text}");
-    }
-    Ok(())
-}
-
-#[test]
-fn keys_refused(rt: HostRuntime) -> Result<(), Fail> {
+fn keys_read_or_refused(rt: HostRuntime) -> Result<(), Fail> {
     let alloc = rt.alloc();
     for (line, want) in [
-        ("colour = 1", PolicyError::UnknownKey),
-        ("from = \"2024-06-02\"", PolicyError::UnknownKey),
-        ("firm.x = \"a\"", PolicyError::BadValue),
-        ("firm = 3", PolicyError::BadValue),
-        ("firm = \"N 1\"", PolicyError::BadValue),
-        ("verb = \"read\"", PolicyError::BadValue),
-        ("group = \"LOCAS\"", PolicyError::BadValue),
-        ("owner = \"mine\"", PolicyError::BadValue),
-        ("embargo = \"over\"", PolicyError::BadValue),
-        ("heading = \"LOCA_ID\"", PolicyError::BadValue),
-        ("value = \"x\"", PolicyError::BadValue),
-        ("heading = \"*\"\nvalue = \"x\"", PolicyError::BadValue),
+        ("colour = 1", Some(PolicyError::UnknownKey)),
+        ("from = \"2024-06-02\"", Some(PolicyError::UnknownKey)),
+        ("firm.x = \"a\"", Some(PolicyError::BadValue)),
+        ("firm = 3", Some(PolicyError::BadValue)),
+        ("firm = \"N 1\"", Some(PolicyError::BadValue)),
+        ("verb = \"read\"", Some(PolicyError::BadValue)),
+        ("group = \"LOCAS\"", Some(PolicyError::BadValue)),
+        ("owner = \"mine\"", Some(PolicyError::BadValue)),
+        ("embargo = \"over\"", Some(PolicyError::BadValue)),
+        ("heading = \"LOCA_ID\"", Some(PolicyError::BadValue)),
+        ("value = \"x\"", Some(PolicyError::BadValue)),
+        (
+            "heading = \"*\"\nvalue = \"x\"",
+            Some(PolicyError::BadValue),
+        ),
+        ("firm = \"*\"", None),
+        ("heading = \"LOCA_ID\"\nvalue = \"*\"", None),
+        ("heading = \"LOCA_ID\"\nvalue = \"\"", None),
     ] {
         let text = format!(in alloc; "{RULE}{line}\n")?;
         let answer = refusal(alloc, text.as_str())?;
-        assert!(rt; answer == Some(want), "{line}");
-    }
-    for line in [
-        "firm = \"*\"",
-        "heading = \"LOCA_ID\"\nvalue = \"*\"",
-        "heading = \"LOCA_ID\"\nvalue = \"\"",
-    ] {
-        let text = format!(in alloc; "{RULE}{line}\n")?;
-        let answer = refusal(alloc, text.as_str())?;
-        assert!(rt; answer.is_none(), "{line}");
+        assert_eq!(rt; answer, want, "{line}");
     }
     Ok(())
 }
@@ -148,8 +186,7 @@ fn keys_refused(rt: HostRuntime) -> Result<(), Fail> {
 #[derive(Drop)]
 struct Asker {
     policy: Policy,
-    firm: Name,
-    role: Name,
+    caller: Caller,
     project: Name,
 }
 
@@ -157,48 +194,83 @@ impl Asker {
     fn new(alloc: Global, policy: &str, firm: &str, role: &str) -> Result<Asker, Fail> {
         Ok(Asker {
             policy: Policy::read(alloc, policy)?,
-            firm: Name::read(alloc, firm)?,
-            role: Name::read(alloc, role)?,
+            caller: Caller {
+                firm: Name::read(alloc, firm)?,
+                role: Name::read(alloc, role)?,
+            },
             project: Name::read(alloc, "N1")?,
         })
     }
 
     fn ask(&self, verb: Verb) -> Decision {
-        self.policy.decide(&Subject {
-            firm: &self.firm,
-            role: &self.role,
-            project: &self.project,
-            verb,
-            row: None,
-        })
+        let subject = Subject::of_request(&self.caller, &self.project, verb);
+        self.policy.decide(&subject)
     }
 
-    fn see(&self, row: RowFacts) -> Decision {
-        self.policy.decide(&Subject {
-            firm: &self.firm,
-            role: &self.role,
-            project: &self.project,
-            verb: Verb::See,
-            row: Some(row),
-        })
+    fn see<'a>(&'a self, row: RowFacts<'a>) -> Decision {
+        let subject = Subject::of_row(&self.caller, &self.project, row);
+        self.policy.decide(&subject)
     }
 }
 
 #[test]
 fn requests_decided(rt: HostRuntime) -> Result<(), Fail> {
-    let alloc = rt.alloc();
-    let gamma = Asker::new(alloc, vectors::POLICY, "Gamma", "contractor")?;
-    let delta = Asker::new(alloc, vectors::POLICY, "Delta", "contractor")?;
-    let echo = Asker::new(alloc, vectors::POLICY, "Echo", "consultant")?;
-    assert!(rt; gamma.ask(Verb::Deposit) == Decision::Deny(5));
-    assert!(rt; delta.ask(Verb::Deposit) == Decision::Permit(10));
-    assert!(rt; echo.ask(Verb::Deposit) == Decision::Deny(0));
-    assert!(rt; echo.ask(Verb::Check) == Decision::Permit(20));
-    assert!(rt; echo.ask(Verb::List) == Decision::Permit(30));
-    assert!(rt; echo.ask(Verb::Extract) == Decision::Permit(40));
-    for empty in ["", "rule = []\n"] {
-        let nobody = Asker::new(alloc, empty, "Delta", "contractor")?;
-        assert!(rt; nobody.ask(Verb::Deposit) == Decision::Deny(0));
+    let contractor = "contractor";
+    let consultant = "consultant";
+    for (policy, firm, role, verb, want) in [
+        (
+            vectors::POLICY,
+            "Gamma",
+            contractor,
+            Verb::Deposit,
+            Decision::Deny(5),
+        ),
+        (
+            vectors::POLICY,
+            "Delta",
+            contractor,
+            Verb::Deposit,
+            Decision::Permit(10),
+        ),
+        (
+            vectors::POLICY,
+            "Echo",
+            consultant,
+            Verb::Deposit,
+            Decision::Deny(0),
+        ),
+        (
+            vectors::POLICY,
+            "Echo",
+            consultant,
+            Verb::Check,
+            Decision::Permit(20),
+        ),
+        (
+            vectors::POLICY,
+            "Echo",
+            consultant,
+            Verb::List,
+            Decision::Permit(30),
+        ),
+        (
+            vectors::POLICY,
+            "Echo",
+            consultant,
+            Verb::Extract,
+            Decision::Permit(40),
+        ),
+        ("", "Delta", contractor, Verb::Deposit, Decision::Deny(0)),
+        (
+            "rule = []\n",
+            "Delta",
+            contractor,
+            Verb::Deposit,
+            Decision::Deny(0),
+        ),
+    ] {
+        let asker = Asker::new(rt.alloc(), policy, firm, role)?;
+        assert_eq!(rt; asker.ask(verb), want, "{firm}");
     }
     Ok(())
 }
@@ -234,7 +306,7 @@ fn rows_decided(rt: HostRuntime) -> Result<(), Fail> {
             headings: headings.as_slice(),
             cells,
         };
-        assert!(rt; echo.see(row) == want);
+        assert_eq!(rt; echo.see(row), want);
     }
     Ok(())
 }
@@ -265,12 +337,13 @@ fn stars_match_all(rt: HostRuntime) -> Result<(), Fail> {
     let text = format!(in alloc; "{RULE}{STARS}")?;
     let echo = Asker::new(alloc, text.as_str(), "Echo", "consultant")?;
     assert!(rt; echo.ask(Verb::Deposit) == Decision::Permit(1));
+    let none = Vec::new(alloc);
     let row = RowFacts {
         group: b"LOCA",
         own: false,
         past: false,
-        headings: &[],
-        cells: &[],
+        headings: none.as_slice(),
+        cells: none.as_slice(),
     };
     assert!(rt; echo.see(row) == Decision::Permit(1));
     Ok(())
@@ -332,7 +405,7 @@ fn callers_refused(rt: HostRuntime) -> Result<(), Fail> {
         ),
     ] {
         let answer = callers_refusal(alloc, text)?;
-        assert!(rt; answer == Some(want), "{text}");
+        assert_eq!(rt; answer, Some(want), "{text}");
     }
     Ok(())
 }
@@ -340,28 +413,27 @@ fn callers_refused(rt: HostRuntime) -> Result<(), Fail> {
 #[test]
 fn tokens_read(rt: HostRuntime) -> Result<(), Fail> {
     let alloc = rt.alloc();
-    for token in ["!~", LONGEST] {
-        let text = format!(in alloc; "[[caller]]\ntoken = \"{token}\"\n{WHO}")?;
-        let answer = callers_refusal(alloc, text.as_str())?;
-        assert!(rt; answer.is_none(), "{token}");
-    }
-    for token in [
-        "",
-        "a b",
-        "é",
-        "12345678901234567890123456789012345678901234567890123456789012345",
+    for (token, want) in [
+        ("!~", None),
+        (LONGEST, None),
+        ("", Some(CallersError::BadValue)),
+        ("a b", Some(CallersError::BadValue)),
+        ("é", Some(CallersError::BadValue)),
+        (
+            "12345678901234567890123456789012345678901234567890123456789012345",
+            Some(CallersError::BadValue),
+        ),
     ] {
         let text = format!(in alloc; "[[caller]]\ntoken = \"{token}\"\n{WHO}")?;
         let answer = callers_refusal(alloc, text.as_str())?;
-        assert!(rt; answer == Some(CallersError::BadValue), "{token}");
+        assert_eq!(rt; answer, want, "{token}");
     }
     Ok(())
 }
 
 #[test]
 fn callers_found(rt: HostRuntime) -> Result<(), Fail> {
-    let alloc = rt.alloc();
-    let callers = Callers::read(alloc, vectors::CALLERS)?;
+    let callers = Callers::read(rt.alloc(), vectors::CALLERS)?;
     for (token, firm, role) in [
         ("t-delta", "Delta", "contractor"),
         ("t-gamma", "Gamma", "contractor"),
@@ -372,11 +444,21 @@ fn callers_found(rt: HostRuntime) -> Result<(), Fail> {
         assert!(rt; caller.firm.text() == firm);
         assert!(rt; caller.role.text() == role);
     }
-    for token in ["", "t-ech", "t-echoo", "T-ECHO"] {
+    Ok(())
+}
+
+#[test]
+fn nobody_found(rt: HostRuntime) -> Result<(), Fail> {
+    for (text, token) in [
+        (vectors::CALLERS, ""),
+        (vectors::CALLERS, "t-ech"),
+        (vectors::CALLERS, "t-echoo"),
+        (vectors::CALLERS, "T-ECHO"),
+        ("", "t-echo"),
+    ] {
+        let callers = Callers::read(rt.alloc(), text)?;
         assert!(rt; callers.find(token.as_bytes()).is_none(), "{token}");
     }
-    let none = Callers::read(alloc, "")?;
-    assert!(rt; none.find(b"t-echo").is_none());
     Ok(())
 }
 
@@ -417,13 +499,11 @@ fn callers_refusals_as_printed(rt: HostRuntime) -> Result<(), Fail> {
 
 #[test]
 fn name_refusals_as_printed(rt: HostRuntime) -> Result<(), Fail> {
-    assert_eq!(rt;
-        words(rt.alloc(), &NameError::BadName)?.as_str(),
-        "not a name"
-    );
-    assert_eq!(rt;
-        words(rt.alloc(), &NameError::NoMemory)?.as_str(),
-        "out of memory"
-    );
+    for (refusal, want) in [
+        (NameError::BadName, "not a name"),
+        (NameError::NoMemory, "out of memory"),
+    ] {
+        assert_eq!(rt; words(rt.alloc(), &refusal)?.as_str(), want);
+    }
     Ok(())
 }

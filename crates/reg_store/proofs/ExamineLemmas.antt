@@ -16,7 +16,7 @@ use Rattle.ags_rows.specs.Findings.{LooseFindings}
 use Rattle.ags_rows.proofs.Once.{one_loose_list, one_loose_grouping}
 use Rattle.ags_dict.specs.Entries.{has_dict, lacks_heading, standard_entries}
 use Rattle.ags_dict.specs.Reading.{HasContents, IsDictionary, LacksDict, LacksHeading}
-use Rattle.ags_rows.specs.declared.codes.Finding.{Finding}
+use Rattle.ags_rows.specs.declared.finding.Finding.{Finding}
 use Rattle.ags_dict.specs.Entries.{Entries}
 use Rattle.ags_check.specs.Findings.{CheckedFile, Findings}
 use Rattle.ags_check.proofs.OneFile.{one_clean_file}

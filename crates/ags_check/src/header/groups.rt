@@ -1,9 +1,7 @@
 //! What the GROUP row of a group breaks, and the file by the groups that it lacks.
 
-ghost use Rattle.std.specs.Prelude.{◌≡◌, ◌↔◌, IsTrue, OnOk, codes};
-ghost use Rattle.std.specs.List.{list_any};
-ghost use Rattle.std.specs.Str.{bytes_eq};
-ghost use Rattle.ags_rows.specs.declared.codes.Code.TheVariants.{Rule10c};
+ghost use Rattle.std.specs.Prelude.{◌≡◌, ◌↔◌, IsTrue, OnOk};
+ghost use Rattle.ags_rows.specs.declared.code.Code.TheVariants.{Rule10c};
 ghost use Rattle.ags_rows.specs.Collecting.{Adds};
 ghost use Rattle.ags_rows.specs.Contents.{group_contents, contents_of};
 ghost use Rattle.ags_check.specs.Header.{IsUnknownGroup, LacksParentGroup, LacksGroup};
@@ -11,21 +9,12 @@ ghost use Rattle.ags_check.specs.HeaderPhase.{unknown_code};
 ghost use Rattle.ags_check.specs.Placing.{OfFile, AtGroup};
 
 use crate::named_groups::NamedGroups;
-use ags_dict::Dictionary;
+use ags_dict::{Dictionary, has_dict};
 use ags_rows::{Code, Finding, Group, note};
 use std::alloc::{AllocError, Global};
 
-/// Whether one of the groups is DICT.
-fn has_dict(groups: &[Group]) -> bool
-    ensures { result ≡ list_any (λ group. bytes_eq group.name (codes "DICT")) groups.now }
-{
-    groups
-        .iter()
-        .any(|group| group.name.as_slice() == b"DICT".as_slice())
-}
-
 /// The code of what the dictionary does not know: Rule 9 where the file has a DICT, else Rule 18.
-pub fn unknown_code(groups: &[Group]) -> Code
+pub(crate) fn unknown_code(groups: &[Group]) -> Code
     ensures { result ≡ unknown_code (contents_of groups.now) }
 {
     if has_dict(groups) {
@@ -36,7 +25,7 @@ pub fn unknown_code(groups: &[Group]) -> Code
 }
 
 /// Rules 9 and 18: notes a group for which the dictionary has no entry.
-pub fn note_unknown_group(
+pub(crate) fn note_unknown_group(
     alloc: Global,
     dictionary: &Dictionary,
     code: Code,
@@ -62,7 +51,7 @@ fn lacks_parent(dictionary: &Dictionary, file: &NamedGroups, group: &Group) -> b
 }
 
 /// Rule 10c: notes a group whose parent group is not in the file.
-pub fn note_lacking_parent(
+pub(crate) fn note_lacking_parent(
     alloc: Global,
     dictionary: &Dictionary,
     file: &NamedGroups,
@@ -84,7 +73,7 @@ pub fn note_lacking_parent(
 }
 
 /// Rules 13, 14, 15 and 17: notes that a group which each file has is absent.
-pub fn note_absent_group(
+pub(crate) fn note_absent_group(
     alloc: Global,
     file: &NamedGroups,
     code: Code,

@@ -1,7 +1,7 @@
 //! What the HEADING row of a group breaks.
 
 ghost use Rattle.std.specs.Prelude.{◌≡◌, ◌↔◌, ◌++◌, ℕ, List, IsTrue, OnOk, None, MatchOption, map};
-ghost use Rattle.ags_rows.specs.declared.codes.Code.TheVariants.{Rule7, Rule19b};
+ghost use Rattle.ags_rows.specs.declared.code.Code.TheVariants.{Rule7, Rule19b};
 ghost use Rattle.ags_rows.specs.Collecting.{Adds};
 ghost use Rattle.ags_rows.specs.Contents.{place_in};
 ghost use Rattle.ags_dict.specs.Entries.{order_of};
@@ -14,7 +14,7 @@ use ags_rows::{Code, Finding, Places, note};
 use std::alloc::{AllocError, Global};
 
 /// Rules 9 and 18: notes the headings that are not in the group's order.
-pub fn note_unknown(
+pub(crate) fn note_unknown(
     alloc: Global,
     dictionary: &Dictionary,
     group: &[u8],
@@ -25,7 +25,7 @@ pub fn note_unknown(
 ) -> Result<(), AllocError>
     ensures { OnOk result (Adds (AtNames line code (map (λ name. name.now) headings.now) (λ _ name. place_in (order_of dictionary.now group.now) name ≡ None)) findings.old.items findings.new.items) }
 {
-    for (i, heading) in headings.iter().enumerate() {
+    for heading in headings {
         let is_unknown = dictionary.place_in_order(group, heading).is_none();
         note(alloc, findings, line, code, heading, is_unknown)?;
     }
@@ -33,7 +33,7 @@ pub fn note_unknown(
 }
 
 /// Rules 10a and 10b: notes the listed headings that are not in the row.
-pub fn note_absent(
+pub(crate) fn note_absent(
     alloc: Global,
     listed: &[&[u8]],
     row: &Places,
@@ -43,7 +43,7 @@ pub fn note_absent(
 ) -> Result<(), AllocError>
     ensures { OnOk result (Adds (AtNames line code (map (λ name. name.now) listed.now) (λ _ name. place_in row.now name ≡ None)) findings.old.items findings.new.items) }
 {
-    for (i, heading) in listed.iter().enumerate() {
+    for heading in listed {
         let is_absent = row.find(heading).is_none();
         note(alloc, findings, line, code, heading, is_absent)?;
     }
@@ -72,7 +72,7 @@ fn is_behind(place: Option<usize>, latest: Option<usize>) -> bool
 }
 
 /// Rule 7: notes the headings before which the row has one that stands later in the group's order.
-pub fn note_misplaced(
+pub(crate) fn note_misplaced(
     alloc: Global,
     dictionary: &Dictionary,
     group: &[u8],
@@ -83,7 +83,7 @@ pub fn note_misplaced(
     ensures { OnOk result (Adds (AtNames line Rule7 (map (λ name. name.now) headings.now) (IsOvertaken (place_in (order_of dictionary.now group.now)) (map (λ name. name.now) headings.now))) findings.old.items findings.new.items) }
 {
     let mut latest = None;
-    for (i, heading) in headings.iter().enumerate() {
+    for heading in headings {
         let place = dictionary.place_in_order(group, heading);
         let breaks = is_behind(place, latest);
         note(alloc, findings, line, Code::Rule7, heading, breaks)?;
@@ -120,7 +120,7 @@ fn is_misnamed(given: &Dictionary, extended: &Dictionary, group: &[u8], heading:
 }
 
 /// Rule 19b: notes the user-defined headings that are neither named for the group nor another group's.
-pub fn note_misnamed(
+pub(crate) fn note_misnamed(
     alloc: Global,
     given: &Dictionary,
     extended: &Dictionary,
@@ -131,7 +131,7 @@ pub fn note_misnamed(
 ) -> Result<(), AllocError>
     ensures { OnOk result (Adds (AtNames line Rule19b (map (λ name. name.now) headings.now) (λ _ name. IsMisnamedBy given.now extended.now group.now name)) findings.old.items findings.new.items) }
 {
-    for (i, heading) in headings.iter().enumerate() {
+    for heading in headings {
         let breaks = is_misnamed(given, extended, group, heading);
         note(alloc, findings, line, Code::Rule19b, heading, breaks)?;
     }

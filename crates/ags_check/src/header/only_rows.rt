@@ -10,7 +10,7 @@ use ags_rows::{Code, Finding, Group, note, under};
 use std::alloc::{AllocError, Global};
 
 /// Rules 11a and 11b: notes that the entry of TRAN's first DATA row under the heading has more than one character.
-pub fn note_long_sign(
+pub(crate) fn note_long_sign(
     alloc: Global,
     group: &Group,
     code: Code,
@@ -30,7 +30,7 @@ pub fn note_long_sign(
 }
 
 /// Rules 13 and 14: notes the DATA rows, but for the first, of the group of this name.
-pub fn note_further_rows(
+pub(crate) fn note_further_rows(
     alloc: Global,
     group: &Group,
     code: Code,

@@ -3,12 +3,13 @@
 ghost use Rattle.std.specs.Prelude.{◌≡◌, ◌==◌, ◌<◌, ◌+◌, ◌^◌, ◌||◌, ℕ, List, IfOk, OnOk, IfSome, length, map, position};
 ghost use Rattle.ags_check.specs.CodeLists.{pair_texts, has_pair, is_pair, HasPairs, lacks_part};
 
+use ags_links::find_byte;
 use std::alloc::{AllocError, Global};
 use std::collections::BTreeSet;
 
 /// Pairs of a heading and a text.
 #[derive(Drop)]
-pub struct Abbreviations<'a> {
+pub(crate) struct Abbreviations<'a> {
     held: BTreeSet<(&'a [u8], &'a [u8])>,
 }
 
@@ -24,18 +25,9 @@ fn add_pair<'a>(
     Ok(())
 }
 
-/// The place of the first such byte.
-fn find_byte(text: &[u8], byte: u8) -> Option<usize>
-    ensures place { result ≡ position (λ b. b == byte) text.now }
-    ensures within { IfSome result (λ place. place < length text.now) }
-    ensures small { IfSome result (λ place. place + 1 < 2 ^ 64) }
-{
-    text.iter().position(|b| *b == byte)
-}
-
 impl<'a> Abbreviations<'a> {
     /// These pairs.
-    pub fn of(alloc: Global, pairs: &[(&'a [u8], &'a [u8])]) -> Result<Self, AllocError>
+    pub(crate) fn of(alloc: Global, pairs: &[(&'a [u8], &'a [u8])]) -> Result<Self, AllocError>
         ensures { IfOk result (λ abbreviations. HasPairs abbreviations.held (map pair_texts pairs.now)) }
     {
         let mut held = BTreeSet::new(alloc);
@@ -46,17 +38,18 @@ impl<'a> Abbreviations<'a> {
     }
 
     /// Whether the text is an abbreviation under the heading.
-    pub fn has(&self, heading: &'a [u8], text: &'a [u8]) -> bool
+    pub(crate) fn has(&self, heading: &'a [u8], text: &'a [u8]) -> bool
         ensures { result ≡ has_pair self.now.held heading.now text.now }
     {
         self.held.contains(&(heading, text))
     }
 
     /// Whether some part of the text, cut at the separator, is no abbreviation under the heading.
-    pub fn lacks_part(&self, separator: u8, heading: &'a [u8], text: &'a [u8]) -> bool
+    pub(crate) fn lacks_part(&self, separator: u8, heading: &'a [u8], text: &'a [u8]) -> bool
         ensures { result ≡ lacks_part self.now.held separator heading.now text.now }
     {
         let mut rest = text;
+        // the label is the loop's name in its proof
         'cutting: while let Some(place) = find_byte(rest, separator) {
             if !self.has(heading, &rest[..place]) {
                 return true;

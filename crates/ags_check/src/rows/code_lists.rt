@@ -1,10 +1,10 @@
-//! What a file lists: its units, types, file sets and abbreviations.
+//! What a file lists: its units, types and abbreviations.
 
-ghost use Rattle.std.specs.Prelude.{◌≡◌, ◌≢◌, ◌++◌, ◌↔◌, [], None, true, false, IsTrue, IfOk, OnOk, map, codes, if◌then◌else◌};
+ghost use Rattle.std.specs.Prelude.{◌≡◌, ◌≢◌, ◌++◌, ◌↔◌, [], None, true, false, IsTrue, IfOk, OnOk, map, if◌then◌else◌};
 ghost use Rattle.std.specs.Str.{bytes_eq};
 ghost use Rattle.ags_rows.specs.Contents.{place_in, under, group_contents, contents_of};
 ghost use Rattle.ags_check.specs.CodeLists.{listed_texts, abbreviation_in, abbreviations, pair_texts, has_pair, lacks_part};
-ghost use Rattle.ags_check.specs.RowRules.{IsUnlisted, IsUnlistedUnit, IsUnlistedType, IsUnlistedAbbreviation};
+ghost use Rattle.ags_check.specs.RowRules.{IsUnlistedUnit, IsUnlistedType, IsUnlistedAbbreviation};
 
 use crate::rows::abbreviations::Abbreviations;
 use ags_links::separators_in;
@@ -14,11 +14,10 @@ use std::marker::Model;
 
 /// What a file lists, to be looked up. Contracts see what the file holds.
 #[derive(Drop)]
-pub struct CodeLists<'a> {
+pub(crate) struct CodeLists<'a> {
     groups: &'a [Group<'a>],
     units: Places<'a>,
     types: Places<'a>,
-    file_sets: Places<'a>,
     abbreviations: Abbreviations<'a>,
     concatenator: u8,
 }
@@ -32,7 +31,7 @@ impl<'a> Model for CodeLists<'a> {
 
     ghost view = { λ l. contents_of l.groups.now };
 
-    ghost invariant = { λ l. AreCodeLists (contents_of l.groups.now) l.units l.types l.file_sets l.abbreviations.held l.concatenator };
+    ghost invariant = { λ l. AreCodeLists (contents_of l.groups.now) l.units l.types l.abbreviations.held l.concatenator };
 }
 
 /// Adds what stands under a heading in the rows of a group.
@@ -46,7 +45,7 @@ fn push_texts<'a>(
 {
     let headings = group.headings.as_slice();
     let rows = group.rows.as_slice();
-    for (i, row) in rows.iter().enumerate() {
+    for row in rows {
         texts.push(under(headings, row.cells.as_slice(), heading))?;
     }
     Ok(())
@@ -79,7 +78,7 @@ fn texts<'a>(
     ensures { IfOk result (λ texts. map (λ text. text.now) texts.items ≡ listed_texts (contents_of groups.now) name.now heading.now) }
 {
     let mut texts = Vec::new(alloc);
-    for (i, group) in groups.iter().enumerate() {
+    for group in groups {
         push_named(group, name, heading, &mut texts)?;
     }
     Ok(texts)
@@ -95,7 +94,7 @@ fn push_pairs<'a>(
 {
     let headings = group.headings.as_slice();
     let rows = group.rows.as_slice();
-    for (i, row) in rows.iter().enumerate() {
+    for row in rows {
         let heading = under(headings, row.cells.as_slice(), b"ABBR_HDNG");
         let code = under(headings, row.cells.as_slice(), b"ABBR_CODE");
         pairs.push((heading, code))?;
@@ -111,7 +110,7 @@ fn pairs<'a>(
     ensures { IfOk result (λ pairs. map pair_texts pairs.items ≡ abbreviations (contents_of groups.now)) }
 {
     let mut pairs = Vec::new(alloc);
-    for (i, group) in groups.iter().enumerate() {
+    for group in groups {
         if group.name.as_slice() == b"ABBR".as_slice() {
             push_pairs(group, &mut pairs)?;
         }
@@ -157,7 +156,7 @@ fn is_unlisted_pair<'a>(
 
 impl<'a> CodeLists<'a> {
     /// What these groups list.
-    pub fn of(alloc: Global, groups: &'a [Group<'a>]) -> Result<Self, AllocError>
+    pub(crate) fn of(alloc: Global, groups: &'a [Group<'a>]) -> Result<Self, AllocError>
         ensures { IfOk result (λ listed. listed ≡ contents_of groups.now) }
     {
         let pairs = pairs(alloc, groups)?;
@@ -165,35 +164,27 @@ impl<'a> CodeLists<'a> {
             groups,
             units: places(alloc, groups, b"UNIT", b"UNIT_UNIT")?,
             types: places(alloc, groups, b"TYPE", b"TYPE_TYPE")?,
-            file_sets: places(alloc, groups, b"FILE", b"FILE_FSET")?,
             abbreviations: Abbreviations::of(alloc, pairs.as_slice())?,
             concatenator: separators_in(groups).concatenator,
         })
     }
 
     /// Rule 15: whether the unit is not null, and not listed in UNIT.
-    pub fn is_unlisted_unit(&self, unit: &[u8]) -> bool
+    pub(crate) fn is_unlisted_unit(&self, unit: &[u8]) -> bool
         ensures { IsTrue result ↔ IsUnlistedUnit self.now unit.now }
     {
         is_unlisted(&self.units, unit)
     }
 
     /// Rule 17: whether the type is not null, and not listed in TYPE.
-    pub fn is_unlisted_type(&self, code: &[u8]) -> bool
+    pub(crate) fn is_unlisted_type(&self, code: &[u8]) -> bool
         ensures { IsTrue result ↔ IsUnlistedType self.now code.now }
     {
         is_unlisted(&self.types, code)
     }
 
-    /// Rule 20: whether the file set is not null, and not listed in FILE.
-    pub fn is_unlisted_file_set(&self, file_set: &[u8]) -> bool
-        ensures { IsTrue result ↔ IsUnlisted self.now (codes "FILE") (codes "FILE_FSET") file_set.now }
-    {
-        is_unlisted(&self.file_sets, file_set)
-    }
-
     /// Rule 16: whether the text is not null and no abbreviation under the heading, nor are all of its parts.
-    pub fn is_unlisted_abbreviation(&self, heading: &'a [u8], text: &'a [u8]) -> bool
+    pub(crate) fn is_unlisted_abbreviation(&self, heading: &'a [u8], text: &'a [u8]) -> bool
         ensures { IsTrue result ↔ IsUnlistedAbbreviation self.now heading.now text.now }
     {
         is_unlisted_pair(&self.abbreviations, self.concatenator, heading, text)

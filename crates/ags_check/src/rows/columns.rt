@@ -5,31 +5,21 @@ ghost use Rattle.ags_rows.specs.Contents.{field_at, group_contents};
 ghost use Rattle.ags_check.specs.Columns.{IsColumn, AreColumns};
 
 use ags_cells::CellType;
-use ags_rows::{Cell, Group, Places};
+use ags_rows::{Group, Places, cell_at};
 use std::alloc::{AllocError, Global};
 
 /// A heading: where it stands, and its unit and type.
 #[derive(Clone, Copy)]
-pub struct Column<'a> {
-    pub heading: &'a [u8],
-    pub place: Option<usize>,
-    pub unit: &'a [u8],
-    pub code: &'a [u8],
-    pub cell_type: CellType,
-}
-
-/// What stands in a row at a place; null where there is none.
-pub fn field<'r>(cells: &'r [Cell], place: Option<usize>) -> &'r [u8]
-    ensures { result.now ≡ field_at cells.now place }
-{
-    match place {
-        Some(place) if place < cells.len() => cells[place].as_slice(),
-        _ => b"",
-    }
+pub(crate) struct Column<'a> {
+    pub(crate) heading: &'a [u8],
+    pub(crate) place: Option<usize>,
+    pub(crate) unit: &'a [u8],
+    pub(crate) code: &'a [u8],
+    pub(crate) cell_type: CellType,
 }
 
 /// Whether the entries have this type.
-pub fn is_of_type(column: &Column, code: &[u8]) -> bool
+pub(crate) fn is_of_type(column: &Column, code: &[u8]) -> bool
     ensures { IsTrue result ↔ (column.now.code.now ≡ code.now) }
 {
     column.code == code
@@ -42,18 +32,18 @@ fn column_of<'a>(group: &'a Group<'_>, places: &Places<'_>, heading: &'a [u8]) -
     ensures column { IsColumn (group_contents group.now) result }
 {
     let place = places.find(heading);
-    let code = field(group.types.as_slice(), place);
+    let code = cell_at(group.types.as_slice(), place);
     Column {
         heading,
         place,
-        unit: field(group.units.as_slice(), place),
+        unit: cell_at(group.units.as_slice(), place),
         code,
         cell_type: CellType::of(code),
     }
 }
 
 /// What the group says of each of these headings.
-pub fn columns<'a>(
+pub(crate) fn columns<'a>(
     alloc: Global,
     group: &'a Group<'_>,
     places: &Places<'_>,

@@ -9,10 +9,10 @@ ghost use Rattle.ags_links.specs.DataRows.{row_in};
 ghost use Rattle.ags_check.specs.Columns.{IsTyped, AreColumns, entry_under, column_rules};
 
 use crate::rows::code_lists::CodeLists;
-use crate::rows::columns::{Column, field, is_of_type};
+use crate::rows::columns::{Column, is_of_type};
 use ags_cells::fits;
 use ags_cells::laws::fits_its_type_code;
-use ags_rows::{Cell, Code, Finding, Group, note};
+use ags_rows::{Cell, Code, Finding, Group, cell_at, note};
 use std::alloc::{AllocError, Global};
 
 /// Rule 8: whether the text does not fit the type and the unit.
@@ -77,7 +77,7 @@ fn note_entry<'a>(
 }
 
 /// Notes what the entries of a row break.
-pub fn note_entries<'a>(
+pub(crate) fn note_entries<'a>(
     alloc: Global,
     line: u32,
     columns: &[Column<'a>],
@@ -89,8 +89,8 @@ pub fn note_entries<'a>(
     ensures { OnOk result ((group : Contents) (headings : List (List ℕ)) → AreColumns group headings columns.now
         → Adds (InHeadings headings (λ heading. data_entry_rules listed.now line (entry_in group cells.now heading))) findings.old.items findings.new.items) }
 {
-    for (i, column) in columns.iter().enumerate() {
-        let text = field(cells, column.place);
+    for column in columns {
+        let text = cell_at(cells, column.place);
         note_entry(alloc, line, column, text, listed, findings)?;
     }
     Ok(())
@@ -128,7 +128,7 @@ fn note_column(
 }
 
 /// Notes the units and types over the headings that are not listed (Rules 15 and 17).
-pub fn note_columns(
+pub(crate) fn note_columns(
     alloc: Global,
     group: &Group,
     columns: &[Column],
@@ -138,14 +138,14 @@ pub fn note_columns(
     ensures { OnOk result (AreColumns (group_contents group.now) group.now.headings columns.now
         → Adds (InHeadings group.now.headings (unit_and_type_rules listed.now group.now)) findings.old.items findings.new.items) }
 {
-    for (i, column) in columns.iter().enumerate() {
+    for column in columns {
         note_column(alloc, group, column, listed, findings)?;
     }
     Ok(())
 }
 
 /// Rule 10b: notes the REQUIRED entries of a row that are null.
-pub fn note_lacking(
+pub(crate) fn note_lacking(
     alloc: Global,
     line: u32,
     required: &[Column],
@@ -155,8 +155,8 @@ pub fn note_lacking(
     ensures { OnOk result ((group : Contents) (headings : List (List ℕ)) → AreColumns group headings required.now
         → Adds (InHeadings headings (required_rules line (row_in group cells.now))) findings.old.items findings.new.items) }
 {
-    for (i, column) in required.iter().enumerate() {
-        let is_null = field(cells, column.place).is_empty();
+    for column in required {
+        let is_null = cell_at(cells, column.place).is_empty();
         note(
             alloc,
             findings,

@@ -10,9 +10,9 @@ ghost use Rattle.ags_links.specs.RecordLinks.{separators_of, IsBroken};
 ghost use Rattle.ags_check.specs.RowPhase.{InHeadings, link_rules};
 ghost use Rattle.ags_check.specs.Columns.{AreColumns};
 
-use crate::rows::columns::{Column, field, is_of_type};
+use crate::rows::columns::{Column, is_of_type};
 use ags_links::Index;
-use ags_rows::{Cell, Code, Finding, note};
+use ags_rows::{Cell, Code, Finding, cell_at, note};
 use std::alloc::{AllocError, Global};
 
 /// Rule 11c, in a data group: whether the text is a record link of which some part names no row.
@@ -37,7 +37,7 @@ fn is_broken_link(
 }
 
 /// Rule 11c: notes the record links of a row of a data group of which some part names no row.
-pub fn note_links(
+pub(crate) fn note_links(
     alloc: Global,
     line: u32,
     columns: &[Column],
@@ -51,8 +51,8 @@ pub fn note_links(
         → IsDataRow (rows_in index.now) number (row_in group cells.now)
         → Adds (InHeadings group.headings (link_rules index.now.entries index.now.contents line (row_in group cells.now))) findings.old.items findings.new.items) }
 {
-    for (i, column) in columns.iter().enumerate() {
-        let text = field(cells, column.place);
+    for column in columns {
+        let text = cell_at(cells, column.place);
         let is_broken = is_broken_link(column, text, index, number)?;
         note(
             alloc,

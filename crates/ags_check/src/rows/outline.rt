@@ -1,31 +1,31 @@
 //! What a group's header and the dictionary say of its rows.
 
-ghost use Rattle.std.specs.Prelude.{◌≡◌, ◌≢◌, ◌<◌, ◌↔◌, [], IsTrue, IfOk, length};
-ghost use Rattle.ags_rows.specs.Contents.{group_contents};
+ghost use Rattle.std.specs.Prelude.{◌≡◌, ◌≢◌, ◌<◌, ◌↔◌, [], false, IsTrue, IfOk, codes, length};
+ghost use Rattle.ags_rows.specs.Contents.{under};
+ghost use Rattle.ags_rows.specs.Names.{is_definition};
 ghost use Rattle.ags_dict.specs.Entries.{keys_of};
-ghost use Rattle.ags_links.specs.DataRows.{DataRow, IsDataRow, row_in};
+ghost use Rattle.ags_links.specs.DataRows.{DataRow, IsDataRow};
 ghost use Rattle.ags_links.specs.Indexing.{rows_in};
-ghost use Rattle.ags_check.specs.RowRules.{RepeatsKey, LacksParentRow, IsUnlistedFileSet};
+ghost use Rattle.ags_check.specs.RowRules.{RepeatsKey, LacksParentRow};
 
-use crate::rows::code_lists::CodeLists;
-use crate::rows::columns::{Column, columns, field};
+use crate::rows::columns::{Column, columns};
 use ags_dict::Dictionary;
 use ags_links::Index;
-use ags_rows::{Cell, Group, Places, Row, is_definition};
+use ags_rows::{Cell, Group, Places, Row, cell_at, is_definition};
 use std::alloc::{AllocError, Global};
 use std::marker::Model;
 
 /// What a group's header and the dictionary say of the group's rows. Contracts see the group and the entries.
 #[derive(Drop)]
-pub struct Outline<'a> {
-    pub group: &'a Group<'a>,
-    pub dictionary: &'a Dictionary,
-    pub columns: Vec<Column<'a>>,
-    pub required: Vec<Column<'a>>,
-    pub file_set: Option<usize>,
-    pub has_keys: bool,
-    pub has_parent: bool,
-    pub is_data: bool,
+pub(crate) struct Outline<'a> {
+    pub(crate) group: &'a Group<'a>,
+    pub(crate) dictionary: &'a Dictionary,
+    pub(crate) columns: Vec<Column<'a>>,
+    pub(crate) required: Vec<Column<'a>>,
+    pub(crate) file_set: Option<usize>,
+    pub(crate) has_keys: bool,
+    pub(crate) has_parent: bool,
+    pub(crate) is_data: bool,
 }
 
 impl<'a> Model for Outline<'a> {
@@ -46,9 +46,16 @@ fn has_keys(alloc: Global, dictionary: &Dictionary, name: &[u8]) -> Result<bool,
     Ok(!keys.is_empty())
 }
 
+/// Whether the FILE_FSET is not null and there is no file.
+fn is_without_file(file_set: &[u8], has_file: bool) -> bool
+    ensures { IsTrue result ↔ (file_set.now ≢ []) × (has_file ≡ false) }
+{
+    !file_set.is_empty() && !has_file
+}
+
 impl<'a> Outline<'a> {
     /// What is said of this group's rows.
-    pub fn of(
+    pub(crate) fn of(
         alloc: Global,
         dictionary: &'a Dictionary,
         group: &'a Group<'a>,
@@ -74,7 +81,7 @@ impl<'a> Outline<'a> {
     }
 
     /// The group's name.
-    pub fn name(&self) -> &[u8]
+    pub(crate) fn name(&self) -> &[u8]
         ensures { result.now ≡ self.now.group.name }
     {
         let group = self.group;
@@ -82,7 +89,7 @@ impl<'a> Outline<'a> {
     }
 
     /// The group's DATA rows.
-    pub fn rows(&self) -> &'a [Row<'a>]
+    pub(crate) fn rows(&self) -> &'a [Row<'a>]
         ensures { result.now ≡ self.now.group.rows }
     {
         let group = self.group;
@@ -90,7 +97,7 @@ impl<'a> Outline<'a> {
     }
 
     /// Rule 10a: whether an earlier row of the group has the key of this one.
-    pub fn repeats_key(&self, index: &Index, number: u32) -> Result<bool, AllocError>
+    pub(crate) fn repeats_key(&self, index: &Index, number: u32) -> Result<bool, AllocError>
         requires { number < length (rows_in index.now) }
         ensures { IfOk result (λ repeats. (row : DataRow) → IsDataRow (rows_in index.now) number row → row.group ≡ self.now.group.name → self.now.entries ≡ index.now.entries
             → IsTrue repeats ↔ RepeatsKey index.now.entries index.now.contents number row) }
@@ -102,7 +109,7 @@ impl<'a> Outline<'a> {
     }
 
     /// Rule 10c: whether the group has a parent group, and the row no parent row.
-    pub fn lacks_parent(&self, index: &Index, number: u32) -> Result<bool, AllocError>
+    pub(crate) fn lacks_parent(&self, index: &Index, number: u32) -> Result<bool, AllocError>
         requires { number < length (rows_in index.now) }
         ensures { IfOk result (λ lacks. (row : DataRow) → IsDataRow (rows_in index.now) number row → row.group ≡ self.now.group.name → self.now.entries ≡ index.now.entries
             → IsTrue lacks ↔ LacksParentRow index.now.entries index.now.contents row) }
@@ -113,12 +120,15 @@ impl<'a> Outline<'a> {
         Ok(!index.has_parent(number)?)
     }
 
-    /// Rule 20: whether the row is of a data group other than FILE, and its FILE_FSET is not null and not listed in FILE.
-    pub fn is_unlisted_file_set(&self, cells: &[Cell], listed: &CodeLists) -> bool
-        ensures { IsTrue result ↔ IsUnlistedFileSet listed.now (row_in (group_contents self.now.group) cells.now) }
+    /// Rule 20: whether the row is of a data group other than FILE, and its FILE_FSET is not null and not that of a row
+    /// of FILE.
+    pub(crate) fn is_unlisted_file_set(&self, cells: &[Cell], has_file: bool) -> bool
+        ensures { IsTrue result ↔ (is_definition self.now.group.name ≡ false)
+            × (self.now.group.name ≢ codes "FILE")
+            × ((under self.now.group.headings cells.now (codes "FILE_FSET") ≢ []) × (has_file ≡ false)) }
     {
         self.is_data
             && self.group.name.as_slice() != b"FILE".as_slice()
-            && listed.is_unlisted_file_set(field(cells, self.file_set))
+            && is_without_file(cell_at(cells, self.file_set), has_file)
     }
 }

@@ -1,10 +1,12 @@
-use super::{quote, write_group, write_row};
+use super::{quote, write_group, write_line, write_row};
 use crate::READABLE;
+use crate::cell::Cell;
 use crate::rows::{Descriptor, Row};
 use crate::scanning::Scan;
-use crate::seen::{Cell, Sequence};
+use crate::sequence::Sequence;
 use crate::spelling::cells;
 use crate::vectors::{FILE_A, FILE_B, FILE_C, MINI};
+use std::slice;
 use std::test::Fail;
 
 /// The dictionary's groups: name, parent, and headings with status (`K` is KEY, `R` REQUIRED, `O` OTHER).
@@ -192,6 +194,9 @@ fn spelled(rt: HostRuntime) -> Result<(), Fail> {
     let mut row = Vec::new(rt.alloc());
     write_row(&mut row, Descriptor::Data, two.as_slice())?;
     assert_eq!(rt; row.as_slice(), b"\"DATA\",\"a\",\"b\"\r\n".as_slice());
+    let mut line = Vec::new(rt.alloc());
+    write_line(&mut line, Descriptor::Group, slice::from_ref(&bare("LOCA")))?;
+    assert_eq!(rt; line.as_slice(), b"\"GROUP\",\"LOCA\"".as_slice());
     assert!(rt;
         cells(rt.alloc(), b"\"a\"b")?.is_none(),
         "a letter behind a quote"

@@ -1,8 +1,8 @@
 use Rattle.std.proofs.Common.{◌≡◌, List, [], subst, ◌∙◌}
-use Rattle.ags_rows.specs.declared.codes.Finding.{Finding}
+use Rattle.ags_rows.specs.declared.finding.Finding.{Finding}
 use Rattle.ags_rows.specs.declared.rows.Group.{Group}
 use Rattle.ags_rows.specs.Collecting.{OneOf}
-use Rattle.ags_rows.specs.Findings.{Lists}
+use Rattle.ags_rows.specs.Findings.{AreExactly}
 use Rattle.ags_rows.proofs.Collecting.{none_listed}
 use Rattle.ags_rows.proofs.Files.{is_nil}
 use Rattle.ags_check.specs.HeaderPhase.{header_rules}
@@ -12,10 +12,10 @@ use Rattle.ags_check.proofs.checking.check_headers.Goals as goal
 pub returns-then-not-is_empty-clause-findings : goal.returns-then-not-is_empty-clause-findings
 returns-then-not-is_empty-clause-findings c = λ found is.
     let same : c.in_ok-found.found ≡ found = cc in
-    let lists = subst (λ (groups : List Group). Lists (OneOf (header_rules c.args.given.now c.args.extended.now groups)) c.in_ok-found.found) (c.in_ok-file.ensures ∙ c.groups.ensures) c.in_ok-found.ensures in
-    subst (λ (l : List Finding). Lists (OneOf (header_rules c.args.given.now c.args.extended.now c.args.scan.now)) l × (l ≡ [] → ⊥)) same (lists, some_found c.in_ok-found.found c.if-not-is_empty.ensures)
+    let lists = subst (λ (groups : List Group). AreExactly (OneOf (header_rules c.args.given.now c.args.extended.now groups)) c.in_ok-found.found) (c.in_ok-file.ensures ∙ c.groups.ensures) c.in_ok-found.ensures in
+    subst (λ (l : List Finding). AreExactly (OneOf (header_rules c.args.given.now c.args.extended.now c.args.scan.now)) l × (l ≡ [] → ⊥)) same (lists, some_found c.in_ok-found.found c.if-not-is_empty.ensures)
 
 pub returns-clause-clear : goal.returns-clause-clear
 returns-clause-clear c =
-    let lists = subst (λ (groups : List Group). Lists (OneOf (header_rules c.args.given.now c.args.extended.now groups)) c.in_ok-found.found) (c.in_ok-file.ensures ∙ c.groups.ensures) c.in_ok-found.ensures in
+    let lists = subst (λ (groups : List Group). AreExactly (OneOf (header_rules c.args.given.now c.args.extended.now groups)) c.in_ok-found.found) (c.in_ok-file.ensures ∙ c.groups.ensures) c.in_ok-found.ensures in
     none_listed c.in_ok-found.found lists (is_nil c.in_ok-found.found c.if-not-is_empty.ensures)

@@ -1,7 +1,7 @@
 use Rattle.std.proofs.Common.{List, subst}
 use Rattle.ags_rows.specs.declared.rows.Group.{Group}
 use Rattle.ags_rows.specs.Collecting.{OneOf}
-use Rattle.ags_rows.specs.Findings.{Lists}
+use Rattle.ags_rows.specs.Findings.{AreExactly}
 use Rattle.ags_rows.proofs.Collecting.{none_listed}
 use Rattle.ags_rows.proofs.Files.{is_nil}
 use Rattle.ags_check.specs.RowPhase.{entry_rules}
@@ -9,5 +9,5 @@ use Rattle.ags_check.proofs.checking.check_rows.Goals as goal
 
 pub returns-clause-clear : goal.returns-clause-clear
 returns-clause-clear c =
-    let lists = subst (λ (groups : List Group). Lists (OneOf (entry_rules c.args.dictionary.now groups)) c.in_ok-of_rows.of_rows) c.groups.ensures c.in_ok-of_rows.ensures in
+    let lists = subst (λ (groups : List Group). AreExactly (OneOf (entry_rules c.args.dictionary.now groups)) c.in_ok-of_rows.of_rows) c.groups.ensures c.in_ok-of_rows.ensures in
     none_listed c.in_ok-of_rows.of_rows lists (is_nil c.in_ok-of_rows.of_rows c.if-not-is_empty.ensures)

@@ -1,5 +1,5 @@
 use Rattle.std.proofs.Common.{[], ◌∷◌, codes}
-use Rattle.ags_rows.specs.declared.codes.Code.TheVariants.{Rule14, Rule15, Rule17}
+use Rattle.ags_rows.specs.declared.code.Code.TheVariants.{Rule14, Rule15, Rule17}
 use Rattle.ags_rows.specs.Contents.{contents_of}
 use Rattle.ags_rows.proofs.Collecting.{one_more, one_none}
 use Rattle.ags_check.specs.Header.{LacksGroup}

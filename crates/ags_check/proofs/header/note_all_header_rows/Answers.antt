@@ -7,17 +7,17 @@ use Rattle.ags_rows.proofs.Collecting.{among_more, among_all}
 use Rattle.ags_check.specs.HeaderPhase.{group_header_rules}
 use Rattle.ags_check.proofs.header.note_all_header_rows.Goals as goal
 
-pub loop-i-preserved : goal.loop-i-preserved
-loop-i-preserved c =
+pub loop-group-preserved : goal.loop-group-preserved
+loop-group-preserved c =
     let groups = c.args.file.now in
-    let group = c.index-groups-i.result in
-    let i = c.loop-i.i in
-    let at : At groups i group = subst (λ (l : List Group). At l i group) c.groups-groups.ensures (slice_get_read c.groups-groups.result.now _ i group refl c.loop-i-test.true c.index-groups-i.is) in
-    among_more groups (λ _ g f. OneOf (group_header_rules c.args.given.now c.args.extended.now (contents_of groups) c.args.code g) f) i group c.args.findings.now.items c.loop-i.findings.items c.note_header_rows.new.findings.items
-    at c.loop-i.invariant c.in_ok-note_header_rows.ensures
+    let group = c.group-item.result in
+    let i = c.loop-group.group-index in
+    let at : At groups i group = subst (λ (l : List Group). At l i group) c.groups-groups.ensures (slice_get_read c.groups-groups.result.now _ i group refl c.loop-group-test.true c.group-item.is) in
+    among_more groups (λ _ g f. OneOf (group_header_rules c.args.given.now c.args.extended.now (contents_of groups) c.args.code g) f) i group c.args.findings.now.items c.loop-group.findings.items c.note_header_rows.new.findings.items
+    at c.loop-group.invariant c.in_ok-note_header_rows.ensures
 
 pub returns : goal.returns
 returns c =
     let groups = c.args.file.now in
-    among_all groups (λ _ g f. OneOf (group_header_rules c.args.given.now c.args.extended.now (contents_of groups) c.args.code g) f) c.loop-i.i c.args.findings.now.items c.loop-i.findings.items
-    (subst (λ (l : List Group). length l ≤ c.loop-i.i) c.groups-groups.ensures (omega (arith, c.loop-i-test.false))) c.loop-i.invariant
+    among_all groups (λ _ g f. OneOf (group_header_rules c.args.given.now c.args.extended.now (contents_of groups) c.args.code g) f) c.loop-group.group-index c.args.findings.now.items c.loop-group.findings.items
+    (subst (λ (l : List Group). length l ≤ c.loop-group.group-index) c.groups-groups.ensures (omega (arith, c.loop-group-test.false))) c.loop-group.invariant

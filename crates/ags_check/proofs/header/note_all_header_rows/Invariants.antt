@@ -3,6 +3,6 @@ use Rattle.ags_rows.specs.Contents.{contents_of}
 use Rattle.ags_check.specs.HeaderPhase.{group_header_rules}
 use Rattle.ags_check.proofs.header.note_all_header_rows.Given as goal
 
-abbrev pub invariant-loop-i : goal.invariant-loop-i
-invariant-loop-i l =
-    Adds (AmongBefore l.file (λ _ group f. OneOf (group_header_rules l.given l.extended (contents_of l.file) l.code group) f) l.i) l.fn.findings.items l.findings.items
+abbrev pub invariant-loop-group : goal.invariant-loop-group
+invariant-loop-group l =
+    Adds (AmongBefore l.file (λ _ group f. OneOf (group_header_rules l.given l.extended (contents_of l.file) l.code group) f) l.group-index) l.fn.findings.items l.findings.items

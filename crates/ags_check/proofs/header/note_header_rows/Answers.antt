@@ -1,5 +1,5 @@
 use Rattle.std.proofs.Common.{[], ◌∷◌}
-use Rattle.ags_rows.specs.declared.codes.Code.TheVariants.{Rule10c}
+use Rattle.ags_rows.specs.declared.code.Code.TheVariants.{Rule10c}
 use Rattle.ags_rows.specs.Collecting.{OneOf}
 use Rattle.ags_rows.specs.Contents.{group_contents, contents_of}
 use Rattle.ags_rows.proofs.Collecting.{one_more, one_none}

@@ -1,5 +1,5 @@
 use Rattle.std.proofs.Common.{◌≡◌, [], ◌∷◌, ap, ◌∙◌}
-use Rattle.ags_rows.specs.declared.codes.Code.TheVariants.{Rule7, Rule10a, Rule10b, Rule19b}
+use Rattle.ags_rows.specs.declared.code.Code.TheVariants.{Rule7, Rule10a, Rule10b, Rule19b}
 use Rattle.ags_rows.specs.Contents.{group_contents}
 use Rattle.ags_rows.proofs.Collecting.{one_more, one_none}
 use Rattle.ags_dict.specs.Entries.{keys_of, required_of}

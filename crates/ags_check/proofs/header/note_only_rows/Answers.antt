@@ -1,5 +1,5 @@
 use Rattle.std.proofs.Common.{[], ◌∷◌, codes}
-use Rattle.ags_rows.specs.declared.codes.Code.TheVariants.{Rule11b, Rule13, Rule14}
+use Rattle.ags_rows.specs.declared.code.Code.TheVariants.{Rule11b, Rule13, Rule14}
 use Rattle.ags_rows.specs.Contents.{group_contents}
 use Rattle.ags_rows.proofs.Collecting.{one_more, one_none}
 use Rattle.ags_check.specs.Header.{IsLongSign, IsFurtherRow}

@@ -1,5 +1,5 @@
 use Rattle.std.proofs.Common.{List, subst}
-use Rattle.ags_rows.specs.declared.codes.Finding.{Finding}
+use Rattle.ags_rows.specs.declared.finding.Finding.{Finding}
 use Rattle.ags_rows.specs.Collecting.{Adds, OneOf}
 use Rattle.ags_rows.proofs.Collecting.{listed}
 use Rattle.ags_check.specs.RowPhase.{entry_rules}

@@ -25,43 +25,43 @@ few groups contents i first group same is at = omega (arith, is, group_few group
 
 pub note_group_entries-requires-clause-rows : goal.note_group_entries-requires-clause-rows
 note_group_entries-requires-clause-rows c =
-    stands c.args.groups.now c.args.index.now.contents c.loop-i.i c.loop-i.first c.index-groups-i.result c.requires.contents c.loop-i.invariant.first
-    (slice_get_read c.args.groups.now _ c.loop-i.i c.index-groups-i.result refl c.loop-i-test.true c.index-groups-i.is)
+    stands c.args.groups.now c.args.index.now.contents c.loop-group.group-index c.loop-group.first c.group-item.result c.requires.contents c.loop-group.invariant.first
+    (slice_get_read c.args.groups.now _ c.loop-group.group-index c.group-item.result refl c.loop-group-test.true c.group-item.is)
 
 pub note_group_entries-requires-clause-few : goal.note_group_entries-requires-clause-few
 note_group_entries-requires-clause-few c =
-    let h = few c.args.groups.now c.args.index.now.contents c.loop-i.i c.loop-i.first c.index-groups-i.result c.requires.contents c.loop-i.invariant.first
-    (slice_get_read c.args.groups.now _ c.loop-i.i c.index-groups-i.result refl c.loop-i-test.true c.index-groups-i.is) in
+    let h = few c.args.groups.now c.args.index.now.contents c.loop-group.group-index c.loop-group.first c.group-item.result c.requires.contents c.loop-group.invariant.first
+    (slice_get_read c.args.groups.now _ c.loop-group.group-index c.group-item.result refl c.loop-group-test.true c.group-item.is) in
     omega (arith, h, c.requires.few)
 
 pub overflow_cast-first : goal.overflow_cast-first
 overflow_cast-first c =
-    let h = few c.args.groups.now c.args.index.now.contents c.loop-i.i c.loop-i.first c.index-groups-i.result c.requires.contents c.loop-i.invariant.first
-    (slice_get_read c.args.groups.now _ c.loop-i.i c.index-groups-i.result refl c.loop-i-test.true c.index-groups-i.is) in
+    let h = few c.args.groups.now c.args.index.now.contents c.loop-group.group-index c.loop-group.first c.group-item.result c.requires.contents c.loop-group.invariant.first
+    (slice_get_read c.args.groups.now _ c.loop-group.group-index c.group-item.result refl c.loop-group-test.true c.group-item.is) in
     omega (arith, h, c.requires.few, c.len-size.ensures)
 
 pub overflow_add-first : goal.overflow_add-first
 overflow_add-first c =
-    let h = few c.args.groups.now c.args.index.now.contents c.loop-i.i c.loop-i.first c.index-groups-i.result c.requires.contents c.loop-i.invariant.first
-    (slice_get_read c.args.groups.now _ c.loop-i.i c.index-groups-i.result refl c.loop-i-test.true c.index-groups-i.is) in
+    let h = few c.args.groups.now c.args.index.now.contents c.loop-group.group-index c.loop-group.first c.group-item.result c.requires.contents c.loop-group.invariant.first
+    (slice_get_read c.args.groups.now _ c.loop-group.group-index c.group-item.result refl c.loop-group-test.true c.group-item.is) in
     omega (arith, h, c.requires.few, c.len-size.ensures)
 
-pub loop-i-preserved : goal.loop-i-preserved
-loop-i-preserved c =
+pub loop-group-preserved : goal.loop-group-preserved
+loop-group-preserved c =
     let groups = c.args.groups.now in
     let contents = contents_of groups in
-    let i = c.loop-i.i in
-    let group = c.index-groups-i.result in
-    let at : At groups i group = slice_get_read groups _ i group refl c.loop-i-test.true c.index-groups-i.is in
-    let mid = c.loop-i.findings.items in
+    let i = c.loop-group.group-index in
+    let group = c.group-item.result in
+    let at : At groups i group = slice_get_read groups _ i group refl c.loop-group-test.true c.group-item.is in
+    let mid = c.loop-group.findings.items in
     let new = c.note_group_entries.new.findings.items in
     record {
-      first = omega (arith, c.loop-i.invariant.first, c.len-size.ensures, group_next groups i group at);
+      first = omega (arith, c.loop-group.invariant.first, c.len-size.ensures, group_next groups i group at);
       noted =
-          among_more groups (λ place g f. OneOf (entry_rules_of c.args.dictionary.now contents (rows_before contents place) g) f) i group c.args.findings.now.items mid new at c.loop-i.invariant.noted
-          (subst (λ (n : ℕ). Adds (OneOf (entry_rules_of c.args.dictionary.now contents n group)) mid new) c.loop-i.invariant.first
-          (subst (λ (l : List Contents). Adds (OneOf (entry_rules_of c.args.dictionary.now l c.loop-i.first group)) mid new) c.requires.contents
-          (subst (λ (e : Entries). Adds (OneOf (entry_rules_of e c.args.index.now.contents c.loop-i.first group)) mid new) (sym c.requires.entries) c.in_ok-note_group_entries.ensures)));
+          among_more groups (λ place g f. OneOf (entry_rules_of c.args.dictionary.now contents (rows_before contents place) g) f) i group c.args.findings.now.items mid new at c.loop-group.invariant.noted
+          (subst (λ (n : ℕ). Adds (OneOf (entry_rules_of c.args.dictionary.now contents n group)) mid new) c.loop-group.invariant.first
+          (subst (λ (l : List Contents). Adds (OneOf (entry_rules_of c.args.dictionary.now l c.loop-group.first group)) mid new) c.requires.contents
+          (subst (λ (e : Entries). Adds (OneOf (entry_rules_of e c.args.index.now.contents c.loop-group.first group)) mid new) (sym c.requires.entries) c.in_ok-note_group_entries.ensures)));
     }
 
 pub returns : goal.returns
@@ -69,7 +69,7 @@ returns c =
     let groups = c.args.groups.now in
     let contents = contents_of groups in
     let old = c.args.findings.now.items in
-    let new = c.loop-i.findings.items in
+    let new = c.loop-group.findings.items in
     one_more _ [] old new new
-    (among_all groups (λ place g f. OneOf (entry_rules_of c.args.dictionary.now contents (rows_before contents place) g) f) c.loop-i.i old new (omega (arith, c.loop-i-test.false)) c.loop-i.invariant.noted)
+    (among_all groups (λ place g f. OneOf (entry_rules_of c.args.dictionary.now contents (rows_before contents place) g) f) c.loop-group.group-index old new (omega (arith, c.loop-group-test.false)) c.loop-group.invariant.noted)
     (one_none new)

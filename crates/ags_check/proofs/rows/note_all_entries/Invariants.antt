@@ -5,9 +5,9 @@ use Rattle.ags_links.specs.DataRows.{rows_before}
 use Rattle.ags_check.specs.RowPhase.{entry_rules_of}
 use Rattle.ags_check.proofs.rows.note_all_entries.Given as goal
 
-abbrev pub invariant-loop-i : goal.invariant-loop-i
-invariant-loop-i l = record {
-  first : l.first ≡ rows_before (contents_of l.groups) l.i;
+abbrev pub invariant-loop-group : goal.invariant-loop-group
+invariant-loop-group l = record {
+  first : l.first ≡ rows_before (contents_of l.groups) l.group-index;
   noted :
-      Adds (AmongBefore l.groups (λ place group f. OneOf (entry_rules_of l.dictionary (contents_of l.groups) (rows_before (contents_of l.groups) place) group) f) l.i) l.fn.findings.items l.findings.items;
+      Adds (AmongBefore l.groups (λ place group f. OneOf (entry_rules_of l.dictionary (contents_of l.groups) (rows_before (contents_of l.groups) place) group) f) l.group-index) l.fn.findings.items l.findings.items;
 }

@@ -1,13 +1,15 @@
-use Rattle.std.proofs.Common.{◌≡◌, ◌++◌, List, ℕ, refl, subst}
-use Rattle.std.specs.Prelude.{◌↔◌, IsTrue}
-use Rattle.ags_rows.specs.declared.codes.Code.TheVariants.{Rule10a, Rule10c}
+use Rattle.std.proofs.Common.{◌≡◌, ◌≢◌, ◌++◌, List, ℕ, [], false, refl, subst}
+use Rattle.std.specs.Prelude.{◌↔◌, IsTrue, codes}
+use Rattle.ags_rows.specs.declared.code.Code.TheVariants.{Rule10a, Rule10c}
 use Rattle.ags_rows.specs.Collecting.{Adds}
-use Rattle.ags_rows.specs.Contents.{Contents, group_contents, fields_of}
+use Rattle.ags_rows.specs.Contents.{Contents, group_contents, fields_of, under}
+use Rattle.ags_rows.specs.Names.{is_definition}
 use Rattle.ags_rows.proofs.Collecting.{found_if}
 use Rattle.ags_dict.specs.Entries.{Entries, required_of}
 use Rattle.ags_links.specs.DataRows.{row_in}
 use Rattle.ags_check.specs.RowPhase.{InHeadings, data_entry_rules, required_rules}
-use Rattle.ags_check.specs.RowRules.{entry_in, IsUnlistedFileSet}
+use Rattle.ags_check.specs.RowRules.{entry_in}
+use Rattle.ags_check.proofs.FileSets.{file_set_means}
 use Rattle.ags_check.proofs.RowNotes.{row_noted}
 use Rattle.ags_check.proofs.rows.note_data_row.Goals as goal
 
@@ -36,6 +38,7 @@ returns c =
     (subst (λ (name : List ℕ). f4 ≡ f3 ++ found_if row.line Rule10a name repeats) c.name-name.ensures c.in_ok-note.ensures.noted)
     (c.in_ok-is_orphan.ensures r c.requires.row refl c.requires.entries)
     (subst (λ (name : List ℕ). f5 ≡ f4 ++ found_if row.line Rule10c name orphan) c.name-name.ensures c.in_ok-note-2.ensures.noted)
-    (subst (λ (l : List Contents). IsTrue unlisted ↔ IsUnlistedFileSet l r) c.requires.listed
-    (subst (λ (cells : List (List ℕ)). IsTrue unlisted ↔ IsUnlistedFileSet c.args.listed.now (row_in (group_contents group) cells)) c.as_slice.ensures c.is_unlisted_file_set-is_unlisted.ensures))
+    (file_set_means file.contents c.args.number r c.has_file-has_file.result unlisted c.requires.row c.has_file-has_file.ensures
+    (subst (λ (cells : List (List ℕ)). IsTrue unlisted ↔ (is_definition group.name ≡ false) × (group.name ≢ codes "FILE") × ((under group.headings cells (codes "FILE_FSET") ≢ []) × (c.has_file-has_file.result ≡ false)))
+    c.as_slice.ensures c.is_unlisted_file_set-is_unlisted.ensures))
     c.in_ok-note-3.ensures.noted

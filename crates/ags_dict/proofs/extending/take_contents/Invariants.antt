@@ -3,8 +3,8 @@ use Rattle.ags_rows.specs.Contents.{group_contents}
 use Rattle.ags_dict.specs.Entries.{group_entries_in, heading_entries_in, same_group, same_heading, with_unstated}
 use Rattle.ags_dict.proofs.extending.take_contents.Given as goal
 
-abbrev pub invariant-loop-i : goal.invariant-loop-i
-invariant-loop-i l = record {
-  groups : l.taken.groups ≡ with_unstated same_group l.fn.dictionary.groups (flat_map group_entries_in (take l.i (map group_contents l.found)));
-  headings : l.taken.headings ≡ with_unstated same_heading l.fn.dictionary.headings (flat_map heading_entries_in (take l.i (map group_contents l.found)));
+abbrev pub invariant-loop-group : goal.invariant-loop-group
+invariant-loop-group l = record {
+  groups : l.taken.groups ≡ with_unstated same_group l.fn.dictionary.groups (flat_map group_entries_in (take l.group-index (map group_contents l.found)));
+  headings : l.taken.headings ≡ with_unstated same_heading l.fn.dictionary.headings (flat_map heading_entries_in (take l.group-index (map group_contents l.found)));
 }

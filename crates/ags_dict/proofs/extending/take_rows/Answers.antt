@@ -5,15 +5,15 @@ use Rattle.ags_dict.specs.Entries.{group_entries, heading_entries, same_group, s
 use Rattle.ags_dict.proofs.Unstated.{unstated_more}
 use Rattle.ags_dict.proofs.extending.take_rows.Goals as goal
 
-pub loop-i-preserved : goal.loop-i-preserved
-loop-i-preserved c =
+pub loop-row-preserved : goal.loop-row-preserved
+loop-row-preserved c =
     let row = c.row-item.result in
     let rows = c.args.group.now.rows in
-    let is : row ≡ get_or rows c.loop-i.i row = subst (λ (r : List Row). row ≡ get_or r c.loop-i.i row) c.as_slice-row-items.ensures c.row-item.is in
-    let below : c.loop-i.i < length rows = subst (λ (r : List Row). c.loop-i.i < length r) c.as_slice-row-items.ensures c.loop-i-test.true in
+    let is : row ≡ get_or rows c.loop-row.row-index row = subst (λ (r : List Row). row ≡ get_or r c.loop-row.row-index row) c.as_slice-row-items.ensures c.row-item.is in
+    let below : c.loop-row.row-index < length rows = subst (λ (r : List Row). c.loop-row.row-index < length r) c.as_slice-row-items.ensures c.loop-row-test.true in
     record {
-      groups = unstated_more same_group (group_entries c.args.group.now.headings) fields_of rows c.loop-i.i row _ _ _ below is c.loop-i.invariant.groups
+      groups = unstated_more same_group (group_entries c.args.group.now.headings) fields_of rows c.loop-row.row-index row _ _ _ below is c.loop-row.invariant.groups
           (rw (c.as_slice-names.ensures, c.as_slice-cells.ensures) at c.in_ok-groups.ensures);
-      headings = unstated_more same_heading (heading_entries c.args.group.now.headings) fields_of rows c.loop-i.i row _ _ _ below is c.loop-i.invariant.headings
+      headings = unstated_more same_heading (heading_entries c.args.group.now.headings) fields_of rows c.loop-row.row-index row _ _ _ below is c.loop-row.invariant.headings
           (rw (c.as_slice-names.ensures, c.as_slice-cells.ensures) at c.in_ok-headings.ensures);
     }

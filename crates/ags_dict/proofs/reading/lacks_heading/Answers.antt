@@ -1,17 +1,12 @@
-use Rattle.std.proofs.Common.{sym, ◌∙◌}
+use Rattle.std.proofs.Common.{rules, tests, ◌∙◌}
+use Rattle.std.proofs.lemmas.Iterator.{YieldsList-from_slice}
+use Rattle.std.proofs.lemmas.Iterator.Search.{any_from_yields_List}
 use Rattle.ags_rows.specs.Contents.{group_contents}
 use Rattle.ags_dict.specs.Entries.{is_incomplete}
-use Rattle.ags_dict.proofs.Found.{seen_more, seen_at, seen_all}
+use Rattle.ags_dict.proofs.Tested.{list_any-map}
 use Rattle.ags_dict.proofs.reading.lacks_heading.Goals as goal
 
-pub loop-i-preserved : goal.loop-i-preserved
-loop-i-preserved c =
-    seen_more group_contents is_incomplete c.args.groups.now c.loop-i.i c.index-groups-i.result c.loop-i-test.true c.index-groups-i.is
-    (sym c.is_incomplete.ensures ∙ c.if-is_incomplete.false) c.loop-i.invariant
-
-pub returns-then-is_incomplete : goal.returns-then-is_incomplete
-returns-then-is_incomplete c =
-    sym (seen_at group_contents is_incomplete c.args.groups.now c.loop-i.i c.index-groups-i.result c.loop-i-test.true c.index-groups-i.is (sym c.is_incomplete.ensures ∙ c.if-is_incomplete.true))
-
 pub returns : goal.returns
-returns c = sym (seen_all group_contents is_incomplete c.args.groups.now c.loop-i.i c.loop-i-test.false c.loop-i.invariant)
+returns c =
+    any_from_yields_List (λ g. is_incomplete (group_contents g)) _ _ _ c.any.ensures.ran (YieldsList-from_slice c.args.groups.now cc) (λ x b q k. search (rules, tests))
+    ∙ list_any-map is_incomplete group_contents c.args.groups.now

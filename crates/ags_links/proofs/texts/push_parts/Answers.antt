@@ -1,5 +1,5 @@
 use Rattle.std.proofs.Common.{◌≡◌, ◌++◌, ◌∷◌, [], ap, ◌∙◌, sym, Bor, List, ℕ, length, take, drop, refl, ◌+◌, ◌-◌}
-use Rattle.ags_dict.specs.Parts.{parts_at}
+use Rattle.ags_rows.specs.Parts.{parts_at}
 use Rattle.std.proofs.lemmas.List.{map-append}
 use Rattle.ags_links.proofs.Cutting.{part_taken, part_left}
 use Rattle.ags_links.proofs.Kept.{texts}

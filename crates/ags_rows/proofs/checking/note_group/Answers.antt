@@ -1,6 +1,6 @@
 use Rattle.std.proofs.Common.{List, ℕ, subst}
 use Rattle.std.proofs.lemmas.Result.{IfOk-weaker}
-use Rattle.ags_rows.specs.declared.codes.Code.TheVariants.{Rule19, P1}
+use Rattle.ags_rows.specs.declared.code.Code.TheVariants.{Rule19, P1}
 use Rattle.ags_rows.specs.Names.{is_group_name}
 use Rattle.ags_rows.specs.Collecting.{Adds, OneOf}
 use Rattle.ags_rows.specs.Parsing.{IsMet, met_rules}

@@ -1,6 +1,6 @@
 use Rattle.std.proofs.Common.{◌∙◌, sym}
 use Rattle.std.proofs.lemmas.Result.{IfOk-weaker}
-use Rattle.ags_rows.specs.declared.codes.Code.TheVariants.{Rule19}
+use Rattle.ags_rows.specs.declared.code.Code.TheVariants.{Rule19}
 use Rattle.ags_rows.proofs.Collecting.{adds_note, two_rules}
 use Rattle.ags_rows.proofs.Repeats.{not_is, is_not}
 use Rattle.ags_rows.proofs.checking.note_name.Goals as goal

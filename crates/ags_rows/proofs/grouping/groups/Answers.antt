@@ -8,8 +8,8 @@ use Rattle.ags_rows.specs.Parsing.{BeginsGroup}
 use Rattle.ags_rows.proofs.Cuts.{clear_begins}
 use Rattle.ags_rows.proofs.grouping.groups.Goals as goal
 
-pub cutting-init : goal.cutting-init
-cutting-init c =
+pub loop-alloc-init : goal.loop-alloc-init
+loop-alloc-init c =
     let rows = c.args.rows.items in
     let back : reverse c.reverse.new.self.items ≡ rows = ap (λ (r : List FileRow). reverse r) c.reverse.ensures.items ∙ reverse-reverse rows in
     record {

@@ -1,7 +1,7 @@
 use Rattle.std.proofs.Common.{[], refl, subst}
 use Rattle.std.specs.Prelude.{slice_get}
 use Rattle.std.proofs.lemmas.Option.{slice_get_read}
-use Rattle.ags_rows.specs.declared.codes.Code.TheVariants.{Rule2b, Rule4}
+use Rattle.ags_rows.specs.declared.code.Code.TheVariants.{Rule2b, Rule4}
 use Rattle.ags_rows.specs.declared.rows.FileRow.{FileRow}
 use Rattle.ags_rows.specs.Collecting.{Adds, OneOf}
 use Rattle.ags_rows.specs.Stands.{row_rules}

@@ -1,5 +1,5 @@
 use Rattle.std.proofs.Common.{List, subst}
-use Rattle.ags_rows.specs.declared.codes.Finding.{Finding}
+use Rattle.ags_rows.specs.declared.finding.Finding.{Finding}
 use Rattle.ags_rows.specs.Collecting.{Adds}
 use Rattle.ags_rows.specs.Stands.{StandsInOrder}
 use Rattle.ags_rows.proofs.Collecting.{listed}
@@ -7,5 +7,5 @@ use Rattle.ags_rows.proofs.ordering.order_findings.Goals as goal
 
 pub returns : goal.returns
 returns c =
-    let noted = c.note_rows.new.findings.items in
-    listed noted c.in_order.result (subst (λ (l : List Finding). Adds (StandsInOrder c.args.rows.now) l noted) c.new-findings.ensures.items c.in_ok-note_rows.ensures) c.in_order.ensures.order c.in_order.ensures.only c.in_order.ensures.all
+    let noted = c.note_order.new.findings.items in
+    listed noted c.in_order.result (subst (λ (l : List Finding). Adds (StandsInOrder c.args.rows.now) l noted) c.new-findings.ensures.items c.in_ok-note_order.ensures) c.in_order.ensures.order c.in_order.ensures.only c.in_order.ensures.all

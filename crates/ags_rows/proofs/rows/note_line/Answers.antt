@@ -1,5 +1,5 @@
 use Rattle.std.proofs.Common.{[], sym, ◌∙◌}
-use Rattle.ags_rows.specs.declared.codes.Code.TheVariants.{Rule1, Rule2a}
+use Rattle.ags_rows.specs.declared.code.Code.TheVariants.{Rule1, Rule2a}
 use Rattle.ags_rows.specs.Lines.{text_line}
 use Rattle.ags_rows.proofs.Collecting.{adds_note, two_rules}
 use Rattle.ags_rows.proofs.Breaking.{high_any, any_high, lf_same, same_lf}

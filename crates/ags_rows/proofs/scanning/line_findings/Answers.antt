@@ -1,8 +1,8 @@
 use Rattle.std.proofs.Common.{◌+◌, List, [], map, ap, refl, subst, arith, length}
 use Rattle.std.proofs.lemmas.List.{length-map}
 use Rattle.ags_rows.specs.declared.TheConstants.{READABLE}
-use Rattle.ags_rows.specs.declared.codes.Finding.{Finding}
-use Rattle.ags_rows.specs.Lines.{Lines, after_mark, text_line}
+use Rattle.ags_rows.specs.declared.finding.Finding.{Finding}
+use Rattle.ags_rows.specs.Lines.{Lines, after_byte_order_mark, text_line}
 use Rattle.ags_rows.specs.Rows.{Rows}
 use Rattle.ags_rows.specs.Collecting.{Adds, Among, OneOf}
 use Rattle.ags_rows.specs.Stands.{byte_rules, StandsInSpelling}
@@ -16,19 +16,19 @@ use Rattle.ags_rows.proofs.scanning.line_findings.Goals as goal
 pub note_lines-requires : goal.note_lines-requires
 note_lines-requires c =
     let lines = map text_line c.in_ok-lines.lines.items in
-    let cut : Lines (after_mark c.args.bytes.now) lines = subst (λ t. Lines t lines) c.after_mark.ensures c.in_ok-lines.ensures in
+    let cut : Lines (after_byte_order_mark c.args.bytes.now) lines = subst (λ t. Lines t lines) c.after_byte_order_mark.ensures c.in_ok-lines.ensures in
     omega (arith, lines_within c.args.bytes.now lines READABLE cut c.requires, length-map c.in_ok-lines.lines.items text_line, ap length c.as_slice.ensures.value)
 
 pub take_lines-requires : goal.take_lines-requires
 take_lines-requires c =
     let lines = map text_line c.in_ok-lines.lines.items in
-    let cut : Lines (after_mark c.args.bytes.now) lines = subst (λ t. Lines t lines) c.after_mark.ensures c.in_ok-lines.ensures in
+    let cut : Lines (after_byte_order_mark c.args.bytes.now) lines = subst (λ t. Lines t lines) c.after_byte_order_mark.ensures c.in_ok-lines.ensures in
     omega (arith, lines_within c.args.bytes.now lines READABLE cut c.requires, length-map c.in_ok-lines.lines.items text_line, ap length c.as_slice-2.ensures.value)
 
 pub returns-clause-file : goal.returns-clause-file
 returns-clause-file c =
     let lines = map text_line c.in_ok-lines.lines.items in
-    let cut : Lines (after_mark c.args.bytes.now) lines = subst (λ t. Lines t lines) c.after_mark.ensures c.in_ok-lines.ensures in
+    let cut : Lines (after_byte_order_mark c.args.bytes.now) lines = subst (λ t. Lines t lines) c.after_byte_order_mark.ensures c.in_ok-lines.ensures in
     let rows : Rows lines c.in_ok-rows.rows.items = subst (λ x. Rows (map text_line x) c.in_ok-rows.rows.items) c.as_slice-2.ensures.value c.in_ok-rows.ensures.rows in
     let mid = c.note_lines.new.findings.items in
     let groups = some_groups c.in_ok-rows.rows.items in
@@ -46,6 +46,6 @@ returns-clause-file c =
 pub returns-clause-few : goal.returns-clause-few
 returns-clause-few c =
     let lines = map text_line c.in_ok-lines.lines.items in
-    let cut : Lines (after_mark c.args.bytes.now) lines = subst (λ t. Lines t lines) c.after_mark.ensures c.in_ok-lines.ensures in
+    let cut : Lines (after_byte_order_mark c.args.bytes.now) lines = subst (λ t. Lines t lines) c.after_byte_order_mark.ensures c.in_ok-lines.ensures in
     let rows : Rows lines c.in_ok-rows.rows.items = subst (λ x. Rows (map text_line x) c.in_ok-rows.rows.items) c.as_slice-2.ensures.value c.in_ok-rows.ensures.rows in
     rows_within c.args.bytes.now lines c.in_ok-rows.rows.items READABLE cut rows c.requires

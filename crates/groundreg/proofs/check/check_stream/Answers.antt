@@ -10,7 +10,7 @@ returns-in-Ok-clause-failed g c =
 
 pub returns-in-Ok-clause-answers : goal.returns-in-Ok-clause-answers
 returns-in-Ok-clause-answers g c =
-    report_answers _ _ _ _ c.in-Ok.report _ _ _ _ _ (c.in-Ok.ensures.noted ∙ ap (λ b. b || false) c.requires.input) c.requires.out c.requires.err
+    report_answers c.args.dictionary.now _ _ _ _ c.in-Ok.report _ _ _ _ _ (c.in-Ok.ensures.noted ∙ ap (λ b. b || false) c.requires.input) c.requires.out c.requires.err
     c.in-Ok.ensures.answers c.print.ensures
 
 pub returns-in-Err-clause-failed : goal.returns-in-Err-clause-failed
@@ -20,5 +20,5 @@ returns-in-Err-clause-failed g c =
 
 pub returns-in-Err-clause-answers : goal.returns-in-Err-clause-answers
 returns-in-Err-clause-answers g c =
-    fault_answers _ _ _ _ c.in-Err.fault _ _ _ _ _ (c.in-Err.ensures.noted ∙ ap (λ b. b || is_stream c.in-Err.fault) c.requires.input) c.requires.out c.requires.err
+    fault_answers c.args.dictionary.now _ _ _ _ c.in-Err.fault _ _ _ _ _ (c.in-Err.ensures.noted ∙ ap (λ b. b || is_stream c.in-Err.fault) c.requires.input) c.requires.out c.requires.err
     c.in-Err.ensures.answers c.tell.ensures

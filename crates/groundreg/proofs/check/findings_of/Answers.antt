@@ -1,6 +1,8 @@
-use Rattle.std.proofs.Common.{IfOk, subst}
+use Rattle.std.proofs.Common.{[], subst}
 use Rattle.ags_check.specs.Findings.{Findings}
 use Rattle.groundreg.proofs.check.findings_of.Goals as goal
 
-pub returns : goal.returns
-returns c = subst (λ entries. IfOk c.findings_under.result (λ found. Findings entries c.args.bytes.now found)) c.in_ok-dictionary.ensures c.findings_under.ensures
+pub returns-in-Ok : goal.returns-in-Ok
+returns-in-Ok c =
+    let given = subst (λ entries. Findings entries c.in-Ok.field-0.bytes []) c.in-Ok.ensures.given c.in-Ok.ensures.clean.file.findings in
+    rw (c.from_vec.ensures, c.new.ensures.items) (subst (λ b. Findings c.args.dictionary.now b []) c.in-Ok.ensures.bytes given)

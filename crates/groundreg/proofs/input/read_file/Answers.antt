@@ -2,8 +2,8 @@ use Rattle.std.proofs.Common.{rules, refl, ◌≡◌, ◌+◌, length, arith}
 use Rattle.groundreg.proofs.Taking.{takes_start, takes_piece, takes_all, takes_part, takes_within, length-appended}
 use Rattle.groundreg.proofs.input.read_file.Goals as goal
 
-pub reading-init : goal.reading-init
-reading-init g c = record {
+pub loop-bytes-init : goal.loop-bytes-init
+loop-bytes-init g c = record {
   within = omega (arith, c.new-bytes.ensures.len);
   wide = search rules;
   noted = refl;
@@ -12,27 +12,27 @@ reading-init g c = record {
 
 pub returns-in_err-count-clause-taken : goal.returns-in_err-count-clause-taken
 returns-in_err-count-clause-taken g c =
-    takes_within _ c.min-room.result _ _ _ _ c.reading.invariant.taken c.read_piece.ensures.taken (search rules)
+    takes_within _ c.min-room.result _ _ _ _ c.loop-bytes.invariant.taken c.read_piece.ensures.taken (search rules)
 
 pub returns-then-count-eq0-clause-taken : goal.returns-then-count-eq0-clause-taken
 returns-then-count-eq0-clause-taken g c =
-    takes_within _ c.min-room.result _ _ _ _ c.reading.invariant.taken c.read_piece.ensures.taken (search rules)
+    takes_within _ c.min-room.result _ _ _ _ c.loop-bytes.invariant.taken c.read_piece.ensures.taken (search rules)
 
 pub returns-then-count-eq0-clause-file : goal.returns-then-count-eq0-clause-file
 returns-then-count-eq0-clause-file g c =
-    takes_all _ _ _ (takes_piece _ _ _ _ _ _ c.reading.invariant.taken c.in_ok-count.ensures.appended)
+    takes_all _ _ _ (takes_piece _ _ _ _ _ _ c.loop-bytes.invariant.taken c.in_ok-count.ensures.appended)
     (c.in_ok-count.ensures.appended.at_end c.if-count-eq0.true)
 
-pub reading-preserved : goal.reading-preserved
-reading-preserved g c =
-    let longer : length c.read_piece.new.bytes.items ≡ length c.reading.bytes.items + c.in_ok-count.count
+pub loop-bytes-preserved : goal.loop-bytes-preserved
+loop-bytes-preserved g c =
+    let longer : length c.read_piece.new.bytes.items ≡ length c.loop-bytes.bytes.items + c.in_ok-count.count
     = length-appended _ _ _ _ _ c.in_ok-count.ensures.appended in
     record {
       within = search rules;
-      wide = c.reading.invariant.wide;
+      wide = c.loop-bytes.invariant.wide;
       noted = search rules;
-      taken = takes_piece _ _ _ _ _ _ c.reading.invariant.taken c.in_ok-count.ensures.appended;
+      taken = takes_piece _ _ _ _ _ _ c.loop-bytes.invariant.taken c.in_ok-count.ensures.appended;
     }
 
 pub returns-clause-file : goal.returns-clause-file
-returns-clause-file g c = takes_part _ _ _ _ c.reading.invariant.taken (search rules)
+returns-clause-file g c = takes_part _ _ _ _ c.loop-bytes.invariant.taken (search rules)

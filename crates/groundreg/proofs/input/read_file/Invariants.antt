@@ -5,13 +5,13 @@ use Rattle.groundreg.specs.declared.input.TheConstants.{PIECE}
 use Rattle.groundreg.proofs.input.read_file.Given as goal
 
 -- what was read are the first bytes, and no more than the one after the longest file
-abbrev pub invariant-reading : goal.invariant-reading
-invariant-reading g l = record {
+abbrev pub invariant-loop-bytes : goal.invariant-loop-bytes
+invariant-loop-bytes g l = record {
   within : length l.bytes.items ≤ longest_file + 1;
   wide : vec_len l.piece ≡ PIECE;
   noted : l.input.failed ≡ l.initial.input.failed;
   taken : Consumes (g.R.Read.remaining l.initial.input.inner) (g.R.Read.remaining l.input.inner) l.bytes.items;
 }
 
-abbrev pub decreases-reading : goal.decreases-reading
-decreases-reading g l = longest_file + 1 - length l.bytes.items
+abbrev pub decreases-loop-bytes : goal.decreases-loop-bytes
+decreases-loop-bytes g l = longest_file + 1 - length l.bytes.items

@@ -9,6 +9,6 @@ use Rattle.reg_policy.proofs.document.have_known_keys.Goals as goal
 pub returns-in-Some : goal.returns-in-Some
 returns-in-Some g c =
     let items = c.in-Some.items.now in
-    let all = all_from_yields_List (λ v. has_known_keys g.L.Listed.table_keys (view v)) _ _ c.all.result c.all.ensures.ran (YieldsList-from_slice items.items cc) (λ x b q k. search (rules, tests)) in
+    let all = all_from_yields_List (λ v. has_known_keys g.T.FromTable.table_keys (view v)) _ _ c.all.result c.all.ensures.ran (YieldsList-from_slice items.items cc) (λ x b q k. search (rules, tests)) in
     rw (← array_is _ (array_view items) c.in-Some.ensures)
-    (all ∙ all_items-view (has_known_keys g.L.Listed.table_keys) items.items)
+    (all ∙ all_items-view (has_known_keys g.T.FromTable.table_keys) items.items)

@@ -7,4 +7,4 @@ returns-in-Some g c =
     rw (← table_is _ (table_view c.in-Some.table.now) c.in-Some.ensures) c.of_table.ensures
 
 pub returns-in-None : goal.returns-in-None
-returns-in-None g c = no_table g.L.Listed.says (view c.args.item.now) c.in-None.ensures
+returns-in-None g c = no_table g.T.FromTable.says (view c.args.item.now) c.in-None.ensures

@@ -9,12 +9,12 @@ returns-in_err-one g c =
     let error = c.in_err-one.field-0.0 in
     let same : c.from_residual.result ≡ Err error = search rules in
     rw same
-    (refused (InTable g.L.Listed.says (view c.item-item.result)) (Each g.L.Listed.says (items_view c.args.items.now)) error c.in_err-one.ensures
-    (none_each g.L.Listed.says c.args.items.now c.loop-item.item-index c.item-item.result c.loop-item-test.true c.item-item.is))
+    (refused (InTable g.T.FromTable.says (view c.item-item.result)) (Each g.T.FromTable.says (items_view c.args.items.now)) error c.in_err-one.ensures
+    (none_each g.T.FromTable.says c.args.items.now c.loop-item.item-index c.item-item.result c.loop-item-test.true c.item-item.is))
 
 pub loop-item-preserved : goal.loop-item-preserved
 loop-item-preserved g c =
     let pushed : c.push.new.self.items ≡ c.loop-item.listed.items ++ c.in_ok-one.one ∷ [] = search rules in
     rw pushed
-    (each_more g.L.Listed.says c.args.items.now c.loop-item.item-index c.item-item.result c.loop-item.listed.items c.in_ok-one.one
+    (each_more g.T.FromTable.says c.args.items.now c.loop-item.item-index c.item-item.result c.loop-item.listed.items c.in_ok-one.one
     c.loop-item-test.true c.item-item.is c.loop-item.invariant c.in_ok-one.ensures)

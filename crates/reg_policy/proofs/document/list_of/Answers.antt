@@ -19,4 +19,4 @@ pub returns-in-None-as_array : goal.returns-in-None-as_array
 returns-in-None-as_array g c =
     let found = table_get c.get.result c.array_key.result.now c.args.document.now.entries c.get.ensures.value in
     rw (← c.array_key.ensures)
-    (no_array g.L.Listed.says _ (view c.in-Some.value.now) (rw c.in-Some.is at found) c.in-None-as_array.ensures)
+    (no_array g.T.FromTable.says _ (view c.in-Some.value.now) (rw c.in-Some.is at found) c.in-None-as_array.ensures)

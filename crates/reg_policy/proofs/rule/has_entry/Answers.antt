@@ -4,7 +4,7 @@ use Rattle.std.proofs.lemmas.Slice.Zip.{zip_turn, zip_end}
 use Rattle.std.proofs.lemmas.List.{length_push}
 use Rattle.std.specs.Iterator.Adapters.{zip_first, zip_second}
 use Rattle.std.specs.Slice.Iter.{iter_rest}
-use Rattle.reg_policy.proofs.Entry.{read_at, no_entry_more, no_entry}
+use Rattle.reg_policy.proofs.RowEntries.{read_at, no_entry_more, no_entry}
 use Rattle.reg_policy.proofs.rule.has_entry.Goals as goal
 
 pub returns-then-is_entry : goal.returns-then-is_entry

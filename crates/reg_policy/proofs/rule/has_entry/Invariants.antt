@@ -1,5 +1,5 @@
 use Rattle.std.proofs.Common.{length}
-use Rattle.reg_policy.proofs.Entry.{NoEntryBelow}
+use Rattle.reg_policy.proofs.RowEntries.{NoEntryBelow}
 use Rattle.reg_policy.proofs.rule.has_entry.Given as goal
 
 abbrev pub invariant-loop-heading : goal.invariant-loop-heading

@@ -3,5 +3,5 @@ use Rattle.ags_rows.specs.Contents.{contents_of}
 use Rattle.ags_check.specs.CodeLists.{pair_texts, abbreviations}
 use Rattle.ags_check.proofs.rows.code_lists.pairs.Given as goal
 
-abbrev pub invariant-loop-i : goal.invariant-loop-i
-invariant-loop-i l = map pair_texts l.pairs.items ≡ abbreviations (contents_of (take l.i l.groups))
+abbrev pub invariant-loop-group : goal.invariant-loop-group
+invariant-loop-group l = map pair_texts l.pairs.items ≡ abbreviations (contents_of (take l.group-index l.groups))

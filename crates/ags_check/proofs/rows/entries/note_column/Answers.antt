@@ -1,6 +1,6 @@
 use Rattle.std.proofs.Common.{List, [], ◌∷◌}
-use Rattle.ags_rows.specs.declared.codes.Code.TheVariants.{Rule15, Rule17}
-use Rattle.ags_rows.specs.declared.codes.Finding.{Finding}
+use Rattle.ags_rows.specs.declared.code.Code.TheVariants.{Rule15, Rule17}
+use Rattle.ags_rows.specs.declared.finding.Finding.{Finding}
 use Rattle.ags_rows.specs.Collecting.{Notes}
 use Rattle.ags_rows.proofs.Collecting.{one_none}
 use Rattle.ags_check.specs.RowRules.{IsUnlistedType}

@@ -6,7 +6,7 @@ use Rattle.ags_check.specs.Columns.{AreColumns}
 use Rattle.ags_check.specs.RowPhase.{required_rules}
 use Rattle.ags_check.proofs.rows.entries.note_lacking.Given as goal
 
-abbrev pub invariant-loop-i : goal.invariant-loop-i
-invariant-loop-i l =
+abbrev pub invariant-loop-column : goal.invariant-loop-column
+invariant-loop-column l =
     (group : Contents) (headings : List (List ℕ)) → AreColumns group headings l.required
-    → Adds (AmongBefore headings (λ _ heading f. OneOf (required_rules l.line (row_in group l.cells) heading) f) l.i) l.fn.findings.items l.findings.items
+    → Adds (AmongBefore headings (λ _ heading f. OneOf (required_rules l.line (row_in group l.cells) heading) f) l.column-index) l.fn.findings.items l.findings.items

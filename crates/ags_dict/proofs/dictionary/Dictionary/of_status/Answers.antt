@@ -2,8 +2,9 @@ use Rattle.std.proofs.Common.{◌≡◌, ℕ, List, Bor, Vec, Global, Bool, map,
 use Rattle.std.specs.List.{filter}
 use Rattle.std.proofs.lemmas.List.{take_all, length-map}
 use Rattle.ags_dict.specs.declared.entries.HeadingEntry.{HeadingEntry}
-use Rattle.ags_dict.specs.Entries.{Entries, heading_of, of_group, of_status, plus}
-use Rattle.ags_dict.specs.Parts.{has_part}
+use Rattle.ags_dict.specs.Entries.{Entries, heading_of, of_group, of_status}
+use Rattle.ags_rows.specs.Bytes.{plus}
+use Rattle.ags_rows.specs.Parts.{has_part}
 use Rattle.ags_dict.proofs.Picked.{picked_yes, picked_no}
 use Rattle.ags_dict.proofs.Found.{filter_both}
 use Rattle.ags_dict.proofs.dictionary.Dictionary.of_status.Goals as goal

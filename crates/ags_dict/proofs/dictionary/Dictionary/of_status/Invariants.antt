@@ -1,7 +1,8 @@
 use Rattle.std.proofs.Common.{◌≡◌, map, take}
 use Rattle.std.specs.List.{filter}
-use Rattle.ags_dict.specs.Entries.{heading_of, plus}
-use Rattle.ags_dict.specs.Parts.{has_part}
+use Rattle.ags_dict.specs.Entries.{heading_of}
+use Rattle.ags_rows.specs.Bytes.{plus}
+use Rattle.ags_rows.specs.Parts.{has_part}
 use Rattle.ags_dict.proofs.dictionary.Dictionary.of_status.Given as goal
 
 abbrev pub invariant-loop-entry : goal.invariant-loop-entry

@@ -1,6 +1,6 @@
 use Rattle.std.proofs.Common.{◌≡◌, ◌++◌, Contains, sym, ap, subst, ◌∙◌}
 use Rattle.ags_rows.specs.Contents.{place_in, field_at}
-use Rattle.ags_dict.specs.Parts.{parts_at}
+use Rattle.ags_rows.specs.Parts.{parts_at}
 use Rattle.ags_links.specs.DataRows.{entry_of}
 use Rattle.ags_links.specs.Indexing.{rows_in}
 use Rattle.ags_links.specs.Placing.{row_of}

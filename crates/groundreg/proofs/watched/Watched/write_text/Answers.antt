@@ -7,9 +7,9 @@ moves_front : (all done rest : List ℕ) (n : ℕ) → all ≡ done ++ rest → 
 moves_front all done rest n e =
     e ∙ ap (λ l. done ++ l) (sym (take-append-drop n rest)) ∙ sym (append_assoc done (take n rest) (drop n rest)) ∙ ap (λ l. (done ++ take n rest) ++ l) (sym (take_rest rest n))
 
-pub writing-preserved : goal.writing-preserved
-writing-preserved g c =
-    let ((done, split, appended), kept) = c.writing.invariant in
-    let rest = c.writing.rest.now in
+pub loop-rest-preserved : goal.loop-rest-preserved
+loop-rest-preserved g c =
+    let ((done, split, appended), kept) = c.loop-rest.invariant in
+    let rest = c.loop-rest.rest.now in
     let n = c.in_ok-count.count in
     ((done ++ take n rest, moves_front _ done rest n split, Appends-trans _ _ _ _ _ appended c.in_ok-count.ensures.bytes), search rules)

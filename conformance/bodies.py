@@ -1,0 +1,182 @@
+#!/usr/bin/env python3
+"""Random files without findings, policies and days, and what the machine of machine.py makes of them.
+
+usage: bodies.py [COUNT [SEED]]     the last line is 'N passed, M failed'
+
+Of each of COUNT bodies, with record links, rings and file sets, under a policy and for a caller of its own, it tries on the machine:
+what is drawn is a file without findings; the extract of an extract that is shown whole is the same bytes; and where hidden rows alone
+are changed, the listing and every extract are the same. A seed gives the same bodies each time."""
+import random
+import sys
+import machine
+import reference
+
+STATES = ["FINAL", "PRELIM", "HELD"]
+DAYS = ["2024-05-31", "2024-06-01", "2024-06-02"]
+FIRMS = ["Delta", "Foxtrot", "Echo"]
+
+
+def table(name, headings, types, rows, units=None):
+    """The text of a group."""
+    def encoded(items):
+        return [item.encode() for item in items]
+    out = machine.line_of(b"GROUP", encoded([name])) + machine.line_of(b"HEADING", encoded(headings))
+    out += machine.line_of(b"UNIT", encoded(units or [""] * len(headings))) + machine.line_of(b"TYPE", encoded(types))
+    return out + b"".join(machine.line_of(b"DATA", encoded(row)) for row in rows)
+
+
+def names_in(chance, locations, samples):
+    """A record link to one row or two, or none."""
+    def one():
+        if samples and chance.random() < 0.7:
+            s = chance.choice(samples)
+            return f"SAMP|{s[0]}|{s[1]}|{s[2]}"
+        return chance.choice([f"LOCA|{chance.choice(locations)[0]}", "PROJ|P7"])
+    return "+".join(one() for _ in range(chance.choice((0, 0, 1, 1, 2))))
+
+
+def body(chance):
+    """The bytes of a file without findings."""
+    sets = [f"F{n}" for n in range(chance.randrange(3))]
+
+    def file_set():
+        return chance.choice(["", "", *sets])
+    locations = [[f"BH{n}", chance.choice(STATES), file_set()] for n in range(1, chance.randrange(2, 6))]
+    samples = []
+    for n in range(chance.randrange(6)):
+        samples.append([chance.choice(locations)[0], f"{chance.randrange(4)}.50", f"S{n}", ""])
+    for sample in samples:
+        sample[3] = names_in(chance, locations, samples)
+    tests = [[s[0], s[1], s[2], f"{n}.05", chance.choice(["23", "18.4", "x, \"y\""])] for n, s in enumerate(chance.choices(samples, k=chance.randrange(5)) if samples else [])]
+    groups = [table("PROJ", ["PROJ_ID", "PROJ_NAME", "FILE_FSET"], ["ID", "X", "X"], [["P7", chance.choice(["North bank", ""]), file_set()]]),
+              table("TRAN", ["TRAN_ISNO", "TRAN_DLIM", "TRAN_RCON"], ["X", "X", "X"], [["1", "|", "+"]]),
+              table("UNIT", ["UNIT_UNIT"], ["X"], [["m"]]),
+              table("TYPE", ["TYPE_TYPE"], ["X"], [["ID"], ["X"], ["2DP"], ["RL"]]),
+              table("LOCA", ["LOCA_ID", "LOCA_STAT", "FILE_FSET"], ["ID", "X", "X"], locations)]
+    if samples:
+        groups.append(table("SAMP", ["LOCA_ID", "SAMP_TOP", "SAMP_REF", "SAMP_LINK"], ["ID", "2DP", "X", "RL"], samples, ["", "m", "", ""]))
+    if tests:
+        groups.append(table("LNMC", ["LOCA_ID", "SAMP_TOP", "SAMP_REF", "SPEC_DPTH", "LNMC_MC"], ["ID", "2DP", "X", "2DP", "X"], tests, ["", "m", "", "m", ""]))
+    if sets:
+        rows = [[s, f"{s}-{n}.pdf"] for s in sets for n in range(chance.randrange(1, 3))]
+        groups.append(table("FILE", ["FILE_FSET", "FILE_NAME"], ["X", "X"], rows))
+    if chance.random() < 0.3:
+        chance.shuffle(groups)
+    text = (b"\xef\xbb\xbf" if chance.random() < 0.1 else b"") + chance.choice([b"\r\n", b"\r\n", b"", b"  \r\n\r\n"]).join(groups)
+    return text.replace(b'","', b'" , "') if chance.random() < 0.1 else text
+
+
+def clean_body(chance):
+    while True:
+        text = body(chance)
+        if not reference.findings(text):
+            return text
+
+
+def policy(chance):
+    """The text of a policy that mostly lets requests through and hides some rows."""
+    rules = ['verb = "deposit"\nrole = "contractor"', 'verb = "check"', 'verb = "list"', 'verb = "extract"']
+    if chance.random() < 0.2:
+        rules.insert(0, f'verb = "{chance.choice(["deposit", "list", "extract"])}"\nfirm = "{chance.choice(FIRMS)}"')
+    sights = ['owner = "own"', 'embargo = "running"', f'group = "LOCA"\nheading = "LOCA_STAT"\nvalue = "{chance.choice(STATES)}"',
+              f'group = "SAMP"\nheading = "SAMP_REF"\nvalue = "S{chance.randrange(5)}"', f'group = "{chance.choice(["FILE", "LNMC", "SAMP", "PROJ"])}"',
+              f'firm = "{chance.choice(FIRMS)}"\nproject = "N1"', 'owner = "other"\nembargo = "past"\nheading = "LOCA_ID"\nvalue = "BH2"']
+    out = []
+    for rule in rules:
+        out.append((rule, "deny" if rule.count("\n") and "firm" in rule else "permit"))
+    for sight in chance.sample(sights, chance.randrange(4)):
+        out.append(('verb = "see"\n' + sight, "permit" if sight == 'owner = "own"' else "deny"))
+    out.append(('verb = "see"', "permit" if chance.random() < 0.9 else "deny"))
+    return "".join(f'[[rule]]\nnumber = {10 * n}\neffect = "{effect}"\n{keys}\n\n' for n, (keys, effect) in enumerate(out, 1))
+
+
+def caller_of(firm):
+    return {"firm": firm, "role": "consultant" if firm == "Echo" else "contractor"}
+
+
+def shown_part(rules, caller, deposit, day, file):
+    """The groups with a shown row, each with its header rows and its shown rows."""
+    shown = machine.shown_rows(rules, caller, deposit, day, file)
+    part = []
+    for g in file.groups:
+        rows = [row.items for n, (h, row) in enumerate(file.rows) if h is g and n in shown]
+        if rows:
+            part.append((g.name, g.headings, g.unit.items, g.type.items, rows))
+    return part
+
+
+def hidden_changed(chance, file, shown):
+    """The text of a file with some of its hidden rows changed or left out."""
+    groups = []
+    for g in file.groups:
+        rows = []
+        for n, (h, row) in enumerate(file.rows):
+            if h is g and n in shown:
+                rows.append(row.items)
+            elif h is g and chance.random() < 0.7:
+                items = list(row.items)
+                items[chance.randrange(len(items))] = chance.choice([b"x", b"BH1", b"7.50", b"", b"HELD"])
+                rows.append(chance.choice([items, row.items]))
+        if rows:
+            head = [machine.line_of(b"GROUP", [g.name]), machine.line_of(b"HEADING", g.headings), machine.line_of(b"UNIT", g.unit.items), machine.line_of(b"TYPE", g.type.items)]
+            groups.append(b"".join(head + [machine.line_of(b"DATA", row) for row in rows]))
+    return b"\r\n".join(groups)
+
+
+def held(text, deposit):
+    register = machine.Register()
+    register.deposits.append({**deposit, "bytes": text})
+    return register
+
+
+def seen_of(text, deposit, rules, caller, day, asked):
+    register = held(text, deposit)
+    return [register.list(rules, caller, "N1", day)] + [register.extract(rules, caller, "N1", 1, groups, day) for groups in asked]
+
+
+def turn(chance, counts):
+    """One body and what it shows; the names of what does not hold."""
+    text, rules, day = clean_body(chance), machine.read_policy(policy(chance)), chance.choice(DAYS)
+    caller, deposit = caller_of(chance.choice(FIRMS)), {"firm": "Delta", "project": "N1", "embargo": "2024-06-01"}
+    asked = [[], [b"LOCA"], [b"SAMP", b"FILE"], [b"LNMC", b"NONE"]]
+    answers = seen_of(text, deposit, rules, caller, day, asked)
+    wrong = []
+    for answer in answers[1:]:
+        if answer[0] == "text":
+            counts["extracts"] += 1
+            if reference.findings(answer[1]):
+                wrong.append("an extract with findings")
+            everything = machine.read_policy('rule = [{number = 1, effect = "permit"}]')
+            if held(answer[1], deposit).extract(everything, caller, "N1", 1, [], day) != answer:
+                wrong.append("an extract of an extract")
+    file = machine.File(text, reference.built_in())
+    shown = machine.shown_rows(rules, caller, deposit, day, file)
+    for _ in range(8):
+        other = hidden_changed(chance, file, shown)
+        if other == text or not other or reference.findings(other):
+            continue
+        parts = [shown_part(rules, caller, deposit, day, f) for f in (file, machine.File(other, reference.built_in()))]
+        if parts[0] == parts[1]:
+            counts["pairs"] += 1
+            if seen_of(other, deposit, rules, caller, day, asked) != answers:
+                wrong.append("a leak")
+    return wrong, text
+
+
+def main():
+    count = int(sys.argv[1]) if len(sys.argv) > 1 else 300
+    chance = random.Random(int(sys.argv[2]) if len(sys.argv) > 2 else 1)
+    counts, passed, failed = {"extracts": 0, "pairs": 0}, 0, 0
+    for _ in range(count):
+        wrong, text = turn(chance, counts)
+        passed += not wrong
+        failed += bool(wrong)
+        if wrong:
+            print(wrong, text)
+    print(f"({counts['extracts']} extracts, {counts['pairs']} pairs of bodies that differ in hidden rows alone)")
+    print(f"{passed} passed, {failed} failed")
+    return failed > 0
+
+
+if __name__ == "__main__":
+    sys.exit(main())

@@ -1,0 +1,874 @@
+#!/usr/bin/env python3
+"""The register as a machine, written apart from the product and straight from its definitions: slow, plain, nothing kept twice.
+
+It has the policy and the callers, what a caller may see of a file, the extract, the four requests with the state that each leaves,
+a request as it is read from the bytes of a connection with the bytes of its reply, and the command line. Findings are those of
+reference.py. It proves nothing; it is here so that the product's answers are computed twice.
+
+usage: machine.py       tries the worked examples below on itself; the last line is 'N passed, M failed'"""
+import datetime
+import json
+import re
+import sys
+import tomllib
+import urllib.parse
+import reference
+
+LIMIT = 4194304
+MOST = 999999
+LAST_DAY = "9999-12-31"
+
+
+class Refused(Exception):
+    """A text that is not read, with the reason's name."""
+
+
+# ---- names, days, policy, callers
+
+def is_name(text):
+    return isinstance(text, str) and re.fullmatch(r"[A-Za-z0-9_-]{1,32}", text) is not None
+
+
+def day_of(text):
+    """The day that a text `yyyy-mm-dd` names, from 1970-01-01 on, as that text, or None. Days compare as their texts."""
+    if not re.fullmatch(r"[0-9]{4}-[0-9]{2}-[0-9]{2}", text) or text < "1970-01-01":
+        return None
+    try:
+        datetime.date.fromisoformat(text)
+    except ValueError:
+        return None
+    return text
+
+
+def document(text):
+    """The table that a TOML text is."""
+    try:
+        table = tomllib.loads(text)
+    except (tomllib.TOMLDecodeError, RecursionError):
+        raise Refused("Syntax") from None
+    stack = [table]
+    while stack:
+        value = stack.pop()
+        if isinstance(value, int) and not -(2**63) <= value < 2**63:
+            raise Refused("Syntax")
+        stack += value.values() if isinstance(value, dict) else value if isinstance(value, list) else []
+    return table
+
+
+def tables_under(table, key, known):
+    """The tables of the array under the one key that a document may have; unknown keys are looked for before anything else."""
+    items = table.get(key, [])
+    inner = [item for item in items if isinstance(item, dict)] if isinstance(items, list) else []
+    if any(k != key for k in table) or any(k not in known for item in inner for k in item):
+        raise Refused("UnknownKey")
+    if not isinstance(items, list) or len(inner) != len(items):
+        raise Refused("BadValue")
+    return items
+
+
+def is_group_name(text):
+    return isinstance(text, str) and re.fullmatch(r"[A-Z0-9]{1,4}", text) is not None
+
+
+def is_one_of(*words):
+    return lambda text: isinstance(text, str) and text in words
+
+
+RULE_VALUES = {
+    "firm": is_name, "role": is_name, "project": is_name, "group": is_group_name,
+    "verb": is_one_of("deposit", "check", "list", "extract", "see"),
+    "owner": is_one_of("own", "other"), "embargo": is_one_of("past", "running"),
+}
+
+
+def read_policy(text):
+    """The rules of a policy, each with the keys that it sets."""
+    items = tables_under(document(text), "rule", {"number", "effect", "heading", "value", *RULE_VALUES})
+    rules = []
+    for item in items:
+        number = item.get("number")
+        if isinstance(number, bool) or not isinstance(number, int) or not 1 <= number <= 9999 or item.get("effect") not in ("permit", "deny"):
+            raise Refused("BadValue")
+        for key, is_value in RULE_VALUES.items():
+            if key in item and item[key] != "*" and not is_value(item[key]):
+                raise Refused("BadValue")
+        if ("heading" in item) != ("value" in item):
+            raise Refused("BadValue")
+        if "heading" in item and not (isinstance(item["heading"], str) and re.fullmatch(r"[A-Z0-9_]{1,9}", item["heading"]) and isinstance(item["value"], str)):
+            raise Refused("BadValue")
+        rules.append({k: v for k, v in item.items() if k in ("number", "effect", "heading", "value") or v != "*"})
+    if any(b["number"] <= a["number"] for a, b in zip(rules, rules[1:])):
+        raise Refused("Order")
+    return rules
+
+
+def matches(rule, caller, project, verb, row):
+    """Whether a rule matches; row is None for a request, else what is known of a row."""
+    asked = {"firm": caller["firm"], "role": caller["role"], "project": project, "verb": verb}
+    if any(key in rule and rule[key] != value for key, value in asked.items()):
+        return False
+    sets = [key for key in ("group", "owner", "embargo", "heading") if key in rule]
+    if sets and row is None:
+        return False
+    if "group" in rule and rule["group"].encode() != row["group"]:
+        return False
+    if "owner" in rule and (rule["owner"] == "own") != row["own"]:
+        return False
+    if "embargo" in rule and (rule["embargo"] == "past") != row["past"]:
+        return False
+    if "heading" in rule:
+        want = (rule["heading"].encode(), rule["value"].encode())
+        return want in zip(row["headings"], row["cells"])
+    return True
+
+
+def decide(rules, caller, project, verb, row=None):
+    """("permit", n) or ("deny", n) of the first rule that matches; ("deny", 0) where none does."""
+    for rule in rules:
+        if matches(rule, caller, project, verb, row):
+            return rule["effect"], rule["number"]
+    return "deny", 0
+
+
+def read_callers(text):
+    """The callers, by token."""
+    items = tables_under(document(text), "caller", {"token", "firm", "role"})
+    for item in items:
+        token = item.get("token")
+        if not (isinstance(token, str) and re.fullmatch(r"[!-~]{1,64}", token) and is_name(item.get("firm")) and is_name(item.get("role"))):
+            raise Refused("BadValue")
+    tokens = [item["token"] for item in items]
+    if len(set(tokens)) != len(tokens):
+        raise Refused("DuplicateToken")
+    return {item["token"]: {"firm": item["firm"], "role": item["role"]} for item in items}
+
+
+def read_dictionary(data):
+    """The entries of a dictionary, which is read without Rules 1 and 2a."""
+    found, rows = reference.first_phase(reference.lines_of(data), True)
+    found = found or reference.second_phase(rows)
+    groups = [] if found else reference.cut(rows)
+    found = found or reference.third_phase(groups)
+    if found:
+        raise Refused("NotDictionary")
+    own = [g for g in groups if g.name == b"DICT"]
+    if not own:
+        raise Refused("NoDict")
+    if not {b"DICT_TYPE", b"DICT_GRP", b"DICT_HDNG", b"DICT_STAT", b"DICT_PGRP"} <= set(own[0].headings):
+        raise Refused("MissingHeading")
+    return reference.own_entries(groups)
+
+
+# ---- what a caller may see of a file
+
+class File:
+    """A file without findings: its groups, its DATA rows numbered from 0, and the steps between them."""
+
+    def __init__(self, data, standard):
+        _, rows = reference.first_phase(reference.lines_of(data), False)
+        self.groups = reference.cut(rows)
+        self.words = reference.Dictionary(reference.extended(standard, reference.own_entries(self.groups)))
+        self.rows = [(g, row) for g in self.groups for row in g.data]
+        self.delimiter, self.concatenator = reference.separators(self.groups)
+        self.steps = [[n for n, (_, s) in enumerate(self.rows) if any(s is t for t in self.targets(g, row))] for g, row in self.rows]
+
+    def targets(self, g, row):
+        """The rows that a row has a step to."""
+        found = list(reference.parent_rows(g, row, self.groups, self.words))
+        if g.name in reference.DEFINITIONS:
+            return found
+        for heading, kind in zip(g.headings, g.type.items):
+            if kind == b"RL" and g.under(row, heading):
+                for part in g.under(row, heading).split(self.concatenator):
+                    pieces = part.split(self.delimiter)
+                    found += [s for h, s in self.rows if pieces[0] == h.name and pieces[1:] == reference.key(h, s, self.words)]
+        set_of = g.under(row, b"FILE_FSET")
+        if g.name != b"FILE" and set_of:
+            found += [s for h, s in self.rows if h.name == b"FILE" and h.under(s, b"FILE_FSET") == set_of]
+        return found
+
+    def reach(self, n):
+        """The numbers of the rows that row n reaches, itself included."""
+        seen, work = {n}, [n]
+        while work:
+            for m in self.steps[work.pop()]:
+                if m not in seen:
+                    seen.add(m)
+                    work.append(m)
+        return seen
+
+
+def is_permitted(rules, caller, deposit, day, g, row):
+    if g.name in reference.DEFINITIONS:
+        return True
+    facts = {"group": g.name, "own": deposit["firm"] == caller["firm"], "past": day >= deposit["embargo"], "headings": g.headings, "cells": row.items}
+    return decide(rules, caller, deposit["project"], "see", facts)[0] == "permit"
+
+
+def shown_rows(rules, caller, deposit, day, file):
+    """The numbers of the rows from which only permitted rows are reached."""
+    may = [is_permitted(rules, caller, deposit, day, g, row) for g, row in file.rows]
+    return {n for n in range(len(file.rows)) if all(may[m] for m in file.reach(n))}
+
+
+def line_of(descriptor, fields):
+    return b",".join(b'"' + field.replace(b'"', b'""') + b'"' for field in [descriptor, *fields]) + b"\r\n"
+
+
+def extract_text(file, shown, groups):
+    """The asked rows that are shown with all that they reach, as a file. No groups asks for all; PROJ is always asked."""
+    asked = {n for n, (g, _) in enumerate(file.rows) if not groups or g.name in groups or g.name == b"PROJ"}
+    drawn = {m for n in asked & shown for m in file.reach(n)}
+    texts = []
+    for g in file.groups:
+        rows = [row for n, (h, row) in enumerate(file.rows) if h is g and (g.name in reference.DEFINITIONS or n in drawn)]
+        if rows:
+            head = line_of(b"GROUP", [g.name]) + line_of(b"HEADING", g.headings) + line_of(b"UNIT", g.unit.items) + line_of(b"TYPE", g.type.items)
+            texts.append(head + b"".join(line_of(b"DATA", row.items) for row in rows))
+    return b"\r\n".join(texts)
+
+
+# ---- requests and the state
+
+class Register:
+    """The deposits that are held, under a dictionary's entries, and at most so many."""
+
+    def __init__(self, standard=None, most=MOST):
+        self.standard = reference.built_in() if standard is None else standard
+        self.most = most
+        self.deposits = []
+        self.files = {}
+
+    def file_of(self, data):
+        if data not in self.files:
+            self.files[data] = File(data, self.standard)
+        return self.files[data]
+
+    def is_seen(self, rules, caller, deposit, day):
+        """Whether the row of PROJ is shown."""
+        file = self.file_of(deposit["bytes"])
+        shown = shown_rows(rules, caller, deposit, day, file)
+        return any(g.name == b"PROJ" and n in shown for n, (g, _) in enumerate(file.rows))
+
+    def checked(self, data):
+        if len(data) > LIMIT:
+            return ("too large",)
+        found = reference.findings(data, 5, self.standard)
+        return ("findings", found) if found else None
+
+    def deposit(self, rules, caller, project, embargo, data):
+        effect, number = decide(rules, caller, project, "deposit")
+        if effect == "deny":
+            return "denied", number
+        refused = self.checked(data)
+        if refused:
+            return refused
+        for n, held in enumerate(self.deposits, 1):
+            if (held["firm"], held["project"], held["bytes"]) == (caller["firm"], project, data):
+                return "receipt", n, held["embargo"]
+        if len(self.deposits) == self.most:
+            return ("full",)
+        self.deposits.append({"firm": caller["firm"], "project": project, "embargo": embargo, "bytes": data})
+        return "receipt", len(self.deposits), embargo
+
+    def check(self, rules, caller, project, data):
+        effect, number = decide(rules, caller, project, "check")
+        if effect == "deny":
+            return "denied", number
+        return self.checked(data) or ("clean",)
+
+    def list(self, rules, caller, project, day):
+        effect, number = decide(rules, caller, project, "list")
+        if effect == "deny":
+            return "denied", number
+        return "listing", [(n, held["firm"], held["embargo"]) for n, held in enumerate(self.deposits, 1)
+                           if held["project"] == project and self.is_seen(rules, caller, held, day)]
+
+    def extract(self, rules, caller, project, number, groups, day):
+        effect, rule = decide(rules, caller, project, "extract")
+        if effect == "deny":
+            return "denied", rule
+        if not 1 <= number <= len(self.deposits) or self.deposits[number - 1]["project"] != project:
+            return ("unknown",)
+        held = self.deposits[number - 1]
+        if not self.is_seen(rules, caller, held, day):
+            return ("unknown",)
+        file = self.file_of(held["bytes"])
+        return "text", extract_text(file, shown_rows(rules, caller, held, day, file), groups)
+
+
+# ---- a connection
+
+PHRASES = {200: "OK", 400: "Bad Request", 401: "Unauthorized", 403: "Forbidden", 404: "Not Found", 405: "Method Not Allowed", 411: "Length Required",
+           413: "Payload Too Large", 422: "Unprocessable Entity", 503: "Service Unavailable", 507: "Insufficient Storage"}
+TOKEN = rb"[!#$%&'*+.^_`|~0-9A-Za-z-]+"
+REQUEST_LINE = re.compile(rb"(?:\r?\n)*(" + TOKEN + rb") ([\x21-\x7e\x80-\xff]+) HTTP/1\.[01]\r?\n")
+FIELD = re.compile(rb"(" + TOKEN + rb"):([\t\x20-\x7e\x80-\xff]*)\r?\n")
+
+
+def rendered(status, body, kind="application/json"):
+    head = f"HTTP/1.1 {status} {PHRASES[status]}\r\nContent-Type: {kind}\r\nContent-Length: {len(body)}\r\nConnection: close\r\n\r\n"
+    return status, head.encode() + body
+
+
+def as_json(status, value):
+    return rendered(status, json.dumps(value, separators=(",", ":"), sort_keys=True, ensure_ascii=False).encode())
+
+
+def error(status, text):
+    return as_json(status, {"error": text})
+
+
+def head_of(data):
+    """(method, target, fields, what stands behind), or None where no prefix is a head."""
+    line = REQUEST_LINE.match(data)
+    if not line:
+        return None
+    try:
+        line[2].decode()
+    except UnicodeDecodeError:
+        return None
+    at, fields = line.end(), []
+    while True:
+        end = re.compile(rb"\r?\n").match(data, at)
+        if end:
+            return (line[1], line[2], fields, data[end.end():]) if end.end() <= 8192 and len(fields) <= 32 else None
+        field = FIELD.match(data, at)
+        if not field:
+            return None
+        fields.append((field[1].lower(), field[2].strip(b" \t")))
+        at = field.end()
+
+
+def pairs_of(query):
+    """The pairs of a query, decoded."""
+    def decode(piece):
+        return urllib.parse.unquote_to_bytes(piece.replace(b"+", b" ")).decode("utf-8", "replace")
+    return [(decode(p.partition(b"=")[0]), decode(p.partition(b"=")[2])) for p in query.split(b"&") if p]
+
+
+def groups_in(text):
+    """The names that a list of groups has; none where it is empty; None where one is no name."""
+    names = text.split(",") if text else []
+    return [name.encode() for name in names] if all(is_group_name(name) for name in names) else None
+
+
+def number_in(text):
+    return int(text) if re.fullmatch(r"[1-9][0-9]{0,5}", text) else None
+
+
+def values(fields, name):
+    return [value for key, value in fields if key == name]
+
+
+def reply(answer):
+    """The bytes of the reply to an answer."""
+    kind = answer[0]
+    if kind == "receipt":
+        return as_json(200, {"number": answer[1], "embargo": answer[2]})
+    if kind == "clean":
+        return as_json(200, {"clean": True})
+    if kind == "listing":
+        return as_json(200, {"deposits": [{"number": n, "firm": firm, "embargo": embargo} for n, firm, embargo in answer[1]]})
+    if kind == "text":
+        return rendered(200, answer[1], "text/plain; charset=us-ascii")
+    if kind == "denied":
+        return as_json(403, {"denied": answer[1]})
+    if kind == "findings":
+        def subject(text):
+            return "".join("?" if b < 32 or b > 126 else chr(b) for b in text)
+        return as_json(422, {"findings": [{"code": code, "line": line, "subject": subject(text)} for line, code, text in answer[1]]})
+    return error({"unknown": 404, "too large": 413, "full": 507}[kind], kind)
+
+
+def serve(register, rules, callers, day, data):
+    """The status and the reply for what a connection gives until it ends; 0 and nothing for no byte."""
+    if not data:
+        return 0, b""
+    head = head_of(data)
+    if head is None:
+        return error(400, "bad head")
+    method, target, fields, rest = head
+    path, _, query = target.partition(b"?")
+    route = re.fullmatch(rb"/v1/projects/([^/]+)/(check|deposits(?:/([^/]+))?)", path)
+    if not route:
+        return error(404, "no route")
+    project, page, number = route[1].decode(), route[2].partition(b"/")[0].decode(), route[3]
+    kind = {("check", b"POST", False): "check", ("deposits", b"POST", False): "deposit", ("deposits", b"GET", False): "list",
+            ("deposits", b"GET", True): "extract"}.get((page, method, number is not None))
+    if kind is None:
+        return error(405, "method")
+    given = values(fields, b"authorization")
+    token = given[0][7:].decode("latin-1") if len(given) == 1 and given[0].startswith(b"Bearer ") else None
+    if token not in callers:
+        return error(401, "no caller")
+    length = 0
+    if kind in ("check", "deposit"):
+        lengths = values(fields, b"content-length")
+        if values(fields, b"transfer-encoding") or not lengths:
+            return error(411, "length required")
+        if len(lengths) > 1 or not re.fullmatch(rb"[0-9]{1,10}", lengths[0]):
+            return error(400, "bad length")
+        length = int(lengths[0])
+        if length > LIMIT:
+            return error(413, "too large")
+    known = {"deposit": "embargo", "extract": "groups"}.get(kind)
+    pairs = pairs_of(query)
+    bad = not is_name(project) or (number is not None and number_in(number.decode()) is None) or len(pairs) > 1 or any(name != known for name, _ in pairs)
+    value = pairs[0][1] if pairs else None
+    if kind == "deposit" and value is not None:
+        bad = bad or day_of(value) is None
+    groups = groups_in(value or "") if kind == "extract" and not bad else []
+    if bad or groups is None:
+        return error(400, "bad parameter")
+    if len(rest) < length:
+        return error(400, "short body")
+    caller, body = callers[token], rest[:length]
+    if kind == "check":
+        return reply(register.check(rules, caller, project, body))
+    if kind == "deposit":
+        return reply(register.deposit(rules, caller, project, value or day, body))
+    if kind == "list":
+        return reply(register.list(rules, caller, project, day))
+    return reply(register.extract(rules, caller, project, number_in(number.decode()), groups, day))
+
+
+# ---- the command line
+
+OPTIONS = {"init": "store dictionary", "check": "dictionary", "deposit": "store policy callers token project day embargo",
+           "extract": "store policy callers token project day groups", "list": "store policy callers token project day",
+           "serve": "store policy callers port connections day"}
+MAY_LACK = {"day", "embargo", "groups"}
+PLACES = {"init": 0, "check": 1, "deposit": 1, "extract": 1, "list": 0, "serve": 0}
+
+
+class Fault(Exception):
+    """What ends a run before its answer: the text behind `groundreg: ` and the status."""
+
+
+def words_of(words):
+    """The command, its options and its further words."""
+    if not words or words[0] not in OPTIONS:
+        raise Fault("words refused", 4)
+    command, rest, options, places = words[0], list(words[1:]), {}, []
+    while rest:
+        word = rest.pop(0)
+        if not word.startswith("-") or word == "-":
+            places.append(word)
+            continue
+        name, is_joined, value = word[2:].partition("=")
+        if not word.startswith("--") or name not in OPTIONS[command].split() or name in options:
+            raise Fault("words refused", 4)
+        if not is_joined:
+            if not rest or (rest[0].startswith("-") and rest[0] != "-"):
+                raise Fault("words refused", 4)
+            value = rest.pop(0)
+        options[name] = value
+    if len(places) != PLACES[command] or any(name not in options for name in OPTIONS[command].split() if name not in MAY_LACK):
+        raise Fault("words refused", 4)
+    for name, most in (("port", 65535), ("connections", 1000000)):
+        if name in options and not (re.fullmatch(r"[0-9]+", options[name]) and 1 <= int(options[name]) <= most):
+            raise Fault("words refused", 4)
+    return command, options, places
+
+
+def printed(answer):
+    """What the program prints of an answer, and its status."""
+    kind = answer[0]
+    if kind == "receipt":
+        return f"receipt {answer[1]} {answer[2]}\n".encode(), 0
+    if kind == "listing":
+        return "".join(f"{n} {firm} {embargo}\n" for n, firm, embargo in answer[1]).encode(), 0
+    if kind == "text":
+        return answer[1], 0
+    if kind == "denied":
+        return f"denied {answer[1]}\n".encode(), 2
+    if kind == "findings":
+        return "".join(line + "\n" for line in reference.printed(answer[1])).encode(), 1
+    return (kind + "\n").encode(), {"clean": 0, "unknown": 3, "too large": 4, "full": 5}[kind]
+
+
+class Computer:
+    """Files by path (bytes, a Register, or nothing), and what each run of the program makes of them. `serve` is left to `serve` above."""
+
+    def __init__(self):
+        self.files = {}
+
+    def read(self, path):
+        if not isinstance(self.files.get(path), bytes):
+            raise Fault(f"cannot read {path}", 6)
+        return self.files[path]
+
+    def text(self, path, name, read):
+        try:
+            return read(self.read(path).decode())
+        except (UnicodeDecodeError, Refused):
+            raise Fault(f"{name} refused", 4) from None
+
+    def dictionary(self, path):
+        data = self.read(path)
+        try:
+            if len(data) > LIMIT:
+                raise Refused("too large")
+            return read_dictionary(data)
+        except Refused:
+            raise Fault("dictionary refused", 4) from None
+
+    def store(self, path):
+        found = self.files.get(path)
+        if not isinstance(found, Register):
+            raise Fault("store failed", 5) if found else Fault("not a register", 4)
+        return found
+
+    def run(self, words, today, standard_input=b""):
+        """(standard output, standard error, status)"""
+        try:
+            out, status = self.answer(words, today, standard_input)
+            return out, b"", status
+        except Fault as fault:
+            return b"", f"groundreg: {fault.args[0]}\n".encode(), fault.args[1]
+
+    def answer(self, words, today, standard_input):
+        if not words:
+            return self.check(standard_input, None)
+        command, options, places = words_of(words)
+        if command == "init":
+            standard = self.dictionary(options["dictionary"])
+            if self.files.get(options["store"]):
+                raise Fault("store not empty", 4) if isinstance(self.files[options["store"]], Register) else Fault("store failed", 5)
+            self.files[options["store"]] = Register(standard)
+            return b"created\n", 0
+        if command == "check":
+            return self.check(None, (options["dictionary"], places[0]))
+        rules = self.text(options["policy"], "policy", read_policy)
+        callers = self.text(options["callers"], "callers", read_callers)
+        if options["token"] not in callers:
+            raise Fault("token refused", 4)
+        if not is_name(options["project"]):
+            raise Fault("project refused", 4)
+        day = day_of(options.get("day", today))
+        embargo = day_of(options.get("embargo", day or ""))
+        if day is None or embargo is None:
+            raise Fault("day refused", 4)
+        groups, number = groups_in(options.get("groups", "")), number_in(places[0]) if command == "extract" else None
+        if groups is None:
+            raise Fault("groups refused", 4)
+        if command == "extract" and number is None:
+            raise Fault("number refused", 4)
+        body = self.read(places[0]) if command == "deposit" else None
+        register, caller, project = self.store(options["store"]), callers[options["token"]], options["project"]
+        if command == "deposit":
+            return printed(register.deposit(rules, caller, project, embargo, body))
+        if command == "list":
+            return printed(register.list(rules, caller, project, day))
+        return printed(register.extract(rules, caller, project, number, groups, day))
+
+    def check(self, data, places):
+        standard = None
+        if places is not None:
+            standard = self.dictionary(places[0])
+            data = self.read(places[1])
+        if len(data) > LIMIT:
+            raise Fault("too large", 4)
+        return printed(Register(standard).checked(data) or ("clean",))
+
+
+# ---- worked examples
+
+def spelled(text):
+    return "".join(line + "\r\n" for line in text.strip("\n").split("\n")).encode()
+
+
+HEAD_LINES = spelled('''
+"GROUP","PROJ"
+"HEADING","PROJ_ID","PROJ_NAME"
+"UNIT","",""
+"TYPE","ID","X"
+"DATA","P7","North bank"
+
+"GROUP","TRAN"
+"HEADING","TRAN_ISNO","TRAN_DLIM","TRAN_RCON"
+"UNIT","","",""
+"TYPE","X","X","X"
+"DATA","1","|","+"
+
+"GROUP","UNIT"
+"HEADING","UNIT_UNIT","UNIT_DESC"
+"UNIT","",""
+"TYPE","X","X"
+"DATA","m","metre"
+
+"GROUP","TYPE"
+"HEADING","TYPE_TYPE","TYPE_DESC"
+"UNIT","",""
+"TYPE","X","X"
+"DATA","ID","Unique identifier"
+"DATA","X","Text"
+''')
+FILE_A = HEAD_LINES + spelled('''
+
+"GROUP","LOCA"
+"HEADING","LOCA_ID"
+"UNIT",""
+"TYPE","ID"
+"DATA","BH1"
+''').join([b"\r\n", b""])
+FILE_B = HEAD_LINES + spelled('''
+"DATA","2DP","Two decimals"
+"DATA","RL","Record link"
+
+"GROUP","LOCA"
+"HEADING","LOCA_ID","LOCA_STAT"
+"UNIT","",""
+"TYPE","ID","X"
+"DATA","BH1","FINAL"
+"DATA","BH2","PRELIM"
+
+"GROUP","SAMP"
+"HEADING","LOCA_ID","SAMP_TOP","SAMP_REF","SAMP_LINK"
+"UNIT","","m","",""
+"TYPE","ID","2DP","X","RL"
+"DATA","BH1","1.50","S1",""
+"DATA","BH2","2.00","S2",""
+
+"GROUP","LNMC"
+"HEADING","LOCA_ID","SAMP_TOP","SAMP_REF","SPEC_DPTH","LNMC_MC"
+"UNIT","","m","","m",""
+"TYPE","ID","2DP","X","2DP","X"
+"DATA","BH1","1.50","S1","1.55","23"
+"DATA","BH2","2.00","S2","2.05","18.4"
+''')
+C_LINES = spelled('''
+"DATA","BH1","1.50","S1","SAMP|BH1|3.00|S9"
+"DATA","BH2","2.00","S2",""
+"DATA","BH1","3.00","S9","SAMP|BH1|1.50|S1"
+"DATA","BH1","4.00","S4","SAMP|BH1|1.50|S1"
+''')
+
+
+def lines(data):
+    return data.splitlines(keepends=True)
+
+
+def file_c():
+    b = lines(FILE_B)
+    b[32] = b'"DATA","BH2","FINAL"\r\n'
+    return b"".join(b[:38] + lines(C_LINES) + b[40:])
+
+
+def without(data, *numbers):
+    return b"".join(line for n, line in enumerate(lines(data), 1) if n not in numbers)
+
+
+POLICY = """
+[[rule]]
+number = 5
+effect = "deny"
+verb = "deposit"
+firm = "Gamma"
+[[rule]]
+number = 10
+effect = "permit"
+verb = "deposit"
+role = "contractor"
+[[rule]]
+number = 20
+effect = "permit"
+verb = "check"
+[[rule]]
+number = 30
+effect = "permit"
+verb = "list"
+[[rule]]
+number = 40
+effect = "permit"
+verb = "extract"
+[[rule]]
+number = 50
+effect = "permit"
+verb = "see"
+owner = "own"
+[[rule]]
+number = 60
+effect = "deny"
+verb = "see"
+embargo = "running"
+[[rule]]
+number = 70
+effect = "deny"
+verb = "see"
+group = "LOCA"
+heading = "LOCA_STAT"
+value = "PRELIM"
+[[rule]]
+number = 75
+effect = "deny"
+verb = "see"
+group = "SAMP"
+heading = "SAMP_REF"
+value = "S9"
+[[rule]]
+number = 80
+effect = "permit"
+verb = "see"
+"""
+CALLERS = "".join(f'[[caller]]\ntoken = "t-{firm.lower()}"\nfirm = "{firm}"\nrole = "{role}"\n' for firm, role in
+                  (("Delta", "contractor"), ("Gamma", "contractor"), ("Foxtrot", "contractor"), ("Echo", "consultant")))
+
+
+def refusal(read, text):
+    try:
+        read(text)
+    except Refused as reason:
+        return str(reason)
+    return "read"
+
+
+def head(line, token=None, *fields):
+    rows = [line, *([f"Authorization: Bearer {token}"] if token else []), *fields]
+    return "".join(row + "\r\n" for row in rows).encode() + b"\r\n"
+
+
+def examples():
+    """(name, what the machine gives, what the specification gives)"""
+    rules, by = read_policy(POLICY), read_callers(CALLERS)
+    delta, gamma, foxtrot, echo = (by["t-" + firm] for firm in ("delta", "gamma", "foxtrot", "echo"))
+    june, may = "2024-06-01", "2024-05-31"
+    c = file_c()
+    yield "lengths of the files", (len(FILE_A), len(FILE_B)), (543, 1048)
+
+    register = Register()
+    yield "deposit by Gamma", register.deposit(rules, gamma, "N1", june, FILE_A), ("denied", 5)
+    yield "deposit by Echo", register.deposit(rules, echo, "N1", june, FILE_A), ("denied", 0)
+    yield "deposit of A", register.deposit(rules, delta, "N1", june, FILE_A), ("receipt", 1, june)
+    yield "the same again", register.deposit(rules, delta, "N1", "2030-01-01", FILE_A), ("receipt", 1, june)
+    yield "by Foxtrot", register.deposit(rules, foxtrot, "N1", june, FILE_A), ("receipt", 2, june)
+    yield "the greatest body", register.deposit(rules, delta, "N1", june, FILE_A + b" " * 4193761), ("receipt", 3, june)
+    yield "one space more", register.deposit(rules, delta, "N1", june, FILE_A + b" " * 4193762), ("too large",)
+    yield "extract of A", register.extract(rules, echo, "N1", 1, [], june), ("text", FILE_A)
+    yield "the day before", register.extract(rules, echo, "N1", 1, [], may), ("unknown",)
+    yield "its listing", register.list(rules, echo, "N1", may), ("listing", [])
+
+    small = Register(most=1)
+    other = FILE_A.replace(b"BH1", b"BH2")
+    yield "with room for one", [small.deposit(rules, delta, "N1", june, x)[0] for x in (FILE_A, other, FILE_A)], ["receipt", "full", "receipt"]
+
+    register = Register()
+    register.deposit(rules, delta, "N1", june, FILE_B)
+    hidden = without(FILE_B, 33, 40, 47)
+    for_loca = b"".join(lines(FILE_B)[:32])
+    yield "lengths of the extracts", (len(hidden), len(for_loca)), (956, 626)
+    yield "extract of B by Echo", register.extract(rules, echo, "N1", 1, [], june), ("text", hidden)
+    yield "extract of B by Delta", register.extract(rules, delta, "N1", 1, [], june), ("text", FILE_B)
+    yield "with LNMC alone", register.extract(rules, echo, "N1", 1, [b"LNMC"], june), ("text", hidden)
+    yield "with LOCA alone", register.extract(rules, echo, "N1", 1, [b"LOCA"], june), ("text", for_loca)
+    yield "the extract deposited", register.deposit(rules, delta, "N1", june, hidden), ("receipt", 2, june)
+    yield "its extract", register.extract(rules, delta, "N1", 2, [], june), ("text", hidden)
+
+    register = Register()
+    register.deposit(rules, delta, "N1", june, c)
+    yield "extract of C by Echo", register.extract(rules, echo, "N1", 1, [], june), ("text", without(c, 39, 41, 42, 48))
+    yield "extract of C by Delta", register.extract(rules, delta, "N1", 1, [], june), ("text", c)
+
+    spaced = b"\xef\xbb\xbf" + FILE_A.replace(b'"DATA","P7","North bank"', b'"DATA" , "P7","North ""bank"""')[:-2]
+    register = Register()
+    register.deposit(rules, delta, "N1", june, spaced)
+    yield "one spelling", register.extract(rules, delta, "N1", 1, [], june), ("text", FILE_A.replace(b"North bank", b'North ""bank""'))
+
+    register = Register()
+    run = [register.check(rules, echo, "N1", FILE_A)[0], register.check(rules, echo, "N1", b"")[0], register.deposit(rules, delta, "N1", june, FILE_A)[0],
+           register.list(rules, echo, "N1", june)[0], register.extract(rules, echo, "N2", 1, [], june)[0], register.list(rules, echo, "N2", june)[1],
+           len(register.extract(rules, echo, "N1", 1, [b"NONE"], june)[1])]
+    yield "a run", run, ["clean", "findings", "receipt", "listing", "unknown", [], 466]
+
+    q = POLICY
+    for name, text, want in [
+        ("20 then 10", q.replace("number = 5\n", "number = 90\n"), "Order"), ("no effect", '[[rule]]\nnumber = 1\n', "BadValue"),
+        ("colour", '[[rule]]\nnumber = 0\neffect = "permit"\n[[rule]]\ncolour = 1\n', "UnknownKey"), ("not closed", "[[rule", "Syntax"), ("empty", "", "read"),
+        ("one table", "[rule]\ncolour = 1\n", "BadValue"), ("a number", "rule = 3", "BadValue"), ("inline", 'rule = [{number = 1, effect = "permit"}]', "read"),
+    ]:
+        yield f"policy: {name}", refusal(read_policy, text), want
+    twice = CALLERS.replace("t-gamma", "t-delta")
+    yield "a token twice", refusal(read_callers, twice), "DuplicateToken"
+    yield "A as a dictionary", refusal(read_dictionary, FILE_A), "NoDict"
+
+    def ask(register, data, day="2024-05-01"):
+        status, text = serve(register, rules, by, day, data)
+        return status, text.split(b"\r\n\r\n", 1)[-1].decode()
+
+    register = Register()
+    post = "POST /v1/projects/N1/deposits?embargo=2024-06-01 HTTP/1.1"
+    check, listing = "POST /v1/projects/N1/check HTTP/1.1", "GET /v1/projects/N1/deposits{} HTTP/1.1"
+    one = "GET /v1/projects/N1/deposits/{} HTTP/1.1"
+    size = "Content-Length: {}"
+    for name, data, want in [
+        ("nothing", b"", (0, "")), ("no route", head("GET /v1/x HTTP/1.1"), (404, '{"error":"no route"}')),
+        ("method", head("PUT /v1/projects/N1/check HTTP/1.1"), (405, '{"error":"method"}')),
+        ("no length", head(check, "t-echo"), (411, '{"error":"length required"}')),
+        ("too large", head(check, "t-echo", size.format(4194305)), (413, '{"error":"too large"}')),
+        ("short body", head(check, "t-echo", size.format(543)) + FILE_A[:542], (400, '{"error":"short body"}')),
+        ("clean", head(check, "t-echo", size.format(543)) + FILE_A, (200, '{"clean":true}')),
+        ("ten digits", head(check, "t-echo", size.format("0000000543")) + FILE_A + b"more", (200, '{"clean":true}')),
+        ("a sign", head(check, "t-echo", size.format("+543")) + FILE_A, (400, '{"error":"bad length"}')),
+        ("007", head(one.format("007"), "t-echo"), (400, '{"error":"bad parameter"}')),
+        ("cut", b"GET /v1/projects/N1/deposits HTTP/1.1\r\n", (400, '{"error":"bad head"}')),
+        ("by Gamma", head(post, "t-gamma", size.format(543)) + FILE_A, (403, '{"denied":5}')),
+        ("without a caller", head(post, None, size.format(543)) + FILE_A, (401, '{"error":"no caller"}')),
+        ("deposit", head(post, "t-delta", size.format(543)) + FILE_A, (200, '{"embargo":"2024-06-01","number":1}')),
+        ("number 999", head(one.format("999"), "t-echo"), (404, '{"error":"unknown"}')),
+        ("its text", head(one.format("1"), "t-delta"), (200, FILE_A.decode())),
+        ("groups, decoded", head(one.format("1?%67roups=LOCA%2CSAMP"), "t-echo"), (404, '{"error":"unknown"}')),
+        ("a group too many", head(one.format("1?groups=LOCA,"), "t-echo"), (400, '{"error":"bad parameter"}')),
+        ("a slash too many", head(one.format(""), "t-echo"), (404, '{"error":"no route"}')),
+        ("empty pairs", head(listing.format("?&&"), "t-echo"), (200, '{"deposits":[]}')),
+        ("LF alone", head(listing.format(""), "t-echo").replace(b"\r\n", b"\n"), (200, '{"deposits":[]}')),
+        ("HTTP/1.2", head(listing.format(""), "t-echo").replace(b"1.1", b"1.2"), (400, '{"error":"bad head"}')),
+        ("33 fields", head(listing.format(""), "t-echo", *["X: 1"] * 32), (400, '{"error":"bad head"}')),
+        ("a name with a quote", head(check, "t-echo", size.format(544)) + FILE_A.replace(b'"GROUP","LOCA"', b'"GROUP","l""\x01\\"'),
+         (422, '{"findings":[{"code":"19","line":26,"subject":"l\\"?\\\\"}]}')),
+    ]:
+        got = ask(register, data)
+        yield f"connection: {name}", got, want
+    status, text = serve(Register(), rules, by, "2024-05-01", head(post, "t-delta", size.format(543)) + FILE_A)
+    yield "a whole reply", text, (b'HTTP/1.1 200 OK\r\nContent-Type: application/json\r\nContent-Length: 35\r\nConnection: close\r\n\r\n'
+                                  b'{"embargo":"2024-06-01","number":1}')
+
+
+def runs():
+    """The same of the command line."""
+    computer, today = Computer(), "2024-05-01"
+    mini = b"".join([line_of(b"GROUP", [b"DICT"]), line_of(b"HEADING", [b"DICT_TYPE", b"DICT_GRP", b"DICT_HDNG", b"DICT_STAT", b"DICT_PGRP"]),
+                     line_of(b"UNIT", [b""] * 5), line_of(b"TYPE", [b"X"] * 5)]
+                    + [line_of(b"DATA", [b"GROUP", e[1], b"", b"", e[2]] if e[0] == "G" else [b"HEADING", e[1], e[2], e[3], b""]) for e in reference.built_in()])
+    computer.files = {"mini": mini, "a": FILE_A, "q": POLICY.encode(), "c": CALLERS.encode(), "empty": b"", "junk": b"junk"}
+    with_token = ["--store", "s", "--policy", "q", "--callers", "c", "--project", "N1", "--token"]
+    deposit = ["deposit", "a", "--day", today, "--embargo", "2024-06-01", *with_token]
+    for words, want in [
+        ([], (b"2 0 -\n", b"", 1)), (["init", "--store", "s", "--dictionary", "a"], (b"", b"groundreg: dictionary refused\n", 4)),
+        (["init", "--store", "s", "--dictionary", "mini"], (b"created\n", b"", 0)), (["init", "--store=s", "--dictionary=mini"], (b"", b"groundreg: store not empty\n", 4)),
+        ([*deposit, "t-delta"], (b"receipt 1 2024-06-01\n", b"", 0)), ([*deposit, "t-gamma"], (b"denied 5\n", b"", 2)),
+        (["list", "--day", today, *with_token, "t-delta"], (b"1 Delta 2024-06-01\n", b"", 0)),
+        (["extract", "1", "--day", "2024-05-31", *with_token, "t-echo"], (b"unknown\n", b"", 3)),
+        (["extract", "1", "--day", "2024-06-01", *with_token, "t-echo"], (FILE_A, b"", 0)),
+        (["list", "--project", "N 1", *with_token[:6], "--token", "t-delta"], (b"", b"groundreg: project refused\n", 4)),
+        (["withdraw"], (b"", b"groundreg: words refused\n", 4)), (["check", "--dictionary", "mini", "a"], (b"clean\n", b"", 0)),
+        (["check", "--dictionary", "mini", "none"], (b"", b"groundreg: cannot read none\n", 6)),
+        (["list", *["empty" if word == "s" else word for word in with_token], "t-delta"], (b"", b"groundreg: not a register\n", 4)),
+    ]:
+        yield " ".join(words), computer.run(words, today), want
+
+
+def main():
+    passed = failed = 0
+    for name, got, want in [*examples(), *runs()]:
+        if got == want:
+            passed += 1
+        else:
+            failed += 1
+            print(f"{name}: {got!r}\n  wanted {want!r}")
+    print(f"{passed} passed, {failed} failed")
+    return failed > 0
+
+
+if __name__ == "__main__":
+    sys.exit(main())
