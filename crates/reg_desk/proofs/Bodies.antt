@@ -10,13 +10,12 @@ use Rattle.reg_policy.specs.declared.callers.Caller.{Caller}
 use Rattle.reg_policy.specs.declared.subject.Decision.{Decision}
 use Rattle.reg_policy.specs.declared.subject.Decision.TheVariants.{Permit, Deny}
 use Rattle.reg_policy.specs.declared.subject.Verb.TheVariants as verbs
-use Rattle.reg_store.specs.Deposit.{Deposit}
 use Rattle.reg_store.specs.declared.keep.Keep.{Ghosts}
 use Rattle.reg_desk.specs.Asked.{Asked, check}
 use Rattle.reg_desk.specs.declared.answer.Answer.{Answer}
 use Rattle.reg_desk.specs.declared.answer.Answer.TheVariants.{Receipt, Clean, Findings, Listing, Text, Denied, Unknown, TooLarge, Full, NoMemory, StoreFailed}
 use Rattle.reg_desk.specs.Machine.{Register, decided, Where, OrDenied, OrFound, OrRefused, IsReply, IsNext}
-use Rattle.reg_desk.specs.Serving.{IsFree, NeedsMemory, IsRefusal, register_at, Serves}
+use Rattle.reg_desk.specs.Serving.{IsFree, IsRefusal, register_at, Serves}
 use Rattle.reg_desk.proofs.Serves.{replies_at_once, memory_at_once, permitted_reply, denied_reply, permit_stands}
 
 pub where_true : (t : Bool) (A B : Type 0) → t ≡ true → A → Where t A B

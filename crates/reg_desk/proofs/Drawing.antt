@@ -21,8 +21,7 @@ use Rattle.reg_store.specs.declared.keep.KeepError.{KeepError}
 use Rattle.reg_store.specs.declared.keep.KeepError.TheVariants as errors
 use Rattle.reg_store.specs.declared.keep.KeptHead.{KeptHead}
 use Rattle.reg_store.specs.declared.keep.KeptRow.{KeptRow}
-use Rattle.reg_desk.specs.Asked.{Asked, extract}
-use Rattle.reg_desk.specs.declared.answer.Listed.{Listed}
+use Rattle.reg_desk.specs.Asked.{extract}
 use Rattle.reg_desk.specs.declared.answer.Answer.{Answer}
 use Rattle.reg_desk.specs.declared.answer.Answer.TheVariants.{Text, Denied, Unknown}
 use Rattle.reg_desk.specs.Shown.{Look, IsProjectShown}

@@ -1,5 +1,5 @@
 -- The texts that a desk answers: clean files, and the same bytes where an extract is drawn again.
-use Rattle.std.proofs.Common.{◌≡◌, ℕ, ◌+◌, Bool, true, false, List, [], ◌∷◌, Option, Some, None, cond, refl, sym, subst, ◌∙◌}
+use Rattle.std.proofs.Common.{◌≡◌, ℕ, ◌+◌, Bool, true, false, List, [], ◌∷◌, Option, Some, None, cond}
 use Rattle.std.specs.Prelude.{ℤ, nat_lt, length}
 use Rattle.std.proofs.Math.Logic.{∥∥₁_map, ∥∥₁_elim}
 use Rattle.std.proofs.Props.{props}
@@ -7,7 +7,6 @@ use Rattle.ags_rows.specs.declared.finding.Finding.{Finding}
 use Rattle.ags_rows.specs.declared.TheConstants.{LIMIT}
 use Rattle.ags_check.specs.Findings.{Findings as AreFindings}
 use Rattle.reg_policy.specs.declared.rule.Rule.{Rule}
-use Rattle.reg_policy.specs.declared.callers.Caller.{Caller}
 use Rattle.reg_policy.specs.declared.subject.Decision.{Decision}
 use Rattle.reg_policy.specs.declared.subject.Decision.TheVariants.{Permit, Deny}
 use Rattle.reg_policy.specs.declared.subject.Verb.TheVariants as verbs
@@ -17,7 +16,7 @@ use Rattle.reg_desk.specs.Asked.{Asked, deposit, check, listing, extract}
 use Rattle.reg_desk.specs.declared.answer.Listed.{Listed}
 use Rattle.reg_desk.specs.declared.answer.Answer.{Answer}
 use Rattle.reg_desk.specs.declared.answer.Answer.TheVariants.{Receipt, Clean, Findings, Listing, Text, Denied, Unknown, TooLarge, Full, NoMemory, StoreFailed}
-use Rattle.reg_desk.specs.Machine.{Register, decided, Where, OrDenied, OrFound, OrRefused, first_equal, receipt_of, IsListing, IsReply, held}
+use Rattle.reg_desk.specs.Machine.{Register, decided, Where, OrDenied, OrFound, OrRefused, first_equal, receipt_of, IsListing, IsReply}
 use Rattle.reg_desk.specs.Serving.{IsAnswer, register_at, Serves}
 use Rattle.reg_desk.specs.Desks.{IsCleanText, IsSameText, IsSameAnswer}
 use Rattle.reg_desk.proofs.Runs.{texts_clean, extract_again}

@@ -1,7 +1,7 @@
 -- A deposit: taken once, with a receipt.
 use Rattle.std.proofs.Common.{◌≡◌, ◌≢◌, ℕ, ◌+◌, ◌-◌, ◌<◌, ◌≤◌, Bool, true, false, cond, Option, Some, None, Ok, Err, List, [], ◌∷◌, ◌++◌, refl, sym, ap, subst, ◌∙◌, inl, inr, ◌⊎◌, arith, length-append}
 use Rattle.std.specs.Prelude.{ℤ, nat_lt, length, slice_get, Result}
-use Rattle.std.proofs.lemmas.Bool.{true≢false, cases_Bool, ltb-true, lt-ltb}
+use Rattle.std.proofs.lemmas.Bool.{cases_Bool, ltb-true, lt-ltb}
 use Rattle.std.proofs.lemmas.Option.{slice_get_within}
 use Rattle.ags_rows.specs.declared.TheConstants.{LIMIT}
 use Rattle.ags_check.specs.Findings.{Findings as AreFindings}
@@ -10,15 +10,15 @@ use Rattle.reg_policy.specs.declared.callers.Caller.{Caller}
 use Rattle.reg_policy.specs.declared.subject.Decision.TheVariants.{Permit, Deny}
 use Rattle.reg_policy.specs.declared.subject.Verb.TheVariants as verbs
 use Rattle.reg_store.specs.Deposit.{Deposit, number_of}
-use Rattle.reg_store.specs.Keep.{is_store, fails, Adds, IsHeadOf}
+use Rattle.reg_store.specs.Keep.{is_store, Adds, IsHeadOf}
 use Rattle.reg_store.specs.declared.keep.Keep.{Ghosts}
 use Rattle.reg_store.specs.declared.keep.KeepError.{KeepError}
 use Rattle.reg_store.specs.declared.keep.KeptHead.{KeptHead}
 use Rattle.reg_store.specs.declared.keep.KeepError.TheVariants as errors
-use Rattle.reg_desk.specs.Asked.{Asked, deposit}
+use Rattle.reg_desk.specs.Asked.{deposit}
 use Rattle.reg_desk.specs.declared.answer.Answer.{Answer}
-use Rattle.reg_desk.specs.declared.answer.Answer.TheVariants.{Receipt, Clean, Findings, Listing, Text, Denied, Unknown, TooLarge, Full, NoMemory, StoreFailed}
-use Rattle.reg_desk.specs.Machine.{Register, decided, OrDenied, OrRefused, first_equal, receipt_of, IsReply, IsTaken, IsNext}
+use Rattle.reg_desk.specs.declared.answer.Answer.TheVariants.{Receipt, Denied, TooLarge, Full, NoMemory, StoreFailed}
+use Rattle.reg_desk.specs.Machine.{Register, decided, OrRefused, first_equal, receipt_of, IsReply, IsTaken, IsNext}
 use Rattle.reg_desk.specs.Serving.{IsQuiet, IsFree, AsksStore, IsRefusal, AddsAsked, register_at, OnlyReads, Serves, answer_of}
 use Rattle.reg_desk.proofs.Replies.{reply_same, finds_itself}
 use Rattle.reg_desk.proofs.Firsts.{first_none, first_some}

@@ -1,12 +1,12 @@
 -- What a desk answers to a list of requests, and what a crash may leave after it.
-use Rattle.std.specs.Prelude.{◌≡◌, ◌⊎◌, List, [], ◌∷◌, Bool, true, false, Option, Some, None, if◌then◌else◌, map}
+use Rattle.std.specs.Prelude.{◌≡◌, ◌⊎◌, List, [], ◌∷◌, Option, Some, None, if◌then◌else◌}
 use Rattle.reg_policy.specs.declared.rule.Rule.{Rule}
 use Rattle.reg_store.specs.Deposit.{Deposit}
 use Rattle.reg_store.specs.declared.keep.Keep.{Ghosts}
 use Rattle.reg_desk.specs.declared.answer.Answer.{Answer}
-use Rattle.reg_desk.specs.declared.answer.Answer.TheVariants.{StoreFailed}
-use Rattle.reg_desk.specs.Asked.{Asked}
-use Rattle.reg_desk.specs.Machine.{Register, Where}
+use Rattle.reg_desk.specs.declared.answer.Answer.TheVariants.{Receipt, StoreFailed}
+use Rattle.reg_desk.specs.Asked.{Asked, deposit}
+use Rattle.reg_desk.specs.Machine.{Register, Where, held}
 use Rattle.reg_desk.specs.Serving.{is_failed, IsAnswer, IsAfter, AddsAsked, register_at}
 
 -- one StoreFailed for each request
@@ -37,6 +37,11 @@ failing (request ∷ requests) (answer ∷ answers) = if is_failed answer then S
 abbrev pub IsLeft : Option Asked → List Deposit → List Deposit → Type 0
 IsLeft None state list = list ≡ state
 IsLeft (Some request) state list = (list ≡ state) ⊎ AddsAsked request state list
+
+-- a deposit that was answered by a receipt is held under its number, with the embargo that the receipt shows
+abbrev pub IsHeldIn : List Deposit → Asked → Answer → Type 0
+IsHeldIn list (deposit caller project embargo bytes day) (Receipt n until) = held n list ≡ Some (record { firm = caller.firm; project = project; embargo = until; bytes = bytes })
+IsHeldIn list _ _ = Unit {0}
 
 -- The answers of a keep that works at the start, its list at the end where none of them is StoreFailed, and what a crash leaves then.
 pub record Runs {K : Type 0} (keep : Ghosts K) (rules : List Rule) (old new : K) (requests : List Asked) (answers : List Answer) : Type 0 where

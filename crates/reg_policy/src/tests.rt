@@ -215,62 +215,25 @@ impl Asker {
 
 #[test]
 fn requests_decided(rt: HostRuntime) -> Result<(), Fail> {
-    let contractor = "contractor";
-    let consultant = "consultant";
-    for (policy, firm, role, verb, want) in [
-        (
-            vectors::POLICY,
-            "Gamma",
-            contractor,
-            Verb::Deposit,
-            Decision::Deny(5),
-        ),
-        (
-            vectors::POLICY,
-            "Delta",
-            contractor,
-            Verb::Deposit,
-            Decision::Permit(10),
-        ),
-        (
-            vectors::POLICY,
-            "Echo",
-            consultant,
-            Verb::Deposit,
-            Decision::Deny(0),
-        ),
-        (
-            vectors::POLICY,
-            "Echo",
-            consultant,
-            Verb::Check,
-            Decision::Permit(20),
-        ),
-        (
-            vectors::POLICY,
-            "Echo",
-            consultant,
-            Verb::List,
-            Decision::Permit(30),
-        ),
-        (
-            vectors::POLICY,
-            "Echo",
-            consultant,
-            Verb::Extract,
-            Decision::Permit(40),
-        ),
-        ("", "Delta", contractor, Verb::Deposit, Decision::Deny(0)),
-        (
-            "rule = []\n",
-            "Delta",
-            contractor,
-            Verb::Deposit,
-            Decision::Deny(0),
-        ),
+    for (firm, role, verb, want) in [
+        ("Gamma", "contractor", Verb::Deposit, Decision::Deny(5)),
+        ("Delta", "contractor", Verb::Deposit, Decision::Permit(10)),
+        ("Echo", "consultant", Verb::Deposit, Decision::Deny(0)),
+        ("Echo", "consultant", Verb::Check, Decision::Permit(20)),
+        ("Echo", "consultant", Verb::List, Decision::Permit(30)),
+        ("Echo", "consultant", Verb::Extract, Decision::Permit(40)),
     ] {
-        let asker = Asker::new(rt.alloc(), policy, firm, role)?;
+        let asker = Asker::new(rt.alloc(), vectors::POLICY, firm, role)?;
         assert_eq!(rt; asker.ask(verb), want, "{firm}");
+    }
+    Ok(())
+}
+
+#[test]
+fn no_rules_permit_nothing(rt: HostRuntime) -> Result<(), Fail> {
+    for policy in ["", "rule = []\n"] {
+        let asker = Asker::new(rt.alloc(), policy, "Delta", "contractor")?;
+        assert_eq!(rt; asker.ask(Verb::Deposit), Decision::Deny(0));
     }
     Ok(())
 }

@@ -1,10 +1,11 @@
 //! One request, and a list of them.
 
-ghost use Rattle.std.specs.Prelude.{◌≡◌, ◌||◌, true, false, length, map, IfOk, OnErr};
-ghost use Rattle.std.specs.List.{list_any};
+ghost use Rattle.std.specs.Prelude.{◌≡◌, ◌||◌, List, true, false, length, map, IfOk, OnErr};
+ghost use Rattle.std.specs.List.{AllZip, list_any};
+ghost use Rattle.reg_store.specs.Deposit.{Deposit};
 ghost use Rattle.reg_desk.specs.Asked.{asked};
 ghost use Rattle.reg_desk.specs.Serving.{is_failed};
-ghost use Rattle.reg_desk.specs.Running.{AreFailed, Runs};
+ghost use Rattle.reg_desk.specs.Running.{AreFailed, IsHeldIn, Runs};
 ghost use Rattle.reg_desk.specs.Desks.{AnsweredBy, IsCleanText, IsSameAnswer};
 
 use crate::answer::Answer;
@@ -44,6 +45,7 @@ impl<K: Keep> Desk<K> {
         ensures failed { IfOk result (λ answers. self.new.failed ≡ (self.old.failed || list_any is_failed answers.items)) }
         ensures stuck { self.old.failed ≡ true → IfOk result (λ answers. AreFailed (map asked requests.entry.now) answers.items × (self.new.keep ≡ self.old.keep)) }
         ensures runs { K.is_sound self.new.keep → self.old.failed ≡ false → IfOk result (λ answers. ∥ Runs K.Keep self.old.policy self.old.keep self.new.keep (map asked requests.entry.now) answers.items ∥₁) }
+        ensures receipts { K.is_sound self.new.keep → self.old.failed ≡ false → IfOk result (λ answers. (list : List Deposit) → K.may_leave self.new.keep list → ∥ AllZip (IsHeldIn list) (map asked requests.entry.now) answers.items ∥₁) }
     {
         let mut answers = Vec::with_capacity(alloc, requests.len())?;
         for request in requests {

@@ -1,4 +1,4 @@
-use Rattle.std.proofs.Common.{◌≡◌, ◌∙◌, sym, refl, true, false}
+use Rattle.std.proofs.Common.{◌∙◌, sym, refl}
 use Rattle.std.proofs.lemmas.Bool.{true≢false}
 use Rattle.reg_desk.specs.Asked.{asked}
 use Rattle.reg_desk.proofs.Drawn.{clean_text, same_answer}

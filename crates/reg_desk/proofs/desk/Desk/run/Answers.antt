@@ -1,11 +1,13 @@
-use Rattle.std.proofs.Common.{◌≡◌, ◌∙◌, sym, ap, subst, refl, true, false, ℕ, ◌+◌, ◌<◌, ◌≤◌, List, [], ◌∷◌, ◌++◌, length, map, take, get_or, suc, arith}
+use Rattle.std.proofs.Common.{◌≡◌, ◌∙◌, sym, ap, subst, refl, ℕ, ◌+◌, List, [], ◌∷◌, ◌++◌, map, take, suc, arith}
 use Rattle.reg_policy.specs.declared.rule.Rule.{Rule}
 use Rattle.reg_desk.specs.Asked.{Asked, asked}
 use Rattle.reg_desk.specs.declared.request.Request.{Request}
-use Rattle.reg_desk.specs.declared.answer.Answer.{Answer}
-use Rattle.reg_desk.specs.Running.{AreFailed, Runs}
+use Rattle.std.specs.List.{AllZip}
+use Rattle.std.proofs.Math.Logic.{∥∥₁_map}
+use Rattle.reg_desk.specs.Running.{AreFailed, IsHeldIn, Runs}
 use Rattle.reg_desk.specs.Serving.{Serves}
 use Rattle.reg_desk.proofs.Running.{Going, run_begins, run_more, asked_more, take_whole}
+use Rattle.reg_desk.proofs.Lasting.{receipts_last}
 use Rattle.reg_desk.proofs.desk.Desk.run.Goals as goal
 
 pub loop-request-init : goal.loop-request-init
@@ -65,3 +67,11 @@ returns-clause-runs g c = λ s e.
     let desk = c.args.self.now in
     subst (λ (l : List Request). ∥ Runs g.K.Keep desk.policy desk.keep c.loop-request.self.keep (map asked l) c.loop-request.answers.items ∥₁)
     (take_whole c.args.requests.now c.loop-request.request-index c.loop-request-test.false) (c.loop-request.invariant.going.runs s e)
+
+pub returns-clause-receipts : goal.returns-clause-receipts
+returns-clause-receipts g c = λ s e list may.
+    let desk = c.args.self.now in
+    subst (λ (l : List Request). ∥ AllZip (IsHeldIn list) (map asked l) c.loop-request.answers.items ∥₁)
+    (take_whole c.args.requests.now c.loop-request.request-index c.loop-request-test.false)
+    (∥∥₁_map (c.loop-request.invariant.going.runs s e) (λ (runs : Runs g.K.Keep desk.policy desk.keep c.loop-request.self.keep (map asked (take c.loop-request.request-index c.args.requests.now)) c.loop-request.answers.items).
+    receipts_last g.K.Keep desk.policy desk.keep c.loop-request.self.keep (map asked (take c.loop-request.request-index c.args.requests.now)) c.loop-request.answers.items runs list may))

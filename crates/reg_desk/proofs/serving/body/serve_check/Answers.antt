@@ -1,4 +1,4 @@
-use Rattle.std.proofs.Common.{◌∙◌, sym, subst, List, [], ℕ}
+use Rattle.std.proofs.Common.{◌∙◌, sym, subst, []}
 use Rattle.ags_dict.specs.Entries.{Entries}
 use Rattle.ags_check.specs.Findings.{Findings as AreFindings}
 use Rattle.reg_desk.specs.Serving.{IsRefusal}

@@ -1,13 +1,11 @@
-use Rattle.std.proofs.Common.{◌≡◌, ◌∙◌, sym, ap, subst, List, [], ℕ, ◌<◌, ◌≤◌, length, arith, Some, None, Option, Ok, Err, false, refl, ◌-◌}
+use Rattle.std.proofs.Common.{◌≡◌, ◌∙◌, sym, ap, subst, List, [], ℕ, ◌<◌, ◌≤◌, length, arith, Ok, Err, refl, ◌-◌}
 use Rattle.std.specs.Prelude.{slice_get}
 use Rattle.ags_dict.specs.Entries.{Entries}
 use Rattle.ags_check.specs.Findings.{Findings as AreFindings}
 use Rattle.reg_store.specs.Deposit.{Deposit, number_of}
 use Rattle.reg_desk.specs.Asked.{deposit}
-use Rattle.reg_desk.specs.declared.answer.Answer.{Answer}
-use Rattle.reg_desk.specs.Serving.{IsRefusal, OnlyReads, Serves, answer_of, register_at}
-use Rattle.reg_desk.proofs.Serves.{reads_once, reads_more, still_works}
-use Rattle.reg_desk.proofs.Firsts.{IsFirst, first_some}
+use Rattle.reg_desk.specs.Serving.{IsRefusal, Serves, register_at}
+use Rattle.reg_desk.proofs.Serves.{reads_once, reads_more}
 use Rattle.reg_desk.proofs.Taking.{IsFine, Appends, asked_deposit, first_found, found_within, deposit_denied, deposit_refused, deposit_unread, deposit_repeats, deposit_added, deposit_unadded}
 use Rattle.reg_desk.proofs.serving.deposit.serve_deposit.Goals as goal
 

@@ -1,15 +1,12 @@
-use Rattle.std.proofs.Common.{◌≡◌, ◌∙◌, sym, ap, subst, List, ℕ, Err, refl, inl, inr, ◌<◌, ◌≤◌, length, arith, Option, Vec, Global}
+use Rattle.std.proofs.Common.{◌∙◌, sym, subst, ℕ, inl, inr, arith, Option, Vec, Global}
 use Rattle.std.specs.Prelude.{option_map}
-use Rattle.std.specs.Str.{bytes_eq}
 use Rattle.std.proofs.lemmas.Result.{IfOk-weaker}
-use Rattle.ags_check.specs.Findings.{CheckedFile}
 use Rattle.reg_store.specs.Keep.{fails}
 use Rattle.reg_desk.specs.Asked.{names_in}
 use Rattle.ags_check.specs.Findings.{file_of}
-use Rattle.reg_desk.specs.Machine.{IsDrawnFrom, held}
 use Rattle.reg_desk.specs.Shown.{Look}
-use Rattle.reg_desk.specs.View.{IsViewOf, IsExtractOf}
-use Rattle.reg_desk.specs.Serving.{OnlyReads, register_at, text_answer}
+use Rattle.reg_desk.specs.View.{IsExtractOf}
+use Rattle.reg_desk.specs.Serving.{register_at}
 use Rattle.reg_desk.proofs.Serves.{reads_once, reads_more}
 use Rattle.reg_desk.proofs.Drawing.{viewed, reading_lives, reads_answered, view_drawn, unheld_drawn}
 use Rattle.reg_desk.proofs.serving.drawing.draw.Goals as goal

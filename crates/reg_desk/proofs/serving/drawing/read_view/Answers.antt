@@ -1,9 +1,8 @@
-use Rattle.std.proofs.Common.{◌≡◌, ◌∙◌, sym, ap, subst, refl, List, ◌-◌, Some}
+use Rattle.std.proofs.Common.{◌∙◌, sym, ap, subst, refl, List, ◌-◌}
 use Rattle.std.specs.Prelude.{slice_get}
 use Rattle.ags_dict.specs.Entries.{Entries}
 use Rattle.reg_store.specs.Deposit.{Deposit}
 use Rattle.reg_store.specs.Fit.{IsFileOf}
-use Rattle.reg_desk.specs.View.{IsViewOf}
 use Rattle.reg_desk.proofs.serving.drawing.read_view.Goals as goal
 
 pub returns-clause-seen : goal.returns-clause-seen

@@ -1,4 +1,4 @@
-use Rattle.std.proofs.Common.{◌≡◌, ◌∙◌, sym, ap, subst, List, ℕ, Err, refl}
+use Rattle.std.proofs.Common.{◌∙◌, sym, ap, subst, List, ℕ, Err, refl}
 use Rattle.reg_desk.specs.Asked.{extract, names_in}
 use Rattle.reg_desk.specs.declared.answer.Answer.TheVariants.{Unknown, Text}
 use Rattle.reg_desk.specs.Serving.{Serves}

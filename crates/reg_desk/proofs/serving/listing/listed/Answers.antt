@@ -1,7 +1,6 @@
-use Rattle.std.proofs.Common.{◌≡◌, ◌∙◌, sym, ap, subst, List, ℕ, Err, refl, true, false, Bool}
+use Rattle.std.proofs.Common.{◌≡◌, ◌∙◌, ap, subst, Err, true}
 use Rattle.std.specs.Prelude.{◌↔◌}
 use Rattle.std.proofs.lemmas.Result.{err_from_is_err_and}
-use Rattle.ags_check.specs.Findings.{CheckedFile}
 use Rattle.reg_store.specs.Keep.{fails, is_store}
 use Rattle.ags_check.specs.Findings.{file_of}
 use Rattle.reg_desk.specs.Shown.{Look, IsProjectShown}

@@ -1,4 +1,4 @@
-use Rattle.std.proofs.Common.{◌≡◌, ◌∙◌, sym, ap, subst, List, ℕ, Err, refl}
+use Rattle.std.proofs.Common.{◌∙◌, sym, ap, subst, List, Err}
 use Rattle.reg_desk.specs.Asked.{listing}
 use Rattle.reg_desk.specs.declared.answer.Listed.{Listed}
 use Rattle.reg_desk.specs.declared.answer.Answer.TheVariants.{Listing}
