@@ -71,10 +71,13 @@ body_tests (Ok is) db dictionary n d file its lines steps lines_are steps_are te
   where
     Lines : List KeptRow → Type 0
     Lines all = IsPermutation (place_rows 0 all) (rows_of n (line_table db.trees))
+
     Steps : List (ℕ × ℕ) → Type 0
     Steps all = IsPermutation (map step_pair all) (rows_of n (step_table db.trees))
+
     there : Lines lines × Steps steps → HoldsBody db dictionary n d
     there both = (file, its, record { lines = subst Lines lines_are both.0; steps = subst Steps steps_are both.1 })
+
     back : HoldsBody db dictionary n d → Lines lines × Steps steps
     back held =
         let one : held.0 ≡ file = one_clean_file held.0 file held.1.clean its.clean (held.1.given ∙ sym its.given) (held.1.bytes ∙ sym its.bytes) in
@@ -91,8 +94,10 @@ whole_tests (Ok is) db mid dictionary n d rows same found read named test = test
   where
     row : filter (has_number n) (deposit_table db.trees) ≡ given_deposit n d ∷ []
     row = one_permutation (given_deposit n d) _ (subst (λ all. IsPermutation all (filter (has_number n) (deposit_table db.trees))) read found)
+
     there : HoldsBody db dictionary n d × IsAlone db d → IsWhole db dictionary n
     there both = record { deposit = d; row = row; named = named; body = both.0; alone = both.1 }
+
     back : IsWhole db dictionary n → HoldsBody db dictionary n d × IsAlone db d
     back w =
         let one : w.deposit ≡ d = ap (λ (all : List Row). of_row (get_or all 0 [])) (sym w.row ∙ row) in
@@ -149,10 +154,12 @@ pub meta_reads : (r : Result Entries AdoptError) (rows : List Row) (text : List 
     → IfOk r (λ dictionary. (length text ≤ READABLE) × IsDictionary text dictionary) → (r ≡ Err NotRegister → (dictionary : Entries) → length text ≤ READABLE → IsDictionary text dictionary → ⊥)
     → IfErr r (λ e. (e ≡ NotRegister) ⊎ (e ≡ NoMemory)) → ReadsMeta rows r
 meta_reads (Ok dictionary) rows text same formats read refused named = (text, same, read.0, read.1)
-meta_reads (Err NotRegister) rows text same formats read refused named =
-    (λ n has. formats n has.0 has.1 has.2, λ dictionary reads.
+meta_reads (Err NotRegister) rows text same formats read refused named = (
+  λ n has. formats n has.0 has.1 has.2,
+  λ dictionary reads.
       (let one = one_text rows text reads.0 same reads.1 in
-      refused refl dictionary (subst (λ (t : List ℕ). length t ≤ READABLE) one reads.2) (subst (λ (t : List ℕ). IsDictionary t dictionary) one reads.3)))
+      refused refl dictionary (subst (λ (t : List ℕ). length t ≤ READABLE) one reads.2) (subst (λ (t : List ℕ). IsDictionary t dictionary) one reads.3)),
+)
 meta_reads (Err (Version n)) rows text same formats read refused (inl e) = absurd cc
 meta_reads (Err (Version n)) rows text same formats read refused (inr e) = absurd cc
 meta_reads (Err Store) rows text same formats read refused (inl e) = absurd cc
@@ -190,6 +197,7 @@ meta_adopts (Err x) db e same meta = go e (subst (λ (y : AdoptError). MetaOf db
   where
     is : x ≡ e
     is = cc
+
     go : (y : AdoptError) → MetaOf db (Err y) → Adopts db (Err y)
     go (Version n) m = m
     go NotRegister m = (m.0, λ dictionary list r. m.1 dictionary (register_meta db dictionary list r))

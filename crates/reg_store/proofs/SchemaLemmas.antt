@@ -162,7 +162,6 @@ meta_columns (a ∷ b ∷ []) h = absurd cc
 meta_columns (a ∷ b ∷ c ∷ []) h = let e = both _ _ h in let f = both _ _ e.1 in let p = texts a (codes "name") e.0 in let q = integers b (codes "num") f.0 in let r = blobs c (codes "body") f.1 in λ i. p i ∷ q i ∷ r i ∷ []
 meta_columns (a ∷ b ∷ c ∷ d ∷ cs) h = absurd cc
 
-
 deposit_columns : (cs : List Column) → has_deposit_columns cs ≡ true → cs ≡ tables.deposits.columns
 deposit_columns [] h = absurd cc
 deposit_columns (a ∷ []) h = absurd cc

@@ -46,7 +46,7 @@ quiet_then a b c failed one two = record {
   idle = two.idle;
   is_open = λ clean well. two.is_open clean well ∙ one.is_open (clean_before b c two.survives clean) refl;
   same = λ clean well.
-    (let early = clean_before b c two.survives clean in let first = one.same early refl in let next = two.same clean well in (next.0 ∙ first.0, next.1 ∙ first.1));
+      (let early = clean_before b c two.survives clean in let first = one.same early refl in let next = two.same clean well in (next.0 ∙ first.0, next.1 ∙ first.1));
   survives = survives_then a b c _ _ (λ _. ⊥) (λ _ db none. none) (λ _ db none. none) one.survives two.survives;
 }
 
@@ -55,5 +55,5 @@ idle_then a b idle quiet = record {
   idle = quiet.idle;
   schema = λ clean. ap (λ (db : Database). db.schema) (quiet.same clean refl).0 ∙ idle.schema (clean_before a b quiet.survives clean);
   settled = λ clean is_open.
-    (let same = quiet.same clean refl in same.1 ∙ idle.settled (clean_before a b quiet.survives clean) (subst IsTrue (quiet.is_open clean refl) is_open) ∙ sym same.0);
+      (let same = quiet.same clean refl in same.1 ∙ idle.settled (clean_before a b quiet.survives clean) (subst IsTrue (quiet.is_open clean refl) is_open) ∙ sym same.0);
 }

@@ -91,10 +91,14 @@ whole_at db dictionary list r k low =
       deposit = d;
       row = row_of (k + 1) list (deposit_table db.trees) d (omega arith) r.deposits at;
       named = named_at list k d r.named found.1;
-      body = (it.0, it.2, record {
-        lines = subst (λ o. IsPermutation (lines_of o) (rows_of (k + 1) (line_table db.trees))) it.1 (r.lines k);
-        steps = subst (λ o. IsPermutation (steps_of o) (rows_of (k + 1) (step_table db.trees))) it.1 (r.steps k);
-      });
+      body = (
+        it.0,
+        it.2,
+        record {
+          lines = subst (λ o. IsPermutation (lines_of o) (rows_of (k + 1) (line_table db.trees))) it.1 (r.lines k);
+          steps = subst (λ o. IsPermutation (steps_of o) (rows_of (k + 1) (step_table db.trees))) it.1 (r.steps k);
+        },
+      );
       alone = subst (λ (n : ℕ). n ≤ 1) (sym many) few;
     }
   where
@@ -135,6 +139,7 @@ of_all P (suc count) each = both (each 0 (omega arith)) (of_all (λ k. P (suc k)
     join : P 0 → ((k : ℕ) → k < count → P (suc k)) → (k : ℕ) → k < suc count → P k
     join first rest zero low = first
     join first rest (suc k) low = rest k (omega (arith, low))
+
     both : ∥ P 0 ∥₁ → ∥ ((k : ℕ) → k < count → P (suc k)) ∥₁ → ∥ ((k : ℕ) → k < suc count → P k) ∥₁
     both first rest = ∥∥₁_elim first (Prim.hlevel props) (λ one. ∥∥₁_map rest (λ more. join one more))
 
@@ -143,23 +148,31 @@ adopts_whole db dictionary count schema sound meta counts all = (list, adopts db
   where
     P : ℕ → Type 0
     P k = IsWhole db dictionary (k + 1)
+
     list : List Deposit
     list = list_of P (λ k p. p.deposit) count all
+
     files : List CheckedFile
     files = list_of P (λ k p. p.body.0) count all
+
     long : length list ≡ count
     long = list_long P (λ k p. p.deposit) count all
+
     table : List Row
     table = deposit_table db.trees
+
     numbers : IsPermutation (number_rows 1 (length list)) (map id_of table)
     numbers = subst (λ n. IsPermutation (number_rows 1 n) (map id_of table)) (sym long) counts.1
+
     rows : (k : ℕ) (d : Deposit) → slice_get list k ≡ Some d → filter (has_number (1 + k)) table ≡ given_deposit (1 + k) d ∷ []
     rows k d at =
         let it = list_at P (λ k p. p.deposit) count all k d at in
         let e : k + 1 ≡ 1 + k = omega arith in
         subst₂ (λ (n : ℕ) (x : Deposit). filter (has_number n) table ≡ given_deposit n x ∷ []) e it.1 it.0.row
+
     are : IsPermutation (deposit_rows 1 list) table
     are = by_numbers 1 list table numbers rows
+
     once : (k : ℕ) (d : Deposit) → slice_get list k ≡ Some d → length (repeats_from 1 d.firm d.project d.bytes list) ≤ 1
     once k d at =
         let it = list_at P (λ k p. p.deposit) count all k d at in
@@ -167,6 +180,7 @@ adopts_whole db dictionary count schema sound meta counts all = (list, adopts db
         let same = IsPermutation-filter (is_equal d.firm d.project d.bytes) _ _ are in
         let many : length (repeats_from 1 d.firm d.project d.bytes list) ≡ length (filter (is_equal d.firm d.project d.bytes) table) = sym (repeats_long 1 d.firm d.project d.bytes list) ∙ sym (length_permutation _ _ same) in
         subst (λ (n : ℕ). n ≤ 1) (sym many) alone
+
     read : IsRead db dictionary list
     read = record {
       schema = schema;

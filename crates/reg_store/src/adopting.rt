@@ -70,13 +70,7 @@ fn other_in(row: &Row) -> Option<i64>
     ensures none { result ≡ None → (n : ℤ) → IsFormatRow n row.now → n ≡ pos 1 }
 {
     match format_in(row) {
-        Some(number) => {
-            if number == 1 {
-                None
-            } else {
-                Some(number)
-            }
-        }
+        Some(number) => { if number == 1 { None } else { Some(number) } }
         None => None,
     }
 }

@@ -154,7 +154,10 @@ pub(crate) fn find_head<S: Alter>(
     }
 }
 
-pub(crate) fn numbered_rows<S: Alter>(conn: &mut Connection<S>, number: u32) -> Result<Vec<Row>, KeepError>
+pub(crate) fn numbered_rows<S: Alter>(
+    conn: &mut Connection<S>,
+    number: u32,
+) -> Result<Vec<Row>, KeepError>
     requires idle { IsIdle (state S.Store conn.old) }
     ensures found { HasCleanDisk (state S.Store conn.new) → IfOk result (λ rows. IsPermutation rows.items (filter (has_number number) (deposit_table (state S.Store conn.old).now.trees))) }
     ensures named { IfErr result (λ e. e ≢ KeepError.Full) }
@@ -185,7 +188,10 @@ pub(crate) fn find_deposit<S: Alter>(
     }
 }
 
-pub(crate) fn line_rows<S: Alter>(conn: &mut Connection<S>, number: u32) -> Result<Vec<Row>, KeepError>
+pub(crate) fn line_rows<S: Alter>(
+    conn: &mut Connection<S>,
+    number: u32,
+) -> Result<Vec<Row>, KeepError>
     requires idle { IsIdle (state S.Store conn.old) }
     ensures found { HasCleanDisk (state S.Store conn.new) → IfOk result (λ rows. (file : List KeptRow) → IsPermutation (place_rows 0 file) (rows_of number (line_table (state S.Store conn.old).now.trees)) → rows.items ≡ place_rows 0 file) }
     ensures all { HasCleanDisk (state S.Store conn.new) → IfOk result (λ rows. IsPermutation rows.items (rows_of number (line_table (state S.Store conn.old).now.trees))) }
@@ -217,7 +223,10 @@ pub(crate) fn find_lines<S: Alter>(
     }
 }
 
-pub(crate) fn step_rows<S: Alter>(conn: &mut Connection<S>, number: u32) -> Result<Vec<Row>, KeepError>
+pub(crate) fn step_rows<S: Alter>(
+    conn: &mut Connection<S>,
+    number: u32,
+) -> Result<Vec<Row>, KeepError>
     requires idle { IsIdle (state S.Store conn.old) }
     ensures found { HasCleanDisk (state S.Store conn.new) → IfOk result (λ rows. (steps : List (ℕ × ℕ)) → IsAscending IsBefore steps → IsPermutation (map step_pair steps) (rows_of number (step_table (state S.Store conn.old).now.trees)) → rows.items ≡ map step_pair steps) }
     ensures all { HasCleanDisk (state S.Store conn.new) → IfOk result (λ rows. IsPermutation rows.items (rows_of number (step_table (state S.Store conn.old).now.trees))) }

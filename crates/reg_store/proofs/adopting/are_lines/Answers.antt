@@ -12,11 +12,13 @@ returns-then-not-is_line c =
     let lines = c.args.lines.now in
     let at = c.loop-at.at in
     let under : at < length lines = search rules in
-    let line : get_or lines at c.index-lines-at.result ≡ c.index-lines-at.result = search rules in
-    (λ h. absurd (not_true h), λ are.
-      (let here : get_or rows at [] ≡ place_row at c.index-lines-at.result = ap (λ all. get_or all at []) are ∙ place_first lines at c.index-lines-at.result under line in
-      let row : c.index-rows-at.result ≡ place_row at c.index-lines-at.result = same_at rows at [] _ _ (search rules) (search rules) here in
-      c.if-not-is_line.ensures.1 row))
+    let line : get_or lines at c.index-lines-at.result ≡ c.index-lines-at.result = search rules in (
+      λ h. absurd (not_true h),
+      λ are.
+          (let here : get_or rows at [] ≡ place_row at c.index-lines-at.result = ap (λ all. get_or all at []) are ∙ place_first lines at c.index-lines-at.result under line in
+          let row : c.index-rows-at.result ≡ place_row at c.index-lines-at.result = same_at rows at [] _ _ (search rules) (search rules) here in
+          c.if-not-is_line.ensures.1 row),
+    )
 
 pub loop-at-preserved : goal.loop-at-preserved
 loop-at-preserved c =

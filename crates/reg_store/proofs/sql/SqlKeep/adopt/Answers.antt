@@ -25,11 +25,11 @@ invariant_of-result g c =
       idle = made.quiet.idle;
       few = made.few;
       kept = λ _ clean.
-        (let opened = made.open clean refl in
-        let was : IsTrue old.is_open = subst IsTrue (made.quiet.is_open clean refl) opened in
-        let same = made.quiet.same clean refl in
-        let settled : old.now ≡ old.committed = search (rules, was) in
-        adopted_keeps old new c.in-Ok.dictionary c.in-Ok.count opened same.0 (same.1 ∙ sym settled ∙ sym same.0) (made.adopts clean));
+          (let opened = made.open clean refl in
+          let was : IsTrue old.is_open = subst IsTrue (made.quiet.is_open clean refl) opened in
+          let same = made.quiet.same clean refl in
+          let settled : old.now ≡ old.committed = search (rules, was) in
+          adopted_keeps old new c.in-Ok.dictionary c.in-Ok.count opened same.0 (same.1 ∙ sym settled ∙ sym same.0) (made.adopts clean));
     }
 
 pub returns-in-Ok-clause-adopted : goal.returns-in-Ok-clause-adopted

@@ -60,10 +60,10 @@ returns-in-Ok-added g c =
     let rows_are : c.as_slice.result.now ≡ kept_rows file.groups = search rules in
     let steps_are : c.steps.result.now ≡ file.graph.steps = search rules in
     let more = λ (clean : HasCleanDisk new).
-      (let ready : IsReady keep.dictionary (deposits_in old.committed.trees) d file = record { its = fit; named = named; fresh = c.requires.fresh (before clean) } in
-      let bare = rw (c.text.ensures.text, c.text-2.ensures.text, c.bytes.ensures.bytes, c.day_number.ensures.number) at (c.in-Ok-added.ensures.put clean) in
-      let put = subst₂ (λ rows steps. AddsFile (keep.count + 1) d rows steps old.now new.now) rows_are steps_are bare in
-      let it : IsMore old new keep.dictionary keep.count d = adds_at {old = old} {new = new} d file (keep.kept c.requires.working (before clean)) low put (c.in-Ok-added.ensures.sound clean) (c.in-Ok-added.ensures.settled clean) (c.in-Ok-added.ensures.open clean refl) ready in it) in
+    (let ready : IsReady keep.dictionary (deposits_in old.committed.trees) d file = record { its = fit; named = named; fresh = c.requires.fresh (before clean) } in
+    let bare = rw (c.text.ensures.text, c.text-2.ensures.text, c.bytes.ensures.bytes, c.day_number.ensures.number) at (c.in-Ok-added.ensures.put clean) in
+    let put = subst₂ (λ rows steps. AddsFile (keep.count + 1) d rows steps old.now new.now) rows_are steps_are bare in
+    let it : IsMore old new keep.dictionary keep.count d = adds_at {old = old} {new = new} d file (keep.kept c.requires.working (before clean)) low put (c.in-Ok-added.ensures.sound clean) (c.in-Ok-added.ensures.settled clean) (c.in-Ok-added.ensures.open clean refl) ready in it) in
     record {
       number = λ clean. counted_at {s = new} (more clean).kept;
       room = λ clean. subst (λ n. n < 999999) (counted_at {s = old} (keep.kept c.requires.working (before clean))) low;
