@@ -14,7 +14,7 @@ use Rattle.ags_links.specs.Parents.{IsParentRow}
 use Rattle.ags_links.specs.RecordLinks.{Names}
 use Rattle.ags_links.specs.Steps.{IsFileRow}
 use Rattle.ags_links.proofs.Members.{contains_head, contains_tail, contains_cons}
-use Rattle.ags_links.proofs.Rising.{rising_nil, first_is_least}
+use Rattle.ags_links.proofs.Rising.{first_is_least}
 use Rattle.ags_links.proofs.RowLemmas.{one_at}
 use Rattle.ags_links.proofs.Spelled.{key_text_same}
 

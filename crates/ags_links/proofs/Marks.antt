@@ -1,7 +1,6 @@
 -- What one more mark does.
-use Rattle.std.proofs.Common.{◌≡◌, ℕ, zero, suc, ◌+◌, ◌<◌, Bool, true, false, not, cond, List, [], ◌∷◌, length, get_or, set, sym, subst, ap, ◌∙◌, arith, inl, inr, ◌⊎◌, get_or-set_same, get_or-set_other, count_by}
+use Rattle.std.proofs.Common.{◌≡◌, ℕ, zero, suc, ◌<◌, Bool, true, false, List, [], ◌∷◌, length, set, sym, subst, ◌∙◌, arith, inl, inr, ◌⊎◌, get_or-set_same, get_or-set_other}
 use Rattle.std.proofs.lemmas.Bool.{cases_eq, true≢false}
-use Rattle.std.proofs.lemmas.List.Sums.{sum_by-set}
 use Rattle.ags_links.specs.Walks.{IsMarked}
 
 -- a marked row is a row

@@ -1,0 +1,234 @@
+-- What is drawn and seen of a kept deposit, from what a keep tells of it.
+use Rattle.std.proofs.Common.{◌≡◌, ◌≢◌, ℕ, zero, suc, ◌-◌, ◌<◌, ◌≤◌, Bool, true, false, Option, Some, None, Ok, Err, List, [], ◌∷◌, refl, sym, ap, subst, ◌∙◌, inl, inr, ◌⊎◌, arith}
+use Rattle.std.proofs.lemmas.Option.{slice_get_within, get_or_from_slice_get}
+use Rattle.std.proofs.lemmas.Bool.{true≢false}
+use Rattle.std.specs.Prelude.{All, ℤ, slice_get, length, Result, ◌↔◌}
+use Rattle.std.specs.Str.{bytes_eq}
+use Rattle.std.proofs.Math.Logic.{∥∥₁_map, ∥∥₁_elim}
+use Rattle.std.proofs.Props.{props}
+use Rattle.ags_dict.specs.Entries.{Entries}
+use Rattle.ags_links.specs.Walks.{Wiring}
+use Rattle.ags_check.specs.Findings.{CheckedFile}
+use Rattle.reg_policy.specs.declared.rule.Rule.{Rule}
+use Rattle.reg_policy.specs.declared.callers.Caller.{Caller}
+use Rattle.reg_policy.specs.declared.subject.Decision.TheVariants.{Permit, Deny}
+use Rattle.reg_policy.specs.declared.subject.Verb.TheVariants as verbs
+use Rattle.reg_store.specs.Deposit.{Deposit}
+use Rattle.reg_store.specs.Fit.{IsFit, IsFileOf}
+use Rattle.reg_store.specs.Keep.{IsHeadOf, is_store, fails}
+use Rattle.reg_store.specs.declared.keep.Keep.{Ghosts}
+use Rattle.reg_store.specs.declared.keep.KeepError.{KeepError}
+use Rattle.reg_store.specs.declared.keep.KeepError.TheVariants as errors
+use Rattle.reg_store.specs.declared.keep.KeptHead.{KeptHead}
+use Rattle.reg_store.specs.declared.keep.KeptRow.{KeptRow}
+use Rattle.reg_desk.specs.Asked.{extract}
+use Rattle.reg_desk.specs.declared.answer.Answer.{Answer}
+use Rattle.reg_desk.specs.declared.answer.Answer.TheVariants.{Text, Denied, Unknown}
+use Rattle.reg_desk.specs.Shown.{Look, IsProjectShown}
+use Rattle.ags_check.specs.Findings.{IsCleanFile}
+use Rattle.reg_desk.specs.Machine.{Register, decided, look_at, IsSeen, IsTextOf, Where, IsDrawnFrom, held}
+use Rattle.ags_check.specs.Findings.{file_of}
+use Rattle.reg_desk.specs.View.{IsViewOf, IsExtractOf}
+use Rattle.reg_desk.specs.Serving.{IsQuiet, AsksStore, IsLineFor, text_answer, register_at, OnlyReads, Serves, look_on, answer_of}
+use Rattle.reg_desk.proofs.Replies.{one_file}
+use Rattle.reg_desk.proofs.Bodies.{where_true, where_false}
+use Rattle.reg_desk.proofs.Serves.{is_told, replies_at_once, refused_serves, replies_serves, permitted_reply, denied_reply, permit_stands}
+
+-- ---- a kept deposit
+
+-- deposit n is held
+pub held_at : (state : List Deposit) (n : ℕ) → 0 < n → n ≤ length state → (d : Deposit) × (slice_get state (n - 1) ≡ Some d) × (held n state ≡ Some d)
+held_at state zero low high = absurd (omega arith)
+held_at state (suc n) low high =
+    let h = get_at state n (omega arith) in
+    let e : n ≡ suc n - 1 = omega arith in
+    (h.0, subst (λ i. slice_get state i ≡ Some h.0) e h.1, h.1)
+  where
+    get_at : (state : List Deposit) (n : ℕ) → n < length state → (d : Deposit) × (slice_get state n ≡ Some d)
+    get_at [] n lt = absurd (omega arith)
+    get_at (d ∷ state) zero lt = (d, refl)
+    get_at (d ∷ state) (suc n) lt = get_at state n (omega arith)
+
+none_held : (state : List Deposit) (n : ℕ) → (n ≡ 0) ⊎ (length state < n) → held n state ≡ None
+none_held state zero h = refl
+none_held state (suc n) (inl e) = absurd (omega (arith, e))
+none_held [] (suc n) (inr lt) = refl
+none_held (d ∷ state) (suc zero) (inr lt) = absurd (omega (arith, lt))
+none_held (d ∷ state) (suc (suc n)) (inr lt) = none_held state (suc n) (inr (omega (arith, lt)))
+
+pub fit_at : (given : Entries) (state : List Deposit) (i : ℕ) (d : Deposit) → All (IsFit given) state → slice_get state i ≡ Some d → IsFit given d
+fit_at given state i d all at = subst (IsFit given) (get_or_from_slice_get state i d d at) (all i d (slice_get_within state i d at))
+
+look_same : (register : Register) (caller : Caller) (day : ℤ) (d : Deposit) (head : KeptHead) → IsHeadOf d head → look_on register.rules caller head day ≡ look_at register caller day d
+look_same register caller day d head is =
+    ap (λ (f : List ℕ). record { rules = register.rules; caller = caller; owner = f; project = head.project; embargo = head.embargo; day = day }) is.firm
+    ∙ ap (λ (p : List ℕ). record { rules = register.rules; caller = caller; owner = d.firm; project = p; embargo = head.embargo; day = day }) is.project
+    ∙ ap (λ (e : ℤ). record { rules = register.rules; caller = caller; owner = d.firm; project = d.project; embargo = e; day = day }) is.embargo
+
+clean_of : (given : Entries) (d : Deposit) (file : CheckedFile) → IsFileOf given d file → IsCleanFile given d.bytes (file_of file)
+clean_of given d file is =
+    subst (λ (b : List ℕ). IsCleanFile given b (file_of file)) is.bytes (subst (λ (g : Entries). IsCleanFile g file.bytes (file_of file)) is.given is.clean.file)
+
+-- the rows and steps are those of each file that the deposit can be
+abbrev pub IsViewAt : Entries → Deposit → List KeptRow → Wiring → Type 0
+IsViewAt given d rows graph = (file : CheckedFile) → IsFileOf given d file → IsViewOf rows graph file
+
+-- so a reading that finds no such file does not fail
+pub reading_lives : {X : Type 0} (given : Entries) (d : Deposit) (rows : List KeptRow) (graph : Wiring) (r : Result X KeepError) → IsFit given d → IsViewAt given d rows graph
+    → (r ≡ Err errors.Store → (file : CheckedFile) → IsViewOf rows graph file → ⊥) → fails r ≡ false
+reading_lives given d rows graph (Ok x) fit view broken = refl
+reading_lives given d rows graph (Err errors.Full) fit view broken = refl
+reading_lives given d rows graph (Err errors.NoMemory) fit view broken = refl
+reading_lives given d rows graph (Err errors.Store) fit view broken =
+    absurd (∥∥₁_elim fit (Prim.hlevel props) (λ (f : (file : CheckedFile) × IsFileOf given d file). broken refl f.0 (view f.0 f.1)))
+
+-- calls that read a keep, and then something that was answered by what was read
+pub reads_answered : {K : Type 0} (keep : Ghosts K) (old new : K) (failed : Bool) → OnlyReads keep old new false → (keep.is_sound new → failed ≡ false) → OnlyReads keep old new failed
+reads_answered keep old new failed reads lives = record {
+  sound = reads.sound;
+  same_dictionary = reads.same_dictionary;
+  same_limit = reads.same_limit;
+  failure = λ e. absurd (true≢false (sym (reads.failure e)));
+  cause = λ s. lives s ∙ reads.cause s;
+  same = λ s e. reads.same s refl;
+  crash = reads.crash;
+}
+
+-- what a keep tells of the deposit of a number
+pub record IsViewed (given : Entries) (state : List Deposit) (number : ℕ) (head : KeptHead) (rows : List KeptRow) (graph : Wiring) : Type 0 where
+  pub kept : Deposit
+  pub holds : held number state ≡ Some kept
+  pub of_head : IsHeadOf kept head
+  pub fit : IsFit given kept
+  pub view : IsViewAt given kept rows graph
+
+-- by its head, and by its rows and steps after that
+pub viewed : {K : Type 0} (keep : Ghosts K) (old mid new : K) (number : ℕ) (head : KeptHead) (rows shown : List KeptRow) (graph : Wiring) → shown ≡ rows
+    → (keep.is_sound old → (0 < number) × (number ≤ length (keep.deposits old))) → (keep.is_sound old → All (IsFit (keep.dictionary old)) (keep.deposits old))
+    → OnlyReads keep old mid false → OnlyReads keep mid new false
+    → (keep.is_sound mid → (d : Deposit) → slice_get (keep.deposits old) (number - 1) ≡ Some d → IsHeadOf d head)
+    → (keep.is_sound new → (d : Deposit) (file : CheckedFile) → slice_get (keep.deposits mid) (number - 1) ≡ Some d → IsFileOf (keep.dictionary mid) d file → IsViewOf rows graph file)
+    → keep.is_sound new → IsViewed (keep.dictionary old) (keep.deposits old) number head shown graph
+viewed keep old mid new number head rows shown graph same within fit first then read seen s =
+    let s1 = then.sound s in
+    let s0 = first.sound s1 in
+    let place = within s0 in
+    let d = held_at (keep.deposits old) number place.0 place.1 in
+    record {
+      kept = d.0;
+      holds = d.2;
+      of_head = read s1 d.0 d.1;
+      fit = fit_at (keep.dictionary old) (keep.deposits old) (number - 1) d.0 (fit s0) d.1;
+      view = λ file is.
+          subst (λ (r : List KeptRow). IsViewOf r graph file) (sym same)
+          (seen s d.0 file (ap (λ (l : List Deposit). slice_get l (number - 1)) (first.same s1 refl) ∙ d.1) (subst (λ (e : Entries). IsFileOf e d.0 file) (sym first.same_dictionary) is));
+    }
+
+-- ---- what is drawn
+
+drawn_of : (register : Register) (caller : Caller) (groups : List (List ℕ)) (day : ℤ) (project : List ℕ) (d : Deposit) (file : CheckedFile) (text : Option (List ℕ)) → IsFileOf register.given d file → bytes_eq d.project project ≡ true
+    → IsExtractOf (look_at register caller day d) (file_of file) groups text → IsDrawnFrom register caller project groups day (Some d) (text_answer text)
+drawn_of register caller groups day project d file (Some text) is same drawn =
+    let clean = clean_of register.given d file is in
+    where_true (bytes_eq d.project project) _ _ same (inl ((file_of file, clean, drawn.0), (text, (file_of file, clean, drawn.1), refl)))
+drawn_of register caller groups day project d file None is same hidden =
+    let clean = clean_of register.given d file is in
+    where_true (bytes_eq d.project project) _ _ same (inr ((λ seen. hidden (subst (IsProjectShown (look_at register caller day d)) (one_file register.given d.bytes seen.0 (file_of file) seen.1 clean) seen.2)), refl))
+
+pub view_drawn : (register : Register) (state : List Deposit) (caller : Caller) (project : List ℕ) (number : ℕ) (groups : List (List ℕ)) (day : ℤ) (head : KeptHead) (rows : List KeptRow) (graph : Wiring) (text : Option (List ℕ))
+    → IsViewed register.given state number head rows graph → bytes_eq head.project project ≡ true
+    → ((file : CheckedFile) → IsViewOf rows graph file → IsExtractOf (look_on register.rules caller head day) (file_of file) groups text)
+    → ∥ IsDrawnFrom register caller project groups day (held number state) (text_answer text) ∥₁
+view_drawn register state caller project number groups day head rows graph text v same drawn =
+    ∥∥₁_map v.fit (λ (f : (file : CheckedFile) × IsFileOf register.given v.kept file).
+    let is = subst (λ (look : Look). IsExtractOf look (file_of f.0) groups text) (look_same register caller day v.kept head v.of_head) (drawn f.0 (v.view f.0 f.1)) in
+    subst (λ (o : Option Deposit). IsDrawnFrom register caller project groups day o (text_answer text)) (sym v.holds)
+    (drawn_of register caller groups day project v.kept f.0 text f.1 (ap (λ (p : List ℕ). bytes_eq p project) (sym v.of_head.project) ∙ same) is))
+
+-- no deposit has the number
+pub unheld_drawn : (register : Register) (state : List Deposit) (caller : Caller) (project : List ℕ) (number : ℕ) (groups : List (List ℕ)) (day : ℤ) → (number ≡ 0) ⊎ (length state < number)
+    → IsDrawnFrom register caller project groups day (held number state) Unknown
+unheld_drawn register state caller project number groups day outside =
+    subst (λ (o : Option Deposit). IsDrawnFrom register caller project groups day o Unknown) (sym (none_held state number outside)) refl
+
+-- it is of another project
+pub other_drawn : (register : Register) (state : List Deposit) (caller : Caller) (project : List ℕ) (number : ℕ) (groups : List (List ℕ)) (day : ℤ) (d : Deposit) (head : KeptHead) → held number state ≡ Some d → IsHeadOf d head
+    → bytes_eq head.project project ≡ false → IsDrawnFrom register caller project groups day (held number state) Unknown
+other_drawn register state caller project number groups day d head holds of_head other =
+    subst (λ (o : Option Deposit). IsDrawnFrom register caller project groups day o Unknown) (sym holds)
+    (where_false (bytes_eq d.project project) _ _ (ap (λ (p : List ℕ). bytes_eq p project) (sym of_head.project) ∙ other) refl)
+
+-- ---- the answers to an extract
+
+-- what is drawn is answered by a text, or by Unknown
+abbrev IsOne : Answer → Type 0
+IsOne answer = (answer ≡ Unknown) ⊎ ((t : List ℕ) × (answer ≡ Text t))
+
+one_of : (register : Register) (caller : Caller) (project : List ℕ) (groups : List (List ℕ)) (day : ℤ) (d : Deposit) (t : Bool) (answer : Answer)
+    → Where t ((IsSeen register caller day d × ((text : List ℕ) × IsTextOf register caller day groups d text × (answer ≡ Text text))) ⊎ ((IsSeen register caller day d → ⊥) × (answer ≡ Unknown))) (answer ≡ Unknown) → IsOne answer
+one_of register caller project groups day d true answer (inl h) = inr (h.1.0, h.1.2)
+one_of register caller project groups day d true answer (inr h) = inl h.1
+one_of register caller project groups day d false answer h = inl h
+
+drawn_one : (register : Register) (caller : Caller) (project : List ℕ) (groups : List (List ℕ)) (day : ℤ) (o : Option Deposit) (answer : Answer) → IsDrawnFrom register caller project groups day o answer → IsOne answer
+drawn_one register caller project groups day None answer h = inl h
+drawn_one register caller project groups day (Some d) answer h = one_of register caller project groups day d (bytes_eq d.project project) answer h
+
+one_not_quiet : (a : Answer) → IsOne a → IsQuiet a → ⊥
+one_not_quiet a (inl e) q = subst IsQuiet e q
+one_not_quiet a (inr e) q = subst IsQuiet e.1 q
+
+extract_asks : (register : Register) (state : List Deposit) (caller : Caller) (project : List ℕ) (number : ℕ) (groups : List (List ℕ)) (day : ℤ) (k : ℕ) → decided register caller project verbs.Extract ≡ Permit k
+    → AsksStore register state (extract caller project number groups day)
+extract_asks register state caller project number groups day k permit = λ reply is quiet.
+    one_not_quiet reply (drawn_one register caller project groups day (held number state) reply
+    (permit_stands (decided register caller project verbs.Extract) k (IsDrawnFrom register caller project groups day (held number state)) reply permit is)) quiet
+
+pub extract_denied : {K : Type 0} (keep : Ghosts K) (rules : List Rule) (caller : Caller) (project : List ℕ) (number : ℕ) (groups : List (List ℕ)) (day : ℤ) (old : K) (m : ℕ) → keep.has_failed old ≡ false
+    → decided (register_at keep rules old) caller project verbs.Extract ≡ Deny m → Serves keep rules (extract caller project number groups day) old old (Denied m)
+extract_denied keep rules caller project number groups day old m works deny =
+    let register = register_at keep rules old in
+    replies_at_once keep rules (extract caller project number groups day) old (Denied m) works refl
+    (denied_reply (decided register caller project verbs.Extract) m (IsDrawnFrom register caller project groups day (held number (keep.deposits old))) deny) refl
+
+pub extract_unread : {K : Type 0} (keep : Ghosts K) (rules : List Rule) (caller : Caller) (project : List ℕ) (number : ℕ) (groups : List (List ℕ)) (day : ℤ) (old new : K) (k : ℕ) (e : KeepError)
+    → decided (register_at keep rules old) caller project verbs.Extract ≡ Permit k → OnlyReads keep old new (is_store e) → e ≢ errors.Full → Serves keep rules (extract caller project number groups day) old new (answer_of e)
+extract_unread keep rules caller project number groups day old new k e permit reads named =
+    refused_serves keep rules (extract caller project number groups day) old new e reads named (extract_asks (register_at keep rules old) (keep.deposits old) caller project number groups day k permit)
+
+pub extract_replies : {K : Type 0} (keep : Ghosts K) (rules : List Rule) (caller : Caller) (project : List ℕ) (number : ℕ) (groups : List (List ℕ)) (day : ℤ) (old new : K) (k : ℕ) (answer : Answer)
+    → decided (register_at keep rules old) caller project verbs.Extract ≡ Permit k → OnlyReads keep old new false → is_told answer ≡ true
+    → (keep.is_sound new → ∥ IsDrawnFrom (register_at keep rules old) caller project groups day (held number (keep.deposits old)) answer ∥₁)
+    → Serves keep rules (extract caller project number groups day) old new answer
+extract_replies keep rules caller project number groups day old new k answer permit reads told drawn =
+    let register = register_at keep rules old in
+    let state = keep.deposits old in
+    replies_serves keep rules (extract caller project number groups day) old new answer reads told
+    (λ s. ∥∥₁_map (drawn s) (permitted_reply (decided register caller project verbs.Extract) k (IsDrawnFrom register caller project groups day (held number state)) answer permit))
+    (λ s. refl) (extract_asks register state caller project number groups day k permit)
+
+-- ---- what is seen
+
+same_kept : (o : Option Deposit) (d e : Deposit) → o ≡ Some d → o ≡ Some e → d ≡ e
+same_kept o d e a b = cc
+
+pub view_listed : (register : Register) (state : List Deposit) (caller : Caller) (number : ℕ) (day : ℤ) (head : KeptHead) (rows : List KeptRow) (graph : Wiring) (seen : Bool) → IsViewed register.given state number head rows graph
+    → ((file : CheckedFile) → IsViewOf rows graph file → (seen ≡ true) ↔ IsProjectShown (look_on register.rules caller head day) (file_of file)) → seen ≡ true
+    → (d : Deposit) → held number state ≡ Some d → ∥ IsLineFor register caller day number d (Some (record { number = number; firm = head.firm; embargo = head.embargo })) ∥₁
+view_listed register state caller number day head rows graph seen v shows is d holds =
+    subst (λ (k : Deposit). ∥ IsLineFor register caller day number k (Some (record { number = number; firm = head.firm; embargo = head.embargo })) ∥₁) (same_kept (held number state) v.kept d v.holds holds)
+    (∥∥₁_map v.fit (λ (f : (file : CheckedFile) × IsFileOf register.given v.kept file).
+    let shown = (shows f.0 (v.view f.0 f.1)).0 is in (
+      (file_of f.0, clean_of register.given v.kept f.0 f.1, subst (λ (look : Look). IsProjectShown look (file_of f.0)) (look_same register caller day v.kept head v.of_head) shown),
+      ap (λ (firm : List ℕ). record { number = number; firm = firm; embargo = head.embargo }) v.of_head.firm ∙ ap (λ (e : ℤ). record { number = number; firm = v.kept.firm; embargo = e }) v.of_head.embargo,
+    )))
+
+pub view_unlisted : (register : Register) (state : List Deposit) (caller : Caller) (number : ℕ) (day : ℤ) (head : KeptHead) (rows : List KeptRow) (graph : Wiring) (seen : Bool) → IsViewed register.given state number head rows graph
+    → ((file : CheckedFile) → IsViewOf rows graph file → (seen ≡ true) ↔ IsProjectShown (look_on register.rules caller head day) (file_of file)) → seen ≡ false
+    → (d : Deposit) → held number state ≡ Some d → ∥ IsLineFor register caller day number d None ∥₁
+view_unlisted register state caller number day head rows graph seen v shows is d holds =
+    subst (λ (k : Deposit). ∥ IsLineFor register caller day number k None ∥₁) (same_kept (held number state) v.kept d v.holds holds)
+    (∥∥₁_map v.fit (λ (f : (file : CheckedFile) × IsFileOf register.given v.kept file) (was : IsSeen register caller day v.kept).
+    let clean = clean_of register.given v.kept f.0 f.1 in
+    let shown = subst (IsProjectShown (look_at register caller day v.kept)) (one_file register.given v.kept.bytes was.0 (file_of f.0) was.1 clean) was.2 in
+    true≢false (sym ((shows f.0 (v.view f.0 f.1)).1 (subst (λ (look : Look). IsProjectShown look (file_of f.0)) (sym (look_same register caller day v.kept head v.of_head)) shown)) ∙ is)))

@@ -1,0 +1,111 @@
+-- The texts that a desk answers: clean files, and the same bytes where an extract is drawn again.
+use Rattle.std.proofs.Common.{◌≡◌, ℕ, ◌+◌, Bool, true, false, List, [], ◌∷◌, Option, Some, None, cond}
+use Rattle.std.specs.Prelude.{ℤ, nat_lt, length}
+use Rattle.std.proofs.Math.Logic.{∥∥₁_map, ∥∥₁_elim}
+use Rattle.std.proofs.Props.{props}
+use Rattle.ags_rows.specs.declared.finding.Finding.{Finding}
+use Rattle.ags_rows.specs.declared.TheConstants.{LIMIT}
+use Rattle.ags_check.specs.Findings.{Findings as AreFindings}
+use Rattle.reg_policy.specs.declared.rule.Rule.{Rule}
+use Rattle.reg_policy.specs.declared.subject.Decision.{Decision}
+use Rattle.reg_policy.specs.declared.subject.Decision.TheVariants.{Permit, Deny}
+use Rattle.reg_policy.specs.declared.subject.Verb.TheVariants as verbs
+use Rattle.reg_store.specs.Deposit.{Deposit}
+use Rattle.reg_store.specs.declared.keep.Keep.{Ghosts}
+use Rattle.reg_desk.specs.Asked.{Asked, deposit, check, listing, extract}
+use Rattle.reg_desk.specs.declared.answer.Listed.{Listed}
+use Rattle.reg_desk.specs.declared.answer.Answer.{Answer}
+use Rattle.reg_desk.specs.declared.answer.Answer.TheVariants.{Receipt, Clean, Findings, Listing, Text, Denied, Unknown, TooLarge, Full, NoMemory, StoreFailed}
+use Rattle.reg_desk.specs.Machine.{Register, decided, Where, OrDenied, OrFound, OrRefused, first_equal, receipt_of, IsListing, IsReply}
+use Rattle.reg_desk.specs.Serving.{IsAnswer, register_at, Serves}
+use Rattle.reg_desk.specs.Desks.{IsCleanText, IsSameText, IsSameAnswer}
+use Rattle.reg_desk.proofs.Runs.{texts_clean, extract_again}
+
+text_reply : (register : Register) (state : List Deposit) (request : Asked) (text : List ℕ) → IsAnswer register state request (Text text) → IsReply register state request (Text text)
+unfolding IsAnswer
+text_reply register state request text is = is
+
+-- ---- no other request is answered by a text
+
+abbrev NoText : (Answer → Type 0) → Type 0
+NoText P = (text : List ℕ) → P (Text text) → ⊥
+
+denied_no_text : (d : Decision) (P : Answer → Type 0) → NoText P → NoText (OrDenied d P)
+denied_no_text (Permit n) P never = never
+denied_no_text (Deny n) P never = λ text h. absurd cc
+
+found_no_text : (found : List Finding) (P : Answer → Type 0) → NoText P → NoText (OrFound found P)
+found_no_text [] P never = never
+found_no_text (f ∷ found) P never = λ text h. absurd cc
+
+where_no_text : (t : Bool) (A B : Type 0) → (A → ⊥) → (B → ⊥) → Where t A B → ⊥
+where_no_text true A B a b h = a h
+where_no_text false A B a b h = b h
+
+refused_no_text : (register : Register) (bytes : List ℕ) (P : Answer → Type 0) → NoText P → NoText (OrRefused register bytes P)
+refused_no_text register bytes P never = λ text h.
+    where_no_text (nat_lt LIMIT (length bytes)) (Text text ≡ TooLarge) ((found : List Finding) × AreFindings register.given bytes found × OrFound found P (Text text))
+    (λ e. absurd cc) (λ f. found_no_text f.0 P never text f.2) h
+
+receipt_no_text : (register : Register) (embargo : ℤ) (count : ℕ) (first : Option (ℕ × ℤ)) → NoText (λ r. r ≡ receipt_of register embargo count first)
+receipt_no_text register embargo count (Some was) = λ text h. absurd cc
+receipt_no_text register embargo count None = λ text h. full (nat_lt count register.limit) text h
+  where
+    full : (t : Bool) (text : List ℕ) → Text text ≡ cond t (Receipt (count + 1) embargo) Full → ⊥
+    full true text h = absurd cc
+    full false text h = absurd cc
+
+-- ---- a text is clean
+
+text_clean : (register : Register) (state : List Deposit) (request : Asked) (text : List ℕ) → IsReply register state request (Text text) → AreFindings register.given text []
+text_clean register state (deposit caller project embargo bytes day) text h =
+    let P = λ (r : Answer). r ≡ receipt_of register embargo (length state) (first_equal 1 caller.firm project bytes state) in
+    absurd (denied_no_text (decided register caller project verbs.Deposit) (OrRefused register bytes P) (refused_no_text register bytes P (receipt_no_text register embargo (length state) (first_equal 1 caller.firm project bytes state))) text h)
+text_clean register state (check caller project bytes day) text h =
+    let P = λ (r : Answer). r ≡ Clean in
+    absurd (denied_no_text (decided register caller project verbs.Check) (OrRefused register bytes P) (refused_no_text register bytes P (λ t e. absurd cc)) text h)
+text_clean register state (listing caller project day) text h =
+    absurd (denied_no_text (decided register caller project verbs.List) (λ r. (lines : List Listed) × IsListing register caller project day 1 state lines × (r ≡ Listing lines)) (λ t l. absurd (let e = l.2 in cc)) text h)
+text_clean register state (extract caller project number groups day) text h = texts_clean register state caller project number groups day text h
+
+pub clean_text : {K : Type 0} (keep : Ghosts K) (rules : List Rule) (request : Asked) (old new : K) (answer : Answer) → Serves keep rules request old new answer → keep.is_sound new → IsCleanText keep old answer
+clean_text keep rules request old new (Text text) serves s =
+    let register = register_at keep rules old in
+    ∥∥₁_map (serves.answered s) (λ (is : IsAnswer register (keep.deposits old) request (Text text)).
+    text_clean register (keep.deposits old) request text (text_reply register (keep.deposits old) request text is))
+clean_text keep rules request old new (Receipt n e) serves s = tt
+clean_text keep rules request old new Clean serves s = tt
+clean_text keep rules request old new (Findings l) serves s = tt
+clean_text keep rules request old new (Listing l) serves s = tt
+clean_text keep rules request old new (Denied n) serves s = tt
+clean_text keep rules request old new Unknown serves s = tt
+clean_text keep rules request old new TooLarge serves s = tt
+clean_text keep rules request old new Full serves s = tt
+clean_text keep rules request old new NoMemory serves s = tt
+clean_text keep rules request old new StoreFailed serves s = tt
+
+-- ---- an extract is drawn again
+
+drawn_again : {K : Type 0} (keep : Ghosts K) (rules : List Rule) (request : Asked) (old new : K) (text : List ℕ) → Serves keep rules request old new (Text text) → keep.is_sound new → IsSameText keep rules old request text
+drawn_again keep rules (deposit caller project embargo bytes day) old new text serves s = tt
+drawn_again keep rules (check caller project bytes day) old new text serves s = tt
+drawn_again keep rules (listing caller project day) old new text serves s = tt
+drawn_again keep rules (extract caller project number (g ∷ groups) day) old new text serves s = tt
+drawn_again keep rules (extract caller project number [] day) old new text serves s = λ kept holds was whole.
+    let register = register_at keep rules old in
+    let request = extract caller project number [] day in
+    ∥∥₁_elim (serves.answered s) (Prim.hlevel props) (λ (is : IsAnswer register (keep.deposits old) request (Text text)).
+    extract_again register (keep.deposits old) kept caller project number day text holds was whole (text_reply register (keep.deposits old) request text is))
+
+pub same_answer : {K : Type 0} (keep : Ghosts K) (rules : List Rule) (request : Asked) (old new : K) (answer : Answer) → Serves keep rules request old new answer → keep.is_sound new → IsSameAnswer keep rules old request answer
+same_answer keep rules request old new (Text text) serves s = drawn_again keep rules request old new text serves s
+same_answer keep rules request old new (Receipt n e) serves s = tt
+same_answer keep rules request old new Clean serves s = tt
+same_answer keep rules request old new (Findings l) serves s = tt
+same_answer keep rules request old new (Listing l) serves s = tt
+same_answer keep rules request old new (Denied n) serves s = tt
+same_answer keep rules request old new Unknown serves s = tt
+same_answer keep rules request old new TooLarge serves s = tt
+same_answer keep rules request old new Full serves s = tt
+same_answer keep rules request old new NoMemory serves s = tt
+same_answer keep rules request old new StoreFailed serves s = tt

@@ -1,0 +1,187 @@
+-- A listing, number by number.
+use Rattle.std.proofs.Common.{◌≡◌, ◌≢◌, ℕ, zero, suc, ◌+◌, ◌<◌, ◌≤◌, Bool, true, false, cond, Option, Some, None, List, [], ◌∷◌, ◌++◌, drop, get_or, refl, sym, ap, subst, ◌∙◌, inl, inr, ◌⊎◌, arith, append_assoc, append-nil}
+use Rattle.std.specs.Prelude.{ℤ, slice_get, length}
+use Rattle.std.specs.Str.{bytes_eq}
+use Rattle.std.proofs.Math.Logic.{∥∥₁_map, ∥∥₁_elim}
+use Rattle.std.proofs.Props.{props}
+use Rattle.std.proofs.lemmas.List.{drop_all}
+use Rattle.reg_policy.specs.declared.rule.Rule.{Rule}
+use Rattle.reg_policy.specs.declared.callers.Caller.{Caller}
+use Rattle.reg_policy.specs.declared.subject.Decision.TheVariants.{Permit, Deny}
+use Rattle.reg_policy.specs.declared.subject.Verb.TheVariants as verbs
+use Rattle.reg_store.specs.Deposit.{Deposit, numbers_from}
+use Rattle.reg_store.specs.Keep.{is_store}
+use Rattle.reg_store.specs.declared.keep.Keep.{Ghosts}
+use Rattle.reg_store.specs.declared.keep.KeepError.{KeepError}
+use Rattle.reg_store.specs.declared.keep.KeepError.TheVariants as errors
+use Rattle.reg_desk.specs.Asked.{listing}
+use Rattle.reg_desk.specs.declared.answer.Listed.{Listed}
+use Rattle.reg_desk.specs.declared.answer.Answer.{Answer}
+use Rattle.reg_desk.specs.declared.answer.Answer.TheVariants.{Listing, Denied}
+use Rattle.reg_desk.specs.Machine.{Register, decided, IsSeen, Where, IsListing, held}
+use Rattle.reg_desk.specs.Serving.{IsQuiet, AsksStore, IsLineFor, register_at, OnlyReads, Serves, answer_of}
+use Rattle.reg_desk.proofs.Drawing.{held_at}
+use Rattle.reg_desk.proofs.Serves.{replies_at_once, refused_serves, replies_serves, permitted_reply, denied_reply, permit_stands}
+
+-- ---- lines for numbers
+
+abbrev pub with_line : Option Listed → List Listed → List Listed
+with_line None more = more
+with_line (Some line) more = line ∷ more
+
+-- the lines of the deposits that have these numbers
+abbrev pub AreLines : Register → Caller → ℤ → (ℕ → Option Deposit) → List ℕ → List Listed → Type 0
+AreLines register caller day at [] lines = lines ≡ []
+AreLines register caller day at (n ∷ numbers) lines =
+    (kept : Deposit) × (line : Option Listed) × (more : List Listed) × (at n ≡ Some kept) × IsLineFor register caller day n kept line × (lines ≡ with_line line more) × AreLines register caller day at numbers more
+
+-- the lines so far, where these numbers are left
+abbrev pub SoFar : Register → Caller → ℤ → (ℕ → Option Deposit) → List ℕ → List ℕ → List Listed → Type 0
+SoFar register caller day at all numbers lines = (rest : List Listed) → AreLines register caller day at numbers rest → AreLines register caller day at all (lines ++ rest)
+
+pub lines_begin : (register : Register) (caller : Caller) (day : ℤ) (at : ℕ → Option Deposit) (all : List ℕ) → SoFar register caller day at all all []
+lines_begin register caller day at all = λ rest h. h
+
+abbrev pub put_line : List Listed → Option Listed → List Listed
+put_line lines None = lines
+put_line lines (Some line) = lines ++ line ∷ []
+
+lines_more : (register : Register) (caller : Caller) (day : ℤ) (at : ℕ → Option Deposit) (all : List ℕ) (n : ℕ) (numbers : List ℕ) (lines : List Listed) (kept : Deposit) (line : Option Listed)
+    → SoFar register caller day at all (n ∷ numbers) lines → at n ≡ Some kept → IsLineFor register caller day n kept line → SoFar register caller day at all numbers (put_line lines line)
+lines_more register caller day at all n numbers lines kept None so_far holds listed = λ rest h. so_far rest (kept, None, rest, holds, listed, refl, h)
+lines_more register caller day at all n numbers lines kept (Some line) so_far holds listed = λ rest h.
+    subst (AreLines register caller day at all) (sym (append_assoc lines (line ∷ []) rest)) (so_far (line ∷ rest) (kept, Some line, rest, holds, listed, refl, h))
+
+pub lines_end : (register : Register) (caller : Caller) (day : ℤ) (at : ℕ → Option Deposit) (all : List ℕ) (lines : List Listed) → SoFar register caller day at all [] lines → AreLines register caller day at all lines
+lines_end register caller day at all lines so_far = subst (AreLines register caller day at all) (append-nil lines) (so_far [] refl)
+
+-- ---- the project's numbers
+
+-- where a list that is numbered from n stands
+abbrev Stands : (ℕ → Option Deposit) → ℕ → List Deposit → Type 0
+Stands at n state = (i k : ℕ) (d : Deposit) → slice_get state i ≡ Some d → k ≡ n + i → at k ≡ Some d
+
+same_some : (o : Option Deposit) (d e : Deposit) → o ≡ Some d → o ≡ Some e → d ≡ e
+same_some o d e a b = cc
+
+listed_then : (register : Register) (caller : Caller) (project : List ℕ) (day : ℤ) (n : ℕ) (d : Deposit) (state : List Deposit) (lines more : List Listed) (line : Option Listed) → IsLineFor register caller day n d line → lines ≡ with_line line more
+    → IsListing register caller project day (n + 1) state more
+    → (IsSeen register caller day d × ((l : List Listed) × (lines ≡ record { number = n; firm = d.firm; embargo = d.embargo } ∷ l) × IsListing register caller project day (n + 1) state l))
+    ⊎ ((IsSeen register caller day d → ⊥) × IsListing register caller project day (n + 1) state lines)
+listed_then register caller project day n d state lines more None listed is rest = inr (listed, subst (IsListing register caller project day (n + 1) state) (sym is) rest)
+listed_then register caller project day n d state lines more (Some line) listed is rest = inl (listed.0, (more, is ∙ ap (λ (l : Listed). l ∷ more) listed.1, rest))
+
+listing_step : (register : Register) (caller : Caller) (project : List ℕ) (day : ℤ) (at : ℕ → Option Deposit) (n : ℕ) (d : Deposit) (state : List Deposit) (numbers : List ℕ) (lines : List Listed) (t : Bool) → at n ≡ Some d
+    → ((l : List Listed) → AreLines register caller day at numbers l → IsListing register caller project day (n + 1) state l)
+    → AreLines register caller day at (cond t (n ∷ numbers) numbers) lines
+    → Where t ((IsSeen register caller day d × ((l : List Listed) × (lines ≡ record { number = n; firm = d.firm; embargo = d.embargo } ∷ l) × IsListing register caller project day (n + 1) state l))
+    ⊎ ((IsSeen register caller day d → ⊥) × IsListing register caller project day (n + 1) state lines)) (IsListing register caller project day (n + 1) state lines)
+listing_step register caller project day at n d state numbers lines true holds rest h =
+    let same : h.0 ≡ d = same_some (at n) h.0 d h.3 holds in
+    listed_then register caller project day n d state lines h.2 h.1 (subst (λ (k : Deposit). IsLineFor register caller day n k h.1) same h.4) h.5 (rest h.2 h.6)
+listing_step register caller project day at n d state numbers lines false holds rest h = rest lines h
+
+lines_listing : (register : Register) (caller : Caller) (project : List ℕ) (day : ℤ) (at : ℕ → Option Deposit) (n : ℕ) (state : List Deposit) → Stands at n state
+    → (lines : List Listed) → AreLines register caller day at (numbers_from n project state) lines → IsListing register caller project day n state lines
+lines_listing register caller project day at n [] stands lines h = h
+lines_listing register caller project day at n (d ∷ state) stands lines h =
+    listing_step register caller project day at n d state (numbers_from (n + 1) project state) lines (bytes_eq d.project project) (stands 0 n d refl (omega arith))
+    (lines_listing register caller project day at (n + 1) state (λ i k e is same. stands (suc i) k e is (omega (arith, same)))) h
+
+held_stands : (state : List Deposit) → Stands (λ k. held k state) 1 state
+held_stands state = λ i k d is same. let e : k ≡ suc i = omega (arith, same) in subst (λ (m : ℕ). held m state ≡ Some d) (sym e) is
+
+pub listing_of : (register : Register) (caller : Caller) (project : List ℕ) (day : ℤ) (state : List Deposit) (lines : List Listed) → AreLines register caller day (λ k. held k state) (numbers_from 1 project state) lines
+    → IsListing register caller project day 1 state lines
+listing_of register caller project day state lines h = lines_listing register caller project day (λ k. held k state) 1 state (held_stands state) lines h
+
+-- a number of the list is one of its deposits
+abbrev IsWithin : ℕ → ℕ → List ℕ → Type 0
+IsWithin n count numbers = (i : ℕ) → i < length numbers → (n ≤ get_or numbers i 0) × (get_or numbers i 0 < n + count)
+
+within_step : (t : Bool) (n count : ℕ) (numbers : List ℕ) → IsWithin (n + 1) count numbers → IsWithin n (suc count) (cond t (n ∷ numbers) numbers)
+within_step true n count numbers rest zero lt = (omega arith, omega arith)
+within_step true n count numbers rest (suc i) lt = let h = rest i (omega (arith, lt)) in (omega (arith, h.0), omega (arith, h.1))
+within_step false n count numbers rest i lt = let h = rest i lt in (omega (arith, h.0), omega (arith, h.1))
+
+numbers_within : (project : List ℕ) (n : ℕ) (state : List Deposit) → IsWithin n (length state) (numbers_from n project state)
+numbers_within project n [] = λ i lt. absurd (omega (arith, lt))
+numbers_within project n (d ∷ state) = within_step (bytes_eq d.project project) n (length state) (numbers_from (n + 1) project state) (numbers_within project (n + 1) state)
+
+pub number_within : (project : List ℕ) (state : List Deposit) (numbers : List ℕ) (i : ℕ) → numbers ≡ numbers_from 1 project state → i < length numbers → (0 < get_or numbers i 0) × (get_or numbers i 0 ≤ length state)
+number_within project state numbers i same lt =
+    let h = subst (IsWithin 1 (length state)) (sym same) (numbers_within project 1 state) i lt in
+    (omega (arith, h.0), omega (arith, h.1))
+
+-- ---- the loop
+
+drop_get : (numbers : List ℕ) (i : ℕ) → i < length numbers → drop i numbers ≡ get_or numbers i 0 ∷ drop (suc i) numbers
+drop_get [] i lt = absurd (omega (arith, lt))
+drop_get (n ∷ numbers) zero lt = refl
+drop_get (n ∷ numbers) (suc i) lt = drop_get numbers i (omega (arith, lt))
+
+-- one more number
+pub number_more : (register : Register) (caller : Caller) (day : ℤ) (state : List Deposit) (all : List ℕ) (i : ℕ) (lines : List Listed) (kept : Deposit) (line : Option Listed) → i < length all
+    → SoFar register caller day (λ k. held k state) all (drop i all) lines → held (get_or all i 0) state ≡ Some kept → IsLineFor register caller day (get_or all i 0) kept line
+    → SoFar register caller day (λ k. held k state) all (drop (suc i) all) (put_line lines line)
+number_more register caller day state all i lines kept line lt so_far holds listed =
+    lines_more register caller day (λ k. held k state) all (get_or all i 0) (drop (suc i) all) lines kept line
+    (subst (λ (l : List ℕ). SoFar register caller day (λ k. held k state) all l lines) (drop_get all i lt) so_far) holds listed
+
+-- one more number, whose deposit is seen or not
+pub number_step : (register : Register) (caller : Caller) (day : ℤ) (state : List Deposit) (all : List ℕ) (i : ℕ) (lines : List Listed) (line : Option Listed) → i < length all
+    → (0 < get_or all i 0) × (get_or all i 0 ≤ length state) → ((d : Deposit) → held (get_or all i 0) state ≡ Some d → ∥ IsLineFor register caller day (get_or all i 0) d line ∥₁)
+    → ∥ SoFar register caller day (λ k. held k state) all (drop i all) lines ∥₁ → ∥ SoFar register caller day (λ k. held k state) all (drop (i + 1) all) (put_line lines line) ∥₁
+number_step register caller day state all i lines line lt within listed so_far =
+    let d = held_at state (get_or all i 0) within.0 within.1 in
+    let next : i + 1 ≡ suc i = omega arith in
+    ∥∥₁_elim so_far (Prim.hlevel props) (λ (f : SoFar register caller day (λ k. held k state) all (drop i all) lines).
+    ∥∥₁_map (listed d.0 d.2) (λ (is : IsLineFor register caller day (get_or all i 0) d.0 line).
+    subst (λ (k : ℕ). SoFar register caller day (λ k. held k state) all (drop k all) (put_line lines line)) (sym next)
+    (number_more register caller day state all i lines d.0 line lt f d.2 is)))
+
+pub lines_whole : (register : Register) (caller : Caller) (project : List ℕ) (day : ℤ) (state : List Deposit) (all : List ℕ) (i : ℕ) (lines : List Listed) → length all ≤ i → all ≡ numbers_from 1 project state
+    → ∥ SoFar register caller day (λ k. held k state) all (drop i all) lines ∥₁ → ∥ IsListing register caller project day 1 state lines ∥₁
+lines_whole register caller project day state all i lines le same so_far =
+    ∥∥₁_map so_far (λ (f : SoFar register caller day (λ k. held k state) all (drop i all) lines).
+    listing_of register caller project day state lines
+    (subst (λ (numbers : List ℕ). AreLines register caller day (λ k. held k state) numbers lines) same
+    (lines_end register caller day (λ k. held k state) all lines (subst (λ (left : List ℕ). SoFar register caller day (λ k. held k state) all left lines) (drop_all i all le) f))))
+
+pub register_same : {K : Type 0} (keep : Ghosts K) (rules : List Rule) (old new : K) (failed : Bool) → OnlyReads keep old new failed → register_at keep rules new ≡ register_at keep rules old
+register_same keep rules old new failed reads =
+    ap (λ d. record { rules = rules; given = d; limit = keep.limit new }) reads.same_dictionary ∙ ap (λ (l : ℕ). record { rules = rules; given = keep.dictionary old; limit = l }) reads.same_limit
+
+-- ---- the answers to a list
+
+abbrev IsListingAnswer : Register → List Deposit → Caller → List ℕ → ℤ → Answer → Type 0
+IsListingAnswer register state caller project day r = (lines : List Listed) × IsListing register caller project day 1 state lines × (r ≡ Listing lines)
+
+listing_asks : (register : Register) (state : List Deposit) (caller : Caller) (project : List ℕ) (day : ℤ) (k : ℕ) → decided register caller project verbs.List ≡ Permit k → AsksStore register state (listing caller project day)
+listing_asks register state caller project day k permit = λ reply is quiet.
+    let lines = permit_stands (decided register caller project verbs.List) k (IsListingAnswer register state caller project day) reply permit is in
+    subst IsQuiet lines.2 quiet
+
+pub listing_denied : {K : Type 0} (keep : Ghosts K) (rules : List Rule) (caller : Caller) (project : List ℕ) (day : ℤ) (old : K) (m : ℕ) → keep.has_failed old ≡ false
+    → decided (register_at keep rules old) caller project verbs.List ≡ Deny m → Serves keep rules (listing caller project day) old old (Denied m)
+listing_denied keep rules caller project day old m works deny =
+    let register = register_at keep rules old in
+    replies_at_once keep rules (listing caller project day) old (Denied m) works refl
+    (denied_reply (decided register caller project verbs.List) m (IsListingAnswer register (keep.deposits old) caller project day) deny) refl
+
+pub listing_unread : {K : Type 0} (keep : Ghosts K) (rules : List Rule) (caller : Caller) (project : List ℕ) (day : ℤ) (old new : K) (k : ℕ) (e : KeepError)
+    → decided (register_at keep rules old) caller project verbs.List ≡ Permit k → OnlyReads keep old new (is_store e) → e ≢ errors.Full → Serves keep rules (listing caller project day) old new (answer_of e)
+listing_unread keep rules caller project day old new k e permit reads named =
+    refused_serves keep rules (listing caller project day) old new e reads named (listing_asks (register_at keep rules old) (keep.deposits old) caller project day k permit)
+
+pub listing_replies : {K : Type 0} (keep : Ghosts K) (rules : List Rule) (caller : Caller) (project : List ℕ) (day : ℤ) (old new : K) (k : ℕ) (lines : List Listed)
+    → decided (register_at keep rules old) caller project verbs.List ≡ Permit k → OnlyReads keep old new false
+    → (keep.is_sound new → ∥ IsListing (register_at keep rules old) caller project day 1 (keep.deposits old) lines ∥₁)
+    → Serves keep rules (listing caller project day) old new (Listing lines)
+listing_replies keep rules caller project day old new k lines permit reads is =
+    let register = register_at keep rules old in
+    let state = keep.deposits old in
+    replies_serves keep rules (listing caller project day) old new (Listing lines) reads refl
+    (λ s. ∥∥₁_map (is s) (λ (h : IsListing register caller project day 1 state lines).
+    permitted_reply (decided register caller project verbs.List) k (IsListingAnswer register state caller project day) (Listing lines) permit (lines, h, refl)))
+    (λ s. refl) (listing_asks register state caller project day k permit)

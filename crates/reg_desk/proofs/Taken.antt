@@ -1,0 +1,95 @@
+-- A body is taken exactly where the reply is the receipt of a new number.
+use Rattle.std.proofs.Common.{◌≡◌, ℕ, suc, ◌+◌, ◌≤◌, ◌<◌, Bool, true, false, cond, Option, Some, None, List, [], ◌∷◌, length, refl, sym, ap, subst, ◌∙◌, arith}
+use Rattle.std.specs.Prelude.{ℤ, nat_lt}
+use Rattle.std.proofs.lemmas.Bool.{cond-true, lt-ltb, le-ltb, ltb-true, ltb-false}
+use Rattle.std.proofs.lemmas.Option.{same_Some}
+use Rattle.ags_rows.specs.declared.finding.Finding.{Finding}
+use Rattle.ags_rows.specs.declared.TheConstants.{LIMIT}
+use Rattle.ags_check.specs.Findings.{Findings as AreFindings}
+use Rattle.ags_check.proofs.Whole.{one_list}
+use Rattle.reg_policy.specs.declared.callers.Caller.{Caller}
+use Rattle.reg_policy.specs.declared.subject.Decision.{Decision}
+use Rattle.reg_policy.specs.declared.subject.Decision.TheVariants.{Permit, Deny}
+use Rattle.reg_policy.specs.declared.subject.Verb.TheVariants as verbs
+use Rattle.reg_store.specs.Deposit.{Deposit, is_repeat}
+use Rattle.reg_desk.specs.Asked.{deposit}
+use Rattle.reg_desk.specs.declared.answer.Answer.{Answer}
+use Rattle.reg_desk.specs.declared.answer.Answer.TheVariants.{Receipt, Findings, Denied, TooLarge, Full}
+use Rattle.reg_desk.specs.Machine.{Register, decided, Where, OrDenied, OrFound, OrRefused, first_equal, receipt_of, IsReply, IsTaken}
+use Rattle.reg_desk.specs.Laws.{TakenIsReceived}
+
+-- what stands of the receipt
+abbrev IsReceipt : Register → List Deposit → Caller → List ℕ → ℤ → List ℕ → Answer → Type 0
+IsReceipt register state caller project embargo bytes r = r ≡ receipt_of register embargo (length state) (first_equal 1 caller.firm project bytes state)
+
+-- ---- a body that is taken
+
+clean_stands : (register : Register) (bytes : List ℕ) (P : Answer → Type 0) (r : Answer) → length bytes ≤ LIMIT → AreFindings register.given bytes [] → OrRefused register bytes P r → P r
+clean_stands register bytes P r small clean h =
+    let Found = (found : List Finding) × AreFindings register.given bytes found × OrFound found P r in
+    let found : Found = subst (λ (b : Bool). Where b (r ≡ TooLarge) Found) (le-ltb LIMIT (length bytes) small) h in
+    subst (λ (l : List Finding). OrFound l P r) (one_list register.given bytes found.0 [] found.1 clean) found.2
+
+received : (register : Register) (state : List Deposit) (caller : Caller) (project : List ℕ) (embargo : ℤ) (bytes : List ℕ) (day : ℤ) (reply : Answer)
+    → IsReply register state (deposit caller project embargo bytes day) reply → IsTaken register state caller project bytes → reply ≡ Receipt (length state + 1) embargo
+received register state caller project embargo bytes day reply h t =
+    let stands = IsReceipt register state caller project embargo bytes in
+    let permitted = subst (λ (d : Decision). OrDenied d (OrRefused register bytes stands) reply) t.permitted h in
+    clean_stands register bytes stands reply t.small t.clean permitted
+    ∙ ap (receipt_of register embargo (length state)) t.unheld
+    ∙ cond-true (nat_lt (length state) register.limit) (Receipt (length state + 1) embargo) Full (lt-ltb (length state) register.limit t.room)
+
+-- ---- the receipt of a new number
+
+not_denied : (d : Decision) (P : Answer → Type 0) (r : Answer) → OrDenied d P r → ((n : ℕ) → r ≡ Denied n → ⊥) → (n : ℕ) × (d ≡ Permit n) × P r
+not_denied (Permit n) P r h never = (n, refl, h)
+not_denied (Deny n) P r h never = absurd (never n h)
+
+not_where : (t : Bool) (A B : Type 0) → Where t A B → (A → ⊥) → (t ≡ false) × B
+not_where true A B h never = absurd (never h)
+not_where false A B h never = (refl, h)
+
+not_found : (found : List Finding) (P : Answer → Type 0) (r : Answer) → OrFound found P r → ((l : List Finding) → r ≡ Findings l → ⊥) → (found ≡ []) × P r
+not_found [] P r h never = (refl, h)
+not_found (f ∷ found) P r h never = absurd (never (f ∷ found) h)
+
+first_step : (t : Bool) (n : ℕ) (x : ℤ) (more : Option (ℕ × ℤ)) (k : ℕ) (e : ℤ) (m : ℕ) → cond t (Some (n, x)) more ≡ Some (k, e) → (more ≡ Some (k, e) → k < n + 1 + m) → k < n + suc m
+first_step true n x more k e m h rest = let same : n ≡ k = ap (λ (p : ℕ × ℤ). p.0) (same_Some (n, x) (k, e) h) in omega (arith, same)
+first_step false n x more k e m h rest = let lt = rest h in omega (arith, lt)
+
+-- the number of an equal deposit is that of a deposit held
+first_held : (firm project bytes : List ℕ) (n : ℕ) (state : List Deposit) (k : ℕ) (e : ℤ) → first_equal n firm project bytes state ≡ Some (k, e) → k < n + length state
+first_held firm project bytes n [] k e h = absurd cc
+first_held firm project bytes n (d ∷ state) k e h =
+    first_step (is_repeat firm project bytes d) n d.embargo (first_equal (n + 1) firm project bytes state) k e (length state) h (first_held firm project bytes (n + 1) state k e)
+
+room_for : (t : Bool) (number : ℕ) (embargo : ℤ) → cond t (Receipt number embargo) Full ≡ Receipt number embargo → t ≡ true
+room_for true number embargo h = refl
+room_for false number embargo h = absurd cc
+
+new_number : (register : Register) (embargo : ℤ) (count : ℕ) (first : Option (ℕ × ℤ)) → ((k : ℕ) (e : ℤ) → first ≡ Some (k, e) → k < 1 + count) → receipt_of register embargo count first ≡ Receipt (count + 1) embargo
+    → (first ≡ None) × (count < register.limit)
+new_number register embargo count (Some held) low h = let same : held.0 ≡ count + 1 = cc in let lt = low held.0 held.1 refl in absurd (omega (arith, same, lt))
+new_number register embargo count None low h = (refl, ltb-true count register.limit (room_for (nat_lt count register.limit) (count + 1) embargo h))
+
+taken : (register : Register) (state : List Deposit) (caller : Caller) (project : List ℕ) (embargo : ℤ) (bytes : List ℕ) (day : ℤ) (reply : Answer)
+    → IsReply register state (deposit caller project embargo bytes day) reply → reply ≡ Receipt (length state + 1) embargo → IsTaken register state caller project bytes
+taken register state caller project embargo bytes day reply h is =
+    let stands = IsReceipt register state caller project embargo bytes in
+    let permit = not_denied (decided register caller project verbs.Deposit) (OrRefused register bytes stands) reply h (λ n e. cc) in
+    let small = not_where (nat_lt LIMIT (length bytes)) (reply ≡ TooLarge) ((found : List Finding) × AreFindings register.given bytes found × OrFound found stands reply) permit.2 (λ e. cc) in
+    let found = small.1 in
+    let clean = not_found found.0 stands reply found.2 (λ l e. cc) in
+    let new = new_number register embargo (length state) (first_equal 1 caller.firm project bytes state) (first_held caller.firm project bytes 1 state) (sym clean.1 ∙ is) in
+    record {
+      number = permit.0;
+      permitted = permit.1;
+      small = ltb-false LIMIT (length bytes) small.0;
+      clean = subst (AreFindings register.given bytes) clean.0 found.1;
+      unheld = new.0;
+      room = new.1;
+    }
+
+pub taken_received : TakenIsReceived
+taken_received register state caller project embargo bytes day reply h =
+    (received register state caller project embargo bytes day reply h, taken register state caller project embargo bytes day reply h)

@@ -1,0 +1,284 @@
+-- A deposit: taken once, with a receipt.
+use Rattle.std.proofs.Common.{◌≡◌, ◌≢◌, ℕ, ◌+◌, ◌-◌, ◌<◌, ◌≤◌, Bool, true, false, cond, Option, Some, None, Ok, Err, List, [], ◌∷◌, ◌++◌, refl, sym, ap, subst, ◌∙◌, inl, inr, ◌⊎◌, arith, length-append}
+use Rattle.std.specs.Prelude.{ℤ, nat_lt, length, slice_get, Result}
+use Rattle.std.proofs.lemmas.Bool.{cases_Bool, ltb-true, lt-ltb}
+use Rattle.std.proofs.lemmas.Option.{slice_get_within}
+use Rattle.ags_rows.specs.declared.TheConstants.{LIMIT}
+use Rattle.ags_check.specs.Findings.{Findings as AreFindings}
+use Rattle.reg_policy.specs.declared.rule.Rule.{Rule}
+use Rattle.reg_policy.specs.declared.callers.Caller.{Caller}
+use Rattle.reg_policy.specs.declared.subject.Decision.TheVariants.{Permit, Deny}
+use Rattle.reg_policy.specs.declared.subject.Verb.TheVariants as verbs
+use Rattle.reg_store.specs.Deposit.{Deposit, number_of}
+use Rattle.reg_store.specs.Keep.{is_store, Adds, IsHeadOf}
+use Rattle.reg_store.specs.declared.keep.Keep.{Ghosts}
+use Rattle.reg_store.specs.declared.keep.KeepError.{KeepError}
+use Rattle.reg_store.specs.declared.keep.KeptHead.{KeptHead}
+use Rattle.reg_store.specs.declared.keep.KeepError.TheVariants as errors
+use Rattle.reg_desk.specs.Asked.{deposit}
+use Rattle.reg_desk.specs.declared.answer.Answer.{Answer}
+use Rattle.reg_desk.specs.declared.answer.Answer.TheVariants.{Receipt, Denied, TooLarge, Full, NoMemory, StoreFailed}
+use Rattle.reg_desk.specs.Machine.{Register, decided, OrRefused, first_equal, receipt_of, IsReply, IsTaken, IsNext}
+use Rattle.reg_desk.specs.Serving.{IsQuiet, IsFree, AsksStore, IsRefusal, AddsAsked, register_at, OnlyReads, Serves, answer_of}
+use Rattle.reg_desk.proofs.Replies.{reply_same, finds_itself}
+use Rattle.reg_desk.proofs.Firsts.{first_none, first_some}
+use Rattle.reg_desk.proofs.Bodies.{refused_none, refusal_serves}
+use Rattle.reg_desk.proofs.Serves.{told_answer, told_after, memory_answer, memory_after, failed_answer, failed_after, asks_needs, owed_never, replies_at_once, refused_serves, replies_serves, permitted_reply, denied_reply}
+
+-- ---- the reply
+
+-- the receipt, or that the register is full
+abbrev IsReceipt : Register → List Deposit → Caller → List ℕ → ℤ → List ℕ → Answer → Type 0
+IsReceipt register state caller project embargo bytes r = r ≡ receipt_of register embargo (length state) (first_equal 1 caller.firm project bytes state)
+
+-- a body that is permitted, not too large, and without findings
+pub record IsFine (register : Register) (caller : Caller) (project bytes : List ℕ) : Type 0 where
+  pub number : ℕ
+  pub permitted : decided register caller project verbs.Deposit ≡ Permit number
+  pub small : length bytes ≤ LIMIT
+  pub clean : AreFindings register.given bytes []
+
+fine_reply : (register : Register) (state : List Deposit) (caller : Caller) (project : List ℕ) (embargo : ℤ) (bytes : List ℕ) (day : ℤ) (answer : Answer) → IsFine register caller project bytes
+    → IsReceipt register state caller project embargo bytes answer → IsReply register state (deposit caller project embargo bytes day) answer
+fine_reply register state caller project embargo bytes day answer fine is =
+    let Stands = IsReceipt register state caller project embargo bytes in
+    permitted_reply (decided register caller project verbs.Deposit) fine.number (OrRefused register bytes Stands) answer fine.permitted (refused_none register bytes Stands answer fine.small fine.clean is)
+
+receipt_or_full : (t : Bool) (n : ℕ) (e : ℤ) → IsQuiet (cond t (Receipt n e) Full) → ⊥
+receipt_or_full true n e quiet = quiet
+receipt_or_full false n e quiet = quiet
+
+receipt_not_quiet : (register : Register) (embargo : ℤ) (count : ℕ) (first : Option (ℕ × ℤ)) → IsQuiet (receipt_of register embargo count first) → ⊥
+receipt_not_quiet register embargo count (Some held) quiet = quiet
+receipt_not_quiet register embargo count None quiet = receipt_or_full (nat_lt count register.limit) (count + 1) embargo quiet
+
+fine_asks : (register : Register) (state : List Deposit) (caller : Caller) (project : List ℕ) (embargo : ℤ) (bytes : List ℕ) (day : ℤ) → IsFine register caller project bytes → AsksStore register state (deposit caller project embargo bytes day)
+fine_asks register state caller project embargo bytes day fine = λ reply is quiet.
+    let request = deposit caller project embargo bytes day in
+    let receipt = receipt_of register embargo (length state) (first_equal 1 caller.firm project bytes state) in
+    let same = reply_same register request state state (finds_itself register request state) reply receipt is (fine_reply register state caller project embargo bytes day receipt fine refl) in
+    receipt_not_quiet register embargo (length state) (first_equal 1 caller.firm project bytes state) (subst IsQuiet same quiet)
+
+-- ---- what is not taken
+
+receipt_new : (register : Register) (embargo : ℤ) (count : ℕ) (first : Option (ℕ × ℤ)) → first ≡ None → count < register.limit → Receipt (count + 1) embargo ≡ receipt_of register embargo count first
+receipt_new register embargo count first none room =
+    ap (λ (t : Bool). cond t (Receipt (count + 1) embargo) Full) (sym (lt-ltb count register.limit room)) ∙ ap (receipt_of register embargo count) (sym none)
+
+ltb_of : (m n : ℕ) → n ≤ m → nat_lt m n ≡ false
+ltb_of m n le = elim (cases_Bool (nat_lt m n)) [ inl e ↦ absurd (omega (arith, ltb-true m n e, le)) | inr e ↦ e ]
+
+receipt_full : (register : Register) (embargo : ℤ) (count : ℕ) (first : Option (ℕ × ℤ)) → first ≡ None → register.limit ≤ count → Full ≡ receipt_of register embargo count first
+receipt_full register embargo count first none full =
+    ap (λ (t : Bool). cond t (Receipt (count + 1) embargo) Full) (sym (ltb_of count register.limit full)) ∙ ap (receipt_of register embargo count) (sym none)
+
+abbrev fine_of : (register : Register) (state : List Deposit) (caller : Caller) (project bytes : List ℕ) → IsTaken register state caller project bytes → IsFine register caller project bytes
+fine_of register state caller project bytes taken = record { number = taken.number; permitted = taken.permitted; small = taken.small; clean = taken.clean }
+
+-- a reply that is not the receipt of a new deposit takes nothing
+untaken : (register : Register) (state : List Deposit) (caller : Caller) (project : List ℕ) (embargo : ℤ) (bytes : List ℕ) (day : ℤ) (answer : Answer) → answer ≢ Receipt (length state + 1) embargo
+    → IsReply register state (deposit caller project embargo bytes day) answer → IsNext register state (deposit caller project embargo bytes day) state
+untaken register state caller project embargo bytes day answer other is =
+    let request = deposit caller project embargo bytes day in
+    inr (
+      (λ taken.
+          other (reply_same register request state state (finds_itself register request state) answer (Receipt (length state + 1) embargo) is
+          (fine_reply register state caller project embargo bytes day (Receipt (length state + 1) embargo) (fine_of register state caller project bytes taken)
+          (receipt_new register embargo (length state) (first_equal 1 caller.firm project bytes state) taken.unheld taken.room)))),
+      refl,
+    )
+
+refusal_other : (register : Register) (bytes : List ℕ) (n : ℕ) (e : ℤ) (answer : Answer) → IsRefusal register.given bytes answer → answer ≢ Receipt n e
+refusal_other register bytes n e answer refusal same = subst (IsRefusal register.given bytes) same refusal
+
+receipt_not_free : (register : Register) (state : List Deposit) (caller : Caller) (project : List ℕ) (embargo : ℤ) (bytes : List ℕ) (r : Answer) → IsReceipt register state caller project embargo bytes r → IsFree r → ⊥
+receipt_not_free register state caller project embargo bytes r is free =
+    receipt_never (length state) (first_equal 1 caller.firm project bytes state) (subst IsFree is free)
+  where
+    never : (t : Bool) (n : ℕ) (e : ℤ) → IsFree (cond t (Receipt n e) Full) → ⊥
+    never true n e free = free
+    never false n e free = free
+
+    receipt_never : (count : ℕ) (first : Option (ℕ × ℤ)) → IsFree (receipt_of register embargo count first) → ⊥
+    receipt_never count (Some held) free = free
+    receipt_never count None free = never (nat_lt count register.limit) (count + 1) embargo free
+
+-- ---- the answers to a deposit
+
+pub deposit_denied : {K : Type 0} (keep : Ghosts K) (rules : List Rule) (caller : Caller) (project : List ℕ) (embargo : ℤ) (bytes : List ℕ) (day : ℤ) (old : K) (m : ℕ) → keep.has_failed old ≡ false
+    → decided (register_at keep rules old) caller project verbs.Deposit ≡ Deny m → Serves keep rules (deposit caller project embargo bytes day) old old (Denied m)
+deposit_denied keep rules caller project embargo bytes day old m works deny =
+    let register = register_at keep rules old in
+    let is = denied_reply (decided register caller project verbs.Deposit) m (OrRefused register bytes (IsReceipt register (keep.deposits old) caller project embargo bytes)) deny in
+    replies_at_once keep rules (deposit caller project embargo bytes day) old (Denied m) works refl is
+    (untaken register (keep.deposits old) caller project embargo bytes day (Denied m) (λ e. absurd cc) is)
+
+pub deposit_refused : {K : Type 0} (keep : Ghosts K) (rules : List Rule) (caller : Caller) (project : List ℕ) (embargo : ℤ) (bytes : List ℕ) (day : ℤ) (old : K) (answer : Answer) (k : ℕ) → keep.has_failed old ≡ false
+    → decided (register_at keep rules old) caller project verbs.Deposit ≡ Permit k → IsRefusal (keep.dictionary old) bytes answer → Serves keep rules (deposit caller project embargo bytes day) old old answer
+deposit_refused keep rules caller project embargo bytes day old answer k works permit refusal =
+    let register = register_at keep rules old in
+    let state = keep.deposits old in
+    refusal_serves keep rules (deposit caller project embargo bytes day) old answer (decided register caller project verbs.Deposit) k bytes (IsReceipt register state caller project embargo bytes) works permit refusal
+    (receipt_not_free register state caller project embargo bytes) (λ r h. h) (λ r h. h)
+    (λ r h is. untaken register state caller project embargo bytes day r (refusal_other register bytes (length state + 1) embargo r h) is)
+
+pub deposit_unread : {K : Type 0} (keep : Ghosts K) (rules : List Rule) (caller : Caller) (project : List ℕ) (embargo : ℤ) (bytes : List ℕ) (day : ℤ) (old new : K) (e : KeepError)
+    → IsFine (register_at keep rules old) caller project bytes → OnlyReads keep old new (is_store e) → e ≢ errors.Full → Serves keep rules (deposit caller project embargo bytes day) old new (answer_of e)
+deposit_unread keep rules caller project embargo bytes day old new e fine reads named =
+    refused_serves keep rules (deposit caller project embargo bytes day) old new e reads named (fine_asks (register_at keep rules old) (keep.deposits old) caller project embargo bytes day fine)
+
+-- an equal deposit is held
+pub deposit_repeats : {K : Type 0} (keep : Ghosts K) (rules : List Rule) (caller : Caller) (project : List ℕ) (embargo : ℤ) (bytes : List ℕ) (day : ℤ) (old new : K) (n : ℕ) (e : ℤ)
+    → IsFine (register_at keep rules old) caller project bytes → OnlyReads keep old new false → (keep.is_sound new → first_equal 1 caller.firm project bytes (keep.deposits old) ≡ Some (n, e))
+    → Serves keep rules (deposit caller project embargo bytes day) old new (Receipt n e)
+deposit_repeats keep rules caller project embargo bytes day old new n e fine reads first =
+    let register = register_at keep rules old in
+    let state = keep.deposits old in
+    replies_serves keep rules (deposit caller project embargo bytes day) old new (Receipt n e) reads refl
+    (λ s. ∣ fine_reply register state caller project embargo bytes day (Receipt n e) fine (ap (receipt_of register embargo (length state)) (sym (first s))) ∣₁)
+    (λ s. inr ((λ taken. none_some (first_equal 1 caller.firm project bytes state) (n, e) taken.unheld (first s)), refl))
+    (fine_asks register state caller project embargo bytes day fine)
+  where
+    none_some : (o : Option (ℕ × ℤ)) (p : ℕ × ℤ) → o ≡ None → o ≡ Some p → ⊥
+    none_some None p a b = cc
+    none_some (Some q) p a b = cc
+
+-- ---- what the keep finds
+
+-- its number is one of the list
+pub found_within : (firm project bytes : List ℕ) (state : List Deposit) (n : ℕ) → number_of firm project bytes state ≡ Some n → (0 < n) × (n ≤ length state)
+found_within firm project bytes state n found =
+    let first = first_some firm project bytes 1 state n found in
+    let within = slice_get_within state first.place first.found first.at in
+    (omega (arith, first.number), omega (arith, first.number, within))
+
+-- the first equal deposit, by its number and the head that is kept of it
+pub first_found : (firm project bytes : List ℕ) (state : List Deposit) (n : ℕ) (head : KeptHead) → number_of firm project bytes state ≡ Some n → ((d : Deposit) → slice_get state (n - 1) ≡ Some d → IsHeadOf d head)
+    → first_equal 1 firm project bytes state ≡ Some (n, head.embargo)
+first_found firm project bytes state n head found of_head =
+    let first = first_some firm project bytes 1 state n found in
+    let place : first.place ≡ n - 1 = omega (arith, first.number) in
+    let is = of_head first.found (subst (λ (i : ℕ). slice_get state i ≡ Some first.found) place first.at) in
+    first.first ∙ ap (λ (e : ℤ). Some (n, e)) (sym is.embargo)
+
+-- ---- a deposit that no equal one is held of
+
+-- the call that appends, after calls that read
+abbrev pub Appends : {K : Type 0} → Ghosts K → Deposit → K → K → Result ℕ KeepError → Type 0
+Appends keep d old new result = Adds keep.deposits keep.dictionary keep.limit keep.has_failed keep.may_leave keep.is_sound d old new result
+
+abbrev pub asked_deposit : Caller → List ℕ → ℤ → List ℕ → Deposit
+asked_deposit caller project embargo bytes = record { firm = caller.firm; project = project; embargo = embargo; bytes = bytes }
+
+adds_asked : (caller : Caller) (project : List ℕ) (embargo : ℤ) (bytes : List ℕ) (day : ℤ) (state list : List Deposit) → list ≡ state ++ asked_deposit caller project embargo bytes ∷ [] → AddsAsked (deposit caller project embargo bytes day) state list
+unfolding AddsAsked
+adds_asked caller project embargo bytes day state list is = is
+
+may_have_left : {K : Type 0} (keep : Ghosts K) (caller : Caller) (project : List ℕ) (embargo : ℤ) (bytes : List ℕ) (day : ℤ) (old mid new : K) (result : Result ℕ KeepError)
+    → OnlyReads keep old mid false → Appends keep (asked_deposit caller project embargo bytes) mid new result → keep.is_sound new → (list : List Deposit) → keep.may_leave new list
+    → keep.may_leave old list ⊎ AddsAsked (deposit caller project embargo bytes day) (keep.deposits old) list
+may_have_left keep caller project embargo bytes day old mid new result reads appends s list may =
+    elim (appends.crash s list may) [
+      | inl was ↦ inl (reads.crash (appends.sound s) list was)
+      | inr is ↦ inr (adds_asked caller project embargo bytes day (keep.deposits old) list (is ∙ ap (λ (l : List Deposit). l ++ asked_deposit caller project embargo bytes ∷ []) (reads.same (appends.sound s) refl)))
+    ]
+
+no_failure : (t failed : Bool) → t ≡ failed → failed ≡ false → t ≡ true → false ≡ true
+no_failure t failed is lives e = sym lives ∙ sym is ∙ e
+
+pub deposit_added : {K : Type 0} (keep : Ghosts K) (rules : List Rule) (caller : Caller) (project : List ℕ) (embargo : ℤ) (bytes : List ℕ) (day : ℤ) (old mid new : K) (n : ℕ)
+    → IsFine (register_at keep rules old) caller project bytes → OnlyReads keep old mid false → (keep.is_sound mid → None ≡ number_of caller.firm project bytes (keep.deposits old))
+    → Appends keep (asked_deposit caller project embargo bytes) mid new (Ok n)
+    → (keep.is_sound new → n ≡ length (keep.deposits new)) → (keep.is_sound new → length (keep.deposits mid) < keep.limit mid)
+    → Serves keep rules (deposit caller project embargo bytes day) old new (Receipt n embargo)
+deposit_added keep rules caller project embargo bytes day old mid new n fine reads unheld appends number room =
+    let register = register_at keep rules old in
+    let state = keep.deposits old in
+    let request = deposit caller project embargo bytes day in
+    let d = asked_deposit caller project embargo bytes in
+    let asks = fine_asks register state caller project embargo bytes day fine in
+    let none : keep.is_sound new → first_equal 1 caller.firm project bytes state ≡ None = λ s. first_none caller.firm project bytes 1 state (sym (unheld (appends.sound s))) in
+    let new_list : keep.is_sound new → keep.deposits new ≡ state ++ d ∷ [] = λ s. appends.added s ∙ ap (λ (l : List Deposit). l ++ d ∷ []) (reads.same (appends.sound s) refl) in
+    let has_room : keep.is_sound new → length state < register.limit = λ s. omega (arith, room s, ap length (reads.same (appends.sound s) refl), reads.same_limit) in
+    let count : keep.is_sound new → n ≡ length state + 1 = λ s. omega (arith, number s, ap length (new_list s), length-append state (d ∷ [])) in
+    record {
+      sound = λ s. reads.sound (appends.sound s);
+      same_dictionary = appends.same_dictionary ∙ reads.same_dictionary;
+      same_limit = appends.same_limit ∙ reads.same_limit;
+      failure = no_failure (keep.has_failed new) false appends.failing refl;
+      cause = λ s. sym appends.failing;
+      answered = λ s.
+          ∣ told_answer register state request (Receipt n embargo) refl
+          (fine_reply register state caller project embargo bytes day (Receipt n embargo) fine
+          (ap (λ (k : ℕ). Receipt k embargo) (count s) ∙ receipt_new register embargo (length state) (first_equal 1 caller.firm project bytes state) (none s) (has_room s))) ∣₁;
+      kept = λ s.
+          told_after register state (keep.deposits new) request (Receipt n embargo) refl
+          (inl (record { number = fine.number; permitted = fine.permitted; small = fine.small; clean = fine.clean; unheld = none s; room = has_room s }, new_list s));
+      denied = λ m. owed_never register state request (Denied m) (Receipt n embargo) (λ h. asks (Denied m) h tt);
+      too_large = owed_never register state request TooLarge (Receipt n embargo) (λ h. asks TooLarge h tt);
+      crash = may_have_left keep caller project embargo bytes day old mid new (Ok n) reads appends;
+    }
+
+-- the keep refuses to append
+pub deposit_unadded : {K : Type 0} (keep : Ghosts K) (rules : List Rule) (caller : Caller) (project : List ℕ) (embargo : ℤ) (bytes : List ℕ) (day : ℤ) (old mid new : K) (e : KeepError)
+    → IsFine (register_at keep rules old) caller project bytes → OnlyReads keep old mid false → (keep.is_sound mid → None ≡ number_of caller.firm project bytes (keep.deposits old))
+    → Appends keep (asked_deposit caller project embargo bytes) mid new (Err e)
+    → (keep.is_sound new → e ≡ errors.Full → length (keep.deposits mid) ≡ keep.limit mid)
+    → Serves keep rules (deposit caller project embargo bytes day) old new (answer_of e)
+deposit_unadded keep rules caller project embargo bytes day old mid new errors.Full fine reads unheld appends full =
+    let register = register_at keep rules old in
+    let state = keep.deposits old in
+    let request = deposit caller project embargo bytes day in
+    let asks = fine_asks register state caller project embargo bytes day fine in
+    let none : keep.is_sound new → first_equal 1 caller.firm project bytes state ≡ None = λ s. first_none caller.firm project bytes 1 state (sym (unheld (appends.sound s))) in
+    let no_room : keep.is_sound new → register.limit ≤ length state = λ s. omega (arith, full s refl, ap length (reads.same (appends.sound s) refl), reads.same_limit) in
+    record {
+      sound = λ s. reads.sound (appends.sound s);
+      same_dictionary = appends.same_dictionary ∙ reads.same_dictionary;
+      same_limit = appends.same_limit ∙ reads.same_limit;
+      failure = no_failure (keep.has_failed new) false appends.failing refl;
+      cause = λ s. sym appends.failing;
+      answered = λ s.
+          ∣ told_answer register state request Full refl
+          (fine_reply register state caller project embargo bytes day Full fine (receipt_full register embargo (length state) (first_equal 1 caller.firm project bytes state) (none s) (no_room s))) ∣₁;
+      kept = λ s.
+          told_after register state (keep.deposits new) request Full refl
+          (inr ((λ taken. omega (arith, taken.room, no_room s)), appends.refused s refl ∙ reads.same (appends.sound s) refl));
+      denied = λ m. owed_never register state request (Denied m) Full (λ h. asks (Denied m) h tt);
+      too_large = owed_never register state request TooLarge Full (λ h. asks TooLarge h tt);
+      crash = may_have_left keep caller project embargo bytes day old mid new (Err errors.Full) reads appends;
+    }
+deposit_unadded keep rules caller project embargo bytes day old mid new errors.NoMemory fine reads unheld appends full =
+    let register = register_at keep rules old in
+    let state = keep.deposits old in
+    let request = deposit caller project embargo bytes day in
+    let asks = fine_asks register state caller project embargo bytes day fine in
+    record {
+      sound = λ s. reads.sound (appends.sound s);
+      same_dictionary = appends.same_dictionary ∙ reads.same_dictionary;
+      same_limit = appends.same_limit ∙ reads.same_limit;
+      failure = no_failure (keep.has_failed new) false appends.failing refl;
+      cause = λ s. sym appends.failing;
+      answered = λ s. ∣ memory_answer register state request (asks_needs register state request asks) ∣₁;
+      kept = λ s. memory_after register state (keep.deposits new) request (appends.refused s refl ∙ reads.same (appends.sound s) refl);
+      denied = λ m. owed_never register state request (Denied m) NoMemory (λ h. asks (Denied m) h tt);
+      too_large = owed_never register state request TooLarge NoMemory (λ h. asks TooLarge h tt);
+      crash = may_have_left keep caller project embargo bytes day old mid new (Err errors.NoMemory) reads appends;
+    }
+deposit_unadded keep rules caller project embargo bytes day old mid new errors.Store fine reads unheld appends full =
+    let register = register_at keep rules old in
+    let state = keep.deposits old in
+    let request = deposit caller project embargo bytes day in
+    let asks = fine_asks register state caller project embargo bytes day fine in
+    record {
+      sound = λ s. reads.sound (appends.sound s);
+      same_dictionary = appends.same_dictionary ∙ reads.same_dictionary;
+      same_limit = appends.same_limit ∙ reads.same_limit;
+      failure = λ e. refl;
+      cause = λ s. sym appends.failing;
+      answered = λ s. ∣ failed_answer register state request asks ∣₁;
+      kept = λ s. failed_after register state (keep.deposits new) request;
+      denied = λ m. owed_never register state request (Denied m) StoreFailed (λ h. asks (Denied m) h tt);
+      too_large = owed_never register state request TooLarge StoreFailed (λ h. asks TooLarge h tt);
+      crash = may_have_left keep caller project embargo bytes day old mid new (Err errors.Store) reads appends;
+    }

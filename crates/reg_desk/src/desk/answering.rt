@@ -1,0 +1,67 @@
+//! One request, and a list of them.
+
+ghost use Rattle.std.specs.Prelude.{◌≡◌, ◌||◌, List, true, false, length, map, IfOk, OnErr};
+ghost use Rattle.std.specs.List.{AllZip, list_any};
+ghost use Rattle.reg_store.specs.Deposit.{Deposit};
+ghost use Rattle.reg_desk.specs.Asked.{asked};
+ghost use Rattle.reg_desk.specs.Serving.{is_failed};
+ghost use Rattle.reg_desk.specs.Running.{AreFailed, IsHeldIn, Runs};
+ghost use Rattle.reg_desk.specs.Desks.{AnsweredBy, IsCleanText, IsSameAnswer};
+
+use crate::answer::Answer;
+use crate::desk::Desk;
+use crate::request::Request;
+use crate::serving::serve;
+use reg_store::Keep;
+use std::alloc::{AllocError, Global};
+
+impl<K: Keep> Desk<K> {
+    /// Answers one request. Once the store has failed the answer is StoreFailed, without memory.
+    pub fn answer(&mut self, alloc: Global, request: &Request<'_>) -> Answer
+        ensures answered { AnsweredBy K.Keep self.old (asked request.entry.now) result self.new }
+        ensures clean { K.is_sound self.new.keep → IsCleanText K.Keep self.old.keep result }
+        ensures same { K.is_sound self.new.keep → IsSameAnswer K.Keep self.old.policy self.old.keep (asked request.entry.now) result }
+    {
+        if self.failed {
+            return Answer::StoreFailed;
+        }
+        let answer = serve(alloc, &mut self.keep, &self.policy, request);
+        self.failed = is_store_failed(&answer);
+        answer
+    }
+
+    /// Answers requests in order. Room for all answers is taken first: at `Err` none was asked.
+    pub fn run(
+        &mut self,
+        alloc: Global,
+        requests: &[Request<'_>],
+    ) -> Result<Vec<Answer>, AllocError>
+        ensures unasked { OnErr result (self.new ≡ self.old) }
+        ensures policy { self.new.policy ≡ self.old.policy }
+        ensures dictionary { K.dictionary self.new.keep ≡ K.dictionary self.old.keep }
+        ensures limit { K.limit self.new.keep ≡ K.limit self.old.keep }
+        ensures sound { K.is_sound self.new.keep → K.is_sound self.old.keep }
+        ensures count { IfOk result (λ answers. length answers.items ≡ length requests.entry.now) }
+        ensures failed { IfOk result (λ answers. self.new.failed ≡ (self.old.failed || list_any is_failed answers.items)) }
+        ensures stuck { self.old.failed ≡ true → IfOk result (λ answers. AreFailed (map asked requests.entry.now) answers.items × (self.new.keep ≡ self.old.keep)) }
+        ensures runs { K.is_sound self.new.keep → self.old.failed ≡ false → IfOk result (λ answers. ∥ Runs K.Keep self.old.policy self.old.keep self.new.keep (map asked requests.entry.now) answers.items ∥₁) }
+        ensures receipts { K.is_sound self.new.keep → self.old.failed ≡ false → IfOk result (λ answers. (list : List Deposit) → K.may_leave self.new.keep list → ∥ AllZip (IsHeldIn list) (map asked requests.entry.now) answers.items ∥₁) }
+    {
+        let mut answers = Vec::with_capacity(alloc, requests.len())?;
+        for request in requests {
+            let answer = self.answer(alloc, request);
+            match answers.push(answer) {
+                Ok(()) => {}
+                Err(_) => unreachable!(),
+            }
+        }
+        Ok(answers)
+    }
+}
+
+/// Whether the answer is that the store failed.
+fn is_store_failed(answer: &Answer) -> bool
+    ensures { result ≡ is_failed answer.now }
+{
+    matches!(answer, Answer::StoreFailed)
+}

@@ -1,0 +1,93 @@
+//! What each request is answered, over whatever keeps the deposits.
+
+ghost use Rattle.std.specs.Prelude.{◌≡◌, ℕ, false};
+ghost use Rattle.std.specs.Str.{bytes_eq};
+ghost use Rattle.ags_dict.specs.Entries.{Entries};
+ghost use Rattle.reg_desk.specs.Asked.{asked};
+ghost use Rattle.reg_desk.specs.Machine.{decided};
+ghost use Rattle.reg_desk.specs.Serving.{Serves, answer_of};
+
+mod body;
+mod deposit;
+mod drawing;
+mod listing;
+
+use crate::answer::Answer;
+use crate::request::Request;
+use crate::serving::body::serve_check;
+use crate::serving::deposit::serve_deposit;
+use crate::serving::drawing::serve_extract;
+use crate::serving::listing::serve_list;
+use reg_policy::{Caller, Decision, Name, Policy, Subject, Verb};
+use reg_store::{Keep, KeepError};
+use std::alloc::Global;
+
+/// Answers a request.
+#[tactic(none)]
+pub(crate) fn serve<K: Keep>(
+    alloc: Global,
+    keep: &mut K,
+    policy: &Policy,
+    request: &Request<'_>,
+) -> Answer
+    requires { K.has_failed keep.old ≡ false }
+    ensures { Serves K.Keep policy.now (asked request.entry.now) keep.old keep.new result }
+{
+    match *request {
+        Request::Deposit {
+            caller,
+            project,
+            embargo,
+            bytes,
+            day: _,
+        } => serve_deposit(alloc, keep, policy, caller, project, embargo, bytes),
+        Request::Check {
+            caller,
+            project,
+            bytes,
+            day: _,
+        } => serve_check(alloc, keep, policy, caller, project, bytes),
+        Request::List {
+            caller,
+            project,
+            day,
+        } => serve_list(alloc, keep, policy, caller, project, day),
+        Request::Extract {
+            caller,
+            project,
+            number,
+            groups,
+            day,
+        } => serve_extract(alloc, keep, policy, caller, project, number, groups, day),
+    }
+}
+
+/// What the policy decides of a request.
+fn decide_request<'x>(
+    policy: &Policy,
+    caller: &'x Caller,
+    project: &'x Name,
+    verb: Verb,
+) -> Decision
+    ensures { (given : Entries) (limit : ℕ) → result ≡ decided (record { rules = policy.now; given = given; limit = limit }) caller.now project.now verb }
+{
+    policy.decide(&Subject::of_request(caller, project, verb))
+}
+
+/// The answer where the keep refuses.
+fn refused(error: KeepError) -> Answer
+    ensures { result ≡ answer_of error }
+{
+    match error {
+        KeepError::Full => Answer::Full,
+        KeepError::Store => Answer::StoreFailed,
+        KeepError::NoMemory => Answer::NoMemory,
+    }
+}
+
+/// Whether two names are one.
+fn is_same(one: &Name, other: &Name) -> bool
+    ensures { result ≡ bytes_eq one.now other.now }
+{
+    one.text().as_bytes() == other.text().as_bytes()
+}

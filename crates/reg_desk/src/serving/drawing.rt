@@ -1,0 +1,110 @@
+//! An extract, from the rows and steps that are kept of a deposit.
+
+ghost use Rattle.std.specs.Prelude.{◌≡◌, ◌≢◌, ◌-◌, ◌<◌, ◌≤◌, false, length, slice_get, Some, Err, IfOk, IsErrOf, option_map};
+ghost use Rattle.ags_check.specs.Findings.{CheckedFile};
+ghost use Rattle.reg_store.specs.Deposit.{Deposit};
+ghost use Rattle.reg_store.specs.Fit.{IsFileOf};
+ghost use Rattle.reg_store.specs.Keep.{fails};
+ghost use Rattle.reg_desk.specs.Asked.{extract as asks_extract, names_in};
+ghost use Rattle.ags_check.specs.Findings.{file_of};
+ghost use Rattle.reg_desk.specs.Machine.{IsDrawnFrom, held};
+ghost use Rattle.reg_desk.specs.View.{IsViewOf, IsExtractOf, look_of};
+ghost use Rattle.reg_desk.specs.Serving.{OnlyReads, Serves, look_on, register_at, text_answer};
+
+use crate::answer::Answer;
+use crate::serving::{decide_request, is_same, refused};
+use crate::view::{Looking, extract};
+use ags_links::Graph;
+use ags_rows::Sequence;
+use reg_policy::{Caller, Day, Decision, Name, Policy, Verb};
+use reg_store::{Keep, KeepError, KeptHead, KeptRow};
+use std::alloc::Global;
+
+/// Who looks at the deposit of this head.
+pub(super) fn looking_at<'x>(
+    policy: &'x Policy,
+    caller: &'x Caller,
+    head: &'x KeptHead,
+    day: Day,
+) -> Looking<'x>
+    ensures { look_of result ≡ look_on policy.now caller.now head.now day }
+{
+    Looking {
+        policy,
+        caller,
+        owner: &head.firm,
+        project: &head.project,
+        embargo: head.embargo,
+        day,
+    }
+}
+
+/// The rows and the steps of a kept deposit.
+pub(super) fn read_view<K: Keep>(
+    keep: &mut K,
+    number: u32,
+) -> Result<(Vec<KeptRow>, Graph), KeepError>
+    requires working { K.has_failed keep.old ≡ false }
+    requires number { K.is_sound keep.old → (0 < number) × (number ≤ length (K.deposits keep.old)) }
+    ensures reads { OnlyReads K.Keep keep.old keep.new (fails result) }
+    ensures seen { K.is_sound keep.new → IfOk result (λ seen. (d : Deposit) (file : CheckedFile) → slice_get (K.deposits keep.old) (number - 1) ≡ Some d → IsFileOf (K.dictionary keep.old) d file → IsViewOf seen.0.items seen.1 file) }
+    ensures named { result ≢ Err KeepError.Full }
+{
+    let rows = keep.rows(number)?;
+    let graph = keep.steps(number)?;
+    Ok((rows, graph))
+}
+
+/// The text of the extract of a deposit of the project, if its row of PROJ is shown.
+fn draw<K: Keep>(
+    alloc: Global,
+    keep: &mut K,
+    policy: &Policy,
+    caller: &Caller,
+    project: &Name,
+    number: u32,
+    groups: &[&[u8]],
+    day: Day,
+) -> Result<Option<Vec<u8>>, KeepError>
+    requires { K.has_failed keep.old ≡ false }
+    ensures reads { OnlyReads K.Keep keep.old keep.new (fails result) }
+    ensures drawn { K.is_sound keep.new → IfOk result (λ text. ∥ IsDrawnFrom (register_at K.Keep policy.now keep.old) caller.now project.now (names_in groups.now) day (held number (K.deposits keep.old)) (text_answer (option_map (λ t. t.items) text)) ∥₁) }
+    ensures named { result ≢ Err KeepError.Full }
+{
+    if number == 0 || number > keep.count() {
+        return Ok(None);
+    }
+    let head = keep.head(number)?;
+    if !is_same(&head.project, project) {
+        return Ok(None);
+    }
+    let (rows, graph) = read_view(keep, number)?;
+    let looking = looking_at(policy, caller, &head, day);
+    extract(alloc, &looking, groups, &rows, &graph)
+}
+
+/// What an extract is answered.
+#[tactic(none)]
+pub(super) fn serve_extract<K: Keep>(
+    alloc: Global,
+    keep: &mut K,
+    policy: &Policy,
+    caller: &Caller,
+    project: &Name,
+    number: u32,
+    groups: &[&[u8]],
+    day: Day,
+) -> Answer
+    requires { K.has_failed keep.old ≡ false }
+    ensures { Serves K.Keep policy.now (asks_extract caller.now project.now number (names_in groups.now) day) keep.old keep.new result }
+{
+    match decide_request(policy, caller, project, Verb::Extract) {
+        Decision::Deny(rule) => return Answer::Denied(rule),
+        Decision::Permit(_rule) => {}
+    }
+    match draw(alloc, keep, policy, caller, project, number, groups, day) {
+        Err(error) => refused(error),
+        Ok(None) => Answer::Unknown,
+        Ok(Some(text)) => Answer::Text(Sequence::from_vec(text)),
+    }
+}

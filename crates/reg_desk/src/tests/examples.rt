@@ -1,0 +1,429 @@
+//! Requests to a register, and their answers. A deposit is sent on 2024-05-01 under an embargo until 2024-06-01 where nothing else is said.
+
+use super::{Ask, Body, Edit, Example, File, Step, Want};
+
+const MOST: u32 = 999_999;
+
+const SENT: &str = "2024-05-01";
+
+const UNTIL: &str = "2024-06-01";
+
+const FIRST: Want = Want::Says("receipt 1 2024-06-01");
+
+const SECOND: Want = Want::Says("receipt 2 2024-06-01");
+
+/// The first file.
+const A: Body = Body {
+    front: b"",
+    file: File::A,
+    edits: &[],
+    spaces: 0,
+};
+
+/// It with another borehole.
+const A_OTHER: Body = Body {
+    front: b"",
+    file: File::A,
+    edits: &[Edit {
+        first: 30,
+        last: 30,
+        lines: "\"DATA\",\"BH2\"\r\n",
+    }],
+    spaces: 0,
+};
+
+/// It without its row of types.
+const A_UNENDED: Body = Body {
+    front: b"",
+    file: File::A,
+    edits: &[Edit {
+        first: 29,
+        last: 29,
+        lines: "",
+    }],
+    spaces: 0,
+};
+
+/// It before spaces, as long as a body may be.
+const A_LONGEST: Body = Body {
+    front: b"",
+    file: File::A,
+    edits: &[],
+    spaces: 4_193_761,
+};
+
+/// One space more.
+const A_TOO_LONG: Body = Body {
+    front: b"",
+    file: File::A,
+    edits: &[],
+    spaces: 4_193_762,
+};
+
+/// It behind a byte order mark, with spaces and quotes in line 5, and without its last line end.
+const A_SPACED: Body = Body {
+    front: b"\xEF\xBB\xBF",
+    file: File::A,
+    edits: &[
+        Edit {
+            first: 5,
+            last: 5,
+            lines: "\"DATA\" , \"P7\",\"North \"\"bank\"\"\"\r\n",
+        },
+        Edit {
+            first: 30,
+            last: 30,
+            lines: "\"DATA\",\"BH1\"",
+        },
+    ],
+    spaces: 0,
+};
+
+/// As an extract spells that.
+const A_PLAIN: Body = Body {
+    front: b"",
+    file: File::A,
+    edits: &[Edit {
+        first: 5,
+        last: 5,
+        lines: "\"DATA\",\"P7\",\"North \"\"bank\"\"\"\r\n",
+    }],
+    spaces: 0,
+};
+
+/// The second file.
+const B: Body = Body {
+    front: b"",
+    file: File::B,
+    edits: &[],
+    spaces: 0,
+};
+
+/// What Echo may see of it, 956 bytes: all but the second borehole with its sample and its test.
+const B_SHOWN: Body = Body {
+    front: b"",
+    file: File::B,
+    edits: &[
+        Edit {
+            first: 33,
+            last: 33,
+            lines: "",
+        },
+        Edit {
+            first: 40,
+            last: 40,
+            lines: "",
+        },
+        Edit {
+            first: 47,
+            last: 47,
+            lines: "",
+        },
+    ],
+    spaces: 0,
+};
+
+/// The first borehole of it with the project, 626 bytes.
+const B_BOREHOLE: Body = Body {
+    front: b"",
+    file: File::B,
+    edits: &[Edit {
+        first: 33,
+        last: 47,
+        lines: "",
+    }],
+    spaces: 0,
+};
+
+/// It with another result in a hidden row.
+const B_WETTER: Body = Body {
+    front: b"",
+    file: File::B,
+    edits: &[Edit {
+        first: 47,
+        last: 47,
+        lines: "\"DATA\",\"BH2\",\"2.00\",\"S2\",\"2.05\",\"99.9\"\r\n",
+    }],
+    spaces: 0,
+};
+
+/// It with one hidden row more.
+const B_TESTED: Body = Body {
+    front: b"",
+    file: File::B,
+    edits: &[Edit {
+        first: 48,
+        last: 47,
+        lines: "\"DATA\",\"BH2\",\"2.00\",\"S2\",\"2.10\",\"20\"\r\n",
+    }],
+    spaces: 0,
+};
+
+/// The third file, with a ring of record links.
+const C: Body = Body {
+    front: b"",
+    file: File::C,
+    edits: &[],
+    spaces: 0,
+};
+
+/// What Echo may see of it: a hidden sample hides what is linked to it.
+const C_SHOWN: Body = Body {
+    front: b"",
+    file: File::C,
+    edits: &[
+        Edit {
+            first: 39,
+            last: 39,
+            lines: "",
+        },
+        Edit {
+            first: 41,
+            last: 41,
+            lines: "",
+        },
+        Edit {
+            first: 42,
+            last: 42,
+            lines: "",
+        },
+        Edit {
+            first: 48,
+            last: 48,
+            lines: "",
+        },
+    ],
+    spaces: 0,
+};
+
+pub const EXAMPLES: [Example; 13] = [
+    Example {
+        name: "a deposit that the policy denies",
+        limit: MOST,
+        steps: &[
+            Step(
+                "t-gamma",
+                SENT,
+                Ask::Deposit(A, UNTIL),
+                Want::Says("denied 5"),
+            ),
+            Step(
+                "t-echo",
+                SENT,
+                Ask::Deposit(A, UNTIL),
+                Want::Says("denied 0"),
+            ),
+            Step("t-delta", SENT, Ask::List, Want::Says("")),
+            Step("t-delta", SENT, Ask::Deposit(A, UNTIL), FIRST),
+        ],
+    },
+    Example {
+        name: "a body that is refused",
+        limit: MOST,
+        steps: &[
+            Step("t-delta", SENT, Ask::Check(A), Want::Says("clean")),
+            Step(
+                "t-delta",
+                SENT,
+                Ask::Check(A_UNENDED),
+                Want::Says("1 findings"),
+            ),
+            Step(
+                "t-delta",
+                SENT,
+                Ask::Deposit(A_UNENDED, UNTIL),
+                Want::Says("1 findings"),
+            ),
+            Step(
+                "t-delta",
+                SENT,
+                Ask::Check(A_TOO_LONG),
+                Want::Says("too large"),
+            ),
+            Step(
+                "t-delta",
+                SENT,
+                Ask::Deposit(A_TOO_LONG, UNTIL),
+                Want::Says("too large"),
+            ),
+            Step("t-delta", SENT, Ask::Deposit(A_LONGEST, UNTIL), FIRST),
+        ],
+    },
+    Example {
+        name: "a deposit that is repeated",
+        limit: MOST,
+        steps: &[
+            Step("t-delta", SENT, Ask::Deposit(A, UNTIL), FIRST),
+            Step("t-delta", SENT, Ask::Deposit(A, "2030-01-01"), FIRST),
+            Step("t-foxtrot", SENT, Ask::Deposit(A, UNTIL), SECOND),
+        ],
+    },
+    Example {
+        name: "a register of one deposit",
+        limit: 1,
+        steps: &[
+            Step("t-delta", SENT, Ask::Deposit(A, UNTIL), FIRST),
+            Step(
+                "t-delta",
+                SENT,
+                Ask::Deposit(A_OTHER, UNTIL),
+                Want::Says("full"),
+            ),
+            Step("t-delta", SENT, Ask::Deposit(A, UNTIL), FIRST),
+        ],
+    },
+    Example {
+        name: "rows that are hidden, and what is asked",
+        limit: MOST,
+        steps: &[
+            Step("t-delta", SENT, Ask::Deposit(B, UNTIL), FIRST),
+            Step("t-echo", UNTIL, Ask::Extract(1, &[]), Want::Gives(B_SHOWN)),
+            Step("t-delta", UNTIL, Ask::Extract(1, &[]), Want::Gives(B)),
+            Step(
+                "t-echo",
+                UNTIL,
+                Ask::Extract(1, &[b"LNMC"]),
+                Want::Gives(B_SHOWN),
+            ),
+            Step(
+                "t-echo",
+                UNTIL,
+                Ask::Extract(1, &[b"LOCA"]),
+                Want::Gives(B_BOREHOLE),
+            ),
+            Step("t-echo", UNTIL, Ask::Check(B_SHOWN), Want::Says("clean")),
+            Step("t-echo", UNTIL, Ask::Check(B_BOREHOLE), Want::Says("clean")),
+        ],
+    },
+    Example {
+        name: "a ring of record links",
+        limit: MOST,
+        steps: &[
+            Step("t-delta", SENT, Ask::Deposit(C, UNTIL), FIRST),
+            Step("t-echo", UNTIL, Ask::Extract(1, &[]), Want::Gives(C_SHOWN)),
+            Step("t-delta", UNTIL, Ask::Extract(1, &[]), Want::Gives(C)),
+            Step("t-echo", UNTIL, Ask::Check(C_SHOWN), Want::Says("clean")),
+        ],
+    },
+    Example {
+        name: "an embargo",
+        limit: MOST,
+        steps: &[
+            Step("t-delta", SENT, Ask::Deposit(A, UNTIL), FIRST),
+            Step("t-echo", UNTIL, Ask::Extract(1, &[]), Want::Gives(A)),
+            Step(
+                "t-echo",
+                "2024-05-31",
+                Ask::Extract(1, &[]),
+                Want::Says("unknown"),
+            ),
+            Step(
+                "t-echo",
+                "2024-05-31",
+                Ask::Extract(999, &[]),
+                Want::Says("unknown"),
+            ),
+            Step("t-echo", "2024-05-31", Ask::List, Want::Says("")),
+            Step(
+                "t-delta",
+                "2024-05-31",
+                Ask::Extract(1, &[]),
+                Want::Gives(A),
+            ),
+            Step(
+                "t-delta",
+                "2024-05-31",
+                Ask::List,
+                Want::Says("1 Delta 2024-06-01;"),
+            ),
+            Step(
+                "t-echo",
+                UNTIL,
+                Ask::List,
+                Want::Says("1 Delta 2024-06-01;"),
+            ),
+        ],
+    },
+    Example {
+        name: "a file that is spelled with spaces",
+        limit: MOST,
+        steps: &[
+            Step("t-delta", SENT, Ask::Deposit(A_SPACED, UNTIL), FIRST),
+            Step("t-echo", UNTIL, Ask::Extract(1, &[]), Want::Gives(A_PLAIN)),
+        ],
+    },
+    Example {
+        name: "an extract that is deposited",
+        limit: MOST,
+        steps: &[
+            Step("t-delta", SENT, Ask::Deposit(B, UNTIL), FIRST),
+            Step("t-delta", SENT, Ask::Deposit(B_SHOWN, UNTIL), SECOND),
+            Step("t-delta", UNTIL, Ask::Extract(2, &[]), Want::Gives(B_SHOWN)),
+            Step("t-echo", UNTIL, Ask::Extract(2, &[]), Want::Gives(B_SHOWN)),
+        ],
+    },
+    Example {
+        name: "what may be seen does not tell: the second file",
+        limit: MOST,
+        steps: &[
+            Step("t-delta", SENT, Ask::Deposit(B, UNTIL), FIRST),
+            Step(
+                "t-echo",
+                UNTIL,
+                Ask::List,
+                Want::Says("1 Delta 2024-06-01;"),
+            ),
+            Step("t-foxtrot", UNTIL, Ask::Deposit(A, UNTIL), SECOND),
+            Step("t-echo", UNTIL, Ask::Extract(1, &[]), Want::Gives(B_SHOWN)),
+            Step("t-echo", UNTIL, Ask::Extract(2, &[]), Want::Gives(A)),
+        ],
+    },
+    Example {
+        name: "what may be seen does not tell: another result in a hidden row",
+        limit: MOST,
+        steps: &[
+            Step("t-delta", SENT, Ask::Deposit(B_WETTER, UNTIL), FIRST),
+            Step(
+                "t-echo",
+                UNTIL,
+                Ask::List,
+                Want::Says("1 Delta 2024-06-01;"),
+            ),
+            Step("t-foxtrot", UNTIL, Ask::Deposit(A, UNTIL), SECOND),
+            Step("t-echo", UNTIL, Ask::Extract(1, &[]), Want::Gives(B_SHOWN)),
+            Step("t-echo", UNTIL, Ask::Extract(2, &[]), Want::Gives(A)),
+        ],
+    },
+    Example {
+        name: "what may be seen does not tell: one hidden row more",
+        limit: MOST,
+        steps: &[
+            Step("t-delta", SENT, Ask::Deposit(B_TESTED, UNTIL), FIRST),
+            Step(
+                "t-echo",
+                UNTIL,
+                Ask::List,
+                Want::Says("1 Delta 2024-06-01;"),
+            ),
+            Step("t-foxtrot", UNTIL, Ask::Deposit(A, UNTIL), SECOND),
+            Step("t-echo", UNTIL, Ask::Extract(1, &[]), Want::Gives(B_SHOWN)),
+            Step("t-echo", UNTIL, Ask::Extract(2, &[]), Want::Gives(A)),
+        ],
+    },
+    Example {
+        name: "what may be seen does not tell: no hidden row",
+        limit: MOST,
+        steps: &[
+            Step("t-delta", SENT, Ask::Deposit(B_SHOWN, UNTIL), FIRST),
+            Step(
+                "t-echo",
+                UNTIL,
+                Ask::List,
+                Want::Says("1 Delta 2024-06-01;"),
+            ),
+            Step("t-foxtrot", UNTIL, Ask::Deposit(A, UNTIL), SECOND),
+            Step("t-echo", UNTIL, Ask::Extract(1, &[]), Want::Gives(B_SHOWN)),
+            Step("t-echo", UNTIL, Ask::Extract(2, &[]), Want::Gives(A)),
+        ],
+    },
+];

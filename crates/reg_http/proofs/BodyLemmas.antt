@@ -1,0 +1,81 @@
+-- The body, from what came with the head and what was read.
+use Rattle.std.proofs.Common.{◌≡◌, ℕ, ◌+◌, ◌-◌, ◌<◌, ◌≤◌, ◌⊎◌, inl, inr, List, [], ◌∷◌, ◌++◌, length, take, drop, Option, Some, None, refl, sym, ap, ◌∙◌, arith, append_assoc, length-append, Ok, Err}
+use Rattle.std.proofs.lemmas.List.{take-append-le, append-nil, length-take-le, take_all}
+use Rattle.std.proofs.Math.Seq.{take-append_seam}
+use Rattle.std.specs.Prelude.{IfSome, Vec}
+use Rattle.std.specs.declared.alloc.Global.{Global}
+use Rattle.std.specs.Io.KnownBytes.{Consumes, IsAtEnd}
+use Rattle.reg_http.specs.Fills.{FillsMore}
+use Rattle.reg_http.specs.Views.{ReadsBody}
+use Rattle.reg_http.specs.declared.body.BodyFault.TheVariants as fault
+use Rattle.reg_http.proofs.FillLemmas.{Consumes-then}
+use Rattle.std.proofs.lemmas.Bool.{cases_lt}
+
+-- the front of the body is what came early and what was read since
+pub record HasRead (old new : Option (List ℕ)) (early : List ℕ) (n : ℕ) (front : List ℕ) : Type 0 where
+  pub more : List ℕ
+  pub front_is : front ≡ take n early ++ more
+  pub taken : Consumes old new more
+
+-- one read more
+pub HasRead-Adds : (u v w : Option (List ℕ)) (early before after : List ℕ) (n filled count : ℕ) → HasRead u v early n (take filled before)
+    → FillsMore v w before after filled count → HasRead u w early n (take (filled + count) after)
+HasRead-Adds u v w early before after n filled count read adds = record {
+  more = read.more ++ adds.more;
+  front_is = adds.grown ∙ ap (λ t. t ++ adds.more) read.front_is ∙ append_assoc (take n early) read.more adds.more;
+  taken = Consumes-then u v w read.more adds.more read.taken adds.taken;
+}
+
+-- no byte is the empty list
+no_bytes : (xs : List ℕ) → length xs ≡ 0 → xs ≡ []
+no_bytes [] e = refl
+no_bytes (x ∷ xs) e = absurd (omega arith)
+
+-- the whole of a body
+pub body_whole : (n : ℕ) (early more ys : List ℕ) → length (take n early ++ more) ≡ n
+    → (n ≤ length (early ++ (more ++ ys))) × (take n early ++ more ≡ take n (early ++ (more ++ ys)))
+body_whole n early more ys long = elim (cases_lt (length early) n) [
+  | inl over ↦
+      let all : take n early ≡ early = take_all n early (omega arith) in
+      let sum : length (early ++ more) ≡ n = ap (λ t. length (t ++ more)) (sym all) ∙ long in
+      let regroup : early ++ (more ++ ys) ≡ (early ++ more) ++ ys = sym (append_assoc early more ys) in (
+        omega (arith, ap length regroup, length-append (early ++ more) ys),
+        ap (λ t. t ++ more) all ∙ sym (take-append_seam (early ++ more) ys) ∙ ap (λ k. take k ((early ++ more) ++ ys)) sum ∙ ap (take n) (sym regroup),
+      )
+  | inr fits ↦
+      let none : more ≡ [] = no_bytes more (omega (arith, length-append (take n early) more, length-take-le n early fits)) in (
+        omega (arith, length-append early (more ++ ys)),
+        ap (λ t. take n early ++ t) none ∙ append-nil (take n early) ∙ sym (take-append-le n early (more ++ ys) fits),
+      )
+]
+
+-- a body that was read whole
+pub ReadsBody-whole : (old new : Option (List ℕ)) (early : List ℕ) (n : ℕ) (body : Vec ℕ Global) → HasRead old new early n (take n body.items)
+    → length body.items ≡ n → IfSome old (λ left. ReadsBody (early ++ left) n (Ok body))
+ReadsBody-whole None new early n body read long = tt
+ReadsBody-whole (Some xs) None early n body read long = absurd read.taken
+ReadsBody-whole (Some xs) (Some ys) early n body read long =
+    let all : take n body.items ≡ body.items = take_all n body.items (omega arith) in
+    let is : body.items ≡ take n early ++ read.more = sym all ∙ read.front_is in
+    let whole = body_whole n early read.more ys (sym (ap length is) ∙ long) in
+    rw read.taken (whole.0, is ∙ whole.1)
+
+pub ReadsBody-short : (old new : Option (List ℕ)) (early body : List ℕ) (n filled : ℕ) → HasRead old new early n (take filled body)
+    → filled < n → length body ≡ n → IsAtEnd new → IfSome old (λ left. ReadsBody (early ++ left) n (Err fault.Short))
+ReadsBody-short None new early body n filled read under long end = tt
+ReadsBody-short (Some xs) None early body n filled read under long end = absurd read.taken
+ReadsBody-short (Some xs) (Some ys) early body n filled read under long end =
+    let count = length-take-le filled body (omega arith) in
+    let front = ap length read.front_is in
+    let parts = length-append (take n early) read.more in
+    let sum = length-append early xs in
+    let left = ap length read.taken ∙ length-append read.more ys in
+    let none = ap length end in
+    elim (cases_lt (length early) n) [
+      | inl over ↦
+          let all = ap length (take_all n early (omega arith)) in
+          omega (arith, all, count, front, parts, sum, left, none)
+      | inr fits ↦
+          let all = length-take-le n early fits in
+          absurd (omega (arith, all, count, front, parts))
+    ]

@@ -1,0 +1,13 @@
+pub mod FillLemmas
+pub mod HeadLemmas
+pub mod WriteLemmas
+pub mod FieldLemmas
+pub mod BodyLemmas
+pub mod SeekLemmas
+pub mod GroupLemmas
+pub mod RouteWalk
+pub mod RenderLemmas
+pub mod ServeLemmas
+pub mod ListLemmas
+pub mod ReplyLaws
+pub mod ReadingLaws

@@ -1,0 +1,42 @@
+-- What serving several connections does, one after the other.
+use Rattle.std.specs.Prelude.{◌≡◌, ◌+◌, ℕ, ℤ, ◌≤◌, List, [], ◌∷◌, Option, Result, IfSome, IsTrue, ⊤}
+use Rattle.ags_rows.specs.declared.TheConstants.{LIMIT}
+use Rattle.reg_policy.specs.declared.callers.Credential.{Credential}
+use Rattle.reg_desk.specs.Asked.{Asked}
+use Rattle.reg_http.specs.Heads.{longest_head}
+use Rattle.reg_http.specs.Serving.{ServesOne, is_read, is_write}
+use Rattle.reg_http.specs.Tallies.{IsFresh, inner_of, calls_of, has_failed}
+use Rattle.reg_http.specs.declared.tally.Tally.{Tally}
+use Rattle.reg_desk.specs.declared.answer.Answer.{Answer}
+use Rattle.reg_http.specs.declared.serve.Served.{Served}
+use Rattle.reg_http.specs.declared.serve.IoFault.{IoFault}
+
+-- the most calls of `read` that one connection takes: those of the head, and one for each byte of a body and its end
+abbrev pub most_calls : ℕ
+most_calls = longest_head + 1 + LIMIT
+
+module _ {R W : Type 0} where
+  -- nothing was asked of any reader or writer
+  abbrev pub AreFresh : List (Tally R × Tally W) → Type 0
+  AreFresh [] = ⊤
+  AreFresh (c ∷ cs) = (IsFresh c.0 × IsFresh c.1) × AreFresh cs
+
+module _ {D R W : Type 0} (answers : D → Asked → Answer → D → Type 0) (remaining : R → Option (List ℕ)) (contents : W → Option (List ℕ))
+    (callers : List Credential) (day : ℤ) where
+  -- one connection: reader and writer before and after, and the desk before and after
+  pub record ServesConnection (old new : Tally R × Tally W) (before after : D) (r : Result Served IoFault) : Type 0 where
+    pub served : IfSome (remaining (inner_of old.0)) (λ bytes. ServesOne answers callers day bytes before after (contents (inner_of old.1)) (contents (inner_of new.1)) r)
+    pub read_fault : has_failed new.0 ≡ is_read r
+    pub write_fault : has_failed new.1 ≡ is_write r
+    pub unread : IsTrue (is_read r) → (after ≡ before) × (new.1 ≡ old.1)
+    pub silent : IfSome (remaining (inner_of old.0)) (λ bytes. bytes ≡ [] → new.1 ≡ old.1)
+    pub calls : calls_of new.0 ≤ most_calls
+
+  -- each in turn, the next over the desk that the last left
+  abbrev pub ServesAll : List (Tally R × Tally W) → List (Result Served IoFault) → List (Tally R × Tally W) → D → D → Type 0
+  ServesAll [] [] [] before after = after ≡ before
+  ServesAll (o ∷ os) (r ∷ rs) (n ∷ ns) before after = (between : D) × ServesConnection o n before between r × ServesAll os rs ns between after
+  ServesAll [] (r ∷ rs) ns before after = ⊥
+  ServesAll [] [] (n ∷ ns) before after = ⊥
+  ServesAll (o ∷ os) [] ns before after = ⊥
+  ServesAll (o ∷ os) (r ∷ rs) [] before after = ⊥

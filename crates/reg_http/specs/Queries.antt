@@ -1,0 +1,68 @@
+-- What the parameters of path and query ask.
+use Rattle.std.specs.Prelude.{ℕ, ℤ, Bool, true, false, List, [], ◌∷◌, Option, Some, None, Result, Ok, Err, codes, if◌then◌else◌}
+use Rattle.std.specs.List.{list_all}
+use Rattle.std.specs.Str.{bytes_eq}
+use Rattle.std.specs.Str.Lossy.{utf8_lossy}
+use Rattle.form_urlencoded.specs.Form.{decode, split}
+use Rattle.ags_rows.specs.Bytes.{comma}
+use Rattle.ags_rows.specs.Names.{is_group_name}
+use Rattle.reg_policy.specs.Names.{is_name}
+use Rattle.reg_policy.specs.Days.{day_of}
+use Rattle.reg_http.specs.Agree.{and_then}
+use Rattle.reg_http.specs.Numbers.{deposit_number}
+use Rattle.reg_http.specs.declared.refusal.Refusal.{Refusal}
+use Rattle.reg_http.specs.declared.refusal.Refusal.TheVariants.{BadParameter}
+use Rattle.reg_http.specs.declared.route.Kind.{Kind}
+use Rattle.reg_http.specs.declared.route.Kind.TheVariants as kinds
+
+-- what an encoded name or value is read as: `+` and percent escapes decoded
+abbrev pub decoded : List ℕ → List ℕ
+decoded encoded = utf8_lossy (decode encoded)
+
+-- The value of the parameter of this name, if it is given: of the pairs there is none, or the one of this name.
+abbrev pub value_of : List ℕ → List (List ℕ × List ℕ) → Result (Option (List ℕ)) Refusal
+value_of name [] = Ok None
+value_of name (pair ∷ []) = if bytes_eq (decoded pair.0) name then Ok (Some (decoded pair.1)) else Err BadParameter
+value_of name (pair ∷ other ∷ pairs) = Err BadParameter
+
+-- no parameter is given
+abbrev pub no_pairs : List (List ℕ × List ℕ) → Bool
+no_pairs [] = true
+no_pairs (pair ∷ pairs) = false
+
+-- what is asked, without caller, project and body
+pub data Sought : Type 0 where
+  deposit : (embargo : ℤ) → Sought
+  check : Sought
+  listing : Sought
+  extract : (number : ℕ) (groups : List (List ℕ)) → Sought
+
+abbrev pub embargo_by : Option ℤ → Result Sought Refusal
+embargo_by None = Err BadParameter
+embargo_by (Some day) = Ok (deposit day)
+
+-- the embargo of a deposit, the day of serving where none is given
+abbrev pub embargo_in : ℤ → Option (List ℕ) → Result Sought Refusal
+embargo_in day None = Ok (deposit day)
+embargo_in day (Some text) = embargo_by (day_of text)
+
+-- the groups that a text lists, with commas between them; an empty text lists none, which asks for all
+abbrev pub groups_in : List ℕ → List (List ℕ)
+groups_in [] = []
+groups_in (b ∷ text) = split comma (b ∷ text)
+
+-- the groups of an extract
+abbrev pub extract_in : ℕ → Option (List ℕ) → Result Sought Refusal
+extract_in number None = Ok (extract number [])
+extract_in number (Some text) = if list_all is_group_name (groups_in text) then Ok (extract number (groups_in text)) else Err BadParameter
+
+-- what a request of this kind asks, by the number in its path, the pairs of its query and the day of serving
+abbrev pub sought_in : Kind → List ℕ → List (List ℕ × List ℕ) → ℤ → Result Sought Refusal
+sought_in kinds.Check number pairs day = if no_pairs pairs then Ok check else Err BadParameter
+sought_in kinds.Deposit number pairs day = and_then (value_of (codes "embargo") pairs) (embargo_in day)
+sought_in kinds.List number pairs day = if no_pairs pairs then Ok listing else Err BadParameter
+sought_in kinds.Extract number pairs day =
+    and_then (deposit_number number) (λ n. and_then (value_of (codes "groups") pairs) (extract_in n))
+
+abbrev pub project_in : List ℕ → Result (List ℕ) Refusal
+project_in text = if is_name text then Ok text else Err BadParameter

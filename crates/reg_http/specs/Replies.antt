@@ -1,0 +1,34 @@
+-- The text of a reply (RFC 9112, sections 4 and 6): status line, three fields, an empty line, and the body.
+use Rattle.std.specs.Prelude.{◌≡◌, ℕ, List, [], ◌∷◌, ◌++◌, length, codes, decimal, unwrap_or}
+use Rattle.http.specs.StatusCode.{reason_phrase}
+use Rattle.ags_rows.specs.Bytes.{carriage_return, line_feed}
+
+-- the phrase of a status
+unfoldable pub phrase_of : ℕ → List ℕ
+phrase_of status = unwrap_or (reason_phrase status) []
+
+abbrev pub line_end : List ℕ
+line_end = carriage_return ∷ line_feed ∷ []
+
+-- a reply up to its body, which has that many bytes
+abbrev pub reply_front : ℕ → List ℕ → ℕ → List ℕ
+reply_front status kind length =
+    codes "HTTP/1.1 " ++ decimal status ++ codes " " ++ phrase_of status ++ line_end
+    ++ codes "Content-Type: " ++ kind ++ line_end
+    ++ codes "Content-Length: " ++ decimal length ++ line_end
+    ++ codes "Connection: close\r\n\r\n"
+
+-- a whole reply
+abbrev pub reply_text : ℕ → List ℕ → List ℕ → List ℕ
+reply_text status kind body = reply_front status kind (length body) ++ body
+
+-- the types of a body
+abbrev pub json_kind : List ℕ
+json_kind = codes "application/json"
+
+abbrev pub text_kind : List ℕ
+text_kind = codes "text/plain; charset=us-ascii"
+
+-- an object with the one member `error`
+abbrev pub error_body : List ℕ → List ℕ
+error_body words = codes "{\"error\":\"" ++ words ++ codes "\"}"

@@ -1,0 +1,91 @@
+-- The routes of the register, with what each method asks of them: the one table of routes, methods and kinds.
+use Rattle.std.specs.Prelude.{◌≡◌, ℕ, List, [], ◌∷◌, ◌++◌, Bool, true, false, Option, Some, None, Result, Ok, Err, codes, unwrap_or, if◌then◌else◌}
+use Rattle.std.specs.Str.{bytes_eq}
+use Rattle.matchit.specs.Rows.{RowsOf, param_token}
+use Rattle.matchit.specs.Router.{RouteOf}
+use Rattle.matchit.specs.Seek.{first}
+use Rattle.matchit.specs.Params.{walk, named}
+use Rattle.reg_http.specs.declared.refusal.Refusal.{Refusal}
+use Rattle.reg_http.specs.declared.refusal.Refusal.TheVariants.{NoRoute, Method}
+use Rattle.reg_http.specs.declared.route.Page.{Page}
+use Rattle.reg_http.specs.declared.route.Kind.{Kind}
+use Rattle.reg_http.specs.declared.route.Kind.TheVariants.{Check, Deposit, List as Listing, Extract}
+
+-- the pattern up to the project
+abbrev pub front : List ℕ
+front = codes "/v1/projects/" ++ param_token ∷ []
+
+abbrev pub check_route : RouteOf Page
+check_route = record {
+  pattern = front ++ codes "/check";
+  text = codes "/v1/projects/{project}/check";
+  names = (14, 21) ∷ [];
+  value = record { post = Some Check; get = None };
+}
+
+abbrev pub deposits_route : RouteOf Page
+deposits_route = record {
+  pattern = front ++ codes "/deposits";
+  text = codes "/v1/projects/{project}/deposits";
+  names = (14, 21) ∷ [];
+  value = record { post = Some Deposit; get = Some Listing };
+}
+
+abbrev pub deposit_route : RouteOf Page
+deposit_route = record {
+  pattern = front ++ codes "/deposits/" ++ param_token ∷ [];
+  text = codes "/v1/projects/{project}/deposits/{number}";
+  names = (14, 21) ∷ (33, 39) ∷ [];
+  value = record { post = None; get = Some Extract };
+}
+
+abbrev pub with_pattern : RouteOf Page → List ℕ × RouteOf Page
+with_pattern r = (r.pattern, r)
+
+-- the table, in the router's order
+abbrev pub table : RowsOf (RouteOf Page)
+table = with_pattern check_route ∷ with_pattern deposit_route ∷ with_pattern deposits_route ∷ []
+
+-- a request of this kind has a body: those that are posted
+abbrev pub has_body : Kind → Bool
+has_body Check = true
+has_body Deposit = true
+has_body Listing = false
+has_body Extract = false
+
+-- the route that a path has
+abbrev pub route_of : List ℕ → Option (RouteOf Page)
+route_of path = first table path
+
+-- what the parameters of a route took from a path
+abbrev pub taken : RouteOf Page → List ℕ → List (List ℕ × List ℕ)
+taken r path = walk r.pattern r.text path r.names 0 0
+
+-- what a parameter took, or nothing where the route has none of this name
+abbrev pub param : List ℕ → RouteOf Page → List ℕ → List ℕ
+param name r path = unwrap_or (named name (taken r path)) []
+
+-- a page, with what its route's parameters took
+pub record FoundAt : Type 0 where
+  pub page : Page
+  pub project : List ℕ
+  pub number : List ℕ
+
+abbrev pub page_by : List ℕ → Option (RouteOf Page) → Result FoundAt Refusal
+page_by path None = Err NoRoute
+page_by path (Some r) = Ok (record { page = r.value; project = param (codes "project") r path; number = param (codes "number") r path })
+
+-- the page of a path
+abbrev pub page_in : List ℕ → Result FoundAt Refusal
+page_in path = page_by path (route_of path)
+
+-- what a method asks of a page; methods are compared by their bytes
+abbrev pub method_of : Page → List ℕ → Option Kind
+method_of page method = if bytes_eq method (codes "POST") then page.post else (if bytes_eq method (codes "GET") then page.get else None)
+
+abbrev pub kind_by : Option Kind → Result Kind Refusal
+kind_by None = Err Method
+kind_by (Some kind) = Ok kind
+
+abbrev pub kind_in : Page → List ℕ → Result Kind Refusal
+kind_in page method = kind_by (method_of page method)

@@ -1,0 +1,63 @@
+-- What the code reads of a request, as the definitions have it.
+use Rattle.std.specs.Prelude.{◌≡◌, ℕ, ◌≤◌, ◌<◌, List, [], length, take, Option, Some, None, Result, Ok, Err, Bool, true, false, ⊤, Vec}
+use Rattle.std.specs.Borrow.{Bor}
+use Rattle.std.specs.declared.alloc.Global.{Global}
+use Rattle.std.specs.declared.borrow.CowStr.{CowStr}
+use Rattle.std.specs.Cow.{cow_str_bytes}
+use Rattle.reg_policy.specs.declared.callers.Caller.{Caller}
+use Rattle.reg_http.specs.Asks.{Asking}
+use Rattle.reg_http.specs.Queries.{Sought, deposit, check, listing, extract, groups_in}
+use Rattle.reg_http.specs.Routes.{FoundAt}
+use Rattle.reg_http.specs.declared.route.Found.{Found}
+use Rattle.reg_http.specs.declared.ask.Ask.{Ask}
+use Rattle.reg_http.specs.declared.query.Seeks.{Seeks}
+use Rattle.reg_http.specs.declared.query.Seeks.TheVariants as seeks
+use Rattle.reg_http.specs.declared.body.BodyFault.{BodyFault}
+use Rattle.reg_http.specs.declared.body.BodyFault.TheVariants as fault
+
+abbrev pub itself : {A : Type 0} → A → A
+itself a = a
+
+abbrev pub lent_caller : Bor Caller → Caller
+lent_caller c = c.now
+
+abbrev pub found_page : Found → FoundAt
+found_page f = record { page = f.page; project = f.project.now; number = f.number.now }
+
+-- a text that may have been given
+abbrev pub text_at : {Z : Type 0} → Option (CowStr Z) → Option (List ℕ)
+text_at None = None
+text_at (Some text) = Some (cow_str_bytes text)
+
+-- the groups that such a text lists
+abbrev pub groups_at : {Z : Type 0} → Option (CowStr Z) → List (List ℕ)
+groups_at None = []
+groups_at (Some text) = groups_in (cow_str_bytes text)
+
+abbrev pub sought_at : Seeks → Sought
+sought_at (seeks.Deposit embargo) = deposit embargo
+sought_at seeks.Check = check
+sought_at seeks.List = listing
+sought_at (seeks.Extract number groups) = extract number (groups_at groups)
+
+abbrev pub asking_at : Ask → Asking
+asking_at a = record { caller = a.caller.now; project = a.project; sought = sought_at a.seeks; length = a.length }
+
+-- the groups of an extract; other requests have none
+abbrev pub groups_sought : Seeks → List (List ℕ)
+groups_sought (seeks.Extract number groups) = groups_at groups
+groups_sought _ = []
+
+-- what was read of a body of that length, where those bytes were to come: its bytes, or that they ended early
+abbrev pub ReadsBody : List ℕ → ℕ → Result (Vec ℕ Global) BodyFault → Type 0
+ReadsBody all n (Ok body) = (n ≤ length all) × (body.items ≡ take n all)
+ReadsBody all n (Err fault.Short) = length all < n
+ReadsBody all n (Err fault.Read) = ⊤
+ReadsBody all n (Err fault.Memory) = ⊤
+
+-- the read failed
+abbrev pub is_read_fault : Result (Vec ℕ Global) BodyFault → Bool
+is_read_fault (Ok body) = false
+is_read_fault (Err fault.Short) = false
+is_read_fault (Err fault.Read) = true
+is_read_fault (Err fault.Memory) = false

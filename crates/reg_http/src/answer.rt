@@ -1,0 +1,133 @@
+//! The reply to an answer of the desk.
+ghost use Rattle.std.specs.Prelude.{◌≡◌, ◌↔◌, false, IfOk, IfSome, IsSome, IsTrue};
+ghost use Rattle.serde_json.specs.View.{view};
+ghost use Rattle.serde_json.specs.Written.{compact_text, has_float};
+ghost use Rattle.reg_http.specs.Rendering.{answer_status, is_fixed, IsRendered};
+ghost use Rattle.reg_http.specs.Replies.{json_kind, reply_text};
+
+use crate::refusal::{out_of_memory_reply, too_large_reply};
+use crate::render::{
+    body_text, clean_value, denied_value, findings_value, listing_value, receipt_value,
+};
+use crate::reply::whole_reply;
+use ags_rows::Finding;
+use http::StatusCode;
+use reg_desk::{Answer, Listed};
+use reg_policy::Day;
+use serde_json::Value;
+use std::alloc::{AllocError, Global};
+
+/// The status of an answer's reply.
+pub(crate) fn status_of(answer: &Answer) -> StatusCode
+    ensures { result ≡ answer_status answer.now }
+{
+    match answer {
+        Answer::Receipt { .. } | Answer::Clean | Answer::Listing(_) => StatusCode::OK,
+        Answer::Text(_) => StatusCode::OK,
+        Answer::Denied(_) => StatusCode::FORBIDDEN,
+        Answer::Unknown => StatusCode::NOT_FOUND,
+        Answer::TooLarge => StatusCode::PAYLOAD_TOO_LARGE,
+        Answer::Findings(_) => StatusCode::UNPROCESSABLE_ENTITY,
+        Answer::NoMemory | Answer::StoreFailed => StatusCode::SERVICE_UNAVAILABLE,
+        Answer::Full => StatusCode::INSUFFICIENT_STORAGE,
+    }
+}
+
+fn unknown_reply() -> &'static str
+    ensures { IsRendered Answer.Unknown result.now }
+{
+    "HTTP/1.1 404 Not Found\r\nContent-Type: application/json\r\nContent-Length: 19\r\nConnection: close\r\n\r\n{\"error\":\"unknown\"}"
+}
+
+fn full_reply() -> &'static str
+    ensures { IsRendered Answer.Full result.now }
+{
+    "HTTP/1.1 507 Insufficient Storage\r\nContent-Type: application/json\r\nContent-Length: 16\r\nConnection: close\r\n\r\n{\"error\":\"full\"}"
+}
+
+fn store_failed_reply() -> &'static str
+    ensures { IsRendered Answer.StoreFailed result.now }
+{
+    "HTTP/1.1 503 Service Unavailable\r\nContent-Type: application/json\r\nContent-Length: 24\r\nConnection: close\r\n\r\n{\"error\":\"store failed\"}"
+}
+
+/// The reply to an answer whose reply is always the same. It takes no memory.
+pub(crate) fn fixed_reply(answer: &Answer) -> Option<&'static str>
+    ensures some { IsSome result ↔ IsTrue (is_fixed answer.now) }
+    ensures reply { IfSome result (λ text. IsRendered answer.now text.now) }
+{
+    match answer {
+        Answer::Unknown => Some(unknown_reply()),
+        Answer::TooLarge => Some(too_large_reply()),
+        Answer::Full => Some(full_reply()),
+        Answer::NoMemory => Some(out_of_memory_reply()),
+        Answer::StoreFailed => Some(store_failed_reply()),
+        _ => None,
+    }
+}
+
+/// The reply with a JSON body.
+fn json_reply(alloc: Global, status: StatusCode, value: &Value) -> Result<Vec<u8>, AllocError>
+    requires { has_float (view value.now) ≡ false }
+    ensures { IfOk result (λ reply. reply.items ≡ reply_text status json_kind (compact_text (view value.now))) }
+{
+    let body = body_text(alloc, value)?;
+    whole_reply(alloc, status, "application/json", body.as_bytes())
+}
+
+fn receipt_reply(alloc: Global, number: u32, embargo: Day) -> Result<Vec<u8>, AllocError>
+    ensures { IfOk result (λ reply. IsRendered (Answer.Receipt number embargo) reply.items) }
+{
+    let value = receipt_value(alloc, number, embargo)?;
+    json_reply(alloc, StatusCode::OK, &value)
+}
+
+fn clean_reply(alloc: Global) -> Result<Vec<u8>, AllocError>
+    ensures { IfOk result (λ reply. IsRendered Answer.Clean reply.items) }
+{
+    let value = clean_value(alloc)?;
+    json_reply(alloc, StatusCode::OK, &value)
+}
+
+fn findings_reply(alloc: Global, findings: &[Finding]) -> Result<Vec<u8>, AllocError>
+    ensures { IfOk result (λ reply. IsRendered (Answer.Findings findings.now) reply.items) }
+{
+    let value = findings_value(alloc, findings)?;
+    json_reply(alloc, StatusCode::UNPROCESSABLE_ENTITY, &value)
+}
+
+fn listing_reply(alloc: Global, listing: &[Listed]) -> Result<Vec<u8>, AllocError>
+    ensures { IfOk result (λ reply. IsRendered (Answer.Listing listing.now) reply.items) }
+{
+    let value = listing_value(alloc, listing)?;
+    json_reply(alloc, StatusCode::OK, &value)
+}
+
+fn denied_reply(alloc: Global, number: u32) -> Result<Vec<u8>, AllocError>
+    ensures { IfOk result (λ reply. IsRendered (Answer.Denied number) reply.items) }
+{
+    let value = denied_value(alloc, number)?;
+    json_reply(alloc, StatusCode::FORBIDDEN, &value)
+}
+
+fn text_reply(alloc: Global, text: &[u8]) -> Result<Vec<u8>, AllocError>
+    ensures { IfOk result (λ reply. IsRendered (Answer.Text text.now) reply.items) }
+{
+    whole_reply(alloc, StatusCode::OK, "text/plain; charset=us-ascii", text)
+}
+
+/// The reply to an answer whose reply is built.
+pub(crate) fn built_reply(alloc: Global, answer: &Answer) -> Result<Vec<u8>, AllocError>
+    requires { is_fixed answer.now ≡ false }
+    ensures { IfOk result (λ reply. IsRendered answer.now reply.items) }
+{
+    match answer {
+        Answer::Receipt { number, embargo } => receipt_reply(alloc, *number, *embargo),
+        Answer::Clean => clean_reply(alloc),
+        Answer::Findings(findings) => findings_reply(alloc, findings.as_slice()),
+        Answer::Listing(listing) => listing_reply(alloc, listing.as_slice()),
+        Answer::Text(text) => text_reply(alloc, text.as_slice()),
+        Answer::Denied(number) => denied_reply(alloc, *number),
+        _ => unreachable!(),
+    }
+}

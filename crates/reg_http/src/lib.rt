@@ -1,0 +1,33 @@
+//! The HTTP engine: from the bytes of a connection to the bytes of its reply, over any reader and writer.
+//!
+//! A connection carries one request. Its head is read within 8,192 bytes and 32 fields, then its body by its length;
+//! the desk is asked, and its answer is written. A request that is refused never reaches the desk.
+#![tactic(auto)]
+
+mod answer;
+mod ask;
+mod body;
+mod fields;
+mod fill;
+mod head;
+pub mod laws;
+mod list;
+mod number;
+mod parts;
+mod query;
+mod refusal;
+mod render;
+mod reply;
+mod request;
+mod route;
+mod serve;
+mod tally;
+mod text;
+mod write;
+
+pub use list::serve_list;
+pub use serve::{IoFault, Served, serve_one};
+pub use tally::Tally;
+
+#[cfg(test)]
+mod tests;

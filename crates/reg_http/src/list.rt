@@ -1,0 +1,60 @@
+//! Several connections, one after the other.
+ghost use Rattle.std.specs.Prelude.{◌≡◌, IfOk, OnErr};
+ghost use Rattle.reg_desk.specs.Desks.{AnsweredBy};
+ghost use Rattle.reg_http.specs.Connections.{AreFresh, ServesAll, ServesConnection};
+ghost use Rattle.reg_http.specs.Tallies.{IsFresh};
+
+use crate::serve::{IoFault, Served, serve_one};
+use crate::tally::Tally;
+use reg_desk::Desk;
+use reg_policy::{Callers, Day};
+use reg_store::Keep;
+use std::alloc::{AllocError, Global};
+use std::io::{Read, Write};
+
+fn serve_pair<K: Keep, R: Read, W: Write>(
+    alloc: Global,
+    desk: &mut Desk<K>,
+    callers: &Callers,
+    day: Day,
+    connection: &mut (Tally<R>, Tally<W>),
+) -> Result<Served, IoFault>
+    requires reader_fresh { IsFresh connection.old.0 }
+    requires writer_fresh { IsFresh connection.old.1 }
+    ensures { ServesConnection (AnsweredBy K.Keep) R.remaining W.contents callers.now day
+        connection.old connection.new desk.old desk.new result }
+{
+    serve_one(
+        alloc,
+        desk,
+        callers,
+        day,
+        &mut connection.0,
+        &mut connection.1,
+    )
+}
+
+/// Serves each connection in turn, all of them fresh. Room for the results is taken first: where it is refused, no connection
+/// was read and the desk was not asked.
+pub fn serve_list<K: Keep, R: Read, W: Write>(
+    alloc: Global,
+    desk: &mut Desk<K>,
+    callers: &Callers,
+    day: Day,
+    connections: &mut [(Tally<R>, Tally<W>)],
+) -> Result<Vec<Result<Served, IoFault>>, AllocError>
+    requires { AreFresh connections.old }
+    ensures served { IfOk result (λ results. ServesAll (AnsweredBy K.Keep) R.remaining W.contents callers.now day
+        connections.old results.items connections.new desk.old desk.new) }
+    ensures unserved { OnErr result ((desk.new ≡ desk.old) × (connections.new ≡ connections.old)) }
+{
+    let mut results = Vec::with_capacity(alloc, connections.len())?;
+    for connection in connections.iter_mut() {
+        let served = serve_pair(alloc, desk, callers, day, connection);
+        match results.push(served) {
+            Ok(()) => {}
+            Err(_) => unreachable!(),
+        }
+    }
+    Ok(results)
+}

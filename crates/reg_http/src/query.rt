@@ -1,0 +1,200 @@
+//! The parameters of a request.
+ghost use Rattle.std.specs.Prelude.{◌≡◌, ◌<◌, [], ◌∷◌, Ok, IfOk, IfSome, MatchOption, codes, length};
+ghost use Rattle.std.specs.List.{list_all};
+ghost use Rattle.std.specs.Cow.{cow_str_bytes};
+ghost use Rattle.form_urlencoded.specs.Form.{raw_pairs, split};
+ghost use Rattle.ags_rows.specs.Bytes.{comma};
+ghost use Rattle.ags_rows.specs.Names.{is_group_name};
+ghost use Rattle.reg_http.specs.Agree.{Agrees, and_then};
+ghost use Rattle.reg_desk.specs.Asked.{names_in};
+ghost use Rattle.reg_http.specs.Numbers.{deposit_number};
+ghost use Rattle.reg_http.specs.Queries.{embargo_in, extract_in, groups_in, no_pairs, project_in, sought_in, decoded, value_of};
+ghost use Rattle.reg_http.specs.Views.{itself, sought_at, text_at};
+
+use crate::number::deposit_number;
+use crate::refusal::Refusal;
+use crate::route::Kind;
+use ags_rows::is_group_name;
+use form_urlencoded::{decode, raw_pairs};
+use reg_policy::{Day, Name, NameError};
+use std::alloc::{AllocError, Global};
+use std::borrow::CowStr;
+
+/// What is asked, without caller, project and body.
+#[derive(Drop)]
+pub(crate) enum Seeks<'b> {
+    /// The embargo day.
+    Deposit(Day),
+    Check,
+    List,
+    /// The number of a deposit, and the text that lists the groups.
+    Extract(u32, Option<CowStr<'b>>),
+}
+
+/// A name or a value of the query: `+` and percent escapes are decoded.
+fn decoded<'b>(alloc: Global, encoded: &'b [u8]) -> Result<CowStr<'b>, Refusal>
+    ensures { Agrees cow_str_bytes (Ok (decoded encoded.now)) result }
+{
+    match decode(alloc, encoded) {
+        Ok(text) => Ok(text),
+        Err(_) => Err(Refusal::OutOfMemory),
+    }
+}
+
+/// The value of the parameter of this name, if it is given. Any other parameter is refused, and a second one of this name.
+fn value_of<'b>(alloc: Global, query: &'b [u8], name: &str) -> Result<Option<CowStr<'b>>, Refusal>
+    ensures { Agrees text_at (value_of name.now (raw_pairs query.now)) result }
+{
+    let mut pairs = raw_pairs(query);
+    let Some((key, value)) = pairs.next() else {
+        return Ok(None);
+    };
+    if pairs.next().is_some() {
+        return Err(Refusal::BadParameter);
+    }
+    let key = decoded(alloc, key)?;
+    if key.as_bytes() != name.as_bytes() {
+        return Err(Refusal::BadParameter);
+    }
+    Ok(Some(decoded(alloc, value)?))
+}
+
+fn has_no_pairs(query: &[u8]) -> bool
+    ensures { result ≡ no_pairs (raw_pairs query.now) }
+{
+    raw_pairs(query).next().is_none()
+}
+
+/// The piece before the first comma, and what follows it.
+fn first_piece(text: &[u8]) -> Option<(&[u8], &[u8])>
+    ensures pieces { MatchOption result (split comma text.now ≡ text.now ∷ [])
+        (λ parts. split comma text.now ≡ parts.0.now ∷ split comma parts.1.now) }
+    ensures shorter { IfSome result (λ parts. length parts.1.now < length text.now) }
+{
+    match text.iter().position(|b| *b == b',') {
+        Some(i) => Some((&text[..i], &text[i + 1..])),
+        None => None,
+    }
+}
+
+//// The pieces between the commas.
+fn pieces<'t>(alloc: Global, text: &'t [u8]) -> Result<Vec<&'t [u8]>, AllocError>
+    ensures { IfOk result (λ pieces. names_in pieces.items ≡ split comma text.now) }
+{
+    let mut pieces = Vec::new(alloc);
+    let mut rest = text;
+    'pieces: while let Some((piece, more)) = first_piece(rest) {
+        pieces.push(piece)?;
+        rest = more;
+    }
+    pieces.push(rest)?;
+    Ok(pieces)
+}
+
+/// The groups that a text lists; none stands for all.
+pub(crate) fn groups_of<'t>(alloc: Global, text: &'t [u8]) -> Result<Vec<&'t [u8]>, AllocError>
+    ensures { IfOk result (λ groups. names_in groups.items ≡ groups_in text.now) }
+{
+    if text.is_empty() {
+        return Ok(Vec::new(alloc));
+    }
+    pieces(alloc, text)
+}
+
+#[tactic(auto, using(crate::proofs::GroupLemmas::group_fails))]
+fn are_group_names(groups: &[&[u8]]) -> bool
+    ensures { result ≡ list_all is_group_name (names_in groups.now) }
+{
+    for group in groups {
+        if !is_group_name(group) {
+            return false;
+        }
+    }
+    true
+}
+
+fn seeks_groups<'b>(
+    alloc: Global,
+    number: u32,
+    text: Option<CowStr<'b>>,
+) -> Result<Seeks<'b>, Refusal>
+    ensures { Agrees sought_at (extract_in number (text_at text.entry)) result }
+{
+    if let Some(text) = &text {
+        let Ok(groups) = groups_of(alloc, text.as_bytes()) else {
+            return Err(Refusal::OutOfMemory);
+        };
+        if !are_group_names(&groups) {
+            return Err(Refusal::BadParameter);
+        }
+    }
+    Ok(Seeks::Extract(number, text))
+}
+
+fn seeks_embargo<'b>(day: Day, text: Option<CowStr<'b>>) -> Result<Seeks<'b>, Refusal>
+    ensures { Agrees sought_at (embargo_in day (text_at text.entry)) result }
+{
+    match text {
+        None => Ok(Seeks::Deposit(day)),
+        Some(text) => match Day::read(text.as_str()) {
+            Some(embargo) => Ok(Seeks::Deposit(embargo)),
+            None => Err(Refusal::BadParameter),
+        },
+    }
+}
+
+fn seeks_deposit<'b>(alloc: Global, query: &'b [u8], day: Day) -> Result<Seeks<'b>, Refusal>
+    ensures { Agrees sought_at (and_then (value_of (codes "embargo") (raw_pairs query.now)) (embargo_in day)) result }
+{
+    let text = value_of(alloc, query, "embargo")?;
+    seeks_embargo(day, text)
+}
+
+fn seeks_extract<'b>(alloc: Global, number: &str, query: &'b [u8]) -> Result<Seeks<'b>, Refusal>
+    ensures { Agrees sought_at (and_then (deposit_number number.now) (λ n. and_then (value_of (codes "groups") (raw_pairs query.now)) (extract_in n))) result }
+{
+    let number = deposit_number(number.as_bytes())?;
+    let text = value_of(alloc, query, "groups")?;
+    seeks_groups(alloc, number, text)
+}
+
+/// What the parameters of route and query ask.
+pub(crate) fn read_seeks<'b>(
+    alloc: Global,
+    kind: Kind,
+    number: &str,
+    query: &'b [u8],
+    day: Day,
+) -> Result<Seeks<'b>, Refusal>
+    ensures { Agrees sought_at (sought_in kind number.now (raw_pairs query.now) day) result }
+{
+    match kind {
+        Kind::Deposit => seeks_deposit(alloc, query, day),
+        Kind::Extract => seeks_extract(alloc, number, query),
+        Kind::Check => {
+            if has_no_pairs(query) {
+                Ok(Seeks::Check)
+            } else {
+                Err(Refusal::BadParameter)
+            }
+        }
+        Kind::List => {
+            if has_no_pairs(query) {
+                Ok(Seeks::List)
+            } else {
+                Err(Refusal::BadParameter)
+            }
+        }
+    }
+}
+
+/// The project that a part of the path names.
+pub(crate) fn project_of(alloc: Global, text: &str) -> Result<Name, Refusal>
+    ensures { Agrees itself (project_in text.now) result }
+{
+    match Name::read(alloc, text) {
+        Ok(name) => Ok(name),
+        Err(NameError::BadName) => Err(Refusal::BadParameter),
+        Err(NameError::NoMemory) => Err(Refusal::OutOfMemory),
+    }
+}

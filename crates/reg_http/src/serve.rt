@@ -1,0 +1,199 @@
+//! One connection.
+ghost use Rattle.std.specs.Prelude.{◌≡◌, ◌≤◌, ◌+◌, ◌++◌, false, [], IfSome, IsTrue};
+ghost use Rattle.reg_http.specs.Connections.{most_calls};
+ghost use Rattle.reg_desk.specs.Asked.{asked};
+ghost use Rattle.reg_desk.specs.Desks.{AnsweredBy};
+ghost use Rattle.reg_http.specs.Rendering.{is_fixed, rendered, status_of};
+ghost use Rattle.reg_http.specs.Serving.{ServesOne, ServesAnswer, ServesAsked, ServesRequest, Written, is_read, is_write};
+ghost use Rattle.reg_http.specs.Tallies.{inner_of, calls_of, has_failed, IsFresh};
+ghost use Rattle.reg_http.specs.Views.{asking_at};
+
+use crate::answer::{built_reply, fixed_reply, status_of};
+use crate::ask::{Ask, head_parts, read_ask};
+use crate::body::{BodyFault, receive_body};
+use crate::head::{HeadRead, LONGEST_HEAD, MOST_FIELDS, receive_head};
+use crate::refusal::Refusal;
+use crate::request::{groups_sought, request_of};
+use crate::tally::Tally;
+use crate::write::write_text;
+use http::StatusCode;
+use httparse::spans::EMPTY_HEADER_SPAN;
+use reg_desk::{Answer, Desk, Request};
+use reg_policy::{Callers, Day};
+use reg_store::Keep;
+use std::alloc::Global;
+use std::io::{Read, Write};
+
+/// A connection was served.
+#[derive(Clone, Copy, Debug, PartialEq, Eq)]
+pub struct Served {
+    /// The status of the reply, 0 where the connection gave no byte.
+    pub status: u16,
+}
+
+/// Which side of a connection failed.
+#[derive(Clone, Copy, Debug, PartialEq, Eq)]
+pub enum IoFault {
+    /// A read failed. Nothing was written, and the desk was not asked.
+    Read,
+    /// A write failed. The first bytes of the reply were written, and the desk's answer holds.
+    Write,
+}
+
+/// Writes a reply.
+fn finish<W: Write>(
+    writer: &mut Tally<W>,
+    status: StatusCode,
+    text: &[u8],
+) -> Result<Served, IoFault>
+    requires { has_failed writer.old ≡ false }
+    ensures written { Written (W.contents (inner_of writer.old)) (W.contents (inner_of writer.new))
+        text.now status result }
+    ensures write_fault { has_failed writer.new ≡ is_write result }
+    ensures no_read { is_read result ≡ false }
+{
+    if write_text(writer, text) {
+        let status = status.as_u16();
+        Ok(Served { status })
+    } else {
+        Err(IoFault::Write)
+    }
+}
+
+/// Writes the reply to a refusal.
+fn refuse<W: Write>(writer: &mut Tally<W>, refusal: Refusal) -> Result<Served, IoFault>
+    requires { has_failed writer.old ≡ false }
+    ensures written { Written (W.contents (inner_of writer.old)) (W.contents (inner_of writer.new))
+        (rendered refusal) (status_of refusal) result }
+    ensures write_fault { has_failed writer.new ≡ is_write result }
+    ensures no_read { is_read result ≡ false }
+{
+    finish(writer, refusal.status(), refusal.reply().as_bytes())
+}
+
+/// Builds the reply to an answer and writes it.
+fn serve_built<W: Write>(
+    alloc: Global,
+    answer: &Answer,
+    writer: &mut Tally<W>,
+) -> Result<Served, IoFault>
+    requires sound { has_failed writer.old ≡ false }
+    requires built { is_fixed answer.now ≡ false }
+    ensures served { ServesAnswer answer.now (W.contents (inner_of writer.old)) (W.contents (inner_of writer.new)) result }
+    ensures write_fault { has_failed writer.new ≡ is_write result }
+    ensures no_read { is_read result ≡ false }
+{
+    match built_reply(alloc, answer) {
+        Ok(text) => finish(writer, status_of(answer), &text),
+        Err(_) => refuse(writer, Refusal::OutOfMemory),
+    }
+}
+
+/// Writes the reply to an answer.
+fn serve_answer<W: Write>(
+    alloc: Global,
+    answer: &Answer,
+    writer: &mut Tally<W>,
+) -> Result<Served, IoFault>
+    requires { has_failed writer.old ≡ false }
+    ensures served { ServesAnswer answer.now (W.contents (inner_of writer.old)) (W.contents (inner_of writer.new)) result }
+    ensures write_fault { has_failed writer.new ≡ is_write result }
+    ensures no_read { is_read result ≡ false }
+{
+    match fixed_reply(answer) {
+        Some(text) => finish(writer, status_of(answer), text.as_bytes()),
+        None => serve_built(alloc, answer, writer),
+    }
+}
+
+/// Asks the desk, and writes the reply to its answer.
+fn serve_request<K: Keep, W: Write>(
+    alloc: Global,
+    desk: &mut Desk<K>,
+    request: &Request<'_>,
+    writer: &mut Tally<W>,
+) -> Result<Served, IoFault>
+    requires { has_failed writer.old ≡ false }
+    ensures served { ServesRequest (AnsweredBy K.Keep) (asked request.entry.now) desk.old desk.new
+        (W.contents (inner_of writer.old)) (W.contents (inner_of writer.new)) result }
+    ensures write_fault { has_failed writer.new ≡ is_write result }
+    ensures no_read { is_read result ≡ false }
+{
+    let answer = desk.answer(alloc, request);
+    serve_answer(alloc, &answer, writer)
+}
+
+/// Reads the body of what is asked, of which the first bytes came early with the head, and serves the request.
+fn serve_asked<K: Keep, R: Read, W: Write>(
+    alloc: Global,
+    desk: &mut Desk<K>,
+    day: Day,
+    ask: &Ask<'_>,
+    early: &[u8],
+    reader: &mut Tally<R>,
+    writer: &mut Tally<W>,
+) -> Result<Served, IoFault>
+    requires reader_sound { has_failed reader.old ≡ false }
+    requires writer_sound { has_failed writer.old ≡ false }
+    ensures served { IfSome (R.remaining (inner_of reader.old)) (λ left.
+        ServesAsked (AnsweredBy K.Keep) (asking_at ask.now) day (early.now ++ left) desk.old desk.new
+        (W.contents (inner_of writer.old)) (W.contents (inner_of writer.new)) result) }
+    ensures read_fault { has_failed reader.new ≡ is_read result }
+    ensures write_fault { has_failed writer.new ≡ is_write result }
+    ensures unread { IsTrue (is_read result) → (desk.new ≡ desk.old) × (writer.new ≡ writer.old) }
+    ensures calls { calls_of reader.new ≤ calls_of reader.old + ask.now.length + 1 }
+{
+    let body = match receive_body(alloc, reader, early, ask.length) {
+        Ok(body) => body,
+        Err(BodyFault::Read) => return Err(IoFault::Read),
+        Err(BodyFault::Short) => return refuse(writer, Refusal::ShortBody),
+        Err(BodyFault::Memory) => return refuse(writer, Refusal::OutOfMemory),
+    };
+    let Ok(groups) = groups_sought(alloc, &ask.seeks) else {
+        return refuse(writer, Refusal::OutOfMemory);
+    };
+    let request = request_of(ask, &body, &groups, day);
+    serve_request(alloc, desk, &request, writer)
+}
+
+/// Serves one connection: reads a request, asks the desk, and writes the reply. Reader and writer are fresh. The reader
+/// is not read beyond the request's body, and a reply is one write where the writer takes it.
+pub fn serve_one<K: Keep, R: Read, W: Write>(
+    alloc: Global,
+    desk: &mut Desk<K>,
+    callers: &Callers,
+    day: Day,
+    reader: &mut Tally<R>,
+    writer: &mut Tally<W>,
+) -> Result<Served, IoFault>
+    requires reader_fresh { IsFresh reader.old }
+    requires writer_fresh { IsFresh writer.old }
+
+    // What is written and what the desk is then, by what the bytes of the reader are read as.
+    ensures served { IfSome (R.remaining (inner_of reader.old)) (λ bytes.
+        ServesOne (AnsweredBy K.Keep) callers.now day bytes desk.old desk.new
+        (W.contents (inner_of writer.old)) (W.contents (inner_of writer.new)) result) }
+
+    // Faults are those of the two sides, each exactly.
+    ensures read_fault { has_failed reader.new ≡ is_read result }
+    ensures write_fault { has_failed writer.new ≡ is_write result }
+    ensures unread { IsTrue (is_read result) → (desk.new ≡ desk.old) × (writer.new ≡ writer.old) }
+    ensures silent { IfSome (R.remaining (inner_of reader.old)) (λ bytes. bytes ≡ [] → writer.new ≡ writer.old) }
+    ensures calls { calls_of reader.new ≤ most_calls }
+{
+    let mut buf = [0u8; LONGEST_HEAD];
+    let mut headers = [EMPTY_HEADER_SPAN; MOST_FIELDS];
+    match receive_head(reader, &mut buf, &mut headers) {
+        HeadRead::Empty => Ok(Served { status: 0 }),
+        HeadRead::Fault => Err(IoFault::Read),
+        HeadRead::Bad => refuse(writer, Refusal::BadHead),
+        HeadRead::Whole(spans, filled) => {
+            let bytes = &buf[..filled];
+            let parts = head_parts(bytes, &headers, &spans);
+            match read_ask(alloc, callers, day, &parts) {
+                Ok(ask) => serve_asked(alloc, desk, day, &ask, &bytes[spans.len..], reader, writer),
+                Err(refusal) => refuse(writer, refusal),
+            }
+        }
+    }
+}

@@ -1,0 +1,106 @@
+//! A reader or a writer whose calls are counted.
+ghost use Rattle.std.specs.Prelude.{◌≡◌, ◌||◌, is_err};
+ghost use Rattle.std.specs.Io.{ReadsAtMost, WritesAtMost};
+ghost use Rattle.std.specs.Io.KnownBytes.{Keeps, ReadConsumes, WriteAppends};
+ghost use Rattle.reg_http.specs.Tallies.{inner_of, calls_of, has_failed, IsFresh, one_call_more, is_refused};
+
+use std::io;
+use std::io::{Read, Write};
+
+/// A reader or a writer, the number of calls made of it, and whether one of them failed.
+#[derive(Drop)]
+pub struct Tally<T> {
+    inner: T,
+    calls: u64,
+    failed: bool,
+}
+
+impl<T> Tally<T> {
+    /// Nothing has been asked of `inner` yet.
+    pub fn new(inner: T) -> Tally<T>
+        ensures inner { inner_of result ≡ inner }
+        ensures fresh { IsFresh result }
+    {
+        Tally {
+            inner,
+            calls: 0,
+            failed: false,
+        }
+    }
+
+    /// How many calls were made. It stays at its greatest value.
+    pub fn calls(&self) -> u64
+        ensures { result ≡ calls_of self.now }
+    {
+        self.calls
+    }
+
+    /// Whether a call failed.
+    pub fn failed(&self) -> bool
+        ensures { result ≡ has_failed self.now }
+    {
+        self.failed
+    }
+
+    fn count(&mut self)
+        ensures calls { calls_of self.new ≡ one_call_more (calls_of self.old) }
+        ensures failed { has_failed self.new ≡ has_failed self.old }
+        ensures inner { inner_of self.new ≡ inner_of self.old }
+    {
+        self.calls = self.calls.saturating_add(1);
+    }
+}
+
+impl<R: Read> Read for Tally<R> {
+    ghost use Rattle.reg_http.specs.Tallies.{inner_of};
+
+    ghost remaining = { λ t. R.remaining (inner_of t) };
+
+    fn read(&mut self, buf: &mut [u8]) -> io::Result<usize>
+        ensures bound { ReadsAtMost result buf.new }
+        ensures bytes { ReadConsumes (R.remaining (inner_of self.old)) (R.remaining (inner_of self.new))
+            result buf.new }
+        ensures calls { calls_of self.new ≡ one_call_more (calls_of self.old) }
+        ensures failed { has_failed self.new ≡ (has_failed self.old || is_err result) }
+    {
+        self.count();
+        let result = self.inner.read(buf);
+        if result.is_err() {
+            self.failed = true;
+        }
+        result
+    }
+}
+
+impl<W: Write> Write for Tally<W> {
+    ghost use Rattle.reg_http.specs.Tallies.{inner_of};
+
+    ghost contents = { λ t. W.contents (inner_of t) };
+
+    fn write(&mut self, buf: &[u8]) -> io::Result<usize>
+        ensures bound { WritesAtMost result buf.now }
+        ensures bytes { WriteAppends (W.contents (inner_of self.old)) (W.contents (inner_of self.new))
+            result buf.now }
+        ensures calls { calls_of self.new ≡ one_call_more (calls_of self.old) }
+        ensures failed { has_failed self.new ≡ (has_failed self.old || is_refused result buf.now) }
+    {
+        self.count();
+        let result = self.inner.write(buf);
+        let refused = match &result {
+            Ok(n) => *n == 0 && !buf.is_empty(),
+            Err(_) => true,
+        };
+        if refused {
+            self.failed = true;
+        }
+        result
+    }
+
+    fn flush(&mut self) -> io::Result<()>
+        ensures bytes { Keeps (W.contents (inner_of self.old)) (W.contents (inner_of self.new)) }
+        ensures calls { calls_of self.new ≡ calls_of self.old }
+        ensures failed { has_failed self.new ≡ has_failed self.old }
+    {
+        self.inner.flush()
+    }
+}

@@ -1,0 +1,89 @@
+//! Requests and their replies, as texts and as bytes.
+
+/// At an empty desk, in turn. Each line is a case: day, token (`-`: no field), the lines of the head, the body (`A` is the
+/// file, `A cut` all but its last byte, `A bell` has a control byte in a group name), the status, the length, and the body of the reply.
+pub(crate) const AT_A_DESK: &str = r#"
+# each refusal before the next
+2024-05-01 | - | GET /v1/x HTTP/1.1 | - | 404 Not Found | 20 | {"error":"no route"}
+2024-05-01 | - | PUT /v1/x HTTP/1.1 | - | 404 Not Found | 20 | {"error":"no route"}
+2024-05-01 | - | PUT /v1/projects/N1/check HTTP/1.1 | - | 405 Method Not Allowed | 18 | {"error":"method"}
+2024-05-01 | - | POST /v1/projects/N1/check HTTP/1.1 | - | 401 Unauthorized | 21 | {"error":"no caller"}
+2024-05-01 | t-echo | POST /v1/projects/N1/check HTTP/1.1 | - | 411 Length Required | 27 | {"error":"length required"}
+2024-05-01 | t-echo | POST /v1/projects/N1/check HTTP/1.1; Transfer-Encoding: chunked; Content-Length: 1; Content-Length: 1 | - | 411 Length Required | 27 | {"error":"length required"}
+2024-05-01 | t-echo | POST /v1/projects/N1/check HTTP/1.1; Content-Length: 4194305; Content-Length: 4194305 | - | 400 Bad Request | 22 | {"error":"bad length"}
+2024-05-01 | t-echo | POST /v1/projects/N1/check HTTP/1.1; Content-Length: 4194305 | - | 413 Payload Too Large | 21 | {"error":"too large"}
+2024-05-01 | t-echo | POST /v1/projects/N1/check?a=b HTTP/1.1; Content-Length: 4194305 | - | 413 Payload Too Large | 21 | {"error":"too large"}
+2024-05-01 | t-echo | POST /v1/projects/N1/check?a=b HTTP/1.1; Content-Length: 543 | A cut | 400 Bad Request | 25 | {"error":"bad parameter"}
+2024-05-01 | t-gamma | POST /v1/projects/N1/deposits HTTP/1.1; Content-Length: 543 | A cut | 400 Bad Request | 22 | {"error":"short body"}
+2024-05-01 | t-gamma | POST /v1/projects/N1/deposits?embargo=2024-06-01 HTTP/1.1; Content-Length: 543 | A | 403 Forbidden | 12 | {"denied":5}
+2024-05-01 | - | POST /v1/projects/N1/deposits?embargo=2024-06-01 HTTP/1.1; Content-Length: 543 | A | 401 Unauthorized | 21 | {"error":"no caller"}
+# routes and methods
+2024-05-01 | t-delta | GET /v1/projects//deposits HTTP/1.1 | - | 404 Not Found | 20 | {"error":"no route"}
+2024-05-01 | t-delta | GET /v1/projects/N1/deposits/ HTTP/1.1 | - | 404 Not Found | 20 | {"error":"no route"}
+2024-05-01 | t-delta | GET /v1/projects/N1/deposits/1/2 HTTP/1.1 | - | 404 Not Found | 20 | {"error":"no route"}
+2024-05-01 | t-delta | DELETE /v1/projects/N1/deposits/1 HTTP/1.1 | - | 405 Method Not Allowed | 18 | {"error":"method"}
+2024-05-01 | t-delta | HEAD /v1/projects/N1/deposits HTTP/1.1 | - | 405 Method Not Allowed | 18 | {"error":"method"}
+2024-05-01 | t-delta | get /v1/projects/N1/deposits HTTP/1.1 | - | 405 Method Not Allowed | 18 | {"error":"method"}
+# callers
+2024-05-01 | T-DELTA | GET /v1/projects/N1/deposits HTTP/1.1 | - | 401 Unauthorized | 21 | {"error":"no caller"}
+2024-05-01 | - | GET /v1/projects/N1/deposits HTTP/1.1; Authorization: Bearer  t-delta | - | 401 Unauthorized | 21 | {"error":"no caller"}
+2024-05-01 | - | GET /v1/projects/N1/deposits HTTP/1.1; Authorization: bearer t-delta | - | 401 Unauthorized | 21 | {"error":"no caller"}
+2024-05-01 | t-delta | GET /v1/projects/N1/deposits HTTP/1.1; authorization: Bearer t-delta | - | 401 Unauthorized | 21 | {"error":"no caller"}
+# lengths
+2024-05-01 | t-echo | POST /v1/projects/N1/check HTTP/1.1; Content-Length: 00000000543 | A | 400 Bad Request | 22 | {"error":"bad length"}
+2024-05-01 | t-echo | POST /v1/projects/N1/check HTTP/1.1; Content-Length: +543 | A | 400 Bad Request | 22 | {"error":"bad length"}
+2024-05-01 | t-echo | POST /v1/projects/N1/check HTTP/1.1; Content-Length: 543; content-length: 543 | A | 400 Bad Request | 22 | {"error":"bad length"}
+2024-05-01 | t-echo | POST /v1/projects/N1/check HTTP/1.1; Transfer-Encoding:; Content-Length: 543 | A | 411 Length Required | 27 | {"error":"length required"}
+2024-05-01 | t-echo | POST /v1/projects/N1/check HTTP/1.1; CONTENT-LENGTH: 0000000543 | A | 200 OK | 14 | {"clean":true}
+2024-05-01 | t-delta | GET /v1/projects/N1/deposits HTTP/1.1; Content-Length: x; Transfer-Encoding: y | - | 200 OK | 15 | {"deposits":[]}
+# parameters
+2024-05-01 | t-echo | GET /v1/projects/N1/deposits/007 HTTP/1.1 | - | 400 Bad Request | 25 | {"error":"bad parameter"}
+2024-05-01 | t-echo | GET /v1/projects/N1/deposits/0 HTTP/1.1 | - | 400 Bad Request | 25 | {"error":"bad parameter"}
+2024-05-01 | t-echo | GET /v1/projects/N1/deposits/1234567 HTTP/1.1 | - | 400 Bad Request | 25 | {"error":"bad parameter"}
+2024-05-01 | t-echo | GET /v1/projects/N%31/deposits HTTP/1.1 | - | 400 Bad Request | 25 | {"error":"bad parameter"}
+2024-05-01 | t-echo | GET /v1/projects/N1/deposits?embargo=2024-06-01 HTTP/1.1 | - | 400 Bad Request | 25 | {"error":"bad parameter"}
+2024-05-01 | t-echo | GET /v1/projects/N1/deposits/1?groups=LOCA&groups=LOCA HTTP/1.1 | - | 400 Bad Request | 25 | {"error":"bad parameter"}
+2024-05-01 | t-echo | GET /v1/projects/N1/deposits/1?groups=LOCA, HTTP/1.1 | - | 400 Bad Request | 25 | {"error":"bad parameter"}
+2024-05-01 | t-echo | GET /v1/projects/N1/deposits/1?groups=loca HTTP/1.1 | - | 400 Bad Request | 25 | {"error":"bad parameter"}
+2024-05-01 | t-delta | POST /v1/projects/N1/deposits?embargo HTTP/1.1; Content-Length: 543 | A | 400 Bad Request | 25 | {"error":"bad parameter"}
+2024-05-01 | t-delta | POST /v1/projects/N1/deposits?embargo=2024-6-1 HTTP/1.1; Content-Length: 543 | A | 400 Bad Request | 25 | {"error":"bad parameter"}
+2024-05-01 | t-echo | GET /v1/projects/N1/deposits?&& HTTP/1.1 | - | 200 OK | 15 | {"deposits":[]}
+# answers
+2024-05-01 | t-echo | POST /v1/projects/N1/check HTTP/1.1; Content-Length: 543 | A | 200 OK | 14 | {"clean":true}
+2024-05-01 | t-echo | POST /v1/projects/N1/check HTTP/1.1; Content-Length: 0 | A | 422 Unprocessable Entity | 49 | {"findings":[{"code":"2","line":0,"subject":""}]}
+2024-05-01 | t-echo | POST /v1/projects/N1/check HTTP/1.1; Content-Length: 1 | x | 422 Unprocessable Entity | 49 | {"findings":[{"code":"5","line":1,"subject":""}]}
+2024-05-01 | t-echo | POST /v1/projects/N1/check HTTP/1.1; Content-Length: 544 | A bell | 422 Unprocessable Entity | 56 | {"findings":[{"code":"19","line":26,"subject":"lo?ca"}]}
+2024-05-01 | t-echo | GET /v1/projects/N1/deposits/999 HTTP/1.1 | - | 404 Not Found | 19 | {"error":"unknown"}
+2024-05-01 | t-delta | POST /v1/projects/N1/deposits?%65mbargo=2024%2D06-01 HTTP/1.1; Content-Length: 543 | A | 200 OK | 35 | {"embargo":"2024-06-01","number":1}
+2024-05-01 | t-delta | POST /v1/projects/N1/deposits?embargo=2030-01-01 HTTP/1.1; Content-Length: 543 | A | 200 OK | 35 | {"embargo":"2024-06-01","number":1}
+2024-05-01 | t-foxtrot | POST /v1/projects/N1/deposits HTTP/1.1; Content-Length: 543 | A | 200 OK | 35 | {"embargo":"2024-05-01","number":2}
+2024-05-01 | t-delta | GET /v1/projects/N1/deposits/1 HTTP/1.1 | - | 200 OK | 543 | A
+2024-05-01 | t-delta | GET /v1/projects/N1/deposits/1?groups HTTP/1.1 | - | 200 OK | 543 | A
+2024-05-01 | t-delta | GET /v1/projects/N1/deposits/1?groups=LOCA,PROJ HTTP/1.1 | - | 200 OK | 543 | A
+2024-05-31 | t-echo | GET /v1/projects/N1/deposits/1 HTTP/1.1 | - | 404 Not Found | 19 | {"error":"unknown"}
+2024-06-01 | t-echo | GET /v1/projects/N1/deposits/1 HTTP/1.1 | - | 200 OK | 543 | A
+2024-05-01 | t-delta | GET /v1/projects/N1/deposits HTTP/1.1 | - | 200 OK | 118 | {"deposits":[{"embargo":"2024-06-01","firm":"Delta","number":1},{"embargo":"2024-05-01","firm":"Foxtrot","number":2}]}
+"#;
+
+/// At a desk that takes one deposit.
+pub(crate) const AT_A_FULL_DESK: &str = r#"
+2024-05-01 | t-delta | POST /v1/projects/N1/deposits?embargo=2024-06-01 HTTP/1.1; Content-Length: 543 | A | 200 OK | 35 | {"embargo":"2024-06-01","number":1}
+2024-05-01 | t-foxtrot | POST /v1/projects/N1/deposits HTTP/1.1; Content-Length: 543 | A | 507 Insufficient Storage | 16 | {"error":"full"}
+2024-05-01 | t-delta | POST /v1/projects/N1/deposits HTTP/1.1; Content-Length: 543 | A | 200 OK | 35 | {"embargo":"2024-06-01","number":1}
+"#;
+
+/// Heads as bytes, with the status of the reply.
+pub(crate) const HEADS: [(&[u8], u16); 9] = [
+    (b"GET /v1/x HTTP/1.2\r\n\r\n", 400),
+    (b"GET /v1/projects/N1/deposits HTTP/1.1\r\n", 400),
+    (b"GET /v1/x HTTP/1.1\r\nHost : a\r\n\r\n", 400),
+    (b"GET /v1/x HTTP/1.1\r\nA: b\r\n c\r\n\r\n", 400),
+    (b"GET /v1/x HTTP/1.1\r\nA: b\x07\r\n\r\n", 400),
+    (b"GET /v1/\xff HTTP/1.1\r\n\r\n", 400),
+    (b"GET /v1/x HTTP/1.1\r\nA: b\tc\r\n\r\n", 404),
+    (b"\r\n\r\nGET /v1/x HTTP/1.0\n\n", 404),
+    (
+        b"GET /v1/projects/N1/deposits HTTP/1.1\r\nAuthorization: \t Bearer t-delta \t\r\n\r\n",
+        200,
+    ),
+];

@@ -1,0 +1,235 @@
+-- Tests of what the tables hold.
+use Rattle.std.proofs.Common.{zero, suc, IfErr, ◌⊎◌, inl, inr, ◌≡◌, ◌≢◌, ℕ, ◌+◌, ◌<◌, ◌≤◌, Bool, true, false, IsTrue, List, [], ◌∷◌, length, map, filter, get_or, Option, Some, None, IfSome, Result, Ok, Err, IfOk, refl, sym, ap, subst, subst₂, ◌∙◌, arith}
+use Rattle.std.proofs.Math.Logic.{∥∥₁_map, ∥∥₁_elim}
+use Rattle.std.proofs.Props.{props}
+use Rattle.std.specs.List.Sorted.{IsPermutation}
+use Rattle.std.specs.Prelude.{ℤ, pos, codes, Contains}
+use Rattle.std.proofs.lemmas.List.{length-map}
+use Rattle.std.proofs.lemmas.List.Sorted.{IsPermutation-sym, IsPermutation-map, Contains-permutation, length_permutation}
+use Rattle.sqlite.specs.declared.types.Value.TheVariants.{Int, Text as Words, Blob as Bytes}
+use Rattle.sqlite.specs.Order.{Row, bytes, column}
+use Rattle.sqlite.proofs.Callers.{one_permutation}
+use Rattle.sqlite.specs.Effect.{Database, IsDatabase}
+use Rattle.ags_rows.specs.declared.TheConstants.{READABLE}
+use Rattle.ags_rows.specs.Contents.{Contents, contents_of}
+use Rattle.ags_rows.specs.Findings.{LooseFindings}
+use Rattle.ags_rows.proofs.Once.{one_loose_list, one_loose_grouping}
+use Rattle.ags_dict.specs.Entries.{has_dict, lacks_heading, standard_entries}
+use Rattle.ags_dict.specs.Reading.{HasContents, IsDictionary, LacksDict, LacksHeading}
+use Rattle.ags_rows.specs.declared.finding.Finding.{Finding}
+use Rattle.ags_dict.specs.Entries.{Entries}
+use Rattle.ags_check.specs.Findings.{CheckedFile, Findings}
+use Rattle.ags_check.proofs.OneFile.{one_clean_file}
+use Rattle.ags_check.proofs.Whole.{one_list}
+use Rattle.reg_store.specs.declared.keep.KeepError.{KeepError}
+use Rattle.reg_store.specs.declared.keep.KeptRow.{KeptRow}
+use Rattle.reg_store.specs.Deposit.{Deposit}
+use Rattle.reg_store.specs.Fit.{IsFileOf, IsNamed, kept_rows}
+use Rattle.reg_store.specs.Rows.{columns_3, deposit_table, given_deposit, line_table, step_table, place_rows, step_pair, rows_of}
+use Rattle.reg_store.specs.Tables.{register_schema}
+use Rattle.reg_store.specs.Register.{deposit_rows, has_number, meta_columns, number_in, IsRegister}
+use Rattle.reg_store.specs.RegisterLaws.{rows-length}
+use Rattle.reg_store.specs.declared.adopting.AdoptError.{AdoptError}
+use Rattle.reg_store.specs.declared.adopting.AdoptError.TheVariants.{NotRegister, Version, Store, NoMemory}
+use Rattle.reg_store.specs.Formats.{HasFormat, IsFormatRow}
+use Rattle.reg_store.specs.Adoption.{Adopts, Finds, MetaOf, ReadsMeta}
+use Rattle.reg_store.proofs.RowsLemmas.{numbers_long}
+use Rattle.reg_store.specs.Adopts.{id_of, number_rows}
+use Rattle.reg_store.specs.Whole.{AreWhole, Counts, HasMeta, HoldsBody, IsAlone, IsWhole, Tests, adopts_whole, of_all, whole_at}
+
+-- the rows that are shown are the table's, and are these where the table holds these
+pub tests_rows : (is : Bool) (rows mine table : List Row) → (IsTrue is → rows ≡ mine) × (rows ≡ mine → IsTrue is) → IsPermutation rows table → (IsPermutation mine table → rows ≡ mine) → Tests is (IsPermutation mine table)
+tests_rows true rows mine table same all found = record { yes = λ _. ∣ subst (λ r. IsPermutation r table) (same.0 refl) all ∣₁; no = λ e. absurd cc }
+tests_rows false rows mine table same all found = record { yes = λ e. absurd cc; no = λ _ holds. absurd (let clash = same.1 (found holds) in cc) }
+
+pub tests_first : (A B : Type 0) → Tests false A → Tests false (A × B)
+tests_first A B first = record { yes = λ e. absurd cc; no = λ e both. first.no refl both.0 }
+
+pub tests_both : (is : Bool) (A B : Type 0) → Tests true A → Tests is B → Tests is (A × B)
+tests_both is A B one two = record { yes = λ e. pair (one.yes refl) (two.yes e); no = λ e both. two.no e both.1 }
+  where
+    pair : ∥ A ∥₁ → ∥ B ∥₁ → ∥ (A × B) ∥₁
+    pair a b = ∥∥₁_elim a (Prim.hlevel props) (λ x. ∥∥₁_map b (λ y. (x, y)))
+
+pub tests_as : (is : Bool) (A B : Type 0) → (A → B) → (B → A) → Tests is A → Tests is B
+tests_as is A B there back test = record { yes = λ e. ∥∥₁_map (test.yes e) there; no = λ e b. test.no e (back b) }
+
+pub counts_by : (db : Database) (rows : List Row) (found : Option ℕ) → IsPermutation rows (map id_of (deposit_table db.trees)) → ((list : List Deposit) → IsPermutation (deposit_rows 1 list) (deposit_table db.trees) → rows ≡ number_rows 1 (length list))
+    → IfSome found (λ count. count ≤ 999999) → IfSome found (λ count. rows ≡ number_rows 1 count) → (found ≡ None → (count : ℕ) → count ≤ 999999 → rows ≡ number_rows 1 count → ⊥) → Counts db found
+counts_by db rows (Some count) all are few some none = (few, subst (λ r. IsPermutation r (map id_of (deposit_table db.trees))) some all)
+counts_by db rows None all are few some none = λ list low holds. none refl (length list) low (are list holds)
+
+-- a second test, after which the tables are as they were
+pub tests_later : (r : Result Bool KeepError) (A : Type 0) (B : Database → Type 0) (old mid : Database) → mid ≡ old → Tests true A → IfOk r (λ is. Tests is (B mid)) → IfOk r (λ is. Tests is (A × B old))
+tests_later (Ok is) A B old mid same one two = tests_both is A (B old) one (subst (λ (db : Database). Tests is (B db)) same two)
+tests_later (Err e) A B old mid same one two = tt
+
+pub body_tests : (r : Result Bool KeepError) (db : Database) (dictionary : Entries) (n : ℕ) (d : Deposit) (file : CheckedFile) → IsFileOf dictionary d file → (lines : List KeptRow) (steps : List (ℕ × ℕ)) → lines ≡ kept_rows file.groups → steps ≡ file.graph.steps
+    → IfOk r (λ is. Tests is (IsPermutation (place_rows 0 lines) (rows_of n (line_table db.trees)) × IsPermutation (map step_pair steps) (rows_of n (step_table db.trees)))) → IfOk r (λ is. Tests is (HoldsBody db dictionary n d))
+body_tests (Err e) db dictionary n d file its lines steps lines_are steps_are test = tt
+body_tests (Ok is) db dictionary n d file its lines steps lines_are steps_are test = tests_as is _ (HoldsBody db dictionary n d) there back test
+  where
+    Lines : List KeptRow → Type 0
+    Lines all = IsPermutation (place_rows 0 all) (rows_of n (line_table db.trees))
+
+    Steps : List (ℕ × ℕ) → Type 0
+    Steps all = IsPermutation (map step_pair all) (rows_of n (step_table db.trees))
+
+    there : Lines lines × Steps steps → HoldsBody db dictionary n d
+    there both = (file, its, record { lines = subst Lines lines_are both.0; steps = subst Steps steps_are both.1 })
+
+    back : HoldsBody db dictionary n d → Lines lines × Steps steps
+    back held =
+        let one : held.0 ≡ file = one_clean_file held.0 file held.1.clean its.clean (held.1.given ∙ sym its.given) (held.1.bytes ∙ sym its.bytes) in
+        (subst Lines (sym lines_are) (subst (λ (f : CheckedFile). Lines (kept_rows f.groups)) one held.2.lines), subst Steps (sym steps_are) (subst (λ (f : CheckedFile). Steps f.graph.steps) one held.2.steps))
+
+-- a row of deposits is that of one deposit
+abbrev of_row : Row → Deposit
+of_row c = record { firm = bytes (column c 1); project = bytes (column c 2); embargo = number_in (column c 3); bytes = bytes (column c 4) }
+
+pub whole_tests : (r : Result Bool KeepError) (db mid : Database) (dictionary : Entries) (n : ℕ) (d : Deposit) (rows : List Row) → mid ≡ db → IsPermutation rows (filter (has_number n) (deposit_table db.trees)) → rows ≡ given_deposit n d ∷ [] → IsNamed d
+    → IfOk r (λ is. Tests is (HoldsBody mid dictionary n d × IsAlone mid d)) → IfOk r (λ is. Tests is (IsWhole db dictionary n))
+whole_tests (Err e) db mid dictionary n d rows same found read named test = tt
+whole_tests (Ok is) db mid dictionary n d rows same found read named test = tests_as is _ (IsWhole db dictionary n) there back (subst (λ (t : Database). Tests is (HoldsBody t dictionary n d × IsAlone t d)) same test)
+  where
+    row : filter (has_number n) (deposit_table db.trees) ≡ given_deposit n d ∷ []
+    row = one_permutation (given_deposit n d) _ (subst (λ all. IsPermutation all (filter (has_number n) (deposit_table db.trees))) read found)
+
+    there : HoldsBody db dictionary n d × IsAlone db d → IsWhole db dictionary n
+    there both = record { deposit = d; row = row; named = named; body = both.0; alone = both.1 }
+
+    back : IsWhole db dictionary n → HoldsBody db dictionary n d × IsAlone db d
+    back w =
+        let one : w.deposit ≡ d = ap (λ (all : List Row). of_row (get_or all 0 [])) (sym w.row ∙ row) in
+        (subst (HoldsBody db dictionary n) one w.body, subst (IsAlone db) one w.alone)
+
+-- the row that is shown of a whole deposit is its row
+pub only_shown : (db : Database) (dictionary : Entries) (n : ℕ) (rows : List Row) → IsPermutation rows (filter (has_number n) (deposit_table db.trees)) → (w : IsWhole db dictionary n) → rows ≡ given_deposit n w.deposit ∷ []
+only_shown db dictionary n rows found w = one_permutation (given_deposit n w.deposit) rows (IsPermutation-sym _ _ (subst (λ all. IsPermutation rows all) w.row found))
+
+pub tests_true : {is : Bool} {P : Type 0} → is ≡ true → Tests is P → Tests true P
+tests_true {is} {P} e test = subst (λ (b : Bool). Tests b P) e test
+
+pub tests_none : (P : Type 0) → (P → ⊥) → Tests false P
+tests_none P none = record { yes = λ e. absurd cc; no = λ e. none }
+
+pub tests_all : (P : ℕ → Type 0) (count : ℕ) → ((k : ℕ) → k < count → ∥ P k ∥₁) → Tests true ((k : ℕ) → k < count → P k)
+tests_all P count each = record { yes = λ e. of_all P count each; no = λ e. absurd cc }
+
+-- a file with a finding is no file of the register
+pub no_file : (dictionary : Entries) (d : Deposit) (found : List Finding) → Findings dictionary d.bytes found → found ≢ [] → (file : CheckedFile) → IsFileOf dictionary d file → ⊥
+no_file dictionary d found stands some file its =
+    let none : Findings dictionary d.bytes [] = subst₂ (λ (g : Entries) (b : List ℕ). Findings g b []) its.given its.bytes its.clean.file.findings in
+    absurd (some (one_list dictionary d.bytes found [] stands none))
+
+-- ---- meta
+
+-- no bytes are a dictionary and have a finding, or lack DICT or a heading of it
+pub not_dictionary : (text : List ℕ) (found : List Finding) → LooseFindings text found → found ≢ [] → (dictionary : Entries) → IsDictionary text dictionary → ⊥
+not_dictionary text found stands some dictionary reads =
+    let g = reads.1.1 in
+    let none : LooseFindings text [] = (g.0, g.1, g.2) in
+    absurd (some (one_loose_list text found [] stands none))
+
+same_contents : (text : List ℕ) (a b : List Contents) → HasContents text a → HasContents text b → a ≡ b
+same_contents text a b x y = x.2 ∙ ap contents_of (one_loose_grouping text x.0 y.0 x.1 y.1) ∙ sym y.2
+
+pub has_dict_then : (text : List ℕ) → LacksDict text → (dictionary : Entries) → IsDictionary text dictionary → ⊥
+has_dict_then text lacks dictionary reads = let clash : true ≡ false = sym reads.2 ∙ ap has_dict (same_contents text reads.0 lacks.0 reads.1 lacks.1) ∙ lacks.2 in absurd cc
+
+pub has_headings_then : (text : List ℕ) → LacksHeading text → (dictionary : Entries) → IsDictionary text dictionary → ⊥
+has_headings_then text lacks dictionary reads = let clash : true ≡ false = sym lacks.3 ∙ ap lacks_heading (same_contents text lacks.0 reads.0 lacks.1 reads.1) ∙ reads.3 in absurd cc
+
+one_dictionary : (text : List ℕ) (a b : Entries) → IsDictionary text a → IsDictionary text b → a ≡ b
+one_dictionary text a b x y = x.4 ∙ ap standard_entries (same_contents text x.0 y.0 x.1 y.1) ∙ sym y.4
+
+-- the bytes in the rows of meta
+abbrev text_of : List Row → List ℕ
+text_of rows = bytes (column (get_or rows 0 []) 2)
+
+one_text : (rows : List Row) (text other : List ℕ) → rows ≡ meta_columns text → rows ≡ meta_columns other → other ≡ text
+one_text rows text other a b = ap text_of (sym b ∙ a)
+
+pub meta_reads : (r : Result Entries AdoptError) (rows : List Row) (text : List ℕ) → rows ≡ meta_columns text → ((n : ℤ) (row : Row) → Contains rows row → IsFormatRow n row → n ≡ pos 1)
+    → IfOk r (λ dictionary. (length text ≤ READABLE) × IsDictionary text dictionary) → (r ≡ Err NotRegister → (dictionary : Entries) → length text ≤ READABLE → IsDictionary text dictionary → ⊥)
+    → IfErr r (λ e. (e ≡ NotRegister) ⊎ (e ≡ NoMemory)) → ReadsMeta rows r
+meta_reads (Ok dictionary) rows text same formats read refused named = (text, same, read.0, read.1)
+meta_reads (Err NotRegister) rows text same formats read refused named = (
+  λ n has. formats n has.0 has.1 has.2,
+  λ dictionary reads.
+      (let one = one_text rows text reads.0 same reads.1 in
+      refused refl dictionary (subst (λ (t : List ℕ). length t ≤ READABLE) one reads.2) (subst (λ (t : List ℕ). IsDictionary t dictionary) one reads.3)),
+)
+meta_reads (Err (Version n)) rows text same formats read refused (inl e) = absurd cc
+meta_reads (Err (Version n)) rows text same formats read refused (inr e) = absurd cc
+meta_reads (Err Store) rows text same formats read refused (inl e) = absurd cc
+meta_reads (Err Store) rows text same formats read refused (inr e) = absurd cc
+meta_reads (Err NoMemory) rows text same formats read refused named = tt
+
+pub meta_of : (r : Result Entries AdoptError) (db : Database) (rows : List Row) → db.schema ≡ register_schema → IsPermutation rows (map columns_3 (db.trees 0)) → ((text : List ℕ) → IsPermutation (meta_columns text) (map columns_3 (db.trees 0)) → rows ≡ meta_columns text)
+    → ReadsMeta rows r → MetaOf db r
+meta_of (Ok dictionary) db rows schema all found reads = record { text = reads.0; short = reads.2; reads = reads.3; meta = subst (λ rs. IsPermutation rs (map columns_3 (db.trees 0))) reads.1 all }
+meta_of (Err (Version n)) db rows schema all found reads = (reads.0, (schema, (reads.1.0, Contains-permutation _ _ _ all reads.1.1, reads.1.2)))
+meta_of (Err NotRegister) db rows schema all found reads =
+    (λ n has. reads.0 n (has.1.0, Contains-permutation _ _ _ (IsPermutation-sym _ _ all) has.1.1, has.1.2), λ dictionary meta. reads.1 dictionary (meta.text, found meta.text meta.meta, meta.short, meta.reads))
+meta_of (Err Store) db rows schema all found reads = tt
+meta_of (Err NoMemory) db rows schema all found reads = tt
+
+pub register_meta : (db : Database) (dictionary : Entries) (list : List Deposit) → IsRegister db dictionary list → HasMeta db dictionary
+register_meta db dictionary list r = record { text = r.text; short = r.short; reads = r.reads; meta = r.meta }
+
+-- ---- a register is found
+
+pub finds_whole : (db : Database) (dictionary : Entries) (count : ℕ) → db.schema ≡ register_schema → IsDatabase db → HasMeta db dictionary → Counts db (Some count) → ∥ AreWhole db dictionary count ∥₁ → Finds db dictionary (Some count)
+finds_whole db dictionary count schema sound meta counts all = ∥∥₁_map all (λ whole. adopts_whole db dictionary count schema sound meta counts whole)
+
+pub finds_none : (db : Database) (dictionary : Entries) (count : ℕ) → Counts db (Some count) → (AreWhole db dictionary count → ⊥) → Finds db dictionary None
+finds_none db dictionary count counts none list r =
+    let ids = IsPermutation-map id_of _ _ r.deposits in
+    let rows = length_permutation _ _ counts.1 ∙ numbers_long 1 count in
+    let listed = length_permutation _ _ ids ∙ length-map (deposit_rows 1 list) id_of ∙ rows-length 1 list in
+    let same : length list ≡ count = sym listed ∙ rows in
+    none (subst (AreWhole db dictionary) same (whole_at db dictionary list r))
+
+pub meta_adopts : (r : Result Entries AdoptError) (db : Database) (e : AdoptError) → r ≡ Err e → MetaOf db r → Adopts db (Err e)
+meta_adopts (Ok dictionary) db e same meta = absurd cc
+meta_adopts (Err x) db e same meta = go e (subst (λ (y : AdoptError). MetaOf db (Err y)) is meta)
+  where
+    is : x ≡ e
+    is = cc
+
+    go : (y : AdoptError) → MetaOf db (Err y) → Adopts db (Err y)
+    go (Version n) m = m
+    go NotRegister m = (m.0, λ dictionary list r. m.1 dictionary (register_meta db dictionary list r))
+    go Store m = tt
+    go NoMemory m = tt
+
+-- a row of meta is one of the two
+two_rows : (text : List ℕ) (row : Row) → Contains (meta_columns text) row → (row ≡ Words (codes "dictionary") ∷ Int (pos 0) ∷ Bytes text ∷ []) ⊎ (row ≡ Words (codes "format") ∷ Int (pos 1) ∷ Bytes [] ∷ [])
+two_rows text row (zero, low, is) = inl (sym is)
+two_rows text row (suc zero, low, is) = inr (sym is)
+two_rows text row (suc (suc k), low, is) = absurd (omega (arith, low))
+
+one_number : (text : List ℕ) (n : ℤ) (row : Row) → (row ≡ Words (codes "dictionary") ∷ Int (pos 0) ∷ Bytes text ∷ []) ⊎ (row ≡ Words (codes "format") ∷ Int (pos 1) ∷ Bytes [] ∷ []) → IsFormatRow n row → n ≡ pos 1
+one_number text n row (inl e) is = absurd (let names : codes "format" ≡ codes "dictionary" = ap (λ (r : Row). bytes (column r 0)) (sym is.1 ∙ e) in cc)
+one_number text n row (inr e) is = ap (λ (r : Row). number_in (column r 1)) (sym is.1 ∙ e)
+
+pub one_format_in : (db : Database) (dictionary : Entries) → HasMeta db dictionary → (n : ℤ) → HasFormat db n → n ≡ pos 1
+one_format_in db dictionary meta n has = one_number meta.text n has.1.0 (two_rows meta.text has.1.0 (Contains-permutation _ _ _ (IsPermutation-sym _ _ meta.meta) has.1.1)) has.1.2
+
+first_row : (text : List ℕ) → Contains (meta_columns text) (Words (codes "dictionary") ∷ Int (pos 0) ∷ Bytes text ∷ [])
+first_row text = (0, omega arith, refl)
+
+its_text : (text other : List ℕ) → (◌≡◌ {A = Row} (Words (codes "dictionary") ∷ Int (pos 0) ∷ Bytes text ∷ []) (Words (codes "dictionary") ∷ Int (pos 0) ∷ Bytes other ∷ [])) ⊎ (◌≡◌ {A = Row} (Words (codes "dictionary") ∷ Int (pos 0) ∷ Bytes text ∷ []) (Words (codes "format") ∷ Int (pos 1) ∷ Bytes [] ∷ [])) → text ≡ other
+its_text text other (inl e) = ap (λ (r : Row). bytes (column r 2)) e
+its_text text other (inr e) = absurd (let names : codes "dictionary" ≡ codes "format" = ap (λ (r : Row). bytes (column r 0)) e in cc)
+
+pub one_meta : (db : Database) (a b : Entries) → HasMeta db a → HasMeta db b → a ≡ b
+one_meta db a b x y =
+    let there = Contains-permutation _ _ _ (IsPermutation-sym _ _ y.meta) (Contains-permutation _ _ _ x.meta (first_row x.text)) in
+    let text : x.text ≡ y.text = its_text x.text y.text (two_rows y.text _ there) in
+    one_dictionary y.text a b (subst (λ (t : List ℕ). IsDictionary t a) text x.reads) y.reads
+
+pub none_adopts : (db : Database) (dictionary : Entries) → HasMeta db dictionary → Finds db dictionary None → Adopts db (Err NotRegister)
+none_adopts db dictionary meta none =
+    (one_format_in db dictionary meta, λ other list r. none list (subst (λ (d : Entries). IsRegister db d list) (one_meta db other dictionary (register_meta db other list r) meta) r))

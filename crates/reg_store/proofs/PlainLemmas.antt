@@ -1,0 +1,82 @@
+-- A register in memory: what is known of a kept deposit and of its file.
+use Rattle.std.proofs.Common.{◌≡◌, ◌≢◌, ℕ, ◌<◌, ◌≤◌, Bool, true, false, List, [], ◌∷◌, ◌++◌, length, map, All, Some, Ok, Err, Result, get_or, if◌then◌else◌, sym, ap, subst, ◌∙◌, arith, refl}
+use Rattle.std.specs.Prelude.{IfOk, slice_get}
+use Rattle.std.proofs.Math.Logic.{∥∥₁_map, ∥∥₁_elim}
+use Rattle.std.proofs.Math.ListN.{get_or-map}
+use Rattle.std.proofs.Props.{props}
+use Rattle.std.proofs.lemmas.List.{map-append, length-map}
+use Rattle.std.proofs.lemmas.List.Elements.{All-append}
+use Rattle.std.proofs.lemmas.Option.{get_or_from_slice_get}
+use Rattle.ags_rows.specs.declared.TheConstants.{LIMIT, READABLE}
+use Rattle.ags_rows.specs.declared.finding.Finding.{Finding}
+use Rattle.ags_rows.specs.declared.rows.Group.{Group}
+use Rattle.ags_dict.specs.Entries.{Entries}
+use Rattle.ags_links.specs.Walks.{Wiring}
+use Rattle.ags_check.specs.Findings.{CheckedFile, Findings, IsClean}
+use Rattle.ags_check.proofs.Whole.{one_list}
+use Rattle.ags_check.proofs.OneFile.{one_clean_file}
+use Rattle.reg_store.specs.declared.keep.Kept.{Kept}
+use Rattle.reg_store.specs.declared.keep.KeptRow.{KeptRow}
+use Rattle.reg_store.specs.Keep.{deposit_of}
+use Rattle.reg_store.specs.Deposit.{Deposit}
+use Rattle.reg_store.specs.Fit.{IsFit, IsFileOf, kept_rows}
+use Rattle.reg_store.specs.PlainLaws.{fit_of}
+
+-- ---- a fit deposit
+
+-- the deposit of a checked file is fit
+pub checked_fit : (dictionary : Entries) (file : CheckedFile) (d : Deposit) → file.given ≡ dictionary → d.bytes ≡ file.bytes → IsClean file → length file.bytes ≤ LIMIT → IsFit dictionary d
+checked_fit dictionary file d given bytes clean short =
+    ∣ (file, record { given = given; bytes = sym bytes; clean = clean; short = subst (λ (b : List ℕ). length b ≤ LIMIT) (sym bytes) short }) ∣₁
+
+pub fit_is_short : (dictionary : Entries) (d : Deposit) → IsFit dictionary d → length d.bytes ≤ LIMIT
+fit_is_short dictionary d fit = ∥∥₁_elim fit (Prim.hlevel props) (λ (one : (file : CheckedFile) × IsFileOf dictionary d file). one.1.short)
+
+pub fit_is_readable : (dictionary : Entries) (d : Deposit) → IsFit dictionary d → length d.bytes ≤ READABLE
+fit_is_readable dictionary d fit = let short = fit_is_short dictionary d fit in omega (arith, short)
+
+-- no findings are listed for it
+pub fit_is_clean : (dictionary : Entries) (d : Deposit) (found : List Finding) → IsFit dictionary d → Findings dictionary d.bytes found → found ≢ [] → ⊥
+fit_is_clean dictionary d found fit h some = ∥∥₁_elim fit (Prim.hlevel props) none
+  where
+    none : (file : CheckedFile) × IsFileOf dictionary d file → ⊥
+    none (file, its) =
+        let there : Findings dictionary file.bytes [] = subst (λ (given : Entries). Findings given file.bytes []) its.given its.clean.file.findings in
+        some (one_list dictionary d.bytes found [] h (subst (λ (bytes : List ℕ). Findings dictionary bytes []) its.bytes there))
+
+-- ---- the list of deposits
+
+one_fit : (dictionary : Entries) (d : Deposit) → IsFit dictionary d → All (IsFit dictionary) (d ∷ [])
+one_fit dictionary d h = λ k x low. let first : k ≡ 0 = omega arith in rw first h
+
+-- one deposit more
+pub fit_push : (dictionary : Entries) (old : List Kept) (kept : Kept) (ok : Bool) → IsFit dictionary (deposit_of kept) → ∥ All (IsFit dictionary) (map deposit_of old) ∥₁
+    → ∥ All (IsFit dictionary) (map deposit_of (if ok then old ++ kept ∷ [] else old)) ∥₁
+fit_push dictionary old kept false one all = all
+fit_push dictionary old kept true one all =
+    ∥∥₁_map all (λ (h : All (IsFit dictionary) (map deposit_of old)). let r : All (IsFit dictionary) (map deposit_of (old ++ kept ∷ [])) = subst (All (IsFit dictionary)) (sym (map-append deposit_of old (kept ∷ [])))
+    (All-append (IsFit dictionary) (map deposit_of old) (deposit_of kept ∷ []) h (one_fit dictionary (deposit_of kept) one)) in r)
+
+-- the deposit at a place
+pub kept_is_fit : (dictionary : Entries) (kept : List Kept) (k : ℕ) (one : Kept) → ∥ All (IsFit dictionary) (map deposit_of kept) ∥₁ → k < length (map deposit_of kept) → one ≡ get_or kept k one → IsFit dictionary (deposit_of one)
+kept_is_fit dictionary kept k one all low is =
+    subst (IsFit dictionary) (get_or-map deposit_of kept k one ∙ ap deposit_of (sym is)) (fit_of dictionary (map deposit_of kept) all k (deposit_of one) low)
+
+pub kept_is_deposit : (kept : List Kept) (k : ℕ) (one : Kept) (d : Deposit) → one ≡ get_or kept k one → slice_get (map deposit_of kept) k ≡ Some d → d ≡ deposit_of one
+kept_is_deposit kept k one d is there = sym (get_or_from_slice_get (map deposit_of kept) k d (deposit_of one) there) ∙ get_or-map deposit_of kept k one ∙ ap deposit_of (sym is)
+
+-- ---- its file
+
+-- a deposit has one checked file
+one_file : (dictionary : Entries) (d : Deposit) (a b : CheckedFile) → IsFileOf dictionary d a → IsFileOf dictionary d b → a ≡ b
+one_file dictionary d a b x y = one_clean_file a b x.clean y.clean (x.given ∙ sym y.given) (x.bytes ∙ sym y.bytes)
+
+pub rows_are : {X E : Type 0} (items : X → List KeptRow) (dictionary : Entries) (d : Deposit) (checked : CheckedFile) (groups : List Group) (r : Result X E) → IsFileOf dictionary d checked → groups ≡ checked.groups
+    → IfOk r (λ rows. items rows ≡ kept_rows groups) → IfOk r (λ rows. (file : CheckedFile) → IsFileOf dictionary d file → items rows ≡ kept_rows file.groups)
+rows_are items dictionary d checked groups (Ok rows) its of read = λ file other. read ∙ ap kept_rows (of ∙ ap (λ (f : CheckedFile). f.groups) (one_file dictionary d checked file its other))
+rows_are items dictionary d checked groups (Err e) its of read = tt
+
+pub graph_is : {E : Type 0} (dictionary : Entries) (d : Deposit) (checked : CheckedFile) (graph : Wiring) (r : Result Wiring E) → IsFileOf dictionary d checked → graph ≡ checked.graph
+    → IfOk r (λ copied. copied ≡ graph) → IfOk r (λ copied. (file : CheckedFile) → IsFileOf dictionary d file → copied ≡ file.graph)
+graph_is dictionary d checked graph (Ok copied) its of same = λ file other. same ∙ of ∙ ap (λ (f : CheckedFile). f.graph) (one_file dictionary d checked file its other)
+graph_is dictionary d checked graph (Err e) its of same = tt

@@ -1,0 +1,81 @@
+-- What a query of the register leaves of a connection.
+use Rattle.std.proofs.Common.{◌≡◌, ℕ, List, [], ◌∷◌, Bool, true, false, Option, Some, None, Ok, Err, Result, IfOk, IfErr, OnOk, IsTrue, inl, inr, refl, sym, ap, subst, ◌∙◌, arith}
+use Rattle.sqlite.specs.Order.{Row}
+use Rattle.sqlite.specs.declared.error.Error.{Error}
+use Rattle.sqlite_schema.specs.declared.command.Returning.{Returning}
+use Rattle.sqlite.specs.Clock.{timed}
+use Rattle.sqlite.specs.Listing.{understood}
+use Rattle.sqlite.specs.State.{State, Shown, ShowsRows, IsUnchanged, HasCleanDisk, Survives, CommitsShowing, FailsToQuery, IsNotRun, FailsToShow}
+use Rattle.sqlite.proofs.StateLemmas.{survives_weaker, survives_then}
+use Rattle.sqlite.proofs.Callers.{IsPlain, never_commits}
+use Rattle.reg_store.specs.Tables.{register_schema}
+use Rattle.reg_store.specs.Quiet.{IsAsBefore, IsQuiet, clean_before}
+
+plain_at : (sql : List ℕ) (s : State) → IsPlain (understood register_schema sql) → s.now.schema ≡ register_schema → IsPlain (understood s.now.schema sql)
+plain_at sql s plain has = subst (λ k. IsPlain (understood k sql)) (sym has) plain
+
+-- a query that fails leaves what was committed, where that was all
+fails_keeps : (sql : List ℕ) (params : Row) (old new : State) (e : Error) → (IsTrue old.is_open → old.committed ≡ old.now) → IsTrue new.is_open → FailsToQuery sql params old new e → IsAsBefore old new
+unfolding FailsToQuery IsNotRun
+fails_keeps sql params old new e settled is_open (inl (inl h)) = (h.1.0.was_open, h.1.0.now_is, h.1.0.committed_is)
+fails_keeps sql params old new e settled is_open (inl (inr h)) = let u = h.3.undone is_open in let was = h.3.was_open is_open in (was, u.0 ∙ settled was, u.1)
+fails_keeps sql params old new e settled is_open (inr h) = shows h.0.returning h.2
+  where
+    shows : (r : Option Returning) → FailsToShow old new sql h.0 (timed params h.0.formats h.1.now) e r → IsAsBefore old new
+    shows None f = (f.3.0.was_open, f.3.0.now_is, f.3.0.committed_is)
+    shows (Some what) (inl f) = (f.1.0.was_open, f.1.0.now_is, f.1.0.committed_is)
+    shows (Some what) (inr f) = let u = f.3.undone is_open in let was = f.3.was_open is_open in (was, u.0 ∙ settled was, u.1)
+
+shown_same : (sql : List ℕ) (old new : State) (params : Row) (rows : List Row) → IsPlain (understood old.now.schema sql) → Shown sql params old new rows → IsUnchanged old new
+unfolding Shown
+shown_same sql old new params rows plain h =
+    let none : h.0.returning ≡ None = (subst IsPlain h.1.is plain).0 in
+    (subst (ShowsRows old new sql h.0 (timed params h.0.formats h.1.now) rows) none h.2).3
+
+module _ (sql : List ℕ) (plain : IsPlain (understood register_schema sql)) where
+  pub asks_quietly : (old new : State) (params : Row) → (HasCleanDisk old → old.now.schema ≡ register_schema) → Survives old new (CommitsShowing sql params old) → Survives old new (λ _. ⊥)
+  asks_quietly old new params has s =
+      survives_weaker old new _ _ (λ clean db. never_commits sql params old db (plain_at sql old plain (has (omega (arith, s.clean))))) s
+
+  module _ {X : Type 0} (items : X → List Row) (old new : State) (r : Result X Error) (has : old.now.schema ≡ register_schema) (params : Row) where
+    pub opened_by : IfOk r (λ x. Shown sql params old new (items x)) → OnOk r (IsTrue new.is_open)
+    opened_by h = go r h
+      where
+        go : (s : Result X Error) → IfOk s (λ x. Shown sql params old new (items x)) → OnOk s (IsTrue new.is_open)
+        go (Ok x) h = (shown_same sql old new params (items x) (plain_at sql old plain has) h).0.is_open
+        go (Err e) h = tt
+
+    pub same_by : (IsTrue old.is_open → old.committed ≡ old.now) → IsTrue new.is_open → IfOk r (λ x. Shown sql params old new (items x)) → IfErr r (FailsToQuery sql params old new) → IsAsBefore old new
+    same_by settled is_open ok err = go r ok err
+      where
+        go : (s : Result X Error) → IfOk s (λ x. Shown sql params old new (items x)) → IfErr s (FailsToQuery sql params old new) → IsAsBefore old new
+        go (Ok x) h f = let it = (shown_same sql old new params (items x) (plain_at sql old plain has) h).0 in (it.was_open, it.now_is, it.committed_is)
+        go (Err e) h f = fails_keeps sql params old new e settled is_open f
+
+both_open : {a b : Bool} → IsTrue a → IsTrue b → a ≡ b
+both_open p q = p ∙ sym q
+
+-- the query did not fail, or the connection is still open
+pub ok_quiet : (old new : State) → new.in_transaction ≡ false → (HasCleanDisk new → IsTrue new.is_open) → (HasCleanDisk new → IsTrue new.is_open → IsAsBefore old new) → Survives old new (λ _. ⊥) → IsQuiet old new false
+ok_quiet old new idle is_open stays survives = record {
+  idle = idle;
+  is_open = λ clean _. both_open (is_open clean) (stays clean (is_open clean)).0;
+  same = λ clean _. (let it = stays clean (is_open clean) in (it.1, it.2));
+  survives = survives;
+}
+
+-- the connection is known to be open after it: nothing changed
+pub open_quiet : (old mid new : State) → new.in_transaction ≡ false → (HasCleanDisk mid → IsTrue mid.is_open → IsAsBefore old mid) → Survives old mid (λ _. ⊥) → (HasCleanDisk new → IsUnchanged mid new) → Survives mid new (λ _. ⊥) → IsQuiet old new false
+open_quiet old mid new idle stays survives unchanged probed = record {
+  idle = idle;
+  is_open = λ clean _. both_open (unchanged clean).0.is_open (stays (clean_before mid new probed clean) (unchanged clean).0.was_open).0;
+  same = λ clean _. (let at = (unchanged clean).0 in let was = stays (clean_before mid new probed clean) at.was_open in (at.now_is ∙ was.1, at.committed_is ∙ was.2));
+  survives = survives_then old mid new _ _ (λ _. ⊥) (λ _ db none. none) (λ _ db none. none) survives probed;
+}
+
+-- the store failed
+pub failed_quiet : (old new : State) → new.in_transaction ≡ false → Survives old new (λ _. ⊥) → IsQuiet old new true
+failed_quiet old new idle survives = record { idle = idle; is_open = λ clean e. absurd cc; same = λ clean e. absurd cc; survives = survives }
+
+pub failed_then : (old mid new : State) → new.in_transaction ≡ false → Survives old mid (λ _. ⊥) → Survives mid new (λ _. ⊥) → IsQuiet old new true
+failed_then old mid new idle one two = failed_quiet old new idle (survives_then old mid new _ _ (λ _. ⊥) (λ _ db none. none) (λ _ db none. none) one two)

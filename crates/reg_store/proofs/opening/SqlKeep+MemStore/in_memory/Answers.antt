@@ -1,0 +1,6 @@
+use Rattle.std.proofs.Common.{rules}
+use Rattle.sqlite.proofs.Callers.{memory_is_clean}
+use Rattle.reg_store.proofs.opening.SqlKeep+MemStore.in_memory.Goals as goal
+
+pub returns-in-Ok-make-clause-empty : goal.returns-in-Ok-make-clause-empty
+returns-in-Ok-make-clause-empty c = c.in-Ok-make.ensures.empty (memory_is_clean c.in-Ok-make.keep.connection)

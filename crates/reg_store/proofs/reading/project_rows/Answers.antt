@@ -1,0 +1,17 @@
+use Rattle.std.proofs.Common.{rules, arith, ◌≡◌}
+use Rattle.sqlite.specs.State.{HasCleanDisk}
+use Rattle.sqlite.specs.Held.{state}
+use Rattle.reg_store.specs.Meaning.{numbers_is}
+use Rattle.reg_store.specs.Shows.{project_by}
+use Rattle.reg_store.proofs.reading.project_rows.Goals as goal
+
+pub query-requires-clause-plain : goal.query-requires-clause-plain
+query-requires-clause-plain g c = numbers_is.1
+
+pub returns-clause-found : goal.returns-clause-found
+returns-clause-found g c clean =
+    let old = state g.S.Store c.args.conn.now in
+    let new = state g.S.Store c.query.new.conn in
+    let first : HasCleanDisk old = omega (arith, c.query.ensures.quiet.survives.clean) in
+    project_by (λ rows. rows.items) old new c.query.result c.args.project.now (c.requires.idle.schema first)
+    (rw (c.params-to_sql.ensures) at (c.query.ensures.shown clean))

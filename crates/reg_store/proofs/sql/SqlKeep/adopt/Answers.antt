@@ -1,0 +1,44 @@
+use Rattle.std.proofs.Common.{rules, arith, ◌≡◌, ◌≤◌, true, false, IsTrue, refl, sym, subst, ◌∙◌}
+use Rattle.sqlite.specs.Effect.{Database}
+use Rattle.sqlite.specs.State.{HasCleanDisk}
+use Rattle.sqlite.specs.Held.{state}
+use Rattle.reg_store.specs.Quiet.{clean_before}
+use Rattle.reg_store.specs.KeepLaws.{adopted_keeps, adopted_list}
+use Rattle.reg_store.proofs.SchemaLemmas.{register_is, not_register}
+use Rattle.reg_store.proofs.sql.SqlKeep.adopt.Goals as goal
+
+pub examine-requires : goal.examine-requires
+examine-requires g c = record {
+  idle = record {
+    idle = search rules;
+    schema = λ clean. register_is c.args.connection.schema (search rules);
+    settled = λ clean is_open. sym (c.is_autocommit.ensures.settled (search rules) is_open);
+  };
+}
+
+pub invariant_of-result : goal.invariant_of-result
+invariant_of-result g c =
+    let old = state g.S.Store c.args.connection in
+    let new = state g.S.Store c.examine.new.conn in
+    let made = c.in-Ok.ensures in
+    record {
+      idle = made.quiet.idle;
+      few = made.few;
+      kept = λ _ clean.
+          (let opened = made.open clean refl in
+          let was : IsTrue old.is_open = subst IsTrue (made.quiet.is_open clean refl) opened in
+          let same = made.quiet.same clean refl in
+          let settled : old.now ≡ old.committed = search (rules, was) in
+          adopted_keeps old new c.in-Ok.dictionary c.in-Ok.count opened same.0 (same.1 ∙ sym settled ∙ sym same.0) (made.adopts clean));
+    }
+
+pub returns-in-Ok-clause-adopted : goal.returns-in-Ok-clause-adopted
+returns-in-Ok-clause-adopted g c clean =
+    let old = state g.S.Store c.args.connection in
+    let new = state g.S.Store c.examine.new.conn in
+    let made = c.in-Ok.ensures in
+    let opened = made.open clean refl in
+    let was : IsTrue old.is_open = subst IsTrue (made.quiet.is_open clean refl) opened in
+    let same = made.quiet.same clean refl in
+    let settled : old.now ≡ old.committed = search (rules, was) in
+    adopted_list old new c.in-Ok.dictionary c.in-Ok.count same.0 (same.1 ∙ sym settled ∙ sym same.0) (made.adopts clean)

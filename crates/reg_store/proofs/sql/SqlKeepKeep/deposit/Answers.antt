@@ -1,0 +1,39 @@
+use Rattle.std.proofs.Common.{rules, ◌≡◌, refl, sym, ap, ◌∙◌}
+use Rattle.sqlite.specs.Effect.{Database}
+use Rattle.sqlite.specs.Held.{state}
+use Rattle.reg_store.specs.Quiet.{clean_before}
+use Rattle.reg_store.specs.Register.{deposits_in}
+use Rattle.reg_store.specs.KeepLaws.{idle_at, keeps_quiet, crash_same}
+use Rattle.reg_store.specs.Methods.{deposit_at}
+use Rattle.reg_store.proofs.sql.SqlKeepKeep.deposit.Goals as goal
+
+pub find_deposit-found-requires : goal.find_deposit-found-requires
+find_deposit-found-requires g c = record { idle = idle_at (state g.S.Store c.args.self.now.connection) c.args.self.now.idle (c.args.self.now.kept c.requires.working) }
+
+pub invariant_of-self-clause-idle : goal.invariant_of-self-clause-idle
+invariant_of-self-clause-idle g c = c.find_deposit-found.ensures.quiet.idle
+
+pub invariant_of-self-clause-kept : goal.invariant_of-self-clause-kept
+invariant_of-self-clause-kept g c works clean =
+    keeps_quiet (state g.S.Store c.args.self.now.connection) (state g.S.Store c.find_deposit-found.new.conn) (c.args.self.now.kept c.requires.working) c.find_deposit-found.ensures.quiet clean (sym c.is_store-self.ensures ∙ works)
+
+pub returns-clause-leaves : goal.returns-clause-leaves
+returns-clause-leaves g c =
+    let old = state g.S.Store c.args.self.now.connection in
+    let new = state g.S.Store c.find_deposit-found.new.conn in
+    let quiet = c.find_deposit-found.ensures.quiet in
+    record {
+      sound = λ clean. clean_before old new quiet.survives clean;
+      same_dictionary = refl;
+      same_limit = refl;
+      failing = c.is_store-self.ensures;
+      same = λ clean well. ap (λ (db : Database). deposits_in db.trees) (quiet.same clean well).1;
+      crash = λ clean. crash_same old new quiet.survives clean;
+    }
+
+pub returns-clause-read : goal.returns-clause-read
+returns-clause-read g c clean =
+    let old = state g.S.Store c.args.self.now.connection in
+    let new = state g.S.Store c.find_deposit-found.new.conn in
+    let first = clean_before old new c.find_deposit-found.ensures.quiet.survives clean in
+    deposit_at {s = old} c.args.n c.find_deposit-found.result (c.requires.number first).0 (c.requires.number first).1 (c.args.self.now.kept c.requires.working first) (c.find_deposit-found.ensures.found clean)

@@ -1,0 +1,304 @@
+//! A register that is found in a database is examined: its numbers, then deposit by deposit.
+
+ghost use Rattle.std.specs.Prelude.{◌≡◌, ◌≢◌, ◌≤◌, ◌+◌, [], ℕ, List, length, map, false, None, Some, Option, IsTrue, IfOk, IfErr, IfSome};
+ghost use Rattle.std.specs.List.Sorted.{IsPermutation};
+ghost use Rattle.sqlite.specs.State.{HasCleanDisk};
+ghost use Rattle.sqlite.specs.Held.{state};
+ghost use Rattle.sqlite.specs.Tree.{IsAscending};
+ghost use Rattle.ags_links.specs.Steps.{IsBefore};
+ghost use Rattle.ags_check.specs.Findings.{CheckedFile};
+ghost use Rattle.reg_store.specs.Deposit.{Deposit};
+ghost use Rattle.reg_store.specs.Keep.{fails, deposit_of};
+ghost use Rattle.reg_store.specs.Fit.{IsFileOf};
+ghost use Rattle.reg_store.specs.Quiet.{IsIdle, IsQuiet};
+ghost use Rattle.reg_store.specs.Rows.{line_table, step_table, deposit_table, place_rows, step_pair, rows_of};
+ghost use Rattle.reg_store.specs.Register.{deposit_rows};
+ghost use Rattle.reg_store.specs.Adopts.{id_of, number_rows as numbered};
+ghost use Rattle.reg_store.specs.Whole.{AreWhole, Counts, HasMeta, HoldsBody, IsAlone, IsWhole, Tests};
+ghost use Rattle.reg_store.specs.Adoption.{Adopts, Finds, MetaOf, gives_up};
+ghost use Rattle.sqlite.specs.Effect.{IsDatabase};
+
+use crate::adopting::{AdoptError, are_lines, are_steps, count_numbers, read_meta};
+use crate::keep::{KeepError, Kept, KeptRow};
+use crate::queries::query;
+use crate::readers::read_deposit;
+use crate::reading::{equal_rows, line_rows, meta_rows, numbered_rows, step_rows};
+use crate::rows::kept_rows;
+use ags_check::{CheckError, Checked, check};
+use ags_dict::Dictionary;
+use ags_rows::LIMIT;
+use sqlite::{Alter, Connection, Row};
+use std::alloc::Global;
+
+fn number_rows<S: Alter>(conn: &mut Connection<S>) -> Result<Vec<Row>, KeepError>
+    requires idle { IsIdle (state S.Store conn.old) }
+    ensures all { HasCleanDisk (state S.Store conn.new) → IfOk result (λ rows. IsPermutation rows.items (map id_of (deposit_table (state S.Store conn.old).now.trees))) }
+    ensures found { HasCleanDisk (state S.Store conn.new) → IfOk result (λ rows. (list : List Deposit) → IsPermutation (deposit_rows 1 list) (deposit_table (state S.Store conn.old).now.trees) → rows.items ≡ numbered 1 (length list)) }
+    ensures named { IfErr result (λ e. e ≢ KeepError.Full) }
+    ensures quiet { IsQuiet (state S.Store conn.old) (state S.Store conn.new) (fails result) }
+{
+    query(conn, "SELECT number FROM deposits ORDER BY number", &[])
+}
+
+/// How many deposits there are, if their numbers are those from 1 on.
+pub(crate) fn find_count<S: Alter>(conn: &mut Connection<S>) -> Result<Option<u32>, KeepError>
+    requires idle { IsIdle (state S.Store conn.old) }
+    ensures counted { HasCleanDisk (state S.Store conn.new) → IfOk result (Counts (state S.Store conn.old).now) }
+    ensures few { IfOk result (λ found. IfSome found (λ count. count ≤ 999999)) }
+    ensures named { IfErr result (λ e. e ≢ KeepError.Full) }
+    ensures quiet { IsQuiet (state S.Store conn.old) (state S.Store conn.new) (fails result) }
+{
+    match number_rows(conn) {
+        Ok(rows) => Ok(count_numbers(&rows)),
+        Err(error) => Err(error),
+    }
+}
+
+/// Whether these are the lines that are kept of a deposit.
+fn holds_lines<S: Alter>(
+    conn: &mut Connection<S>,
+    number: u32,
+    lines: &[KeptRow],
+) -> Result<bool, KeepError>
+    requires idle { IsIdle (state S.Store conn.old) }
+    requires few { length lines.now ≤ 4294967295 }
+    ensures tested { HasCleanDisk (state S.Store conn.new) → IfOk result (λ is. Tests is (IsPermutation (place_rows 0 lines.now) (rows_of number (line_table (state S.Store conn.old).now.trees)))) }
+    ensures named { IfErr result (λ e. e ≢ KeepError.Full) }
+    ensures quiet { IsQuiet (state S.Store conn.old) (state S.Store conn.new) (fails result) }
+{
+    match line_rows(conn, number) {
+        Ok(rows) => Ok(are_lines(&rows, lines)),
+        Err(error) => Err(error),
+    }
+}
+
+/// Whether these are the steps that are kept of a deposit.
+fn holds_steps<S: Alter>(
+    conn: &mut Connection<S>,
+    number: u32,
+    steps: &[(u32, u32)],
+) -> Result<bool, KeepError>
+    requires idle { IsIdle (state S.Store conn.old) }
+    requires rising { IsAscending IsBefore steps.now }
+    ensures tested { HasCleanDisk (state S.Store conn.new) → IfOk result (λ is. Tests is (IsPermutation (map step_pair steps.now) (rows_of number (step_table (state S.Store conn.old).now.trees)))) }
+    ensures named { IfErr result (λ e. e ≢ KeepError.Full) }
+    ensures quiet { IsQuiet (state S.Store conn.old) (state S.Store conn.new) (fails result) }
+{
+    match step_rows(conn, number) {
+        Ok(rows) => Ok(are_steps(&rows, steps)),
+        Err(error) => Err(error),
+    }
+}
+
+/// Whether these are the lines and steps that are kept of a deposit.
+#[tactic(auto, using(crate::specs::Quiet::quiet_then, crate::specs::Quiet::quiet_read, crate::specs::Quiet::idle_then))]
+fn holds_file<S: Alter>(
+    conn: &mut Connection<S>,
+    number: u32,
+    lines: &[KeptRow],
+    steps: &[(u32, u32)],
+) -> Result<bool, KeepError>
+    requires idle { IsIdle (state S.Store conn.old) }
+    requires few { length lines.now ≤ 4294967295 }
+    requires rising { IsAscending IsBefore steps.now }
+    ensures tested { HasCleanDisk (state S.Store conn.new) → IfOk result (λ is. Tests is (IsPermutation (place_rows 0 lines.now) (rows_of number (line_table (state S.Store conn.old).now.trees)) × IsPermutation (map step_pair steps.now) (rows_of number (step_table (state S.Store conn.old).now.trees)))) }
+    ensures named { IfErr result (λ e. e ≢ KeepError.Full) }
+    ensures quiet { IsQuiet (state S.Store conn.old) (state S.Store conn.new) (fails result) }
+{
+    if !holds_lines(conn, number, lines)? {
+        return Ok(false);
+    }
+    holds_steps(conn, number, steps)
+}
+
+/// The file of a deposit, if it has no finding and is not too long.
+fn checked_file<'a>(
+    alloc: Global,
+    dictionary: &Dictionary,
+    kept: &'a Kept,
+) -> Result<Option<Checked<'a>>, KeepError>
+    ensures file { IfOk result (λ found. (file : CheckedFile) → found ≡ Some file → IsFileOf dictionary.now (deposit_of kept.entry.now) file) }
+    ensures none { IfOk result (λ found. found ≡ None → (file : CheckedFile) → IsFileOf dictionary.now (deposit_of kept.entry.now) file → ⊥) }
+    ensures named { IfErr result (λ e. e ≡ KeepError.NoMemory) }
+{
+    let bytes = kept.bytes.as_slice();
+    if bytes.len() > LIMIT {
+        return Ok(None);
+    }
+    match check(alloc, dictionary, bytes) {
+        Ok(checked) => Ok(Some(checked)),
+        Err(CheckError::Findings(_found)) => Ok(None),
+        Err(CheckError::NoMemory) => Err(KeepError::NoMemory),
+    }
+}
+
+/// Whether the deposit has no finding, and these are the lines and steps that are kept of it.
+#[tactic(auto, using(crate::specs::Quiet::quiet_none, crate::specs::Quiet::quiet_read))]
+fn holds_body<S: Alter>(
+    conn: &mut Connection<S>,
+    alloc: Global,
+    dictionary: &Dictionary,
+    number: u32,
+    kept: &Kept,
+) -> Result<bool, KeepError>
+    requires idle { IsIdle (state S.Store conn.old) }
+    ensures tested { HasCleanDisk (state S.Store conn.new) → IfOk result (λ is. Tests is (HoldsBody (state S.Store conn.old).now dictionary.now number (deposit_of kept.now))) }
+    ensures named { IfErr result (λ e. e ≢ KeepError.Full) }
+    ensures quiet { IsQuiet (state S.Store conn.old) (state S.Store conn.new) (fails result) }
+{
+    let Some(checked) = checked_file(alloc, dictionary, kept)? else {
+        return Ok(false);
+    };
+    let lines = kept_rows(alloc, checked.scan().groups())?;
+    if lines.len() > 4_294_967_295 {
+        return Err(KeepError::NoMemory);
+    }
+    holds_file(conn, number, lines.as_slice(), checked.graph().steps())
+}
+
+/// Whether no two rows of deposits are equal to this one.
+fn is_alone<S: Alter>(conn: &mut Connection<S>, kept: &Kept) -> Result<bool, KeepError>
+    requires idle { IsIdle (state S.Store conn.old) }
+    ensures tested { HasCleanDisk (state S.Store conn.new) → IfOk result (λ is. Tests is (IsAlone (state S.Store conn.old).now (deposit_of kept.now))) }
+    ensures named { IfErr result (λ e. e ≢ KeepError.Full) }
+    ensures quiet { IsQuiet (state S.Store conn.old) (state S.Store conn.new) (fails result) }
+{
+    match equal_rows(
+        conn,
+        kept.firm.text(),
+        kept.project.text(),
+        kept.bytes.as_slice(),
+    ) {
+        Ok(rows) => Ok(rows.len() <= 1),
+        Err(error) => Err(error),
+    }
+}
+
+/// Whether the deposit has no finding, its lines and steps are kept, and no other is equal.
+#[tactic(auto, using(crate::specs::Quiet::quiet_then, crate::specs::Quiet::quiet_read, crate::specs::Quiet::idle_then))]
+fn holds_kept<S: Alter>(
+    conn: &mut Connection<S>,
+    alloc: Global,
+    dictionary: &Dictionary,
+    number: u32,
+    kept: &Kept,
+) -> Result<bool, KeepError>
+    requires idle { IsIdle (state S.Store conn.old) }
+    ensures tested { HasCleanDisk (state S.Store conn.new) → IfOk result (λ is. Tests is (HoldsBody (state S.Store conn.old).now dictionary.now number (deposit_of kept.now) × IsAlone (state S.Store conn.old).now (deposit_of kept.now))) }
+    ensures named { IfErr result (λ e. e ≢ KeepError.Full) }
+    ensures quiet { IsQuiet (state S.Store conn.old) (state S.Store conn.new) (fails result) }
+{
+    if !holds_body(conn, alloc, dictionary, number, kept)? {
+        return Ok(false);
+    }
+    is_alone(conn, kept)
+}
+
+/// Whether the deposit of a number is whole.
+#[tactic(auto, using(crate::specs::Quiet::quiet_then, crate::specs::Quiet::quiet_read, crate::specs::Quiet::idle_then))]
+fn holds_deposit<S: Alter>(
+    conn: &mut Connection<S>,
+    alloc: Global,
+    dictionary: &Dictionary,
+    number: u32,
+) -> Result<bool, KeepError>
+    requires idle { IsIdle (state S.Store conn.old) }
+    ensures tested { HasCleanDisk (state S.Store conn.new) → IfOk result (λ is. Tests is (IsWhole (state S.Store conn.old).now dictionary.now number)) }
+    ensures named { IfErr result (λ e. e ≢ KeepError.Full) }
+    ensures quiet { IsQuiet (state S.Store conn.old) (state S.Store conn.new) (fails result) }
+{
+    let rows = numbered_rows(conn, number)?;
+    match read_deposit(alloc, number, &rows) {
+        Ok(kept) => holds_kept(conn, alloc, dictionary, number, &kept),
+        Err(KeepError::Store) => Ok(false),
+        Err(error) => Err(error),
+    }
+}
+
+/// Whether the deposits from 1 to the count are whole.
+#[tactic(auto, using(crate::specs::Quiet::quiet_then, crate::specs::Quiet::quiet_none, crate::specs::Quiet::quiet_read, crate::specs::Quiet::idle_then))]
+pub(crate) fn holds_deposits<S: Alter>(
+    conn: &mut Connection<S>,
+    alloc: Global,
+    dictionary: &Dictionary,
+    count: u32,
+) -> Result<bool, KeepError>
+    requires idle { IsIdle (state S.Store conn.old) }
+    ensures tested { HasCleanDisk (state S.Store conn.new) → IfOk result (λ is. Tests is (AreWhole (state S.Store conn.old).now dictionary.now count)) }
+    ensures named { IfErr result (λ e. e ≢ KeepError.Full) }
+    ensures quiet { IsQuiet (state S.Store conn.old) (state S.Store conn.new) (fails result) }
+{
+    for at in 0..count {
+        if !holds_deposit(conn, alloc, dictionary, at + 1)? {
+            return Ok(false);
+        }
+    }
+    Ok(true)
+}
+
+/// How many deposits the register has, if the tables are one. The dictionary is that of its meta.
+#[tactic(auto, using(crate::specs::Quiet::quiet_then, crate::specs::Quiet::quiet_read, crate::specs::Quiet::idle_then))]
+fn find_register<S: Alter>(
+    conn: &mut Connection<S>,
+    alloc: Global,
+    dictionary: &Dictionary,
+) -> Result<Option<u32>, KeepError>
+    requires idle { IsIdle (state S.Store conn.old) }
+    requires meta { HasCleanDisk (state S.Store conn.old) → HasMeta (state S.Store conn.old).now dictionary.now }
+    requires sound { HasCleanDisk (state S.Store conn.old) → IsDatabase (state S.Store conn.old).now }
+    ensures found { HasCleanDisk (state S.Store conn.new) → IfOk result (Finds (state S.Store conn.old).now dictionary.now) }
+    ensures few { IfOk result (λ found. IfSome found (λ count. count ≤ 999999)) }
+    ensures named { IfErr result (λ e. e ≢ KeepError.Full) }
+    ensures quiet { IsQuiet (state S.Store conn.old) (state S.Store conn.new) (fails result) }
+{
+    let Some(count) = find_count(conn)? else {
+        return Ok(None);
+    };
+    if holds_deposits(conn, alloc, dictionary, count)? {
+        Ok(Some(count))
+    } else {
+        Ok(None)
+    }
+}
+
+/// The dictionary of the register, if meta is that of format 1.
+fn find_dictionary<S: Alter>(
+    conn: &mut Connection<S>,
+    alloc: Global,
+) -> Result<Dictionary, AdoptError>
+    requires idle { IsIdle (state S.Store conn.old) }
+    ensures read { HasCleanDisk (state S.Store conn.new) → MetaOf (state S.Store conn.old).now result }
+    ensures open { HasCleanDisk (state S.Store conn.new) → gives_up result ≡ false → IsTrue (state S.Store conn.new).is_open }
+    ensures quiet { IsQuiet (state S.Store conn.old) (state S.Store conn.new) (gives_up result) }
+{
+    match meta_rows(conn) {
+        Ok(rows) => read_meta(alloc, &rows),
+        Err(KeepError::NoMemory) => Err(AdoptError::NoMemory),
+        Err(_) => Err(AdoptError::Store),
+    }
+}
+
+/// The dictionary of the register and how many deposits it has, if the tables are one.
+#[tactic(auto, using(crate::specs::Quiet::quiet_then, crate::specs::Quiet::quiet_read, crate::specs::Quiet::idle_then))]
+pub(crate) fn examine<S: Alter>(
+    conn: &mut Connection<S>,
+    alloc: Global,
+) -> Result<(Dictionary, u32), AdoptError>
+    requires idle { IsIdle (state S.Store conn.old) }
+    ensures adopts { HasCleanDisk (state S.Store conn.new) → Adopts (state S.Store conn.old).now result }
+    ensures few { IfOk result (λ found. found.1 ≤ 999999) }
+    ensures open { HasCleanDisk (state S.Store conn.new) → gives_up result ≡ false → IsTrue (state S.Store conn.new).is_open }
+    ensures quiet { IsQuiet (state S.Store conn.old) (state S.Store conn.new) (gives_up result) }
+{
+    let dictionary = match find_dictionary(conn, alloc) {
+        Ok(dictionary) => dictionary,
+        Err(error) => return Err(error),
+    };
+    let _schema = conn.schema();
+    match find_register(conn, alloc, &dictionary) {
+        Ok(Some(count)) => Ok((dictionary, count)),
+        Ok(None) => Err(AdoptError::NotRegister),
+        Err(KeepError::NoMemory) => Err(AdoptError::NoMemory),
+        Err(_) => Err(AdoptError::Store),
+    }
+}

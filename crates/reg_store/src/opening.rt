@@ -1,0 +1,216 @@
+//! Registers that are made, and found, in databases.
+
+ghost use Rattle.std.specs.Prelude.{◌≡◌, ◌≢◌, ◌≤◌, ◌⊎◌, [], false, length, Err, IfOk, IfErr};
+ghost use Rattle.sqlite.specs.State.{HasCleanDisk, Survives};
+ghost use Rattle.sqlite.specs.Held.{state};
+ghost use Rattle.sqlite.specs.Steps.{over_memory};
+ghost use Rattle.sqlite.specs.Files.{file_state};
+ghost use Rattle.ags_dict.specs.Entries.{Entries};
+ghost use Rattle.ags_dict.specs.Reading.{IsDictionary};
+ghost use Rattle.reg_store.specs.Tables.{no_schema, register_schema};
+ghost use Rattle.reg_store.specs.Creates.{IsNewRegister};
+ghost use Rattle.reg_store.specs.Register.{IsRegister, deposits_in};
+ghost use Rattle.reg_store.specs.Adoption.{Adopts, is_store_failure};
+
+use crate::adopting::AdoptError;
+use crate::creating::make_register;
+use crate::examining::examine;
+use crate::keep::KeepError;
+use crate::queries::is_memory;
+use crate::schema::{is_blank, is_register};
+use crate::sql::SqlKeep;
+use ags_dict::{DictError, Dictionary};
+use ags_rows::READABLE;
+use sqlite::{Alter, Connection, File, FileStore, MemStore};
+use std::alloc::Global;
+use thiserror::Error;
+
+/// Why a register is not made.
+#[derive(Debug, Drop, Error)]
+pub enum CreateError {
+    /// The bytes are no dictionary.
+    #[error("not a dictionary")]
+    Dictionary(DictError),
+    /// A table of a register is there.
+    #[error("the store is not empty")]
+    NotEmpty,
+    /// The database failed: it is as it was, or holds an empty register.
+    #[error("the store failed")]
+    Store,
+    /// Memory is wanting.
+    #[error("out of memory")]
+    NoMemory,
+}
+
+fn read_dictionary(alloc: Global, bytes: &[u8]) -> Result<Dictionary, CreateError>
+    requires { length bytes.now ≤ READABLE }
+    ensures read { IfOk result (λ dictionary. IsDictionary bytes.now dictionary) }
+    ensures named { IfErr result (λ e. (e ≢ CreateError.NotEmpty) × (e ≢ CreateError.Store)) }
+{
+    match Dictionary::read(alloc, bytes) {
+        Ok(dictionary) => Ok(dictionary),
+        Err(DictError::NoMemory) => Err(CreateError::NoMemory),
+        Err(error) => Err(CreateError::Dictionary(error)),
+    }
+}
+
+impl<S: Alter> SqlKeep<S> {
+    /// An empty register under a dictionary that was read.
+    fn make(
+        alloc: Global,
+        mut connection: Connection<S>,
+        dictionary: Dictionary,
+        bytes: &[u8],
+    ) -> Result<SqlKeep<S>, (CreateError, Connection<S>)>
+        requires short { length bytes.now ≤ READABLE }
+        requires read { IsDictionary bytes.now dictionary }
+        ensures empty { IfOk result (λ k. HasCleanDisk (state S.Store k.connection) → deposits_in (state S.Store k.connection).committed.trees ≡ []) }
+        ensures dictionary { IfOk result (λ k. k.dictionary ≡ dictionary) }
+        ensures working { IfOk result (λ k. k.has_failed ≡ false) }
+        ensures not_empty { IfErr result (λ e. e.0 ≡ CreateError.NotEmpty → (state S.Store connection).now.schema ≢ no_schema) }
+        ensures made { IfOk result (λ k. Survives (state S.Store connection) (state S.Store k.connection) (λ trees. (db : _) × IsNewRegister bytes.entry.now db × (trees ≡ db.trees))) }
+        ensures left { IfErr result (λ e. Survives (state S.Store connection) (state S.Store e.1) (λ trees. (db : _) × IsNewRegister bytes.entry.now db × (trees ≡ db.trees))) }
+        ensures same { IfErr result (λ e. e.0 ≢ CreateError.Store → HasCleanDisk (state S.Store e.1)
+            → ((state S.Store e.1).now ≡ (state S.Store connection).now) × ((state S.Store e.1).committed ≡ (state S.Store connection).committed)) }
+    {
+        if !is_blank(connection.schema()) {
+            return Err((CreateError::NotEmpty, connection));
+        }
+        if !connection.is_autocommit() {
+            return Err((CreateError::Store, connection));
+        }
+        let made = make_register(&mut connection, bytes);
+        match made {
+            Ok(()) => Ok(SqlKeep {
+                connection,
+                dictionary,
+                count: 0,
+                has_failed: false,
+                alloc,
+            }),
+            Err(KeepError::NoMemory) => Err((CreateError::NoMemory, connection)),
+            Err(_) => Err((CreateError::Store, connection)),
+        }
+    }
+
+    /// An empty register in a database that has no table, under the dictionary that the bytes are.
+    ///
+    /// The bytes are looked at first. A connection in a transaction is answered `Store`.
+    pub fn create_in(
+        alloc: Global,
+        connection: Connection<S>,
+        bytes: &[u8],
+    ) -> Result<SqlKeep<S>, (CreateError, Connection<S>)>
+        requires short { length bytes.now ≤ READABLE }
+        ensures empty { IfOk result (λ k. HasCleanDisk (state S.Store k.connection) → deposits_in (state S.Store k.connection).committed.trees ≡ []) }
+        ensures dictionary { IfOk result (λ k. IsDictionary bytes.now k.dictionary) }
+        ensures working { IfOk result (λ k. k.has_failed ≡ false) }
+        ensures not_empty { IfErr result (λ e. e.0 ≡ CreateError.NotEmpty → (state S.Store connection).now.schema ≢ no_schema) }
+        ensures made { IfOk result (λ k. Survives (state S.Store connection) (state S.Store k.connection) (λ trees. (db : _) × IsNewRegister bytes.now db × (trees ≡ db.trees))) }
+        ensures left { IfErr result (λ e. Survives (state S.Store connection) (state S.Store e.1) (λ trees. (db : _) × IsNewRegister bytes.now db × (trees ≡ db.trees))) }
+        ensures same { IfErr result (λ e. e.0 ≢ CreateError.Store → HasCleanDisk (state S.Store e.1)
+            → ((state S.Store e.1).now ≡ (state S.Store connection).now) × ((state S.Store e.1).committed ≡ (state S.Store connection).committed)) }
+    {
+        match read_dictionary(alloc, bytes) {
+            Ok(dictionary) => SqlKeep::make(alloc, connection, dictionary, bytes),
+            Err(error) => Err((error, connection)),
+        }
+    }
+
+    /// The register that a database holds: each kept body is checked anew, and its lines and steps are compared.
+    ///
+    /// A connection in a transaction is answered `Store`.
+    pub fn adopt(
+        alloc: Global,
+        mut connection: Connection<S>,
+    ) -> Result<SqlKeep<S>, (AdoptError, Connection<S>)>
+        ensures adopted { IfOk result (λ k. HasCleanDisk (state S.Store k.connection) → ∥ IsRegister (state S.Store connection).now k.dictionary (deposits_in (state S.Store k.connection).committed.trees) ∥₁) }
+        ensures working { IfOk result (λ k. k.has_failed ≡ false) }
+        ensures quiet { IfOk result (λ k. Survives (state S.Store connection) (state S.Store k.connection) (λ _. ⊥)) }
+        ensures refused { IfErr result (λ e. HasCleanDisk (state S.Store e.1) → Adopts (state S.Store connection).now (Err e.0)) }
+        ensures same { IfErr result (λ e. HasCleanDisk (state S.Store e.1) → is_store_failure e.0 ≡ false
+            → ((state S.Store e.1).now ≡ (state S.Store connection).now) × ((state S.Store e.1).committed ≡ (state S.Store connection).committed)) }
+        ensures left { IfErr result (λ e. Survives (state S.Store connection) (state S.Store e.1) (λ _. ⊥)) }
+    {
+        if !is_register(connection.schema()) {
+            return Err((AdoptError::NotRegister, connection));
+        }
+        if !connection.is_autocommit() {
+            return Err((AdoptError::Store, connection));
+        }
+        match examine(&mut connection, alloc) {
+            Ok((dictionary, count)) => Ok(SqlKeep {
+                connection,
+                dictionary,
+                count,
+                has_failed: false,
+                alloc,
+            }),
+            Err(error) => Err((error, connection)),
+        }
+    }
+}
+
+impl SqlKeep<MemStore> {
+    /// An empty register in memory, under the dictionary that the bytes are.
+    pub fn in_memory(alloc: Global, bytes: &[u8]) -> Result<SqlKeep<MemStore>, CreateError>
+        requires short { length bytes.now ≤ READABLE }
+        ensures empty { IfOk result (λ k. deposits_in (state over_memory k.connection).committed.trees ≡ []) }
+        ensures dictionary { IfOk result (λ k. IsDictionary bytes.now k.dictionary) }
+        ensures working { IfOk result (λ k. k.has_failed ≡ false) }
+    {
+        let dictionary = read_dictionary(alloc, bytes)?;
+        let Ok(connection) = Connection::open_in_memory(alloc) else {
+            return Err(CreateError::NoMemory);
+        };
+        match SqlKeep::make(alloc, connection, dictionary, bytes) {
+            Ok(keep) => Ok(keep),
+            Err((error, _connection)) => Err(error),
+        }
+    }
+}
+
+impl SqlKeep<FileStore<File>> {
+    /// An empty register in the database at a path, which is made where there is none.
+    pub fn create(
+        rt: &HostRuntime,
+        alloc: Global,
+        path: &str,
+        bytes: &[u8],
+    ) -> Result<SqlKeep<FileStore<File>>, CreateError>
+        requires short { length bytes.now ≤ READABLE }
+        ensures empty { IfOk result (λ k. HasCleanDisk (file_state k.connection) → deposits_in (file_state k.connection).committed.trees ≡ []) }
+        ensures dictionary { IfOk result (λ k. IsDictionary bytes.now k.dictionary) }
+        ensures working { IfOk result (λ k. k.has_failed ≡ false) }
+    {
+        let dictionary = read_dictionary(alloc, bytes)?;
+        let connection = match Connection::open(rt, path) {
+            Ok(connection) => connection,
+            Err(error) if is_memory(&error) => return Err(CreateError::NoMemory),
+            Err(_) => return Err(CreateError::Store),
+        };
+        match SqlKeep::make(alloc, connection, dictionary, bytes) {
+            Ok(keep) => Ok(keep),
+            Err((error, _connection)) => Err(error),
+        }
+    }
+
+    /// The register that the database at a path holds.
+    pub fn open(
+        rt: &HostRuntime,
+        alloc: Global,
+        path: &str,
+    ) -> Result<SqlKeep<FileStore<File>>, AdoptError>
+        ensures working { IfOk result (λ k. k.has_failed ≡ false) }
+    {
+        let connection = match Connection::open(rt, path) {
+            Ok(connection) => connection,
+            Err(error) if is_memory(&error) => return Err(AdoptError::NoMemory),
+            Err(_) => return Err(AdoptError::Store),
+        };
+        match SqlKeep::adopt(alloc, connection) {
+            Ok(keep) => Ok(keep),
+            Err((error, _connection)) => Err(error),
+        }
+    }
+}

@@ -1,0 +1,286 @@
+//! A keep in memory.
+
+ghost use Rattle.std.specs.Prelude.{◌≡◌, ◌<◌, ◌≤◌, ℤ, List, [], IfOk, All, false, ⊤, length, map, refl};
+ghost use Rattle.std.specs.Str.{bytes_eq};
+ghost use Rattle.ags_check.specs.Findings.{CheckedFile};
+ghost use Rattle.reg_store.specs.Keep.{deposit_of, IsHeadOf};
+ghost use Rattle.reg_store.specs.Deposit.{is_repeat, number_of, numbers_from};
+ghost use Rattle.reg_store.specs.Fit.{IsFit, IsFileOf, kept_rows as rows_in};
+ghost use Rattle.reg_store.specs.PlainLaws.{few_of, fit_of};
+
+use crate::keep::{Keep, KeepError, Kept, KeptHead, KeptRow};
+use crate::rows::kept_rows;
+use crate::sql::MOST;
+use ags_check::{CheckError, Checked, check};
+use ags_dict::Dictionary;
+use ags_links::Graph;
+use ags_rows::copy;
+use reg_policy::{Day, Name, NameError};
+use std::alloc::{AllocError, Global};
+
+/// A register in memory. It answers what its database twin does, and never `Store`.
+#[derive(Drop)]
+pub struct PlainKeep {
+    kept: Vec<Kept>,
+    dictionary: Dictionary,
+    limit: u32,
+    alloc: Global,
+    ghost within: { length kept.items ≤ limit },
+    ghost few: { limit ≤ 999999 },
+    ghost fit: { ∥ All (IsFit dictionary) (map deposit_of kept.items) ∥₁ },
+}
+
+impl PlainKeep {
+    ghost use Rattle.reg_store.specs.Plain.{deposits_of, dictionary_of, limit_of};
+
+    /// An empty register under a dictionary, of at most 999,999 deposits.
+    pub fn new(alloc: Global, dictionary: Dictionary) -> PlainKeep
+        ensures empty { deposits_of result ≡ [] }
+        ensures dictionary { dictionary_of result ≡ dictionary }
+        ensures limit { limit_of result ≡ 999999 }
+    {
+        PlainKeep::with_limit(alloc, dictionary, MOST)
+    }
+
+    /// An empty register under a dictionary, of at most so many deposits.
+    pub fn with_limit(alloc: Global, dictionary: Dictionary, limit: u32) -> PlainKeep
+        requires least { 0 < limit }
+        requires most { limit ≤ 999999 }
+        ensures empty { deposits_of result ≡ [] }
+        ensures dictionary { dictionary_of result ≡ dictionary }
+        ensures limit { limit_of result ≡ limit }
+    {
+        PlainKeep {
+            kept: Vec::new(alloc),
+            dictionary,
+            limit,
+            alloc,
+        }
+    }
+}
+
+/// A name, once more.
+fn copy_name(alloc: Global, name: &Name) -> Result<Name, AllocError>
+    ensures { IfOk result (λ n. n ≡ name.now) }
+{
+    match Name::read(alloc, name.text()) {
+        Ok(copied) => Ok(copied),
+        Err(NameError::BadName) => unreachable!(),
+        Err(NameError::NoMemory) => Err(AllocError),
+    }
+}
+
+/// A deposit of copies.
+fn kept_of(
+    alloc: Global,
+    firm: &Name,
+    project: &Name,
+    embargo: Day,
+    bytes: &[u8],
+) -> Result<Kept, AllocError>
+    ensures { IfOk result (λ kept. deposit_of kept ≡ record { firm = firm.now; project = project.now; embargo = embargo; bytes = bytes.now }) }
+{
+    Ok(Kept {
+        firm: copy_name(alloc, firm)?,
+        project: copy_name(alloc, project)?,
+        embargo,
+        bytes: copy(alloc, bytes)?,
+    })
+}
+
+/// The head of a deposit, copied.
+fn head_of(alloc: Global, kept: &Kept) -> Result<KeptHead, AllocError>
+    ensures { IfOk result (IsHeadOf (deposit_of kept.now)) }
+{
+    Ok(KeptHead {
+        firm: copy_name(alloc, &kept.firm)?,
+        project: copy_name(alloc, &kept.project)?,
+        embargo: kept.embargo,
+    })
+}
+
+/// The graph, once more.
+fn copy_graph(alloc: Global, graph: &Graph) -> Result<Graph, AllocError>
+    ensures { IfOk result (λ copied. copied ≡ graph.now) }
+{
+    let steps = Vec::from_slice(alloc, graph.steps())?;
+    match Graph::new(graph.rows(), steps) {
+        Some(copied) => Ok(copied),
+        None => unreachable!(),
+    }
+}
+
+fn is_name_of(a: &Name, b: &Name) -> bool
+    ensures { result ≡ bytes_eq a.now b.now }
+{
+    a.text() == b.text()
+}
+
+/// Whether a deposit is equal in firm, project and bytes.
+fn is_equal(kept: &Kept, firm: &Name, project: &Name, bytes: &[u8]) -> bool
+    ensures { result ≡ is_repeat firm.now project.now bytes.now (deposit_of kept.now) }
+{
+    is_name_of(&kept.firm, firm)
+        && is_name_of(&kept.project, project)
+        && kept.bytes.as_slice() == bytes
+}
+
+/// The number of the first equal deposit, from 1.
+fn find_in(kept: &[Kept], firm: &Name, project: &Name, bytes: &[u8]) -> Option<u32>
+    requires { length kept.now ≤ 999999 }
+    ensures { result ≡ number_of firm.now project.now bytes.now (map deposit_of kept.now) }
+{
+    let mut number: u32 = 0;
+    for one in kept {
+        number += 1;
+        if is_equal(one, firm, project, bytes) {
+            return Some(number);
+        }
+    }
+    None
+}
+
+/// The numbers of a project's deposits, rising.
+fn numbers_in(alloc: Global, kept: &[Kept], project: &Name) -> Result<Vec<u32>, AllocError>
+    requires { length kept.now ≤ 999999 }
+    ensures { IfOk result (λ ns. ns.items ≡ numbers_from 1 project.now (map deposit_of kept.now)) }
+{
+    let mut numbers = Vec::new(alloc);
+    let mut number: u32 = 0;
+    for one in kept {
+        number += 1;
+        if is_name_of(&one.project, project) {
+            numbers.push(number)?;
+        }
+    }
+    Ok(numbers)
+}
+
+/// The file of a deposit, checked anew: it has no finding, as when it was taken.
+fn recheck<'k>(
+    alloc: Global,
+    dictionary: &Dictionary,
+    kept: &'k Kept,
+) -> Result<Checked<'k>, AllocError>
+    requires { IsFit dictionary.now (deposit_of kept.now) }
+    ensures { IfOk result (IsFileOf dictionary.now (deposit_of kept.now)) }
+{
+    match check(alloc, dictionary, kept.bytes.as_slice()) {
+        Ok(checked) => Ok(checked),
+        Err(CheckError::Findings(_)) => unreachable!(),
+        Err(CheckError::NoMemory) => Err(AllocError),
+    }
+}
+
+/// The rows of a deposit's file.
+fn rows_of(alloc: Global, dictionary: &Dictionary, kept: &Kept) -> Result<Vec<KeptRow>, AllocError>
+    requires { IsFit dictionary.now (deposit_of kept.now) }
+    ensures { IfOk result (λ rows. (file : CheckedFile) → IsFileOf dictionary.now (deposit_of kept.now) file → rows.items ≡ rows_in file.groups) }
+{
+    let checked = recheck(alloc, dictionary, kept)?;
+    kept_rows(alloc, checked.scan().groups())
+}
+
+/// The steps between the DATA rows of a deposit's file.
+fn steps_of(alloc: Global, dictionary: &Dictionary, kept: &Kept) -> Result<Graph, AllocError>
+    requires { IsFit dictionary.now (deposit_of kept.now) }
+    ensures { IfOk result (λ graph. (file : CheckedFile) → IsFileOf dictionary.now (deposit_of kept.now) file → graph ≡ file.graph) }
+{
+    let checked = recheck(alloc, dictionary, kept)?;
+    copy_graph(alloc, checked.graph())
+}
+
+impl Keep for PlainKeep {
+    ghost use Rattle.reg_store.specs.Plain.{deposits_of, dictionary_of, limit_of};
+
+    ghost deposits = { deposits_of };
+
+    ghost dictionary = { dictionary_of };
+
+    ghost limit = { limit_of };
+
+    ghost has_failed = { λ _. false };
+
+    // Memory keeps its list, and loses none of it while the program runs.
+    ghost may_leave = { λ k list. list ≡ deposits_of k };
+
+    ghost is_sound = { λ _. ⊤ };
+
+    fn find(
+        &mut self,
+        firm: &Name,
+        project: &Name,
+        bytes: &[u8],
+    ) -> Result<Option<u32>, KeepError> {
+        Ok(find_in(self.kept.as_slice(), firm, project, bytes))
+    }
+
+    fn add(
+        &mut self,
+        firm: &Name,
+        project: &Name,
+        embargo: Day,
+        checked: &Checked<'_>,
+    ) -> Result<u32, KeepError> {
+        if self.kept.len() >= self.limit as usize {
+            return Err(KeepError::Full);
+        }
+        let kept = kept_of(self.alloc, firm, project, embargo, checked.bytes())?;
+        match self.kept.push(kept) {
+            Ok(()) => Ok(self.kept.len() as u32),
+            Err(_) => Err(KeepError::NoMemory),
+        }
+    }
+
+    fn deposit(&mut self, n: u32) -> Result<Kept, KeepError> {
+        let kept = &self.kept[n as usize - 1];
+        let copied = kept_of(
+            self.alloc,
+            &kept.firm,
+            &kept.project,
+            kept.embargo,
+            kept.bytes.as_slice(),
+        )?;
+        Ok(copied)
+    }
+
+    fn head(&mut self, n: u32) -> Result<KeptHead, KeepError> {
+        let head = head_of(self.alloc, &self.kept[n as usize - 1])?;
+        Ok(head)
+    }
+
+    fn rows(&mut self, n: u32) -> Result<Vec<KeptRow>, KeepError> {
+        let rows = rows_of(self.alloc, &self.dictionary, &self.kept[n as usize - 1])?;
+        Ok(rows)
+    }
+
+    fn steps(&mut self, n: u32) -> Result<Graph, KeepError> {
+        let graph = steps_of(self.alloc, &self.dictionary, &self.kept[n as usize - 1])?;
+        Ok(graph)
+    }
+
+    fn numbers(&mut self, project: &Name) -> Result<Vec<u32>, KeepError> {
+        let numbers = numbers_in(self.alloc, self.kept.as_slice(), project)?;
+        Ok(numbers)
+    }
+
+    fn count(&self) -> u32 {
+        self.kept.len() as u32
+    }
+
+    fn limit(&self) -> u32 {
+        self.limit
+    }
+
+    fn dictionary(&self) -> &Dictionary {
+        &self.dictionary
+    }
+
+    ghost settled = { λ _ _ _ _ same. same };
+
+    ghost stays = { λ _ _ _. ∣ refl ∣₁ };
+
+    ghost fit = { λ k _ _. fit_of k.dictionary (deposits_of k) k.fit };
+
+    ghost few = { λ k _ _. few_of k.kept.items k.limit k.within k.few };
+}

@@ -1,0 +1,341 @@
+//! What is read of a register.
+
+ghost use Rattle.std.specs.Prelude.{◌≡◌, ◌≢◌, ◌<◌, ◌∷◌, [], ℕ, pos, false, List, length, map, filter, Option, IsTrue, IfOk, IfErr};
+ghost use Rattle.std.specs.Option.{option_to_list};
+ghost use Rattle.std.specs.List.Sorted.{IsPermutation};
+ghost use Rattle.sqlite.specs.declared.types.Value.TheVariants.{Int};
+ghost use Rattle.sqlite.specs.State.{HasCleanDisk, Survives};
+ghost use Rattle.sqlite.specs.Held.{state};
+ghost use Rattle.reg_store.specs.Quiet.{IsIdle, IsQuiet};
+ghost use Rattle.reg_store.specs.Deposit.{Deposit, number_of, numbers_from};
+ghost use Rattle.reg_store.specs.Keep.{fails, deposit_of};
+ghost use Rattle.reg_store.specs.Rows.{deposit_table, given_deposit, line_table, step_table, place_rows, step_pair, rows_of, columns_3};
+ghost use Rattle.reg_store.specs.declared.keep.KeptRow.{KeptRow};
+ghost use Rattle.sqlite.specs.Tree.{IsAscending};
+ghost use Rattle.ags_links.specs.Steps.{IsBefore};
+ghost use Rattle.reg_store.specs.DataCount.{is_data};
+ghost use Rattle.reg_store.specs.Methods.{HasRows, HasSteps};
+ghost use Rattle.reg_store.specs.Fit.{IsNamed};
+ghost use Rattle.reg_store.specs.Shows.{Holds, head_row};
+ghost use Rattle.reg_store.specs.Register.{deposit_rows, has_number, meta_columns};
+ghost use Rattle.reg_store.specs.Apart.{AreApart};
+ghost use Rattle.reg_store.specs.Finds.{is_equal};
+
+use crate::keep::{KeepError, Kept, KeptHead, KeptRow};
+use crate::queries::{is_memory, query};
+use crate::readers::{read_deposit, read_head, read_lines, read_numbers, read_steps};
+use ags_links::Graph;
+use sqlite::{Alter, Connection, Error, ErrorCode, Row, params};
+use std::alloc::Global;
+
+pub(crate) fn equal_rows<S: Alter>(
+    conn: &mut Connection<S>,
+    firm: &str,
+    project: &str,
+    bytes: &[u8],
+) -> Result<Vec<Row>, KeepError>
+    requires idle { IsIdle (state S.Store conn.old) }
+    ensures found { HasCleanDisk (state S.Store conn.new) → IfOk result (λ rows. (list : List Deposit) → IsPermutation (deposit_rows 1 list) (deposit_table (state S.Store conn.old).now.trees) → AreApart list
+        → rows.items ≡ map (λ n. Int (pos n) ∷ []) (option_to_list (number_of firm.now project.now bytes.now list))) }
+    ensures many { HasCleanDisk (state S.Store conn.new) → IfOk result (λ rows. length rows.items ≡ length (filter (is_equal firm.now project.now bytes.now) (deposit_table (state S.Store conn.old).now.trees))) }
+    ensures named { IfErr result (λ e. e ≢ KeepError.Full) }
+    ensures quiet { IsQuiet (state S.Store conn.old) (state S.Store conn.new) (fails result) }
+{
+    query(
+        conn,
+        "SELECT number FROM deposits WHERE firm = ?1 AND project = ?2 AND body = ?3",
+        params![firm, project, bytes],
+    )
+}
+
+fn first_number(rows: &[Row]) -> Result<Option<u32>, KeepError>
+    ensures named { IfErr result (λ e. e ≢ KeepError.Full) }
+    ensures first { IfOk result (λ first. (o : Option ℕ) → rows.now ≡ map (λ n. Int (pos n) ∷ []) (option_to_list o) → first ≡ o) }
+{
+    let Some(row) = rows.first() else {
+        return Ok(None);
+    };
+    match row.get(0) {
+        Ok(number) => Ok(Some(number)),
+        Err(error) => Err(read_error(&error)),
+    }
+}
+
+/// Why a row is not read: want of memory, or it is not one of a register.
+pub(crate) fn read_error(error: &Error) -> KeepError
+    ensures named { result ≢ KeepError.Full }
+    ensures store { result ≡ KeepError.Store → error.now ≢ Error.SqliteFailure ErrorCode.OutOfMemory }
+{
+    if is_memory(error) {
+        KeepError::NoMemory
+    } else {
+        KeepError::Store
+    }
+}
+
+/// The number of an equal deposit.
+pub(crate) fn find_number<S: Alter>(
+    conn: &mut Connection<S>,
+    firm: &str,
+    project: &str,
+    bytes: &[u8],
+) -> Result<Option<u32>, KeepError>
+    requires idle { IsIdle (state S.Store conn.old) }
+    ensures found { HasCleanDisk (state S.Store conn.new) → IfOk result (λ n. (list : List Deposit) → IsPermutation (deposit_rows 1 list) (deposit_table (state S.Store conn.old).now.trees) → AreApart list → n ≡ number_of firm.now project.now bytes.now list) }
+    ensures named { IfErr result (λ e. e ≢ KeepError.Full) }
+    ensures quiet { IsQuiet (state S.Store conn.old) (state S.Store conn.new) (fails result) }
+{
+    match equal_rows(conn, firm, project, bytes) {
+        Ok(rows) => first_number(&rows),
+        Err(error) => Err(error),
+    }
+}
+
+fn project_rows<S: Alter>(conn: &mut Connection<S>, project: &str) -> Result<Vec<Row>, KeepError>
+    requires idle { IsIdle (state S.Store conn.old) }
+    ensures found { HasCleanDisk (state S.Store conn.new) → IfOk result (λ rows. (list : List Deposit) → IsPermutation (deposit_rows 1 list) (deposit_table (state S.Store conn.old).now.trees)
+        → rows.items ≡ map (λ n. Int (pos n) ∷ []) (numbers_from 1 project.now list)) }
+    ensures named { IfErr result (λ e. e ≢ KeepError.Full) }
+    ensures quiet { IsQuiet (state S.Store conn.old) (state S.Store conn.new) (fails result) }
+{
+    query(
+        conn,
+        "SELECT number FROM deposits WHERE project = ?1 ORDER BY number",
+        params![project],
+    )
+}
+
+/// The numbers of a project's deposits.
+pub(crate) fn find_numbers<S: Alter>(
+    conn: &mut Connection<S>,
+    alloc: Global,
+    project: &str,
+) -> Result<Vec<u32>, KeepError>
+    requires idle { IsIdle (state S.Store conn.old) }
+    ensures found { HasCleanDisk (state S.Store conn.new) → IfOk result (λ ns. (list : List Deposit) → IsPermutation (deposit_rows 1 list) (deposit_table (state S.Store conn.old).now.trees) → ns.items ≡ numbers_from 1 project.now list) }
+    ensures named { IfErr result (λ e. e ≢ KeepError.Full) }
+    ensures quiet { IsQuiet (state S.Store conn.old) (state S.Store conn.new) (fails result) }
+{
+    match project_rows(conn, project) {
+        Ok(rows) => read_numbers(alloc, &rows),
+        Err(error) => Err(error),
+    }
+}
+
+fn head_rows<S: Alter>(conn: &mut Connection<S>, number: u32) -> Result<Vec<Row>, KeepError>
+    requires low { HasCleanDisk (state S.Store conn.old) → 0 < number }
+    requires idle { IsIdle (state S.Store conn.old) }
+    ensures found { HasCleanDisk (state S.Store conn.new) → IfOk result (λ rows. Holds (deposit_table (state S.Store conn.old).now.trees) number (λ d. rows.items ≡ head_row d ∷ [])) }
+    ensures named { IfErr result (λ e. e ≢ KeepError.Full) }
+    ensures quiet { IsQuiet (state S.Store conn.old) (state S.Store conn.new) (fails result) }
+{
+    query(
+        conn,
+        "SELECT firm, project, embargo FROM deposits WHERE number = ?1",
+        params![number],
+    )
+}
+
+/// The head of a deposit.
+pub(crate) fn find_head<S: Alter>(
+    conn: &mut Connection<S>,
+    alloc: Global,
+    number: u32,
+) -> Result<KeptHead, KeepError>
+    requires low { HasCleanDisk (state S.Store conn.old) → 0 < number }
+    requires idle { IsIdle (state S.Store conn.old) }
+    ensures found { HasCleanDisk (state S.Store conn.new) → IfOk result (λ head. Holds (deposit_table (state S.Store conn.old).now.trees) number (λ d. (head.firm ≡ d.firm) × (head.project ≡ d.project) × (head.embargo ≡ d.embargo))) }
+    ensures named { IfErr result (λ e. e ≢ KeepError.Full) }
+    ensures quiet { IsQuiet (state S.Store conn.old) (state S.Store conn.new) (fails result) }
+{
+    match head_rows(conn, number) {
+        Ok(rows) => read_head(alloc, &rows),
+        Err(error) => Err(error),
+    }
+}
+
+pub(crate) fn numbered_rows<S: Alter>(
+    conn: &mut Connection<S>,
+    number: u32,
+) -> Result<Vec<Row>, KeepError>
+    requires idle { IsIdle (state S.Store conn.old) }
+    ensures found { HasCleanDisk (state S.Store conn.new) → IfOk result (λ rows. IsPermutation rows.items (filter (has_number number) (deposit_table (state S.Store conn.old).now.trees))) }
+    ensures named { IfErr result (λ e. e ≢ KeepError.Full) }
+    ensures quiet { IsQuiet (state S.Store conn.old) (state S.Store conn.new) (fails result) }
+{
+    query(
+        conn,
+        "SELECT number, firm, project, embargo, body FROM deposits WHERE number = ?1",
+        params![number],
+    )
+}
+
+/// The deposit of a number: its row is the only one.
+pub(crate) fn find_deposit<S: Alter>(
+    conn: &mut Connection<S>,
+    alloc: Global,
+    number: u32,
+) -> Result<Kept, KeepError>
+    requires idle { IsIdle (state S.Store conn.old) }
+    ensures found { HasCleanDisk (state S.Store conn.new) → IfOk result (λ kept. filter (has_number number) (deposit_table (state S.Store conn.old).now.trees) ≡ given_deposit number (deposit_of kept) ∷ []) }
+    ensures is_named { IfOk result (λ kept. IsNamed (deposit_of kept)) }
+    ensures named { IfErr result (λ e. e ≢ KeepError.Full) }
+    ensures quiet { IsQuiet (state S.Store conn.old) (state S.Store conn.new) (fails result) }
+{
+    match numbered_rows(conn, number) {
+        Ok(rows) => read_deposit(alloc, number, &rows),
+        Err(error) => Err(error),
+    }
+}
+
+pub(crate) fn line_rows<S: Alter>(
+    conn: &mut Connection<S>,
+    number: u32,
+) -> Result<Vec<Row>, KeepError>
+    requires idle { IsIdle (state S.Store conn.old) }
+    ensures found { HasCleanDisk (state S.Store conn.new) → IfOk result (λ rows. (file : List KeptRow) → IsPermutation (place_rows 0 file) (rows_of number (line_table (state S.Store conn.old).now.trees)) → rows.items ≡ place_rows 0 file) }
+    ensures all { HasCleanDisk (state S.Store conn.new) → IfOk result (λ rows. IsPermutation rows.items (rows_of number (line_table (state S.Store conn.old).now.trees))) }
+    ensures named { IfErr result (λ e. e ≢ KeepError.Full) }
+    ensures quiet { IsQuiet (state S.Store conn.old) (state S.Store conn.new) (fails result) }
+{
+    query(
+        conn,
+        "SELECT seq, grp, kind, line FROM lines WHERE deposit = ?1 ORDER BY seq",
+        params![number],
+    )
+}
+
+/// The rows that are kept of a deposit.
+pub(crate) fn find_lines<S: Alter>(
+    conn: &mut Connection<S>,
+    alloc: Global,
+    number: u32,
+) -> Result<Vec<KeptRow>, KeepError>
+    requires idle { IsIdle (state S.Store conn.old) }
+    ensures found { HasCleanDisk (state S.Store conn.new) → IfOk result (λ lines. (file : List KeptRow) → IsPermutation (place_rows 0 file) (rows_of number (line_table (state S.Store conn.old).now.trees)) → lines.items ≡ file) }
+    ensures held { HasCleanDisk (state S.Store conn.new) → IfOk result (λ lines. IsPermutation (place_rows 0 lines.items) (rows_of number (line_table (state S.Store conn.old).now.trees))) }
+    ensures named { IfErr result (λ e. e ≢ KeepError.Full) }
+    ensures quiet { IsQuiet (state S.Store conn.old) (state S.Store conn.new) (fails result) }
+{
+    match line_rows(conn, number) {
+        Ok(rows) => read_lines(alloc, &rows),
+        Err(error) => Err(error),
+    }
+}
+
+pub(crate) fn step_rows<S: Alter>(
+    conn: &mut Connection<S>,
+    number: u32,
+) -> Result<Vec<Row>, KeepError>
+    requires idle { IsIdle (state S.Store conn.old) }
+    ensures found { HasCleanDisk (state S.Store conn.new) → IfOk result (λ rows. (steps : List (ℕ × ℕ)) → IsAscending IsBefore steps → IsPermutation (map step_pair steps) (rows_of number (step_table (state S.Store conn.old).now.trees)) → rows.items ≡ map step_pair steps) }
+    ensures all { HasCleanDisk (state S.Store conn.new) → IfOk result (λ rows. IsPermutation rows.items (rows_of number (step_table (state S.Store conn.old).now.trees))) }
+    ensures named { IfErr result (λ e. e ≢ KeepError.Full) }
+    ensures quiet { IsQuiet (state S.Store conn.old) (state S.Store conn.new) (fails result) }
+{
+    query(
+        conn,
+        "SELECT child, target FROM steps WHERE deposit = ?1 ORDER BY child, target",
+        params![number],
+    )
+}
+
+/// The steps that are kept of a deposit.
+pub(crate) fn find_steps<S: Alter>(
+    conn: &mut Connection<S>,
+    alloc: Global,
+    number: u32,
+) -> Result<Vec<(u32, u32)>, KeepError>
+    requires idle { IsIdle (state S.Store conn.old) }
+    ensures found { HasCleanDisk (state S.Store conn.new) → IfOk result (λ read. (steps : List (ℕ × ℕ)) → IsAscending IsBefore steps → IsPermutation (map step_pair steps) (rows_of number (step_table (state S.Store conn.old).now.trees)) → read.items ≡ steps) }
+    ensures held { HasCleanDisk (state S.Store conn.new) → IfOk result (λ read. IsPermutation (map step_pair read.items) (rows_of number (step_table (state S.Store conn.old).now.trees))) }
+    ensures named { IfErr result (λ e. e ≢ KeepError.Full) }
+    ensures quiet { IsQuiet (state S.Store conn.old) (state S.Store conn.new) (fails result) }
+{
+    match step_rows(conn, number) {
+        Ok(rows) => read_steps(alloc, &rows),
+        Err(error) => Err(error),
+    }
+}
+
+fn count_data(rows: &[KeptRow]) -> usize
+    ensures { result ≡ length (filter is_data rows.now) }
+{
+    let mut count: usize = 0;
+    for row in rows {
+        if row.kind == 4 {
+            count += 1;
+        }
+    }
+    count
+}
+
+/// How many DATA rows there are.
+fn data_count(rows: &[KeptRow]) -> Result<u32, KeepError>
+    ensures named { IfErr result (λ e. e ≢ KeepError.Full) }
+    ensures count { IfOk result (λ n. n ≡ length (filter is_data rows.now)) }
+{
+    match u32::try_from(count_data(rows)) {
+        Ok(count) => Ok(count),
+        Err(_) => Err(KeepError::Store),
+    }
+}
+
+fn graph_of(rows: u32, steps: Vec<(u32, u32)>) -> Result<Graph, KeepError>
+    ensures named { IfErr result (λ e. e ≢ KeepError.Full) }
+    ensures rows { IfOk result (λ graph. graph.rows ≡ rows) }
+    ensures steps { IfOk result (λ graph. graph.steps ≡ steps.items) }
+{
+    match Graph::new(rows, steps) {
+        Some(graph) => Ok(graph),
+        None => Err(KeepError::Store),
+    }
+}
+
+/// How many DATA rows are kept of a deposit.
+fn find_data<S: Alter>(
+    conn: &mut Connection<S>,
+    alloc: Global,
+    number: u32,
+) -> Result<u32, KeepError>
+    requires idle { IsIdle (state S.Store conn.old) }
+    ensures found { HasCleanDisk (state S.Store conn.new) → IfOk result (λ n. HasRows number (line_table (state S.Store conn.old).now.trees) n) }
+    ensures named { IfErr result (λ e. e ≢ KeepError.Full) }
+    ensures quiet { IsQuiet (state S.Store conn.old) (state S.Store conn.new) (fails result) }
+{
+    match find_lines(conn, alloc, number) {
+        Ok(lines) => data_count(lines.as_slice()),
+        Err(error) => Err(error),
+    }
+}
+
+/// The steps that are kept of a deposit, between its DATA rows.
+#[tactic(auto, using(crate::specs::Quiet::quiet_then, crate::specs::Quiet::quiet_read, crate::specs::Quiet::idle_then))]
+pub(crate) fn find_graph<S: Alter>(
+    conn: &mut Connection<S>,
+    alloc: Global,
+    number: u32,
+) -> Result<Graph, KeepError>
+    requires idle { IsIdle (state S.Store conn.old) }
+    ensures rows { HasCleanDisk (state S.Store conn.new) → IfOk result (λ graph. HasRows number (line_table (state S.Store conn.old).now.trees) graph.rows) }
+    ensures steps { HasCleanDisk (state S.Store conn.new) → IfOk result (λ graph. HasSteps number (step_table (state S.Store conn.old).now.trees) graph.steps) }
+    ensures named { IfErr result (λ e. e ≢ KeepError.Full) }
+    ensures quiet { IsQuiet (state S.Store conn.old) (state S.Store conn.new) (fails result) }
+{
+    let rows = find_data(conn, alloc, number)?;
+    match find_steps(conn, alloc, number) {
+        Ok(steps) => graph_of(rows, steps),
+        Err(error) => Err(error),
+    }
+}
+
+pub(crate) fn meta_rows<S: Alter>(conn: &mut Connection<S>) -> Result<Vec<Row>, KeepError>
+    requires idle { IsIdle (state S.Store conn.old) }
+    ensures all { HasCleanDisk (state S.Store conn.new) → IfOk result (λ rows. IsPermutation rows.items (map columns_3 ((state S.Store conn.old).now.trees 0))) }
+    ensures found { HasCleanDisk (state S.Store conn.new) → IfOk result (λ rows. (text : List ℕ) → IsPermutation (meta_columns text) (map columns_3 ((state S.Store conn.old).now.trees 0)) → rows.items ≡ meta_columns text) }
+    ensures open { HasCleanDisk (state S.Store conn.new) → fails result ≡ false → IsTrue (state S.Store conn.new).is_open }
+    ensures named { IfErr result (λ e. e ≢ KeepError.Full) }
+    ensures quiet { IsQuiet (state S.Store conn.old) (state S.Store conn.new) (fails result) }
+{
+    query(conn, "SELECT name, num, body FROM meta ORDER BY name", &[])
+}

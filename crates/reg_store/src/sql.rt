@@ -1,0 +1,191 @@
+//! A keep over a database.
+
+ghost use Rattle.std.specs.Prelude.{◌≡◌, ◌≤◌, pos, false, IsTrue};
+ghost use Rattle.reg_policy.specs.Days.{is_day_number};
+ghost use Rattle.reg_store.specs.Keep.{fails, is_store as store_error};
+ghost use Rattle.reg_store.specs.KeepLaws.{few_at, fit_at, settled_at, stays_at};
+ghost use Rattle.sqlite.specs.State.{HasCleanDisk};
+ghost use Rattle.sqlite.specs.Held.{state};
+ghost use Rattle.reg_store.specs.Register.{deposits_in, LeavesList, Keeps};
+
+use crate::keep::{Keep, KeepError, Kept, KeptHead, KeptRow};
+use crate::reading::{find_deposit, find_graph, find_head, find_lines, find_number, find_numbers};
+use crate::rows::kept_rows;
+use crate::statements::{Filed, add_file};
+use ags_check::Checked;
+use ags_dict::Dictionary;
+use ags_links::Graph;
+use reg_policy::{Day, Name};
+use sqlite::{Alter, Connection};
+use std::alloc::Global;
+
+/// The greatest number of deposits.
+pub const MOST: u32 = 999_999;
+
+/// Deposits in a database.
+#[derive(Drop)]
+pub struct SqlKeep<S: Alter> {
+    pub(crate) connection: Connection<S>,
+    pub(crate) dictionary: Dictionary,
+    pub(crate) count: u32,
+    pub(crate) has_failed: bool,
+    pub(crate) alloc: Global,
+    ghost idle: { connection.in_transaction ≡ false },
+    ghost few: { count ≤ 999999 },
+    ghost kept: { has_failed ≡ false → HasCleanDisk (state S.Store connection) → ∥ Keeps (state S.Store connection) dictionary count ∥₁ },
+}
+
+impl<S: Alter> SqlKeep<S> {
+    /// The connection, whose tables are the register of this list where the keep has not failed.
+    pub fn into_connection(self) -> Connection<S>
+        ensures connection { result ≡ self.connection }
+        ensures kept { self.has_failed ≡ false → HasCleanDisk (state S.Store result) → ∥ Keeps (state S.Store result) self.dictionary self.count ∥₁ }
+    {
+        let SqlKeep {
+            connection,
+            dictionary: _,
+            count: _,
+            has_failed: _,
+            alloc: _,
+        } = self;
+        connection
+    }
+}
+
+impl<S: Alter> Keep for SqlKeep<S> {
+    ghost deposits = { λ k. deposits_in (state S.Store k.connection).committed.trees };
+
+    ghost dictionary = { λ k. k.dictionary };
+
+    ghost limit = { λ _. 999999 };
+
+    ghost has_failed = { λ k. k.has_failed };
+
+    ghost may_leave = { λ k. LeavesList (state S.Store k.connection).may_leave k.dictionary };
+
+    ghost is_sound = { λ k. HasCleanDisk (state S.Store k.connection) };
+
+    fn find(
+        &mut self,
+        firm: &Name,
+        project: &Name,
+        bytes: &[u8],
+    ) -> Result<Option<u32>, KeepError> {
+        let found = find_number(&mut self.connection, firm.text(), project.text(), bytes);
+        self.has_failed = is_store(&found);
+        found
+    }
+
+    fn add(
+        &mut self,
+        firm: &Name,
+        project: &Name,
+        embargo: Day,
+        checked: &Checked<'_>,
+    ) -> Result<u32, KeepError> {
+        if self.count >= MOST {
+            return Err(KeepError::Full);
+        }
+        let number = self.count + 1;
+        let made = kept_rows(self.alloc, checked.scan().groups());
+        let Ok(rows) = made else {
+            return Err(KeepError::NoMemory);
+        };
+        if rows.len() >= 4_294_967_296 {
+            return Err(KeepError::NoMemory);
+        }
+        let filed = Filed {
+            number,
+            firm: firm.text(),
+            project: project.text(),
+            embargo: day_number(embargo),
+            body: checked.bytes(),
+        };
+        let added = add_file(
+            &mut self.connection,
+            filed,
+            rows.as_slice(),
+            checked.graph().steps(),
+        );
+        match added {
+            Ok(()) => {
+                self.count = number;
+                Ok(number)
+            }
+            Err(error) => {
+                self.has_failed = is_store_error(&error);
+                Err(error)
+            }
+        }
+    }
+
+    fn deposit(&mut self, n: u32) -> Result<Kept, KeepError> {
+        let found = find_deposit(&mut self.connection, self.alloc, n);
+        self.has_failed = is_store(&found);
+        found
+    }
+
+    fn head(&mut self, n: u32) -> Result<KeptHead, KeepError> {
+        let found = find_head(&mut self.connection, self.alloc, n);
+        self.has_failed = is_store(&found);
+        found
+    }
+
+    fn rows(&mut self, n: u32) -> Result<Vec<KeptRow>, KeepError> {
+        let found = find_lines(&mut self.connection, self.alloc, n);
+        self.has_failed = is_store(&found);
+        found
+    }
+
+    fn steps(&mut self, n: u32) -> Result<Graph, KeepError> {
+        let found = find_graph(&mut self.connection, self.alloc, n);
+        self.has_failed = is_store(&found);
+        found
+    }
+
+    fn numbers(&mut self, project: &Name) -> Result<Vec<u32>, KeepError> {
+        let found = find_numbers(&mut self.connection, self.alloc, project.text());
+        self.has_failed = is_store(&found);
+        found
+    }
+
+    fn count(&self) -> u32 {
+        self.count
+    }
+
+    fn limit(&self) -> u32 {
+        MOST
+    }
+
+    fn dictionary(&self) -> &Dictionary {
+        &self.dictionary
+    }
+
+    ghost settled = { λ k list clean works left. settled_at (k.kept works clean) (S.Store.settled k.connection.store) list left };
+
+    ghost stays = { λ k clean works. stays_at (k.kept works clean) (S.Store.stays k.connection.store) };
+
+    ghost fit = { λ k clean works. fit_at (k.kept works clean) };
+
+    ghost few = { λ k clean works. few_at (k.kept works clean) };
+}
+
+fn is_store_error(error: &KeepError) -> bool
+    ensures { result ≡ store_error error.now }
+{
+    matches!(error, KeepError::Store)
+}
+
+fn is_store<T>(outcome: &Result<T, KeepError>) -> bool
+    ensures { result ≡ fails outcome.now }
+{
+    matches!(outcome, Err(KeepError::Store))
+}
+
+/// The number of a day.
+fn day_number(day: Day) -> u32
+    ensures number { pos result ≡ day }
+    ensures is_day { IsTrue (is_day_number day) }
+{
+    day.number() as u32
+}
