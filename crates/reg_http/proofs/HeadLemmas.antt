@@ -1,14 +1,14 @@
 -- When the bytes of a connection have a head within the limits, and when they have none.
-use Rattle.std.proofs.Common.{◌≡◌, ℕ, ◌+◌, ◌-◌, ◌<◌, ◌≤◌, List, [], ◌∷◌, ◌++◌, length, take, drop, map, Option, Some, None, refl, sym, ap, subst, ◌∙◌, arith, append_assoc, length-append}
+use Rattle.std.proofs.Common.{◌≡◌, ℕ, ◌+◌, ◌-◌, ◌≤◌, List, [], ◌∷◌, ◌++◌, length, take, drop, map, Option, Some, None, sym, ap, ◌∙◌, arith, length-append}
 use Rattle.std.proofs.lemmas.List.{take-append-le, append-nil, take-append-drop, length-take-le, length-map}
 use Rattle.std.proofs.Math.Seq.{take-append_seam}
-use Rattle.std.specs.Io.KnownBytes.{Consumes, IsAtEnd}
-use Rattle.httparse.specs.Grammar.{RequestHead, Field, print_request, print_blank, print_version, print_end, print_section, ReadsRequest, HasNoRequest, NeverHasRequest}
+use Rattle.std.specs.Io.KnownBytes.{Consumes}
+use Rattle.httparse.specs.Grammar.{RequestHead, print_request, print_blank, print_version, print_end, print_section, HasNoRequest, NeverHasRequest}
 use Rattle.httparse.specs.Spans.{RequestOverflows, IsRequestAt, IsRequestWithin, header_bytes, name_and_value}
 use Rattle.httparse.specs.declared.spans.HeaderSpan.{HeaderSpan}
 use Rattle.httparse.specs.declared.spans.RequestSpans.{RequestSpans}
 use Rattle.httparse.proofs.GrammarLemmas.{print_request-append}
-use Rattle.reg_http.specs.Heads.{HasNoFewRequest, HasNoHead, HoldsHead, IsHead, ReadsHead}
+use Rattle.reg_http.specs.Heads.{HasNoFewRequest, HasNoHead, HoldsHead, ReadsHead}
 use Rattle.std.specs.Prelude.{IfSome}
 use Rattle.reg_http.specs.declared.head.HeadRead.TheVariants.{Bad, Whole}
 

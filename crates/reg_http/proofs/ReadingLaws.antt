@@ -1,10 +1,10 @@
 -- The bytes of a connection are read as one thing.
-use Rattle.std.proofs.Common.{◌≡◌, ℕ, ℤ, ◌<◌, ◌≤◌, List, [], length, take, Result, Ok, Err, refl, sym, ap, ◌∙◌, arith}
+use Rattle.std.proofs.Common.{◌≡◌, ℕ, ℤ, List, [], length, take, Result, Ok, Err, refl, sym, ap, ◌∙◌, arith}
 use Rattle.httparse.specs.Grammar.{RequestHead}
 use Rattle.httparse.proofs.GrammarLemmas.{request_unique}
 use Rattle.reg_policy.specs.declared.callers.Credential.{Credential}
 use Rattle.reg_http.specs.Asks.{Asking, ask_of, asked_of}
-use Rattle.reg_http.specs.Heads.{IsHead, HasNoHead}
+use Rattle.reg_http.specs.Heads.{IsHead}
 use Rattle.reg_http.specs.HeadParts.{head_parts}
 use Rattle.reg_http.specs.Reading.{HasOneReading, Heard, ReadAs, bad_head, nothing, refusal, refused, request, short_body, silent, whole}
 use Rattle.reg_http.specs.declared.refusal.Refusal.{Refusal}

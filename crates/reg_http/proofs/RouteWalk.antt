@@ -1,19 +1,19 @@
 -- What the routes of the table take from a path is text.
-use Rattle.std.proofs.Common.{◌≡◌, ◌≢◌, ℕ, zero, suc, ◌+◌, ◌-◌, ◌<◌, ◌≤◌, List, [], ◌∷◌, ◌++◌, length, drop, take, get_or, Option, Some, None, Bool, true, false, cond, refl, sym, ap, ◌∙◌, arith, ⊎_elim, subst, ◌==◌, codes, inl, inr, ◌⊎◌, Ok}
+use Rattle.std.proofs.Common.{◌≡◌, ℕ, zero, suc, ◌+◌, ◌-◌, ◌<◌, ◌≤◌, List, [], ◌∷◌, ◌++◌, length, drop, take, get_or, Some, None, Bool, true, false, cond, refl, sym, ap, ◌∙◌, arith, ⊎_elim, subst, codes, inl, inr, ◌⊎◌, Ok}
 use Rattle.std.specs.Prelude.{◌&&◌, nat_lt, ltb, leb, nat_eq}
 use Rattle.std.specs.List.{ends_with}
 use Rattle.std.specs.Str.{IsUtf8, IsCharBoundary}
-use Rattle.std.proofs.lemmas.Bool.{cases_Bool, cases_eq, eq-eqb, ne_eqb, and_parts, ltb-true, leb-true, lt-ltb}
+use Rattle.std.proofs.lemmas.Bool.{cases_Bool, cases_eq, ne_eqb, and_parts, ltb-true, leb-true, lt-ltb}
 use Rattle.std.proofs.lemmas.List.{drop_all, get_or-drop, get_or-append-add, length-append, length-drop}
 use Rattle.std.proofs.lemmas.Str.{IsUtf8-between, IsUtf8-nil, IsCharBoundary-before_ascii, IsCharBoundary-after_ascii, IsCharBoundary-end}
-use Rattle.matchit.specs.Rows.{RowsOf, param_token, catch_all_token}
+use Rattle.matchit.specs.Rows.{RowsOf, param_token}
 use Rattle.matchit.specs.Router.{RouteOf}
-use Rattle.matchit.specs.Seek.{own, step, seek, first, param_step, has_slash, segment, cuts, better, longest_suffix, with_suffix, after_param, slash}
-use Rattle.matchit.specs.Params.{walk, wild_from, wild_stop, part_of, next_at, after_token, AllText}
+use Rattle.matchit.specs.Seek.{step, seek, first, has_slash, segment, cuts, better, longest_suffix, after_param, slash}
+use Rattle.matchit.specs.Params.{walk, wild_from, wild_stop, part_of, after_token, AllText}
 use Rattle.matchit.proofs.LongestLemmas.{better-again, better-yes, better-no}
 use Rattle.reg_http.specs.Routes.{check_route, deposit_route, deposits_route, page_in, param, route_of, table, taken}
 use Rattle.reg_http.specs.declared.route.Page.{Page}
-use Rattle.reg_http.proofs.SeekLemmas.{all_bytes, with_token, with_tokens, param_none, seek_none, seek_drop, seek_end, seek_plain, begins, seek_wild, seek_last, seek_here, param_hit, param_miss}
+use Rattle.reg_http.proofs.SeekLemmas.{all_bytes, with_token, with_tokens, seek_none, seek_drop, seek_end, seek_plain, begins, seek_wild, seek_last, seek_here, param_hit, param_miss}
 
 abbrev Rows : Type 0
 Rows = RowsOf (RouteOf Page)

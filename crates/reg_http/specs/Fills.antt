@@ -1,6 +1,6 @@
 -- What one read into the rest of a buffer did.
 use Rattle.std.specs.Prelude.{◌≡◌, ℕ, ◌+◌, ◌<◌, ◌≤◌, List, ◌++◌, length, take, Option, Some, None, ⊤}
-use Rattle.std.specs.Io.KnownBytes.{Consumes, IsAtEnd, Keeps}
+use Rattle.std.specs.Io.KnownBytes.{Consumes, IsAtEnd}
 
 -- the buffer has n bytes more, which the reader lost; none came only at the end or with no room
 pub record FillsMore (old new : Option (List ℕ)) (before after : List ℕ) (filled n : ℕ) : Type 0 where

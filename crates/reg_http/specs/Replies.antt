@@ -1,5 +1,5 @@
 -- The text of a reply (RFC 9112, sections 4 and 6): status line, three fields, an empty line, and the body.
-use Rattle.std.specs.Prelude.{◌≡◌, ℕ, List, [], ◌∷◌, ◌++◌, length, codes, decimal, unwrap_or}
+use Rattle.std.specs.Prelude.{ℕ, List, [], ◌∷◌, ◌++◌, length, codes, decimal, unwrap_or}
 use Rattle.http.specs.StatusCode.{reason_phrase}
 use Rattle.ags_rows.specs.Bytes.{carriage_return, line_feed}
 

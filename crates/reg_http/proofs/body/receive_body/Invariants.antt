@@ -1,4 +1,4 @@
-use Rattle.std.proofs.Common.{◌-◌, ◌+◌, ◌≡◌, ◌≤◌, false, length, take, vec_len}
+use Rattle.std.proofs.Common.{◌-◌, ◌+◌, ◌≡◌, ◌≤◌, false, length, vec_len}
 use Rattle.reg_http.specs.Tallies.{calls_of, has_failed, inner_of}
 use Rattle.reg_http.proofs.BodyLemmas.{HasRead}
 use Rattle.reg_http.proofs.body.receive_body.Given as goal

@@ -1,4 +1,4 @@
-use Rattle.std.proofs.Common.{◌-◌, ◌≡◌, ◌≤◌, ◌+◌, false, ℕ, length, take}
+use Rattle.std.proofs.Common.{◌-◌, ◌≡◌, ◌≤◌, false, length, take}
 use Rattle.std.specs.Io.KnownBytes.{Consumes}
 use Rattle.reg_http.specs.Heads.{HasNoFewRequest}
 use Rattle.reg_http.specs.Tallies.{calls_of, has_failed, inner_of}

@@ -1,5 +1,4 @@
 use Rattle.std.proofs.Common.{arith, subst, ap, get_or, rules}
-use Rattle.reg_desk.specs.Desks.{AnsweredBy}
 use Rattle.reg_http.specs.Tallies.{IsFresh}
 use Rattle.reg_http.proofs.ListLemmas.{SoFar-next, SoFar-end, fresh_at}
 use Rattle.reg_http.proofs.list.serve_list.Goals as goal

@@ -1,5 +1,5 @@
-use Rattle.std.proofs.Common.{ℕ, ◌==◌, ◌+◌, ◌∷◌, length, take, drop, rules, arith, ap, sym, ◌∙◌, refl}
-use Rattle.std.proofs.lemmas.List.{take_rest, length-drop}
+use Rattle.std.proofs.Common.{ℕ, ◌==◌, ◌∷◌, length, take, rules, arith, ap, sym, ◌∙◌}
+use Rattle.std.proofs.lemmas.List.{take_rest}
 use Rattle.std.proofs.lemmas.List.Sums.{position_or_len_is}
 use Rattle.form_urlencoded.specs.Form.{split}
 use Rattle.ags_rows.specs.Bytes.{comma}

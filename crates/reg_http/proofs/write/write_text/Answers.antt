@@ -1,7 +1,6 @@
-use Rattle.std.proofs.Common.{◌≡◌, ◌≤◌, ◌+◌, ◌-◌, ◌<◌, ℕ, false, length, take, drop, arith, rules, refl}
+use Rattle.std.proofs.Common.{◌≡◌, ◌-◌, length, take, drop, arith}
 use Rattle.std.proofs.lemmas.List.{take_all, length-drop}
 use Rattle.std.proofs.lemmas.Grind.{common_steps}
-use Rattle.reg_http.specs.Tallies.{has_failed, inner_of}
 use Rattle.reg_http.proofs.WriteLemmas.{Appends-more}
 use Rattle.reg_http.proofs.write.write_text.Goals as goal
 
