@@ -7,7 +7,7 @@ use Rattle.std.proofs.lemmas.List.{append-nil, length-take-le}
 use Rattle.std.proofs.lemmas.Bool.{cases_Bool}
 use Rattle.httparse.specs.Grammar.{RequestHead, print_request, ReadsRequest}
 use Rattle.reg_http.proofs.HeadLemmas.{none_at_first}
-use Rattle.httparse.proofs.GrammarLemmas.{ReadsRequest-append}
+use Rattle.httparse.proofs.GrammarLemmas.{ReadsRequest-append, request_unique}
 use Rattle.httparse.specs.declared.spans.HeaderSpan.{HeaderSpan}
 use Rattle.httparse.specs.declared.spans.RequestSpans.{RequestSpans}
 use Rattle.httparse.specs.Spans.{IsRequestAt}
@@ -15,11 +15,11 @@ use Rattle.reg_policy.specs.declared.callers.Credential.{Credential}
 use Rattle.reg_http.specs.Agree.{is_want_of_memory}
 use Rattle.reg_http.specs.Asks.{Asking, ask_of, asked_of}
 use Rattle.reg_desk.specs.Asked.{Asked}
-use Rattle.reg_http.specs.Heads.{HasNoHead, HoldsHead, IsHead}
+use Rattle.reg_http.specs.Heads.{HasNoHead, HoldsHead, IsHead, longest_head}
 use Rattle.reg_http.specs.HeadParts.{HeadParts, head_parts}
 use Rattle.reg_http.specs.Rendering.{IsRendered, answer_status, rendered, status_of}
 use Rattle.reg_http.specs.Reading.{ReadAs, refusal}
-use Rattle.reg_http.specs.Serving.{Exchange, ServesAnswer, ServesAsked, ServesOne, ServesRequest, Written, is_read}
+use Rattle.reg_http.specs.Serving.{Exchange, ServesAnswer, ServesAsked, ServesOne, ServesRequest, WaitsFor, Written, body_reads, is_read}
 use Rattle.reg_http.specs.Views.{ReadsBody}
 use Rattle.reg_http.specs.Reading as reading
 use Rattle.reg_http.specs.Serving as serving
@@ -199,3 +199,29 @@ silent_whole (Some bytes) (Some rest) buf headers spans filled P held taken = λ
     let many = none_at_first held.head (drop spans.len (take filled buf)) reads in
     let few = held.few in
     absurd (omega arith)
+
+module _ (callers : List Credential) (day : ℤ) where
+  -- no more was read than a head may take
+  pub waits_head : (old : Option (List ℕ)) (calls : ℕ) → calls ≤ longest_head → IfSome old (λ bytes. WaitsFor callers day bytes calls)
+  waits_head None calls small = tt
+  waits_head (Some bytes) calls small = record { headless = λ none. small; headed = λ h rest head. omega (arith, small) }
+
+  -- a head was read whole, and the body that it asks for
+  pub waits_body : (old left : Option (List ℕ)) (buf : List ℕ) (headers : List HeaderSpan) (spans : RequestSpans) (filled : ℕ) (a : Asking) (parts : HeadParts) (calls : ℕ)
+      → (held : HoldsHead buf headers spans filled) → filled ≤ 8192 → IfSome old (λ bytes. Consumes (Some bytes) left (take filled buf))
+      → ((h : RequestHead) → IsRequestAt (take filled buf) headers spans h → parts ≡ head_parts h)
+      → ask_of callers day parts ≡ Ok a → calls ≤ longest_head + (a.length + 1)
+      → IfSome old (λ bytes. WaitsFor callers day bytes calls)
+  waits_body None left buf headers spans filled a parts calls held small taken reads agrees few = tt
+  waits_body (Some bytes) None buf headers spans filled a parts calls held small taken reads agrees few = absurd taken
+  waits_body (Some bytes) (Some rest) buf headers spans filled a parts calls held small taken reads agrees few =
+      let behind = drop spans.len (take filled buf) ++ rest in
+      let head = head_of bytes rest buf headers spans filled held small taken in
+      let asks : ask_of callers day (head_parts held.head) ≡ Ok a = ap (ask_of callers day) (sym (reads held.head held.at)) ∙ agrees in
+      let P : Result Asking Refusal → Type 0 = λ r. calls ≤ longest_head + body_reads r in
+      record {
+        headless = λ none. absurd (none held.head behind head);
+        headed = λ h more x.
+            (let same = request_unique bytes h held.head more behind x.reads head.reads in
+            subst P (sym (ap (λ n. ask_of callers day (head_parts n)) same.0 ∙ asks)) few);
+      }

@@ -4,7 +4,7 @@ use Rattle.ags_rows.specs.declared.TheConstants.{LIMIT}
 use Rattle.reg_policy.specs.declared.callers.Credential.{Credential}
 use Rattle.reg_desk.specs.Asked.{Asked}
 use Rattle.reg_http.specs.Heads.{longest_head}
-use Rattle.reg_http.specs.Serving.{ServesOne, is_read, is_write}
+use Rattle.reg_http.specs.Serving.{ServesOne, WaitsFor, is_read, is_write}
 use Rattle.reg_http.specs.Tallies.{IsFresh, inner_of, calls_of, has_failed}
 use Rattle.reg_http.specs.declared.tally.Tally.{Tally}
 use Rattle.reg_desk.specs.declared.answer.Answer.{Answer}
@@ -31,6 +31,7 @@ module _ {D R W : Type 0} (answers : D → Asked → Answer → D → Type 0) (r
     pub unread : IsTrue (is_read r) → (after ≡ before) × (new.1 ≡ old.1)
     pub silent : IfSome (remaining (inner_of old.0)) (λ bytes. bytes ≡ [] → new.1 ≡ old.1)
     pub calls : calls_of new.0 ≤ most_calls
+    pub waits : IfSome (remaining (inner_of old.0)) (λ bytes. WaitsFor callers day bytes (calls_of new.0))
 
   -- each in turn, the next over the desk that the last left
   abbrev pub ServesAll : List (Tally R × Tally W) → List (Result Served IoFault) → List (Tally R × Tally W) → D → D → Type 0

@@ -1,11 +1,12 @@
 -- What serving one connection does.
-use Rattle.std.specs.Prelude.{◌≡◌, ◌⊎◌, ℕ, ℤ, ◌≤◌, ◌<◌, Bool, true, false, List, [], length, take, Option, Result, Ok, Err, ⊤}
+use Rattle.std.specs.Prelude.{◌≡◌, ◌⊎◌, ℕ, ℤ, ◌+◌, ◌≤◌, ◌<◌, Bool, true, false, List, [], length, take, Option, Result, Ok, Err, ⊤}
 use Rattle.std.specs.Io.KnownBytes.{Appends}
 use Rattle.httparse.specs.Grammar.{RequestHead}
 use Rattle.reg_policy.specs.declared.callers.Credential.{Credential}
-use Rattle.reg_http.specs.Asks.{Asking, asked_of}
+use Rattle.reg_http.specs.Asks.{Asking, ask_of, asked_of}
 use Rattle.reg_desk.specs.Asked.{Asked}
-use Rattle.reg_http.specs.Heads.{IsHead}
+use Rattle.reg_http.specs.Heads.{HasNoHead, IsHead, longest_head}
+use Rattle.reg_http.specs.HeadParts.{head_parts}
 use Rattle.reg_http.specs.Reading.{ReadAs, nothing, refusal, request}
 use Rattle.reg_http.specs.Rendering.{IsRendered, answer_status, is_fixed, rendered, status_of}
 use Rattle.reg_http.specs.declared.refusal.Refusal.{Refusal}
@@ -70,3 +71,13 @@ module _ {D : Type 0} (answers : D → Asked → Answer → D → Type 0) (calle
   ServesOne old new before after (Err fault.Read) = ⊤
   ServesOne old new before after r =
       (text : List ℕ) × (status : ℕ) × Exchange old new text status × Written before after text status r
+
+-- how many reads a body takes at most: none where the head is refused, else one for each byte, and one for the end
+abbrev pub body_reads : Result Asking Refusal → ℕ
+body_reads (Ok a) = a.length + 1
+body_reads (Err r) = 0
+
+-- No body is waited for behind bytes that are no head, or behind a head that is refused; and of a request's body no byte beyond its length.
+pub record WaitsFor (callers : List Credential) (day : ℤ) (bytes : List ℕ) (reads : ℕ) : Type 0 where
+  pub headless : HasNoHead bytes → reads ≤ longest_head
+  pub headed : (h : RequestHead) (rest : List ℕ) → IsHead bytes h rest → reads ≤ longest_head + body_reads (ask_of callers day (head_parts h))

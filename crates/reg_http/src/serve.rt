@@ -4,7 +4,7 @@ ghost use Rattle.reg_http.specs.Connections.{most_calls};
 ghost use Rattle.reg_desk.specs.Asked.{asked};
 ghost use Rattle.reg_desk.specs.Desks.{AnsweredBy};
 ghost use Rattle.reg_http.specs.Rendering.{is_fixed, rendered, status_of};
-ghost use Rattle.reg_http.specs.Serving.{ServesOne, ServesAnswer, ServesAsked, ServesRequest, Written, is_read, is_write};
+ghost use Rattle.reg_http.specs.Serving.{ServesOne, ServesAnswer, ServesAsked, ServesRequest, WaitsFor, Written, is_read, is_write};
 ghost use Rattle.reg_http.specs.Tallies.{inner_of, calls_of, has_failed, IsFresh};
 ghost use Rattle.reg_http.specs.Views.{asking_at};
 
@@ -156,8 +156,8 @@ fn serve_asked<K: Keep, R: Read, W: Write>(
     serve_request(alloc, desk, &request, writer)
 }
 
-/// Serves one connection: reads a request, asks the desk, and writes the reply. Reader and writer are fresh. The reader
-/// is not read beyond the request's body, and a reply is one write where the writer takes it.
+/// Serves one connection: reads a request, asks the desk, and writes the reply. Reader and writer are fresh. No body is
+/// waited for where the head is refused, and a reply is one write where the writer takes it.
 pub fn serve_one<K: Keep, R: Read, W: Write>(
     alloc: Global,
     desk: &mut Desk<K>,
@@ -180,6 +180,7 @@ pub fn serve_one<K: Keep, R: Read, W: Write>(
     ensures unread { IsTrue (is_read result) → (desk.new ≡ desk.old) × (writer.new ≡ writer.old) }
     ensures silent { IfSome (R.remaining (inner_of reader.old)) (λ bytes. bytes ≡ [] → writer.new ≡ writer.old) }
     ensures calls { calls_of reader.new ≤ most_calls }
+    ensures waits { IfSome (R.remaining (inner_of reader.old)) (λ bytes. WaitsFor callers.now day bytes (calls_of reader.new)) }
 {
     let mut buf = [0u8; LONGEST_HEAD];
     let mut headers = [EMPTY_HEADER_SPAN; MOST_FIELDS];
