@@ -1,17 +1,13 @@
 -- The groups of a file and their names.
-use Rattle.std.proofs.Common.{◌≡◌, ℕ, Bool, true, false, not, Option, Some, None, List, [], ◌∷◌, map, refl, sym, ap, subst, ◌∙◌, inl, inr}
-use Rattle.std.specs.Prelude.{◌↔◌, ◌||◌, IsTrue, Contains, is_some, option_map, codes, slice_get}
-use Rattle.std.specs.List.{list_any}
-use Rattle.std.specs.Str.{bytes_eq}
-use Rattle.std.proofs.lemmas.Bool.{true≢false, cond-true, cond-false}
+use Rattle.std.proofs.Common.{◌≡◌, ℕ, Bool, true, false, not, Option, Some, None, List, map, refl, sym, ap, subst, ◌∙◌, inl, inr}
+use Rattle.std.specs.Prelude.{◌↔◌, IsTrue, Contains, is_some, option_map, slice_get}
+use Rattle.std.proofs.lemmas.Bool.{true≢false}
 use Rattle.std.proofs.lemmas.Option.{none-some, same_Some, slice_get-map}
-use Rattle.ags_rows.specs.declared.code.Code.TheVariants.{Rule9, Rule18}
 use Rattle.ags_rows.specs.declared.rows.Group.{Group}
 use Rattle.ags_rows.specs.Collecting.{At}
 use Rattle.ags_rows.specs.Contents.{Contents, group_contents, contents_of, place_in}
-use Rattle.ags_dict.specs.Entries.{Entries, parent_of, is_dict}
+use Rattle.ags_dict.specs.Entries.{Entries, parent_of}
 use Rattle.ags_check.specs.Header.{HasGroup, LacksParentGroup}
-use Rattle.ags_check.specs.HeaderPhase.{unknown_code}
 use Rattle.ags_rows.proofs.AtPlaces.{contains_at, at_contained}
 use Rattle.ags_links.proofs.Heading.{placed, place_of}
 use Rattle.ags_check.proofs.HeaderRules.{has_place}

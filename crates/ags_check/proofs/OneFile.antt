@@ -7,7 +7,7 @@ use Rattle.ags_rows.proofs.Once.{one_grouping}
 use Rattle.ags_dict.specs.Entries.{Entries, extended}
 use Rattle.ags_links.specs.Steps.{IsGraphOf}
 use Rattle.ags_links.proofs.OneGraph.{one_graph}
-use Rattle.ags_check.specs.Findings.{CheckedFile, IsClean, file_of}
+use Rattle.ags_check.specs.Findings.{CheckedFile, file_of}
 use Rattle.ags_check.specs.Laws.{OneCleanFile}
 use Rattle.ags_check.proofs.Whole.{clean_entries}
 

@@ -5,8 +5,8 @@ use Rattle.std.proofs.lemmas.Bool.{eqb-false}
 use Rattle.ags_rows.specs.declared.finding.Finding.{Finding}
 use Rattle.ags_rows.specs.declared.rows.Group.{Group}
 use Rattle.ags_rows.specs.Contents.{Contents, contents_of}
-use Rattle.ags_rows.specs.Findings.{FileParts, phases, AreExactly, FirstFound, RowFindings, FileGroups}
-use Rattle.ags_rows.proofs.Collecting.{found_early, found_late}
+use Rattle.ags_rows.specs.Findings.{FileParts, phases, AreExactly, FirstFound, FileGroups}
+use Rattle.ags_rows.proofs.Collecting.{found_late}
 use Rattle.ags_rows.proofs.Once.{same_file, one_first_found}
 use Rattle.ags_dict.specs.declared.entries.GroupEntry.{GroupEntry}
 use Rattle.ags_dict.specs.declared.entries.HeadingEntry.{HeadingEntry}

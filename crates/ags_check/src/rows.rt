@@ -4,7 +4,7 @@ ghost use Rattle.std.specs.Prelude.{◌≡◌, ◌<◌, ◌+◌, ◌^◌, IfOk, 
 ghost use Rattle.ags_rows.specs.Findings.{AreExactly};
 ghost use Rattle.ags_rows.specs.Collecting.{Adds, OneOf, Among};
 ghost use Rattle.ags_rows.specs.Contents.{group_contents, contents_of, fields_of};
-ghost use Rattle.ags_links.specs.DataRows.{data_rows, row_in, IsDataRow};
+ghost use Rattle.ags_links.specs.DataRows.{row_in, IsDataRow};
 ghost use Rattle.ags_links.specs.Indexing.{rows_in};
 ghost use Rattle.ags_check.specs.Columns.{RowsStand};
 ghost use Rattle.ags_check.specs.RowRules.{entry_in};

@@ -1,6 +1,6 @@
 //! Numbered rows and the steps between them.
 
-ghost use Rattle.std.specs.Prelude.{◌≡◌, ◌<◌, ◌↔◌, ◌^◌, ◌++◌, IfOk, IfSome, IsSome, OnOk, length, map};
+ghost use Rattle.std.specs.Prelude.{◌≡◌, ◌<◌, ◌↔◌, ◌^◌, ◌++◌, IfOk, IfSome, IsSome, OnOk, map};
 
 use crate::index::Index;
 use crate::steps::targets;

@@ -1,8 +1,7 @@
 //! The rows of the parent groups by their entries under link headings. Groups with one parent group and the same
 //! link headings share one look-up, so that the rows of a parent group are not read again for each of them.
 
-ghost use Rattle.std.specs.Prelude.{◌≡◌, ◌≢◌, ◌<◌, ◌≤◌, ◌^◌, ◌↔◌, [], ℕ, List, Contains, IfOk, All, Some, length, map, filter};
-ghost use Rattle.std.specs.List.Sorted.{IsStrictlyIncreasing};
+ghost use Rattle.std.specs.Prelude.{◌≡◌, ◌≢◌, ◌<◌, ◌^◌, ◌↔◌, [], ℕ, List, Contains, IfOk, All, Some, length, map, filter};
 ghost use Rattle.ags_rows.specs.Contents.{place_in};
 ghost use Rattle.ags_links.specs.Families.{HasText, HasGroupName, HasEntries, HasAmong, HasFamily, IsFamily, AreFamilies, AreKept, is_one_of};
 ghost use Rattle.ags_links.specs.Lookups.{Finds, found};

@@ -1,6 +1,6 @@
 //! Lists of entries as one text, for the index.
 
-ghost use Rattle.std.specs.Prelude.{◌≡◌, ◌==◌, ◌<◌, ◌+◌, ◌^◌, ◌++◌, ◌∷◌, ◌↔◌, ℕ, List, [], Contains, IfOk, OnOk, IfSome, IsTrue, Some, map, length, position};
+ghost use Rattle.std.specs.Prelude.{◌≡◌, ◌==◌, ◌<◌, ◌+◌, ◌^◌, ◌++◌, ◌∷◌, ◌↔◌, ℕ, List, Contains, IfOk, OnOk, IfSome, IsTrue, Some, map, length, position};
 ghost use Rattle.ags_rows.specs.Contents.{field_at, place_in};
 ghost use Rattle.ags_rows.specs.Parts.{parts_at};
 ghost use Rattle.ags_links.specs.KeyTexts.{byte_text, ended_text, key_text};

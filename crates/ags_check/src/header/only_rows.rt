@@ -1,6 +1,6 @@
 //! What the DATA rows of PROJ and TRAN break, which have one row alone.
 
-ghost use Rattle.std.specs.Prelude.{◌≡◌, OnOk};
+ghost use Rattle.std.specs.Prelude.{OnOk};
 ghost use Rattle.ags_rows.specs.Collecting.{Adds};
 ghost use Rattle.ags_rows.specs.Contents.{group_contents};
 ghost use Rattle.ags_check.specs.Header.{IsFurtherRow, IsLongSign};

@@ -1,6 +1,6 @@
 //! The abbreviations of a file, looked up by heading and text together.
 
-ghost use Rattle.std.specs.Prelude.{◌≡◌, ◌==◌, ◌<◌, ◌+◌, ◌^◌, ◌||◌, ℕ, List, IfOk, OnOk, IfSome, length, map, position};
+ghost use Rattle.std.specs.Prelude.{◌≡◌, ◌<◌, ◌+◌, ◌||◌, ℕ, List, IfOk, OnOk, map};
 ghost use Rattle.ags_check.specs.CodeLists.{pair_texts, has_pair, is_pair, HasPairs, lacks_part};
 
 use ags_links::find_byte;

@@ -1,7 +1,7 @@
 //! What a group says of its headings.
 
 ghost use Rattle.std.specs.Prelude.{◌≡◌, ◌↔◌, IsTrue, IfOk, map};
-ghost use Rattle.ags_rows.specs.Contents.{field_at, group_contents};
+ghost use Rattle.ags_rows.specs.Contents.{group_contents};
 ghost use Rattle.ags_check.specs.Columns.{IsColumn, AreColumns};
 
 use ags_cells::CellType;

@@ -1,6 +1,6 @@
 //! What the entries of a row break.
 
-ghost use Rattle.std.specs.Prelude.{◌≡◌, ◌↔◌, ◌∷◌, [], ℕ, List, All, IsTrue, OnOk};
+ghost use Rattle.std.specs.Prelude.{◌↔◌, ℕ, List, All, IsTrue, OnOk};
 ghost use Rattle.ags_rows.specs.Collecting.{Adds, OneOf};
 ghost use Rattle.ags_rows.specs.Contents.{Contents, group_contents};
 ghost use Rattle.ags_check.specs.RowRules.{IsUnfit, IsUnlistedUnitEntry, IsUnlistedAbbreviationEntry, IsUnlistedTypeEntry, entry_in};
