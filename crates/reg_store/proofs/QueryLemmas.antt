@@ -4,18 +4,19 @@ use Rattle.sqlite.specs.Order.{Row}
 use Rattle.sqlite.specs.declared.error.Error.{Error}
 use Rattle.sqlite_schema.specs.declared.command.Returning.{Returning}
 use Rattle.sqlite.specs.Clock.{timed}
-use Rattle.sqlite.specs.Listing.{understood}
+use Rattle.sqlite.specs.Effect.{Database}
+use Rattle.sqlite.specs.Listing.{understood, reads_listing, IsSourceOf}
 use Rattle.sqlite.specs.State.{State, Shown, ShowsRows, IsUnchanged, HasCleanDisk, Survives, CommitsShowing, FailsToQuery, IsNotRun, FailsToShow}
 use Rattle.sqlite.proofs.StateLemmas.{survives_weaker, survives_then}
-use Rattle.sqlite.proofs.Callers.{IsPlain, never_commits}
+use Rattle.sqlite.proofs.Callers.{IsPlain, never_commits, unchanged_then}
 use Rattle.reg_store.specs.Tables.{register_schema}
 use Rattle.reg_store.specs.Quiet.{IsAsBefore, IsQuiet, clean_before}
 
-plain_at : (sql : List ℕ) (s : State) → IsPlain (understood register_schema sql) → s.now.schema ≡ register_schema → IsPlain (understood s.now.schema sql)
+pub plain_at : (sql : List ℕ) (s : State) → IsPlain (understood register_schema sql) → s.now.schema ≡ register_schema → IsPlain (understood s.now.schema sql)
 plain_at sql s plain has = subst (λ k. IsPlain (understood k sql)) (sym has) plain
 
 -- a query that fails leaves what was committed, where that was all
-fails_keeps : (sql : List ℕ) (params : Row) (old new : State) (e : Error) → (IsTrue old.is_open → old.committed ≡ old.now) → IsTrue new.is_open → FailsToQuery sql params old new e → IsAsBefore old new
+pub fails_keeps : (sql : List ℕ) (params : Row) (old new : State) (e : Error) → (IsTrue old.is_open → old.committed ≡ old.now) → IsTrue new.is_open → FailsToQuery sql params old new e → IsAsBefore old new
 unfolding FailsToQuery IsNotRun
 fails_keeps sql params old new e settled is_open (inl (inl h)) = (h.1.0.was_open, h.1.0.now_is, h.1.0.committed_is)
 fails_keeps sql params old new e settled is_open (inl (inr h)) = let u = h.3.undone is_open in let was = h.3.was_open is_open in (was, u.0 ∙ settled was, u.1)
@@ -31,6 +32,20 @@ unfolding Shown
 shown_same sql old new params rows plain h =
     let none : h.0.returning ≡ None = (subst IsPlain h.1.is plain).0 in
     (subst (ShowsRows old new sql h.0 (timed params h.0.formats h.1.now) rows) none h.2).3
+
+-- what is shown later of a connection that did not change is shown of it from the start
+pub shown_from : (sql : List ℕ) (params : Row) (old mid new : State) (rows : List Row) → IsPlain (understood old.now.schema sql) → IsUnchanged old mid → Shown sql params mid new rows → Shown sql params old new rows
+unfolding Shown
+shown_from sql params old mid new rows plain same h =
+    let has = same.0.now_is in
+    let none : h.0.returning ≡ None = (subst IsPlain h.1.is (subst (λ (d : Database). IsPlain (understood d.schema sql)) (sym has) plain)).0 in
+    let full = timed params h.0.formats h.1.now in
+    let it = subst (ShowsRows mid new sql h.0 full rows) none h.2 in
+    let source = subst (λ (d : Database). IsSourceOf (reads_listing d.schema sql) d it.0) has it.1 in (
+      h.0,
+      record { is = subst (λ (d : Database). understood d.schema sql ≡ Ok h.0) has h.1.is; whole = h.1.whole; given = h.1.given; now = h.1.now },
+      subst (ShowsRows old new sql h.0 full rows) (sym none) (it.0, source, it.2, unchanged_then old mid new same it.3),
+    )
 
 module _ (sql : List ℕ) (plain : IsPlain (understood register_schema sql)) where
   pub asks_quietly : (old new : State) (params : Row) → (HasCleanDisk old → old.now.schema ≡ register_schema) → Survives old new (CommitsShowing sql params old) → Survives old new (λ _. ⊥)

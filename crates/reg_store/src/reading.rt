@@ -13,7 +13,6 @@ ghost use Rattle.reg_store.specs.Rows.{deposit_table, given_deposit, line_table,
 ghost use Rattle.reg_store.specs.declared.keep.KeptRow.{KeptRow};
 ghost use Rattle.sqlite.specs.Tree.{IsAscending};
 ghost use Rattle.ags_links.specs.Steps.{IsBefore};
-ghost use Rattle.reg_store.specs.DataCount.{is_data};
 ghost use Rattle.reg_store.specs.Methods.{HasRows, HasSteps};
 ghost use Rattle.reg_store.specs.Fit.{IsNamed};
 ghost use Rattle.reg_store.specs.Shows.{Holds, head_row};
@@ -21,9 +20,10 @@ ghost use Rattle.reg_store.specs.Register.{deposit_rows, has_number, meta_column
 ghost use Rattle.reg_store.specs.Apart.{AreApart};
 ghost use Rattle.reg_store.specs.Finds.{is_equal};
 
+use crate::gathering::take_rows;
 use crate::keep::{KeepError, Kept, KeptHead, KeptRow};
 use crate::queries::{is_memory, query};
-use crate::readers::{read_deposit, read_head, read_lines, read_numbers, read_steps};
+use crate::readers::{DataCount, Lines, Steps, read_deposit, read_head, read_numbers};
 use ags_links::Graph;
 use sqlite::{Alter, Connection, Error, ErrorCode, Row, params};
 use std::alloc::Global;
@@ -217,8 +217,16 @@ pub(crate) fn find_lines<S: Alter>(
     ensures named { IfErr result (λ e. e ≢ KeepError.Full) }
     ensures quiet { IsQuiet (state S.Store conn.old) (state S.Store conn.new) (fails result) }
 {
-    match line_rows(conn, number) {
-        Ok(rows) => read_lines(alloc, &rows),
+    let mut lines = Lines {
+        lines: Vec::new(alloc),
+    };
+    match take_rows(
+        conn,
+        "SELECT seq, grp, kind, line FROM lines WHERE deposit = ?1 ORDER BY seq",
+        params![number],
+        &mut lines,
+    ) {
+        Ok(()) => Ok(lines.lines),
         Err(error) => Err(error),
     }
 }
@@ -252,32 +260,17 @@ pub(crate) fn find_steps<S: Alter>(
     ensures named { IfErr result (λ e. e ≢ KeepError.Full) }
     ensures quiet { IsQuiet (state S.Store conn.old) (state S.Store conn.new) (fails result) }
 {
-    match step_rows(conn, number) {
-        Ok(rows) => read_steps(alloc, &rows),
+    let mut steps = Steps {
+        steps: Vec::new(alloc),
+    };
+    match take_rows(
+        conn,
+        "SELECT child, target FROM steps WHERE deposit = ?1 ORDER BY child, target",
+        params![number],
+        &mut steps,
+    ) {
+        Ok(()) => Ok(steps.steps),
         Err(error) => Err(error),
-    }
-}
-
-fn count_data(rows: &[KeptRow]) -> usize
-    ensures { result ≡ length (filter is_data rows.now) }
-{
-    let mut count: usize = 0;
-    for row in rows {
-        if row.kind == 4 {
-            count += 1;
-        }
-    }
-    count
-}
-
-/// How many DATA rows there are.
-fn data_count(rows: &[KeptRow]) -> Result<u32, KeepError>
-    ensures named { IfErr result (λ e. e ≢ KeepError.Full) }
-    ensures count { IfOk result (λ n. n ≡ length (filter is_data rows.now)) }
-{
-    match u32::try_from(count_data(rows)) {
-        Ok(count) => Ok(count),
-        Err(_) => Err(KeepError::Store),
     }
 }
 
@@ -293,18 +286,20 @@ fn graph_of(rows: u32, steps: Vec<(u32, u32)>) -> Result<Graph, KeepError>
 }
 
 /// How many DATA rows are kept of a deposit.
-fn find_data<S: Alter>(
-    conn: &mut Connection<S>,
-    alloc: Global,
-    number: u32,
-) -> Result<u32, KeepError>
+fn find_data<S: Alter>(conn: &mut Connection<S>, number: u32) -> Result<u32, KeepError>
     requires idle { IsIdle (state S.Store conn.old) }
     ensures found { HasCleanDisk (state S.Store conn.new) → IfOk result (λ n. HasRows number (line_table (state S.Store conn.old).now.trees) n) }
     ensures named { IfErr result (λ e. e ≢ KeepError.Full) }
     ensures quiet { IsQuiet (state S.Store conn.old) (state S.Store conn.new) (fails result) }
 {
-    match find_lines(conn, alloc, number) {
-        Ok(lines) => data_count(lines.as_slice()),
+    let mut data = DataCount { count: 0 };
+    match take_rows(
+        conn,
+        "SELECT seq, grp, kind, line FROM lines WHERE deposit = ?1 ORDER BY seq",
+        params![number],
+        &mut data,
+    ) {
+        Ok(()) => Ok(data.count),
         Err(error) => Err(error),
     }
 }
@@ -322,7 +317,7 @@ pub(crate) fn find_graph<S: Alter>(
     ensures named { IfErr result (λ e. e ≢ KeepError.Full) }
     ensures quiet { IsQuiet (state S.Store conn.old) (state S.Store conn.new) (fails result) }
 {
-    let rows = find_data(conn, alloc, number)?;
+    let rows = find_data(conn, number)?;
     match find_steps(conn, alloc, number) {
         Ok(steps) => graph_of(rows, steps),
         Err(error) => Err(error),
