@@ -10,7 +10,7 @@ use Rattle.sqlite.specs.State.{State, Shown, ShowsRows, IsUnchanged, HasCleanDis
 use Rattle.sqlite.proofs.StateLemmas.{survives_weaker, survives_then}
 use Rattle.sqlite.proofs.Callers.{IsPlain, never_commits, unchanged_then}
 use Rattle.reg_store.specs.Tables.{register_schema}
-use Rattle.reg_store.specs.Quiet.{IsAsBefore, IsQuiet, clean_before}
+use Rattle.reg_store.specs.Quiet.{IsAsBefore, IsStill, clean_before}
 
 pub plain_at : (sql : List ℕ) (s : State) → IsPlain (understood register_schema sql) → s.now.schema ≡ register_schema → IsPlain (understood s.now.schema sql)
 plain_at sql s plain has = subst (λ k. IsPlain (understood k sql)) (sym has) plain
@@ -71,7 +71,7 @@ both_open : {a b : Bool} → IsTrue a → IsTrue b → a ≡ b
 both_open p q = p ∙ sym q
 
 -- the query did not fail, or the connection is still open
-pub ok_quiet : (old new : State) → new.in_transaction ≡ false → (HasCleanDisk new → IsTrue new.is_open) → (HasCleanDisk new → IsTrue new.is_open → IsAsBefore old new) → Survives old new (λ _. ⊥) → IsQuiet old new false
+pub ok_quiet : (old new : State) → new.in_transaction ≡ false → (HasCleanDisk new → IsTrue new.is_open) → (HasCleanDisk new → IsTrue new.is_open → IsAsBefore old new) → Survives old new (λ _. ⊥) → IsStill old new false
 ok_quiet old new idle is_open stays survives = record {
   idle = idle;
   is_open = λ clean _. both_open (is_open clean) (stays clean (is_open clean)).0;
@@ -80,7 +80,7 @@ ok_quiet old new idle is_open stays survives = record {
 }
 
 -- the connection is known to be open after it: nothing changed
-pub open_quiet : (old mid new : State) → new.in_transaction ≡ false → (HasCleanDisk mid → IsTrue mid.is_open → IsAsBefore old mid) → Survives old mid (λ _. ⊥) → (HasCleanDisk new → IsUnchanged mid new) → Survives mid new (λ _. ⊥) → IsQuiet old new false
+pub open_quiet : (old mid new : State) → new.in_transaction ≡ false → (HasCleanDisk mid → IsTrue mid.is_open → IsAsBefore old mid) → Survives old mid (λ _. ⊥) → (HasCleanDisk new → IsUnchanged mid new) → Survives mid new (λ _. ⊥) → IsStill old new false
 open_quiet old mid new idle stays survives unchanged probed = record {
   idle = idle;
   is_open = λ clean _. both_open (unchanged clean).0.is_open (stays (clean_before mid new probed clean) (unchanged clean).0.was_open).0;
@@ -89,8 +89,8 @@ open_quiet old mid new idle stays survives unchanged probed = record {
 }
 
 -- the store failed
-pub failed_quiet : (old new : State) → new.in_transaction ≡ false → Survives old new (λ _. ⊥) → IsQuiet old new true
+pub failed_quiet : (old new : State) → new.in_transaction ≡ false → Survives old new (λ _. ⊥) → IsStill old new true
 failed_quiet old new idle survives = record { idle = idle; is_open = λ clean e. absurd cc; same = λ clean e. absurd cc; survives = survives }
 
-pub failed_then : (old mid new : State) → new.in_transaction ≡ false → Survives old mid (λ _. ⊥) → Survives mid new (λ _. ⊥) → IsQuiet old new true
+pub failed_then : (old mid new : State) → new.in_transaction ≡ false → Survives old mid (λ _. ⊥) → Survives mid new (λ _. ⊥) → IsStill old new true
 failed_then old mid new idle one two = failed_quiet old new idle (survives_then old mid new _ _ (λ _. ⊥) (λ _ db none. none) (λ _ db none. none) one two)

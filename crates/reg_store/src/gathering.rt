@@ -8,7 +8,7 @@ ghost use Rattle.sqlite.specs.Held.{state};
 ghost use Rattle.sqlite.specs.Given.{IsPlain};
 ghost use Rattle.sqlite.specs.Listing.{understood};
 ghost use Rattle.reg_store.specs.Tables.{register_schema};
-ghost use Rattle.reg_store.specs.Quiet.{IsAsBefore, IsIdle, IsQuiet};
+ghost use Rattle.reg_store.specs.Quiet.{IsAsBefore, IsIdle, IsStill};
 ghost use Rattle.reg_store.specs.Keep.{fails};
 
 use crate::keep::KeepError;
@@ -58,7 +58,7 @@ fn take_each<S: Alter, G: Gather>(
 
 /// Takes each row that a query of the register shows. Want of memory is answered only where the connection is known to be open.
 #[tactic(auto, using(crate::proofs::QueryLemmas::ok_quiet, crate::proofs::QueryLemmas::open_quiet, crate::proofs::QueryLemmas::failed_quiet, crate::proofs::QueryLemmas::failed_then, crate::specs::Quiet::quiet_read))]
-pub(crate) fn take_rows<S: Alter, G: Gather>(
+pub(crate) fn take_shown<S: Alter, G: Gather>(
     conn: &mut Connection<S>,
     sql: &str,
     params: &[ValueRef<'_>],
@@ -69,7 +69,7 @@ pub(crate) fn take_rows<S: Alter, G: Gather>(
     requires empty { G.holds into.old [] }
     ensures shown { HasCleanDisk (state S.Store conn.new) → OnOk result ((rows : List Values) × Shown sql.now (bound params.now) (state S.Store conn.old) (state S.Store conn.new) rows × G.holds into.new rows) }
     ensures named { IfErr result (λ e. e ≢ KeepError.Full) }
-    ensures quiet { IsQuiet (state S.Store conn.old) (state S.Store conn.new) (fails result) }
+    ensures quiet { IsStill (state S.Store conn.old) (state S.Store conn.new) (fails result) }
 {
     match take_each(conn, sql, params, into) {
         Ok(taken) => taken,

@@ -20,7 +20,7 @@ use crate::creating::make_register;
 use crate::examining::examine;
 use crate::keep::KeepError;
 use crate::queries::is_memory;
-use crate::schema::{is_blank, is_register};
+use crate::schema::{is_register, is_vacant};
 use crate::sql::SqlKeep;
 use ags_dict::{DictError, Dictionary};
 use ags_rows::READABLE;
@@ -78,7 +78,7 @@ impl<S: Alter> SqlKeep<S> {
         ensures same { IfErr result (λ e. e.0 ≢ CreateError.Store → HasCleanDisk (state S.Store e.1)
             → ((state S.Store e.1).now ≡ (state S.Store connection).now) × ((state S.Store e.1).committed ≡ (state S.Store connection).committed)) }
     {
-        if !is_blank(connection.schema()) {
+        if !is_vacant(connection.schema()) {
             return Err((CreateError::NotEmpty, connection));
         }
         if !connection.is_autocommit() {

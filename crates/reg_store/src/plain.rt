@@ -173,7 +173,11 @@ fn recheck<'k>(
 }
 
 /// The rows of a deposit's file.
-fn rows_of(alloc: Global, dictionary: &Dictionary, kept: &Kept) -> Result<Vec<KeptRow>, AllocError>
+fn checked_rows(
+    alloc: Global,
+    dictionary: &Dictionary,
+    kept: &Kept,
+) -> Result<Vec<KeptRow>, AllocError>
     requires { IsFit dictionary.now (deposit_of kept.now) }
     ensures { IfOk result (λ rows. (file : CheckedFile) → IsFileOf dictionary.now (deposit_of kept.now) file → rows.items ≡ rows_in file.groups) }
 {
@@ -182,7 +186,7 @@ fn rows_of(alloc: Global, dictionary: &Dictionary, kept: &Kept) -> Result<Vec<Ke
 }
 
 /// The steps between the DATA rows of a deposit's file.
-fn steps_of(alloc: Global, dictionary: &Dictionary, kept: &Kept) -> Result<Graph, AllocError>
+fn checked_steps(alloc: Global, dictionary: &Dictionary, kept: &Kept) -> Result<Graph, AllocError>
     requires { IsFit dictionary.now (deposit_of kept.now) }
     ensures { IfOk result (λ graph. (file : CheckedFile) → IsFileOf dictionary.now (deposit_of kept.now) file → graph ≡ file.graph) }
 {
@@ -250,12 +254,12 @@ impl Keep for PlainKeep {
     }
 
     fn rows(&mut self, n: u32) -> Result<Vec<KeptRow>, KeepError> {
-        let rows = rows_of(self.alloc, &self.dictionary, &self.kept[n as usize - 1])?;
+        let rows = checked_rows(self.alloc, &self.dictionary, &self.kept[n as usize - 1])?;
         Ok(rows)
     }
 
     fn steps(&mut self, n: u32) -> Result<Graph, KeepError> {
-        let graph = steps_of(self.alloc, &self.dictionary, &self.kept[n as usize - 1])?;
+        let graph = checked_steps(self.alloc, &self.dictionary, &self.kept[n as usize - 1])?;
         Ok(graph)
     }
 

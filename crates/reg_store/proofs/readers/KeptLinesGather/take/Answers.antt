@@ -1,6 +1,6 @@
 use Rattle.std.proofs.Common.{rules, ◌≡◌, ◌++◌, ◌∷◌, [], length}
 use Rattle.reg_store.proofs.ReadersLemmas.{line_more}
-use Rattle.reg_store.proofs.readers.LinesGather.take.Goals as goal
+use Rattle.reg_store.proofs.readers.KeptLinesGather.take.Goals as goal
 
 pub returns-clause-taken : goal.returns-clause-taken
 returns-clause-taken c rows before =
