@@ -25,14 +25,14 @@ use Rattle.reg_store.specs.declared.keep.KeepError.{KeepError}
 use Rattle.reg_store.specs.declared.keep.KeptRow.{KeptRow}
 use Rattle.reg_store.specs.Deposit.{Deposit}
 use Rattle.reg_store.specs.Fit.{IsFileOf, IsNamed, kept_rows}
-use Rattle.reg_store.specs.Rows.{columns_3, deposit_table, given_deposit, line_table, step_table, place_rows, step_pair, rows_of}
+use Rattle.reg_store.specs.Rows.{columns_3, deposit_table, given_deposit, line_table, step_table, placed_rows, step_pair, rows_under}
 use Rattle.reg_store.specs.Tables.{register_schema}
-use Rattle.reg_store.specs.Register.{deposit_rows, has_number, meta_columns, number_in, IsRegister}
+use Rattle.reg_store.specs.Register.{deposit_rows, has_number, meta_columns, integer_in, IsRegister}
 use Rattle.reg_store.specs.RegisterLaws.{rows-length}
 use Rattle.reg_store.specs.declared.adopting.AdoptError.{AdoptError}
 use Rattle.reg_store.specs.declared.adopting.AdoptError.TheVariants.{NotRegister, Version, Store, NoMemory}
 use Rattle.reg_store.specs.Formats.{HasFormat, IsFormatRow}
-use Rattle.reg_store.specs.Adoption.{Adopts, Finds, MetaOf, ReadsMeta}
+use Rattle.reg_store.specs.Adoption.{Adopts, CountsDeposits, MetaOf, ReadsMeta}
 use Rattle.reg_store.proofs.RowsLemmas.{numbers_long}
 use Rattle.reg_store.specs.Adopts.{id_of, number_rows}
 use Rattle.reg_store.specs.Whole.{AreWhole, Counts, HasMeta, HoldsBody, IsAlone, IsWhole, Tests, adopts_whole, of_all, whole_at}
@@ -65,15 +65,15 @@ tests_later (Ok is) A B old mid same one two = tests_both is A (B old) one (subs
 tests_later (Err e) A B old mid same one two = tt
 
 pub body_tests : (r : Result Bool KeepError) (db : Database) (dictionary : Entries) (n : ℕ) (d : Deposit) (file : CheckedFile) → IsFileOf dictionary d file → (lines : List KeptRow) (steps : List (ℕ × ℕ)) → lines ≡ kept_rows file.groups → steps ≡ file.graph.steps
-    → IfOk r (λ is. Tests is (IsPermutation (place_rows 0 lines) (rows_of n (line_table db.trees)) × IsPermutation (map step_pair steps) (rows_of n (step_table db.trees)))) → IfOk r (λ is. Tests is (HoldsBody db dictionary n d))
+    → IfOk r (λ is. Tests is (IsPermutation (placed_rows 0 lines) (rows_under n (line_table db.trees)) × IsPermutation (map step_pair steps) (rows_under n (step_table db.trees)))) → IfOk r (λ is. Tests is (HoldsBody db dictionary n d))
 body_tests (Err e) db dictionary n d file its lines steps lines_are steps_are test = tt
 body_tests (Ok is) db dictionary n d file its lines steps lines_are steps_are test = tests_as is _ (HoldsBody db dictionary n d) there back test
   where
     Lines : List KeptRow → Type 0
-    Lines all = IsPermutation (place_rows 0 all) (rows_of n (line_table db.trees))
+    Lines all = IsPermutation (placed_rows 0 all) (rows_under n (line_table db.trees))
 
     Steps : List (ℕ × ℕ) → Type 0
-    Steps all = IsPermutation (map step_pair all) (rows_of n (step_table db.trees))
+    Steps all = IsPermutation (map step_pair all) (rows_under n (step_table db.trees))
 
     there : Lines lines × Steps steps → HoldsBody db dictionary n d
     there both = (file, its, record { lines = subst Lines lines_are both.0; steps = subst Steps steps_are both.1 })
@@ -85,7 +85,7 @@ body_tests (Ok is) db dictionary n d file its lines steps lines_are steps_are te
 
 -- a row of deposits is that of one deposit
 abbrev of_row : Row → Deposit
-of_row c = record { firm = bytes (column c 1); project = bytes (column c 2); embargo = number_in (column c 3); bytes = bytes (column c 4) }
+of_row c = record { firm = bytes (column c 1); project = bytes (column c 2); embargo = integer_in (column c 3); bytes = bytes (column c 4) }
 
 pub whole_tests : (r : Result Bool KeepError) (db mid : Database) (dictionary : Entries) (n : ℕ) (d : Deposit) (rows : List Row) → mid ≡ db → IsPermutation rows (filter (has_number n) (deposit_table db.trees)) → rows ≡ given_deposit n d ∷ [] → IsNamed d
     → IfOk r (λ is. Tests is (HoldsBody mid dictionary n d × IsAlone mid d)) → IfOk r (λ is. Tests is (IsWhole db dictionary n))
@@ -180,10 +180,10 @@ register_meta db dictionary list r = record { text = r.text; short = r.short; re
 
 -- ---- a register is found
 
-pub finds_whole : (db : Database) (dictionary : Entries) (count : ℕ) → db.schema ≡ register_schema → IsDatabase db → HasMeta db dictionary → Counts db (Some count) → ∥ AreWhole db dictionary count ∥₁ → Finds db dictionary (Some count)
+pub finds_whole : (db : Database) (dictionary : Entries) (count : ℕ) → db.schema ≡ register_schema → IsDatabase db → HasMeta db dictionary → Counts db (Some count) → ∥ AreWhole db dictionary count ∥₁ → CountsDeposits db dictionary (Some count)
 finds_whole db dictionary count schema sound meta counts all = ∥∥₁_map all (λ whole. adopts_whole db dictionary count schema sound meta counts whole)
 
-pub finds_none : (db : Database) (dictionary : Entries) (count : ℕ) → Counts db (Some count) → (AreWhole db dictionary count → ⊥) → Finds db dictionary None
+pub finds_none : (db : Database) (dictionary : Entries) (count : ℕ) → Counts db (Some count) → (AreWhole db dictionary count → ⊥) → CountsDeposits db dictionary None
 finds_none db dictionary count counts none list r =
     let ids = IsPermutation-map id_of _ _ r.deposits in
     let rows = length_permutation _ _ counts.1 ∙ numbers_long 1 count in
@@ -212,7 +212,7 @@ two_rows text row (suc (suc k), low, is) = absurd (omega (arith, low))
 
 one_number : (text : List ℕ) (n : ℤ) (row : Row) → (row ≡ Words (codes "dictionary") ∷ Int (pos 0) ∷ Bytes text ∷ []) ⊎ (row ≡ Words (codes "format") ∷ Int (pos 1) ∷ Bytes [] ∷ []) → IsFormatRow n row → n ≡ pos 1
 one_number text n row (inl e) is = absurd (let names : codes "format" ≡ codes "dictionary" = ap (λ (r : Row). bytes (column r 0)) (sym is.1 ∙ e) in cc)
-one_number text n row (inr e) is = ap (λ (r : Row). number_in (column r 1)) (sym is.1 ∙ e)
+one_number text n row (inr e) is = ap (λ (r : Row). integer_in (column r 1)) (sym is.1 ∙ e)
 
 pub one_format_in : (db : Database) (dictionary : Entries) → HasMeta db dictionary → (n : ℤ) → HasFormat db n → n ≡ pos 1
 one_format_in db dictionary meta n has = one_number meta.text n has.1.0 (two_rows meta.text has.1.0 (Contains-permutation _ _ _ (IsPermutation-sym _ _ meta.meta) has.1.1)) has.1.2
@@ -230,6 +230,6 @@ one_meta db a b x y =
     let text : x.text ≡ y.text = its_text x.text y.text (two_rows y.text _ there) in
     one_dictionary y.text a b (subst (λ (t : List ℕ). IsDictionary t a) text x.reads) y.reads
 
-pub none_adopts : (db : Database) (dictionary : Entries) → HasMeta db dictionary → Finds db dictionary None → Adopts db (Err NotRegister)
+pub none_adopts : (db : Database) (dictionary : Entries) → HasMeta db dictionary → CountsDeposits db dictionary None → Adopts db (Err NotRegister)
 none_adopts db dictionary meta none =
     (one_format_in db dictionary meta, λ other list r. none list (subst (λ (d : Entries). IsRegister db d list) (one_meta db other dictionary (register_meta db other list r) meta) r))

@@ -4,18 +4,19 @@ use Rattle.sqlite.specs.Order.{Row}
 use Rattle.sqlite.specs.declared.error.Error.{Error}
 use Rattle.sqlite_schema.specs.declared.command.Returning.{Returning}
 use Rattle.sqlite.specs.Clock.{timed}
-use Rattle.sqlite.specs.Listing.{understood}
+use Rattle.sqlite.specs.Effect.{Database}
+use Rattle.sqlite.specs.Listing.{understood, reads_listing, IsSourceOf}
 use Rattle.sqlite.specs.State.{State, Shown, ShowsRows, IsUnchanged, HasCleanDisk, Survives, CommitsShowing, FailsToQuery, IsNotRun, FailsToShow}
 use Rattle.sqlite.proofs.StateLemmas.{survives_weaker, survives_then}
-use Rattle.sqlite.proofs.Callers.{IsPlain, never_commits}
+use Rattle.sqlite.proofs.Callers.{IsPlain, never_commits, unchanged_then}
 use Rattle.reg_store.specs.Tables.{register_schema}
-use Rattle.reg_store.specs.Quiet.{IsAsBefore, IsQuiet, clean_before}
+use Rattle.reg_store.specs.Quiet.{IsAsBefore, IsStill, clean_before}
 
-plain_at : (sql : List ℕ) (s : State) → IsPlain (understood register_schema sql) → s.now.schema ≡ register_schema → IsPlain (understood s.now.schema sql)
+pub plain_at : (sql : List ℕ) (s : State) → IsPlain (understood register_schema sql) → s.now.schema ≡ register_schema → IsPlain (understood s.now.schema sql)
 plain_at sql s plain has = subst (λ k. IsPlain (understood k sql)) (sym has) plain
 
 -- a query that fails leaves what was committed, where that was all
-fails_keeps : (sql : List ℕ) (params : Row) (old new : State) (e : Error) → (IsTrue old.is_open → old.committed ≡ old.now) → IsTrue new.is_open → FailsToQuery sql params old new e → IsAsBefore old new
+pub fails_keeps : (sql : List ℕ) (params : Row) (old new : State) (e : Error) → (IsTrue old.is_open → old.committed ≡ old.now) → IsTrue new.is_open → FailsToQuery sql params old new e → IsAsBefore old new
 unfolding FailsToQuery IsNotRun
 fails_keeps sql params old new e settled is_open (inl (inl h)) = (h.1.0.was_open, h.1.0.now_is, h.1.0.committed_is)
 fails_keeps sql params old new e settled is_open (inl (inr h)) = let u = h.3.undone is_open in let was = h.3.was_open is_open in (was, u.0 ∙ settled was, u.1)
@@ -31,6 +32,20 @@ unfolding Shown
 shown_same sql old new params rows plain h =
     let none : h.0.returning ≡ None = (subst IsPlain h.1.is plain).0 in
     (subst (ShowsRows old new sql h.0 (timed params h.0.formats h.1.now) rows) none h.2).3
+
+-- what is shown later of a connection that did not change is shown of it from the start
+pub shown_from : (sql : List ℕ) (params : Row) (old mid new : State) (rows : List Row) → IsPlain (understood old.now.schema sql) → IsUnchanged old mid → Shown sql params mid new rows → Shown sql params old new rows
+unfolding Shown
+shown_from sql params old mid new rows plain same h =
+    let has = same.0.now_is in
+    let none : h.0.returning ≡ None = (subst IsPlain h.1.is (subst (λ (d : Database). IsPlain (understood d.schema sql)) (sym has) plain)).0 in
+    let full = timed params h.0.formats h.1.now in
+    let it = subst (ShowsRows mid new sql h.0 full rows) none h.2 in
+    let source = subst (λ (d : Database). IsSourceOf (reads_listing d.schema sql) d it.0) has it.1 in (
+      h.0,
+      record { is = subst (λ (d : Database). understood d.schema sql ≡ Ok h.0) has h.1.is; whole = h.1.whole; given = h.1.given; now = h.1.now },
+      subst (ShowsRows old new sql h.0 full rows) (sym none) (it.0, source, it.2, unchanged_then old mid new same it.3),
+    )
 
 module _ (sql : List ℕ) (plain : IsPlain (understood register_schema sql)) where
   pub asks_quietly : (old new : State) (params : Row) → (HasCleanDisk old → old.now.schema ≡ register_schema) → Survives old new (CommitsShowing sql params old) → Survives old new (λ _. ⊥)
@@ -56,7 +71,7 @@ both_open : {a b : Bool} → IsTrue a → IsTrue b → a ≡ b
 both_open p q = p ∙ sym q
 
 -- the query did not fail, or the connection is still open
-pub ok_quiet : (old new : State) → new.in_transaction ≡ false → (HasCleanDisk new → IsTrue new.is_open) → (HasCleanDisk new → IsTrue new.is_open → IsAsBefore old new) → Survives old new (λ _. ⊥) → IsQuiet old new false
+pub ok_quiet : (old new : State) → new.in_transaction ≡ false → (HasCleanDisk new → IsTrue new.is_open) → (HasCleanDisk new → IsTrue new.is_open → IsAsBefore old new) → Survives old new (λ _. ⊥) → IsStill old new false
 ok_quiet old new idle is_open stays survives = record {
   idle = idle;
   is_open = λ clean _. both_open (is_open clean) (stays clean (is_open clean)).0;
@@ -65,7 +80,7 @@ ok_quiet old new idle is_open stays survives = record {
 }
 
 -- the connection is known to be open after it: nothing changed
-pub open_quiet : (old mid new : State) → new.in_transaction ≡ false → (HasCleanDisk mid → IsTrue mid.is_open → IsAsBefore old mid) → Survives old mid (λ _. ⊥) → (HasCleanDisk new → IsUnchanged mid new) → Survives mid new (λ _. ⊥) → IsQuiet old new false
+pub open_quiet : (old mid new : State) → new.in_transaction ≡ false → (HasCleanDisk mid → IsTrue mid.is_open → IsAsBefore old mid) → Survives old mid (λ _. ⊥) → (HasCleanDisk new → IsUnchanged mid new) → Survives mid new (λ _. ⊥) → IsStill old new false
 open_quiet old mid new idle stays survives unchanged probed = record {
   idle = idle;
   is_open = λ clean _. both_open (unchanged clean).0.is_open (stays (clean_before mid new probed clean) (unchanged clean).0.was_open).0;
@@ -74,8 +89,8 @@ open_quiet old mid new idle stays survives unchanged probed = record {
 }
 
 -- the store failed
-pub failed_quiet : (old new : State) → new.in_transaction ≡ false → Survives old new (λ _. ⊥) → IsQuiet old new true
+pub failed_quiet : (old new : State) → new.in_transaction ≡ false → Survives old new (λ _. ⊥) → IsStill old new true
 failed_quiet old new idle survives = record { idle = idle; is_open = λ clean e. absurd cc; same = λ clean e. absurd cc; survives = survives }
 
-pub failed_then : (old mid new : State) → new.in_transaction ≡ false → Survives old mid (λ _. ⊥) → Survives mid new (λ _. ⊥) → IsQuiet old new true
+pub failed_then : (old mid new : State) → new.in_transaction ≡ false → Survives old mid (λ _. ⊥) → Survives mid new (λ _. ⊥) → IsStill old new true
 failed_then old mid new idle one two = failed_quiet old new idle (survives_then old mid new _ _ (λ _. ⊥) (λ _ db none. none) (λ _ db none. none) one two)

@@ -4,7 +4,7 @@ use Rattle.std.specs.Prelude.{codes}
 use Rattle.sqlite.specs.declared.types.Value.TheVariants.{Int, Text as Words}
 use Rattle.sqlite.specs.Order.{Row}
 use Rattle.reg_store.specs.declared.keep.KeptRow.{KeptRow}
-use Rattle.reg_store.specs.Rows.{place_row, place_rows}
+use Rattle.reg_store.specs.Rows.{placed_row, placed_rows}
 use Rattle.reg_store.specs.Adopts.{number_rows}
 use Rattle.reg_store.specs.Formats.{IsFormatRow}
 
@@ -43,17 +43,17 @@ map_at f [] k x d low is = absurd (omega (arith, low))
 map_at f (y ∷ xs) zero x d low is = ap f is
 map_at f (y ∷ xs) (suc k) x d low is = map_at f xs k x d (omega (arith, low)) is
 
-pub places_long : (at : ℕ) (lines : List KeptRow) → length (place_rows at lines) ≡ length lines
+pub places_long : (at : ℕ) (lines : List KeptRow) → length (placed_rows at lines) ≡ length lines
 places_long at [] = refl
 places_long at (line ∷ lines) = ap suc (places_long (at + 1) lines)
 
-pub place_at : (at : ℕ) (lines : List KeptRow) (k : ℕ) (line : KeptRow) → k < length lines → get_or lines k line ≡ line → get_or (place_rows at lines) k [] ≡ place_row (at + k) line
+pub place_at : (at : ℕ) (lines : List KeptRow) (k : ℕ) (line : KeptRow) → k < length lines → get_or lines k line ≡ line → get_or (placed_rows at lines) k [] ≡ placed_row (at + k) line
 place_at at [] k line low is = absurd (omega (arith, low))
-place_at at (x ∷ lines) zero line low is = let e : at ≡ at + 0 = omega arith in ap (place_row at) is ∙ ap (λ (n : ℕ). place_row n line) e
-place_at at (x ∷ lines) (suc k) line low is = let e : (at + 1) + k ≡ at + suc k = omega arith in place_at (at + 1) lines k line (omega (arith, low)) is ∙ ap (λ (n : ℕ). place_row n line) e
+place_at at (x ∷ lines) zero line low is = let e : at ≡ at + 0 = omega arith in ap (placed_row at) is ∙ ap (λ (n : ℕ). placed_row n line) e
+place_at at (x ∷ lines) (suc k) line low is = let e : (at + 1) + k ≡ at + suc k = omega arith in place_at (at + 1) lines k line (omega (arith, low)) is ∙ ap (λ (n : ℕ). placed_row n line) e
 
-pub place_first : (lines : List KeptRow) (k : ℕ) (line : KeptRow) → k < length lines → get_or lines k line ≡ line → get_or (place_rows 0 lines) k [] ≡ place_row k line
-place_first lines k line low is = let e : 0 + k ≡ k = omega arith in place_at 0 lines k line low is ∙ ap (λ (n : ℕ). place_row n line) e
+pub place_first : (lines : List KeptRow) (k : ℕ) (line : KeptRow) → k < length lines → get_or lines k line ≡ line → get_or (placed_rows 0 lines) k [] ≡ placed_row k line
+place_first lines k line low is = let e : 0 + k ≡ k = omega arith in place_at 0 lines k line low is ∙ ap (λ (n : ℕ). placed_row n line) e
 
 pub numbers_long : (m count : ℕ) → length (number_rows m count) ≡ count
 numbers_long m zero = refl

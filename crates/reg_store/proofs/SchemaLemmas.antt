@@ -21,7 +21,7 @@ use Rattle.sqlite_schema.specs.declared.schema.Action.TheVariants as acts
 use Rattle.sqlite_value.specs.declared.keys.Order.{Order}
 use Rattle.sqlite_value.specs.Keys.{plain}
 use Rattle.reg_store.specs.Tables as tables
-use Rattle.reg_store.specs.Schemas.{is_integer, is_text, is_blob, is_binary, is_null, is_no_action, is_nil, is_none, is_strict, is_integers, is_texts, is_blobs, is_rowids, is_unstamped, is_plain, is_one, is_two, is_three, is_bytes_order, of_columns, meta_keys, deposit_key, line_keys, step_keys, refers_by, is_of_deposits, refers_to_deposits, has_meta_columns, has_deposit_columns, has_line_columns, has_step_columns, is_meta, is_deposits, is_lines, is_steps, is_key, has_indexes, has_tables, is_register}
+use Rattle.reg_store.specs.Schemas.{is_integer, is_text, is_blob, is_binary, is_null, is_no_action, is_nil, is_none, is_strict, is_integers, is_texts, is_blobs, is_rowids, is_unstamped, is_plain, is_one, is_two, is_three, is_bytes_order, refers_by_column, meta_keys, deposit_key, has_line_keys, has_step_keys, refers_by, is_of_deposits, refers_to_deposits, has_meta_columns, has_deposit_columns, has_line_columns, has_step_columns, is_meta, is_deposits, is_lines, is_steps, is_key, has_indexes, has_tables, is_register}
 
 both : (a b : Bool) → (a && b) ≡ true → (a ≡ true) × (b ≡ true)
 both true b h = (refl, h)
@@ -196,7 +196,7 @@ step_columns (a ∷ b ∷ c ∷ d ∷ cs) h = absurd cc
 reference : (r : Reference) → is_of_deposits r ≡ true → r ≡ tables.of_a_deposit
 reference r h = go r.parent_columns refl h
   where
-    go : (cs : List (List ℕ)) → r.parent_columns ≡ cs → of_columns r cs ≡ true → r ≡ tables.of_a_deposit
+    go : (cs : List (List ℕ)) → r.parent_columns ≡ cs → refers_by_column r cs ≡ true → r ≡ tables.of_a_deposit
     go [] is h = absurd cc
     go (c ∷ d ∷ cs) is h = absurd cc
     go (c ∷ []) is h =
@@ -237,7 +237,7 @@ deposits t h = go t.key refl h
 lines : (t : Table) → is_lines t ≡ true → t ≡ tables.lines
 lines t h = go t.uniques refl h
   where
-    go : (us : List (List ℕ)) → t.uniques ≡ us → line_keys t us ≡ true → t ≡ tables.lines
+    go : (us : List (List ℕ)) → t.uniques ≡ us → has_line_keys t us ≡ true → t ≡ tables.lines
     go [] is h = absurd cc
     go (u ∷ v ∷ us) is h = absurd cc
     go (u ∷ []) is h =
@@ -247,7 +247,7 @@ lines t h = go t.uniques refl h
 steps : (t : Table) → is_steps t ≡ true → t ≡ tables.steps
 steps t h = go t.uniques refl h
   where
-    go : (us : List (List ℕ)) → t.uniques ≡ us → step_keys t us ≡ true → t ≡ tables.steps
+    go : (us : List (List ℕ)) → t.uniques ≡ us → has_step_keys t us ≡ true → t ≡ tables.steps
     go [] is h = absurd cc
     go (u ∷ v ∷ us) is h = absurd cc
     go (u ∷ []) is h =

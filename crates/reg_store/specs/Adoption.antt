@@ -56,9 +56,9 @@ MetaOf db (Err Store) = Unit {0}
 MetaOf db (Err NoMemory) = Unit {0}
 
 -- How many deposits the register of a dictionary has, where the tables are one.
-abbrev pub Finds : Database → Entries → Option ℕ → Type 0
-Finds db dictionary (Some count) = ∥ ((list : List Deposit) × IsRegister db dictionary list × (length list ≡ count)) ∥₁
-Finds db dictionary None = (list : List Deposit) → IsRegister db dictionary list → ⊥
+abbrev pub CountsDeposits : Database → Entries → Option ℕ → Type 0
+CountsDeposits db dictionary (Some count) = ∥ ((list : List Deposit) × IsRegister db dictionary list × (length list ≡ count)) ∥₁
+CountsDeposits db dictionary None = (list : List Deposit) → IsRegister db dictionary list → ⊥
 
 -- What a database is answered. The tables are a register of this dictionary and of so many deposits; or the row `format` has another number, whatever
 -- else is wrong; or it has no other number, and the tables are no register of any list.

@@ -17,10 +17,10 @@ use Rattle.reg_store.specs.declared.keep.KeptRow.{KeptRow}
 use Rattle.reg_store.specs.declared.keep.KeepError.{KeepError}
 use Rattle.reg_store.specs.Keep.{deposit_of, IsHeadOf}
 use Rattle.reg_store.specs.Deposit.{Deposit, numbers_from}
-use Rattle.reg_store.specs.Rows.{deposit_table, given_deposit, line_table, step_table, place_rows, rows_of, step_pair}
+use Rattle.reg_store.specs.Rows.{deposit_table, given_deposit, line_table, step_table, placed_rows, rows_under, step_pair}
 use Rattle.reg_store.specs.Fit.{IsFileOf, kept_rows}
-use Rattle.reg_store.specs.Register.{deposit_rows, deposits_in, has_number, number_in, lines_of, steps_of, Keeps, IsRegister}
-use Rattle.reg_store.specs.Shows.{Holds, row_of}
+use Rattle.reg_store.specs.Register.{deposit_rows, deposits_in, has_number, integer_in, file_lines, file_steps, KeepsRegister, IsRegister}
+use Rattle.reg_store.specs.Shows.{Holds, row_of_number}
 use Rattle.ags_links.proofs.OneGraph.{AreAscending, steps_ascend}
 use Rattle.ags_check.proofs.OneFile.{one_clean_file}
 use Rattle.ags_rows.specs.declared.rows.Group.{Group}
@@ -28,40 +28,40 @@ use Rattle.ags_rows.specs.Contents.{contents_of}
 use Rattle.ags_links.specs.DataRows.{data_rows}
 use Rattle.ags_links.specs.Walks.{Wiring}
 
-pub numbers_at : {X : Type 0} (items : X → List ℕ) {s : State} {dictionary : Entries} {count : ℕ} (project : List ℕ) (r : Result X KeepError) → ∥ Keeps s dictionary count ∥₁
+pub numbers_at : {X : Type 0} (items : X → List ℕ) {s : State} {dictionary : Entries} {count : ℕ} (project : List ℕ) (r : Result X KeepError) → ∥ KeepsRegister s dictionary count ∥₁
     → IfOk r (λ x. (list : List Deposit) → IsPermutation (deposit_rows 1 list) (deposit_table s.now.trees) → items x ≡ numbers_from 1 project list) → IfOk r (λ x. items x ≡ numbers_from 1 project (deposits_in s.committed.trees))
 numbers_at items {s} {dictionary} {count} project (Ok x) h ok =
-    let same : items x ≡ numbers_from 1 project (deposits_in s.committed.trees) = ∥∥₁_elim h (Prim.hlevel props) (λ (k : Keeps s dictionary count). ok (deposits_in s.committed.trees) k.register.deposits) in same
+    let same : items x ≡ numbers_from 1 project (deposits_in s.committed.trees) = ∥∥₁_elim h (Prim.hlevel props) (λ (k : KeepsRegister s dictionary count). ok (deposits_in s.committed.trees) k.register.deposits) in same
 numbers_at items project (Err e) h ok = tt
 
 abbrev pub HasHead : KeptHead → Deposit → Type 0
 HasHead head d = (head.firm ≡ d.firm) × (head.project ≡ d.project) × (head.embargo ≡ d.embargo)
 
-pub head_at : {s : State} {dictionary : Entries} {count : ℕ} (n : ℕ) (r : Result KeptHead KeepError) → ∥ Keeps s dictionary count ∥₁
+pub head_at : {s : State} {dictionary : Entries} {count : ℕ} (n : ℕ) (r : Result KeptHead KeepError) → ∥ KeepsRegister s dictionary count ∥₁
     → IfOk r (λ head. Holds (deposit_table s.now.trees) n (HasHead head)) → IfOk r (λ head. (d : Deposit) → slice_get (deposits_in s.committed.trees) (n - 1) ≡ Some d → IsHeadOf d head)
 head_at {s} {dictionary} {count} n (Ok head) h ok = λ d at.
-    let it : HasHead head d = ∥∥₁_elim h (Prim.hlevel props) (λ (k : Keeps s dictionary count). ok (deposits_in s.committed.trees) d k.register.deposits at) in
+    let it : HasHead head d = ∥∥₁_elim h (Prim.hlevel props) (λ (k : KeepsRegister s dictionary count). ok (deposits_in s.committed.trees) d k.register.deposits at) in
     record { firm = it.0; project = it.1; embargo = it.2 }
 head_at n (Err e) h ok = tt
 
 -- a row of deposits, by its columns alone
 abbrev of_row : Row → Deposit
-of_row c = record { firm = bytes (column c 1); project = bytes (column c 2); embargo = number_in (column c 3); bytes = bytes (column c 4) }
+of_row c = record { firm = bytes (column c 1); project = bytes (column c 2); embargo = integer_in (column c 3); bytes = bytes (column c 4) }
 
 pub slice_get_in : {X : Type 0} (xs : List X) (k : ℕ) → k < length xs → (x : X) × (slice_get xs k ≡ Some x)
 slice_get_in [] k low = absurd (omega (arith, low))
 slice_get_in (x ∷ xs) zero low = (x, refl)
 slice_get_in (x ∷ xs) (suc k) low = slice_get_in xs k (omega (arith, low))
 
-pub deposit_at : {s : State} {dictionary : Entries} {count : ℕ} (n : ℕ) (r : Result Kept KeepError) → 0 < n → n ≤ length (deposits_in s.committed.trees) → ∥ Keeps s dictionary count ∥₁
+pub deposit_read_at : {s : State} {dictionary : Entries} {count : ℕ} (n : ℕ) (r : Result Kept KeepError) → 0 < n → n ≤ length (deposits_in s.committed.trees) → ∥ KeepsRegister s dictionary count ∥₁
     → IfOk r (λ kept. filter (has_number n) (deposit_table s.now.trees) ≡ given_deposit n (deposit_of kept) ∷ []) → IfOk r (λ kept. slice_get (deposits_in s.committed.trees) (n - 1) ≡ Some (deposit_of kept))
-deposit_at {s} {dictionary} {count} n (Ok kept) low high h ok =
+deposit_read_at {s} {dictionary} {count} n (Ok kept) low high h ok =
     let list = deposits_in s.committed.trees in
     let d = slice_get_in list (n - 1) (omega (arith, low, high)) in
-    let row : (k : Keeps s dictionary count) → slice_get list (n - 1) ≡ Some (deposit_of kept) = λ k.
-    d.1 ∙ ap (λ (all : List Row). Some (of_row (get_or all 0 []))) (sym (row_of n list (deposit_table s.now.trees) d.0 low k.register.deposits d.1) ∙ ok) in
+    let row : (k : KeepsRegister s dictionary count) → slice_get list (n - 1) ≡ Some (deposit_of kept) = λ k.
+    d.1 ∙ ap (λ (all : List Row). Some (of_row (get_or all 0 []))) (sym (row_of_number n list (deposit_table s.now.trees) d.0 low k.register.deposits d.1) ∙ ok) in
     let same : slice_get list (n - 1) ≡ Some (deposit_of kept) = ∥∥₁_elim h (Prim.hlevel props) row in same
-deposit_at n (Err e) low high h ok = tt
+deposit_read_at n (Err e) low high h ok = tt
 
 -- ---- the rows of a deposit
 
@@ -75,23 +75,23 @@ zip_at R (a ∷ xs) (b ∷ ys) zero x h at = let same : a ≡ x = cc in (b, refl
 zip_at R (a ∷ xs) (b ∷ ys) (suc k) x h at = zip_at R xs ys k x h.1 at
 
 -- the file that the register holds of a deposit, whose groups and graph are those of any other file of it
-held_file : {s : State} {dictionary : Entries} {count : ℕ} (n : ℕ) (d : Deposit) (k : Keeps s dictionary count) → 0 < n → slice_get (deposits_in s.committed.trees) (n - 1) ≡ Some d
-    → (file : CheckedFile) × IsFileOf dictionary d file × IsPermutation (place_rows 0 (kept_rows file.groups)) (rows_of n (line_table s.now.trees)) × IsPermutation (map step_pair file.graph.steps) (rows_of n (step_table s.now.trees))
+held_file : {s : State} {dictionary : Entries} {count : ℕ} (n : ℕ) (d : Deposit) (k : KeepsRegister s dictionary count) → 0 < n → slice_get (deposits_in s.committed.trees) (n - 1) ≡ Some d
+    → (file : CheckedFile) × IsFileOf dictionary d file × IsPermutation (placed_rows 0 (kept_rows file.groups)) (rows_under n (line_table s.now.trees)) × IsPermutation (map step_pair file.graph.steps) (rows_under n (step_table s.now.trees))
 held_file {s} {dictionary} n d k low at =
     let it = zip_at (IsFileOf dictionary) (deposits_in s.committed.trees) k.register.files (n - 1) d k.register.each at in
     let e : (n - 1) + 1 ≡ n = omega (arith, low) in
-    let lines = subst₂ (λ o (m : ℕ). IsPermutation (lines_of o) (rows_of m (line_table s.now.trees))) it.1 e (k.register.lines (n - 1)) in
-    let steps = subst₂ (λ o (m : ℕ). IsPermutation (steps_of o) (rows_of m (step_table s.now.trees))) it.1 e (k.register.steps (n - 1)) in
+    let lines = subst₂ (λ o (m : ℕ). IsPermutation (file_lines o) (rows_under m (line_table s.now.trees))) it.1 e (k.register.lines (n - 1)) in
+    let steps = subst₂ (λ o (m : ℕ). IsPermutation (file_steps o) (rows_under m (step_table s.now.trees))) it.1 e (k.register.steps (n - 1)) in
     (it.0, it.2, lines, steps)
 
 same_file : (dictionary : Entries) (d : Deposit) (a b : CheckedFile) → IsFileOf dictionary d a → IsFileOf dictionary d b → (a.groups ≡ b.groups) × (a.graph ≡ b.graph)
 same_file dictionary d a b x y = let one : a ≡ b = one_clean_file a b x.clean y.clean (x.given ∙ sym y.given) (x.bytes ∙ sym y.bytes) in (ap (λ (f : CheckedFile). f.groups) one, ap (λ (f : CheckedFile). f.graph) one)
 
-pub rows_at : {X : Type 0} (items : X → List KeptRow) {s : State} {dictionary : Entries} {count : ℕ} (n : ℕ) (r : Result X KeepError) → 0 < n → ∥ Keeps s dictionary count ∥₁
-    → IfOk r (λ x. (rows : List KeptRow) → IsPermutation (place_rows 0 rows) (rows_of n (line_table s.now.trees)) → items x ≡ rows)
+pub rows_at : {X : Type 0} (items : X → List KeptRow) {s : State} {dictionary : Entries} {count : ℕ} (n : ℕ) (r : Result X KeepError) → 0 < n → ∥ KeepsRegister s dictionary count ∥₁
+    → IfOk r (λ x. (rows : List KeptRow) → IsPermutation (placed_rows 0 rows) (rows_under n (line_table s.now.trees)) → items x ≡ rows)
     → IfOk r (λ x. (d : Deposit) (file : CheckedFile) → slice_get (deposits_in s.committed.trees) (n - 1) ≡ Some d → IsFileOf dictionary d file → items x ≡ kept_rows file.groups)
 rows_at items {s} {dictionary} {count} n (Ok x) low h ok = λ d file at its.
-    let read : (k : Keeps s dictionary count) → items x ≡ kept_rows file.groups = λ k.
+    let read : (k : KeepsRegister s dictionary count) → items x ≡ kept_rows file.groups = λ k.
     (let held = held_file n d k low at in ok (kept_rows held.0.groups) held.2 ∙ ap kept_rows (same_file dictionary d held.0 file held.1 its).0) in
     let same : items x ≡ kept_rows file.groups = ∥∥₁_elim h (rows_set _ _) read in same
 rows_at items n (Err e) low h ok = tt
@@ -99,10 +99,10 @@ rows_at items n (Err e) low h ok = tt
 -- ---- the steps of a deposit
 
 abbrev pub HasRows : ℕ → List Row → ℕ → Type 0
-HasRows n table rows = (groups : List Group) → IsPermutation (place_rows 0 (kept_rows groups)) (rows_of n table) → rows ≡ length (data_rows (contents_of groups))
+HasRows n table rows = (groups : List Group) → IsPermutation (placed_rows 0 (kept_rows groups)) (rows_under n table) → rows ≡ length (data_rows (contents_of groups))
 
 abbrev pub HasSteps : ℕ → List Row → List (ℕ × ℕ) → Type 0
-HasSteps n table read = (steps : List (ℕ × ℕ)) → IsAscending IsBefore steps → IsPermutation (map step_pair steps) (rows_of n table) → read ≡ steps
+HasSteps n table read = (steps : List (ℕ × ℕ)) → IsAscending IsBefore steps → IsPermutation (map step_pair steps) (rows_under n table) → read ≡ steps
 
 ascending : (steps : List (ℕ × ℕ)) → AreAscending steps → IsAscending IsBefore steps
 ascending [] h = tt
@@ -118,11 +118,11 @@ one_wiring a b p q = λ i. record { rows = p i; steps = q i }
 wiring_set : (a b : Wiring) → IsProp (a ≡ b)
 wiring_set a b = Prim.hlevel props
 
-pub graph_at : {s : State} {dictionary : Entries} {count : ℕ} (n : ℕ) (r : Result Wiring KeepError) → 0 < n → ∥ Keeps s dictionary count ∥₁
+pub graph_at : {s : State} {dictionary : Entries} {count : ℕ} (n : ℕ) (r : Result Wiring KeepError) → 0 < n → ∥ KeepsRegister s dictionary count ∥₁
     → IfOk r (λ graph. HasRows n (line_table s.now.trees) graph.rows) → IfOk r (λ graph. HasSteps n (step_table s.now.trees) graph.steps)
     → IfOk r (λ graph. (d : Deposit) (file : CheckedFile) → slice_get (deposits_in s.committed.trees) (n - 1) ≡ Some d → IsFileOf dictionary d file → graph ≡ file.graph)
 graph_at {s} {dictionary} {count} n (Ok graph) low h rows steps = λ d file at its.
-    let read : (k : Keeps s dictionary count) → graph ≡ file.graph = λ k.
+    let read : (k : KeepsRegister s dictionary count) → graph ≡ file.graph = λ k.
     (let held = held_file n d k low at in
     let clean = held.1.clean in
     let up = graph_ascends held.0 clean.graph in

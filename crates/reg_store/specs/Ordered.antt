@@ -1,4 +1,4 @@
--- What the queries for all numbers and for meta show of a register, in their order.
+-- What the queries for all numbers and for meta show_any of a register, in their order.
 use Rattle.std.proofs.Common.{◌≡◌, ℕ, zero, suc, ◌+◌, ◌<◌, ◌≤◌, pos, List, [], ◌∷◌, map, filter, length, Bool, true, false, Option, Some, None, Ok, Err, Result, IfOk, refl, sym, ap, subst, subst₂, ◌∙◌, arith, Less, Equal}
 use Rattle.std.specs.Prelude.{codes}
 use Rattle.std.specs.List.{AllByRecursion}
@@ -22,56 +22,53 @@ use Rattle.reg_store.specs.Meaning.{all_numbers, all_numbers_read, all_meta, all
 use Rattle.reg_store.specs.Put.{less}
 use Rattle.reg_store.specs.Rows.{columns_3, deposit_columns, deposit_table}
 use Rattle.reg_store.specs.Register.{deposit_rows, meta_columns}
-use Rattle.reg_store.specs.Answers.{passes, shown_of, Answer, answers}
-use Rattle.reg_store.specs.Adopts.{id_of, number_rows, shows_meta, shows_numbers}
+use Rattle.reg_store.specs.Answers.{passes, shown_of, Selects, answers}
+use Rattle.reg_store.specs.Adopts.{by_id, id_of, number_rows, shows_meta, shows_numbers}
 
 -- ---- the numbers
 
-abbrev by_id : Row → Output
-by_id c = (column c 0 ∷ [], column c 0 ∷ [])
+abbrev show_any : Row → Output
+show_any = shown_of 2 [] all_numbers.project all_numbers.order []
 
-abbrev show : Row → Output
-show = shown_of 2 [] all_numbers.project all_numbers.order []
+any_selected : (rows : List Row) → map show_any (filter (passes [] []) rows) ≡ map by_id (map deposit_columns rows)
+any_selected [] = refl
+any_selected (r ∷ rows) = ap (λ all. by_id (deposit_columns r) ∷ all) (any_selected rows)
 
-of_columns : (rows : List Row) → map show (filter (passes [] []) rows) ≡ map by_id (map deposit_columns rows)
-of_columns [] = refl
-of_columns (r ∷ rows) = ap (λ all. by_id (deposit_columns r) ∷ all) (of_columns rows)
+abbrev number_entry : ℕ → Output
+number_entry n = (Int (pos n) ∷ [], Int (pos n) ∷ [])
 
-abbrev entry : ℕ → Output
-entry n = (Int (pos n) ∷ [], Int (pos n) ∷ [])
+abbrev number_entries : ℕ → ℕ → List Output
+number_entries n zero = []
+number_entries n (suc count) = number_entry n ∷ number_entries (n + 1) count
 
-abbrev entries : ℕ → ℕ → List Output
-entries n zero = []
-entries n (suc count) = entry n ∷ entries (n + 1) count
+numbers_are_entries : (n : ℕ) (list : List Deposit) → map by_id (deposit_rows n list) ≡ number_entries n (length list)
+numbers_are_entries n [] = refl
+numbers_are_entries n (d ∷ list) = ap (λ all. number_entry n ∷ all) (numbers_are_entries (n + 1) list)
 
-entries_are : (n : ℕ) (list : List Deposit) → map by_id (deposit_rows n list) ≡ entries n (length list)
-entries_are n [] = refl
-entries_are n (d ∷ list) = ap (λ all. entry n ∷ all) (entries_are (n + 1) list)
+number_entries_show : (n count : ℕ) → map (λ (o : Output). o.1) (number_entries n count) ≡ number_rows n count
+number_entries_show n zero = refl
+number_entries_show n (suc count) = ap (λ all. (Int (pos n) ∷ []) ∷ all) (number_entries_show (n + 1) count)
 
-shown_are : (n count : ℕ) → map (λ (o : Output). o.1) (entries n count) ≡ number_rows n count
-shown_are n zero = refl
-shown_are n (suc count) = ap (λ all. (Int (pos n) ∷ []) ∷ all) (shown_are (n + 1) count)
+number_below : (m n : ℕ) → m < n → output_cmp all_numbers (number_entry m) (number_entry n) ≡ Less
+number_below m n h = ap (λ o. ordering_then o Equal) (less m n h)
 
-below : (m n : ℕ) → m < n → output_cmp all_numbers (entry m) (entry n) ≡ Less
-below m n h = ap (λ o. ordering_then o Equal) (less m n h)
+number_below_all : (m n count : ℕ) → m < n → AllByRecursion (λ o. output_cmp all_numbers (number_entry m) o ≡ Less) (number_entries n count)
+number_below_all m n zero h = tt
+number_below_all m n (suc count) h = (number_below m n h, number_below_all m (n + 1) count (omega arith))
 
-all_below : (m n count : ℕ) → m < n → AllByRecursion (λ o. output_cmp all_numbers (entry m) o ≡ Less) (entries n count)
-all_below m n zero h = tt
-all_below m n (suc count) h = (below m n h, all_below m (n + 1) count (omega arith))
-
-rises : (n count : ℕ) → IsAscending (λ a b. output_cmp all_numbers a b ≡ Less) (entries n count)
-rises n zero = tt
-rises n (suc count) = (all_below n (n + 1) count (omega arith), rises (n + 1) count)
+numbers_rise : (n count : ℕ) → IsAscending (λ a b. output_cmp all_numbers a b ≡ Less) (number_entries n count)
+numbers_rise n zero = tt
+numbers_rise n (suc count) = (number_below_all n (n + 1) count (omega arith), numbers_rise (n + 1) count)
 
 pub shows_all_numbers : (old new : State) (list : List Deposit) (rows : List Row) → old.now.schema ≡ register_schema → IsPermutation (deposit_rows 1 list) (deposit_table old.now.trees) → Shown select_all_numbers [] old new rows
     → rows ≡ number_rows 1 (length list)
 shows_all_numbers old new list rows has are h =
     let a = answers select_all_numbers 2 [] all_numbers.project all_numbers.order _ all_numbers_read old new [] rows refl has h in
-    let mine : IsPermutation (entries 1 (length list)) a.ordered =
-    IsPermutation-trans _ _ _ (subst₂ IsPermutation (entries_are 1 list) (sym (of_columns (old.now.trees 2))) (IsPermutation-map by_id _ _ are)) a.same in
-    let ordered : a.ordered ≡ entries 1 (length list) =
-    sorted_unique (output_cmp all_numbers) (on_total (λ (o : Output). o.0) (key_cmp_total (map (λ k. k.1) all_numbers.order) 0)) _ a.ordered (rises 1 (length list)) mine a.sorted in
-    a.shown ∙ ap (map (λ (o : Output). o.1)) ordered ∙ shown_are 1 (length list)
+    let mine : IsPermutation (number_entries 1 (length list)) a.ordered =
+    IsPermutation-trans _ _ _ (subst₂ IsPermutation (numbers_are_entries 1 list) (sym (any_selected (old.now.trees 2))) (IsPermutation-map by_id _ _ are)) a.same in
+    let ordered : a.ordered ≡ number_entries 1 (length list) =
+    sorted_unique (output_cmp all_numbers) (on_total (λ (o : Output). o.0) (key_cmp_total (map (λ k. k.1) all_numbers.order) 0)) _ a.ordered (numbers_rise 1 (length list)) mine a.sorted in
+    a.shown ∙ ap (map (λ (o : Output). o.1)) ordered ∙ number_entries_show 1 (length list)
 
 pub numbers_by : {X : Type 0} (items : X → List Row) (old new : State) (r : Result X KeepError) → old.now.schema ≡ register_schema → IfOk r (λ x. Shown select_all_numbers [] old new (items x))
     → IfOk r (λ x. IsPermutation (items x) (map id_of (deposit_table old.now.trees)))

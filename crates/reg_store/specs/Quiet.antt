@@ -18,7 +18,7 @@ abbrev pub IsAsBefore : State → State → Type 0
 IsAsBefore old new = IsTrue old.is_open × (new.now ≡ old.now) × (new.committed ≡ old.committed)
 
 -- Nothing was committed, and where the call did not fail nothing changed.
-pub record IsQuiet (old new : State) (failed : Bool) : Type 0 where
+pub record IsStill (old new : State) (failed : Bool) : Type 0 where
   pub idle : new.in_transaction ≡ false
   pub is_open : HasCleanDisk new → failed ≡ false → new.is_open ≡ old.is_open
   pub same : HasCleanDisk new → failed ≡ false → (new.now ≡ old.now) × (new.committed ≡ old.committed)
@@ -29,7 +29,7 @@ pub clean_before : {P : Trees → Type 0} (old new : State) → Survives old new
 clean_before old new survives clean = omega (arith, survives.clean)
 
 -- what is read of the rows changes nothing more
-pub quiet_read : (old new : State) (failed : Bool) → IsQuiet old new false → IsQuiet old new failed
+pub quiet_read : (old new : State) (failed : Bool) → IsStill old new false → IsStill old new failed
 quiet_read old new failed quiet = record {
   idle = quiet.idle;
   is_open = λ clean _. quiet.is_open clean refl;
@@ -38,10 +38,10 @@ quiet_read old new failed quiet = record {
 }
 
 -- no call, no change
-pub quiet_none : (s : State) (failed : Bool) → s.in_transaction ≡ false → IsQuiet s s failed
+pub quiet_none : (s : State) (failed : Bool) → s.in_transaction ≡ false → IsStill s s failed
 quiet_none s failed idle = record { idle = idle; is_open = λ clean _. refl; same = λ clean _. (refl, refl); survives = record { clean = omega arith; shield = λ is. is; counts = omega arith; limit = refl; closes = λ clean o. inl o; crash = λ clean db may. inl may } }
 
-pub quiet_then : (a b c : State) (failed : Bool) → IsQuiet a b false → IsQuiet b c failed → IsQuiet a c failed
+pub quiet_then : (a b c : State) (failed : Bool) → IsStill a b false → IsStill b c failed → IsStill a c failed
 quiet_then a b c failed one two = record {
   idle = two.idle;
   is_open = λ clean well. two.is_open clean well ∙ one.is_open (clean_before b c two.survives clean) refl;
@@ -50,7 +50,7 @@ quiet_then a b c failed one two = record {
   survives = survives_then a b c _ _ (λ _. ⊥) (λ _ db none. none) (λ _ db none. none) one.survives two.survives;
 }
 
-pub idle_then : (a b : State) → IsIdle a → IsQuiet a b false → IsIdle b
+pub idle_then : (a b : State) → IsIdle a → IsStill a b false → IsIdle b
 idle_then a b idle quiet = record {
   idle = quiet.idle;
   schema = λ clean. ap (λ (db : Database). db.schema) (quiet.same clean refl).0 ∙ idle.schema (clean_before a b quiet.survives clean);

@@ -98,12 +98,12 @@ is_parent_column _ = false
 abbrev pub refers_by : Reference → List ℕ → Bool
 refers_by r c = is_one r.columns 1 && (bytes_eq r.parent (codes "deposits") && (bytes_eq c (codes "number") && (is_no_action r.on_delete && (is_no_action r.on_update && not r.is_deferred))))
 
-abbrev pub of_columns : Reference → List (List ℕ) → Bool
-of_columns r (c ∷ []) = refers_by r c
-of_columns r _ = false
+abbrev pub refers_by_column : Reference → List (List ℕ) → Bool
+refers_by_column r (c ∷ []) = refers_by r c
+refers_by_column r _ = false
 
 abbrev pub is_of_deposits : Reference → Bool
-is_of_deposits r = of_columns r r.parent_columns
+is_of_deposits r = refers_by_column r r.parent_columns
 
 abbrev pub refers_to_deposits : List Reference → Bool
 refers_to_deposits (r ∷ []) = is_of_deposits r
@@ -148,22 +148,22 @@ is_deposits t = deposit_key t t.key
 abbrev pub has_line_key : Table → List ℕ → Bool
 has_line_key t key = is_none t.key && (is_two t.primary && (is_two key && (is_bytes_order t.orders && refers_to_deposits t.references)))
 
-abbrev pub line_keys : Table → List (List ℕ) → Bool
-line_keys t (key ∷ []) = is_plain t (codes "lines") 3 && (has_line_columns t.columns && has_line_key t key)
-line_keys t _ = false
+abbrev pub has_line_keys : Table → List (List ℕ) → Bool
+has_line_keys t (key ∷ []) = is_plain t (codes "lines") 3 && (has_line_columns t.columns && has_line_key t key)
+has_line_keys t _ = false
 
 abbrev pub is_lines : Table → Bool
-is_lines t = line_keys t t.uniques
+is_lines t = has_line_keys t t.uniques
 
 abbrev pub has_step_key : Table → List ℕ → Bool
 has_step_key t key = is_none t.key && (is_three t.primary && (is_three key && (is_bytes_order t.orders && refers_to_deposits t.references)))
 
-abbrev pub step_keys : Table → List (List ℕ) → Bool
-step_keys t (key ∷ []) = is_plain t (codes "steps") 5 && (has_step_columns t.columns && has_step_key t key)
-step_keys t _ = false
+abbrev pub has_step_keys : Table → List (List ℕ) → Bool
+has_step_keys t (key ∷ []) = is_plain t (codes "steps") 5 && (has_step_columns t.columns && has_step_key t key)
+has_step_keys t _ = false
 
 abbrev pub is_steps : Table → Bool
-is_steps t = step_keys t t.uniques
+is_steps t = has_step_keys t t.uniques
 
 abbrev pub is_key : Index → List ℕ → ℕ → ℕ → Bool
 is_key i name tree table = bytes_eq i.name name && (i.tree == tree && (i.table == table && (i.order.digits == 0 && i.is_unique)))

@@ -19,10 +19,10 @@ use Rattle.reg_store.specs.Tables.{register_schema}
 use Rattle.reg_store.specs.Fit.{IsFileOf, IsNamed, kept_rows}
 use Rattle.reg_store.specs.Apart.{AreApart}
 use Rattle.reg_store.specs.ApartLaws.{repeats_from, at_most_one}
-use Rattle.reg_store.specs.Rows.{deposit_table, given_deposit, columns_3, line_table, step_table, rows_of, place_rows, step_pair}
-use Rattle.reg_store.specs.Register.{deposit_rows, has_number, meta_columns, lines_of, steps_of, IsRegister}
+use Rattle.reg_store.specs.Rows.{deposit_table, given_deposit, columns_3, line_table, step_table, rows_under, placed_rows, step_pair}
+use Rattle.reg_store.specs.Register.{deposit_rows, has_number, meta_columns, file_lines, file_steps, IsRegister}
 use Rattle.reg_store.specs.RegisterLaws.{rows-length}
-use Rattle.reg_store.specs.Shows.{row_of}
+use Rattle.reg_store.specs.Shows.{row_of_number}
 use Rattle.reg_store.specs.Finds.{is_equal, repeats_long}
 use Rattle.reg_store.specs.Adopts.{number_rows, id_of, by_numbers, IsRead, adopts}
 use Rattle.reg_store.specs.Adopting.{apart_found}
@@ -35,8 +35,8 @@ pub record Tests (is : Bool) (Fact : Type 0) : Type 0 where
 
 -- The lines and steps of a number are these.
 pub record HoldsFile (db : Database) (n : ℕ) (file : CheckedFile) : Type 0 where
-  pub lines : IsPermutation (place_rows 0 (kept_rows file.groups)) (rows_of n (line_table db.trees))
-  pub steps : IsPermutation (map step_pair file.graph.steps) (rows_of n (step_table db.trees))
+  pub lines : IsPermutation (placed_rows 0 (kept_rows file.groups)) (rows_under n (line_table db.trees))
+  pub steps : IsPermutation (map step_pair file.graph.steps) (rows_under n (step_table db.trees))
 
 -- The deposit's bytes have no finding, and the lines and steps of the number are theirs.
 abbrev pub HoldsBody : Database → Entries → ℕ → Deposit → Type 0
@@ -89,14 +89,14 @@ whole_at db dictionary list r k low =
     let few : length (repeats_from 1 d.firm d.project d.bytes list) ≤ 1 = permit _ _ (at_most_one 1 d.firm d.project d.bytes list r.apart) in
     record {
       deposit = d;
-      row = row_of (k + 1) list (deposit_table db.trees) d (omega arith) r.deposits at;
+      row = row_of_number (k + 1) list (deposit_table db.trees) d (omega arith) r.deposits at;
       named = named_at list k d r.named found.1;
       body = (
         it.0,
         it.2,
         record {
-          lines = subst (λ o. IsPermutation (lines_of o) (rows_of (k + 1) (line_table db.trees))) it.1 (r.lines k);
-          steps = subst (λ o. IsPermutation (steps_of o) (rows_of (k + 1) (step_table db.trees))) it.1 (r.steps k);
+          lines = subst (λ o. IsPermutation (file_lines o) (rows_under (k + 1) (line_table db.trees))) it.1 (r.lines k);
+          steps = subst (λ o. IsPermutation (file_steps o) (rows_under (k + 1) (step_table db.trees))) it.1 (r.steps k);
         },
       );
       alone = subst (λ (n : ℕ). n ≤ 1) (sym many) few;
@@ -110,24 +110,24 @@ whole_at db dictionary list r k low =
 -- ---- whole deposits make a register
 
 -- a list of what there is of each number below the count
-abbrev list_of : {X : Type 0} (P : ℕ → Type 0) (get : (k : ℕ) → P k → X) (count : ℕ) → ((k : ℕ) → k < count → P k) → List X
-list_of P get zero all = []
-list_of P get (suc count) all = get 0 (all 0 (omega arith)) ∷ list_of (λ k. P (suc k)) (λ k. get (suc k)) count (λ k low. all (suc k) (omega (arith, low)))
+abbrev list_by : {X : Type 0} (P : ℕ → Type 0) (get : (k : ℕ) → P k → X) (count : ℕ) → ((k : ℕ) → k < count → P k) → List X
+list_by P get zero all = []
+list_by P get (suc count) all = get 0 (all 0 (omega arith)) ∷ list_by (λ k. P (suc k)) (λ k. get (suc k)) count (λ k low. all (suc k) (omega (arith, low)))
 
-list_long : {X : Type 0} (P : ℕ → Type 0) (get : (k : ℕ) → P k → X) (count : ℕ) (all : (k : ℕ) → k < count → P k) → length (list_of P get count all) ≡ count
+list_long : {X : Type 0} (P : ℕ → Type 0) (get : (k : ℕ) → P k → X) (count : ℕ) (all : (k : ℕ) → k < count → P k) → length (list_by P get count all) ≡ count
 list_long P get zero all = refl
 list_long P get (suc count) all = ap suc (list_long (λ k. P (suc k)) (λ k. get (suc k)) count (λ k low. all (suc k) (omega (arith, low))))
 
-list_at : {X : Type 0} (P : ℕ → Type 0) (get : (k : ℕ) → P k → X) (count : ℕ) (all : (k : ℕ) → k < count → P k) (k : ℕ) (x : X) → slice_get (list_of P get count all) k ≡ Some x → (p : P k) × (get k p ≡ x)
+list_at : {X : Type 0} (P : ℕ → Type 0) (get : (k : ℕ) → P k → X) (count : ℕ) (all : (k : ℕ) → k < count → P k) (k : ℕ) (x : X) → slice_get (list_by P get count all) k ≡ Some x → (p : P k) × (get k p ≡ x)
 list_at P get zero all k x at = absurd cc
 list_at P get (suc count) all zero x at = (all 0 (omega arith), cc)
 list_at P get (suc count) all (suc k) x at = list_at (λ j. P (suc j)) (λ j. get (suc j)) count (λ j low. all (suc j) (omega (arith, low))) k x at
 
-list_zip : {X Y : Type 0} (R : X → Y → Type 0) (P : ℕ → Type 0) (get : (k : ℕ) → P k → X) (got : (k : ℕ) → P k → Y) (count : ℕ) (all : (k : ℕ) → k < count → P k) → ((k : ℕ) (p : P k) → R (get k p) (got k p)) → AllZip R (list_of P get count all) (list_of P got count all)
+list_zip : {X Y : Type 0} (R : X → Y → Type 0) (P : ℕ → Type 0) (get : (k : ℕ) → P k → X) (got : (k : ℕ) → P k → Y) (count : ℕ) (all : (k : ℕ) → k < count → P k) → ((k : ℕ) (p : P k) → R (get k p) (got k p)) → AllZip R (list_by P get count all) (list_by P got count all)
 list_zip R P get got zero all each = tt
 list_zip R P get got (suc count) all each = (each 0 (all 0 (omega arith)), list_zip R (λ k. P (suc k)) (λ k. get (suc k)) (λ k. got (suc k)) count (λ k low. all (suc k) (omega (arith, low))) (λ k. each (suc k)))
 
-list_all_of : {X : Type 0} (R : X → Type 0) (P : ℕ → Type 0) (get : (k : ℕ) → P k → X) (count : ℕ) (all : (k : ℕ) → k < count → P k) → ((k : ℕ) (p : P k) → R (get k p)) → AllByRecursion R (list_of P get count all)
+list_all_of : {X : Type 0} (R : X → Type 0) (P : ℕ → Type 0) (get : (k : ℕ) → P k → X) (count : ℕ) (all : (k : ℕ) → k < count → P k) → ((k : ℕ) (p : P k) → R (get k p)) → AllByRecursion R (list_by P get count all)
 list_all_of R P get zero all each = tt
 list_all_of R P get (suc count) all each = (each 0 (all 0 (omega arith)), list_all_of R (λ k. P (suc k)) (λ k. get (suc k)) count (λ k low. all (suc k) (omega (arith, low))) (λ k. each (suc k)))
 
@@ -150,10 +150,10 @@ adopts_whole db dictionary count schema sound meta counts all = (list, adopts db
     P k = IsWhole db dictionary (k + 1)
 
     list : List Deposit
-    list = list_of P (λ k p. p.deposit) count all
+    list = list_by P (λ k p. p.deposit) count all
 
     files : List CheckedFile
-    files = list_of P (λ k p. p.body.0) count all
+    files = list_by P (λ k p. p.body.0) count all
 
     long : length list ≡ count
     long = list_long P (λ k p. p.deposit) count all
@@ -196,6 +196,6 @@ adopts_whole db dictionary count schema sound meta counts all = (list, adopts db
       named = list_all_of IsNamed P (λ k p. p.deposit) count all (λ k p. p.named);
       apart = apart_found 1 list once;
       few = subst (λ (n : ℕ). n ≤ 999999) (sym long) counts.0;
-      lines = λ k file at. (let it = list_at P (λ k p. p.body.0) count all k file at in subst (λ (f : CheckedFile). IsPermutation (place_rows 0 (kept_rows f.groups)) (rows_of (k + 1) (line_table db.trees))) it.1 it.0.body.2.lines);
-      steps = λ k file at. (let it = list_at P (λ k p. p.body.0) count all k file at in subst (λ (f : CheckedFile). IsPermutation (map step_pair f.graph.steps) (rows_of (k + 1) (step_table db.trees))) it.1 it.0.body.2.steps);
+      lines = λ k file at. (let it = list_at P (λ k p. p.body.0) count all k file at in subst (λ (f : CheckedFile). IsPermutation (placed_rows 0 (kept_rows f.groups)) (rows_under (k + 1) (line_table db.trees))) it.1 it.0.body.2.lines);
+      steps = λ k file at. (let it = list_at P (λ k p. p.body.0) count all k file at in subst (λ (f : CheckedFile). IsPermutation (map step_pair f.graph.steps) (rows_under (k + 1) (step_table db.trees))) it.1 it.0.body.2.steps);
     }

@@ -2,7 +2,7 @@
 
 ghost use Rattle.std.specs.Prelude.{◌≡◌, ◌≢◌, ◌≤◌, ◌↔◌, ◌⊎◌, ◌∷◌, [], ℕ, ℤ, pos, List, None, Err, length, map, Contains, IsTrue, IfOk, IfErr, IfSome};
 ghost use Rattle.sqlite.specs.Order.{Row as Values};
-ghost use Rattle.reg_store.specs.Rows.{place_row, place_rows, step_pair};
+ghost use Rattle.reg_store.specs.Rows.{placed_row, placed_rows, step_pair};
 ghost use Rattle.reg_store.specs.Register.{meta_columns};
 ghost use Rattle.reg_store.specs.Adopts.{number_rows};
 ghost use Rattle.ags_dict.specs.Entries.{Entries};
@@ -118,7 +118,7 @@ pub(crate) fn meta_text<'a>(rows: &'a [Row]) -> Option<&'a [u8]>
 }
 
 /// The dictionary that the bytes are.
-fn read_dictionary(alloc: Global, text: &[u8]) -> Result<Dictionary, AdoptError>
+fn read_kept_dictionary(alloc: Global, text: &[u8]) -> Result<Dictionary, AdoptError>
     ensures read { IfOk result (λ dictionary. (length text.now ≤ READABLE) × IsDictionary text.now dictionary) }
     ensures refused { result ≡ Err AdoptError.NotRegister → (dictionary : Entries) → length text.now ≤ READABLE → IsDictionary text.now dictionary → ⊥ }
     ensures named { IfErr result (λ e. (e ≡ AdoptError.NotRegister) ⊎ (e ≡ AdoptError.NoMemory)) }
@@ -144,7 +144,7 @@ pub(crate) fn read_meta(alloc: Global, rows: &[Row]) -> Result<Dictionary, Adopt
         None => {}
     }
     match meta_text(rows) {
-        Some(text) => read_dictionary(alloc, text),
+        Some(text) => read_kept_dictionary(alloc, text),
         None => Err(AdoptError::NotRegister),
     }
 }
@@ -167,7 +167,7 @@ pub(crate) fn count_numbers(rows: &[Row]) -> Option<u32>
 }
 
 fn is_line(row: &Row, at: u32, line: &KeptRow) -> bool
-    ensures { IsTrue result ↔ (row.now ≡ place_row at line.now) }
+    ensures { IsTrue result ↔ (row.now ≡ placed_row at line.now) }
 {
     let values = [
         at.to_sql(),
@@ -181,7 +181,7 @@ fn is_line(row: &Row, at: u32, line: &KeptRow) -> bool
 /// Whether the rows are those of a file, in its order.
 pub(crate) fn are_lines(rows: &[Row], lines: &[KeptRow]) -> bool
     requires { length lines.now ≤ 4294967295 }
-    ensures { IsTrue result ↔ (rows.now ≡ place_rows 0 lines.now) }
+    ensures { IsTrue result ↔ (rows.now ≡ placed_rows 0 lines.now) }
 {
     if rows.len() != lines.len() {
         return false;

@@ -10,12 +10,12 @@ ghost use Rattle.ags_check.specs.Findings.{CheckedFile};
 ghost use Rattle.reg_store.specs.Deposit.{Deposit};
 ghost use Rattle.reg_store.specs.Keep.{fails, deposit_of};
 ghost use Rattle.reg_store.specs.Fit.{IsFileOf};
-ghost use Rattle.reg_store.specs.Quiet.{IsIdle, IsQuiet};
-ghost use Rattle.reg_store.specs.Rows.{line_table, step_table, deposit_table, place_rows, step_pair, rows_of};
+ghost use Rattle.reg_store.specs.Quiet.{IsIdle, IsStill};
+ghost use Rattle.reg_store.specs.Rows.{line_table, step_table, deposit_table, placed_rows, step_pair, rows_under};
 ghost use Rattle.reg_store.specs.Register.{deposit_rows};
 ghost use Rattle.reg_store.specs.Adopts.{id_of, number_rows as numbered};
 ghost use Rattle.reg_store.specs.Whole.{AreWhole, Counts, HasMeta, HoldsBody, IsAlone, IsWhole, Tests};
-ghost use Rattle.reg_store.specs.Adoption.{Adopts, Finds, MetaOf, gives_up};
+ghost use Rattle.reg_store.specs.Adoption.{Adopts, CountsDeposits, MetaOf, gives_up};
 ghost use Rattle.sqlite.specs.Effect.{IsDatabase};
 
 use crate::adopting::{AdoptError, are_lines, are_steps, count_numbers, read_meta};
@@ -35,7 +35,7 @@ fn number_rows<S: Alter>(conn: &mut Connection<S>) -> Result<Vec<Row>, KeepError
     ensures all { HasCleanDisk (state S.Store conn.new) → IfOk result (λ rows. IsPermutation rows.items (map id_of (deposit_table (state S.Store conn.old).now.trees))) }
     ensures found { HasCleanDisk (state S.Store conn.new) → IfOk result (λ rows. (list : List Deposit) → IsPermutation (deposit_rows 1 list) (deposit_table (state S.Store conn.old).now.trees) → rows.items ≡ numbered 1 (length list)) }
     ensures named { IfErr result (λ e. e ≢ KeepError.Full) }
-    ensures quiet { IsQuiet (state S.Store conn.old) (state S.Store conn.new) (fails result) }
+    ensures quiet { IsStill (state S.Store conn.old) (state S.Store conn.new) (fails result) }
 {
     query(conn, "SELECT number FROM deposits ORDER BY number", &[])
 }
@@ -46,7 +46,7 @@ pub(crate) fn find_count<S: Alter>(conn: &mut Connection<S>) -> Result<Option<u3
     ensures counted { HasCleanDisk (state S.Store conn.new) → IfOk result (Counts (state S.Store conn.old).now) }
     ensures few { IfOk result (λ found. IfSome found (λ count. count ≤ 999999)) }
     ensures named { IfErr result (λ e. e ≢ KeepError.Full) }
-    ensures quiet { IsQuiet (state S.Store conn.old) (state S.Store conn.new) (fails result) }
+    ensures quiet { IsStill (state S.Store conn.old) (state S.Store conn.new) (fails result) }
 {
     match number_rows(conn) {
         Ok(rows) => Ok(count_numbers(&rows)),
@@ -62,9 +62,9 @@ fn holds_lines<S: Alter>(
 ) -> Result<bool, KeepError>
     requires idle { IsIdle (state S.Store conn.old) }
     requires few { length lines.now ≤ 4294967295 }
-    ensures tested { HasCleanDisk (state S.Store conn.new) → IfOk result (λ is. Tests is (IsPermutation (place_rows 0 lines.now) (rows_of number (line_table (state S.Store conn.old).now.trees)))) }
+    ensures tested { HasCleanDisk (state S.Store conn.new) → IfOk result (λ is. Tests is (IsPermutation (placed_rows 0 lines.now) (rows_under number (line_table (state S.Store conn.old).now.trees)))) }
     ensures named { IfErr result (λ e. e ≢ KeepError.Full) }
-    ensures quiet { IsQuiet (state S.Store conn.old) (state S.Store conn.new) (fails result) }
+    ensures quiet { IsStill (state S.Store conn.old) (state S.Store conn.new) (fails result) }
 {
     match line_rows(conn, number) {
         Ok(rows) => Ok(are_lines(&rows, lines)),
@@ -80,9 +80,9 @@ fn holds_steps<S: Alter>(
 ) -> Result<bool, KeepError>
     requires idle { IsIdle (state S.Store conn.old) }
     requires rising { IsAscending IsBefore steps.now }
-    ensures tested { HasCleanDisk (state S.Store conn.new) → IfOk result (λ is. Tests is (IsPermutation (map step_pair steps.now) (rows_of number (step_table (state S.Store conn.old).now.trees)))) }
+    ensures tested { HasCleanDisk (state S.Store conn.new) → IfOk result (λ is. Tests is (IsPermutation (map step_pair steps.now) (rows_under number (step_table (state S.Store conn.old).now.trees)))) }
     ensures named { IfErr result (λ e. e ≢ KeepError.Full) }
-    ensures quiet { IsQuiet (state S.Store conn.old) (state S.Store conn.new) (fails result) }
+    ensures quiet { IsStill (state S.Store conn.old) (state S.Store conn.new) (fails result) }
 {
     match step_rows(conn, number) {
         Ok(rows) => Ok(are_steps(&rows, steps)),
@@ -101,9 +101,9 @@ fn holds_file<S: Alter>(
     requires idle { IsIdle (state S.Store conn.old) }
     requires few { length lines.now ≤ 4294967295 }
     requires rising { IsAscending IsBefore steps.now }
-    ensures tested { HasCleanDisk (state S.Store conn.new) → IfOk result (λ is. Tests is (IsPermutation (place_rows 0 lines.now) (rows_of number (line_table (state S.Store conn.old).now.trees)) × IsPermutation (map step_pair steps.now) (rows_of number (step_table (state S.Store conn.old).now.trees)))) }
+    ensures tested { HasCleanDisk (state S.Store conn.new) → IfOk result (λ is. Tests is (IsPermutation (placed_rows 0 lines.now) (rows_under number (line_table (state S.Store conn.old).now.trees)) × IsPermutation (map step_pair steps.now) (rows_under number (step_table (state S.Store conn.old).now.trees)))) }
     ensures named { IfErr result (λ e. e ≢ KeepError.Full) }
-    ensures quiet { IsQuiet (state S.Store conn.old) (state S.Store conn.new) (fails result) }
+    ensures quiet { IsStill (state S.Store conn.old) (state S.Store conn.new) (fails result) }
 {
     if !holds_lines(conn, number, lines)? {
         return Ok(false);
@@ -144,7 +144,7 @@ fn holds_body<S: Alter>(
     requires idle { IsIdle (state S.Store conn.old) }
     ensures tested { HasCleanDisk (state S.Store conn.new) → IfOk result (λ is. Tests is (HoldsBody (state S.Store conn.old).now dictionary.now number (deposit_of kept.now))) }
     ensures named { IfErr result (λ e. e ≢ KeepError.Full) }
-    ensures quiet { IsQuiet (state S.Store conn.old) (state S.Store conn.new) (fails result) }
+    ensures quiet { IsStill (state S.Store conn.old) (state S.Store conn.new) (fails result) }
 {
     let Some(checked) = checked_file(alloc, dictionary, kept)? else {
         return Ok(false);
@@ -161,7 +161,7 @@ fn is_alone<S: Alter>(conn: &mut Connection<S>, kept: &Kept) -> Result<bool, Kee
     requires idle { IsIdle (state S.Store conn.old) }
     ensures tested { HasCleanDisk (state S.Store conn.new) → IfOk result (λ is. Tests is (IsAlone (state S.Store conn.old).now (deposit_of kept.now))) }
     ensures named { IfErr result (λ e. e ≢ KeepError.Full) }
-    ensures quiet { IsQuiet (state S.Store conn.old) (state S.Store conn.new) (fails result) }
+    ensures quiet { IsStill (state S.Store conn.old) (state S.Store conn.new) (fails result) }
 {
     match equal_rows(
         conn,
@@ -186,7 +186,7 @@ fn holds_kept<S: Alter>(
     requires idle { IsIdle (state S.Store conn.old) }
     ensures tested { HasCleanDisk (state S.Store conn.new) → IfOk result (λ is. Tests is (HoldsBody (state S.Store conn.old).now dictionary.now number (deposit_of kept.now) × IsAlone (state S.Store conn.old).now (deposit_of kept.now))) }
     ensures named { IfErr result (λ e. e ≢ KeepError.Full) }
-    ensures quiet { IsQuiet (state S.Store conn.old) (state S.Store conn.new) (fails result) }
+    ensures quiet { IsStill (state S.Store conn.old) (state S.Store conn.new) (fails result) }
 {
     if !holds_body(conn, alloc, dictionary, number, kept)? {
         return Ok(false);
@@ -205,7 +205,7 @@ fn holds_deposit<S: Alter>(
     requires idle { IsIdle (state S.Store conn.old) }
     ensures tested { HasCleanDisk (state S.Store conn.new) → IfOk result (λ is. Tests is (IsWhole (state S.Store conn.old).now dictionary.now number)) }
     ensures named { IfErr result (λ e. e ≢ KeepError.Full) }
-    ensures quiet { IsQuiet (state S.Store conn.old) (state S.Store conn.new) (fails result) }
+    ensures quiet { IsStill (state S.Store conn.old) (state S.Store conn.new) (fails result) }
 {
     let rows = numbered_rows(conn, number)?;
     match read_deposit(alloc, number, &rows) {
@@ -226,7 +226,7 @@ pub(crate) fn holds_deposits<S: Alter>(
     requires idle { IsIdle (state S.Store conn.old) }
     ensures tested { HasCleanDisk (state S.Store conn.new) → IfOk result (λ is. Tests is (AreWhole (state S.Store conn.old).now dictionary.now count)) }
     ensures named { IfErr result (λ e. e ≢ KeepError.Full) }
-    ensures quiet { IsQuiet (state S.Store conn.old) (state S.Store conn.new) (fails result) }
+    ensures quiet { IsStill (state S.Store conn.old) (state S.Store conn.new) (fails result) }
 {
     for at in 0..count {
         if !holds_deposit(conn, alloc, dictionary, at + 1)? {
@@ -246,10 +246,10 @@ fn find_register<S: Alter>(
     requires idle { IsIdle (state S.Store conn.old) }
     requires meta { HasCleanDisk (state S.Store conn.old) → HasMeta (state S.Store conn.old).now dictionary.now }
     requires sound { HasCleanDisk (state S.Store conn.old) → IsDatabase (state S.Store conn.old).now }
-    ensures found { HasCleanDisk (state S.Store conn.new) → IfOk result (Finds (state S.Store conn.old).now dictionary.now) }
+    ensures found { HasCleanDisk (state S.Store conn.new) → IfOk result (CountsDeposits (state S.Store conn.old).now dictionary.now) }
     ensures few { IfOk result (λ found. IfSome found (λ count. count ≤ 999999)) }
     ensures named { IfErr result (λ e. e ≢ KeepError.Full) }
-    ensures quiet { IsQuiet (state S.Store conn.old) (state S.Store conn.new) (fails result) }
+    ensures quiet { IsStill (state S.Store conn.old) (state S.Store conn.new) (fails result) }
 {
     let Some(count) = find_count(conn)? else {
         return Ok(None);
@@ -269,7 +269,7 @@ fn find_dictionary<S: Alter>(
     requires idle { IsIdle (state S.Store conn.old) }
     ensures read { HasCleanDisk (state S.Store conn.new) → MetaOf (state S.Store conn.old).now result }
     ensures open { HasCleanDisk (state S.Store conn.new) → gives_up result ≡ false → IsTrue (state S.Store conn.new).is_open }
-    ensures quiet { IsQuiet (state S.Store conn.old) (state S.Store conn.new) (gives_up result) }
+    ensures quiet { IsStill (state S.Store conn.old) (state S.Store conn.new) (gives_up result) }
 {
     match meta_rows(conn) {
         Ok(rows) => read_meta(alloc, &rows),
@@ -288,7 +288,7 @@ pub(crate) fn examine<S: Alter>(
     ensures adopts { HasCleanDisk (state S.Store conn.new) → Adopts (state S.Store conn.old).now result }
     ensures few { IfOk result (λ found. found.1 ≤ 999999) }
     ensures open { HasCleanDisk (state S.Store conn.new) → gives_up result ≡ false → IsTrue (state S.Store conn.new).is_open }
-    ensures quiet { IsQuiet (state S.Store conn.old) (state S.Store conn.new) (gives_up result) }
+    ensures quiet { IsStill (state S.Store conn.old) (state S.Store conn.new) (gives_up result) }
 {
     let dictionary = match find_dictionary(conn, alloc) {
         Ok(dictionary) => dictionary,

@@ -1,27 +1,30 @@
 //! Registers that are made, and found, in databases.
 
-ghost use Rattle.std.specs.Prelude.{◌≡◌, ◌≢◌, ◌≤◌, ◌⊎◌, [], false, length, Err, IfOk, IfErr};
+ghost use Rattle.std.specs.Prelude.{◌≡◌, ◌≢◌, ◌≤◌, ◌⊎◌, [], false, length, None, Ok, Err, IfOk, IfErr, IfSome};
 ghost use Rattle.sqlite.specs.State.{HasCleanDisk, Survives};
 ghost use Rattle.sqlite.specs.Held.{state};
 ghost use Rattle.sqlite.specs.Steps.{over_memory};
 ghost use Rattle.sqlite.specs.Files.{file_state};
+ghost use Rattle.sqlite.specs.WalFiles.{image_at};
 ghost use Rattle.ags_dict.specs.Entries.{Entries};
-ghost use Rattle.ags_dict.specs.Reading.{IsDictionary};
+ghost use Rattle.ags_dict.specs.Reading.{IsDictionary, ReadsDictionary};
 ghost use Rattle.reg_store.specs.Tables.{no_schema, register_schema};
 ghost use Rattle.reg_store.specs.Creates.{IsNewRegister};
+ghost use Rattle.reg_store.specs.Making.{RefusesBytes};
 ghost use Rattle.reg_store.specs.Register.{IsRegister, deposits_in};
 ghost use Rattle.reg_store.specs.Adoption.{Adopts, is_store_failure};
+ghost use Rattle.reg_store.specs.Opened.{HoldsRegister, RefusesFiles};
 
 use crate::adopting::AdoptError;
 use crate::creating::make_register;
 use crate::examining::examine;
 use crate::keep::KeepError;
 use crate::queries::is_memory;
-use crate::schema::{is_blank, is_register};
+use crate::schema::{is_register, is_vacant};
 use crate::sql::SqlKeep;
 use ags_dict::{DictError, Dictionary};
 use ags_rows::READABLE;
-use sqlite::{Alter, Connection, File, FileStore, MemStore};
+use sqlite::{Alter, Connection, File, FileFrom, FileStore, MemStore, Start, Unknown};
 use std::alloc::Global;
 use thiserror::Error;
 
@@ -44,7 +47,8 @@ pub enum CreateError {
 
 fn read_dictionary(alloc: Global, bytes: &[u8]) -> Result<Dictionary, CreateError>
     requires { length bytes.now ≤ READABLE }
-    ensures read { IfOk result (λ dictionary. IsDictionary bytes.now dictionary) }
+    ensures read { IfOk result (λ dictionary. ReadsDictionary bytes.now (Ok dictionary)) }
+    ensures refused { IfErr result (RefusesBytes bytes.now) }
     ensures named { IfErr result (λ e. (e ≢ CreateError.NotEmpty) × (e ≢ CreateError.Store)) }
 {
     match Dictionary::read(alloc, bytes) {
@@ -66,6 +70,7 @@ impl<S: Alter> SqlKeep<S> {
         requires read { IsDictionary bytes.now dictionary }
         ensures empty { IfOk result (λ k. HasCleanDisk (state S.Store k.connection) → deposits_in (state S.Store k.connection).committed.trees ≡ []) }
         ensures dictionary { IfOk result (λ k. k.dictionary ≡ dictionary) }
+        ensures refused { IfErr result (λ e. RefusesBytes bytes.entry.now e.0) }
         ensures working { IfOk result (λ k. k.has_failed ≡ false) }
         ensures not_empty { IfErr result (λ e. e.0 ≡ CreateError.NotEmpty → (state S.Store connection).now.schema ≢ no_schema) }
         ensures made { IfOk result (λ k. Survives (state S.Store connection) (state S.Store k.connection) (λ trees. (db : _) × IsNewRegister bytes.entry.now db × (trees ≡ db.trees))) }
@@ -73,7 +78,7 @@ impl<S: Alter> SqlKeep<S> {
         ensures same { IfErr result (λ e. e.0 ≢ CreateError.Store → HasCleanDisk (state S.Store e.1)
             → ((state S.Store e.1).now ≡ (state S.Store connection).now) × ((state S.Store e.1).committed ≡ (state S.Store connection).committed)) }
     {
-        if !is_blank(connection.schema()) {
+        if !is_vacant(connection.schema()) {
             return Err((CreateError::NotEmpty, connection));
         }
         if !connection.is_autocommit() {
@@ -103,7 +108,8 @@ impl<S: Alter> SqlKeep<S> {
     ) -> Result<SqlKeep<S>, (CreateError, Connection<S>)>
         requires short { length bytes.now ≤ READABLE }
         ensures empty { IfOk result (λ k. HasCleanDisk (state S.Store k.connection) → deposits_in (state S.Store k.connection).committed.trees ≡ []) }
-        ensures dictionary { IfOk result (λ k. IsDictionary bytes.now k.dictionary) }
+        ensures dictionary { IfOk result (λ k. ReadsDictionary bytes.now (Ok k.dictionary)) }
+        ensures refused { IfErr result (λ e. RefusesBytes bytes.now e.0) }
         ensures working { IfOk result (λ k. k.has_failed ≡ false) }
         ensures not_empty { IfErr result (λ e. e.0 ≡ CreateError.NotEmpty → (state S.Store connection).now.schema ≢ no_schema) }
         ensures made { IfOk result (λ k. Survives (state S.Store connection) (state S.Store k.connection) (λ trees. (db : _) × IsNewRegister bytes.now db × (trees ≡ db.trees))) }
@@ -156,7 +162,8 @@ impl SqlKeep<MemStore> {
     pub fn in_memory(alloc: Global, bytes: &[u8]) -> Result<SqlKeep<MemStore>, CreateError>
         requires short { length bytes.now ≤ READABLE }
         ensures empty { IfOk result (λ k. deposits_in (state over_memory k.connection).committed.trees ≡ []) }
-        ensures dictionary { IfOk result (λ k. IsDictionary bytes.now k.dictionary) }
+        ensures dictionary { IfOk result (λ k. ReadsDictionary bytes.now (Ok k.dictionary)) }
+        ensures refused { IfErr result (RefusesBytes bytes.now) }
         ensures working { IfOk result (λ k. k.has_failed ≡ false) }
     {
         let dictionary = read_dictionary(alloc, bytes)?;
@@ -180,7 +187,8 @@ impl SqlKeep<FileStore<File>> {
     ) -> Result<SqlKeep<FileStore<File>>, CreateError>
         requires short { length bytes.now ≤ READABLE }
         ensures empty { IfOk result (λ k. HasCleanDisk (file_state k.connection) → deposits_in (file_state k.connection).committed.trees ≡ []) }
-        ensures dictionary { IfOk result (λ k. IsDictionary bytes.now k.dictionary) }
+        ensures dictionary { IfOk result (λ k. ReadsDictionary bytes.now (Ok k.dictionary)) }
+        ensures refused { IfErr result (RefusesBytes bytes.now) }
         ensures working { IfOk result (λ k. k.has_failed ≡ false) }
     {
         let dictionary = read_dictionary(alloc, bytes)?;
@@ -196,6 +204,8 @@ impl SqlKeep<FileStore<File>> {
     }
 
     /// The register that the database at a path holds.
+    ///
+    /// It is `open_from` with `Unknown`, of which no clause says anything where the file is not empty.
     pub fn open(
         rt: &HostRuntime,
         alloc: Global,
@@ -203,14 +213,39 @@ impl SqlKeep<FileStore<File>> {
     ) -> Result<SqlKeep<FileStore<File>>, AdoptError>
         ensures working { IfOk result (λ k. k.has_failed ≡ false) }
     {
-        let connection = match Connection::open(rt, path) {
+        match SqlKeep::open_from(rt, alloc, path, Unknown) {
+            Ok(keep) => Ok(keep),
+            Err((error, _connection)) => Err(error),
+        }
+    }
+}
+
+impl<F: Start> SqlKeep<FileStore<FileFrom<F>>> {
+    /// The register that the database at a path holds, where `F` stands for what its files held.
+    ///
+    /// A file that cannot be opened is `Store`, or `NoMemory`; every other refusal comes with the connection that was opened.
+    pub fn open_from(
+        rt: &HostRuntime,
+        alloc: Global,
+        path: &str,
+        start: F,
+    ) -> Result<
+        SqlKeep<FileStore<FileFrom<F>>>,
+        (AdoptError, Option<Connection<FileStore<FileFrom<F>>>>),
+    >
+        ensures adopted { IfOk result (λ k. HasCleanDisk (file_state k.connection) → ∥ HoldsRegister (image_at F.Start) k.dictionary (deposits_in (file_state k.connection).committed.trees) ∥₁) }
+        ensures working { IfOk result (λ k. k.has_failed ≡ false) }
+        ensures refused { IfErr result (λ e. IfSome e.1 (λ c. HasCleanDisk (file_state c) → RefusesFiles (image_at F.Start) e.0)) }
+        ensures unopened { IfErr result (λ e. e.1 ≡ None → (e.0 ≡ AdoptError.Store) ⊎ (e.0 ≡ AdoptError.NoMemory)) }
+    {
+        let connection = match Connection::open_from(rt, path, false, start) {
             Ok(connection) => connection,
-            Err(error) if is_memory(&error) => return Err(AdoptError::NoMemory),
-            Err(_) => return Err(AdoptError::Store),
+            Err((error, _left)) if is_memory(&error) => return Err((AdoptError::NoMemory, None)),
+            Err(_) => return Err((AdoptError::Store, None)),
         };
         match SqlKeep::adopt(alloc, connection) {
             Ok(keep) => Ok(keep),
-            Err((error, _connection)) => Err(error),
+            Err((error, connection)) => Err((error, Some(connection))),
         }
     }
 }

@@ -1,7 +1,6 @@
 //! A keep in memory.
 
 ghost use Rattle.std.specs.Prelude.{◌≡◌, ◌<◌, ◌≤◌, ℤ, List, [], IfOk, All, false, ⊤, length, map, refl};
-ghost use Rattle.std.specs.Str.{bytes_eq};
 ghost use Rattle.ags_check.specs.Findings.{CheckedFile};
 ghost use Rattle.reg_store.specs.Keep.{deposit_of, IsHeadOf};
 ghost use Rattle.reg_store.specs.Deposit.{is_repeat, number_of, numbers_from};
@@ -15,7 +14,7 @@ use ags_check::{CheckError, Checked, check};
 use ags_dict::Dictionary;
 use ags_links::Graph;
 use ags_rows::copy;
-use reg_policy::{Day, Name, NameError};
+use reg_policy::{Day, Name};
 use std::alloc::{AllocError, Global};
 
 /// A register in memory. It answers what its database twin does, and never `Store`.
@@ -59,17 +58,6 @@ impl PlainKeep {
     }
 }
 
-/// A name, once more.
-fn copy_name(alloc: Global, name: &Name) -> Result<Name, AllocError>
-    ensures { IfOk result (λ n. n ≡ name.now) }
-{
-    match Name::read(alloc, name.text()) {
-        Ok(copied) => Ok(copied),
-        Err(NameError::BadName) => unreachable!(),
-        Err(NameError::NoMemory) => Err(AllocError),
-    }
-}
-
 /// A deposit of copies.
 fn kept_of(
     alloc: Global,
@@ -81,20 +69,20 @@ fn kept_of(
     ensures { IfOk result (λ kept. deposit_of kept ≡ record { firm = firm.now; project = project.now; embargo = embargo; bytes = bytes.now }) }
 {
     Ok(Kept {
-        firm: copy_name(alloc, firm)?,
-        project: copy_name(alloc, project)?,
+        firm: firm.clone()?,
+        project: project.clone()?,
         embargo,
         bytes: copy(alloc, bytes)?,
     })
 }
 
 /// The head of a deposit, copied.
-fn head_of(alloc: Global, kept: &Kept) -> Result<KeptHead, AllocError>
+fn head_of(kept: &Kept) -> Result<KeptHead, AllocError>
     ensures { IfOk result (IsHeadOf (deposit_of kept.now)) }
 {
     Ok(KeptHead {
-        firm: copy_name(alloc, &kept.firm)?,
-        project: copy_name(alloc, &kept.project)?,
+        firm: kept.firm.clone()?,
+        project: kept.project.clone()?,
         embargo: kept.embargo,
     })
 }
@@ -110,19 +98,11 @@ fn copy_graph(alloc: Global, graph: &Graph) -> Result<Graph, AllocError>
     }
 }
 
-fn is_name_of(a: &Name, b: &Name) -> bool
-    ensures { result ≡ bytes_eq a.now b.now }
-{
-    a.text() == b.text()
-}
-
 /// Whether a deposit is equal in firm, project and bytes.
 fn is_equal(kept: &Kept, firm: &Name, project: &Name, bytes: &[u8]) -> bool
     ensures { result ≡ is_repeat firm.now project.now bytes.now (deposit_of kept.now) }
 {
-    is_name_of(&kept.firm, firm)
-        && is_name_of(&kept.project, project)
-        && kept.bytes.as_slice() == bytes
+    kept.firm == *firm && kept.project == *project && kept.bytes.as_slice() == bytes
 }
 
 /// The number of the first equal deposit, from 1.
@@ -149,7 +129,7 @@ fn numbers_in(alloc: Global, kept: &[Kept], project: &Name) -> Result<Vec<u32>, 
     let mut number: u32 = 0;
     for one in kept {
         number += 1;
-        if is_name_of(&one.project, project) {
+        if one.project == *project {
             numbers.push(number)?;
         }
     }
@@ -173,7 +153,11 @@ fn recheck<'k>(
 }
 
 /// The rows of a deposit's file.
-fn rows_of(alloc: Global, dictionary: &Dictionary, kept: &Kept) -> Result<Vec<KeptRow>, AllocError>
+fn checked_rows(
+    alloc: Global,
+    dictionary: &Dictionary,
+    kept: &Kept,
+) -> Result<Vec<KeptRow>, AllocError>
     requires { IsFit dictionary.now (deposit_of kept.now) }
     ensures { IfOk result (λ rows. (file : CheckedFile) → IsFileOf dictionary.now (deposit_of kept.now) file → rows.items ≡ rows_in file.groups) }
 {
@@ -182,7 +166,7 @@ fn rows_of(alloc: Global, dictionary: &Dictionary, kept: &Kept) -> Result<Vec<Ke
 }
 
 /// The steps between the DATA rows of a deposit's file.
-fn steps_of(alloc: Global, dictionary: &Dictionary, kept: &Kept) -> Result<Graph, AllocError>
+fn checked_steps(alloc: Global, dictionary: &Dictionary, kept: &Kept) -> Result<Graph, AllocError>
     requires { IsFit dictionary.now (deposit_of kept.now) }
     ensures { IfOk result (λ graph. (file : CheckedFile) → IsFileOf dictionary.now (deposit_of kept.now) file → graph ≡ file.graph) }
 {
@@ -245,17 +229,17 @@ impl Keep for PlainKeep {
     }
 
     fn head(&mut self, n: u32) -> Result<KeptHead, KeepError> {
-        let head = head_of(self.alloc, &self.kept[n as usize - 1])?;
+        let head = head_of(&self.kept[n as usize - 1])?;
         Ok(head)
     }
 
     fn rows(&mut self, n: u32) -> Result<Vec<KeptRow>, KeepError> {
-        let rows = rows_of(self.alloc, &self.dictionary, &self.kept[n as usize - 1])?;
+        let rows = checked_rows(self.alloc, &self.dictionary, &self.kept[n as usize - 1])?;
         Ok(rows)
     }
 
     fn steps(&mut self, n: u32) -> Result<Graph, KeepError> {
-        let graph = steps_of(self.alloc, &self.dictionary, &self.kept[n as usize - 1])?;
+        let graph = checked_steps(self.alloc, &self.dictionary, &self.kept[n as usize - 1])?;
         Ok(graph)
     }
 

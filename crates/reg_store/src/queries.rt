@@ -7,7 +7,7 @@ ghost use Rattle.sqlite.specs.Held.{state};
 ghost use Rattle.sqlite.specs.Given.{IsPlain};
 ghost use Rattle.sqlite.specs.Listing.{understood};
 ghost use Rattle.reg_store.specs.Tables.{register_schema};
-ghost use Rattle.reg_store.specs.Quiet.{IsAsBefore, IsIdle, IsQuiet};
+ghost use Rattle.reg_store.specs.Quiet.{IsAsBefore, IsIdle, IsStill};
 ghost use Rattle.reg_store.specs.Keep.{fails};
 
 use crate::keep::KeepError;
@@ -58,7 +58,7 @@ pub(crate) fn query<S: Alter>(
     ensures shown { HasCleanDisk (state S.Store conn.new) → IfOk result (λ rows. Shown sql.now (bound params.now) (state S.Store conn.old) (state S.Store conn.new) rows.items) }
     ensures open { HasCleanDisk (state S.Store conn.new) → fails result ≡ false → IsTrue (state S.Store conn.new).is_open }
     ensures named { IfErr result (λ e. e ≢ KeepError.Full) }
-    ensures quiet { IsQuiet (state S.Store conn.old) (state S.Store conn.new) (fails result) }
+    ensures quiet { IsStill (state S.Store conn.old) (state S.Store conn.new) (fails result) }
 {
     match ask(conn, sql, params) {
         Ok(rows) => Ok(rows),

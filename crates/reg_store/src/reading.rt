@@ -6,14 +6,13 @@ ghost use Rattle.std.specs.List.Sorted.{IsPermutation};
 ghost use Rattle.sqlite.specs.declared.types.Value.TheVariants.{Int};
 ghost use Rattle.sqlite.specs.State.{HasCleanDisk, Survives};
 ghost use Rattle.sqlite.specs.Held.{state};
-ghost use Rattle.reg_store.specs.Quiet.{IsIdle, IsQuiet};
+ghost use Rattle.reg_store.specs.Quiet.{IsIdle, IsStill};
 ghost use Rattle.reg_store.specs.Deposit.{Deposit, number_of, numbers_from};
 ghost use Rattle.reg_store.specs.Keep.{fails, deposit_of};
-ghost use Rattle.reg_store.specs.Rows.{deposit_table, given_deposit, line_table, step_table, place_rows, step_pair, rows_of, columns_3};
+ghost use Rattle.reg_store.specs.Rows.{deposit_table, given_deposit, line_table, step_table, placed_rows, step_pair, rows_under, columns_3};
 ghost use Rattle.reg_store.specs.declared.keep.KeptRow.{KeptRow};
 ghost use Rattle.sqlite.specs.Tree.{IsAscending};
 ghost use Rattle.ags_links.specs.Steps.{IsBefore};
-ghost use Rattle.reg_store.specs.DataCount.{is_data};
 ghost use Rattle.reg_store.specs.Methods.{HasRows, HasSteps};
 ghost use Rattle.reg_store.specs.Fit.{IsNamed};
 ghost use Rattle.reg_store.specs.Shows.{Holds, head_row};
@@ -21,9 +20,10 @@ ghost use Rattle.reg_store.specs.Register.{deposit_rows, has_number, meta_column
 ghost use Rattle.reg_store.specs.Apart.{AreApart};
 ghost use Rattle.reg_store.specs.Finds.{is_equal};
 
+use crate::gathering::take_shown;
 use crate::keep::{KeepError, Kept, KeptHead, KeptRow};
 use crate::queries::{is_memory, query};
-use crate::readers::{read_deposit, read_head, read_lines, read_numbers, read_steps};
+use crate::readers::{DataCount, KeptLines, KeptSteps, read_deposit, read_head, read_numbers};
 use ags_links::Graph;
 use sqlite::{Alter, Connection, Error, ErrorCode, Row, params};
 use std::alloc::Global;
@@ -39,7 +39,7 @@ pub(crate) fn equal_rows<S: Alter>(
         → rows.items ≡ map (λ n. Int (pos n) ∷ []) (option_to_list (number_of firm.now project.now bytes.now list))) }
     ensures many { HasCleanDisk (state S.Store conn.new) → IfOk result (λ rows. length rows.items ≡ length (filter (is_equal firm.now project.now bytes.now) (deposit_table (state S.Store conn.old).now.trees))) }
     ensures named { IfErr result (λ e. e ≢ KeepError.Full) }
-    ensures quiet { IsQuiet (state S.Store conn.old) (state S.Store conn.new) (fails result) }
+    ensures quiet { IsStill (state S.Store conn.old) (state S.Store conn.new) (fails result) }
 {
     query(
         conn,
@@ -83,7 +83,7 @@ pub(crate) fn find_number<S: Alter>(
     requires idle { IsIdle (state S.Store conn.old) }
     ensures found { HasCleanDisk (state S.Store conn.new) → IfOk result (λ n. (list : List Deposit) → IsPermutation (deposit_rows 1 list) (deposit_table (state S.Store conn.old).now.trees) → AreApart list → n ≡ number_of firm.now project.now bytes.now list) }
     ensures named { IfErr result (λ e. e ≢ KeepError.Full) }
-    ensures quiet { IsQuiet (state S.Store conn.old) (state S.Store conn.new) (fails result) }
+    ensures quiet { IsStill (state S.Store conn.old) (state S.Store conn.new) (fails result) }
 {
     match equal_rows(conn, firm, project, bytes) {
         Ok(rows) => first_number(&rows),
@@ -96,7 +96,7 @@ fn project_rows<S: Alter>(conn: &mut Connection<S>, project: &str) -> Result<Vec
     ensures found { HasCleanDisk (state S.Store conn.new) → IfOk result (λ rows. (list : List Deposit) → IsPermutation (deposit_rows 1 list) (deposit_table (state S.Store conn.old).now.trees)
         → rows.items ≡ map (λ n. Int (pos n) ∷ []) (numbers_from 1 project.now list)) }
     ensures named { IfErr result (λ e. e ≢ KeepError.Full) }
-    ensures quiet { IsQuiet (state S.Store conn.old) (state S.Store conn.new) (fails result) }
+    ensures quiet { IsStill (state S.Store conn.old) (state S.Store conn.new) (fails result) }
 {
     query(
         conn,
@@ -114,7 +114,7 @@ pub(crate) fn find_numbers<S: Alter>(
     requires idle { IsIdle (state S.Store conn.old) }
     ensures found { HasCleanDisk (state S.Store conn.new) → IfOk result (λ ns. (list : List Deposit) → IsPermutation (deposit_rows 1 list) (deposit_table (state S.Store conn.old).now.trees) → ns.items ≡ numbers_from 1 project.now list) }
     ensures named { IfErr result (λ e. e ≢ KeepError.Full) }
-    ensures quiet { IsQuiet (state S.Store conn.old) (state S.Store conn.new) (fails result) }
+    ensures quiet { IsStill (state S.Store conn.old) (state S.Store conn.new) (fails result) }
 {
     match project_rows(conn, project) {
         Ok(rows) => read_numbers(alloc, &rows),
@@ -127,7 +127,7 @@ fn head_rows<S: Alter>(conn: &mut Connection<S>, number: u32) -> Result<Vec<Row>
     requires idle { IsIdle (state S.Store conn.old) }
     ensures found { HasCleanDisk (state S.Store conn.new) → IfOk result (λ rows. Holds (deposit_table (state S.Store conn.old).now.trees) number (λ d. rows.items ≡ head_row d ∷ [])) }
     ensures named { IfErr result (λ e. e ≢ KeepError.Full) }
-    ensures quiet { IsQuiet (state S.Store conn.old) (state S.Store conn.new) (fails result) }
+    ensures quiet { IsStill (state S.Store conn.old) (state S.Store conn.new) (fails result) }
 {
     query(
         conn,
@@ -146,7 +146,7 @@ pub(crate) fn find_head<S: Alter>(
     requires idle { IsIdle (state S.Store conn.old) }
     ensures found { HasCleanDisk (state S.Store conn.new) → IfOk result (λ head. Holds (deposit_table (state S.Store conn.old).now.trees) number (λ d. (head.firm ≡ d.firm) × (head.project ≡ d.project) × (head.embargo ≡ d.embargo))) }
     ensures named { IfErr result (λ e. e ≢ KeepError.Full) }
-    ensures quiet { IsQuiet (state S.Store conn.old) (state S.Store conn.new) (fails result) }
+    ensures quiet { IsStill (state S.Store conn.old) (state S.Store conn.new) (fails result) }
 {
     match head_rows(conn, number) {
         Ok(rows) => read_head(alloc, &rows),
@@ -161,7 +161,7 @@ pub(crate) fn numbered_rows<S: Alter>(
     requires idle { IsIdle (state S.Store conn.old) }
     ensures found { HasCleanDisk (state S.Store conn.new) → IfOk result (λ rows. IsPermutation rows.items (filter (has_number number) (deposit_table (state S.Store conn.old).now.trees))) }
     ensures named { IfErr result (λ e. e ≢ KeepError.Full) }
-    ensures quiet { IsQuiet (state S.Store conn.old) (state S.Store conn.new) (fails result) }
+    ensures quiet { IsStill (state S.Store conn.old) (state S.Store conn.new) (fails result) }
 {
     query(
         conn,
@@ -180,7 +180,7 @@ pub(crate) fn find_deposit<S: Alter>(
     ensures found { HasCleanDisk (state S.Store conn.new) → IfOk result (λ kept. filter (has_number number) (deposit_table (state S.Store conn.old).now.trees) ≡ given_deposit number (deposit_of kept) ∷ []) }
     ensures is_named { IfOk result (λ kept. IsNamed (deposit_of kept)) }
     ensures named { IfErr result (λ e. e ≢ KeepError.Full) }
-    ensures quiet { IsQuiet (state S.Store conn.old) (state S.Store conn.new) (fails result) }
+    ensures quiet { IsStill (state S.Store conn.old) (state S.Store conn.new) (fails result) }
 {
     match numbered_rows(conn, number) {
         Ok(rows) => read_deposit(alloc, number, &rows),
@@ -193,10 +193,10 @@ pub(crate) fn line_rows<S: Alter>(
     number: u32,
 ) -> Result<Vec<Row>, KeepError>
     requires idle { IsIdle (state S.Store conn.old) }
-    ensures found { HasCleanDisk (state S.Store conn.new) → IfOk result (λ rows. (file : List KeptRow) → IsPermutation (place_rows 0 file) (rows_of number (line_table (state S.Store conn.old).now.trees)) → rows.items ≡ place_rows 0 file) }
-    ensures all { HasCleanDisk (state S.Store conn.new) → IfOk result (λ rows. IsPermutation rows.items (rows_of number (line_table (state S.Store conn.old).now.trees))) }
+    ensures found { HasCleanDisk (state S.Store conn.new) → IfOk result (λ rows. (file : List KeptRow) → IsPermutation (placed_rows 0 file) (rows_under number (line_table (state S.Store conn.old).now.trees)) → rows.items ≡ placed_rows 0 file) }
+    ensures all { HasCleanDisk (state S.Store conn.new) → IfOk result (λ rows. IsPermutation rows.items (rows_under number (line_table (state S.Store conn.old).now.trees))) }
     ensures named { IfErr result (λ e. e ≢ KeepError.Full) }
-    ensures quiet { IsQuiet (state S.Store conn.old) (state S.Store conn.new) (fails result) }
+    ensures quiet { IsStill (state S.Store conn.old) (state S.Store conn.new) (fails result) }
 {
     query(
         conn,
@@ -212,13 +212,21 @@ pub(crate) fn find_lines<S: Alter>(
     number: u32,
 ) -> Result<Vec<KeptRow>, KeepError>
     requires idle { IsIdle (state S.Store conn.old) }
-    ensures found { HasCleanDisk (state S.Store conn.new) → IfOk result (λ lines. (file : List KeptRow) → IsPermutation (place_rows 0 file) (rows_of number (line_table (state S.Store conn.old).now.trees)) → lines.items ≡ file) }
-    ensures held { HasCleanDisk (state S.Store conn.new) → IfOk result (λ lines. IsPermutation (place_rows 0 lines.items) (rows_of number (line_table (state S.Store conn.old).now.trees))) }
+    ensures found { HasCleanDisk (state S.Store conn.new) → IfOk result (λ lines. (file : List KeptRow) → IsPermutation (placed_rows 0 file) (rows_under number (line_table (state S.Store conn.old).now.trees)) → lines.items ≡ file) }
+    ensures held { HasCleanDisk (state S.Store conn.new) → IfOk result (λ lines. IsPermutation (placed_rows 0 lines.items) (rows_under number (line_table (state S.Store conn.old).now.trees))) }
     ensures named { IfErr result (λ e. e ≢ KeepError.Full) }
-    ensures quiet { IsQuiet (state S.Store conn.old) (state S.Store conn.new) (fails result) }
+    ensures quiet { IsStill (state S.Store conn.old) (state S.Store conn.new) (fails result) }
 {
-    match line_rows(conn, number) {
-        Ok(rows) => read_lines(alloc, &rows),
+    let mut lines = KeptLines {
+        lines: Vec::new(alloc),
+    };
+    match take_shown(
+        conn,
+        "SELECT seq, grp, kind, line FROM lines WHERE deposit = ?1 ORDER BY seq",
+        params![number],
+        &mut lines,
+    ) {
+        Ok(()) => Ok(lines.lines),
         Err(error) => Err(error),
     }
 }
@@ -228,10 +236,10 @@ pub(crate) fn step_rows<S: Alter>(
     number: u32,
 ) -> Result<Vec<Row>, KeepError>
     requires idle { IsIdle (state S.Store conn.old) }
-    ensures found { HasCleanDisk (state S.Store conn.new) → IfOk result (λ rows. (steps : List (ℕ × ℕ)) → IsAscending IsBefore steps → IsPermutation (map step_pair steps) (rows_of number (step_table (state S.Store conn.old).now.trees)) → rows.items ≡ map step_pair steps) }
-    ensures all { HasCleanDisk (state S.Store conn.new) → IfOk result (λ rows. IsPermutation rows.items (rows_of number (step_table (state S.Store conn.old).now.trees))) }
+    ensures found { HasCleanDisk (state S.Store conn.new) → IfOk result (λ rows. (steps : List (ℕ × ℕ)) → IsAscending IsBefore steps → IsPermutation (map step_pair steps) (rows_under number (step_table (state S.Store conn.old).now.trees)) → rows.items ≡ map step_pair steps) }
+    ensures all { HasCleanDisk (state S.Store conn.new) → IfOk result (λ rows. IsPermutation rows.items (rows_under number (step_table (state S.Store conn.old).now.trees))) }
     ensures named { IfErr result (λ e. e ≢ KeepError.Full) }
-    ensures quiet { IsQuiet (state S.Store conn.old) (state S.Store conn.new) (fails result) }
+    ensures quiet { IsStill (state S.Store conn.old) (state S.Store conn.new) (fails result) }
 {
     query(
         conn,
@@ -247,37 +255,22 @@ pub(crate) fn find_steps<S: Alter>(
     number: u32,
 ) -> Result<Vec<(u32, u32)>, KeepError>
     requires idle { IsIdle (state S.Store conn.old) }
-    ensures found { HasCleanDisk (state S.Store conn.new) → IfOk result (λ read. (steps : List (ℕ × ℕ)) → IsAscending IsBefore steps → IsPermutation (map step_pair steps) (rows_of number (step_table (state S.Store conn.old).now.trees)) → read.items ≡ steps) }
-    ensures held { HasCleanDisk (state S.Store conn.new) → IfOk result (λ read. IsPermutation (map step_pair read.items) (rows_of number (step_table (state S.Store conn.old).now.trees))) }
+    ensures found { HasCleanDisk (state S.Store conn.new) → IfOk result (λ read. (steps : List (ℕ × ℕ)) → IsAscending IsBefore steps → IsPermutation (map step_pair steps) (rows_under number (step_table (state S.Store conn.old).now.trees)) → read.items ≡ steps) }
+    ensures held { HasCleanDisk (state S.Store conn.new) → IfOk result (λ read. IsPermutation (map step_pair read.items) (rows_under number (step_table (state S.Store conn.old).now.trees))) }
     ensures named { IfErr result (λ e. e ≢ KeepError.Full) }
-    ensures quiet { IsQuiet (state S.Store conn.old) (state S.Store conn.new) (fails result) }
+    ensures quiet { IsStill (state S.Store conn.old) (state S.Store conn.new) (fails result) }
 {
-    match step_rows(conn, number) {
-        Ok(rows) => read_steps(alloc, &rows),
+    let mut steps = KeptSteps {
+        steps: Vec::new(alloc),
+    };
+    match take_shown(
+        conn,
+        "SELECT child, target FROM steps WHERE deposit = ?1 ORDER BY child, target",
+        params![number],
+        &mut steps,
+    ) {
+        Ok(()) => Ok(steps.steps),
         Err(error) => Err(error),
-    }
-}
-
-fn count_data(rows: &[KeptRow]) -> usize
-    ensures { result ≡ length (filter is_data rows.now) }
-{
-    let mut count: usize = 0;
-    for row in rows {
-        if row.kind == 4 {
-            count += 1;
-        }
-    }
-    count
-}
-
-/// How many DATA rows there are.
-fn data_count(rows: &[KeptRow]) -> Result<u32, KeepError>
-    ensures named { IfErr result (λ e. e ≢ KeepError.Full) }
-    ensures count { IfOk result (λ n. n ≡ length (filter is_data rows.now)) }
-{
-    match u32::try_from(count_data(rows)) {
-        Ok(count) => Ok(count),
-        Err(_) => Err(KeepError::Store),
     }
 }
 
@@ -293,18 +286,20 @@ fn graph_of(rows: u32, steps: Vec<(u32, u32)>) -> Result<Graph, KeepError>
 }
 
 /// How many DATA rows are kept of a deposit.
-fn find_data<S: Alter>(
-    conn: &mut Connection<S>,
-    alloc: Global,
-    number: u32,
-) -> Result<u32, KeepError>
+fn find_data<S: Alter>(conn: &mut Connection<S>, number: u32) -> Result<u32, KeepError>
     requires idle { IsIdle (state S.Store conn.old) }
     ensures found { HasCleanDisk (state S.Store conn.new) → IfOk result (λ n. HasRows number (line_table (state S.Store conn.old).now.trees) n) }
     ensures named { IfErr result (λ e. e ≢ KeepError.Full) }
-    ensures quiet { IsQuiet (state S.Store conn.old) (state S.Store conn.new) (fails result) }
+    ensures quiet { IsStill (state S.Store conn.old) (state S.Store conn.new) (fails result) }
 {
-    match find_lines(conn, alloc, number) {
-        Ok(lines) => data_count(lines.as_slice()),
+    let mut data = DataCount { count: 0 };
+    match take_shown(
+        conn,
+        "SELECT seq, grp, kind, line FROM lines WHERE deposit = ?1 ORDER BY seq",
+        params![number],
+        &mut data,
+    ) {
+        Ok(()) => Ok(data.count),
         Err(error) => Err(error),
     }
 }
@@ -320,9 +315,9 @@ pub(crate) fn find_graph<S: Alter>(
     ensures rows { HasCleanDisk (state S.Store conn.new) → IfOk result (λ graph. HasRows number (line_table (state S.Store conn.old).now.trees) graph.rows) }
     ensures steps { HasCleanDisk (state S.Store conn.new) → IfOk result (λ graph. HasSteps number (step_table (state S.Store conn.old).now.trees) graph.steps) }
     ensures named { IfErr result (λ e. e ≢ KeepError.Full) }
-    ensures quiet { IsQuiet (state S.Store conn.old) (state S.Store conn.new) (fails result) }
+    ensures quiet { IsStill (state S.Store conn.old) (state S.Store conn.new) (fails result) }
 {
-    let rows = find_data(conn, alloc, number)?;
+    let rows = find_data(conn, number)?;
     match find_steps(conn, alloc, number) {
         Ok(steps) => graph_of(rows, steps),
         Err(error) => Err(error),
@@ -335,7 +330,7 @@ pub(crate) fn meta_rows<S: Alter>(conn: &mut Connection<S>) -> Result<Vec<Row>, 
     ensures found { HasCleanDisk (state S.Store conn.new) → IfOk result (λ rows. (text : List ℕ) → IsPermutation (meta_columns text) (map columns_3 ((state S.Store conn.old).now.trees 0)) → rows.items ≡ meta_columns text) }
     ensures open { HasCleanDisk (state S.Store conn.new) → fails result ≡ false → IsTrue (state S.Store conn.new).is_open }
     ensures named { IfErr result (λ e. e ≢ KeepError.Full) }
-    ensures quiet { IsQuiet (state S.Store conn.old) (state S.Store conn.new) (fails result) }
+    ensures quiet { IsStill (state S.Store conn.old) (state S.Store conn.new) (fails result) }
 {
     query(conn, "SELECT name, num, body FROM meta ORDER BY name", &[])
 }

@@ -379,7 +379,7 @@ pub(crate) fn is_register(schema: &Schema) -> bool
 }
 
 /// Whether there is no table, no index and no view.
-pub(crate) fn is_blank(schema: &Schema) -> bool
+pub(crate) fn is_vacant(schema: &Schema) -> bool
     ensures blank { IsTrue result → schema.now ≡ no_schema }
     ensures not_blank { schema.now ≡ no_schema → IsTrue result }
 {

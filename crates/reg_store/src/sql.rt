@@ -6,7 +6,7 @@ ghost use Rattle.reg_store.specs.Keep.{fails, is_store as store_error};
 ghost use Rattle.reg_store.specs.KeepLaws.{few_at, fit_at, settled_at, stays_at};
 ghost use Rattle.sqlite.specs.State.{HasCleanDisk};
 ghost use Rattle.sqlite.specs.Held.{state};
-ghost use Rattle.reg_store.specs.Register.{deposits_in, LeavesList, Keeps};
+ghost use Rattle.reg_store.specs.Register.{deposits_in, LeavesList, KeepsRegister};
 
 use crate::keep::{Keep, KeepError, Kept, KeptHead, KeptRow};
 use crate::reading::{find_deposit, find_graph, find_head, find_lines, find_number, find_numbers};
@@ -32,14 +32,14 @@ pub struct SqlKeep<S: Alter> {
     pub(crate) alloc: Global,
     ghost idle: { connection.in_transaction ≡ false },
     ghost few: { count ≤ 999999 },
-    ghost kept: { has_failed ≡ false → HasCleanDisk (state S.Store connection) → ∥ Keeps (state S.Store connection) dictionary count ∥₁ },
+    ghost kept: { has_failed ≡ false → HasCleanDisk (state S.Store connection) → ∥ KeepsRegister (state S.Store connection) dictionary count ∥₁ },
 }
 
 impl<S: Alter> SqlKeep<S> {
     /// The connection, whose tables are the register of this list where the keep has not failed.
     pub fn into_connection(self) -> Connection<S>
         ensures connection { result ≡ self.connection }
-        ensures kept { self.has_failed ≡ false → HasCleanDisk (state S.Store result) → ∥ Keeps (state S.Store result) self.dictionary self.count ∥₁ }
+        ensures kept { self.has_failed ≡ false → HasCleanDisk (state S.Store result) → ∥ KeepsRegister (state S.Store result) self.dictionary self.count ∥₁ }
     {
         let SqlKeep {
             connection,
@@ -98,7 +98,7 @@ impl<S: Alter> Keep for SqlKeep<S> {
             number,
             firm: firm.text(),
             project: project.text(),
-            embargo: day_number(embargo),
+            embargo: stored_day(embargo),
             body: checked.bytes(),
         };
         let added = add_file(
@@ -183,7 +183,7 @@ fn is_store<T>(outcome: &Result<T, KeepError>) -> bool
 }
 
 /// The number of a day.
-fn day_number(day: Day) -> u32
+fn stored_day(day: Day) -> u32
     ensures number { pos result ≡ day }
     ensures is_day { IsTrue (is_day_number day) }
 {

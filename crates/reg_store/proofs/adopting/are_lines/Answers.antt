@@ -1,5 +1,5 @@
 use Rattle.std.proofs.Common.{rules, arith, ◌≡◌, ◌<◌, ◌+◌, ℕ, [], length, get_or, refl, ap, sym, ◌∙◌}
-use Rattle.reg_store.specs.Rows.{place_row, place_rows}
+use Rattle.reg_store.specs.Rows.{placed_row, placed_rows}
 use Rattle.reg_store.proofs.RowsLemmas.{not_true, same_at, same_list, one_further, places_long, place_first, read_at}
 use Rattle.reg_store.proofs.adopting.are_lines.Goals as goal
 
@@ -15,8 +15,8 @@ returns-then-not-is_line c =
     let line : get_or lines at c.index-lines-at.result ≡ c.index-lines-at.result = search rules in (
       λ h. absurd (not_true h),
       λ are.
-          (let here : get_or rows at [] ≡ place_row at c.index-lines-at.result = ap (λ all. get_or all at []) are ∙ place_first lines at c.index-lines-at.result under line in
-          let row : c.index-rows-at.result ≡ place_row at c.index-lines-at.result = same_at rows at [] _ _ (search rules) (search rules) here in
+          (let here : get_or rows at [] ≡ placed_row at c.index-lines-at.result = ap (λ all. get_or all at []) are ∙ place_first lines at c.index-lines-at.result under line in
+          let row : c.index-rows-at.result ≡ placed_row at c.index-lines-at.result = same_at rows at [] _ _ (search rules) (search rules) here in
           c.if-not-is_line.ensures.1 row),
     )
 
@@ -27,8 +27,8 @@ loop-at-preserved c =
     let at = c.loop-at.at in
     let under : at < length lines = search rules in
     let line : get_or lines at c.index-lines-at.result ≡ c.index-lines-at.result = search rules in
-    let row : get_or rows at [] ≡ place_row at c.index-lines-at.result = read_at rows at [] _ (search rules) (search rules) ∙ c.if-not-is_line.ensures.0 (search rules) in
-    one_further (λ k. get_or rows k [] ≡ get_or (place_rows 0 lines) k []) at c.loop-at.invariant (row ∙ sym (place_first lines at c.index-lines-at.result under line))
+    let row : get_or rows at [] ≡ placed_row at c.index-lines-at.result = read_at rows at [] _ (search rules) (search rules) ∙ c.if-not-is_line.ensures.0 (search rules) in
+    one_further (λ k. get_or rows k [] ≡ get_or (placed_rows 0 lines) k []) at c.loop-at.invariant (row ∙ sym (place_first lines at c.index-lines-at.result under line))
 
 pub returns : goal.returns
 returns c =
@@ -36,4 +36,4 @@ returns c =
     let lines = c.args.lines.now in
     let long : length rows ≡ length lines = search rules in
     let end : c.loop-at.at ≡ length rows = search rules in
-    (λ _. same_list [] rows (place_rows 0 lines) (long ∙ sym (places_long 0 lines)) (λ k low. c.loop-at.invariant k (omega (arith, low, end))), λ _. refl)
+    (λ _. same_list [] rows (placed_rows 0 lines) (long ∙ sym (places_long 0 lines)) (λ k low. c.loop-at.invariant k (omega (arith, low, end))), λ _. refl)

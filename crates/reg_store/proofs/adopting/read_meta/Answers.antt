@@ -4,8 +4,8 @@ use Rattle.reg_store.proofs.adopting.read_meta.Goals as goal
 
 pub returns-in-Some-meta_text : goal.returns-in-Some-meta_text
 returns-in-Some-meta_text c =
-    let read = c.read_dictionary.ensures in
-    meta_reads c.read_dictionary.result c.args.rows.now _ c.in-Some-meta_text.ensures.found (c.in-None.ensures.none refl) read.read read.refused read.named
+    let read = c.read_kept_dictionary.ensures in
+    meta_reads c.read_kept_dictionary.result c.args.rows.now _ c.in-Some-meta_text.ensures.found (c.in-None.ensures.none refl) read.read read.refused read.named
 
 pub returns-in-None-meta_text : goal.returns-in-None-meta_text
 returns-in-None-meta_text c = (λ n has. c.in-None.ensures.none refl n has.0 has.1 has.2, λ dictionary reads. c.in-None-meta_text.ensures.none refl reads.0 reads.1)

@@ -2,7 +2,7 @@ use Rattle.std.proofs.Common.{rules, ◌≡◌, None, Some, Err, refl, subst}
 use Rattle.sqlite.specs.Effect.{Database}
 use Rattle.sqlite.specs.Held.{state}
 use Rattle.reg_store.specs.Quiet.{clean_before}
-use Rattle.reg_store.specs.Adoption.{Finds}
+use Rattle.reg_store.specs.Adoption.{CountsDeposits}
 use Rattle.reg_store.proofs.ExamineLemmas.{meta_adopts, none_adopts}
 use Rattle.reg_store.proofs.examining.examine.Goals as goal
 
@@ -15,13 +15,13 @@ returns-in-Ok-None-clause-adopts g c clean =
     let mid = state g.S.Store c.find_dictionary.new.conn in
     let early = clean_before mid (state g.S.Store c.find_register.new.conn) c.find_register.ensures.quiet.survives clean in
     let same = (c.in-Ok.ensures.quiet.same early refl).0 in
-    let found = subst (Finds mid.now c.in-Ok.dictionary) c.in-Ok-None.field-0-is (c.in-Ok-None.ensures.found clean) in
-    none_adopts old.now c.in-Ok.dictionary (c.in-Ok.ensures.read early) (subst (λ (db : Database). Finds db c.in-Ok.dictionary None) same found)
+    let found = subst (CountsDeposits mid.now c.in-Ok.dictionary) c.in-Ok-None.field-0-is (c.in-Ok-None.ensures.found clean) in
+    none_adopts old.now c.in-Ok.dictionary (c.in-Ok.ensures.read early) (subst (λ (db : Database). CountsDeposits db c.in-Ok.dictionary None) same found)
 
 pub returns-in-Ok-Some-clause-adopts : goal.returns-in-Ok-Some-clause-adopts
 returns-in-Ok-Some-clause-adopts g c clean =
     let mid = state g.S.Store c.find_dictionary.new.conn in
     let early = clean_before mid (state g.S.Store c.find_register.new.conn) c.find_register.ensures.quiet.survives clean in
     let same = (c.in-Ok.ensures.quiet.same early refl).0 in
-    let found = subst (Finds mid.now c.in-Ok.dictionary) c.in-Ok-Some.field-0-is (c.in-Ok-Some.ensures.found clean) in
-    subst (λ (db : Database). Finds db c.in-Ok.dictionary (Some c.in-Ok-Some.count)) same found
+    let found = subst (CountsDeposits mid.now c.in-Ok.dictionary) c.in-Ok-Some.field-0-is (c.in-Ok-Some.ensures.found clean) in
+    subst (λ (db : Database). CountsDeposits db c.in-Ok.dictionary (Some c.in-Ok-Some.count)) same found

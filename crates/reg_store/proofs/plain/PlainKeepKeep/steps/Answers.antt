@@ -5,8 +5,8 @@ use Rattle.reg_store.specs.Fit.{IsFileOf}
 use Rattle.reg_store.proofs.PlainLemmas.{kept_is_deposit, kept_is_fit}
 use Rattle.reg_store.proofs.plain.PlainKeepKeep.steps.Goals as goal
 
-pub steps_of-requires : goal.steps_of-requires
-steps_of-requires c =
+pub checked_steps-requires : goal.checked_steps-requires
+checked_steps-requires c =
     let keep = c.args.self.now in
     let number = c.requires.number tt in
     let low : c.args.n - 1 < length (map deposit_of keep.kept.items) = omega (arith, number.0, number.1) in

@@ -9,7 +9,7 @@ use Rattle.reg_store.specs.Fit.{IsFileOf, IsNamed, kept_rows}
 use Rattle.reg_store.specs.Inserts.{AddsFile}
 use Rattle.reg_store.specs.Register.{deposits_in}
 use Rattle.reg_store.specs.RegisterLaws.{IsReady}
-use Rattle.reg_store.specs.KeepLaws.{schema_at, settled_of, keeps_same, IsMore, adds_at, counted_at, crash_at}
+use Rattle.reg_store.specs.KeepLaws.{schema_at, settled_of, keeps_same, HoldsMore, adds_at, counted_at, crash_at}
 use Rattle.reg_store.proofs.sql.SqlKeepKeep.add.Goals as goal
 
 pub add_file-added-requires-clause-schema : goal.add_file-added-requires-clause-schema
@@ -25,13 +25,13 @@ invariant_of-self-clause-kept g c works clean =
     let d = deposit_from c.args.firm.now c.args.project.now c.args.embargo file.bytes in
     let low : keep.count < 999999 = omega arith in
     let fit : IsFileOf keep.dictionary d file = record { given = c.requires.dictionary; bytes = refl; clean = c.bytes.ensures.clean; short = c.requires.short } in
-    let named : IsNamed d = record { firm = c.text.ensures.is_name; project = c.text-2.ensures.is_name; embargo = c.day_number.ensures.is_day } in
+    let named : IsNamed d = record { firm = c.text.ensures.is_name; project = c.text-2.ensures.is_name; embargo = c.stored_day.ensures.is_day } in
     let ready : IsReady keep.dictionary (deposits_in old.committed.trees) d file = record { its = fit; named = named; fresh = c.requires.fresh first } in
     let rows_are : c.as_slice.result.now ≡ kept_rows file.groups = search rules in
     let steps_are : c.steps.result.now ≡ file.graph.steps = search rules in
-    let bare = rw (c.text.ensures.text, c.text-2.ensures.text, c.bytes.ensures.bytes, c.day_number.ensures.number) at (c.in-Ok-added.ensures.put clean) in
+    let bare = rw (c.text.ensures.text, c.text-2.ensures.text, c.bytes.ensures.bytes, c.stored_day.ensures.number) at (c.in-Ok-added.ensures.put clean) in
     let put = subst₂ (λ rows steps. AddsFile (keep.count + 1) d rows steps old.now new.now) rows_are steps_are bare in
-    let more : IsMore old new keep.dictionary keep.count d = adds_at {old = old} {new = new} d file (keep.kept c.requires.working first) low put (c.in-Ok-added.ensures.sound clean) (c.in-Ok-added.ensures.settled clean) (c.in-Ok-added.ensures.open clean refl) ready in
+    let more : HoldsMore old new keep.dictionary keep.count d = adds_at {old = old} {new = new} d file (keep.kept c.requires.working first) low put (c.in-Ok-added.ensures.sound clean) (c.in-Ok-added.ensures.settled clean) (c.in-Ok-added.ensures.open clean refl) ready in
     more.kept
 
 pub invariant_of-self-in-Err-clause-kept : goal.invariant_of-self-in-Err-clause-kept
@@ -54,16 +54,16 @@ returns-in-Ok-added g c =
     let d = deposit_from c.args.firm.now c.args.project.now c.args.embargo file.bytes in
     let low : keep.count < 999999 = omega arith in
     let before = λ (clean : HasCleanDisk new). clean_before old new c.add_file-added.ensures.crash clean in
-    let survives = rw (c.text.ensures.text, c.text-2.ensures.text, c.bytes.ensures.bytes, c.day_number.ensures.number) at c.add_file-added.ensures.crash in
+    let survives = rw (c.text.ensures.text, c.text-2.ensures.text, c.bytes.ensures.bytes, c.stored_day.ensures.number) at c.add_file-added.ensures.crash in
     let fit : IsFileOf keep.dictionary d file = record { given = c.requires.dictionary; bytes = refl; clean = c.bytes.ensures.clean; short = c.requires.short } in
-    let named : IsNamed d = record { firm = c.text.ensures.is_name; project = c.text-2.ensures.is_name; embargo = c.day_number.ensures.is_day } in
+    let named : IsNamed d = record { firm = c.text.ensures.is_name; project = c.text-2.ensures.is_name; embargo = c.stored_day.ensures.is_day } in
     let rows_are : c.as_slice.result.now ≡ kept_rows file.groups = search rules in
     let steps_are : c.steps.result.now ≡ file.graph.steps = search rules in
     let more = λ (clean : HasCleanDisk new).
     (let ready : IsReady keep.dictionary (deposits_in old.committed.trees) d file = record { its = fit; named = named; fresh = c.requires.fresh (before clean) } in
-    let bare = rw (c.text.ensures.text, c.text-2.ensures.text, c.bytes.ensures.bytes, c.day_number.ensures.number) at (c.in-Ok-added.ensures.put clean) in
+    let bare = rw (c.text.ensures.text, c.text-2.ensures.text, c.bytes.ensures.bytes, c.stored_day.ensures.number) at (c.in-Ok-added.ensures.put clean) in
     let put = subst₂ (λ rows steps. AddsFile (keep.count + 1) d rows steps old.now new.now) rows_are steps_are bare in
-    let it : IsMore old new keep.dictionary keep.count d = adds_at {old = old} {new = new} d file (keep.kept c.requires.working (before clean)) low put (c.in-Ok-added.ensures.sound clean) (c.in-Ok-added.ensures.settled clean) (c.in-Ok-added.ensures.open clean refl) ready in it) in
+    let it : HoldsMore old new keep.dictionary keep.count d = adds_at {old = old} {new = new} d file (keep.kept c.requires.working (before clean)) low put (c.in-Ok-added.ensures.sound clean) (c.in-Ok-added.ensures.settled clean) (c.in-Ok-added.ensures.open clean refl) ready in it) in
     record {
       number = λ clean. counted_at {s = new} (more clean).kept;
       room = λ clean. subst (λ n. n < 999999) (counted_at {s = old} (keep.kept c.requires.working (before clean))) low;
@@ -88,7 +88,7 @@ returns-clause-leaves g c =
     let d = deposit_from c.args.firm.now c.args.project.now c.args.embargo file.bytes in
     let low : keep.count < 999999 = omega arith in
     let before = λ (clean : HasCleanDisk new). clean_before old new c.add_file-added.ensures.crash clean in
-    let survives = rw (c.text.ensures.text, c.text-2.ensures.text, c.bytes.ensures.bytes, c.day_number.ensures.number) at c.add_file-added.ensures.crash in
+    let survives = rw (c.text.ensures.text, c.text-2.ensures.text, c.bytes.ensures.bytes, c.stored_day.ensures.number) at c.add_file-added.ensures.crash in
     record {
       sound = before;
       same_dictionary = refl;

@@ -4,7 +4,7 @@ use Rattle.sqlite.specs.Held.{state}
 use Rattle.reg_store.specs.Quiet.{clean_before}
 use Rattle.reg_store.specs.Register.{deposits_in}
 use Rattle.reg_store.specs.KeepLaws.{idle_at, keeps_quiet, crash_same}
-use Rattle.reg_store.specs.Methods.{deposit_at}
+use Rattle.reg_store.specs.Methods.{deposit_read_at}
 use Rattle.reg_store.proofs.sql.SqlKeepKeep.deposit.Goals as goal
 
 pub find_deposit-found-requires : goal.find_deposit-found-requires
@@ -36,4 +36,4 @@ returns-clause-read g c clean =
     let old = state g.S.Store c.args.self.now.connection in
     let new = state g.S.Store c.find_deposit-found.new.conn in
     let first = clean_before old new c.find_deposit-found.ensures.quiet.survives clean in
-    deposit_at {s = old} c.args.n c.find_deposit-found.result (c.requires.number first).0 (c.requires.number first).1 (c.args.self.now.kept c.requires.working first) (c.find_deposit-found.ensures.found clean)
+    deposit_read_at {s = old} c.args.n c.find_deposit-found.result (c.requires.number first).0 (c.requires.number first).1 (c.args.self.now.kept c.requires.working first) (c.find_deposit-found.ensures.found clean)

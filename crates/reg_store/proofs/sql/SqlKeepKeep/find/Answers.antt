@@ -3,7 +3,7 @@ use Rattle.sqlite.specs.Effect.{Database}
 use Rattle.sqlite.specs.Held.{state}
 use Rattle.reg_store.specs.Quiet.{clean_before}
 use Rattle.reg_store.specs.Register.{deposits_in}
-use Rattle.reg_store.specs.KeepLaws.{idle_at, keeps_quiet, crash_same, found_at}
+use Rattle.reg_store.specs.KeepLaws.{idle_at, keeps_quiet, crash_same, number_found_at}
 use Rattle.reg_store.proofs.sql.SqlKeepKeep.find.Goals as goal
 
 pub find_number-found-requires : goal.find_number-found-requires
@@ -35,5 +35,5 @@ returns-clause-found g c clean =
     let old = state g.S.Store c.args.self.now.connection in
     let new = state g.S.Store c.find_number-found.new.conn in
     let first = clean_before old new c.find_number-found.ensures.quiet.survives clean in
-    found_at {s = old} c.args.firm.now c.args.project.now c.args.bytes.now c.find_number-found.result (c.args.self.now.kept c.requires.working first)
+    number_found_at {s = old} c.args.firm.now c.args.project.now c.args.bytes.now c.find_number-found.result (c.args.self.now.kept c.requires.working first)
     (rw (c.text.ensures.text, c.text-2.ensures.text) at (c.find_number-found.ensures.found clean))

@@ -2,7 +2,7 @@ use Rattle.std.proofs.Common.{◌≡◌, Err, rules, refl, subst}
 use Rattle.ags_dict.specs.declared.reading.DictError.TheVariants.{NotDictionary, NoDict, MissingHeading}
 use Rattle.ags_dict.specs.Reading.{ReadsDictionary}
 use Rattle.reg_store.proofs.ExamineLemmas.{not_dictionary, has_dict_then, has_headings_then}
-use Rattle.reg_store.proofs.adopting.read_dictionary.Goals as goal
+use Rattle.reg_store.proofs.adopting.read_kept_dictionary.Goals as goal
 
 pub returns-in-Err-NotDictionary-clause-refused : goal.returns-in-Err-NotDictionary-clause-refused
 returns-in-Err-NotDictionary-clause-refused c _ dictionary short reads =
