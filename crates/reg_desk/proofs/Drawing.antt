@@ -92,6 +92,7 @@ reads_answered keep old new failed reads lives = record {
   cause = λ s. lives s ∙ reads.cause s;
   same = λ s e. reads.same s refl;
   crash = reads.crash;
+  whole = reads.whole;
 }
 
 -- what a keep tells of the deposit of a number

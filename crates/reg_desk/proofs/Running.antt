@@ -135,18 +135,22 @@ pub record Going {K : Type 0} (keep : Ghosts K) (rules : List Rule) (old now : K
 abbrev pub Settled : {K : Type 0} → Ghosts K → Type 0
 Settled {K} keep = (k : K) (list : List Deposit) → keep.is_sound k → keep.has_failed k ≡ false → keep.may_leave k list → list ≡ keep.deposits k
 
+-- a keep that has not failed leaves a register of some list
+abbrev pub Unbroken : {K : Type 0} → Ghosts K → Type 0
+Unbroken {K} keep = (k : K) → keep.is_sound k → keep.has_failed k ≡ false → keep.may_break k → ⊥
+
 or_nothing : (t : Bool) → t ≡ (t || false)
 or_nothing true = refl
 or_nothing false = refl
 
-pub run_begins : {K : Type 0} (keep : Ghosts K) (rules : List Rule) (old : K) (began : Bool) → Settled keep → (keep.has_failed old ≡ true → began ≡ true) → Going keep rules old old began began [] []
-run_begins keep rules old began settled sticky = record {
+pub run_begins : {K : Type 0} (keep : Ghosts K) (rules : List Rule) (old : K) (began : Bool) → Settled keep → Unbroken keep → (keep.has_failed old ≡ true → began ≡ true) → Going keep rules old old began began [] []
+run_begins keep rules old began settled unbroken sticky = record {
   sound = λ s. s;
   same_dictionary = refl;
   same_limit = refl;
   flag = or_nothing began;
   stuck = λ e. (tt, refl);
-  runs = λ s e. ∣ record { last = keep.deposits old; answered = refl; kept = λ h. refl; left = λ list may. settled old list s (works (keep.has_failed old) e sticky) may } ∣₁;
+  runs = λ s e. ∣ record { last = keep.deposits old; answered = refl; kept = λ h. refl; left = λ list may. settled old list s (works (keep.has_failed old) e sticky) may; whole = unbroken old s (works (keep.has_failed old) e sticky) } ∣₁;
 }
   where
     works : (t : Bool) → began ≡ false → (t ≡ true → began ≡ true) → t ≡ false
@@ -168,6 +172,7 @@ runs_told keep rules old mid new requests answers r a settled register sound non
       kept = λ e. refl;
       left = λ list may.
           subst (λ (o : Option Asked). IsLeft o (keep.deposits new) list) (sym no_failing) (settled new list sound (sym (serves.cause sound) ∙ lives) may);
+      whole = λ may. runs.whole (serves.whole sound may);
     }
   where
     one_lives : (t : Bool) → t ≡ false → cond t (Some r) None ≡ None
@@ -191,6 +196,7 @@ runs_fail keep rules old mid new requests answers r a settled register sound wor
             | inl was ↦ inl (settled mid list (serves.sound sound) works was ∙ now)
             | inr adds ↦ inr (subst (λ (s : List Deposit). AddsAsked r s list) now adds)
           ]);
+      whole = λ may. runs.whole (serves.whole sound may);
     }
   where
     one_fails : (t : Bool) → t ≡ true → cond t (Some r) None ≡ Some r
@@ -210,6 +216,7 @@ runs_stuck keep rules old now requests answers r some runs =
       answered = answers_stuck (register_at keep rules old) state requests answers runs.last r runs.answered some;
       kept = λ e. runs.kept (sym same ∙ e);
       left = λ list may. subst (λ (o : Option Asked). IsLeft o runs.last list) (sym same) (runs.left list may);
+      whole = runs.whole;
     }
 
 some_more : (answers : List Answer) (a : Answer) → some_fails (answers ++ a ∷ []) ≡ (some_fails answers || is_failed a)

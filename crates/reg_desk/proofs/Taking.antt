@@ -165,7 +165,7 @@ first_found firm project bytes state n head found of_head =
 
 -- the call that appends, after calls that read
 abbrev pub Appends : {K : Type 0} → Ghosts K → Deposit → K → K → Result ℕ KeepError → Type 0
-Appends keep d old new result = Adds keep.deposits keep.dictionary keep.limit keep.has_failed keep.may_leave keep.is_sound d old new result
+Appends keep d old new result = Adds keep.deposits keep.dictionary keep.limit keep.has_failed keep.may_leave keep.may_break keep.is_sound d old new result
 
 abbrev pub asked_deposit : Caller → List ℕ → ℤ → List ℕ → Deposit
 asked_deposit caller project embargo bytes = record { firm = caller.firm; project = project; embargo = embargo; bytes = bytes }
@@ -217,6 +217,7 @@ deposit_added keep rules caller project embargo bytes day old mid new n fine rea
       denied = λ m. owed_never register state request (Denied m) (Receipt n embargo) (λ h. asks (Denied m) h tt);
       too_large = owed_never register state request TooLarge (Receipt n embargo) (λ h. asks TooLarge h tt);
       crash = may_have_left keep caller project embargo bytes day old mid new (Ok n) reads appends;
+      whole = λ s may. reads.whole (appends.sound s) (appends.whole s may);
     }
 
 -- the keep refuses to append
@@ -247,6 +248,7 @@ deposit_unadded keep rules caller project embargo bytes day old mid new errors.F
       denied = λ m. owed_never register state request (Denied m) Full (λ h. asks (Denied m) h tt);
       too_large = owed_never register state request TooLarge Full (λ h. asks TooLarge h tt);
       crash = may_have_left keep caller project embargo bytes day old mid new (Err errors.Full) reads appends;
+      whole = λ s may. reads.whole (appends.sound s) (appends.whole s may);
     }
 deposit_unadded keep rules caller project embargo bytes day old mid new errors.NoMemory fine reads unheld appends full =
     let register = register_at keep rules old in
@@ -264,6 +266,7 @@ deposit_unadded keep rules caller project embargo bytes day old mid new errors.N
       denied = λ m. owed_never register state request (Denied m) NoMemory (λ h. asks (Denied m) h tt);
       too_large = owed_never register state request TooLarge NoMemory (λ h. asks TooLarge h tt);
       crash = may_have_left keep caller project embargo bytes day old mid new (Err errors.NoMemory) reads appends;
+      whole = λ s may. reads.whole (appends.sound s) (appends.whole s may);
     }
 deposit_unadded keep rules caller project embargo bytes day old mid new errors.Store fine reads unheld appends full =
     let register = register_at keep rules old in
@@ -281,4 +284,5 @@ deposit_unadded keep rules caller project embargo bytes day old mid new errors.S
       denied = λ m. owed_never register state request (Denied m) StoreFailed (λ h. asks (Denied m) h tt);
       too_large = owed_never register state request TooLarge StoreFailed (λ h. asks TooLarge h tt);
       crash = may_have_left keep caller project embargo bytes day old mid new (Err errors.Store) reads appends;
+      whole = λ s may. reads.whole (appends.sound s) (appends.whole s may);
     }

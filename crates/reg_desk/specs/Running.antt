@@ -49,3 +49,5 @@ pub record Runs {K : Type 0} (keep : Ghosts K) (rules : List Rule) (old new : K)
   pub answered : AreAnswers (register_at keep rules old) (keep.deposits old) requests answers last
   pub kept : failing requests answers ≡ None → keep.deposits new ≡ last
   pub left : (list : List Deposit) → keep.may_leave new list → IsLeft (failing requests answers) last list
+  -- a crash leaves a register of some list, so of one of these
+  pub whole : keep.may_break new → ⊥

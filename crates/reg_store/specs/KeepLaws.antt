@@ -24,8 +24,8 @@ use Rattle.reg_store.specs.Rows.{given_deposit, deposit_table, IsMore}
 use Rattle.reg_store.specs.Inserts.{AddsFile}
 use Rattle.reg_store.specs.Fit.{IsFit, IsFileOf, kept_rows}
 use Rattle.reg_store.specs.PlainLaws.{fit_of}
-use Rattle.reg_store.specs.Register.{deposit_rows, deposits_in, LeavesList, KeepsRegister, IsRegister, tables}
-use Rattle.reg_store.specs.RegisterLaws.{read_back, keeps_push, Pushed, IsReady}
+use Rattle.reg_store.specs.Register.{deposit_rows, deposits_in, LeavesBroken, LeavesList, KeepsRegister, IsRegister, tables}
+use Rattle.reg_store.specs.RegisterLaws.{read_back, register_push, keeps_push, Pushed, IsReady}
 use Rattle.reg_store.specs.Pushes.{deposits_push}
 use Rattle.reg_store.specs.Quiet.{IsIdle, IsStill, clean_before}
 
@@ -96,6 +96,11 @@ pub stays_at : {s : State} {dictionary : Entries} {count : ℕ} → ∥ KeepsReg
 stays_at {s} {dictionary} {count} kept law = ∥∥₁_map kept (λ (k : KeepsRegister s dictionary count).
     let r : LeavesList s.may_leave dictionary (deposits_in s.committed.trees) = (s.committed.trees, law k.is_open, settled_register k) in r)
 
+pub unbroken_at : {s : State} {dictionary : Entries} {count : ℕ} → ∥ KeepsRegister s dictionary count ∥₁ → ((db : Trees) → IsTrue s.is_open → s.may_leave db → db ≡ s.committed.trees) → LeavesBroken s.may_leave dictionary → ⊥
+unbroken_at {s} {dictionary} {count} kept law left =
+    let none : KeepsRegister s dictionary count → ⊥ = λ k. (let same = law left.0 k.is_open left.1 in left.2 (deposits_in s.committed.trees) (subst (λ t. IsRegister (tables t) dictionary (deposits_in s.committed.trees)) (sym same) (settled_register k))) in
+    ∥∥₁_elim kept (Prim.hlevel props) none
+
 keeps_equal : {old new : State} {dictionary : Entries} {count : ℕ} → KeepsRegister old dictionary count → IsTrue new.is_open → new.now ≡ old.now → new.committed ≡ old.committed → KeepsRegister new dictionary count
 keeps_equal {old} {new} {dictionary} {count} k is_open now committed = record {
   is_open = is_open;
@@ -129,7 +134,7 @@ adds_at {old} {new} {dictionary} {count} d file h low put sound settled is_open 
     }
 
 abbrev pub PutsOf : State → ℕ → Deposit → List KeptRow → List (ℕ × ℕ) → Trees → Type 0
-PutsOf old n d rows steps trees = (db : Database) × AddsFile n d rows steps old.now db × (trees ≡ db.trees)
+PutsOf old n d rows steps trees = (db : Database) × AddsFile n d rows steps old.now db × IsDatabase db × (trees ≡ db.trees)
 
 after_put : {old : State} {dictionary : Entries} {count : ℕ} (d : Deposit) (rows : List KeptRow) (steps : List (ℕ × ℕ)) (db : Database) (trees : Trees) (list : List Deposit) → KeepsRegister old dictionary count
     → AddsFile (count + 1) d rows steps old.now db → trees ≡ db.trees → IsPermutation (deposit_rows 1 list) (deposit_table trees)
@@ -149,7 +154,22 @@ crash_at {old} {new} {dictionary} {count} d rows steps h survives clean list lef
   where
     go : old.may_leave left.0 ⊎ PutsOf old (count + 1) d rows steps left.0 → LeavesList old.may_leave dictionary list ⊎ (list ≡ deposits_in old.committed.trees ++ d ∷ [])
     go (inl may) = inl (left.0, may, left.2)
-    go (inr put) = inr (∥∥₁_elim h (list_set _ _) (λ (k : KeepsRegister old dictionary count). after_put {old = old} {dictionary = dictionary} {count = count} d rows steps put.0 left.0 list k put.1 put.2 left.2.deposits))
+    go (inr put) = inr (∥∥₁_elim h (list_set _ _) (λ (k : KeepsRegister old dictionary count). after_put {old = old} {dictionary = dictionary} {count = count} d rows steps put.0 left.0 list k put.1 put.3 left.2.deposits))
+
+-- and it leaves a register: that from before, or with the new deposit, whole with its rows and steps
+pub whole_put : {old new : State} {dictionary : Entries} {count : ℕ} (d : Deposit) (file : CheckedFile) → ∥ KeepsRegister old dictionary count ∥₁ → count < 999999 → Survives old new (PutsOf old (count + 1) d (kept_rows file.groups) file.graph.steps)
+    → IsReady dictionary (deposits_in old.committed.trees) d file → HasCleanDisk new → LeavesBroken new.may_leave dictionary → LeavesBroken old.may_leave dictionary
+whole_put {old} {new} {dictionary} {count} d file h low survives ready clean left = go (survives.crash clean left.0 left.1)
+  where
+    none : (put : PutsOf old (count + 1) d (kept_rows file.groups) file.graph.steps left.0) → KeepsRegister old dictionary count → ⊥
+    none put k =
+        let list = deposits_in old.committed.trees ++ d ∷ [] in
+        let there = under_schema put.0 dictionary list (register_push dictionary old.now put.0 (deposits_in old.committed.trees) d file count k.register k.counted low put.1 put.2 ready) in
+        left.2 list (subst (λ t. IsRegister (tables t) dictionary list) (sym put.3) there)
+
+    go : old.may_leave left.0 ⊎ PutsOf old (count + 1) d (kept_rows file.groups) file.graph.steps left.0 → LeavesBroken old.may_leave dictionary
+    go (inl may) = (left.0, may, left.2)
+    go (inr put) = absurd (∥∥₁_elim h (Prim.hlevel props) (none put))
 
 pub number_found_at : {s : State} {dictionary : Entries} {count : ℕ} (firm project bytes : List ℕ) (r : Result (Option ℕ) KeepError) → ∥ KeepsRegister s dictionary count ∥₁
     → IfOk r (λ n. (list : List Deposit) → IsPermutation (deposit_rows 1 list) (deposit_table s.now.trees) → AreApart list → n ≡ number_of firm project bytes list) → IfOk r (λ n. n ≡ number_of firm project bytes (deposits_in s.committed.trees))
@@ -172,6 +192,9 @@ keeps_quiet old new kept quiet clean well =
 
 pub crash_same : (old new : State) {dictionary : Entries} → Survives old new (λ _. ⊥) → HasCleanDisk new → (list : List Deposit) → LeavesList new.may_leave dictionary list → LeavesList old.may_leave dictionary list
 crash_same old new survives clean list left = elim (survives.crash clean left.0 left.1) [ inl may ↦ (left.0, may, left.2) | inr none ↦ absurd none ]
+
+pub whole_same : (old new : State) {dictionary : Entries} → Survives old new (λ _. ⊥) → HasCleanDisk new → LeavesBroken new.may_leave dictionary → LeavesBroken old.may_leave dictionary
+whole_same old new survives clean left = elim (survives.crash clean left.0 left.1) [ inl may ↦ (left.0, may, left.2) | inr none ↦ absurd none ]
 
 pub few_at : {s : State} {dictionary : Entries} {count : ℕ} → ∥ KeepsRegister s dictionary count ∥₁ → (length (deposits_in s.committed.trees) ≤ 999999) × (999999 ≤ 999999)
 few_at {s} {dictionary} {count} h = (∥∥₁_elim h (Prim.hlevel props) (λ (k : KeepsRegister s dictionary count). k.register.few), omega arith)

@@ -188,6 +188,8 @@ impl Keep for PlainKeep {
     // Memory keeps its list, and loses none of it while the program runs.
     ghost may_leave = { λ k list. list ≡ deposits_of k };
 
+    ghost may_break = { λ _. ⊥ };
+
     ghost is_sound = { λ _. ⊤ };
 
     fn find(
@@ -263,6 +265,8 @@ impl Keep for PlainKeep {
     ghost settled = { λ _ _ _ _ same. same };
 
     ghost stays = { λ _ _ _. ∣ refl ∣₁ };
+
+    ghost unbroken = { λ _ _ _ none. none };
 
     ghost fit = { λ k _ _. fit_of k.dictionary (deposits_of k) k.fit };
 

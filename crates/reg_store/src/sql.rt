@@ -3,10 +3,10 @@
 ghost use Rattle.std.specs.Prelude.{◌≡◌, ◌≤◌, pos, false, IsTrue};
 ghost use Rattle.reg_policy.specs.Days.{is_day_number};
 ghost use Rattle.reg_store.specs.Keep.{fails, is_store as store_error};
-ghost use Rattle.reg_store.specs.KeepLaws.{few_at, fit_at, settled_at, stays_at};
+ghost use Rattle.reg_store.specs.KeepLaws.{few_at, fit_at, settled_at, stays_at, unbroken_at};
 ghost use Rattle.sqlite.specs.State.{HasCleanDisk};
 ghost use Rattle.sqlite.specs.Held.{state};
-ghost use Rattle.reg_store.specs.Register.{deposits_in, LeavesList, KeepsRegister};
+ghost use Rattle.reg_store.specs.Register.{deposits_in, LeavesBroken, LeavesList, KeepsRegister};
 
 use crate::keep::{Keep, KeepError, Kept, KeptHead, KeptRow};
 use crate::reading::{find_deposit, find_graph, find_head, find_lines, find_number, find_numbers};
@@ -62,6 +62,8 @@ impl<S: Alter> Keep for SqlKeep<S> {
     ghost has_failed = { λ k. k.has_failed };
 
     ghost may_leave = { λ k. LeavesList (state S.Store k.connection).may_leave k.dictionary };
+
+    ghost may_break = { λ k. LeavesBroken (state S.Store k.connection).may_leave k.dictionary };
 
     ghost is_sound = { λ k. HasCleanDisk (state S.Store k.connection) };
 
@@ -164,6 +166,8 @@ impl<S: Alter> Keep for SqlKeep<S> {
     ghost settled = { λ k list clean works left. settled_at (k.kept works clean) (S.Store.settled k.connection.store) list left };
 
     ghost stays = { λ k clean works. stays_at (k.kept works clean) (S.Store.stays k.connection.store) };
+
+    ghost unbroken = { λ k clean works left. unbroken_at (k.kept works clean) (S.Store.settled k.connection.store) left };
 
     ghost fit = { λ k clean works. fit_at (k.kept works clean) };
 

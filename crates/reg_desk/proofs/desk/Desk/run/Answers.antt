@@ -17,7 +17,7 @@ loop-request-init g c =
       count = c.in_ok-answers.ensures.len;
       room = omega (arith, c.in_ok-answers.ensures.capacity);
       policy = refl;
-      going = subst (Going g.K.Keep desk.policy desk.keep desk.keep desk.failed desk.failed []) (sym c.in_ok-answers.ensures.items) (run_begins g.K.Keep desk.policy desk.keep desk.failed g.met.K.Keep.settled desk.sticky);
+      going = subst (Going g.K.Keep desk.policy desk.keep desk.keep desk.failed desk.failed []) (sym c.in_ok-answers.ensures.items) (run_begins g.K.Keep desk.policy desk.keep desk.failed g.met.K.Keep.settled g.met.K.Keep.unbroken desk.sticky);
     }
 
 pub loop-request-preserved : goal.loop-request-preserved

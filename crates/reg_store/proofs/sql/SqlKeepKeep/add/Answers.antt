@@ -1,6 +1,6 @@
 use Rattle.std.proofs.Common.{rules, arith, ◌≡◌, ◌<◌, false, refl, sym, ap, subst, subst₂, ◌+◌, ◌∙◌}
 use Rattle.sqlite.specs.Effect.{Database}
-use Rattle.sqlite.specs.State.{HasCleanDisk}
+use Rattle.sqlite.specs.State.{HasCleanDisk, Survives}
 use Rattle.sqlite.specs.Held.{state}
 use Rattle.reg_store.specs.Keep.{is_store}
 use Rattle.reg_store.specs.Quiet.{clean_before}
@@ -9,7 +9,7 @@ use Rattle.reg_store.specs.Fit.{IsFileOf, IsNamed, kept_rows}
 use Rattle.reg_store.specs.Inserts.{AddsFile}
 use Rattle.reg_store.specs.Register.{deposits_in}
 use Rattle.reg_store.specs.RegisterLaws.{IsReady}
-use Rattle.reg_store.specs.KeepLaws.{schema_at, settled_of, keeps_same, HoldsMore, adds_at, counted_at, crash_at}
+use Rattle.reg_store.specs.KeepLaws.{schema_at, settled_of, keeps_same, HoldsMore, adds_at, counted_at, crash_at, PutsOf, whole_put}
 use Rattle.reg_store.proofs.sql.SqlKeepKeep.add.Goals as goal
 
 pub add_file-added-requires-clause-schema : goal.add_file-added-requires-clause-schema
@@ -59,11 +59,12 @@ returns-in-Ok-added g c =
     let named : IsNamed d = record { firm = c.text.ensures.is_name; project = c.text-2.ensures.is_name; embargo = c.stored_day.ensures.is_day } in
     let rows_are : c.as_slice.result.now ≡ kept_rows file.groups = search rules in
     let steps_are : c.steps.result.now ≡ file.graph.steps = search rules in
+    let put_survives = subst₂ (λ rows steps. Survives old new (PutsOf old (keep.count + 1) d rows steps)) rows_are steps_are survives in
+    let ready = λ (clean : HasCleanDisk new). (let is : IsReady keep.dictionary (deposits_in old.committed.trees) d file = record { its = fit; named = named; fresh = c.requires.fresh (before clean) } in is) in
     let more = λ (clean : HasCleanDisk new).
-    (let ready : IsReady keep.dictionary (deposits_in old.committed.trees) d file = record { its = fit; named = named; fresh = c.requires.fresh (before clean) } in
-    let bare = rw (c.text.ensures.text, c.text-2.ensures.text, c.bytes.ensures.bytes, c.stored_day.ensures.number) at (c.in-Ok-added.ensures.put clean) in
+    (let bare = rw (c.text.ensures.text, c.text-2.ensures.text, c.bytes.ensures.bytes, c.stored_day.ensures.number) at (c.in-Ok-added.ensures.put clean) in
     let put = subst₂ (λ rows steps. AddsFile (keep.count + 1) d rows steps old.now new.now) rows_are steps_are bare in
-    let it : HoldsMore old new keep.dictionary keep.count d = adds_at {old = old} {new = new} d file (keep.kept c.requires.working (before clean)) low put (c.in-Ok-added.ensures.sound clean) (c.in-Ok-added.ensures.settled clean) (c.in-Ok-added.ensures.open clean refl) ready in it) in
+    let it : HoldsMore old new keep.dictionary keep.count d = adds_at {old = old} {new = new} d file (keep.kept c.requires.working (before clean)) low put (c.in-Ok-added.ensures.sound clean) (c.in-Ok-added.ensures.settled clean) (c.in-Ok-added.ensures.open clean refl) (ready clean) in it) in
     record {
       number = λ clean. counted_at {s = new} (more clean).kept;
       room = λ clean. subst (λ n. n < 999999) (counted_at {s = old} (keep.kept c.requires.working (before clean))) low;
@@ -76,6 +77,7 @@ returns-in-Ok-added g c =
         added = λ clean. (more clean).list;
         refused = λ clean well. tt;
         crash = λ clean. crash_at {old = old} {new = new} d c.as_slice.result.now c.steps.result.now (keep.kept c.requires.working (before clean)) survives clean;
+        whole = λ clean. whole_put {old = old} {new = new} d file (keep.kept c.requires.working (before clean)) low put_survives (ready clean) clean;
       };
     }
 
@@ -89,6 +91,12 @@ returns-clause-leaves g c =
     let low : keep.count < 999999 = omega arith in
     let before = λ (clean : HasCleanDisk new). clean_before old new c.add_file-added.ensures.crash clean in
     let survives = rw (c.text.ensures.text, c.text-2.ensures.text, c.bytes.ensures.bytes, c.stored_day.ensures.number) at c.add_file-added.ensures.crash in
+    let fit : IsFileOf keep.dictionary d file = record { given = c.requires.dictionary; bytes = refl; clean = c.bytes.ensures.clean; short = c.requires.short } in
+    let named : IsNamed d = record { firm = c.text.ensures.is_name; project = c.text-2.ensures.is_name; embargo = c.stored_day.ensures.is_day } in
+    let rows_are : c.as_slice.result.now ≡ kept_rows file.groups = search rules in
+    let steps_are : c.steps.result.now ≡ file.graph.steps = search rules in
+    let put_survives = subst₂ (λ rows steps. Survives old new (PutsOf old (keep.count + 1) d rows steps)) rows_are steps_are survives in
+    let ready = λ (clean : HasCleanDisk new). (let is : IsReady keep.dictionary (deposits_in old.committed.trees) d file = record { its = fit; named = named; fresh = c.requires.fresh (before clean) } in is) in
     record {
       sound = before;
       same_dictionary = refl;
@@ -97,6 +105,7 @@ returns-clause-leaves g c =
       added = λ clean. tt;
       refused = λ clean well. ap (λ (db : Database). deposits_in db.trees) (c.in-Err.ensures.undone clean well).1;
       crash = λ clean. crash_at {old = old} {new = new} d c.as_slice.result.now c.steps.result.now (keep.kept c.requires.working (before clean)) survives clean;
+      whole = λ clean. whole_put {old = old} {new = new} d file (keep.kept c.requires.working (before clean)) low put_survives (ready clean) clean;
     }
 
 pub returns-then-self-ge-MOST-clause-full : goal.returns-then-self-ge-MOST-clause-full

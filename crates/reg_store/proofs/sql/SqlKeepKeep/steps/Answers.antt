@@ -3,7 +3,7 @@ use Rattle.sqlite.specs.Effect.{Database}
 use Rattle.sqlite.specs.Held.{state}
 use Rattle.reg_store.specs.Quiet.{clean_before}
 use Rattle.reg_store.specs.Register.{deposits_in}
-use Rattle.reg_store.specs.KeepLaws.{idle_at, keeps_quiet, crash_same}
+use Rattle.reg_store.specs.KeepLaws.{idle_at, keeps_quiet, crash_same, whole_same}
 use Rattle.reg_store.specs.Methods.{graph_at}
 use Rattle.reg_store.proofs.sql.SqlKeepKeep.steps.Goals as goal
 
@@ -29,6 +29,7 @@ returns-clause-leaves g c =
       failing = c.is_store-self.ensures;
       same = λ clean well. ap (λ (db : Database). deposits_in db.trees) (quiet.same clean well).1;
       crash = λ clean. crash_same old new quiet.survives clean;
+      whole = λ clean. whole_same old new quiet.survives clean;
     }
 
 pub returns-clause-read : goal.returns-clause-read
