@@ -9,7 +9,7 @@ ghost use Rattle.sqlite.specs.WalFiles.{image_at};
 ghost use Rattle.ags_dict.specs.Entries.{Entries};
 ghost use Rattle.ags_dict.specs.Reading.{IsDictionary, ReadsDictionary};
 ghost use Rattle.reg_store.specs.Tables.{no_schema, register_schema};
-ghost use Rattle.reg_store.specs.Creates.{IsNewRegister};
+ghost use Rattle.reg_store.specs.Creates.{IsNewRegister, LeavesNew};
 ghost use Rattle.reg_store.specs.Making.{RefusesBytes};
 ghost use Rattle.reg_store.specs.Register.{IsRegister, deposits_in};
 ghost use Rattle.reg_store.specs.Adoption.{Adopts, is_store_failure};
@@ -34,10 +34,10 @@ pub enum CreateError {
     /// The bytes are no dictionary.
     #[error("not a dictionary")]
     Dictionary(DictError),
-    /// A table of a register is there.
+    /// A table, an index or a view is there.
     #[error("the store is not empty")]
     NotEmpty,
-    /// The database failed: it is as it was, or holds an empty register.
+    /// The database failed: a crash leaves what it left before, or an empty register where there was no table.
     #[error("the store failed")]
     Store,
     /// Memory is wanting.
@@ -70,11 +70,13 @@ impl<S: Alter> SqlKeep<S> {
         requires read { IsDictionary bytes.now dictionary }
         ensures empty { IfOk result (λ k. HasCleanDisk (state S.Store k.connection) → deposits_in (state S.Store k.connection).committed.trees ≡ []) }
         ensures dictionary { IfOk result (λ k. k.dictionary ≡ dictionary) }
+        ensures register { IfOk result (λ k. HasCleanDisk (state S.Store k.connection) → IsNewRegister bytes.entry.now (state S.Store k.connection).now) }
+        ensures blank { IfOk result (λ _. (state S.Store connection).now.schema ≡ no_schema) }
         ensures refused { IfErr result (λ e. RefusesBytes bytes.entry.now e.0) }
         ensures working { IfOk result (λ k. k.has_failed ≡ false) }
         ensures not_empty { IfErr result (λ e. e.0 ≡ CreateError.NotEmpty → (state S.Store connection).now.schema ≢ no_schema) }
-        ensures made { IfOk result (λ k. Survives (state S.Store connection) (state S.Store k.connection) (λ trees. (db : _) × IsNewRegister bytes.entry.now db × (trees ≡ db.trees))) }
-        ensures left { IfErr result (λ e. Survives (state S.Store connection) (state S.Store e.1) (λ trees. (db : _) × IsNewRegister bytes.entry.now db × (trees ≡ db.trees))) }
+        ensures made { IfOk result (λ k. Survives (state S.Store connection) (state S.Store k.connection) (LeavesNew (state S.Store connection) bytes.entry.now)) }
+        ensures left { IfErr result (λ e. Survives (state S.Store connection) (state S.Store e.1) (LeavesNew (state S.Store connection) bytes.entry.now)) }
         ensures same { IfErr result (λ e. e.0 ≢ CreateError.Store → HasCleanDisk (state S.Store e.1)
             → ((state S.Store e.1).now ≡ (state S.Store connection).now) × ((state S.Store e.1).committed ≡ (state S.Store connection).committed)) }
     {
@@ -98,9 +100,10 @@ impl<S: Alter> SqlKeep<S> {
         }
     }
 
-    /// An empty register in a database that has no table, under the dictionary that the bytes are.
+    /// An empty register in a database that had no table, under the dictionary that the bytes are.
     ///
-    /// The bytes are looked at first. A connection in a transaction is answered `Store`.
+    /// The bytes are looked at first. A connection in a transaction is answered `Store`. A crash within the call leaves what it left before, or an
+    /// empty register where there was no table.
     pub fn create_in(
         alloc: Global,
         connection: Connection<S>,
@@ -109,11 +112,13 @@ impl<S: Alter> SqlKeep<S> {
         requires short { length bytes.now ≤ READABLE }
         ensures empty { IfOk result (λ k. HasCleanDisk (state S.Store k.connection) → deposits_in (state S.Store k.connection).committed.trees ≡ []) }
         ensures dictionary { IfOk result (λ k. ReadsDictionary bytes.now (Ok k.dictionary)) }
+        ensures register { IfOk result (λ k. HasCleanDisk (state S.Store k.connection) → IsNewRegister bytes.now (state S.Store k.connection).now) }
+        ensures blank { IfOk result (λ _. (state S.Store connection).now.schema ≡ no_schema) }
         ensures refused { IfErr result (λ e. RefusesBytes bytes.now e.0) }
         ensures working { IfOk result (λ k. k.has_failed ≡ false) }
         ensures not_empty { IfErr result (λ e. e.0 ≡ CreateError.NotEmpty → (state S.Store connection).now.schema ≢ no_schema) }
-        ensures made { IfOk result (λ k. Survives (state S.Store connection) (state S.Store k.connection) (λ trees. (db : _) × IsNewRegister bytes.now db × (trees ≡ db.trees))) }
-        ensures left { IfErr result (λ e. Survives (state S.Store connection) (state S.Store e.1) (λ trees. (db : _) × IsNewRegister bytes.now db × (trees ≡ db.trees))) }
+        ensures made { IfOk result (λ k. Survives (state S.Store connection) (state S.Store k.connection) (LeavesNew (state S.Store connection) bytes.now)) }
+        ensures left { IfErr result (λ e. Survives (state S.Store connection) (state S.Store e.1) (LeavesNew (state S.Store connection) bytes.now)) }
         ensures same { IfErr result (λ e. e.0 ≢ CreateError.Store → HasCleanDisk (state S.Store e.1)
             → ((state S.Store e.1).now ≡ (state S.Store connection).now) × ((state S.Store e.1).committed ≡ (state S.Store connection).committed)) }
     {
@@ -163,7 +168,9 @@ impl SqlKeep<MemStore> {
         requires short { length bytes.now ≤ READABLE }
         ensures empty { IfOk result (λ k. deposits_in (state over_memory k.connection).committed.trees ≡ []) }
         ensures dictionary { IfOk result (λ k. ReadsDictionary bytes.now (Ok k.dictionary)) }
+        ensures register { IfOk result (λ k. IsNewRegister bytes.now (state over_memory k.connection).now) }
         ensures refused { IfErr result (RefusesBytes bytes.now) }
+        ensures named { IfErr result (λ e. e ≢ CreateError.NotEmpty) }
         ensures working { IfOk result (λ k. k.has_failed ≡ false) }
     {
         let dictionary = read_dictionary(alloc, bytes)?;
@@ -178,7 +185,7 @@ impl SqlKeep<MemStore> {
 }
 
 impl SqlKeep<FileStore<File>> {
-    /// An empty register in the database at a path, which is made where there is none.
+    /// An empty register in the database at a path. No clause says what was there before.
     pub fn create(
         rt: &HostRuntime,
         alloc: Global,
@@ -188,6 +195,7 @@ impl SqlKeep<FileStore<File>> {
         requires short { length bytes.now ≤ READABLE }
         ensures empty { IfOk result (λ k. HasCleanDisk (file_state k.connection) → deposits_in (file_state k.connection).committed.trees ≡ []) }
         ensures dictionary { IfOk result (λ k. ReadsDictionary bytes.now (Ok k.dictionary)) }
+        ensures register { IfOk result (λ k. HasCleanDisk (file_state k.connection) → IsNewRegister bytes.now (file_state k.connection).now) }
         ensures refused { IfErr result (RefusesBytes bytes.now) }
         ensures working { IfOk result (λ k. k.has_failed ≡ false) }
     {
