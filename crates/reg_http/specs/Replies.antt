@@ -1,14 +1,11 @@
 -- The text of a reply (RFC 9112, sections 4 and 6): status line, three fields, an empty line, and the body.
-use Rattle.std.specs.Prelude.{ℕ, List, [], ◌∷◌, ◌++◌, length, codes, decimal, unwrap_or}
+use Rattle.std.specs.Prelude.{ℕ, List, [], ◌++◌, length, codes, decimal, unwrap_or}
 use Rattle.http.specs.StatusCode.{reason_phrase}
-use Rattle.ags_rows.specs.Bytes.{carriage_return, line_feed}
+use Rattle.reg_desk.specs.View.{line_end}
 
 -- the phrase of a status
 unfoldable pub phrase_of : ℕ → List ℕ
 phrase_of status = unwrap_or (reason_phrase status) []
-
-abbrev pub line_end : List ℕ
-line_end = carriage_return ∷ line_feed ∷ []
 
 -- a reply up to its body, which has that many bytes
 abbrev pub reply_front : ℕ → List ℕ → ℕ → List ℕ

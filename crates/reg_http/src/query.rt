@@ -77,7 +77,7 @@ fn first_piece(text: &[u8]) -> Option<(&[u8], &[u8])>
     }
 }
 
-//// The pieces between the commas.
+/// The pieces between the commas.
 fn pieces<'t>(alloc: Global, text: &'t [u8]) -> Result<Vec<&'t [u8]>, AllocError>
     ensures { IfOk result (λ pieces. names_in pieces.items ≡ split comma text.now) }
 {

@@ -6,7 +6,7 @@ mod cases;
 use crate::{IoFault, Served, Tally, serve_list, serve_one};
 use ags_dict::Dictionary;
 use ags_rows::vectors::{FILE_A, MINI};
-use cases::{AT_A_DESK, AT_A_FULL_DESK, HEADS};
+use cases::{AT_A_DESK, AT_A_FULL_DESK, BAD_HEAD, HEADS, NO_ROUTE};
 use reg_desk::Desk;
 use reg_policy::vectors::{CALLERS, POLICY};
 use reg_policy::{Callers, Day, Policy};
@@ -16,14 +16,14 @@ use std::io;
 use std::io::{ErrorKind, Read, Write};
 use std::test::Fail;
 
-/// An empty desk over memory that takes so many deposits.
-fn desk_of(alloc: Global, most: u32) -> Result<Desk<PlainKeep>, Fail>
+/// An empty desk over memory that takes so many deposits; none where memory is refused.
+fn desk_of(alloc: Global, most: u32) -> Option<Desk<PlainKeep>>
     requires least { 0 < most }
     requires most { most ≤ 999999 }
 {
-    let dictionary = Dictionary::read(alloc, MINI)?;
-    let policy = Policy::read(alloc, POLICY)?;
-    Ok(Desk::new(PlainKeep::with_limit(alloc, dictionary, most), policy))
+    let dictionary = Dictionary::read(alloc, MINI).ok()?;
+    let policy = Policy::read(alloc, POLICY).ok()?;
+    Some(Desk::new(PlainKeep::with_limit(alloc, dictionary, most), policy))
 }
 
 /// What came of a connection on this day, and what was written.
@@ -50,13 +50,14 @@ fn served(
     }
 }
 
-/// The body that a case calls by a name: the file, the file without its last byte, the file with `lo`, a bell and `ca` for
-/// the name in its line 26, nothing, or the text itself.
+/// The body that a case calls by a name: the file, the file without its last byte, the file with `lo`, a bell and `ca`, or
+/// `l`, a quote, a byte 01 and a backslash, for the name in its line 26, nothing, or the text itself.
 fn body_of<'t>(name: &'t str) -> [&'t [u8]; 3] {
     match name {
         "A" => [FILE_A, b"", b""],
         "A cut" => [&FILE_A[..542], b"", b""],
         "A bell" => [&FILE_A[..477], b"lo\x07ca", &FILE_A[481..]],
+        "A quote" => [&FILE_A[..477], b"l\"\"\x01\\", &FILE_A[481..]],
         "-" => [b"", b"", b""],
         text => [text.as_bytes(), b"", b""],
     }
@@ -69,9 +70,8 @@ struct Case<'t> {
     token: &'t str,
     head: &'t str,
     body: &'t str,
-    status: &'t str,
-    length: &'t str,
-    reply: &'t str,
+    /// Status, length and body.
+    reply: [&'t str; 3],
 }
 
 fn case_of(line: &str) -> Option<Case<'_>> {
@@ -81,9 +81,7 @@ fn case_of(line: &str) -> Option<Case<'_>> {
         token: parts.next()?,
         head: parts.next()?,
         body: parts.next()?,
-        status: parts.next()?,
-        length: parts.next()?,
-        reply: parts.next()?,
+        reply: [parts.next()?, parts.next()?, parts.next()?],
     })
 }
 
@@ -105,72 +103,92 @@ fn request_of(alloc: Global, case: &Case<'_>) -> Result<Vec<u8>, AllocError> {
     Ok(request)
 }
 
-fn reply_of(alloc: Global, case: &Case<'_>) -> Result<Vec<u8>, AllocError> {
-    let kind = match case.reply {
+/// The reply of this status, length and body.
+fn reply_of(alloc: Global, [status, length, body]: [&str; 3]) -> Result<Vec<u8>, AllocError> {
+    let kind = match body {
         "A" => "text/plain; charset=us-ascii",
         _ => "application/json",
     };
     let mut reply = String::new(alloc);
     for part in [
         "HTTP/1.1 ",
-        case.status,
+        status,
         "\r\nContent-Type: ",
         kind,
         "\r\nContent-Length: ",
-        case.length,
+        length,
         "\r\nConnection: close\r\n\r\n",
     ] {
         reply.push_str(part)?;
     }
     let mut reply = reply.into_bytes();
-    for part in body_of(case.reply) {
+    for part in body_of(body) {
         reply.extend_from_slice(part)?;
     }
     Ok(reply)
+}
+
+fn code_of(reply: [&str; 3]) -> Option<u16> {
+    reply[0].get(..3)?.parse::<u16>().ok()
 }
 
 #[test]
 fn replies(rt: HostRuntime) -> Result<(), Fail> {
     let alloc = rt.alloc();
     for (most, cases) in [(999_999, AT_A_DESK), (1, AT_A_FULL_DESK)] {
-        let mut desk = desk_of(alloc, most)?;
+        let mut desk = desk_of(alloc, most).ok_or(AllocError)?;
         for line in cases.lines() {
             let Some(case) = case_of(line) else {
                 continue;
             };
             let request = request_of(alloc, &case)?;
             let (status, written) = served(alloc, &mut desk, case.day, &request)?;
-            let reply = reply_of(alloc, &case)?;
+            let reply = reply_of(alloc, case.reply)?;
             assert!(rt; written == reply, "{line}");
-            let code = case
-                .status
-                .get(..3)
-                .and_then(|code| code.parse::<u16>().ok());
-            assert_eq!(rt; status, code, "{line}");
+            assert_eq!(rt; status, code_of(case.reply), "{line}");
         }
     }
     Ok(())
 }
 
+/// What the reader gives is answered by this reply.
+fn answers(alloc: Global, request: &[u8], reply: [&str; 3]) -> Result<bool, Fail> {
+    let mut desk = desk_of(alloc, 1).ok_or(AllocError)?;
+    let (status, written) = served(alloc, &mut desk, "2024-05-01", request)?;
+    let wanted = reply_of(alloc, reply)?;
+    Ok(status == code_of(reply) && written == wanted)
+}
+
 #[test]
 fn heads(rt: HostRuntime) -> Result<(), Fail> {
     let alloc = rt.alloc();
-    let mut desk = desk_of(alloc, 1)?;
-    for (head, status) in HEADS {
-        let (served, _) = served(alloc, &mut desk, "2024-05-01", head)?;
-        assert_eq!(rt; served, Some(status));
+    for (head, reply) in HEADS {
+        assert!(rt; answers(alloc, head, reply)?);
     }
     // 32 fields, and 8,192 or 8,193 bytes
-    for (last, fields, status) in [(7979, 31, 404), (7980, 31, 400), (1, 32, 400)] {
+    for (last, fields, reply) in [
+        (7979, 31, NO_ROUTE),
+        (7980, 31, BAD_HEAD),
+        (1, 32, BAD_HEAD),
+    ] {
         let mut head = String::new(alloc);
         head.push_str("GET /v1/x HTTP/1.1\r\n")?;
         head.push_str("A: b\r\n".repeat(alloc, fields)?.as_str())?;
         head.push_str("A: ")?;
         head.push_str("b".repeat(alloc, last)?.as_str())?;
         head.push_str("\r\n\r\n")?;
-        let (served, _) = served(alloc, &mut desk, "2024-05-01", head.as_bytes())?;
-        assert_eq!(rt; served, Some(status));
+        assert!(rt; answers(alloc, head.as_bytes(), reply)?);
     }
+    Ok(())
+}
+
+#[test]
+fn no_byte(rt: HostRuntime) -> Result<(), Fail> {
+    let alloc = rt.alloc();
+    let mut desk = desk_of(alloc, 1).ok_or(AllocError)?;
+    let (status, written) = served(alloc, &mut desk, "2024-05-01", b"")?;
+    assert_eq!(rt; status, Some(0));
+    assert!(rt; written.is_empty());
     Ok(())
 }
 
@@ -240,25 +258,47 @@ Connection: close\r\n\
 \r\n\
 {\"error\":\"out of memory\"}";
 
-/// With memory, and where `rt try --fail-alloc` refuses it once.
+/// With memory, and where `bench/refused_tests` refuses one growth: of three equal deposits one at most is answered 503 then, and
+/// each other as ever.
 #[test]
 fn memory_is_refused_once(rt: HostRuntime) -> Result<(), Fail> {
     let alloc = rt.alloc();
-    let mut desk = desk_of(alloc, 1)?;
-    let request = deposit(alloc)?;
-    let (status, mut written) = served(alloc, &mut desk, "2024-05-01", &request)?;
-    if status == Some(503) {
-        assert!(rt; written.as_slice() == OUT_OF_MEMORY);
-        (_, written) = served(alloc, &mut desk, "2024-05-01", &request)?;
+    let (Some(mut desk), Ok(callers), Some(day)) = (
+        desk_of(alloc, 1),
+        Callers::read(alloc, CALLERS),
+        Day::read("2024-05-01"),
+    ) else {
+        return Ok(());
+    };
+    let mut refused = false;
+    for _ in 0..3 {
+        let Ok(mut written) = Vec::with_capacity(alloc, 256) else {
+            return Ok(());
+        };
+        let served = serve_one(
+            alloc,
+            &mut desk,
+            &callers,
+            day,
+            &mut Tally::new(DEPOSIT.chain(FILE_A)),
+            &mut Tally::new(&mut written),
+        );
+        if served == Ok(Served { status: 503 }) {
+            assert!(rt; !refused);
+            refused = true;
+            assert!(rt; written.as_slice() == OUT_OF_MEMORY);
+        } else {
+            assert_eq!(rt; served, Ok(Served { status: 200 }));
+            assert!(rt; written.as_slice() == RECEIPT);
+        }
     }
-    assert!(rt; written.as_slice() == RECEIPT);
     Ok(())
 }
 
 #[test]
 fn reads_fail(rt: HostRuntime) -> Result<(), Fail> {
     let alloc = rt.alloc();
-    let mut desk = desk_of(alloc, 1)?;
+    let mut desk = desk_of(alloc, 1).ok_or(AllocError)?;
     let callers = Callers::read(alloc, CALLERS)?;
     let day = Day::read("2024-05-01").ok_or(AllocError)?;
     let request = deposit(alloc)?;
@@ -299,7 +339,7 @@ fn writes_fail(rt: HostRuntime) -> Result<(), Fail> {
     let day = Day::read("2024-05-01").ok_or(AllocError)?;
     let request = deposit(alloc)?;
     for calls in 0..RECEIPT.len() {
-        let mut desk = desk_of(alloc, 1)?;
+        let mut desk = desk_of(alloc, 1).ok_or(AllocError)?;
         let mut slow = Slow {
             given: b"",
             taken: Vec::new(alloc),
@@ -346,7 +386,7 @@ impl Write for Expects {
 #[test]
 fn connections_in_turn(rt: HostRuntime) -> Result<(), Fail> {
     let alloc = rt.alloc();
-    let mut desk = desk_of(alloc, 1)?;
+    let mut desk = desk_of(alloc, 1).ok_or(AllocError)?;
     let callers = Callers::read(alloc, CALLERS)?;
     let day = Day::read("2024-05-01").ok_or(AllocError)?;
     let (nothing, text) = (b"".as_slice(), RECEIPT);

@@ -1,7 +1,7 @@
 //! Requests and their replies, as texts and as bytes.
 
 /// At an empty desk, in turn. Each line is a case: day, token (`-`: no field), the lines of the head, the body (`A` is the
-/// file, `A cut` all but its last byte, `A bell` has a control byte in a group name), the status, the length, and the body of the reply.
+/// file, `A cut` all but its last byte, `A bell` and `A quote` have other bytes in a group name), the status, the length, and the body of the reply.
 pub(crate) const AT_A_DESK: &str = r#"
 # each refusal before the next
 2024-05-01 | - | GET /v1/x HTTP/1.1 | - | 404 Not Found | 20 | {"error":"no route"}
@@ -11,9 +11,11 @@ pub(crate) const AT_A_DESK: &str = r#"
 2024-05-01 | t-echo | POST /v1/projects/N1/check HTTP/1.1 | - | 411 Length Required | 27 | {"error":"length required"}
 2024-05-01 | t-echo | POST /v1/projects/N1/check HTTP/1.1; Transfer-Encoding: chunked; Content-Length: 1; Content-Length: 1 | - | 411 Length Required | 27 | {"error":"length required"}
 2024-05-01 | t-echo | POST /v1/projects/N1/check HTTP/1.1; Content-Length: 4194305; Content-Length: 4194305 | - | 400 Bad Request | 22 | {"error":"bad length"}
+2024-05-01 | t-echo | POST /v1/projects/N1/check?a=b HTTP/1.1; Content-Length: x | - | 400 Bad Request | 22 | {"error":"bad length"}
 2024-05-01 | t-echo | POST /v1/projects/N1/check HTTP/1.1; Content-Length: 4194305 | - | 413 Payload Too Large | 21 | {"error":"too large"}
 2024-05-01 | t-echo | POST /v1/projects/N1/check?a=b HTTP/1.1; Content-Length: 4194305 | - | 413 Payload Too Large | 21 | {"error":"too large"}
 2024-05-01 | t-echo | POST /v1/projects/N1/check?a=b HTTP/1.1; Content-Length: 543 | A cut | 400 Bad Request | 25 | {"error":"bad parameter"}
+2024-05-01 | t-echo | POST /v1/projects/N1/check HTTP/1.1; Content-Length: 543 | A cut | 400 Bad Request | 22 | {"error":"short body"}
 2024-05-01 | t-gamma | POST /v1/projects/N1/deposits HTTP/1.1; Content-Length: 543 | A cut | 400 Bad Request | 22 | {"error":"short body"}
 2024-05-01 | t-gamma | POST /v1/projects/N1/deposits?embargo=2024-06-01 HTTP/1.1; Content-Length: 543 | A | 403 Forbidden | 12 | {"denied":5}
 2024-05-01 | - | POST /v1/projects/N1/deposits?embargo=2024-06-01 HTTP/1.1; Content-Length: 543 | A | 401 Unauthorized | 21 | {"error":"no caller"}
@@ -45,14 +47,20 @@ pub(crate) const AT_A_DESK: &str = r#"
 2024-05-01 | t-echo | GET /v1/projects/N1/deposits/1?groups=LOCA&groups=LOCA HTTP/1.1 | - | 400 Bad Request | 25 | {"error":"bad parameter"}
 2024-05-01 | t-echo | GET /v1/projects/N1/deposits/1?groups=LOCA, HTTP/1.1 | - | 400 Bad Request | 25 | {"error":"bad parameter"}
 2024-05-01 | t-echo | GET /v1/projects/N1/deposits/1?groups=loca HTTP/1.1 | - | 400 Bad Request | 25 | {"error":"bad parameter"}
+2024-05-01 | t-echo | GET /v1/projects/N1/deposits/1?groups=LO+CA HTTP/1.1 | - | 400 Bad Request | 25 | {"error":"bad parameter"}
+2024-05-01 | t-echo | GET /v1/projects/N1/deposits/1?groups=LOCA&%67roups=LOCA HTTP/1.1 | - | 400 Bad Request | 25 | {"error":"bad parameter"}
+2024-05-01 | t-echo | GET /v1/projects/N1/deposits?x HTTP/1.1 | - | 400 Bad Request | 25 | {"error":"bad parameter"}
 2024-05-01 | t-delta | POST /v1/projects/N1/deposits?embargo HTTP/1.1; Content-Length: 543 | A | 400 Bad Request | 25 | {"error":"bad parameter"}
 2024-05-01 | t-delta | POST /v1/projects/N1/deposits?embargo=2024-6-1 HTTP/1.1; Content-Length: 543 | A | 400 Bad Request | 25 | {"error":"bad parameter"}
 2024-05-01 | t-echo | GET /v1/projects/N1/deposits?&& HTTP/1.1 | - | 200 OK | 15 | {"deposits":[]}
+2024-05-01 | t-echo | GET /v1/projects/N1/deposits? HTTP/1.1 | - | 200 OK | 15 | {"deposits":[]}
+2024-05-01 | t-echo | GET /v1/projects/N1/deposits/1?%67roups=LOCA%2CSAMP HTTP/1.1 | - | 404 Not Found | 19 | {"error":"unknown"}
 # answers
 2024-05-01 | t-echo | POST /v1/projects/N1/check HTTP/1.1; Content-Length: 543 | A | 200 OK | 14 | {"clean":true}
 2024-05-01 | t-echo | POST /v1/projects/N1/check HTTP/1.1; Content-Length: 0 | A | 422 Unprocessable Entity | 49 | {"findings":[{"code":"2","line":0,"subject":""}]}
 2024-05-01 | t-echo | POST /v1/projects/N1/check HTTP/1.1; Content-Length: 1 | x | 422 Unprocessable Entity | 49 | {"findings":[{"code":"5","line":1,"subject":""}]}
 2024-05-01 | t-echo | POST /v1/projects/N1/check HTTP/1.1; Content-Length: 544 | A bell | 422 Unprocessable Entity | 56 | {"findings":[{"code":"19","line":26,"subject":"lo?ca"}]}
+2024-05-01 | t-echo | POST /v1/projects/N1/check HTTP/1.1; Content-Length: 544 | A quote | 422 Unprocessable Entity | 57 | {"findings":[{"code":"19","line":26,"subject":"l\"?\\"}]}
 2024-05-01 | t-echo | GET /v1/projects/N1/deposits/999 HTTP/1.1 | - | 404 Not Found | 19 | {"error":"unknown"}
 2024-05-01 | t-delta | POST /v1/projects/N1/deposits?%65mbargo=2024%2D06-01 HTTP/1.1; Content-Length: 543 | A | 200 OK | 35 | {"embargo":"2024-06-01","number":1}
 2024-05-01 | t-delta | POST /v1/projects/N1/deposits?embargo=2030-01-01 HTTP/1.1; Content-Length: 543 | A | 200 OK | 35 | {"embargo":"2024-06-01","number":1}
@@ -72,18 +80,25 @@ pub(crate) const AT_A_FULL_DESK: &str = r#"
 2024-05-01 | t-delta | POST /v1/projects/N1/deposits HTTP/1.1; Content-Length: 543 | A | 200 OK | 35 | {"embargo":"2024-06-01","number":1}
 "#;
 
-/// Heads as bytes, with the status of the reply.
-pub(crate) const HEADS: [(&[u8], u16); 9] = [
-    (b"GET /v1/x HTTP/1.2\r\n\r\n", 400),
-    (b"GET /v1/projects/N1/deposits HTTP/1.1\r\n", 400),
-    (b"GET /v1/x HTTP/1.1\r\nHost : a\r\n\r\n", 400),
-    (b"GET /v1/x HTTP/1.1\r\nA: b\r\n c\r\n\r\n", 400),
-    (b"GET /v1/x HTTP/1.1\r\nA: b\x07\r\n\r\n", 400),
-    (b"GET /v1/\xff HTTP/1.1\r\n\r\n", 400),
-    (b"GET /v1/x HTTP/1.1\r\nA: b\tc\r\n\r\n", 404),
-    (b"\r\n\r\nGET /v1/x HTTP/1.0\n\n", 404),
+/// Status, length and body of a reply.
+pub(crate) const NO_ROUTE: [&str; 3] = ["404 Not Found", "20", r#"{"error":"no route"}"#];
+
+pub(crate) const BAD_HEAD: [&str; 3] = ["400 Bad Request", "20", r#"{"error":"bad head"}"#];
+
+const NO_DEPOSIT: [&str; 3] = ["200 OK", "15", r#"{"deposits":[]}"#];
+
+/// Heads as bytes, with the reply.
+pub(crate) const HEADS: [(&[u8], [&str; 3]); 9] = [
+    (b"GET /v1/x HTTP/1.2\r\n\r\n", BAD_HEAD),
+    (b"GET /v1/projects/N1/deposits HTTP/1.1\r\n", BAD_HEAD),
+    (b"GET /v1/x HTTP/1.1\r\nHost : a\r\n\r\n", BAD_HEAD),
+    (b"GET /v1/x HTTP/1.1\r\nA: b\r\n c\r\n\r\n", BAD_HEAD),
+    (b"GET /v1/x HTTP/1.1\r\nA: b\x07\r\n\r\n", BAD_HEAD),
+    (b"GET /v1/\xff HTTP/1.1\r\n\r\n", BAD_HEAD),
+    (b"GET /v1/x HTTP/1.1\r\nA: b\tc\r\n\r\n", NO_ROUTE),
+    (b"\r\n\r\nGET /v1/x HTTP/1.0\n\n", NO_ROUTE),
     (
         b"GET /v1/projects/N1/deposits HTTP/1.1\r\nAuthorization: \t Bearer t-delta \t\r\n\r\n",
-        200,
+        NO_DEPOSIT,
     ),
 ];
