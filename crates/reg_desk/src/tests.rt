@@ -1,15 +1,20 @@
 //! Worked examples of the desk, the same over each keep.
 
-ghost use Rattle.std.specs.Prelude.{◌≤◌, ◌<◌};
+ghost use Rattle.std.specs.Prelude.{◌≡◌, ◌≤◌, ◌<◌, false};
 
 mod examples;
+mod failing;
+mod laws;
+mod refusing;
 
 use crate::{Answer, Desk, Listed, Request};
 use ags_dict::Dictionary;
 use ags_rows::vectors::{FILE_A, FILE_B, FILE_C, MINI};
+use ags_rows::{Finding, READABLE};
+use examples::{EXAMPLES, LENGTHS, MOST};
 use reg_policy::vectors::{CALLERS, POLICY};
 use reg_policy::{Caller, Callers, Day, Name, Policy};
-use reg_store::{Keep, PlainKeep};
+use reg_store::{Keep, PlainKeep, SqlKeep};
 use std::alloc::{AllocError, Global};
 use std::fmt::Write;
 use std::process::Abort;
@@ -62,6 +67,10 @@ pub enum Want {
 /// The caller's token, the day, the request, and its answer.
 #[derive(Clone, Copy)]
 pub struct Step(pub &'static str, pub &'static str, pub Ask, pub Want);
+
+/// A body, and how many bytes it should have.
+#[derive(Clone, Copy)]
+pub struct Length(pub &'static str, pub Body, pub usize);
 
 /// Requests to a register that is empty at first, and may hold so many deposits.
 #[derive(Clone, Copy)]
@@ -129,6 +138,26 @@ fn line_of(alloc: Global, line: &Listed) -> Result<String, Fail> {
     Ok(text)
 }
 
+/// A finding, as the program prints it.
+fn finding_line(alloc: Global, finding: &Finding) -> Result<String, Fail> {
+    let code = String::from_utf8_lossy(alloc, finding.code.text())?;
+    let subject = if finding.subject.is_empty() {
+        b"-".as_slice()
+    } else {
+        finding.subject.as_slice()
+    };
+    let subject = String::from_utf8_lossy(alloc, subject)?;
+    let mut text = String::new(alloc);
+    write!(
+        text,
+        "{} {} {};",
+        code.as_str(),
+        finding.line,
+        subject.as_str()
+    )?;
+    Ok(text)
+}
+
 /// An answer, as it is printed.
 fn printed(alloc: Global, answer: &Answer) -> Result<String, Fail> {
     let mut text = String::new(alloc);
@@ -139,7 +168,11 @@ fn printed(alloc: Global, answer: &Answer) -> Result<String, Fail> {
             write!(text, "receipt {number} {}", day.as_str())?;
         }
         Answer::Clean => text.push_str("clean")?,
-        Answer::Findings(found) => write!(text, "{} findings", found.as_slice().len())?,
+        Answer::Findings(found) => {
+            for finding in found.as_slice() {
+                text.push_str(finding_line(alloc, finding)?.as_str())?;
+            }
+        }
         Answer::Listing(lines) => {
             for line in lines.as_slice() {
                 text.push_str(line_of(alloc, line)?.as_str())?;
@@ -169,7 +202,66 @@ fn wanted(alloc: Global, want: &Want) -> Result<String, Fail> {
     }
 }
 
-/// The answer to a step, as it is printed.
+/// A deposit to a project.
+fn deposit_of<'a>(
+    caller: &'a Caller,
+    project: &'a Name,
+    embargo: Day,
+    bytes: &'a [u8],
+    day: Day,
+) -> Request<'a> {
+    Request::Deposit {
+        caller,
+        project,
+        embargo,
+        bytes,
+        day,
+    }
+}
+
+/// A check of a body.
+fn check_of<'a>(caller: &'a Caller, project: &'a Name, bytes: &'a [u8], day: Day) -> Request<'a> {
+    Request::Check {
+        caller,
+        project,
+        bytes,
+        day,
+    }
+}
+
+/// A list of a project's deposits.
+fn list_of<'a>(caller: &'a Caller, project: &'a Name, day: Day) -> Request<'a> {
+    Request::List {
+        caller,
+        project,
+        day,
+    }
+}
+
+/// An extract of groups of a deposit.
+fn extract_of<'a>(
+    caller: &'a Caller,
+    project: &'a Name,
+    number: u32,
+    groups: &'a [&'a [u8]],
+    day: Day,
+) -> Request<'a> {
+    Request::Extract {
+        caller,
+        project,
+        number,
+        groups,
+        day,
+    }
+}
+
+/// The answer to a request, as it is printed.
+fn told<K: Keep>(alloc: Global, desk: &mut Desk<K>, request: &Request) -> Result<String, Fail> {
+    let answer = desk.answer(alloc, request);
+    printed(alloc, &answer)
+}
+
+/// The answer to what is asked, as it is printed.
 fn answered<K: Keep>(
     alloc: Global,
     desk: &mut Desk<K>,
@@ -177,68 +269,51 @@ fn answered<K: Keep>(
     day: Day,
     ask: &Ask,
 ) -> Result<String, Fail> {
-    let project = Name::read(alloc, "N1")?;
-    let answer = match ask {
+    let project = &Name::read(alloc, "N1")?;
+    match ask {
         Ask::Deposit(body, embargo) => {
             let embargo = Day::read(embargo).ok_or("embargo")?;
             let bytes = bytes_of(alloc, body)?;
-            desk.answer(
+            told(
                 alloc,
-                &Request::Deposit {
-                    caller,
-                    project: &project,
-                    embargo,
-                    bytes: bytes.as_slice(),
-                    day,
-                },
+                desk,
+                &deposit_of(caller, project, embargo, bytes.as_slice(), day),
             )
         }
         Ask::Check(body) => {
             let bytes = bytes_of(alloc, body)?;
-            desk.answer(
+            told(
                 alloc,
-                &Request::Check {
-                    caller,
-                    project: &project,
-                    bytes: bytes.as_slice(),
-                    day,
-                },
+                desk,
+                &check_of(caller, project, bytes.as_slice(), day),
             )
         }
-        Ask::List => desk.answer(
-            alloc,
-            &Request::List {
-                caller,
-                project: &project,
-                day,
-            },
-        ),
-        Ask::Extract(number, groups) => desk.answer(
-            alloc,
-            &Request::Extract {
-                caller,
-                project: &project,
-                number: *number,
-                groups,
-                day,
-            },
-        ),
-    };
-    printed(alloc, &answer)
+        Ask::List => told(alloc, desk, &list_of(caller, project, day)),
+        Ask::Extract(number, groups) => {
+            told(
+                alloc,
+                desk,
+                &extract_of(caller, project, *number, groups, day),
+            )
+        }
+    }
 }
 
-/// Each step of an example, in turn.
-fn plays<K: Keep>(
+/// The steps of an example in turn, asked of a desk over this keep.
+fn plays<K: Keep + Drop>(
     alloc: Global,
     rt: &impl Abort,
-    desk: &mut Desk<K>,
-    callers: &Callers,
+    keep: K,
     example: &Example,
-) -> Result<(), Fail> {
+) -> Result<(), Fail>
+    requires { K.has_failed keep ≡ false }
+{
+    let callers = Callers::read(alloc, CALLERS)?;
+    let mut desk = Desk::new(keep, Policy::read(alloc, POLICY)?);
     for Step(token, day, ask, want) in example.steps {
         let caller = callers.find(token.as_bytes()).ok_or("token")?;
         let day = Day::read(day).ok_or("day")?;
-        let got = answered(alloc, desk, caller, day, ask)?;
+        let got = answered(alloc, &mut desk, caller, day, ask)?;
         let want = wanted(alloc, want)?;
         assert_eq!(rt; got.as_str(), want.as_str(), "{}", example.name);
     }
@@ -246,64 +321,36 @@ fn plays<K: Keep>(
 }
 
 #[test]
-fn examples_in_memory(rt: HostRuntime) -> Result<(), Fail> {
+fn bodies_are_as_long_as_they_should_be(rt: HostRuntime) -> Result<(), Fail> {
     let alloc = rt.alloc();
-    let callers = Callers::read(alloc, CALLERS)?;
-    for example in &examples::EXAMPLES {
-        let policy = Policy::read(alloc, POLICY)?;
-        let mini = Dictionary::read(alloc, MINI)?;
-        assert!(rt; 0 < example.limit && example.limit <= 999_999);
-        let keep = PlainKeep::with_limit(alloc, mini, example.limit);
-        let mut desk = Desk::new(keep, policy);
-        plays(alloc, &rt, &mut desk, &callers, example)?;
+    for Length(name, body, length) in &LENGTHS {
+        assert_eq!(rt; bytes_of(alloc, body)?.len(), *length, "{name}");
     }
     Ok(())
 }
 
 #[test]
-fn a_run_of_requests(rt: HostRuntime) -> Result<(), Fail> {
+fn examples_in_memory(rt: HostRuntime) -> Result<(), Fail> {
     let alloc = rt.alloc();
-    let callers = Callers::read(alloc, CALLERS)?;
-    let delta = callers.find(b"t-delta").ok_or("token")?;
-    let project = Name::read(alloc, "N1")?;
-    let day = Day::read("2024-05-01").ok_or("day")?;
-    let embargo = Day::read("2024-06-01").ok_or("embargo")?;
-    let requests = [
-        Request::Deposit {
-            caller: delta,
-            project: &project,
-            embargo,
-            bytes: FILE_A,
-            day,
-        },
-        Request::List {
-            caller: delta,
-            project: &project,
-            day,
-        },
-        Request::Extract {
-            caller: delta,
-            project: &project,
-            number: 2,
-            groups: &[],
-            day,
-        },
-    ];
-    let policy = Policy::read(alloc, POLICY)?;
-    let mini = Dictionary::read(alloc, MINI)?;
-    let mut desk = Desk::new(PlainKeep::new(alloc, mini), policy);
-    let answers = desk.run(alloc, &requests)?;
-    let mut text = String::new(alloc);
-    for answer in &answers {
-        text.push_str(printed(alloc, answer)?.as_str())?;
-        text.push_str("; ")?;
+    for example in &EXAMPLES {
+        let mini = Dictionary::read(alloc, MINI)?;
+        assert!(rt; 0 < example.limit && example.limit <= 999_999);
+        let keep = PlainKeep::with_limit(alloc, mini, example.limit);
+        plays(alloc, &rt, keep, example)?;
     }
-    assert_eq!(rt;
-        text.as_str(),
-        "receipt 1 2024-06-01; 1 Delta 2024-06-01;; unknown; "
-    );
-    assert_eq!(rt; desk.keep().count(), 1);
-    let keep = desk.into_keep();
-    assert_eq!(rt; keep.limit(), 999_999);
+    Ok(())
+}
+
+/// Tables hold as many deposits as may be, so an example with a smaller limit is none of theirs.
+#[test]
+fn examples_in_tables(rt: HostRuntime) -> Result<(), Fail> {
+    let alloc = rt.alloc();
+    assert!(rt; MINI.len() <= READABLE);
+    for example in &EXAMPLES {
+        if example.limit == MOST {
+            let keep = SqlKeep::in_memory(alloc, MINI)?;
+            plays(alloc, &rt, keep, example)?;
+        }
+    }
     Ok(())
 }

@@ -1,8 +1,9 @@
 //! Requests to a register, and their answers. A deposit is sent on 2024-05-01 under an embargo until 2024-06-01 where nothing else is said.
 
-use super::{Ask, Body, Edit, Example, File, Step, Want};
+use super::{Ask, Body, Edit, Example, File, Length, Step, Want};
 
-const MOST: u32 = 999_999;
+/// As many deposits as a register may hold.
+pub const MOST: u32 = 999_999;
 
 const SENT: &str = "2024-05-01";
 
@@ -13,7 +14,7 @@ const FIRST: Want = Want::Says("receipt 1 2024-06-01");
 const SECOND: Want = Want::Says("receipt 2 2024-06-01");
 
 /// The first file.
-const A: Body = Body {
+pub const A: Body = Body {
     front: b"",
     file: File::A,
     edits: &[],
@@ -92,7 +93,7 @@ const A_PLAIN: Body = Body {
 };
 
 /// The second file.
-const B: Body = Body {
+pub const B: Body = Body {
     front: b"",
     file: File::B,
     edits: &[],
@@ -100,7 +101,7 @@ const B: Body = Body {
 };
 
 /// What Echo may see of it, 956 bytes: all but the second borehole with its sample and its test.
-const B_SHOWN: Body = Body {
+pub const B_SHOWN: Body = Body {
     front: b"",
     file: File::B,
     edits: &[
@@ -135,8 +136,8 @@ const B_BOREHOLE: Body = Body {
     spaces: 0,
 };
 
-/// It with another result in a hidden row.
-const B_WETTER: Body = Body {
+/// It with another result in a hidden row: `99.9` for `18.4` in line 47.
+pub const B_WETTER: Body = Body {
     front: b"",
     file: File::B,
     edits: &[Edit {
@@ -148,7 +149,7 @@ const B_WETTER: Body = Body {
 };
 
 /// It with one hidden row more.
-const B_TESTED: Body = Body {
+pub const B_TESTED: Body = Body {
     front: b"",
     file: File::B,
     edits: &[Edit {
@@ -196,7 +197,16 @@ const C_SHOWN: Body = Body {
     spaces: 0,
 };
 
-pub const EXAMPLES: [Example; 13] = [
+/// Bodies whose lengths are told.
+pub const LENGTHS: [Length; 5] = [
+    Length("the first file", A, 543),
+    Length("as long as may be", A_LONGEST, 4_194_304),
+    Length("one space more", A_TOO_LONG, 4_194_305),
+    Length("what is shown of the second file", B_SHOWN, 956),
+    Length("its first borehole", B_BOREHOLE, 626),
+];
+
+pub const EXAMPLES: [Example; 8] = [
     Example {
         name: "a deposit that the policy denies",
         limit: MOST,
@@ -226,13 +236,13 @@ pub const EXAMPLES: [Example; 13] = [
                 "t-delta",
                 SENT,
                 Ask::Check(A_UNENDED),
-                Want::Says("1 findings"),
+                Want::Says("2b 29 -;"),
             ),
             Step(
                 "t-delta",
                 SENT,
                 Ask::Deposit(A_UNENDED, UNTIL),
-                Want::Says("1 findings"),
+                Want::Says("2b 29 -;"),
             ),
             Step(
                 "t-delta",
@@ -291,6 +301,7 @@ pub const EXAMPLES: [Example; 13] = [
                 Ask::Extract(1, &[b"LOCA"]),
                 Want::Gives(B_BOREHOLE),
             ),
+            Step("t-echo", UNTIL, Ask::Check(B), Want::Says("clean")),
             Step("t-echo", UNTIL, Ask::Check(B_SHOWN), Want::Says("clean")),
             Step("t-echo", UNTIL, Ask::Check(B_BOREHOLE), Want::Says("clean")),
         ],
@@ -302,6 +313,7 @@ pub const EXAMPLES: [Example; 13] = [
             Step("t-delta", SENT, Ask::Deposit(C, UNTIL), FIRST),
             Step("t-echo", UNTIL, Ask::Extract(1, &[]), Want::Gives(C_SHOWN)),
             Step("t-delta", UNTIL, Ask::Extract(1, &[]), Want::Gives(C)),
+            Step("t-echo", UNTIL, Ask::Check(C), Want::Says("clean")),
             Step("t-echo", UNTIL, Ask::Check(C_SHOWN), Want::Says("clean")),
         ],
     },
@@ -350,80 +362,6 @@ pub const EXAMPLES: [Example; 13] = [
         steps: &[
             Step("t-delta", SENT, Ask::Deposit(A_SPACED, UNTIL), FIRST),
             Step("t-echo", UNTIL, Ask::Extract(1, &[]), Want::Gives(A_PLAIN)),
-        ],
-    },
-    Example {
-        name: "an extract that is deposited",
-        limit: MOST,
-        steps: &[
-            Step("t-delta", SENT, Ask::Deposit(B, UNTIL), FIRST),
-            Step("t-delta", SENT, Ask::Deposit(B_SHOWN, UNTIL), SECOND),
-            Step("t-delta", UNTIL, Ask::Extract(2, &[]), Want::Gives(B_SHOWN)),
-            Step("t-echo", UNTIL, Ask::Extract(2, &[]), Want::Gives(B_SHOWN)),
-        ],
-    },
-    Example {
-        name: "what may be seen does not tell: the second file",
-        limit: MOST,
-        steps: &[
-            Step("t-delta", SENT, Ask::Deposit(B, UNTIL), FIRST),
-            Step(
-                "t-echo",
-                UNTIL,
-                Ask::List,
-                Want::Says("1 Delta 2024-06-01;"),
-            ),
-            Step("t-foxtrot", UNTIL, Ask::Deposit(A, UNTIL), SECOND),
-            Step("t-echo", UNTIL, Ask::Extract(1, &[]), Want::Gives(B_SHOWN)),
-            Step("t-echo", UNTIL, Ask::Extract(2, &[]), Want::Gives(A)),
-        ],
-    },
-    Example {
-        name: "what may be seen does not tell: another result in a hidden row",
-        limit: MOST,
-        steps: &[
-            Step("t-delta", SENT, Ask::Deposit(B_WETTER, UNTIL), FIRST),
-            Step(
-                "t-echo",
-                UNTIL,
-                Ask::List,
-                Want::Says("1 Delta 2024-06-01;"),
-            ),
-            Step("t-foxtrot", UNTIL, Ask::Deposit(A, UNTIL), SECOND),
-            Step("t-echo", UNTIL, Ask::Extract(1, &[]), Want::Gives(B_SHOWN)),
-            Step("t-echo", UNTIL, Ask::Extract(2, &[]), Want::Gives(A)),
-        ],
-    },
-    Example {
-        name: "what may be seen does not tell: one hidden row more",
-        limit: MOST,
-        steps: &[
-            Step("t-delta", SENT, Ask::Deposit(B_TESTED, UNTIL), FIRST),
-            Step(
-                "t-echo",
-                UNTIL,
-                Ask::List,
-                Want::Says("1 Delta 2024-06-01;"),
-            ),
-            Step("t-foxtrot", UNTIL, Ask::Deposit(A, UNTIL), SECOND),
-            Step("t-echo", UNTIL, Ask::Extract(1, &[]), Want::Gives(B_SHOWN)),
-            Step("t-echo", UNTIL, Ask::Extract(2, &[]), Want::Gives(A)),
-        ],
-    },
-    Example {
-        name: "what may be seen does not tell: no hidden row",
-        limit: MOST,
-        steps: &[
-            Step("t-delta", SENT, Ask::Deposit(B_SHOWN, UNTIL), FIRST),
-            Step(
-                "t-echo",
-                UNTIL,
-                Ask::List,
-                Want::Says("1 Delta 2024-06-01;"),
-            ),
-            Step("t-foxtrot", UNTIL, Ask::Deposit(A, UNTIL), SECOND),
-            Step("t-echo", UNTIL, Ask::Extract(1, &[]), Want::Gives(B_SHOWN)),
-            Step("t-echo", UNTIL, Ask::Extract(2, &[]), Want::Gives(A)),
         ],
     },
 ];

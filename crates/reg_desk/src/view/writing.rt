@@ -1,7 +1,6 @@
 //! The text of an extract.
 
 ghost use Rattle.std.specs.Prelude.{◌≡◌, ◌≤◌, ◌++◌, ◌||◌, [], false, length, take, drop, slice_index_or, IfOk, OnOk};
-ghost use Rattle.ags_rows.specs.Names.{is_definition};
 ghost use Rattle.reg_desk.specs.View.{line_end, line_where, separator, with_group, text_from};
 
 use ags_rows::is_definition;
@@ -53,11 +52,11 @@ fn end_group(out: &mut Vec<u8>, start: usize, written: bool)
     }
 }
 
-/// Whether the row is of a definition group, or marked.
-fn is_kept(row: &KeptRow, marks: &[bool], place: usize) -> bool
-    ensures { result ≡ (is_definition row.now.group || slice_index_or marks.now place false) }
+/// Whether a row is written: each of a definition group, and of a data group a marked one.
+fn is_kept(definition: bool, marked: bool) -> bool
+    ensures { result ≡ (definition || marked) }
 {
-    is_definition(row.group.as_slice()) || is_marked(marks, place)
+    definition || marked
 }
 
 /// The text of the groups that have a row of a definition group or a marked row.
@@ -79,7 +78,8 @@ pub(super) fn write_rows(
             written = false;
             push_first(&mut out, row.line.as_slice())?;
         } else if row.kind == 4 {
-            let kept = is_kept(row, marks, data);
+            let definition = is_definition(row.group.as_slice());
+            let kept = is_kept(definition, is_marked(marks, data));
             push_where(&mut out, row.line.as_slice(), kept)?;
             written = written || kept;
             data += 1;
