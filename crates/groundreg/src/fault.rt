@@ -1,4 +1,4 @@
-//! What ends a run without an answer on its file.
+//! What ends a run without an answer.
 
 ghost use Rattle.std.specs.Prelude.{◌≡◌};
 ghost use Rattle.groundreg.specs.Faults.{fault_text, fault_status, Tells};
@@ -8,15 +8,39 @@ use crate::watched::{StreamFailed, Watched};
 use std::alloc::AllocError;
 use std::io::Write;
 
-/// Why a run has no answer on its file.
+/// Why a run has no answer, where the text of it is always the same.
 #[derive(Clone, Copy, Debug, PartialEq, Eq)]
 pub(crate) enum Fault {
-    /// The command line has words, and no command is known.
+    /// The words are none of a command's.
     WordsRefused,
+    /// The policy is none.
+    PolicyRefused,
+    /// The callers are none.
+    CallersRefused,
+    /// No caller has the token.
+    TokenRefused,
+    /// The project is no name.
+    ProjectRefused,
+    /// The day, or that of the embargo, is none.
+    DayRefused,
+    /// What is listed is not the names of groups.
+    GroupsRefused,
+    /// The number is none of a deposit.
+    NumberRefused,
+    /// The dictionary is none.
+    DictionaryRefused,
     /// The file has more than LIMIT bytes.
     TooLarge,
+    /// The store that was to be made has tables.
+    StoreNotEmpty,
+    /// The store holds no register.
+    NotRegister,
+    /// The store failed.
+    StoreFailed,
     /// A growth was refused.
     NoMemory,
+    /// The port can not be listened on.
+    CannotListen,
     /// A read or a write failed.
     Stream,
 }
@@ -44,8 +68,20 @@ impl Fault {
     {
         match self {
             Fault::WordsRefused => b"groundreg: words refused\n",
+            Fault::PolicyRefused => b"groundreg: policy refused\n",
+            Fault::CallersRefused => b"groundreg: callers refused\n",
+            Fault::TokenRefused => b"groundreg: token refused\n",
+            Fault::ProjectRefused => b"groundreg: project refused\n",
+            Fault::DayRefused => b"groundreg: day refused\n",
+            Fault::GroupsRefused => b"groundreg: groups refused\n",
+            Fault::NumberRefused => b"groundreg: number refused\n",
+            Fault::DictionaryRefused => b"groundreg: dictionary refused\n",
             Fault::TooLarge => b"groundreg: too large\n",
+            Fault::StoreNotEmpty => b"groundreg: store not empty\n",
+            Fault::NotRegister => b"groundreg: not a register\n",
+            Fault::StoreFailed => b"groundreg: store failed\n",
             Fault::NoMemory => b"groundreg: out of memory\n",
+            Fault::CannotListen => b"groundreg: cannot listen\n",
             Fault::Stream => b"",
         }
     }
@@ -55,9 +91,9 @@ impl Fault {
         ensures { result ≡ fault_status self.now }
     {
         match self {
-            Fault::WordsRefused | Fault::TooLarge => 4,
-            Fault::NoMemory => 5,
-            Fault::Stream => 6,
+            Fault::StoreFailed | Fault::NoMemory => 5,
+            Fault::CannotListen | Fault::Stream => 6,
+            _ => 4,
         }
     }
 
