@@ -1,5 +1,8 @@
 //! What is printed of an answer of the desk.
 
+ghost use Rattle.std.specs.Prelude.{◌≡◌, ◌++◌, IfOk, OnOk, codes, decimal};
+ghost use Rattle.groundreg.specs.Printing.{IsListedLine, IsReceipt, ListsAs, ReportsAnswer};
+
 use crate::report::{Report, findings_report};
 use ags_rows::Sequence;
 use reg_desk::{Answer, Listed};
@@ -8,25 +11,40 @@ use std::alloc::{AllocError, Global};
 use std::io::Write;
 
 /// A text that is printed, and the status that the run ends with.
-fn said(alloc: Global, text: &[u8], status: u8) -> Result<Report, AllocError> {
+fn said(alloc: Global, text: &[u8], status: u8) -> Result<Report, AllocError>
+    ensures { IfOk result (λ report. (report.text ≡ text.now) × (report.status ≡ status)) }
+{
     Ok(Report {
         text: Sequence::from_vec(Vec::from_slice(alloc, text)?),
         status,
     })
 }
 
-fn receipt_report(alloc: Global, number: u32, embargo: Day) -> Result<Report, AllocError> {
+/// A receipt with the text of its embargo day.
+fn dated_receipt(alloc: Global, number: u32, embargo: &[u8]) -> Result<Vec<u8>, AllocError>
+    ensures { IfOk result (λ text. text.items ≡ codes "receipt " ++ decimal number ++ codes " " ++ embargo.now ++ codes "\n") }
+{
     let mut text = Vec::new(alloc);
     write!(text, "receipt {number} ").map_err(|_| AllocError)?;
-    text.extend_from_slice(&embargo.text())?;
+    text.extend_from_slice(embargo)?;
     text.push(b'\n')?;
+    Ok(text)
+}
+
+fn receipt_report(alloc: Global, number: u32, embargo: Day) -> Result<Report, AllocError>
+    ensures { IfOk result (λ report. IsReceipt number embargo report.text × (report.status ≡ 0)) }
+{
+    let day = embargo.text();
+    let text = dated_receipt(alloc, number, &day)?;
     Ok(Report {
         text: Sequence::from_vec(text),
         status: 0,
     })
 }
 
-fn denied_report(alloc: Global, number: u32) -> Result<Report, AllocError> {
+fn denied_report(alloc: Global, number: u32) -> Result<Report, AllocError>
+    ensures { IfOk result (λ report. (report.text ≡ codes "denied " ++ decimal number ++ codes "\n") × (report.status ≡ 2)) }
+{
     let mut text = Vec::new(alloc);
     writeln!(text, "denied {number}").map_err(|_| AllocError)?;
     Ok(Report {
@@ -35,20 +53,34 @@ fn denied_report(alloc: Global, number: u32) -> Result<Report, AllocError> {
     })
 }
 
-/// Appends the line of a deposit.
-fn push_listed(text: &mut Vec<u8>, listed: &Listed) -> Result<(), AllocError> {
-    write!(text, "{} ", listed.number).map_err(|_| AllocError)?;
-    text.extend_from_slice(listed.firm.text().as_bytes())?;
-    text.push(b' ')?;
-    text.extend_from_slice(&listed.embargo.text())?;
-    text.push(b'\n')?;
-    Ok(())
+/// The line of a deposit, with the text of its embargo day.
+fn dated_line(alloc: Global, listed: &Listed, embargo: &[u8]) -> Result<Vec<u8>, AllocError>
+    ensures { IfOk result (λ line. line.items ≡ decimal listed.now.number ++ codes " " ++ listed.now.firm ++ codes " " ++ embargo.now ++ codes "\n") }
+{
+    let mut line = Vec::new(alloc);
+    write!(line, "{} ", listed.number).map_err(|_| AllocError)?;
+    line.extend_from_slice(listed.firm.text().as_bytes())?;
+    line.push(b' ')?;
+    line.extend_from_slice(embargo)?;
+    line.push(b'\n')?;
+    Ok(line)
 }
 
-fn listing_report(alloc: Global, listing: &[Listed]) -> Result<Report, AllocError> {
+/// The line of a deposit.
+fn listed_line(alloc: Global, listed: &Listed) -> Result<Vec<u8>, AllocError>
+    ensures { IfOk result (λ line. IsListedLine listed.now line.items) }
+{
+    let day = listed.embargo.text();
+    dated_line(alloc, listed, &day)
+}
+
+fn listing_report(alloc: Global, listing: &[Listed]) -> Result<Report, AllocError>
+    ensures { IfOk result (λ report. ListsAs listing.now report.text × (report.status ≡ 0)) }
+{
     let mut text = Vec::new(alloc);
     for listed in listing {
-        push_listed(&mut text, listed)?;
+        let line = listed_line(alloc, listed)?;
+        text.extend_from_slice(line.as_slice())?;
     }
     Ok(Report {
         text: Sequence::from_vec(text),
@@ -57,7 +89,9 @@ fn listing_report(alloc: Global, listing: &[Listed]) -> Result<Report, AllocErro
 }
 
 /// What is printed of an answer, and the status that the run ends with.
-pub(crate) fn answer_report(alloc: Global, answer: Answer) -> Result<Report, AllocError> {
+pub(crate) fn answer_report(alloc: Global, answer: Answer) -> Result<Report, AllocError>
+    ensures { IfOk result (λ report. ReportsAnswer answer report) }
+{
     match answer {
         Answer::Receipt { number, embargo } => receipt_report(alloc, number, embargo),
         Answer::Clean => findings_report(alloc, &[]),

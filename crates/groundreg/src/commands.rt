@@ -1,5 +1,14 @@
 //! What each command does.
 
+ghost use Rattle.std.specs.Prelude.{◌≡◌, ◌≤◌, Bool, false, IfOk, IfSome, MatchOption, Some, length};
+ghost use Rattle.ags_dict.specs.Mini.{mini_entries};
+ghost use Rattle.reg_policy.specs.Callers.{caller_of};
+ghost use Rattle.reg_policy.specs.Days.{day_of};
+ghost use Rattle.reg_desk.specs.Asked.{asked, deposit, extract, listing, names_in};
+ghost use Rattle.reg_desk.specs.Desks.{AnsweredBy};
+ghost use Rattle.groundreg.specs.Answers.{AnswersOn};
+ghost use Rattle.groundreg.specs.Asking.{AsksDesk, ChecksUnder};
+
 use crate::answers::answer_report;
 use crate::check::{check_stream, run_without_words};
 use crate::fault::{Fault, tell};
@@ -8,6 +17,7 @@ use crate::refusal::Refusal;
 use crate::serving::serve;
 use crate::watched::Watched;
 use crate::words::{Asker, Words, read_words};
+use ags_dict::Dictionary;
 use ags_rows::LIMIT;
 use reg_desk::{Desk, Request};
 use reg_http::{groups_listed, number_of_deposit};
@@ -16,7 +26,9 @@ use reg_store::{CreateError, Keep, SqlKeep};
 use sqlite::{File, FileStore};
 use std::alloc::Global;
 use std::convert::AsStr;
-use std::io::{Read, Write};
+use std::fs;
+use std::io::{ErrorKind, Read, Write};
+use std::path::Path;
 
 /// Who asks, for which project, and on which day.
 #[derive(Drop)]
@@ -55,16 +67,51 @@ fn check_file<'w, W: Write, E: Write>(
     file: &'w str,
     out: &mut Watched<W>,
     err: &mut Watched<E>,
-) -> Result<u8, Refusal<'w>> {
-    let text = read_path(rt, alloc, dictionary)?;
-    let dictionary = dictionary_in(alloc, &text)?;
-    let bytes = read_path(rt, alloc, file)?;
-    let mut input = Watched::new(bytes.as_slice());
-    Ok(check_stream(alloc, &dictionary, &mut input, out, err))
+) -> Result<u8, Refusal<'w>>
+    requires out { out.old.failed ≡ false }
+    requires err { err.old.failed ≡ false }
+{
+    let dictionary = read_path(rt, alloc, dictionary)?;
+    check_given(alloc, &dictionary, read_path(rt, alloc, file), out, err)
+}
+
+/// Checks a file, if it was read, under the dictionary that bytes are. A dictionary that is none is refused first.
+fn check_given<'w, W: Write, E: Write>(
+    alloc: Global,
+    dictionary: &[u8],
+    file: Result<Vec<u8>, Refusal<'w>>,
+    out: &mut Watched<W>,
+    err: &mut Watched<E>,
+) -> Result<u8, Refusal<'w>>
+    requires out { out.old.failed ≡ false }
+    requires err { err.old.failed ≡ false }
+    ensures { IfOk result (λ status. ChecksUnder dictionary.now file.entry (W.contents out.old.inner) (W.contents out.new.inner) (E.contents err.old.inner) (E.contents err.new.inner) out.new.failed err.new.failed status) }
+{
+    let dictionary = dictionary_in(alloc, dictionary)?;
+    let bytes = file?;
+    Ok(check_bytes(alloc, &dictionary, &bytes, out, err))
+}
+
+/// Checks bytes under a dictionary.
+fn check_bytes<W: Write, E: Write>(
+    alloc: Global,
+    dictionary: &Dictionary,
+    bytes: &[u8],
+    out: &mut Watched<W>,
+    err: &mut Watched<E>,
+) -> u8
+    requires out { out.old.failed ≡ false }
+    requires err { err.old.failed ≡ false }
+    ensures { (in_failed : Bool) × AnswersOn dictionary.now bytes.now (W.contents out.old.inner) (W.contents out.new.inner) (E.contents err.old.inner) (E.contents err.new.inner) in_failed out.new.failed err.new.failed result }
+{
+    let mut input = Watched::new(bytes);
+    check_stream(alloc, dictionary, &mut input, out, err)
 }
 
 /// The day that a text writes, or the one for where none is given.
-pub(crate) fn day_or(text: Option<&str>, other: Option<Day>) -> Result<Day, Fault> {
+pub(crate) fn day_or(text: Option<&str>, other: Option<Day>) -> Result<Day, Fault>
+    ensures { IfOk result (λ day. MatchOption text.entry (other ≡ Some day) (λ given. day_of given.now ≡ Some day)) }
+{
     match text {
         Some(text) => Day::read(text).ok_or(Fault::DayRefused),
         None => other.ok_or(Fault::DayRefused),
@@ -72,7 +119,9 @@ pub(crate) fn day_or(text: Option<&str>, other: Option<Day>) -> Result<Day, Faul
 }
 
 /// The project of a name.
-fn project_of(alloc: Global, text: &str) -> Result<Name, Fault> {
+fn project_of(alloc: Global, text: &str) -> Result<Name, Fault>
+    ensures { IfOk result (λ project. project ≡ text.now) }
+{
     match Name::read(alloc, text) {
         Ok(name) => Ok(name),
         Err(NameError::BadName) => Err(Fault::ProjectRefused),
@@ -86,7 +135,11 @@ fn session_of<'c>(
     callers: &'c Callers,
     asker: &Asker<'_>,
     today: Option<Day>,
-) -> Result<Session<'c>, Fault> {
+) -> Result<Session<'c>, Fault>
+    ensures caller { IfOk result (λ session. caller_of asker.now.token.now callers.now ≡ Some session.caller.now) }
+    ensures project { IfOk result (λ session. session.project ≡ asker.now.project.now) }
+    ensures day { IfOk result (λ session. MatchOption asker.now.day (today ≡ Some session.day) (λ given. day_of given.now ≡ Some session.day)) }
+{
     let Some(caller) = callers.find(asker.token.as_bytes()) else {
         return Err(Fault::TokenRefused);
     };
@@ -104,8 +157,30 @@ pub(crate) fn open_store<'w>(
     rt: &HostRuntime,
     alloc: Global,
     store: &'w str,
-) -> Result<SqlKeep<FileStore<File>>, Refusal<'w>> {
+) -> Result<SqlKeep<FileStore<File>>, Refusal<'w>>
+    ensures { IfOk result (λ keep. keep.has_failed ≡ false) }
+{
+    if is_absent(rt, store) {
+        return Err(Refusal::Plain(Fault::NotRegister));
+    }
     Ok(SqlKeep::open(rt, alloc, store)?)
+}
+
+/// Whether a path names nothing, in a folder that is there. Opening a store would make a file of this name.
+fn is_absent(rt: &HostRuntime, path: &str) -> bool {
+    match fs::symlink_metadata(rt, path) {
+        Err(error) if error.kind() == ErrorKind::NotFound => has_folder(rt, path),
+        _ => false,
+    }
+}
+
+/// Whether the folder of a path is there.
+fn has_folder(rt: &HostRuntime, path: &str) -> bool {
+    match Path::new(path).parent() {
+        Some(folder) if folder.as_str().is_empty() => true,
+        Some(folder) => matches!(fs::metadata(rt, folder), Ok(found) if found.is_dir()),
+        None => false,
+    }
 }
 
 /// Asks the desk, and prints its answer.
@@ -114,7 +189,9 @@ fn ask_desk<'w, K: Keep, W: Write>(
     desk: &mut Desk<K>,
     request: &Request<'_>,
     out: &mut Watched<W>,
-) -> Result<u8, Refusal<'w>> {
+) -> Result<u8, Refusal<'w>>
+    ensures { AsksDesk (AnsweredBy K.Keep) (asked request.entry.now) desk.old desk.new (W.contents out.old.inner) (W.contents out.new.inner) out.old.failed out.new.failed result }
+{
     let answer = desk.answer(alloc, request);
     let report = answer_report(alloc, answer)?;
     Ok(report.print(out))
@@ -135,14 +212,28 @@ fn deposit<'w, W: Write>(
     let embargo = day_or(embargo, Some(session.day))?;
     let bytes = read_path(rt, alloc, file)?;
     let mut desk = Desk::new(open_store(rt, alloc, asker.store)?, policy);
+    ask_deposit(alloc, &mut desk, &session, embargo, &bytes, out)
+}
+
+/// Asks the desk to keep a file, as the one who asks.
+fn ask_deposit<'w, K: Keep, W: Write>(
+    alloc: Global,
+    desk: &mut Desk<K>,
+    session: &Session<'_>,
+    embargo: Day,
+    bytes: &[u8],
+    out: &mut Watched<W>,
+) -> Result<u8, Refusal<'w>>
+    ensures { AsksDesk (AnsweredBy K.Keep) (deposit session.now.caller.now session.now.project embargo bytes.now session.now.day) desk.old desk.new (W.contents out.old.inner) (W.contents out.new.inner) out.old.failed out.new.failed result }
+{
     let request = Request::Deposit {
         caller: session.caller,
         project: &session.project,
         embargo,
-        bytes: &bytes,
+        bytes,
         day: session.day,
     };
-    ask_desk(alloc, &mut desk, &request, out)
+    ask_desk(alloc, desk, &request, out)
 }
 
 fn list<'w, W: Write>(
@@ -156,12 +247,24 @@ fn list<'w, W: Write>(
     let callers = read_callers(rt, alloc, asker.callers)?;
     let session = session_of(alloc, &callers, asker, today)?;
     let mut desk = Desk::new(open_store(rt, alloc, asker.store)?, policy);
+    ask_list(alloc, &mut desk, &session, out)
+}
+
+/// Asks the desk for the deposits of a project, as the one who asks.
+fn ask_list<'w, K: Keep, W: Write>(
+    alloc: Global,
+    desk: &mut Desk<K>,
+    session: &Session<'_>,
+    out: &mut Watched<W>,
+) -> Result<u8, Refusal<'w>>
+    ensures { AsksDesk (AnsweredBy K.Keep) (listing session.now.caller.now session.now.project session.now.day) desk.old desk.new (W.contents out.old.inner) (W.contents out.new.inner) out.old.failed out.new.failed result }
+{
     let request = Request::List {
         caller: session.caller,
         project: &session.project,
         day: session.day,
     };
-    ask_desk(alloc, &mut desk, &request, out)
+    ask_desk(alloc, desk, &request, out)
 }
 
 /// The groups that a text lists; none for all.
@@ -188,14 +291,28 @@ fn extract<'w, W: Write>(
     let groups = groups_of(alloc, groups)?;
     let number = number_of_deposit(number.as_bytes()).ok_or(Fault::NumberRefused)?;
     let mut desk = Desk::new(open_store(rt, alloc, asker.store)?, policy);
+    ask_extract(alloc, &mut desk, &session, number, &groups, out)
+}
+
+/// Asks the desk for an extract, as the one who asks.
+fn ask_extract<'w, K: Keep, W: Write>(
+    alloc: Global,
+    desk: &mut Desk<K>,
+    session: &Session<'_>,
+    number: u32,
+    groups: &[&[u8]],
+    out: &mut Watched<W>,
+) -> Result<u8, Refusal<'w>>
+    ensures { AsksDesk (AnsweredBy K.Keep) (extract session.now.caller.now session.now.project number (names_in groups.now) session.now.day) desk.old desk.new (W.contents out.old.inner) (W.contents out.new.inner) out.old.failed out.new.failed result }
+{
     let request = Request::Extract {
         caller: session.caller,
         project: &session.project,
         number,
-        groups: &groups,
+        groups,
         day: session.day,
     };
-    ask_desk(alloc, &mut desk, &request, out)
+    ask_desk(alloc, desk, &request, out)
 }
 
 /// Does what the words ask.
@@ -206,7 +323,10 @@ fn run_command<'w, W: Write, E: Write>(
     today: Option<Day>,
     out: &mut Watched<W>,
     err: &mut Watched<E>,
-) -> Result<u8, Refusal<'w>> {
+) -> Result<u8, Refusal<'w>>
+    requires out { out.old.failed ≡ false }
+    requires err { err.old.failed ≡ false }
+{
     match words {
         Words::Init { store, dictionary } => init(rt, alloc, store, dictionary, out),
         Words::Check { dictionary, file } => check_file(rt, alloc, dictionary, file, out, err),
@@ -234,7 +354,13 @@ pub(crate) fn run_words<S: AsStr, R: Read, W: Write, E: Write>(
     input: &mut Watched<R>,
     out: &mut Watched<W>,
     err: &mut Watched<E>,
-) -> u8 {
+) -> u8
+    requires input { input.old.failed ≡ false }
+    requires out { out.old.failed ≡ false }
+    requires err { err.old.failed ≡ false }
+    ensures wordless { length words.now ≤ 1 → IfSome (R.remaining input.old.inner) (λ bytes.
+        AnswersOn mini_entries bytes (W.contents out.old.inner) (W.contents out.new.inner) (E.contents err.old.inner) (E.contents err.new.inner) input.new.failed out.new.failed err.new.failed result) }
+{
     let alloc = rt.alloc();
     if words.len() <= 1 {
         return run_without_words(alloc, input, out, err);

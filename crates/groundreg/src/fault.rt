@@ -1,14 +1,14 @@
 //! What ends a run without an answer.
 
-ghost use Rattle.std.specs.Prelude.{◌≡◌};
-ghost use Rattle.groundreg.specs.Faults.{fault_text, fault_status, Tells};
+ghost use Rattle.std.specs.Prelude.{◌≡◌, ◌++◌, codes};
+ghost use Rattle.groundreg.specs.Faults.{ended_with, fault_text, fault_status, Tells};
 ghost use Rattle.groundreg.specs.declared.fault.Fault.TheVariants.{NoMemory, Stream};
 
 use crate::watched::{StreamFailed, Watched};
 use std::alloc::AllocError;
 use std::io::Write;
 
-/// Why a run has no answer, where the text of it is always the same.
+/// Why a run has no answer, where the text is the same each time. Its status is 6 where a stream failed, and only there.
 #[derive(Clone, Copy, Debug, PartialEq, Eq)]
 pub(crate) enum Fault {
     /// The words are none of a command's.
@@ -39,8 +39,6 @@ pub(crate) enum Fault {
     StoreFailed,
     /// A growth was refused.
     NoMemory,
-    /// The port can not be listened on.
-    CannotListen,
     /// A read or a write failed.
     Stream,
 }
@@ -81,7 +79,6 @@ impl Fault {
             Fault::NotRegister => b"groundreg: not a register\n",
             Fault::StoreFailed => b"groundreg: store failed\n",
             Fault::NoMemory => b"groundreg: out of memory\n",
-            Fault::CannotListen => b"groundreg: cannot listen\n",
             Fault::Stream => b"",
         }
     }
@@ -92,7 +89,7 @@ impl Fault {
     {
         match self {
             Fault::StoreFailed | Fault::NoMemory => 5,
-            Fault::CannotListen | Fault::Stream => 6,
+            Fault::Stream => 6,
             _ => 4,
         }
     }
@@ -109,7 +106,26 @@ impl Fault {
 pub(crate) fn tell<W: Write>(out: &mut Watched<W>, text: &[u8], status: u8) -> u8
     ensures { Tells (W.contents out.old.inner) (W.contents out.new.inner) text.now out.old.failed out.new.failed status result }
 {
-    match out.write_text(text) {
+    ended(out.write_text(text), status)
+}
+
+/// Writes a line of two parts: the status, or that of a stream that failed.
+pub(crate) fn tell_line<W: Write>(
+    out: &mut Watched<W>,
+    first: &[u8],
+    second: &[u8],
+    status: u8,
+) -> u8
+    ensures { Tells (W.contents out.old.inner) (W.contents out.new.inner) (first.now ++ (second.now ++ codes "\n")) out.old.failed out.new.failed status result }
+{
+    ended(out.write_line(first, second), status)
+}
+
+/// The status that a run ends with where a text was written, or that of a stream that failed.
+pub(crate) fn ended(written: Result<(), StreamFailed>, status: u8) -> u8
+    ensures { result ≡ ended_with written status }
+{
+    match written {
         Ok(()) => status,
         Err(_) => Fault::Stream.status(),
     }

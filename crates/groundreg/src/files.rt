@@ -1,5 +1,10 @@
 //! The files that words name.
 
+ghost use Rattle.std.specs.Prelude.{◌≡◌, IfOk, IfSome};
+ghost use Rattle.ags_dict.specs.Reading.{IsDictionary};
+ghost use Rattle.reg_policy.specs.Callers.{HasCallers};
+ghost use Rattle.reg_policy.specs.Rules.{HasRules};
+
 use crate::fault::Fault;
 use crate::refusal::Refusal;
 use ags_dict::{DictError, Dictionary};
@@ -36,7 +41,9 @@ pub(crate) fn read_path<'w>(
 }
 
 /// The text that bytes are, if they are UTF-8 and not longer than LIMIT.
-fn text_of(bytes: &[u8]) -> Option<&str> {
+fn text_of(bytes: &[u8]) -> Option<&str>
+    ensures { IfSome result (λ text. text.now ≡ bytes.now) }
+{
     if bytes.len() > LIMIT {
         return None;
     }
@@ -44,7 +51,9 @@ fn text_of(bytes: &[u8]) -> Option<&str> {
 }
 
 /// The policy that bytes are.
-fn policy_in(alloc: Global, bytes: &[u8]) -> Result<Policy, Fault> {
+fn policy_in(alloc: Global, bytes: &[u8]) -> Result<Policy, Fault>
+    ensures { IfOk result (λ policy. HasRules bytes.now policy) }
+{
     let Some(text) = text_of(bytes) else {
         return Err(Fault::PolicyRefused);
     };
@@ -56,7 +65,9 @@ fn policy_in(alloc: Global, bytes: &[u8]) -> Result<Policy, Fault> {
 }
 
 /// The callers that bytes are.
-fn callers_in(alloc: Global, bytes: &[u8]) -> Result<Callers, Fault> {
+fn callers_in(alloc: Global, bytes: &[u8]) -> Result<Callers, Fault>
+    ensures { IfOk result (λ callers. HasCallers bytes.now callers) }
+{
     let Some(text) = text_of(bytes) else {
         return Err(Fault::CallersRefused);
     };
@@ -68,7 +79,9 @@ fn callers_in(alloc: Global, bytes: &[u8]) -> Result<Callers, Fault> {
 }
 
 /// The dictionary that bytes are.
-pub(crate) fn dictionary_in(alloc: Global, bytes: &[u8]) -> Result<Dictionary, Fault> {
+pub(crate) fn dictionary_in(alloc: Global, bytes: &[u8]) -> Result<Dictionary, Fault>
+    ensures { IfOk result (λ dictionary. IsDictionary bytes.now dictionary) }
+{
     if bytes.len() > LIMIT {
         return Err(Fault::DictionaryRefused);
     }

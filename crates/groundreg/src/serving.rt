@@ -1,7 +1,7 @@
 //! A register that is served over connections.
 
 use crate::commands::{day_or, open_store};
-use crate::fault::{Fault, tell};
+use crate::fault::Fault;
 use crate::files::{read_callers, read_policy};
 use crate::refusal::Refusal;
 use crate::watched::{StreamFailed, Watched};
@@ -48,8 +48,7 @@ fn print_line<W: Write>(out: &mut Watched<W>, status: Option<u16>) -> Result<(),
         return out.write_text(b"fault\n");
     };
     let mut buffer = Buffer::new();
-    out.write_text(buffer.format(status).as_bytes())?;
-    out.write_text(b"\n")
+    out.write_line(b"", buffer.format(status).as_bytes())
 }
 
 /// Serves connections, one after the other, and prints the status of each reply, or `fault`. The status of the run.
@@ -74,9 +73,7 @@ pub(crate) fn serve_on<K: Keep, W: Write>(
 /// Prints that the port is listened on.
 fn print_port<W: Write>(out: &mut Watched<W>, port: u16) -> Result<(), StreamFailed> {
     let mut buffer = Buffer::new();
-    out.write_text(b"listening 127.0.0.1:")?;
-    out.write_text(buffer.format(port).as_bytes())?;
-    out.write_text(b"\n")
+    out.write_line(b"listening 127.0.0.1:", buffer.format(port).as_bytes())
 }
 
 /// Opens the register, listens, and serves.
@@ -92,7 +89,7 @@ pub(crate) fn serve<'w, W: Write>(
     let day = day_or(service.day, today)?;
     let mut desk = Desk::new(open_store(rt, alloc, service.store)?, policy);
     let Ok(listener) = TcpListener::bind(rt, ("127.0.0.1", service.port)) else {
-        return Err(Refusal::Plain(Fault::CannotListen));
+        return Err(Refusal::CannotListen);
     };
     if print_port(out, service.port).is_err() {
         return Ok(Fault::Stream.status());

@@ -1,5 +1,7 @@
 //! The words of the command line.
 
+ghost use Rattle.std.specs.Prelude.{◌≤◌, IfOk};
+
 use crate::fault::Fault;
 use clap::error::ErrorKind;
 use clap::{Arg, ArgAction, ArgMatches, Command};
@@ -131,7 +133,9 @@ fn text<'w>(given: &ArgMatches<'w>, name: &str) -> Result<&'w str, Fault> {
 }
 
 /// The number that digits give under a name, from 1 to `most`.
-fn number(given: &ArgMatches<'_>, name: &str, most: u32) -> Result<u32, Fault> {
+fn number(given: &ArgMatches<'_>, name: &str, most: u32) -> Result<u32, Fault>
+    ensures { IfOk result (λ number. (1 ≤ number) × (number ≤ most)) }
+{
     let digits = text(given, name)?;
     if !digits.bytes().all(|b| b.is_ascii_digit()) {
         return Err(Fault::WordsRefused);
@@ -142,7 +146,7 @@ fn number(given: &ArgMatches<'_>, name: &str, most: u32) -> Result<u32, Fault> {
     }
 }
 
-fn asker<'w>(given: &ArgMatches<'w>) -> Result<Asker<'w>, Fault> {
+fn asker_in<'w>(given: &ArgMatches<'w>) -> Result<Asker<'w>, Fault> {
     Ok(Asker {
         store: text(given, "store")?,
         policy: text(given, "policy")?,
@@ -153,7 +157,7 @@ fn asker<'w>(given: &ArgMatches<'w>) -> Result<Asker<'w>, Fault> {
     })
 }
 
-fn service<'w>(given: &ArgMatches<'w>) -> Result<Service<'w>, Fault> {
+fn service_in<'w>(given: &ArgMatches<'w>) -> Result<Service<'w>, Fault> {
     Ok(Service {
         store: text(given, "store")?,
         policy: text(given, "policy")?,
@@ -176,17 +180,17 @@ fn words_of<'w>(name: &str, given: &ArgMatches<'w>) -> Result<Words<'w>, Fault> 
             file: text(given, "file")?,
         }),
         "deposit" => Ok(Words::Deposit {
-            asker: asker(given)?,
+            asker: asker_in(given)?,
             embargo: given.get_str("embargo"),
             file: text(given, "file")?,
         }),
         "extract" => Ok(Words::Extract {
-            asker: asker(given)?,
+            asker: asker_in(given)?,
             groups: given.get_str("groups"),
             number: text(given, "number")?,
         }),
-        "list" => Ok(Words::List(asker(given)?)),
-        "serve" => Ok(Words::Serve(service(given)?)),
+        "list" => Ok(Words::List(asker_in(given)?)),
+        "serve" => Ok(Words::Serve(service_in(given)?)),
         _ => Err(Fault::WordsRefused),
     }
 }
