@@ -1,7 +1,7 @@
 -- From what is told to the answer of a run.
-use Rattle.std.proofs.Common.{ap, length, ◌≡◌, ◌≤◌, ◌∷◌, ◌↔◌, ◌||◌, ℕ, Bool, true, false, IsTrue, inl, inr, [], List, Option, None, Some, Ok, Err, IfSome, refl, sym, subst, ◌∙◌, arith, rules}
+use Rattle.std.proofs.Common.{ap, length, ◌≡◌, ◌≤◌, ◌∷◌, ◌↔◌, ◌||◌, ℕ, Bool, true, false, IsTrue, inl, inr, ◌⊎◌, [], List, Option, None, Some, Ok, Err, IfSome, refl, sym, subst, ◌∙◌, arith, rules}
 use Rattle.groundreg.specs.declared.fault.Fault.{Fault}
-use Rattle.groundreg.specs.declared.fault.Fault.TheVariants.{WordsRefused, TooLarge, NoMemory, Stream}
+use Rattle.groundreg.specs.declared.fault.Fault.TheVariants.{TooLarge, NoMemory, Stream}
 use Rattle.ags_rows.specs.declared.finding.Finding.{Finding}
 use Rattle.groundreg.specs.declared.report.Report.{Report}
 use Rattle.groundreg.specs.Answers.{Answers, reported, too_large, no_memory, answered, not_read, not_printed, not_said, AnswersOn, ReportsOn}
@@ -33,10 +33,10 @@ report_answers entries (Some bytes) out out_after err report in_failed before af
 
 -- a fault that is not of a stream is an answer
 said_answer : (entries : Entries) (bytes : List ℕ) (fault : Fault) → is_stream fault ≡ false → ReportsOn entries bytes (Err fault) → Answers entries bytes [] (fault_text fault) (fault_status fault)
-said_answer entries bytes WordsRefused other about = absurd about
 said_answer entries bytes TooLarge other about = too_large about
 said_answer entries bytes NoMemory other about = no_memory
 said_answer entries bytes Stream other about = absurd (search rules)
+said_answer entries bytes fault other about = absurd about
 
 -- where such a fault is told, the outcome is the answer or the failure of the writer
 other_answers : (entries : Entries) (bytes : List ℕ) (out err err_after : Option (List ℕ)) (fault : Fault) (in_failed out_failed before after : Bool) (status : ℕ)
@@ -58,20 +58,33 @@ stream_answers entries bytes out err err_after in_failed out_failed before after
     ([], [], rw (ei, eo, kept ∙ eb, same) not_read, appends_none out, taken)
 stream_answers entries bytes out err err_after in_failed out_failed before after status ei eo eb (inr (cut, failed, six)) = absurd (cut.some refl)
 
+-- a fault is that of a stream, or another
+pub stream_or_other : (fault : Fault) → (fault ≡ Stream) ⊎ (is_stream fault ≡ false)
+stream_or_other Stream = inl refl
+stream_or_other fault = inr refl
+
+is_that_of_stream : (fault : Fault) → is_stream fault ≡ true → fault ≡ Stream
+is_that_of_stream fault is = elim (stream_or_other fault) [
+  | inl same ↦ same
+  | inr other ↦ absurd (search (rules, is, other))
+]
+
+-- a fault that is not of a stream ends with 4 or 5
+pub other_status : (fault : Fault) → is_stream fault ≡ false → fault_status fault ≤ 5
+other_status Stream other = absurd (search rules)
+other_status fault other = omega arith
+
 -- where a fault is told, the outcome is the answer or the failure of a stream
 pub fault_answers : (entries : Entries) (known out err err_after : Option (List ℕ)) (fault : Fault) (in_failed out_failed before after : Bool) (status : ℕ)
     → in_failed ≡ is_stream fault → out_failed ≡ false → before ≡ false
     → IfSome known (λ bytes. ReportsOn entries bytes (Err fault)) → Tells err err_after (fault_text fault) before after (fault_status fault) status
     → IfSome known (λ bytes. AnswersOn entries bytes out out err err_after in_failed out_failed after status)
 fault_answers entries None out err err_after fault in_failed out_failed before after status ei eo eb about told = tt
-fault_answers entries (Some bytes) out err err_after WordsRefused in_failed out_failed before after status ei eo eb about told =
-    other_answers entries bytes out err err_after WordsRefused in_failed out_failed before after status refl ei eo eb about told
-fault_answers entries (Some bytes) out err err_after TooLarge in_failed out_failed before after status ei eo eb about told =
-    other_answers entries bytes out err err_after TooLarge in_failed out_failed before after status refl ei eo eb about told
-fault_answers entries (Some bytes) out err err_after NoMemory in_failed out_failed before after status ei eo eb about told =
-    other_answers entries bytes out err err_after NoMemory in_failed out_failed before after status refl ei eo eb about told
-fault_answers entries (Some bytes) out err err_after Stream in_failed out_failed before after status ei eo eb about told =
-    stream_answers entries bytes out err err_after in_failed out_failed before after status ei eo eb told
+fault_answers entries (Some bytes) out err err_after fault in_failed out_failed before after status ei eo eb about told = elim (stream_or_other fault) [
+  | inl is ↦ stream_answers entries bytes out err err_after in_failed out_failed before after status (ei ∙ ap is_stream is) eo eb
+      (subst (λ f. Tells err err_after (fault_text f) before after (fault_status f) status) is told)
+  | inr other ↦ other_answers entries bytes out err err_after fault in_failed out_failed before after status other ei eo eb about told
+]
 
 -- want of memory can come before anything is read
 pub no_memory_on : (entries : Entries) (known : Option (List ℕ)) (fault : Fault) → fault ≡ NoMemory → IfSome known (λ bytes. ReportsOn entries bytes (Err fault))
@@ -119,14 +132,10 @@ pub fault_fails : (err err_after : Option (List ℕ)) (in_failed out_failed befo
     → (ended ≡ fault_status Stream) ↔ IsTrue (in_failed || (out_failed || after))
 fault_fails err err_after in_failed out_failed before after fault ended ei eo eb (inr (cut, failed, six)) =
     one_failed in_failed out_failed after ended (or_third in_failed out_failed after failed) six
-fault_fails err err_after in_failed out_failed before after WordsRefused ended ei eo eb (inl (taken, kept, same)) =
-    none_failed in_failed out_failed after ended ei eo (kept ∙ eb) (omega (arith, same))
-fault_fails err err_after in_failed out_failed before after TooLarge ended ei eo eb (inl (taken, kept, same)) =
-    none_failed in_failed out_failed after ended ei eo (kept ∙ eb) (omega (arith, same))
-fault_fails err err_after in_failed out_failed before after NoMemory ended ei eo eb (inl (taken, kept, same)) =
-    none_failed in_failed out_failed after ended ei eo (kept ∙ eb) (omega (arith, same))
-fault_fails err err_after true out_failed before after Stream ended ei eo eb (inl (taken, kept, same)) = one_failed true out_failed after ended refl same
-fault_fails err err_after false out_failed before after Stream ended ei eo eb (inl (taken, kept, same)) = absurd (search rules)
+fault_fails err err_after true out_failed before after fault ended ei eo eb (inl (taken, kept, same)) =
+    one_failed true out_failed after ended refl (same ∙ ap fault_status (is_that_of_stream fault (sym ei)))
+fault_fails err err_after false out_failed before after fault ended ei eo eb (inl (taken, kept, same)) =
+    none_failed false out_failed after ended refl eo (kept ∙ eb) (subst (λ n. n ≤ 5) (sym same) (other_status fault (sym ei)))
 
 -- a report on what was found in all bytes of the stream
 pub reports : (entries : Entries) (known : Option (List ℕ)) (bytes : Vec ℕ Global) (read : List ℕ) (found given : List Finding) (report : Report)

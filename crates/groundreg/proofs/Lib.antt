@@ -1,3 +1,5 @@
 pub mod Taking
 pub mod Answering
 pub mod BuiltIn
+pub mod Telling
+pub mod Printing

@@ -5,7 +5,7 @@ use Rattle.ags_dict.specs.Entries.{Entries}
 use Rattle.ags_check.specs.Findings.{Findings}
 use Rattle.ags_rows.specs.declared.finding.Finding.{Finding}
 use Rattle.groundreg.specs.declared.fault.Fault.{Fault}
-use Rattle.groundreg.specs.declared.fault.Fault.TheVariants.{WordsRefused, TooLarge, NoMemory, Stream}
+use Rattle.groundreg.specs.declared.fault.Fault.TheVariants.{TooLarge, NoMemory, Stream}
 use Rattle.groundreg.specs.declared.report.Report.{Report}
 use Rattle.groundreg.specs.Faults.{fault_text, fault_status}
 use Rattle.groundreg.specs.Reading.{longest_file}
@@ -36,6 +36,6 @@ AnswersOn entries bytes out out_after err err_after in_failed out_failed err_fai
 abbrev pub ReportsOn : Entries → List ℕ → Result Report Fault → Type 0
 ReportsOn entries bytes (Ok report) = (length bytes ≤ longest_file) × ((found : List Finding) × Findings entries bytes found × (report ≡ report_of found))
 ReportsOn entries bytes (Err TooLarge) = longest_file < length bytes
-ReportsOn entries bytes (Err WordsRefused) = ⊥
 ReportsOn entries bytes (Err NoMemory) = ⊤
 ReportsOn entries bytes (Err Stream) = ⊤
+ReportsOn entries bytes (Err fault) = ⊥

@@ -3,3 +3,6 @@ pub mod Faults
 pub mod Reading
 pub mod Writing
 pub mod Answers
+pub mod Refusals
+pub mod Printing
+pub mod Asking

@@ -3,7 +3,7 @@ use Rattle.std.specs.Prelude.{◌≡◌, ℕ, ◌<◌, ◌≤◌, ◌⊎◌, ◌
 use Rattle.std.specs.Global.{Global}
 use Rattle.std.specs.Io.KnownBytes.{Consumes, IsAtEnd}
 use Rattle.groundreg.specs.declared.fault.Fault.{Fault}
-use Rattle.groundreg.specs.declared.fault.Fault.TheVariants.{WordsRefused, TooLarge, NoMemory, Stream}
+use Rattle.groundreg.specs.declared.fault.Fault.TheVariants.{TooLarge, NoMemory, Stream}
 
 -- the bytes of the longest file that is checked: 4 MiB
 abbrev pub longest_file : ℕ
@@ -31,6 +31,6 @@ IsOfReading fault = (fault ≡ NoMemory) ⊎ (fault ≡ Stream)
 abbrev pub ReadsFile : List ℕ → Result (Vec ℕ Global) Fault → Type 0
 ReadsFile all (Ok bytes) = bytes.items ≡ all
 ReadsFile all (Err TooLarge) = longest_file < length all
-ReadsFile all (Err WordsRefused) = ⊥
 ReadsFile all (Err NoMemory) = ⊤
 ReadsFile all (Err Stream) = ⊤
+ReadsFile all (Err fault) = ⊥

@@ -1,39 +1,59 @@
-//! Checks an AGS4 file on standard input, and prints its findings, or `clean`.
+//! A register of AGS4 files. Without words it checks a file on standard input, and prints its findings, or `clean`.
 #![tactic(auto)]
 
+mod answers;
 mod check;
+mod commands;
 mod fault;
+mod files;
 mod input;
+mod refusal;
 mod report;
+mod serving;
 #[cfg(test)]
 mod tests;
 mod watched;
+mod words;
 
-use check::run_without_words;
+use commands::run_words;
 use fault::Fault;
+use jiff::Zoned;
+use jiff::tz::TimeZone;
+use reg_policy::Day;
 use std::env;
 use std::io::ErrorKind;
 use std::process::ExitCode;
 use watched::Watched;
 
-/// Refuses a command line that has words. A word that is not UTF-8 is a word.
-fn refuse_words(rt: &HostRuntime) -> Result<(), Fault> {
+/// The words that the program is started with, its name first. A word that is not UTF-8 refuses them.
+fn words_given(rt: &HostRuntime) -> Result<Vec<String>, Fault> {
     match env::args(rt) {
-        Ok(words) if words.len() <= 1 => Ok(()),
+        Ok(words) => Ok(words.collect(rt.alloc())?),
         Err(error) if error.kind() == ErrorKind::OutOfMemory => Err(Fault::NoMemory),
-        _ => Err(Fault::WordsRefused),
+        Err(_) => Err(Fault::WordsRefused),
     }
 }
 
+/// The day that it is in UTC, if the clock tells one.
+fn today(rt: &HostRuntime) -> Option<Day> {
+    let now = Zoned::now(rt, TimeZone::UTC).ok()?;
+    Day::new(now.date().to_plain().to_unix_epoch_day())
+}
+
 fn main(rt: HostRuntime) -> ExitCode {
-    let status = match refuse_words(&rt) {
-        Ok(()) => run_without_words(
-            rt.alloc(),
-            &mut Watched::new(rt.stdin()),
-            &mut Watched::new(rt.stdout()),
-            &mut Watched::new(rt.stderr()),
+    let mut input = Watched::new(rt.stdin());
+    let mut out = Watched::new(rt.stdout());
+    let mut err = Watched::new(rt.stderr());
+    let status = match words_given(&rt) {
+        Ok(words) => run_words(
+            &rt,
+            words.as_slice(),
+            today(&rt),
+            &mut input,
+            &mut out,
+            &mut err,
         ),
-        Err(fault) => fault.tell(&mut Watched::new(rt.stderr())),
+        Err(fault) => fault.tell(&mut err),
     };
     ExitCode::from(status)
 }

@@ -1,6 +1,6 @@
 //! Streams that note whether they failed.
 
-ghost use Rattle.std.specs.Prelude.{◌≡◌, ◌||◌, ◌<◌, ◌≤◌, false, length, IfOk};
+ghost use Rattle.std.specs.Prelude.{◌≡◌, ◌||◌, ◌<◌, ◌≤◌, ◌++◌, false, codes, length, IfOk};
 ghost use Rattle.std.specs.Result.{is_err};
 ghost use Rattle.std.specs.Io.{ReadsAtMost};
 ghost use Rattle.std.specs.Io.KnownBytes.{Keeps, ReadConsumes, WriteAppends};
@@ -91,5 +91,15 @@ impl<W: Write> Watched<W> {
             rest = &rest[count..];
         }
         self.flush()
+    }
+
+    /// Writes a line that begins with `first` and goes on with `second`. It ends with LF.
+    pub(crate) fn write_line(&mut self, first: &[u8], second: &[u8]) -> Result<(), StreamFailed>
+        ensures bytes { WritesText (W.contents self.old.inner) (W.contents self.new.inner) result (first.now ++ (second.now ++ codes "\n")) }
+        ensures noted { self.new.failed ≡ (self.old.failed || is_err result) }
+    {
+        self.write_text(first)?;
+        self.write_text(second)?;
+        self.write_text(b"\n")
     }
 }

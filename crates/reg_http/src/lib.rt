@@ -26,6 +26,8 @@ mod text;
 mod write;
 
 pub use list::serve_list;
+pub use number::number_of_deposit;
+pub use query::groups_listed;
 pub use serve::{IoFault, Served, serve_one};
 pub use tally::Tally;
 

@@ -1,5 +1,5 @@
 //! Numbers in a head.
-ghost use Rattle.std.specs.Prelude.{◌≡◌, ◌≤◌, ◌<◌, ◌^◌, true, IfOk, length};
+ghost use Rattle.std.specs.Prelude.{◌≡◌, ◌≤◌, ◌<◌, ◌^◌, true, Ok, Err, IfOk, MatchOption, length};
 ghost use Rattle.std.specs.List.{list_all};
 ghost use Rattle.std.specs.Char.{is_ascii_digit};
 ghost use Rattle.reg_policy.specs.Days.{number_in};
@@ -67,4 +67,14 @@ pub(crate) fn deposit_number(text: &[u8]) -> Result<u32, Refusal>
         return Err(Refusal::BadParameter);
     }
     Ok(number_in(text) as u32)
+}
+
+/// The number of a deposit that a text writes: 1 to 6 digits, the first of them no zero.
+pub fn number_of_deposit(text: &[u8]) -> Option<u32>
+    ensures { MatchOption result (deposit_number text.now ≡ Err Refusal.BadParameter) (λ number. deposit_number text.now ≡ Ok number) }
+{
+    match deposit_number(text) {
+        Ok(number) => Some(number),
+        Err(_) => None,
+    }
 }

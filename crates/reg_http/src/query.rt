@@ -1,5 +1,5 @@
 //! The parameters of a request.
-ghost use Rattle.std.specs.Prelude.{◌≡◌, ◌<◌, [], ◌∷◌, Ok, IfOk, IfSome, MatchOption, codes, length};
+ghost use Rattle.std.specs.Prelude.{◌≡◌, ◌<◌, [], ◌∷◌, Ok, IfOk, IfSome, MatchOption, codes, length, true, false};
 ghost use Rattle.std.specs.List.{list_all};
 ghost use Rattle.std.specs.Cow.{cow_str_bytes};
 ghost use Rattle.form_urlencoded.specs.Form.{raw_pairs, split};
@@ -99,6 +99,19 @@ pub(crate) fn groups_of<'t>(alloc: Global, text: &'t [u8]) -> Result<Vec<&'t [u8
         return Ok(Vec::new(alloc));
     }
     pieces(alloc, text)
+}
+
+/// The groups that a text lists with commas between them, if each of them is the name of a group. An empty text lists none.
+pub fn groups_listed<'t>(alloc: Global, text: &'t [u8]) -> Result<Option<Vec<&'t [u8]>>, AllocError>
+    ensures { IfOk result (λ listed. MatchOption listed (list_all is_group_name (groups_in text.now) ≡ false)
+        (λ groups. (names_in groups.items ≡ groups_in text.now) × (list_all is_group_name (groups_in text.now) ≡ true))) }
+{
+    let groups = groups_of(alloc, text)?;
+    if are_group_names(&groups) {
+        Ok(Some(groups))
+    } else {
+        Ok(None)
+    }
 }
 
 #[tactic(auto, using(crate::proofs::GroupLemmas::group_fails))]
