@@ -162,7 +162,7 @@ class Program:
         subprocess.run([self.program, *words], cwd=self.folder, check=True, stdout=subprocess.DEVNULL)
 
     def seen_of(self, text, deposit, policy_text, caller, day, asked):
-        shutil.copy(os.path.join(self.folder, "empty"), os.path.join(self.folder, "store"))
+        copy_register(self.folder, "empty", "store")
         self.put("body", text)
         self.put("policy", policy_text.encode())
         self.run("deposit", "--store=store", "--policy=all", "--callers=callers", "--token", deposit["firm"], "--project", deposit["project"], "--embargo", deposit["embargo"], "body")
@@ -191,6 +191,16 @@ def free_port():
                 return port
             except OSError:
                 pass
+
+
+def copy_register(folder, name, copy):
+    """Copies a register file and the log beside it, which belongs to it."""
+    for end in ("", "-wal"):
+        there, here = os.path.join(folder, name + end), os.path.join(folder, copy + end)
+        if os.path.exists(here):
+            os.remove(here)
+        if os.path.exists(there):
+            shutil.copy(there, here)
 
 
 def answer_in(reply):

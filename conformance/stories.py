@@ -429,7 +429,7 @@ class Story:
         if command == "nothing":
             return self.run([], chance.choice(self.texts))
         if command == "init":
-            return self.run(self.maybe_misspelt(spelling(chance, command, {"store": chance.choice(["s", "empty", "junk", "sub", "sub/s", "nowhere/s"]), "dictionary": self.mostly(["d"], ["d-bad", "none"])}, [])))
+            return self.run(self.maybe_misspelt(spelling(chance, command, {"store": chance.choice(["s", "empty", "junk", "sub", "sub/s", "nowhere/s", "none"]), "dictionary": self.mostly(["d"], ["d-bad", "none"])}, [])))
         if command == "check":
             return self.run(self.maybe_misspelt(spelling(chance, command, {"dictionary": self.mostly(["d"], ["d-bad", "none", "sub"])}, [file])))
         options = {"store": self.mostly(["s"], ["none", "empty", "junk", "sub", "nowhere/s"]), "policy": self.mostly(["p", "p", "p-more"], ["p-bad", "none", "sub", "bytes"]),
@@ -488,7 +488,7 @@ class Story:
     def damage(self):
         """Another hand writes into a copy of the register, which is then opened."""
         chance = self.chance
-        shutil.copy(os.path.join(self.folder, "s"), os.path.join(self.folder, "t"))
+        bodies.copy_register(self.folder, "s", "t")
         not_one = machine.Fault("not a register", 4)
         choices = [("UPDATE meta SET num = 7 WHERE name = 'format'", machine.Fault("register version 7", 4)), ("DELETE FROM meta WHERE name = 'dictionary'", not_one),
                    ("UPDATE meta SET body = x'00' WHERE name = 'dictionary'", not_one), ("DELETE FROM meta", not_one)]
