@@ -499,7 +499,7 @@ class Story:
                         (f"UPDATE deposits SET body = x'' WHERE number = {last}", not_one), (f"DELETE FROM lines WHERE deposit = {last} AND seq = 0", not_one),
                         (f"UPDATE lines SET kind = 3 WHERE deposit = {last} AND kind = 4", not_one), (f"DELETE FROM steps WHERE deposit = {last}", not_one),
                         (f"INSERT INTO deposits SELECT {last + 2}, firm, 'other', embargo, body FROM deposits WHERE number = {last}", not_one),
-                        ("UPDATE meta SET num = 0 WHERE name = 'format'; DELETE FROM deposits", machine.Fault("register version 0", 4))]
+                        ("UPDATE meta SET num = 0 WHERE name = 'format'; DELETE FROM steps", machine.Fault("register version 0", 4))]
         statement, fault = chance.choice(choices)
         connection = sqlite3.connect(os.path.join(self.folder, "t"))
         connection.executescript(statement)
