@@ -33,7 +33,7 @@ class Place:
     def run(self, *words):
         """Seconds and output of a command."""
         begun = time.monotonic()
-        run = subprocess.run([self.program, *words], cwd=self.folder, capture_output=True, preexec_fn=self.limit)
+        run = subprocess.run([self.program, *words], cwd=self.folder, stdin=subprocess.DEVNULL, capture_output=True, preexec_fn=self.limit)
         if run.returncode:
             sys.exit(f"{words[0]}: {run.returncode}, {run.stdout[:80]} {run.stderr[:80]}")
         return time.monotonic() - begun, run.stdout

@@ -27,7 +27,7 @@ import compare  # noqa: E402
 import machine  # noqa: E402
 import reference  # noqa: E402
 
-PATIENCE = 20
+PATIENCE = 60
 FIRMS = ["Delta", "Gamma", "Foxtrot", "Echo"]
 DAYS = ["2024-06-02", "2024-06-02", "2024-06-01", "2024-05-31", "2030-01-01", "1970-01-01", "9999-12-31"]
 EMBARGOES = ["2024-06-01", "2024-06-01", "2024-06-02", "2024-05-01", "1970-01-01", "9999-12-31"]
