@@ -1,13 +1,20 @@
 #!/usr/bin/env python3
-"""Random files without findings, policies and days, and what the machine of machine.py makes of them.
+"""Random files without findings, policies and days, and what the machine of machine.py, or the program, makes of them.
 
-usage: bodies.py [COUNT [SEED]]     the last line is 'N passed, M failed'
+usage: bodies.py [COUNT [SEED [PROGRAM]]]     the last line is 'N passed, M failed'
 
-Of each of COUNT bodies, with record links, rings and file sets, under a policy and for a caller of its own, it tries on the machine:
-what is drawn is a file without findings; the extract of an extract that is shown whole is the same bytes; and where hidden rows alone
-are changed, the listing and every extract are the same. A seed gives the same bodies each time."""
+Of each of COUNT bodies, with record links, rings and file sets, under a policy and for a caller of its own, it tries on the machine, or on
+the program where one is named: what is drawn is a file without findings, by reference.py; the extract of an extract that is shown whole is
+the same bytes; and where hidden rows alone are changed, the listing and every extract are the same. A seed gives the same bodies each time.
+The program deposits by words, in a register file of its own for each body, and lists and draws over `serve`, a connection each. What it
+answers is compared with the machine too."""
+import os
 import random
+import shutil
+import socket
+import subprocess
 import sys
+import tempfile
 import machine
 import reference
 
@@ -129,26 +136,96 @@ def held(text, deposit):
     return register
 
 
-def seen_of(text, deposit, rules, caller, day, asked):
-    register = held(text, deposit)
-    return [register.list(rules, caller, "N1", day)] + [register.extract(rules, caller, "N1", 1, groups, day) for groups in asked]
+class Machine:
+    """Registers of one deposit each on the machine, and what it answers: a listing, then an extract for each list of groups."""
+
+    def seen_of(self, text, deposit, policy_text, caller, day, asked):
+        register, rules = held(text, deposit), machine.read_policy(policy_text)
+        return [register.list(rules, caller, "N1", day)] + [register.extract(rules, caller, "N1", 1, groups, day) for groups in asked]
 
 
-def turn(chance, counts):
+class Program:
+    """The same on the program. Answers are the bytes of its replies, and texts stand by themselves."""
+
+    def __init__(self, program, folder):
+        self.program, self.folder = os.path.abspath(program), folder
+        self.put("mini", machine.spelled_dictionary(reference.built_in()))
+        self.put("all", b'rule = [{number = 1, effect = "permit"}]\n')
+        self.put("callers", "".join(f'[[caller]]\ntoken = "{firm}"\nfirm = "{firm}"\nrole = "{caller_of(firm)["role"]}"\n' for firm in FIRMS).encode())
+        self.run("init", "--store", "empty", "--dictionary", "mini")
+
+    def put(self, name, data):
+        with open(os.path.join(self.folder, name), "wb") as file:
+            file.write(data)
+
+    def run(self, *words):
+        subprocess.run([self.program, *words], cwd=self.folder, check=True, stdout=subprocess.DEVNULL)
+
+    def seen_of(self, text, deposit, policy_text, caller, day, asked):
+        copy_register(self.folder, "empty", "store")
+        self.put("body", text)
+        self.put("policy", policy_text.encode())
+        self.run("deposit", "--store=store", "--policy=all", "--callers=callers", "--token", deposit["firm"], "--project", deposit["project"], "--embargo", deposit["embargo"], "body")
+        targets = [""] + ["/1?groups=" + b",".join(groups).decode() for groups in asked]
+        return [answer_in(reply) for reply in self.replies(targets, caller, day)]
+
+    def replies(self, targets, caller, day):
+        port = free_port()
+        serving = subprocess.Popen([self.program, "serve", "--store=store", "--policy=policy", "--callers=callers", "--port", str(port), "--connections", str(len(targets)), "--day", day],
+                                   cwd=self.folder, stdout=subprocess.PIPE)
+        serving.stdout.readline()
+        for target in targets:
+            with socket.create_connection(("127.0.0.1", port), timeout=20) as connection:
+                connection.sendall(f"GET /v1/projects/N1/deposits{target} HTTP/1.1\r\nAuthorization: Bearer {caller['firm']}\r\n\r\n".encode())
+                yield b"".join(iter(lambda: connection.recv(65536), b""))
+        serving.communicate(timeout=20)
+
+
+def free_port():
+    """A port below those that connections are given, on which nobody listens."""
+    while True:
+        port = random.randrange(10000, 32000)
+        with socket.socket() as probe:
+            try:
+                probe.bind(("127.0.0.1", port))
+                return port
+            except OSError:
+                pass
+
+
+def copy_register(folder, name, copy):
+    """Copies a register file and the log beside it, which belongs to it."""
+    for end in ("", "-wal"):
+        there, here = os.path.join(folder, name + end), os.path.join(folder, copy + end)
+        if os.path.exists(here):
+            os.remove(here)
+        if os.path.exists(there):
+            shutil.copy(there, here)
+
+
+def answer_in(reply):
+    """The text that a reply has, or the reply itself."""
+    head, _, rest = reply.partition(b"\r\n\r\n")
+    return ("text", rest) if b"text/plain" in head else ("reply", reply)
+
+
+def turn(chance, counts, side):
     """One body and what it shows; the names of what does not hold."""
-    text, rules, day = clean_body(chance), machine.read_policy(policy(chance)), chance.choice(DAYS)
+    text, policy_text, day = clean_body(chance), policy(chance), chance.choice(DAYS)
+    rules = machine.read_policy(policy_text)
     caller, deposit = caller_of(chance.choice(FIRMS)), {"firm": "Delta", "project": "N1", "embargo": "2024-06-01"}
     asked = [[], [b"LOCA"], [b"SAMP", b"FILE"], [b"LNMC", b"NONE"]]
-    answers = seen_of(text, deposit, rules, caller, day, asked)
+    answers = side.seen_of(text, deposit, policy_text, caller, day, asked)
     wrong = []
-    for answer in answers[1:]:
-        if answer[0] == "text":
-            counts["extracts"] += 1
-            if reference.findings(answer[1]):
-                wrong.append("an extract with findings")
-            everything = machine.read_policy('rule = [{number = 1, effect = "permit"}]')
-            if held(answer[1], deposit).extract(everything, caller, "N1", 1, [], day) != answer:
-                wrong.append("an extract of an extract")
+    if isinstance(side, Program) and answers != [("text", a[1]) if a[0] == "text" else ("reply", machine.reply(a)[1]) for a in Machine().seen_of(text, deposit, policy_text, caller, day, asked)]:
+        wrong.append("another answer than the machine's")
+    texts = [answer for answer in answers[1:] if answer[0] == "text"]
+    counts["extracts"] += len(texts)
+    for answer in dict.fromkeys(texts):
+        if reference.findings(answer[1]):
+            wrong.append("an extract with findings")
+        if side.seen_of(answer[1], deposit, 'rule = [{number = 1, effect = "permit"}]', caller, day, [[]])[1] != answer:
+            wrong.append("an extract of an extract")
     file = machine.File(text, reference.built_in())
     shown = machine.shown_rows(rules, caller, deposit, day, file)
     for _ in range(8):
@@ -158,7 +235,7 @@ def turn(chance, counts):
         parts = [shown_part(rules, caller, deposit, day, f) for f in (file, machine.File(other, reference.built_in()))]
         if parts[0] == parts[1]:
             counts["pairs"] += 1
-            if seen_of(other, deposit, rules, caller, day, asked) != answers:
+            if side.seen_of(other, deposit, policy_text, caller, day, asked) != answers:
                 wrong.append("a leak")
     return wrong, text
 
@@ -167,12 +244,15 @@ def main():
     count = int(sys.argv[1]) if len(sys.argv) > 1 else 300
     chance = random.Random(int(sys.argv[2]) if len(sys.argv) > 2 else 1)
     counts, passed, failed = {"extracts": 0, "pairs": 0}, 0, 0
+    folder = tempfile.mkdtemp(prefix="bodies")
+    side = Program(sys.argv[3], folder) if len(sys.argv) > 3 else Machine()
     for _ in range(count):
-        wrong, text = turn(chance, counts)
+        wrong, text = turn(chance, counts, side)
         passed += not wrong
         failed += bool(wrong)
         if wrong:
             print(wrong, text)
+    shutil.rmtree(folder)
     print(f"({counts['extracts']} extracts, {counts['pairs']} pairs of bodies that differ in hidden rows alone)")
     print(f"{passed} passed, {failed} failed")
     return failed > 0

@@ -11,10 +11,6 @@ import sys
 import reference
 
 here = os.path.dirname(os.path.abspath(__file__))
-program = os.path.abspath(sys.argv[1])
-count = int(sys.argv[2]) if len(sys.argv) > 2 else 500
-seed = int(sys.argv[3]) if len(sys.argv) > 3 else 1
-phases = int(sys.argv[4]) if len(sys.argv) > 4 else 5
 WORDS = [b'"DATA"', b'"GROUP"', b'"HEADING"', b'"UNIT"', b'"TYPE"', b'""', b'"X"', b'"ID"', b'"2DP"', b'"RL"', b'"PA"', b'"BH1"', b'"BH2"', b'"S1"',
          b'"1.50"', b'"LOCA"', b'"SAMP"', b'"DICT"', b'"FILE"', b'"KEY"', b'"LOCA_ID"', b'"SAMP_TOP"', b'"FILE_FSET"', b'"SAMP|BH1|1.50|S1"', b'"LOCA|BH1"', b'"m"']
 
@@ -49,6 +45,8 @@ def change(data, chance):
 
 
 def main():
+    program = os.path.abspath(sys.argv[1])
+    count, seed, phases = (int(sys.argv[n]) if len(sys.argv) > n else usual for n, usual in ((2, 500), (3, 1), (4, 5)))
     names = sorted(glob.glob(os.path.join(here, "*.ags")))
     chance, passed, failed, clean = random.Random(seed), 0, 0, 0
     for turn in range(count):

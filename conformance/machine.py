@@ -8,6 +8,7 @@ reference.py. It proves nothing; it is here so that the product's answers are co
 usage: machine.py       tries the worked examples below on itself; the last line is 'N passed, M failed'"""
 import datetime
 import json
+import os
 import re
 import sys
 import tomllib
@@ -159,6 +160,17 @@ def read_dictionary(data):
     return reference.own_entries(groups)
 
 
+def line_of(descriptor, fields):
+    return b",".join(b'"' + field.replace(b'"', b'""') + b'"' for field in [descriptor, *fields]) + b"\r\n"
+
+
+def spelled_dictionary(entries):
+    """The text of a dictionary of these entries: one group DICT, as it is written."""
+    rows = [[b"GROUP", e[1], b"", b"", e[2]] if e[0] == "G" else [b"HEADING", *e[1:4], b""] for e in entries]
+    head = line_of(b"GROUP", [b"DICT"]) + line_of(b"HEADING", [b"DICT_TYPE", b"DICT_GRP", b"DICT_HDNG", b"DICT_STAT", b"DICT_PGRP"])
+    return head + line_of(b"UNIT", [b""] * 5) + line_of(b"TYPE", [b"X"] * 5) + b"".join(line_of(b"DATA", row) for row in rows)
+
+
 # ---- what a caller may see of a file
 
 class File:
@@ -209,10 +221,6 @@ def shown_rows(rules, caller, deposit, day, file):
     """The numbers of the rows from which only permitted rows are reached."""
     may = [is_permitted(rules, caller, deposit, day, g, row) for g, row in file.rows]
     return {n for n in range(len(file.rows)) if all(may[m] for m in file.reach(n))}
-
-
-def line_of(descriptor, fields):
-    return b",".join(b'"' + field.replace(b'"', b'""') + b'"' for field in [descriptor, *fields]) + b"\r\n"
 
 
 def extract_text(file, shown, groups):
@@ -446,9 +454,13 @@ class Fault(Exception):
     """What ends a run before its answer: the text behind `groundreg: ` and the status."""
 
 
+def ended_by(fault):
+    return b"", f"groundreg: {fault.args[0]}\n".encode("utf-8", "surrogateescape"), fault.args[1]
+
+
 def words_of(words):
-    """The command, its options and its further words."""
-    if not words or words[0] not in OPTIONS:
+    """The command, its options and its further words. A byte that is no text stands in a word as Python's own stand-in for it."""
+    if not words or words[0] not in OPTIONS or any("\udc80" <= c <= "\udcff" for word in words for c in word):
         raise Fault("words refused", 4)
     command, rest, options, places = words[0], list(words[1:]), {}, []
     while rest:
@@ -489,10 +501,12 @@ def printed(answer):
 
 
 class Computer:
-    """Files by path (bytes, a Register, or nothing), and what each run of the program makes of them. `serve` is left to `serve` above."""
+    """What stands at each path (bytes, a Register, a Fault that opening it as a register gives, or nothing), the folders that are there,
+    and what each run of the program makes of them."""
 
-    def __init__(self):
+    def __init__(self, folders=("",)):
         self.files = {}
+        self.folders = set(folders)
 
     def read(self, path):
         if not isinstance(self.files.get(path), bytes):
@@ -514,19 +528,49 @@ class Computer:
         except Refused:
             raise Fault("dictionary refused", 4) from None
 
+    def can_open(self, path):
+        """Whether a database may be opened there: the path is no folder and stands in one."""
+        return path not in self.folders and os.path.dirname(path) in self.folders
+
     def store(self, path):
         found = self.files.get(path)
+        if isinstance(found, Fault):
+            raise found
         if not isinstance(found, Register):
-            raise Fault("store failed", 5) if found else Fault("not a register", 4)
+            raise Fault("store failed", 5) if found or not self.can_open(path) else Fault("not a register", 4)
         return found
 
     def run(self, words, today, standard_input=b""):
-        """(standard output, standard error, status)"""
+        """(standard output, standard error, status); of `serve` those of a start without a connection."""
+        if words and words[0] == "serve":
+            return self.serve(words, today, [])[0]
         try:
             out, status = self.answer(words, today, standard_input)
             return out, b"", status
         except Fault as fault:
-            return b"", f"groundreg: {fault.args[0]}\n".encode(), fault.args[1]
+            return ended_by(fault)
+
+    def serve(self, words, today, given, is_free=True):
+        """What `serve` prints as far as it gets, with the status, and the reply to each connection. `given` are the bytes of each, None for one
+        that is broken off; whether the port is free is told."""
+        try:
+            _, options, _ = words_of(words)
+            rules = self.text(options["policy"], "policy", read_policy)
+            callers = self.text(options["callers"], "callers", read_callers)
+            day = day_of(options.get("day", today))
+            if day is None:
+                raise Fault("day refused", 4)
+            register = self.store(options["store"])
+            if not is_free:
+                raise Fault("cannot listen", 6)
+        except Fault as fault:
+            return ended_by(fault), []
+        replies, out = [], f"listening 127.0.0.1:{int(options['port'])}\n"
+        for data in given:
+            status, reply_bytes = ("fault", b"") if data is None else serve(register, rules, callers, day, data)
+            out += f"{status}\n"
+            replies.append(reply_bytes)
+        return (out.encode(), b"", 0), replies
 
     def answer(self, words, today, standard_input):
         if not words:
@@ -534,8 +578,9 @@ class Computer:
         command, options, places = words_of(words)
         if command == "init":
             standard = self.dictionary(options["dictionary"])
-            if self.files.get(options["store"]):
-                raise Fault("store not empty", 4) if isinstance(self.files[options["store"]], Register) else Fault("store failed", 5)
+            found = self.files.get(options["store"])
+            if found or not self.can_open(options["store"]):
+                raise Fault("store failed", 5) if isinstance(found, bytes) or not found else Fault("store not empty", 4)
             self.files[options["store"]] = Register(standard)
             return b"created\n", 0
         if command == "check":
@@ -837,9 +882,7 @@ def examples():
 def runs():
     """The same of the command line."""
     computer, today = Computer(), "2024-05-01"
-    mini = b"".join([line_of(b"GROUP", [b"DICT"]), line_of(b"HEADING", [b"DICT_TYPE", b"DICT_GRP", b"DICT_HDNG", b"DICT_STAT", b"DICT_PGRP"]),
-                     line_of(b"UNIT", [b""] * 5), line_of(b"TYPE", [b"X"] * 5)]
-                    + [line_of(b"DATA", [b"GROUP", e[1], b"", b"", e[2]] if e[0] == "G" else [b"HEADING", e[1], e[2], e[3], b""]) for e in reference.built_in()])
+    mini = spelled_dictionary(reference.built_in())
     computer.files = {"mini": mini, "a": FILE_A, "q": POLICY.encode(), "c": CALLERS.encode(), "empty": b"", "junk": b"junk"}
     with_token = ["--store", "s", "--policy", "q", "--callers", "c", "--project", "N1", "--token"]
     deposit = ["deposit", "a", "--day", today, "--embargo", "2024-06-01", *with_token]

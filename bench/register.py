@@ -1,0 +1,122 @@
+"""Measures a register: what a command on a file costs, beside the same rows written by SQLite itself; requests a second; the cost of opening."""
+import os
+import shutil
+import socket
+import sqlite3
+import subprocess
+import sys
+import tempfile
+import time
+import files
+sys.path.insert(0, os.path.join(os.path.dirname(os.path.abspath(__file__)), "..", "conformance"))
+import bodies  # noqa: E402
+
+SAMPLES = os.path.join(os.path.dirname(os.path.abspath(__file__)), "..", "samples")
+WORDS = ["--store", "register", "--policy", f"{SAMPLES}/policy.toml", "--callers", f"{SAMPLES}/callers.toml"]
+ASKING = [*WORDS, "--token", "t-delta", "--project", "N1", "--day", "2024-06-01"]
+FIELDS = "HTTP/1.1\r\nAuthorization: Bearer t-delta\r\n"
+REQUESTS = 300
+
+
+class Place:
+    """A folder with a register, and the program that keeps it."""
+
+    def __init__(self, program, folder, limit):
+        self.program, self.folder, self.limit = program, folder, limit
+        for name in os.listdir(folder):
+            os.remove(os.path.join(folder, name))
+        self.run("init", "--store", "register", "--dictionary", f"{SAMPLES}/mini.ags")
+
+    def path(self, name):
+        return os.path.join(self.folder, name)
+
+    def run(self, *words):
+        """Seconds and output of a command."""
+        begun = time.monotonic()
+        run = subprocess.run([self.program, *words], cwd=self.folder, stdin=subprocess.DEVNULL, capture_output=True, preexec_fn=self.limit)
+        if run.returncode:
+            sys.exit(f"{words[0]}: {run.returncode}, {run.stdout[:80]} {run.stderr[:80]}")
+        return time.monotonic() - begun, run.stdout
+
+    def bytes_held(self):
+        return sum(os.path.getsize(self.path(name)) for name in ("register", "register-wal") if os.path.exists(self.path(name)))
+
+    def serve(self, requests):
+        """Seconds for these requests, one connection each, from the first connection to the last reply; every reply has to be 200."""
+        port = bodies.free_port()
+        serving = subprocess.Popen([self.program, "serve", *WORDS, "--port", str(port), "--connections", str(len(requests)), "--day", "2024-06-01"], cwd=self.folder,
+                                   stdout=subprocess.PIPE, preexec_fn=self.limit)
+        serving.stdout.readline()
+        begun = time.monotonic()
+        for request in requests:
+            with socket.create_connection(("127.0.0.1", port)) as connection:
+                connection.sendall(request)
+                reply = b"".join(iter(lambda: connection.recv(1 << 20), b""))
+            if not reply.startswith(b"HTTP/1.1 200"):
+                sys.exit(f"a request was answered {reply[:80]}")
+        taken = time.monotonic() - begun
+        serving.communicate()
+        return taken
+
+
+def by_sqlite(place):
+    """Seconds that SQLite takes to write the rows of a register into a file of its own, in one transaction, and to read them again."""
+    bodies.copy_register(place.folder, "register", "copy")
+    source = sqlite3.connect(place.path("copy"))
+    tables = source.execute("SELECT name, sql FROM sqlite_master WHERE type = 'table' ORDER BY rowid").fetchall()
+    rows = {name: source.execute(f"SELECT * FROM {name}").fetchall() for name, _ in tables}
+    source.close()
+    target = sqlite3.connect(place.path("beside"), isolation_level=None)
+    target.executescript("PRAGMA journal_mode = wal; PRAGMA synchronous = full; PRAGMA foreign_keys = on;" + ";".join(sql for _, sql in tables))
+    begun = time.monotonic()
+    target.execute("BEGIN")
+    for name, sql in tables:
+        if rows[name]:
+            target.executemany(f"INSERT INTO {name} VALUES ({', '.join('?' * len(rows[name][0]))})", rows[name])
+    target.execute("COMMIT")
+    written = time.monotonic() - begun
+    begun = time.monotonic()
+    for name, _ in tables:
+        target.execute(f"SELECT * FROM {name}").fetchall()
+    read = time.monotonic() - begun
+    target.close()
+    return written, read, os.path.getsize(place.path("beside"))
+
+
+def post(data):
+    return f"POST /v1/projects/N1/deposits {FIELDS}Content-Length: {len(data)}\r\n\r\n".encode() + data
+
+
+def small(number):
+    """A small file, another one for each number."""
+    with open(f"{SAMPLES}/delta.ags", "rb") as file:
+        return file.read().replace(b"North bank", b"Site %d" % number)
+
+
+def measure(program, size, limit):
+    folder = tempfile.mkdtemp(prefix="bench")
+    print("\n| File | Bytes | deposit | list | extract | Register, bytes | SQLite writes the rows | reads them | its bytes |\n|---|---|---|---|---|---|---|---|---|")
+    for make in (files.flat, files.deep, files.ring):
+        place = Place(program, folder, limit)
+        data = make(size)
+        with open(place.path("file"), "wb") as file:
+            file.write(data)
+        deposited, _ = place.run("deposit", *ASKING, "file")
+        held = place.bytes_held()
+        listed, _ = place.run("list", *ASKING)
+        drawn, text = place.run("extract", *ASKING, "1")
+        written, read, beside = by_sqlite(place)
+        note = "" if len(text) > size // 2 else " (not whole)"
+        print(f"| {make.__name__} | {len(data)} | {deposited:.2f} | {listed:.2f} | {drawn:.2f}{note} | {held} | {written:.2f} | {read:.2f} | {beside} |", flush=True)
+    place = Place(program, folder, limit)
+    print(f"\n| {REQUESTS} requests, a connection each | a second |\n|---|---|")
+    asked = f"GET /v1/projects/N1/deposits{{}} {FIELDS}\r\n"
+    for name, requests in (("deposits of 1 kB", [post(small(n)) for n in range(REQUESTS)]), ("extracts of 1 kB", [asked.format("/1").encode()] * REQUESTS),
+                           (f"listings of {REQUESTS} deposits", [asked.format("").encode()] * (REQUESTS // 10)), ("the same deposit again", [post(small(1))] * REQUESTS)):
+        print(f"| {name} | {len(requests) / place.serve(requests):.1f} |", flush=True)
+    place = Place(program, folder, limit)
+    text = files.deep(size // 4)
+    taken = place.serve([post(text.replace(b"North bank", b"Site %02d" % n)) for n in range(100)])
+    opened, _ = place.run("list", *WORDS, "--token", "t-delta", "--project", "N2", "--day", "2024-06-01")
+    print(f"\n100 deposits of {len(text)} bytes: {taken / 100:.2f} s each over the socket, {place.bytes_held()} bytes; opened, and a listing of no deposits, in {opened:.2f} s")
+    shutil.rmtree(folder)

@@ -1,0 +1,578 @@
+#!/usr/bin/env python3
+"""Random stories of registers, told by the program and by the machine of machine.py side by side.
+
+usage: stories.py PROGRAM [COUNT [SEED [FIRST]]]      the last line is 'N passed, M failed'
+
+A story makes a folder with dictionaries, policies, callers and bodies, some of them refused, and runs the program there: by words, and over
+a socket with `serve`, raw and malformed requests among them. Statuses, standard output, standard error and the bytes of each reply are compared;
+a story ends at its first difference, which is printed. A seed gives the same stories each time, and `stories.py PROGRAM 1 SEED FIRST` tells
+story FIRST alone. Two stories are told at a time."""
+import datetime
+import functools
+import multiprocessing
+import os
+import random
+import select
+import shutil
+import socket
+import sqlite3
+import struct
+import subprocess
+import sys
+import tempfile
+import time
+sys.dont_write_bytecode = True
+import bodies  # noqa: E402
+import compare  # noqa: E402
+import machine  # noqa: E402
+import reference  # noqa: E402
+
+PATIENCE = 60
+FIRMS = ["Delta", "Gamma", "Foxtrot", "Echo"]
+DAYS = ["2024-06-02", "2024-06-02", "2024-06-01", "2024-05-31", "2030-01-01", "1970-01-01", "9999-12-31"]
+EMBARGOES = ["2024-06-01", "2024-06-01", "2024-06-02", "2024-05-01", "1970-01-01", "9999-12-31"]
+BAD_DAYS = ["2024-6-1", "2023-02-29", "1969-12-31", "10000-01-01", "", "today", "2024-06-01 ", "2024/06/01", "2024-00-10", "2024-13-01"]
+PROJECTS = [*["N1"] * 12, "N2", "x" * 32, "_-_"]
+BAD_PROJECTS = ["N 1", "", "x" * 33, "N1/", "N.1", "é"]
+GROUPS = ["", "LOCA", "LOCA,SAMP", "SAMP,FILE", "LNMC,NONE", "LOCA,LOCA", "PROJ", "TRAN", "A1"]
+BAD_GROUPS = ["loca", "LOCA,", ",", "LOCAS", "LOCA SAMP", "LOCA;SAMP"]
+BAD_NUMBERS = ["0", "007", "1000000", "x", "", "+1", "1.0", " 1", "1 "]
+
+
+class Differs(Exception):
+    """The program answered otherwise than the machine: what was asked, what the machine answers, what came."""
+
+
+# ---- policies, callers, dictionaries, bodies
+
+def toml_text(text):
+    """A text as TOML has it between quotes."""
+    return '"' + text.replace("\\", "\\\\").replace('"', '\\"') + '"'
+
+
+def any_policy(chance):
+    """Rules with any keys: few of them make sense."""
+    keys = {"firm": [*FIRMS, "*"], "role": ["contractor", "consultant", "*"], "project": ["N1", "N2", "*"], "verb": ["deposit", "check", "list", "extract", "see", "see", "*"],
+            "group": ["PROJ", "LOCA", "SAMP", "FILE", "LNMC", "*"], "owner": ["own", "other", "*"], "embargo": ["past", "running", "*"]}
+    out, number = "", 0
+    for _ in range(chance.randrange(8)):
+        number += chance.randrange(1, 9)
+        out += f"[[rule]]\nnumber = {number}\neffect = \"{chance.choice(['permit', 'permit', 'permit', 'deny'])}\"\n"
+        for key, words in keys.items():
+            if chance.random() < 0.22:
+                out += f'{key} = "{chance.choice(words)}"\n'
+        if chance.random() < 0.15:
+            heading, value = chance.choice([("LOCA_STAT", "PRELIM"), ("SAMP_REF", "S1"), ("FILE_FSET", ""), ("LOCA_ID", "BH2"), ("NONE", "x"), ("LNMC_MC", 'x, "y"')])
+            out += f"heading = {toml_text(heading)}\nvalue = {toml_text(value)}\n"
+    return out
+
+
+def policy(chance):
+    text = any_policy(chance) if chance.random() < 0.12 else chance.choice([machine.POLICY, bodies.policy(chance), bodies.policy(chance)])
+    return ("# who may do what\n" if chance.random() < 0.1 else "") + text
+
+
+def refused_policy(chance):
+    text = policy(chance) or machine.POLICY
+    return chance.choice([
+        lambda: text.replace("number = ", "number = 9", 1) + '[[rule]]\nnumber = 1\neffect = "deny"\n', lambda: text.replace('"permit"', '"allow"', 1), lambda: text + "colour = 1\n",
+        lambda: text + "[[rule]]\nnumber = 9999\n", lambda: text + "[[rule", lambda: "rule = 3\n", lambda: "[rule]\nnumber = 1\n", lambda: text + '[[rule]]\nnumber = 10000\neffect = "deny"\n',
+        lambda: text + '[[rule]]\nnumber = 9998\neffect = "deny"\nverb = "withdraw"\n', lambda: text + '[[rule]]\nnumber = 9998\neffect = "deny"\nheading = "LOCA_ID"\n',
+        lambda: text + '[[rule]]\nnumber = 9998\neffect = "deny"\ngroup = "loca"\n', lambda: text + "\x00", lambda: text + '[[caller]]\ntoken = "t"\n'])().encode()
+
+
+def callers(chance):
+    """The text of callers, with some tokens that are hard to spell."""
+    rows = [("t-" + firm.lower(), firm, "consultant" if firm == "Echo" else "contractor") for firm in FIRMS]
+    odd = ["!", "~" * 64, "a=b", "-x", "--day", "t,u", "'\"\\", "#", "[[", "Bearer"]
+    rows += [(token, chance.choice(FIRMS), chance.choice(["contractor", "consultant", "r"])) for token in chance.sample(odd, chance.randrange(3))]
+    chance.shuffle(rows)
+    return "".join(f"[[caller]]\ntoken = {toml_text(token)}\nfirm = \"{firm}\"\nrole = \"{role}\"\n" for token, firm, role in rows)
+
+
+def refused_callers(chance):
+    text = callers(chance)
+    more = "[[caller]]\ntoken = {}\nfirm = \"F\"\nrole = \"r\"\n"
+    return (text + chance.choice([more.format('"t-delta"'), more.format('""'), more.format(toml_text("x" * 65)), more.format('"a b"'), more.format('"é"'), more.format("1"),
+                                  '[[caller]]\ntoken = "n"\nfirm = "F G"\nrole = "r"\n', '[[caller]]\ntoken = "n"\n', "name = 1\n", "[[caller", "[caller]\n"])).encode()
+
+
+def dictionary(chance):
+    """The bytes of a dictionary that is read: the small one, or another."""
+    entries = reference.built_in()
+    if chance.random() < 0.7:
+        return machine.spelled_dictionary(entries)
+    for _ in range(chance.randrange(1, 4)):
+        k = chance.randrange(len(entries))
+        entries = chance.choice([lambda: entries[:k] + entries[k + 1:], lambda: entries + [entries[k]], lambda: [("G", b"ABCD", b"LOCA"), *entries], lambda: entries + [("H", b"LOCA", b"LOCA_XTRA", b"OTHER")],
+                                 lambda: entries + [("H", b"SAMP", b"\xc3\xa9", b"KEY")], lambda: [("H", b"LNMC", b"LNMC_MC", b"REQUIRED"), *entries], lambda: entries[k:] + entries[:k]])()
+    text = machine.spelled_dictionary(entries)
+    return text.replace(b"\r\n", b"\n") if chance.random() < 0.3 else text
+
+
+def refused_dictionary(chance):
+    text = machine.spelled_dictionary(reference.built_in())
+    return chance.choice([b"", machine.FILE_A, b"".join(machine.lines(text)[:4]), text.replace(b"DICT_PGRP", b"DICT_XXXX"), text + b"x\r\n", text.replace(b'"DATA"', b'"DATUM"', 1), text + text])
+
+
+def body(chance, names):
+    """The bytes of a file: clean ones for the most part."""
+    kind = chance.randrange(12)
+    if kind < 7:
+        return bodies.clean_body(chance)
+    if kind < 9:
+        return chance.choice([machine.FILE_A, machine.FILE_B, machine.file_c(), b""])
+    with open(chance.choice(names), "rb") as file:
+        data = file.read()
+    return data if kind == 9 else compare.change(data if kind == 10 else bodies.body(chance), chance)
+
+
+# ---- words
+
+def spelling(chance, command, options, places):
+    """The words of a command: options in any order and in both spellings, before, between and behind the other words."""
+    items = []
+    for name, value in options.items():
+        items.append([f"--{name}={value}"] if value.startswith("-") or chance.random() < 0.3 else [f"--{name}", value])
+    items += [[place] for place in places]
+    chance.shuffle(items)
+    return [command, *(word for item in items for word in item)]
+
+
+def misspelt(chance, words):
+    """The words with one thing wrong."""
+    words = list(words)
+    k = chance.randrange(len(words))
+    kind = chance.randrange(8)
+    if kind == 0:
+        del words[k]
+    elif kind == 1:
+        words.insert(max(k, 1), chance.choice(["more", "", "--help", "-h", "-V", "--version", "--colour", "--colour=1", "-x", "\udcff", "é", "-", "--embargo=2024-06-01", "--port=1"]))
+    elif kind == 2:
+        words += words[1:3]
+    elif kind == 3:
+        words[0] = chance.choice(["withdraw", "help", "", "Init", "ini", "--help", "-h", "--", "\udc80", "--store", "checks"])
+    elif kind == 4:
+        words[k] = words[k][:-1]
+    elif kind == 5:
+        words[k] = words[k] + "\udcfe"
+    elif kind == 6:
+        words = words[:-1]
+    else:
+        words = [word.replace("--", "-", 1) if n == k else word for n, word in enumerate(words)]
+    return [word for n, word in enumerate(words) if word != "--" or n == 0]
+
+
+# ---- requests over a socket
+
+def fields_of(chance, token, length):
+    """The fields of a head; some that nobody asks for."""
+    fields = [b"Authorization: Bearer " + token]
+    if length is not None:
+        fields.append(b"Content-Length: " + length)
+    more = [b"Host: localhost", b"User-Agent: story", b"Accept: */*", b"X-Empty:", b"X-Tab:\ta\tb\t", b"X-High: \xe9\xff", b"Connection: keep-alive", b"Expect: 100-continue", b"x:" + b"y" * 300]
+    fields += chance.sample(more, chance.choice([0, 0, 1, 2, 3]))
+    chance.shuffle(fields)
+    return fields
+
+
+def twisted(chance, method, target, fields):
+    """A head with one thing changed, most of which are refused."""
+    at = chance.randrange(len(fields)) if fields else 0
+    kind = chance.randrange(14)
+    if kind == 0:
+        method = chance.choice([b"PUT", b"DELETE", b"HEAD", b"get", b"OPTIONS", b"G", b"GET ", b"POST", b"GET"])
+    elif kind == 1:
+        target = chance.choice([b"/", b"/v1", b"/v1/projects", b"/v1/projects//deposits", target.replace(b"/v1", b"/V1"), target + b"/", target.split(b"?")[0] + b"/x", b"*", b"http://h" + target, target + b"#x",
+                                target.replace(b"N1", b"N%31"), target.replace(b"N1", b"\xc3\xa9"), target.replace(b"N1", b"\xff"), target.replace(b"deposits", b"check"), target.replace(b"N1", b"N 1")])
+    elif kind == 2:
+        target += chance.choice([b"?", b"?&&", b"?x", b"?x=1", b"?embargo=2024-06-02", b"?embargo", b"?embargo=2024-6-2", b"?groups=LOCA%2CSAMP", b"?groups=LOCA,", b"?groups", b"?%67roups=LOCA", b"?groups=LOCA&groups=LOCA",
+                                 b"?embargo=2024-06-02&embargo=2024-06-02", b"?groups=+LOCA", b"?embargo=2024%2d06-02", b"?groups=%", b"?groups=%ff", b"?=", b"?groups=LOCA?", b"?&embargo=2024-06-02&", b"&x=1"])
+    elif kind == 3 and fields:
+        fields[at:at + 1] = []
+    elif kind == 4 and fields:
+        fields.insert(at, fields[at])
+    elif kind == 5:
+        fields.append(chance.choice([b"Transfer-Encoding: chunked", b"transfer-encoding:", b"Content-Length: 0", b"content-length: x", b"AUTHORIZATION: Bearer t-echo", b"Authorization : Bearer t-echo", b" folded: x", b"X: \x01", b"X", b": x",
+                                     b"X\xc3: y", b"X: \x7f", b"Content-Length: 4194305"]))
+    elif kind == 6:
+        fields = [field.replace(b"Bearer ", chance.choice([b"bearer ", b"Bearer  ", b"Bearer\t", b"Basic ", b"", b"Bearer"])) for field in fields]
+    elif kind == 7:
+        fields = [field.replace(b"Authorization: ", chance.choice([b"authorization:", b"AuThOrIzAtIoN:  \t", b"Authorisation: "])) for field in fields]
+    elif kind == 8:
+        fields += [b"X-%d: 1" % n for n in range(chance.choice([32, 33]) - len(fields))]
+    elif kind == 9:
+        size = len(method) + len(target) + 12 + sum(len(field) + 2 for field in fields) + 2
+        fields.append(b"X: " + b"y" * (chance.choice([8192, 8193, 9000]) - size - 5))
+    elif kind == 10:
+        fields = [field.replace(b"Content-Length: ", b"Content-Length: " + chance.choice([b"0", b"00000000", b"+", b"-", b"9", b"1", b"0x", b"1 "])) for field in fields]
+    elif kind == 11:
+        fields = [field.replace(b"Bearer t-", b"Bearer T-") for field in fields]
+    elif kind == 12:
+        method = b"\r\n\r\n" + method
+    else:
+        fields = [field.replace(b": ", chance.choice([b":", b":\t ", b" : "]), 1) for field in fields]
+    return method, target, fields
+
+
+def token_for(chance, kind, tokens):
+    return chance.choice(["t-delta", "t-foxtrot"]) if kind == "deposit" and chance.random() < 0.7 else chance.choice(tokens)
+
+
+def number_for(chance, count):
+    return str(chance.randrange(1, count + 1) if count and chance.random() < 0.9 else count + 1)
+
+
+def request(chance, tokens, texts, count):
+    """The bytes that a connection gives."""
+    project = chance.choice(PROJECTS).encode()
+    kind = chance.choice(["deposit", "deposit", "check", "list", "extract", "extract", "extract"])
+    token = token_for(chance, kind, tokens).encode() if chance.random() < 0.95 else b"nobody"
+    method, data, length = b"GET", b"", None
+    target = b"/v1/projects/" + project + (b"/check" if kind == "check" else b"/deposits")
+    if kind in ("deposit", "check"):
+        method, data = b"POST", chance.choice(texts)
+        length = str(len(data)).encode()
+    if kind == "deposit" and chance.random() < 0.6:
+        target += b"?embargo=" + chance.choice(EMBARGOES if chance.random() < 0.9 else BAD_DAYS).replace(" ", "+").encode()
+    if kind == "extract":
+        number = number_for(chance, count) if chance.random() < 0.95 else chance.choice(BAD_NUMBERS).replace(" ", "%20")
+        target += b"/" + number.encode()
+        if chance.random() < 0.5:
+            target += b"?groups=" + chance.choice(GROUPS if chance.random() < 0.9 else BAD_GROUPS).replace(" ", "+").encode()
+    fields = fields_of(chance, token, length)
+    while chance.random() < 0.25:
+        method, target, fields = twisted(chance, method, target, fields)
+    end = b"\n" if chance.random() < 0.05 else b"\r\n"
+    version = chance.choice([b"HTTP/1.0", b"HTTP/1.2", b"HTTP/2", b"http/1.1", b"", b"HTTP/1.1 "]) if chance.random() < 0.05 else b"HTTP/1.1"
+    out = end.join([b" ".join([method, target, version]), *fields, b"", b""]) + data
+    luck = chance.random()
+    if luck < 0.05:
+        return out[:chance.randrange(len(out))]
+    if luck < 0.1:
+        return out + b"more"
+    if luck < 0.15:
+        at = chance.randrange(min(len(out), 200))
+        return out[:at] + bytes([chance.choice(b"\x00\x01\t\n\r :/?\x7f\x80\xff\"<>")]) + out[at + chance.randrange(2):]
+    return out
+
+
+def needs_no_end(data, answer):
+    """Whether a request tells by itself where it ends, so that its peer may keep its side open."""
+    return machine.head_of(data) is not None and b"short body" not in answer
+
+
+def broken_off(connection, data):
+    """Sends a part of a request and resets the connection."""
+    connection.sendall(data)
+    connection.setsockopt(socket.SOL_SOCKET, socket.SO_LINGER, struct.pack("ii", 1, 0))
+    connection.close()
+
+
+def sent(connection, data, keeps_open):
+    try:
+        connection.sendall(data)
+        if not keeps_open:
+            connection.shutdown(socket.SHUT_WR)
+    except OSError:
+        pass  # the reply came before all was sent
+
+
+def received(connection):
+    """All that comes until the end."""
+    out = b""
+    try:
+        while piece := connection.recv(65536):
+            out += piece
+    except ConnectionResetError:
+        pass  # it was let go while we were still sending
+    connection.close()
+    return out
+
+
+def printed_line(process, deadline):
+    """The next line of a program's output, or what there is of it when the deadline is over."""
+    line = b""
+    while not line.endswith(b"\n") and select.select([process.stdout], [], [], max(0, deadline - time.monotonic()))[0]:
+        piece = os.read(process.stdout.fileno(), 1)
+        if not piece:
+            break
+        line += piece
+    return line
+
+
+# ---- a story
+
+class Story:
+    """A folder and the machine's own picture of it. Paths are relative to the folder."""
+
+    def __init__(self, chance, program, folder):
+        self.chance, self.program, self.folder = chance, program, folder
+        self.computer = machine.Computer(["", ".", "sub"])
+        self.asked = {"runs": 0, "connections": 0}
+        os.mkdir(os.path.join(folder, "sub"))
+
+    def put(self, path, data):
+        with open(os.path.join(self.folder, path), "wb") as file:
+            file.write(data)
+        self.computer.files[path] = data
+
+    def compare(self, what, want, got):
+        if want != got:
+            raise Differs(what, want, got)
+
+    def run(self, words, given=b""):
+        """Runs the program with these words, and compares its answer."""
+        today = datetime.datetime.now(datetime.timezone.utc).date().isoformat()
+        want = self.computer.run(words, today, given)
+        raw = [word.encode("utf-8", "surrogateescape") for word in words]
+        run = subprocess.run([self.program, *raw], cwd=self.folder, input=given, capture_output=True, timeout=PATIENCE)
+        self.asked["runs"] += 1
+        self.compare(words, want, (run.stdout, run.stderr, run.returncode))
+        return want
+
+    def connect(self, port):
+        connection = socket.create_connection(("127.0.0.1", port), timeout=PATIENCE)
+        connection.setsockopt(socket.IPPROTO_TCP, socket.TCP_NODELAY, 1)
+        return connection
+
+    def speak(self, connection, data, answer):
+        """Sends a request in pieces or whole, with its side open or closed, or breaks off."""
+        if data is None:
+            return broken_off(connection, self.chance.choice([b"", b"GET / HT", b"POST /v1/projects/N1/check HTTP/1.1\r\nAuthorization: Bearer t-echo\r\nContent-Length: 10\r\n\r\nabc"]))
+        cut = self.chance.randrange(len(data) + 1) if self.chance.random() < 0.2 else 0
+        if cut:
+            sent(connection, data[:cut], True)
+            time.sleep(0.001)
+        return sent(connection, data[cut:], needs_no_end(data, answer) and self.chance.random() < 0.4)
+
+    def serve(self, options, given):
+        """Starts `serve`, makes these connections, one by one or all at once, and compares what is printed and what is answered."""
+        port = bodies.free_port()
+        words = spelling(self.chance, "serve", {**options, "port": str(port), "connections": str(len(given))}, [])
+        today = datetime.datetime.now(datetime.timezone.utc).date().isoformat()
+        want, replies = self.computer.serve(words, today, given)
+        process = subprocess.Popen([self.program, *words], cwd=self.folder, stdin=subprocess.DEVNULL, stdout=subprocess.PIPE, stderr=subprocess.PIPE)
+        self.asked["runs"] += 1
+        try:
+            deadline = time.monotonic() + PATIENCE
+            out = printed_line(process, deadline)
+            if replies and out:
+                out += self.talk(process, port, words, given, replies)
+            rest, fault = process.communicate(timeout=PATIENCE)
+            self.compare(words, want, (out + rest, fault, process.returncode))
+        finally:
+            process.kill()
+            process.wait()
+
+    def talk(self, process, port, words, given, replies):
+        """Makes the connections; what was printed meanwhile."""
+        self.asked["connections"] += len(given)
+        out = b""
+        at_once = self.chance.random() < 0.3
+        connections = [self.connect(port) for _ in given] if at_once else []
+        order = list(range(len(given)))
+        if at_once:
+            self.chance.shuffle(order)
+            for n in order:
+                self.speak(connections[n], given[n], replies[n])
+        for n, data in enumerate(given):
+            if not at_once:
+                connections.append(self.connect(port))
+                self.speak(connections[n], data, replies[n])
+            if data is not None:
+                self.compare((words, data), replies[n], received(connections[n]))
+            if not at_once:
+                line = printed_line(process, time.monotonic() + PATIENCE)
+                self.compare((words, data, "its line at once"), True, line.endswith(b"\n"))
+                out += line
+        return out
+
+    # ---- what happens in a story
+
+    def setting(self, names):
+        """The files of a story, and a register with nothing in it."""
+        chance = self.chance
+        self.put("empty", b"")
+        self.put("junk", b"no database, but some text\n" * chance.choice([1, 50]))
+        self.put("d", dictionary(chance))
+        self.put("d-bad", refused_dictionary(chance))
+        self.put("p", policy(chance).encode())
+        self.put("p-more", policy(chance).encode())
+        self.put("p-bad", refused_policy(chance))
+        self.put("c", callers(chance).encode())
+        self.put("c-bad", refused_callers(chance))
+        self.put("bytes", b"[[rule]]\n# \xff\n")
+        self.texts = [body(chance, names) for _ in range(chance.randrange(2, 6))]
+        for n, text in enumerate(self.texts):
+            self.put(f"b{n}", text)
+        self.tokens = sorted(machine.read_callers(self.computer.files["c"].decode()))
+        if chance.random() < 0.3:
+            self.run(self.maybe_misspelt(spelling(chance, "init", {"store": chance.choice(["s", "junk", "sub", "nowhere/s", "sub/s"]), "dictionary": chance.choice(["d", "d-bad", "none", "junk"])}, [])))
+        if not isinstance(self.computer.files.get("s"), machine.Register):
+            self.run(spelling(chance, "init", {"store": "s", "dictionary": "d"}, []))
+
+    def maybe_misspelt(self, words):
+        return misspelt(self.chance, words) if self.chance.random() < 0.06 else words
+
+    def mostly(self, usual, others):
+        return self.chance.choice(usual if self.chance.random() < 0.95 else others)
+
+    def count(self):
+        return len(self.computer.files["s"].deposits)
+
+    def by_words(self):
+        """One run by words."""
+        chance = self.chance
+        command = chance.choice(["deposit", "deposit", "list", "extract", "extract", "check", "init", "nothing"] if self.count() else ["deposit"])
+        file = self.mostly([f"b{n}" for n in range(len(self.texts))], ["none", "sub", "p", "none é"])
+        if command == "nothing":
+            return self.run([], chance.choice(self.texts))
+        if command == "init":
+            return self.run(self.maybe_misspelt(spelling(chance, command, {"store": chance.choice(["s", "empty", "junk", "sub", "sub/s", "nowhere/s", "none"]), "dictionary": self.mostly(["d"], ["d-bad", "none"])}, [])))
+        if command == "check":
+            return self.run(self.maybe_misspelt(spelling(chance, command, {"dictionary": self.mostly(["d"], ["d-bad", "none", "sub"])}, [file])))
+        options = {"store": self.mostly(["s"], ["none", "empty", "junk", "sub", "nowhere/s"]), "policy": self.mostly(["p", "p", "p-more"], ["p-bad", "none", "sub", "bytes"]),
+                   "callers": self.mostly(["c"], ["c-bad", "none", "bytes", "sub"]), "token": self.mostly([token_for(chance, command, self.tokens)], ["nobody", "", "T-delta"]), "project": self.mostly(PROJECTS, BAD_PROJECTS)}
+        if chance.random() < 0.85:
+            options["day"] = self.mostly(DAYS, BAD_DAYS)
+        places = []
+        if command == "deposit":
+            places = [file]
+            if chance.random() < 0.7:
+                options["embargo"] = self.mostly(EMBARGOES, BAD_DAYS)
+        if command == "extract":
+            places = [self.mostly([number_for(chance, self.count())], BAD_NUMBERS + ["999999"])]
+            if chance.random() < 0.5:
+                options["groups"] = self.mostly(GROUPS, BAD_GROUPS)
+        out, _, status = self.run(self.maybe_misspelt(spelling(chance, command, options, places)))
+        if command == "extract" and status == 0 and out and chance.random() < 0.5:
+            self.texts.append(out)
+            self.put(f"b{len(self.texts) - 1}", out)
+        return None
+
+    def by_socket(self):
+        """One start of `serve` with some connections."""
+        chance = self.chance
+        options = {"store": self.mostly(["s"], ["none", "junk"]), "policy": self.mostly(["p", "p", "p-more"], ["p-bad", "none"]), "callers": self.mostly(["c"], ["c-bad", "none"])}
+        if chance.random() < 0.85:
+            options["day"] = self.mostly(DAYS, BAD_DAYS)
+        given, count = [], self.count()
+        for _ in range(chance.randrange(1, 12)):
+            luck = chance.random()
+            given.append(None if luck < 0.03 else b"" if luck < 0.06 else request(chance, self.tokens, self.texts, count))
+            count = max(count, 1)
+        self.serve(options, given)
+
+    def refused_serve(self):
+        """A start of `serve` that ends before it listens."""
+        chance = self.chance
+        options = {"store": "s", "policy": "p", "callers": "c"}
+        kind = chance.randrange(3)
+        if kind == 0:
+            with socket.socket() as taken:
+                taken.bind(("127.0.0.1", 0))
+                taken.listen()
+                options.update(store=self.mostly(["s"], ["none"]), port=str(taken.getsockname()[1]), connections="1")
+                words = spelling(chance, "serve", options, [])
+                want, _ = self.computer.serve(words, "2024-06-01", [], False)
+                run = subprocess.run([self.program, *words], cwd=self.folder, stdin=subprocess.DEVNULL, capture_output=True, timeout=PATIENCE)
+                self.asked["runs"] += 1
+                return self.compare(words, want, (run.stdout, run.stderr, run.returncode))
+        bad = chance.choice([{"port": "0"}, {"port": "65536"}, {"port": "+80"}, {"port": "x"}, {"port": ""}, {"connections": "0"}, {"connections": "1000001"}, {"connections": "-1"}, {"connections": "1e3"}, {"port": "99999999999999999999"}])
+        if kind == 1:
+            return self.run(spelling(chance, "serve", {**options, "port": "8017", "connections": "1", **bad}, []))
+        # a store that is none ends it before it listens, whatever else is right
+        return self.run(self.maybe_misspelt(spelling(chance, "serve", {**options, "store": "none", "port": "8017", "connections": "1"}, [])))
+
+    def damage(self):
+        """Another hand writes into a copy of the register, which is then opened."""
+        chance = self.chance
+        bodies.copy_register(self.folder, "s", "t")
+        not_one = machine.Fault("not a register", 4)
+        choices = [("UPDATE meta SET num = 7 WHERE name = 'format'", machine.Fault("register version 7", 4)), ("DELETE FROM meta WHERE name = 'dictionary'", not_one),
+                   ("UPDATE meta SET body = x'00' WHERE name = 'dictionary'", not_one), ("DELETE FROM meta", not_one)]
+        held = self.computer.files["s"].deposits
+        if held:
+            last = len(held)
+            choices += [(f"UPDATE deposits SET firm = 'N 1' WHERE number = {last}", not_one), (f"UPDATE deposits SET embargo = -1 WHERE number = {last}", not_one),
+                        (f"UPDATE deposits SET body = x'' WHERE number = {last}", not_one), (f"DELETE FROM lines WHERE deposit = {last} AND seq = 0", not_one),
+                        (f"UPDATE lines SET kind = 3 WHERE deposit = {last} AND kind = 4", not_one), (f"DELETE FROM steps WHERE deposit = {last}", not_one),
+                        (f"INSERT INTO deposits SELECT {last + 2}, firm, 'other', embargo, body FROM deposits WHERE number = {last}", not_one),
+                        ("UPDATE meta SET num = 0 WHERE name = 'format'; DELETE FROM steps", machine.Fault("register version 0", 4))]
+        statement, fault = chance.choice(choices)
+        connection = sqlite3.connect(os.path.join(self.folder, "t"))
+        connection.executescript(statement)
+        changed = connection.total_changes
+        connection.close()
+        self.computer.files["t"] = fault if changed else self.computer.files["s"]
+        self.run(["list", "--store", "t", "--policy", "p", "--callers", "c", "--token", "t-delta", "--project", "N1", "--day", "2024-06-01"])
+
+    def largest(self):
+        """A file at the limit, and one above it."""
+        clean = machine.FILE_A
+        self.put("long", clean + b" " * (machine.LIMIT - len(clean) + self.chance.randrange(2)))
+        for token in self.chance.sample(["t-delta", "t-echo"], 2):
+            self.run(["deposit", "--store=s", "--policy=p", "--callers=c", "--project=N1", "--day=2024-06-01", "--token", token, "long"])
+        self.run(["check", "--dictionary", "d", "long"])
+
+    def tell(self, names):
+        chance = self.chance
+        self.setting(names)
+        for _ in range(chance.randrange(1, 3)):
+            for _ in range(chance.randrange(1, 5)):
+                self.by_words()
+            self.by_socket()
+        if chance.random() < 0.2:
+            self.refused_serve()
+        if chance.random() < 0.2:
+            self.damage()
+        if chance.random() < 0.01:
+            self.largest()
+        self.run(["list", "--store=s", "--policy=p", "--callers=c", "--token=t-delta", "--project=N1", "--day=2024-06-02"])
+
+
+def shortened(value):
+    text = repr(value)
+    return text if len(text) < 3000 else f"{text[:1500]} .. {text[-1500:]}"
+
+
+def told(program, names, seed, number):
+    """Tells one story: what was asked, and its difference where it has one."""
+    folder = tempfile.mkdtemp(prefix="story")
+    story = Story(random.Random(f"{seed} {number}"), program, folder)
+    now = datetime.datetime.now(datetime.timezone.utc)
+    if (now.hour, now.minute) == (23, 59):
+        time.sleep(61 - now.second)  # no story is told over midnight
+    try:
+        story.tell(names)
+        return number, None, story.asked
+    except Differs as difference:
+        what, want, got = map(shortened, difference.args)
+        return number, f"{what}\n  wanted {want}\n  got    {got}", story.asked
+    except (OSError, sqlite3.Error, subprocess.TimeoutExpired) as fault:
+        return number, f"{type(fault).__name__}: {fault}", story.asked
+    finally:
+        shutil.rmtree(folder)
+
+
+def main():
+    program = os.path.abspath(sys.argv[1])
+    count, seed, first = (int(sys.argv[n]) if len(sys.argv) > n else usual for n, usual in ((2, 300), (3, 1), (4, 1)))
+    here = os.path.dirname(os.path.abspath(__file__))
+    names = sorted(os.path.join(here, name) for name in os.listdir(here) if name.endswith(".ags"))
+    passed = failed = runs = connections = 0
+    with multiprocessing.Pool(2) as pool:
+        for number, difference, asked in pool.imap(functools.partial(told, program, names, seed), range(first, first + count)):
+            passed += difference is None
+            failed += difference is not None
+            runs, connections = runs + asked["runs"], connections + asked["connections"]
+            if difference:
+                print(f"story {number} of seed {seed}: {difference}", flush=True)
+    print(f"({runs} starts of the program and {connections} connections)")
+    print(f"{passed} passed, {failed} failed")
+    return failed > 0
+
+
+if __name__ == "__main__":
+    sys.exit(main())
