@@ -15,7 +15,7 @@ plain_at : (sql : List ℕ) (s : State) → IsPlain (understood register_schema 
 plain_at sql s plain has = subst (λ k. IsPlain (understood k sql)) (sym has) plain
 
 -- a query that fails leaves what was committed, where that was all
-fails_keeps : (sql : List ℕ) (params : Row) (old new : State) (e : Error) → (IsTrue old.is_open → old.committed ≡ old.now) → IsTrue new.is_open → FailsToQuery sql params old new e → IsAsBefore old new
+pub fails_keeps : (sql : List ℕ) (params : Row) (old new : State) (e : Error) → (IsTrue old.is_open → old.committed ≡ old.now) → IsTrue new.is_open → FailsToQuery sql params old new e → IsAsBefore old new
 unfolding FailsToQuery IsNotRun
 fails_keeps sql params old new e settled is_open (inl (inl h)) = (h.1.0.was_open, h.1.0.now_is, h.1.0.committed_is)
 fails_keeps sql params old new e settled is_open (inl (inr h)) = let u = h.3.undone is_open in let was = h.3.was_open is_open in (was, u.0 ∙ settled was, u.1)
@@ -26,7 +26,7 @@ fails_keeps sql params old new e settled is_open (inr h) = shows h.0.returning h
     shows (Some what) (inl f) = (f.1.0.was_open, f.1.0.now_is, f.1.0.committed_is)
     shows (Some what) (inr f) = let u = f.3.undone is_open in let was = f.3.was_open is_open in (was, u.0 ∙ settled was, u.1)
 
-shown_same : (sql : List ℕ) (old new : State) (params : Row) (rows : List Row) → IsPlain (understood old.now.schema sql) → Shown sql params old new rows → IsUnchanged old new
+pub shown_same : (sql : List ℕ) (old new : State) (params : Row) (rows : List Row) → IsPlain (understood old.now.schema sql) → Shown sql params old new rows → IsUnchanged old new
 unfolding Shown
 shown_same sql old new params rows plain h =
     let none : h.0.returning ≡ None = (subst IsPlain h.1.is plain).0 in
