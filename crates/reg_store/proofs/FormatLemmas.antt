@@ -21,11 +21,9 @@ use Rattle.reg_store.specs.Texts.{select_meta}
 use Rattle.reg_store.specs.Meaning.{all_meta, plainly}
 use Rattle.reg_store.specs.Answers.{answered, passes, shown_of}
 use Rattle.reg_store.specs.Rows.{columns_3}
-use Rattle.reg_store.specs.Formats.{HasFormat, IsFormatRow, StartsWithMeta, starts_with_meta}
-use Rattle.reg_store.specs.Schemas.{is_meta}
+use Rattle.reg_store.specs.Formats.{IsFormatRow, StartsWithMeta, starts_with_meta}
 use Rattle.reg_store.specs.Quiet.{IsAsBefore}
 use Rattle.reg_store.specs.declared.adopting.AdoptError.TheVariants.{NotRegister, Version}
-use Rattle.reg_store.specs.Register.{IsRegister}
 use Rattle.reg_store.specs.Adoption.{Adopts}
 use Rattle.reg_store.proofs.SchemaLemmas.{meta}
 use Rattle.reg_store.proofs.QueryLemmas.{fails_keeps, shown_same}
