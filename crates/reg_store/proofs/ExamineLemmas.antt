@@ -33,10 +33,10 @@ use Rattle.reg_store.specs.declared.adopting.AdoptError.{AdoptError}
 use Rattle.reg_store.specs.declared.adopting.AdoptError.TheVariants.{NotRegister, Version, Store, NoMemory}
 use Rattle.reg_store.specs.Formats.{HasFormat, IsFormatRow}
 use Rattle.reg_store.specs.Adoption.{Adopts, Finds, MetaOf, ReadsMeta}
-use Rattle.reg_store.proofs.FormatLemmas.{register_first}
 use Rattle.reg_store.proofs.RowsLemmas.{numbers_long}
 use Rattle.reg_store.specs.Adopts.{id_of, number_rows}
 use Rattle.reg_store.specs.Whole.{AreWhole, Counts, HasMeta, HoldsBody, IsAlone, IsWhole, Tests, adopts_whole, of_all, whole_at}
+use Rattle.reg_store.proofs.FormatLemmas.{register_first}
 
 -- the rows that are shown are the table's, and are these where the table holds these
 pub tests_rows : (is : Bool) (rows mine table : List Row) → (IsTrue is → rows ≡ mine) × (rows ≡ mine → IsTrue is) → IsPermutation rows table → (IsPermutation mine table → rows ≡ mine) → Tests is (IsPermutation mine table)
