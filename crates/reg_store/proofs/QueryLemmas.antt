@@ -27,7 +27,7 @@ fails_keeps sql params old new e settled is_open (inr h) = shows h.0.returning h
     shows (Some what) (inl f) = (f.1.0.was_open, f.1.0.now_is, f.1.0.committed_is)
     shows (Some what) (inr f) = let u = f.3.undone is_open in let was = f.3.was_open is_open in (was, u.0 ∙ settled was, u.1)
 
-shown_same : (sql : List ℕ) (old new : State) (params : Row) (rows : List Row) → IsPlain (understood old.now.schema sql) → Shown sql params old new rows → IsUnchanged old new
+pub shown_same : (sql : List ℕ) (old new : State) (params : Row) (rows : List Row) → IsPlain (understood old.now.schema sql) → Shown sql params old new rows → IsUnchanged old new
 unfolding Shown
 shown_same sql old new params rows plain h =
     let none : h.0.returning ≡ None = (subst IsPlain h.1.is plain).0 in

@@ -215,7 +215,7 @@ seven a b c d e f g h =
     let p = both _ _ h in let q = both _ _ p.1 in let r = both _ _ q.1 in let s = both _ _ r.1 in let t = both _ _ s.1 in let u = both _ _ t.1 in
     (p.0, q.0, r.0, s.0, t.0, u.0, u.1)
 
-meta : (t : Table) → is_meta t ≡ true → t ≡ tables.meta
+pub meta : (t : Table) → is_meta t ≡ true → t ≡ tables.meta
 meta t h = go t.uniques refl h
   where
     go : (us : List (List ℕ)) → t.uniques ≡ us → meta_keys t us ≡ true → t ≡ tables.meta

@@ -22,6 +22,7 @@ use crate::keep::KeepError;
 use crate::queries::is_memory;
 use crate::schema::{is_register, is_vacant};
 use crate::sql::SqlKeep;
+use crate::versions::{has_meta, refuse_tables};
 use ags_dict::{DictError, Dictionary};
 use ags_rows::READABLE;
 use sqlite::{Alter, Connection, File, FileFrom, FileStore, MemStore, Start, Unknown};
@@ -143,11 +144,15 @@ impl<S: Alter> SqlKeep<S> {
             → ((state S.Store e.1).now ≡ (state S.Store connection).now) × ((state S.Store e.1).committed ≡ (state S.Store connection).committed)) }
         ensures left { IfErr result (λ e. Survives (state S.Store connection) (state S.Store e.1) (λ _. ⊥)) }
     {
-        if !is_register(connection.schema()) {
+        if !has_meta(connection.schema()) {
             return Err((AdoptError::NotRegister, connection));
         }
         if !connection.is_autocommit() {
             return Err((AdoptError::Store, connection));
+        }
+        if !is_register(connection.schema()) {
+            let error = refuse_tables(&mut connection);
+            return Err((error, connection));
         }
         match examine(&mut connection, alloc) {
             Ok((dictionary, count)) => Ok(SqlKeep {

@@ -189,7 +189,7 @@ fn has_meta_key(table: &Table, key: &[usize]) -> bool
         && table.references.as_slice().is_empty()
 }
 
-fn is_meta(table: &Table) -> bool
+pub(crate) fn is_meta(table: &Table) -> bool
     ensures { result ≡ test.is_meta table.now }
 {
     match table.uniques.as_slice() {

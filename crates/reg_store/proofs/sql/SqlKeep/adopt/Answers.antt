@@ -5,16 +5,23 @@ use Rattle.sqlite.specs.Held.{state}
 use Rattle.reg_store.specs.Quiet.{clean_before}
 use Rattle.reg_store.specs.KeepLaws.{adopted_keeps, adopted_list}
 use Rattle.reg_store.proofs.SchemaLemmas.{register_is, not_register}
+use Rattle.reg_store.proofs.FormatLemmas.{autocommit_idle, meta_first, refused_unstarted}
 use Rattle.reg_store.proofs.sql.SqlKeep.adopt.Goals as goal
 
 pub examine-requires : goal.examine-requires
 examine-requires g c = record {
   idle = record {
-    idle = search rules;
+    idle = autocommit_idle _ _ c.is_autocommit.ensures.value (search rules);
     schema = λ clean. register_is c.args.connection.schema (search rules);
     settled = λ clean is_open. sym (c.is_autocommit.ensures.settled (search rules) is_open);
   };
 }
+
+pub refuse_tables-error-requires-clause-mode : goal.refuse_tables-error-requires-clause-mode
+refuse_tables-error-requires-clause-mode g c = autocommit_idle _ _ c.is_autocommit.ensures.value (search rules)
+
+pub refuse_tables-error-requires-clause-meta : goal.refuse_tables-error-requires-clause-meta
+refuse_tables-error-requires-clause-meta g c = meta_first c.args.connection.schema (search rules)
 
 pub invariant_of-result : goal.invariant_of-result
 invariant_of-result g c =
