@@ -1,4 +1,4 @@
-//! AreExactly as a struct holds them, which contracts see by their elements.
+//! Lists as a struct holds them, which contracts see by their elements.
 
 ghost use Rattle.std.specs.Prelude.{◌≡◌, ◌==◌, List, length};
 
