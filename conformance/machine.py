@@ -897,8 +897,18 @@ def runs():
         (["withdraw"], (b"", b"groundreg: words refused\n", 4)), (["check", "--dictionary", "mini", "a"], (b"clean\n", b"", 0)),
         (["check", "--dictionary", "mini", "none"], (b"", b"groundreg: cannot read none\n", 6)),
         (["list", *["empty" if word == "s" else word for word in with_token], "t-delta"], (b"", b"groundreg: not a register\n", 4)),
+        (["list", *["junk" if word == "s" else word for word in with_token], "t-delta"], (b"", b"groundreg: store failed\n", 5)),
+        (["list", *["nowhere/s" if word == "s" else word for word in with_token], "t-delta"], (b"", b"groundreg: store failed\n", 5)),
+        (["list", *with_token, "t-delta", "\udcff"], (b"", b"groundreg: words refused\n", 4)),
     ]:
-        yield " ".join(words), computer.run(words, today), want
+        yield " ".join(words).replace("\udcff", "(a byte FF)"), computer.run(words, today), want
+    serving = ["serve", "--port", "8017", "--connections", "2", "--day", today, "--policy", "q", "--callers", "c", "--store"]
+    post = head("POST /v1/projects/N1/deposits?embargo=2024-06-01 HTTP/1.1", "t-delta", "Content-Length: 543") + FILE_A
+    for name, words, is_free, want in [
+        ("serve", [*serving, "s"], True, (b"listening 127.0.0.1:8017\n200\n404\n", b"", 0)), ("serve, a port that is taken", [*serving, "s"], False, (b"", b"groundreg: cannot listen\n", 6)),
+        ("serve, that and no register", [*serving, "none"], False, (b"", b"groundreg: not a register\n", 4)),
+    ]:
+        yield name, computer.serve(words, today, [post, head("GET /v1/projects/N1/deposits/999 HTTP/1.1", "t-echo")], is_free)[0], want
 
 
 def main():

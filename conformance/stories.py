@@ -429,10 +429,10 @@ class Story:
         if command == "nothing":
             return self.run([], chance.choice(self.texts))
         if command == "init":
-            return self.run(self.maybe_misspelt(spelling(chance, command, {"store": chance.choice(["s", "empty", "junk", "sub", "sub/s", "nowhere/s", "none"]), "dictionary": self.mostly(["d"], ["d-bad", "none"])}, [])))
+            return self.run(self.maybe_misspelt(spelling(chance, command, {"store": chance.choice(["s", "empty", "junk", "sub", "sub/s", "nowhere/s", "new"]), "dictionary": self.mostly(["d"], ["d-bad", "none"])}, [])))
         if command == "check":
             return self.run(self.maybe_misspelt(spelling(chance, command, {"dictionary": self.mostly(["d"], ["d-bad", "none", "sub"])}, [file])))
-        options = {"store": self.mostly(["s"], ["none", "empty", "junk", "sub", "nowhere/s"]), "policy": self.mostly(["p", "p", "p-more"], ["p-bad", "none", "sub", "bytes"]),
+        options = {"store": self.mostly(["s"], ["none", "new", "empty", "junk", "sub", "nowhere/s"]), "policy": self.mostly(["p", "p", "p-more"], ["p-bad", "none", "sub", "bytes"]),
                    "callers": self.mostly(["c"], ["c-bad", "none", "bytes", "sub"]), "token": self.mostly([token_for(chance, command, self.tokens)], ["nobody", "", "T-delta"]), "project": self.mostly(PROJECTS, BAD_PROJECTS)}
         if chance.random() < 0.85:
             options["day"] = self.mostly(DAYS, BAD_DAYS)
