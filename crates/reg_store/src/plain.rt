@@ -268,6 +268,8 @@ impl Keep for PlainKeep {
 
     ghost unbroken = { λ _ _ _ none. none };
 
+    ghost remains = { λ k _ _ none. none (deposits_of k) refl };
+
     ghost fit = { λ k _ _. fit_of k.dictionary (deposits_of k) k.fit };
 
     ghost few = { λ k _ _. few_of k.kept.items k.limit k.within k.few };

@@ -3,7 +3,7 @@
 ghost use Rattle.std.specs.Prelude.{◌≡◌, ◌≤◌, pos, false, IsTrue};
 ghost use Rattle.reg_policy.specs.Days.{is_day_number};
 ghost use Rattle.reg_store.specs.Keep.{fails, is_store as store_error};
-ghost use Rattle.reg_store.specs.KeepLaws.{few_at, fit_at, settled_at, stays_at, unbroken_at};
+ghost use Rattle.reg_store.specs.KeepLaws.{few_at, fit_at, remains_at, settled_at, stays_at, unbroken_at};
 ghost use Rattle.sqlite.specs.State.{HasCleanDisk};
 ghost use Rattle.sqlite.specs.Held.{state};
 ghost use Rattle.reg_store.specs.Register.{deposits_in, LeavesBroken, LeavesList, KeepsRegister};
@@ -168,6 +168,8 @@ impl<S: Alter> Keep for SqlKeep<S> {
     ghost stays = { λ k clean works. stays_at (k.kept works clean) (S.Store.stays k.connection.store) };
 
     ghost unbroken = { λ k clean works left. unbroken_at (k.kept works clean) (S.Store.settled k.connection.store) left };
+
+    ghost remains = { λ k clean whole none. remains_at _ _ (S.Store.survives k.connection.store clean) whole none };
 
     ghost fit = { λ k clean works. fit_at (k.kept works clean) };
 
