@@ -5,7 +5,6 @@ use crate::watched::Watched;
 use ags_rows::vectors::{FILE_A, FILE_B, MINI};
 use reg_policy::Day;
 use reg_policy::vectors::{CALLERS, POLICY};
-use sqlite::{Connection, params};
 use std::fs;
 use std::io::Write;
 use std::process::Abort;
@@ -80,7 +79,7 @@ pub(crate) fn write_files(rt: &HostRuntime) -> Result<(), Fail> {
 }
 
 /// Rows of words, what is printed, what is said, and the status: each runs after the ones before it.
-fn holds<A: Abort>(
+pub(crate) fn holds<A: Abort>(
     rt: &HostRuntime,
     handle: &A,
     rows: &[(&str, &[u8], &[u8], u8)],
@@ -433,96 +432,4 @@ fn words_may_stand_in_any_order(rt: HostRuntime) -> Result<(), Fail> {
         ),
     ];
     holds(&rt, &rt, &rows)
-}
-
-#[test]
-fn stores_that_are_no_register(rt: HostRuntime) -> Result<(), Fail> {
-    write_files(&rt)?;
-    let rows: [(&str, &[u8], &[u8], u8); 6] = [
-        (
-            "list|--store=empty|--policy=q|--callers=c|--project=N1|--token=t-delta",
-            b"",
-            b"groundreg: not a register\n",
-            4,
-        ),
-        (
-            "list|--store=gone|--policy=q|--callers=c|--project=N1|--token=t-delta",
-            b"",
-            b"groundreg: not a register\n",
-            4,
-        ),
-        (
-            "list|--store=junk|--policy=q|--callers=c|--project=N1|--token=t-delta",
-            b"",
-            b"groundreg: store failed\n",
-            5,
-        ),
-        (
-            "list|--store=gone/s|--policy=q|--callers=c|--project=N1|--token=t-delta",
-            b"",
-            b"groundreg: store failed\n",
-            5,
-        ),
-        (
-            "init|--store=junk|--dictionary=mini",
-            b"",
-            b"groundreg: store failed\n",
-            5,
-        ),
-        (
-            "init|--store=gone/s|--dictionary=mini",
-            b"",
-            b"groundreg: store failed\n",
-            5,
-        ),
-    ];
-    holds(&rt, &rt, &rows)?;
-    // Asking for a register that is not there makes no file.
-    assert!(rt; !fs::exists(&rt, "gone")?);
-    Ok(())
-}
-
-#[test]
-fn a_register_of_another_version(rt: HostRuntime) -> Result<(), Fail> {
-    write_files(&rt)?;
-    let rows: [(&str, &[u8], &[u8], u8); 2] = [
-        ("init|--store=s|--dictionary=mini", b"created\n", b"", 0),
-        (
-            "deposit|@|--token=t-delta|a",
-            b"receipt 1 2024-05-01\n",
-            b"",
-            0,
-        ),
-    ];
-    holds(&rt, &rt, &rows)?;
-    for (statement, said) in [
-        (
-            "DELETE FROM steps",
-            b"groundreg: not a register\n".as_slice(),
-        ),
-        (
-            "UPDATE meta SET num = 7 WHERE name = 'format'",
-            b"groundreg: register version 7\n",
-        ),
-        (
-            "UPDATE deposits SET firm = 'N 1'",
-            b"groundreg: register version 7\n",
-        ),
-        (
-            "UPDATE meta SET num = -12 WHERE name = 'format'",
-            b"groundreg: register version -12\n",
-        ),
-        (
-            "UPDATE meta SET num = 1 WHERE name = 'format'",
-            b"groundreg: not a register\n",
-        ),
-    ] {
-        let mut connection = Connection::open(&rt, "s")?;
-        connection.execute(statement, params![])?;
-        drop(connection);
-        let got = ran(&rt, "list|@|--token=t-delta")?;
-        assert_eq!(rt; got.said.as_slice(), said, "{statement}");
-        assert_eq!(rt; got.status, 4, "{statement}");
-    }
-    Ok(())
 }
