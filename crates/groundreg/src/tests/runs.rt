@@ -1,25 +1,21 @@
 //! Runs with words, over files in the folder that a test runs in.
 
 use crate::commands::run_words;
-use crate::serving::serve_on;
 use crate::watched::Watched;
 use ags_rows::vectors::{FILE_A, FILE_B, MINI};
-use reg_desk::Desk;
+use reg_policy::Day;
 use reg_policy::vectors::{CALLERS, POLICY};
-use reg_policy::{Callers, Day, Policy};
-use reg_store::SqlKeep;
-use sqlite::{Connection, params};
 use std::fs;
-use std::io::{Read, Write};
-use std::net::{Shutdown, TcpListener, TcpStream};
+use std::io::Write;
+use std::process::Abort;
 use std::test::Fail;
 
 /// What a run answers: its status, what was printed and what was said of a fault.
 #[derive(Drop)]
-struct Ran {
-    status: u8,
-    printed: Vec<u8>,
-    said: Vec<u8>,
+pub(crate) struct Ran {
+    pub(crate) status: u8,
+    pub(crate) printed: Vec<u8>,
+    pub(crate) said: Vec<u8>,
 }
 
 /// The options that most commands share. In a row `@` stands for them.
@@ -42,7 +38,7 @@ fn words_in<'w>(rt: &HostRuntime, row: &'w str) -> Result<Vec<&'w str>, Fail> {
 }
 
 /// A run on 2024-05-01 with the words of a row and an empty input.
-fn ran(rt: &HostRuntime, row: &str) -> Result<Ran, Fail> {
+pub(crate) fn ran(rt: &HostRuntime, row: &str) -> Result<Ran, Fail> {
     let words = words_in(rt, row)?;
     let mut input: &[u8] = b"";
     let mut printed = Vec::new(rt.alloc());
@@ -63,7 +59,7 @@ fn ran(rt: &HostRuntime, row: &str) -> Result<Ran, Fail> {
 }
 
 /// Writes the files that the rows name, into the folder that the test runs in.
-fn write_files(rt: &HostRuntime) -> Result<(), Fail> {
+pub(crate) fn write_files(rt: &HostRuntime) -> Result<(), Fail> {
     fs::write(rt, "mini", MINI)?;
     fs::write(rt, "a", FILE_A)?;
     fs::write(rt, "b", FILE_B)?;
@@ -83,16 +79,20 @@ fn write_files(rt: &HostRuntime) -> Result<(), Fail> {
 }
 
 /// Rows of words, what is printed, what is said, and the status: each runs after the ones before it.
-fn holds(rt: &HostRuntime, rows: &[(&str, &[u8], &[u8], u8)]) -> Result<(), Fail> {
+pub(crate) fn holds<A: Abort>(
+    rt: &HostRuntime,
+    handle: &A,
+    rows: &[(&str, &[u8], &[u8], u8)],
+) -> Result<(), Fail> {
     for (row, printed, said, status) in rows {
         let got = ran(rt, row)?;
-        assert_eq!(rt; got.said.as_slice(), *said, "what is said of {row}");
-        assert_eq!(rt;
+        assert_eq!(handle; got.said.as_slice(), *said, "what is said of {row}");
+        assert_eq!(handle;
             got.printed.as_slice(),
             *printed,
             "what is printed of {row}"
         );
-        assert_eq!(rt; got.status, *status, "the status of {row}");
+        assert_eq!(handle; got.status, *status, "the status of {row}");
     }
     println!(rt; "{} runs", rows.len())?;
     Ok(())
@@ -177,7 +177,7 @@ fn a_register_from_its_making_to_an_extract(rt: HostRuntime) -> Result<(), Fail>
         ("check|--dictionary|mini|b", b"clean\n", b"", 0),
         ("check|--dictionary=mini|empty", b"2 0 -\n", b"", 1),
     ];
-    holds(&rt, &rows)
+    holds(&rt, &rt, &rows)
 }
 
 #[test]
@@ -342,7 +342,7 @@ fn each_fault_comes_before_the_next_one(rt: HostRuntime) -> Result<(), Fail> {
             4,
         ),
     ];
-    holds(&rt, &rows)
+    holds(&rt, &rt, &rows)
 }
 
 #[test]
@@ -431,183 +431,5 @@ fn words_may_stand_in_any_order(rt: HostRuntime) -> Result<(), Fail> {
             6,
         ),
     ];
-    holds(&rt, &rows)
-}
-
-#[test]
-fn stores_that_are_no_register(rt: HostRuntime) -> Result<(), Fail> {
-    write_files(&rt)?;
-    let rows: [(&str, &[u8], &[u8], u8); 6] = [
-        (
-            "list|--store=empty|--policy=q|--callers=c|--project=N1|--token=t-delta",
-            b"",
-            b"groundreg: not a register\n",
-            4,
-        ),
-        (
-            "list|--store=gone|--policy=q|--callers=c|--project=N1|--token=t-delta",
-            b"",
-            b"groundreg: not a register\n",
-            4,
-        ),
-        (
-            "list|--store=junk|--policy=q|--callers=c|--project=N1|--token=t-delta",
-            b"",
-            b"groundreg: store failed\n",
-            5,
-        ),
-        (
-            "list|--store=gone/s|--policy=q|--callers=c|--project=N1|--token=t-delta",
-            b"",
-            b"groundreg: store failed\n",
-            5,
-        ),
-        (
-            "init|--store=junk|--dictionary=mini",
-            b"",
-            b"groundreg: store failed\n",
-            5,
-        ),
-        (
-            "init|--store=gone/s|--dictionary=mini",
-            b"",
-            b"groundreg: store failed\n",
-            5,
-        ),
-    ];
-    holds(&rt, &rows)?;
-    // Asking for a register that is not there makes no file.
-    assert!(rt; !fs::exists(&rt, "gone")?);
-    Ok(())
-}
-
-#[test]
-fn a_register_of_another_version(rt: HostRuntime) -> Result<(), Fail> {
-    write_files(&rt)?;
-    let rows: [(&str, &[u8], &[u8], u8); 2] = [
-        ("init|--store=s|--dictionary=mini", b"created\n", b"", 0),
-        (
-            "deposit|@|--token=t-delta|a",
-            b"receipt 1 2024-05-01\n",
-            b"",
-            0,
-        ),
-    ];
-    holds(&rt, &rows)?;
-    for (statement, said) in [
-        ("DELETE FROM steps", b"".as_slice()),
-        (
-            "UPDATE meta SET num = 7 WHERE name = 'format'",
-            b"groundreg: register version 7\n",
-        ),
-        (
-            "UPDATE deposits SET firm = 'N 1'",
-            b"groundreg: register version 7\n",
-        ),
-        (
-            "UPDATE meta SET num = -12 WHERE name = 'format'",
-            b"groundreg: register version -12\n",
-        ),
-        (
-            "UPDATE meta SET num = 1 WHERE name = 'format'",
-            b"groundreg: not a register\n",
-        ),
-    ] {
-        let mut connection = Connection::open(&rt, "s")?;
-        connection.execute(statement, params![])?;
-        drop(connection);
-        let got = ran(&rt, "list|@|--token=t-delta")?;
-        assert_eq!(rt; got.said.as_slice(), said, "{statement}");
-        assert_eq!(rt;
-            got.status,
-            if said.is_empty() { 0 } else { 4 },
-            "{statement}"
-        );
-    }
-    Ok(())
-}
-
-/// A connection that has sent this, and nothing more.
-fn sent(rt: &HostRuntime, listener: &TcpListener, parts: &[&[u8]]) -> Result<TcpStream, Fail> {
-    let mut stream = TcpStream::connect(rt, listener.local_addr()?)?;
-    for part in parts {
-        stream.write_all(part)?;
-    }
-    stream.shutdown(Shutdown::Write)?;
-    Ok(stream)
-}
-
-/// Whether a reply begins with the first text and ends with the second.
-fn replied(rt: &HostRuntime, stream: TcpStream, first: &[u8], last: &[u8]) -> Result<bool, Fail> {
-    let mut stream = stream;
-    let mut reply = Vec::new(rt.alloc());
-    stream.read_to_end(&mut reply)?;
-    Ok(reply.starts_with(first) && reply.ends_with(last))
-}
-
-const DEPOSIT: &[u8] =
-    b"POST /v1/projects/N1/deposits?embargo=2024-06-01 HTTP/1.1\r\nAuthorization: Bearer t-delta\r\nContent-Length: 543\r\n\r\n";
-
-const EXTRACT: &[u8] =
-    b"GET /v1/projects/N1/deposits/999 HTTP/1.1\r\nAuthorization: Bearer t-delta\r\n\r\n";
-
-#[test]
-fn connections_are_served(rt: HostRuntime) -> Result<(), Fail> {
-    let listener = TcpListener::bind(&rt, "127.0.0.1:0")?;
-    let first = sent(&rt, &listener, &[DEPOSIT, FILE_A])?;
-    let second = sent(&rt, &listener, &[EXTRACT])?;
-    let third = sent(&rt, &listener, &[])?;
-    let alloc = rt.alloc();
-    let keep = SqlKeep::in_memory(alloc, MINI)?;
-    let mut desk = Desk::new(keep, Policy::read(alloc, POLICY)?);
-    let callers = Callers::read(alloc, CALLERS)?;
-    let Some(day) = Day::read("2024-05-01") else {
-        panic!(rt; "no day");
-    };
-    let mut printed = Vec::new(alloc);
-    let mut out = Watched::new(&mut printed);
-    let status = serve_on(alloc, &listener, &mut desk, &callers, day, 3, &mut out);
-    drop(out);
-    assert_eq!(rt; status, 0);
-    assert_eq!(rt; printed.as_slice(), b"200\n404\n0\n".as_slice());
-    assert!(rt;
-        replied(
-            &rt,
-            first,
-            b"HTTP/1.1 200 OK\r\n",
-            b"\r\n\r\n{\"embargo\":\"2024-06-01\",\"number\":1}"
-        )?
-    );
-    assert!(rt;
-        replied(
-            &rt,
-            second,
-            b"HTTP/1.1 404 Not Found\r\n",
-            b"\r\n\r\n{\"error\":\"unknown\"}"
-        )?
-    );
-    assert!(rt; replied(&rt, third, b"", b"")?);
-    Ok(())
-}
-
-#[test]
-fn a_port_that_is_taken(rt: HostRuntime) -> Result<(), Fail> {
-    write_files(&rt)?;
-    let listener = TcpListener::bind(&rt, "127.0.0.1:0")?;
-    let port = listener.local_addr()?.port();
-    let serve = format!(in rt.alloc();
-        "serve|--store=s|--policy=q|--callers=c|--port={port}|--connections=1"
-    )?;
-    let late = format!(in rt.alloc(); "{serve}|--day=tomorrow")?;
-    for (row, said, status) in [
-        (serve.as_str(), b"groundreg: not a register\n".as_slice(), 4),
-        ("init|--store=s|--dictionary=mini", b"", 0),
-        (serve.as_str(), b"groundreg: cannot listen\n", 6),
-        (late.as_str(), b"groundreg: day refused\n", 4),
-    ] {
-        let got = ran(&rt, row)?;
-        assert_eq!(rt; got.said.as_slice(), said, "{row}");
-        assert_eq!(rt; got.status, status, "{row}");
-    }
-    Ok(())
+    holds(&rt, &rt, &rows)
 }
