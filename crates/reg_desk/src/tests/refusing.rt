@@ -53,6 +53,8 @@ impl Keep for Refusing {
 
     ghost may_leave = { λ k list. list ≡ deposits_of k.keep };
 
+    ghost may_break = { λ _. ⊥ };
+
     ghost is_sound = { λ _. ⊤ };
 
     fn find(
@@ -128,6 +130,10 @@ impl Keep for Refusing {
     ghost settled = { λ _ _ _ _ same. same };
 
     ghost stays = { λ _ _ _. ∣ refl ∣₁ };
+
+    ghost unbroken = { λ _ _ _ none. none };
+
+    ghost remains = { λ k _ _ none. none (deposits_of k.keep) refl };
 
     ghost fit = { λ k _ _. fit_of (dictionary_of k.keep) (deposits_of k.keep) k.keep.fit };
 
