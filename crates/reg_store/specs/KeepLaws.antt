@@ -101,16 +101,12 @@ unbroken_at {s} {dictionary} {count} kept law left =
     let none : KeepsRegister s dictionary count → ⊥ = λ k. (let same = law left.0 k.is_open left.1 in left.2 (deposits_in s.committed.trees) (subst (λ t. IsRegister (tables t) dictionary (deposits_in s.committed.trees)) (sym same) (settled_register k))) in
     ∥∥₁_elim kept (Prim.hlevel props) none
 
-<<<<<<< HEAD
-keeps_equal : {old new : State} {dictionary : Entries} {count : ℕ} → KeepsRegister old dictionary count → IsTrue new.is_open → new.now ≡ old.now → new.committed ≡ old.committed → KeepsRegister new dictionary count
-=======
 pub remains_at : (may_leave : Trees → Type 0) (dictionary : Entries) → ∥ ((trees : Trees) × may_leave trees) ∥₁ → (LeavesBroken may_leave dictionary → ⊥) → ((list : List Deposit) → LeavesList may_leave dictionary list → ⊥) → ⊥
 remains_at may_leave dictionary some whole none =
     let left : (trees : Trees) × may_leave trees → ⊥ = λ p. whole (p.0, p.1, λ list register. none list (p.0, p.1, register)) in
     ∥∥₁_elim some (Prim.hlevel props) left
 
-keeps_equal : {old new : State} {dictionary : Entries} {count : ℕ} → Keeps old dictionary count → IsTrue new.is_open → new.now ≡ old.now → new.committed ≡ old.committed → Keeps new dictionary count
->>>>>>> crash-open
+keeps_equal : {old new : State} {dictionary : Entries} {count : ℕ} → KeepsRegister old dictionary count → IsTrue new.is_open → new.now ≡ old.now → new.committed ≡ old.committed → KeepsRegister new dictionary count
 keeps_equal {old} {new} {dictionary} {count} k is_open now committed = record {
   is_open = is_open;
   settled = committed ∙ k.settled ∙ sym now;
