@@ -530,7 +530,7 @@ class Computer:
 
     def can_open(self, path):
         """Whether a database may be opened there: the path is no folder and stands in one."""
-        return path not in self.folders and os.path.dirname(path) in self.folders
+        return os.path.basename(path) != "" and path not in self.folders and os.path.dirname(path) in self.folders
 
     def store(self, path):
         found = self.files.get(path)

@@ -1,6 +1,6 @@
 //! Connections that are served, over loopback.
 
-use super::runs::{ran, write_files};
+use super::runs::{enter, leave, run_row};
 use crate::serving::serve_on;
 use crate::watched::Watched;
 use ags_rows::vectors::{FILE_A, MINI};
@@ -77,7 +77,7 @@ fn connections_are_served(rt: HostRuntime) -> Result<(), Fail> {
 
 #[test]
 fn a_port_that_is_taken(rt: HostRuntime) -> Result<(), Fail> {
-    write_files(&rt)?;
+    enter(&rt, "a_port_that_is_taken")?;
     let listener = TcpListener::bind(&rt, "127.0.0.1:0")?;
     let port = listener.local_addr()?.port();
     let serve = format!(in rt.alloc();
@@ -90,9 +90,9 @@ fn a_port_that_is_taken(rt: HostRuntime) -> Result<(), Fail> {
         (serve.as_str(), b"groundreg: cannot listen\n", 6),
         (late.as_str(), b"groundreg: day refused\n", 4),
     ] {
-        let got = ran(&rt, row)?;
+        let got = run_row(&rt, row)?;
         assert_eq!(rt; got.said.as_slice(), said, "{row}");
         assert_eq!(rt; got.status, status, "{row}");
     }
-    Ok(())
+    leave(&rt, "a_port_that_is_taken")
 }

@@ -5,10 +5,10 @@ use crate::watched::Watched;
 use ags_rows::vectors::{FILE_A, FILE_B, MINI};
 use reg_policy::Day;
 use reg_policy::vectors::{CALLERS, POLICY};
-use std::fs;
 use std::io::Write;
 use std::process::Abort;
 use std::test::Fail;
+use std::{env, fs};
 
 /// What a run answers: its status, what was printed and what was said of a fault.
 #[derive(Drop)]
@@ -38,7 +38,7 @@ fn words_in<'w>(rt: &HostRuntime, row: &'w str) -> Result<Vec<&'w str>, Fail> {
 }
 
 /// A run on 2024-05-01 with the words of a row and an empty input.
-pub(crate) fn ran(rt: &HostRuntime, row: &str) -> Result<Ran, Fail> {
+pub(crate) fn run_row(rt: &HostRuntime, row: &str) -> Result<Ran, Fail> {
     let words = words_in(rt, row)?;
     let mut input: &[u8] = b"";
     let mut printed = Vec::new(rt.alloc());
@@ -58,8 +58,23 @@ pub(crate) fn ran(rt: &HostRuntime, row: &str) -> Result<Ran, Fail> {
     })
 }
 
+/// Makes a folder, goes there, and writes the files that the rows name.
+pub(crate) fn enter(rt: &HostRuntime, folder: &str) -> Result<(), Fail> {
+    let _ = fs::remove_dir_all(rt, folder);
+    fs::create_dir(rt, folder)?;
+    env::set_current_dir(rt, folder)?;
+    write_files(rt)
+}
+
+/// Leaves the folder, and removes it with all that is in it.
+pub(crate) fn leave(rt: &HostRuntime, folder: &str) -> Result<(), Fail> {
+    env::set_current_dir(rt, "..")?;
+    fs::remove_dir_all(rt, folder)?;
+    Ok(())
+}
+
 /// Writes the files that the rows name, into the folder that the test runs in.
-pub(crate) fn write_files(rt: &HostRuntime) -> Result<(), Fail> {
+fn write_files(rt: &HostRuntime) -> Result<(), Fail> {
     fs::write(rt, "mini", MINI)?;
     fs::write(rt, "a", FILE_A)?;
     fs::write(rt, "b", FILE_B)?;
@@ -85,7 +100,7 @@ pub(crate) fn holds<A: Abort>(
     rows: &[(&str, &[u8], &[u8], u8)],
 ) -> Result<(), Fail> {
     for (row, printed, said, status) in rows {
-        let got = ran(rt, row)?;
+        let got = run_row(rt, row)?;
         assert_eq!(handle; got.said.as_slice(), *said, "what is said of {row}");
         assert_eq!(handle;
             got.printed.as_slice(),
@@ -100,7 +115,7 @@ pub(crate) fn holds<A: Abort>(
 
 #[test]
 fn a_register_from_its_making_to_an_extract(rt: HostRuntime) -> Result<(), Fail> {
-    write_files(&rt)?;
+    enter(&rt, "a_register_from_its_making_to_an_extract")?;
     let rows: [(&str, &[u8], &[u8], u8); 22] = [
         ("init|--store|s|--dictionary|mini", b"created\n", b"", 0),
         (
@@ -177,12 +192,13 @@ fn a_register_from_its_making_to_an_extract(rt: HostRuntime) -> Result<(), Fail>
         ("check|--dictionary|mini|b", b"clean\n", b"", 0),
         ("check|--dictionary=mini|empty", b"2 0 -\n", b"", 1),
     ];
-    holds(&rt, &rt, &rows)
+    holds(&rt, &rt, &rows)?;
+    leave(&rt, "a_register_from_its_making_to_an_extract")
 }
 
 #[test]
 fn each_fault_comes_before_the_next_one(rt: HostRuntime) -> Result<(), Fail> {
-    write_files(&rt)?;
+    enter(&rt, "each_fault_comes_before_the_next_one")?;
     let rows: [(&str, &[u8], &[u8], u8); 27] = [
         (
             "list|--store=s|--policy=none|--callers=c|--project=N1",
@@ -342,7 +358,8 @@ fn each_fault_comes_before_the_next_one(rt: HostRuntime) -> Result<(), Fail> {
             4,
         ),
     ];
-    holds(&rt, &rt, &rows)
+    holds(&rt, &rt, &rows)?;
+    leave(&rt, "each_fault_comes_before_the_next_one")
 }
 
 #[test]
@@ -379,7 +396,7 @@ fn words_are_refused(rt: HostRuntime) -> Result<(), Fail> {
         "serve|--store=s|--policy=q|--callers=c|--port=80|--connections=+1",
         "serve|--store=s|--policy=q|--callers=c|--port=80|--connections=1|--token=t-delta",
     ] {
-        let got = ran(&rt, row)?;
+        let got = run_row(&rt, row)?;
         assert_eq!(rt;
             got.said.as_slice(),
             b"groundreg: words refused\n".as_slice(),
@@ -393,7 +410,7 @@ fn words_are_refused(rt: HostRuntime) -> Result<(), Fail> {
 
 #[test]
 fn words_may_stand_in_any_order(rt: HostRuntime) -> Result<(), Fail> {
-    write_files(&rt)?;
+    enter(&rt, "words_may_stand_in_any_order")?;
     let rows: [(&str, &[u8], &[u8], u8); 10] = [
         ("init|--dictionary=mini|--store|s", b"created\n", b"", 0),
         (
@@ -431,5 +448,6 @@ fn words_may_stand_in_any_order(rt: HostRuntime) -> Result<(), Fail> {
             6,
         ),
     ];
-    holds(&rt, &rt, &rows)
+    holds(&rt, &rt, &rows)?;
+    leave(&rt, "words_may_stand_in_any_order")
 }

@@ -1,13 +1,13 @@
 //! Stores that hold no register, or one of another format.
 
-use super::runs::{holds, ran, write_files};
+use super::runs::{enter, holds, leave, run_row};
 use sqlite::{Connection, params};
 use std::fs;
 use std::test::Fail;
 
 #[test]
 fn stores_that_are_no_register(rt: HostRuntime) -> Result<(), Fail> {
-    write_files(&rt)?;
+    enter(&rt, "stores_that_are_no_register")?;
     let rows: [(&str, &[u8], &[u8], u8); 6] = [
         (
             "list|--store=empty|--policy=q|--callers=c|--project=N1|--token=t-delta",
@@ -49,12 +49,12 @@ fn stores_that_are_no_register(rt: HostRuntime) -> Result<(), Fail> {
     holds(&rt, &rt, &rows)?;
     // Asking for a register that is not there makes no file.
     assert!(rt; !fs::exists(&rt, "gone")?);
-    Ok(())
+    leave(&rt, "stores_that_are_no_register")
 }
 
 #[test]
 fn a_register_of_another_version(rt: HostRuntime) -> Result<(), Fail> {
-    write_files(&rt)?;
+    enter(&rt, "a_register_of_another_version")?;
     let rows: [(&str, &[u8], &[u8], u8); 2] = [
         ("init|--store=s|--dictionary=mini", b"created\n", b"", 0),
         (
@@ -90,9 +90,9 @@ fn a_register_of_another_version(rt: HostRuntime) -> Result<(), Fail> {
         let mut connection = Connection::open(&rt, "s")?;
         connection.execute(statement, params![])?;
         drop(connection);
-        let got = ran(&rt, "list|@|--token=t-delta")?;
+        let got = run_row(&rt, "list|@|--token=t-delta")?;
         assert_eq!(rt; got.said.as_slice(), said, "{statement}");
         assert_eq!(rt; got.status, 4, "{statement}");
     }
-    Ok(())
+    leave(&rt, "a_register_of_another_version")
 }
