@@ -101,7 +101,7 @@ def error_of(path, old, new):
 
 
 CASES = [
-    ("what is reached, each behind what it needs", names_reached({}), (["Colour", "one", "Shape", "◌⊕◌", "size", "HasSize"], ["ℕ", "◌+◌", "◌≡◌"])),
+    ("what is reached, each behind what it needs", names_reached({}), (["one", "Shape", "◌⊕◌", "size", "Colour", "HasSize"], ["ℕ", "◌+◌", "◌≡◌"])),
     ("a name of a body", error_of("crates/low/specs/Base.antt", "a + b + one", "a + b + two"), "crates/low/specs/Base.antt:19: two is found nowhere"),
     ("a name that an import has not", error_of("crates/top/specs/Facts.antt", "Words.{Shape as Form, size}", "Words.{Shape as Form, length as size}"),
      "crates/top/specs/Facts.antt:2: Rattle.low.specs.Words.length is not found"),
