@@ -398,9 +398,7 @@ class House:
 
     def read_crate(self, crate):
         folder = f"crates/{crate}/specs"
-        with open(os.path.join(self.root, folder, "Lib.antt"), encoding="utf-8") as file:
-            modules = re.findall(r"^pub mod (\w+)$", file.read(), re.M)
-        for module in modules:
+        for module in self.modules_of(folder):
             source = Source(self, crate, f"{folder}/{module}.antt")
             AnttReader(source).read()
             self.specs[crate, module] = source
@@ -411,6 +409,14 @@ class House:
                     source = Source(self, crate, path)
                     RustReader(source).read()
                     self.rust[crate, path.split("/src/")[1].removesuffix(".rt").replace("/", ".")] = source
+
+    def modules_of(self, folder):
+        """The modules of a crate's definitions, in the order in which Lib.antt names them; a crate may have none."""
+        path = os.path.join(self.root, folder, "Lib.antt")
+        if not os.path.exists(path):
+            return []
+        with open(path, encoding="utf-8") as file:
+            return re.findall(r"^pub mod (\w+)$", file.read(), re.M)
 
     # ---- what a name stands for
 
