@@ -48,10 +48,10 @@ class Item:
         return lines + [line for _, more in (model or []) + self.faces() for line in more]
 
     def faces(self):
-        """What a type is by a trait that contracts speak of: its ghost members, as `deposits` of a keep."""
+        """What a type is by a trait that contracts speak of: its ghost members, as `deposits` of a keep. Its proofs of the trait's laws are left out."""
         if self.kind not in ("struct", "enum"):
             return []
-        return [face for trait, face in self.source.faces.get(self.name, []) if trait in self.source.house.traits]
+        return [face for trait, name, face in self.source.faces.get(self.name, []) if name in self.source.house.members.get(trait, ())]
 
     def code_lines(self):
         """How many of the lines shown are neither a comment nor empty."""
@@ -318,10 +318,11 @@ class RustReader:
                 if found[1] == "Model":
                     self.models[owner] = [face for name, face in self.ghost_lines(number) if name in ("Value", "invariant")]
                 elif found[1]:
-                    self.source.faces.setdefault(owner, []).extend((found[1], face) for _, face in self.ghost_lines(number))
+                    self.source.faces.setdefault(owner, []).extend((found[1], name, face) for name, face in self.ghost_lines(number))
             elif found := re.match(r"^(pub )?(?:pub\(crate\) )?trait (\w+)", line):
                 owner = found[2]
-                self.source.house.traits |= {owner} if found[1] else set()
+                if found[1]:
+                    self.source.house.members[owner] = set(re.findall(r"ghost (\w+): \{ Self →", "\n".join(lines[number - 1:self.block_end(number)])))
             elif line == "}":
                 owner = None
             if found := re.match(r"^( *)(?:pub(?:\(crate\))? )?fn (\w+)", line):
@@ -392,7 +393,7 @@ class House:
         with open(os.path.join(root, "crates.txt"), encoding="utf-8") as file:
             self.crates = [line.split(":")[0] for line in file if line.strip() and not line.startswith("#")]
         self.specs, self.rust, self.order = {}, {}, {}
-        self.traits = {"Read", "Write"}
+        self.members = {"Read": {"remaining"}, "Write": {"contents"}}
         for crate in self.crates:
             self.read_crate(crate)
 
