@@ -552,7 +552,8 @@ class Namer:
                 continue
             head, _, rest = word.partition(".")
             following = tokens[place + 1].text if place + 1 < len(tokens) else ""
-            if head in bound or head in BUILT_IN or (following == "=" and not rest):
+            is_own = head in self.source.items or head in self.source.imports
+            if head in bound or (head in BUILT_IN and not is_own) or (following == "=" and not rest):
                 continue
             self.name(token, head, rest)
 
