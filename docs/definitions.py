@@ -634,6 +634,17 @@ class Namer:
             self.rust_types(line)
         for number, lines in clauses:
             self.ghost_text(lines, number)
+        self.trait_contract(head)
+
+    def trait_contract(self, head):
+        """A call of a trait of the house is promised by the trait too."""
+        for line in head:
+            if (found := re.match(r"^impl(?:<.*?>)? (\w+)(?:<[^{]*?>)? for ", line)) and found[1] in self.house.members:
+                name = f"{found[1]}::{self.item.name.rsplit('::', 1)[-1]}"
+                for crate in self.house.crates:
+                    for _, item in self.house.functions(crate):
+                        if item.name == name:
+                            self.need(item)
 
     def ghost_text(self, lines, first):
         """A clause, or a ghost member: `ensures name { .. }`, `ghost name: { .. }`, `ghost name = { .. }`."""
