@@ -11,6 +11,7 @@ ghost use Rattle.reg_store.specs.Formats.{IsFormatRow};
 ghost use Rattle.reg_store.specs.Adoption.{ReadsMeta};
 
 use crate::keep::{KeepError, KeptRow};
+use crate::sql::MOST;
 use crate::values::{holds, is_row};
 use ags_dict::{DictError, Dictionary};
 use ags_rows::READABLE;
@@ -155,7 +156,7 @@ pub(crate) fn count_numbers(rows: &[Row]) -> Option<u32>
     ensures few { IfSome result (λ count. count ≤ 999999) }
     ensures none { result ≡ None → (count : ℕ) → count ≤ 999999 → rows.now ≡ number_rows 1 count → ⊥ }
 {
-    if rows.len() > 999_999 {
+    if rows.len() > MOST as usize {
         return None;
     }
     for (at, row) in rows.iter().enumerate() {

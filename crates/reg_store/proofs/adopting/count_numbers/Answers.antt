@@ -4,8 +4,8 @@ use Rattle.reg_store.proofs.RowsLemmas.{same_at, same_list, numbers_long, number
 use Rattle.reg_store.specs.Adopts.{number_rows}
 use Rattle.reg_store.proofs.adopting.count_numbers.Goals as goal
 
-pub returns-then-rows-gt999999-clause-none : goal.returns-then-rows-gt999999-clause-none
-returns-then-rows-gt999999-clause-none c _ count low are =
+pub returns-then-rows-clause-none : goal.returns-then-rows-clause-none
+returns-then-rows-clause-none c _ count low are =
     let long : length c.args.rows.now ≡ count = ap length are ∙ numbers_long 1 count in
     absurd (omega (arith, long, low))
 

@@ -1,10 +1,9 @@
-use Rattle.std.proofs.Common.{rules, ◌≡◌, refl, sym, ap, ◌∙◌}
-use Rattle.sqlite.specs.Effect.{Database}
+use Rattle.std.proofs.Common.{refl, sym, ◌∙◌}
 use Rattle.sqlite.specs.Held.{state}
 use Rattle.reg_store.specs.Quiet.{clean_before}
-use Rattle.reg_store.specs.Register.{deposits_in}
-use Rattle.reg_store.specs.KeepLaws.{idle_at, keeps_quiet, crash_same, whole_same}
+use Rattle.reg_store.specs.KeepLaws.{idle_at, keeps_quiet}
 use Rattle.reg_store.specs.Methods.{numbers_at}
+use Rattle.reg_store.proofs.ReadsLemmas.{reads_still}
 use Rattle.reg_store.proofs.sql.SqlKeepKeep.numbers.Goals as goal
 
 pub find_numbers-found-requires : goal.find_numbers-found-requires
@@ -18,19 +17,7 @@ invariant_of-self-clause-kept g c works clean =
     keeps_quiet (state g.S.Store c.args.self.now.connection) (state g.S.Store c.find_numbers-found.new.conn) (c.args.self.now.kept c.requires.working) c.find_numbers-found.ensures.quiet clean (sym c.is_store-self.ensures ∙ works)
 
 pub returns-clause-leaves : goal.returns-clause-leaves
-returns-clause-leaves g c =
-    let old = state g.S.Store c.args.self.now.connection in
-    let new = state g.S.Store c.find_numbers-found.new.conn in
-    let quiet = c.find_numbers-found.ensures.quiet in
-    record {
-      sound = λ clean. clean_before old new quiet.survives clean;
-      same_dictionary = refl;
-      same_limit = refl;
-      failing = c.is_store-self.ensures;
-      same = λ clean well. ap (λ (db : Database). deposits_in db.trees) (quiet.same clean well).1;
-      crash = λ clean. crash_same old new quiet.survives clean;
-      whole = λ clean. whole_same old new quiet.survives clean;
-    }
+returns-clause-leaves g c = reads_still (λ k. state g.S.Store k.connection) (λ k. k.dictionary) 999999 (λ k. k.has_failed) _ _ _ c.find_numbers-found.ensures.quiet refl c.is_store-self.ensures
 
 pub returns-clause-numbers : goal.returns-clause-numbers
 returns-clause-numbers g c clean =
