@@ -3,7 +3,7 @@ use Rattle.std.proofs.Common.{◌≡◌, ℕ, ◌<◌, List, [], ◌∷◌, leng
 use Rattle.std.specs.List.Sorted.{IsStrictlyIncreasing}
 use Rattle.ags_dict.specs.Entries.{Entries, parent_of}
 use Rattle.ags_rows.specs.Parts.{parts_at}
-use Rattle.ags_links.specs.declared.lookup.Lookup.{Lookup}
+use Rattle.ags_links.specs.Lookups.{Lookup}
 use Rattle.ags_links.specs.DataRows.{DataRow, IsDataRow, Between, ListsRows, entry_of}
 use Rattle.ags_links.specs.Families.{HasText, HasKeyText, HasFileSet}
 use Rattle.ags_links.specs.Keys.{key_of, HasKeyOf, IsFirstOfKey}

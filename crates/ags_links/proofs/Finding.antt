@@ -1,11 +1,11 @@
 -- The index, one more row at a time.
-use Rattle.std.proofs.Common.{◌≡◌, ℕ, ◌+◌, ◌<◌, ◌≤◌, Bool, true, false, cond, List, [], ◌∷◌, ◌++◌, length, take, get_or, map, refl, sym, ap, subst, ◌∙◌, arith, inl, inr, ◌⊎◌, Contains, append-nil}
+use Rattle.std.proofs.Common.{◌≡◌, ℕ, ◌+◌, ◌<◌, ◌≤◌, Bool, true, false, cond, List, [], ◌∷◌, ◌++◌, length, take, get_or, map, refl, sym, ap, subst, ◌∙◌, arith, inl, inr, ◌⊎◌, Contains, append-nil, Result, Ok, Err, IfOk}
 use Rattle.std.specs.Str.{bytes_eq}
 use Rattle.std.specs.List.Sorted.{IsStrictlyIncreasing}
 use Rattle.std.proofs.lemmas.Slice.Eq.{bytes_eq-Decides}
 use Rattle.std.proofs.lemmas.List.{take_more, length-take-le, length-map, map-append, take_all, get_or_default, get_or-take}
 use Rattle.std.proofs.lemmas.List.Elements.{Contains-push, Contains-push_cases, Contains-append_left}
-use Rattle.ags_links.specs.declared.lookup.Lookup.{Lookup}
+use Rattle.ags_links.specs.Lookups.{Lookup}
 use Rattle.ags_links.specs.declared.placed.PlacedRow.{PlacedRow}
 use Rattle.ags_links.specs.DataRows.{DataRow, IsDataRow}
 use Rattle.ags_links.specs.Families.{HasText, HasAmong}
@@ -78,6 +78,17 @@ finds_none lookup Has empty none = record {
   nothing : (m : ℕ) → Contains {X = ℕ} [] m → ⊥
   nothing m h = omega (arith, h.1)
 
+-- two look-ups that find the same rows at each text
+pub finds_alike : (old new : Lookup) (Has : ℕ → List ℕ → Type 0) → ((q : List ℕ) → found new q ≡ found old q) → Finds old Has → Finds new Has
+finds_alike old new Has same so_far = record {
+  rising = λ q. subst IsStrictlyIncreasing (sym (same q)) (so_far.rising q);
+  exact = λ q m. (λ h. (so_far.exact q m).0 (subst (λ l. Contains l m) (same q) h), λ h. subst (λ l. Contains l m) (sym (same q)) ((so_far.exact q m).1 h));
+}
+
+pub finds_ok : {E : Type 0} (r : Result Lookup E) (old : Lookup) (Has : ℕ → List ℕ → Type 0) → IfOk r (λ l. (q : List ℕ) → found l q ≡ found old q) → Finds old Has → IfOk r (λ l. Finds l Has)
+finds_ok (Ok l) old Has same so_far = finds_alike old l Has same so_far
+finds_ok (Err e) old Has same so_far = same
+
 -- ---- rows of a file, from the first on
 
 pub rows_next : (rows : List PlacedRow) (i : ℕ) (d : PlacedRow) → i < length rows → map row_of (take (i + 1) rows) ≡ map row_of (take i rows) ++ row_of (get_or rows i d) ∷ []
@@ -122,6 +133,10 @@ pub finds_over : (old : Lookup) (Has : DataRow → List ℕ → Type 0) (rows : 
 finds_over old Has rows i x lt is so_far none =
     let next = rows_next rows i x lt ∙ ap (λ y. map row_of (take i rows) ++ row_of y ∷ []) (sym is) in
     subst (λ rs. Finds old (HasText rs Has)) (sym next) (finds_past old Has (map row_of (take i rows)) (row_of x) so_far none)
+
+-- all rows
+pub finds_rows : (lookup : Lookup) (Has : DataRow → List ℕ → Type 0) (rows : List PlacedRow) (i : ℕ) → length rows ≤ i → Finds lookup (HasText (map row_of (take i rows)) Has) → Finds lookup (HasText (map row_of rows) Has)
+finds_rows lookup Has rows i le so_far = subst (λ rs. Finds lookup (HasText (map row_of rs) Has)) (take_all i rows le) so_far
 
 -- ---- rows of a list of numbers
 

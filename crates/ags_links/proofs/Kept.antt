@@ -8,7 +8,7 @@ use Rattle.ags_rows.specs.Contents.{group_contents, contents_of, fields_of}
 use Rattle.ags_rows.specs.Groups.{row_count}
 use Rattle.ags_dict.specs.Entries.{Entries}
 use Rattle.ags_links.specs.declared.families.Family.{Family}
-use Rattle.ags_links.specs.declared.lookup.Lookup.{Lookup}
+use Rattle.ags_links.specs.Lookups.{Lookup}
 use Rattle.ags_links.specs.declared.placed.PlacedRow.{PlacedRow}
 use Rattle.ags_links.specs.DataRows.{DataRow, IsAt, data_rows, group_rows, row_in}
 use Rattle.ags_links.specs.Families.{HasText, HasGroupName, HasFamily, IsFamily, AreKept, AreFamilies}

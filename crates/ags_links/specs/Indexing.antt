@@ -5,7 +5,7 @@ use Rattle.ags_rows.specs.Contents.{contents_of}
 use Rattle.ags_dict.specs.Entries.{Entries}
 use Rattle.ags_links.specs.declared.families.Family.{Family}
 use Rattle.ags_links.specs.declared.index.Targets.{Targets}
-use Rattle.ags_links.specs.declared.lookup.Lookup.{Lookup}
+use Rattle.ags_links.specs.Lookups.{Lookup}
 use Rattle.ags_links.specs.declared.parents.ParentLookups.{ParentLookups}
 use Rattle.ags_links.specs.declared.placed.PlacedRow.{PlacedRow}
 use Rattle.ags_links.specs.declared.separators.Separators.{Separators}

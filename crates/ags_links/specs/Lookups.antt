@@ -1,20 +1,23 @@
 -- The index: from a text to the rows that have it.
-use Rattle.std.specs.Prelude.{◌↔◌, ℕ, List, [], Vec, Contains}
-use Rattle.std.specs.List.Sorted.{IsStrictlyIncreasing}
-use Rattle.std.specs.Option.{option_map_or}
-use Rattle.std.specs.Ordering.{nat_cmp}
-use Rattle.std.specs.Cmp.Lexicographic.{slice_cmp}
-use Rattle.std.specs.declared.alloc.Global.{Global}
-use Rattle.std.specs.BTreeMap.{BTreeMap, get_by}
-use Rattle.ags_links.specs.declared.lookup.Lookup.{Lookup}
+use Rattle.std.specs.Prelude.{◌≡◌, ◌↔◌, ℕ, List, Contains, map}
+use Rattle.std.specs.List.{filter}
+use Rattle.std.specs.List.Sorted.{IsStrictlyIncreasing, IsSortedBy}
+use Rattle.std.specs.Ordering.{is_lt}
+use Rattle.std.specs.Str.{bytes_eq}
+use Rattle.ags_links.specs.TextMarks.{text_order}
 
--- what the map has at a text
-abbrev pub found_in : BTreeMap (Vec ℕ Global) (Vec ℕ Global) → List ℕ → List ℕ
-found_in m text = option_map_or (λ (rows : Vec ℕ Global). rows.items) (get_by (λ (k : Vec ℕ Global). slice_cmp nat_cmp text k.items) m) []
+-- texts, each with a row that has it
+abbrev pub Lookup : Type 0
+Lookup = List (List ℕ × ℕ)
 
 -- the rows that have the text
 abbrev pub found : Lookup → List ℕ → List ℕ
-found lookup text = found_in lookup.rows text
+found lookup text = map (λ p. p.1) (filter (λ p. bytes_eq p.0 text) lookup)
+
+-- no text is below the one before it, and the rows are those of the pairs
+pub record AreByText (pairs : Lookup) (rows : List ℕ) : Type 0 where
+  pub sorted : IsSortedBy (λ p q. is_lt (text_order p.0 q.0)) pairs
+  pub alone : rows ≡ map (λ p. p.1) pairs
 
 -- for each text the rows that have it, rising
 pub record Finds (lookup : Lookup) (Has : ℕ → List ℕ → Type 0) : Type 0 where

@@ -6,7 +6,8 @@ ghost use Rattle.ags_links.specs.Lookups.{Finds};
 ghost use Rattle.ags_links.specs.Families.{HasText, HasGroupName, HasKeyText, HasFileSet, HasFamily, IsFamily, AreFamilies, record_links};
 ghost use Rattle.ags_links.specs.Placing.{IsPlaced, row_of};
 
-use crate::lookup::{Lookup, add_row, no_rows};
+use crate::lookup::{Lookup, rows_by_text};
+use crate::marked::Marked;
 use crate::placed::{PlacedRow, field};
 use crate::texts::group_text;
 use ags_dict::Dictionary;
@@ -99,12 +100,13 @@ pub(crate) fn rows_by_group(alloc: Global, rows: &[PlacedRow<'_, '_>]) -> Result
     requires { length rows.now < 2 ^ 32 }
     ensures { IfOk result (λ lookup. Finds lookup (HasText (map row_of rows.now) HasGroupName)) }
 {
-    let mut lookup = no_rows(alloc);
+    let mut pairs = Vec::new(alloc);
     for (number, row) in rows.iter().enumerate() {
         let group = row.group;
-        add_row(alloc, &mut lookup, group.name.as_slice(), number as u32)?;
+        let name = Vec::from_slice(alloc, group.name.as_slice())?;
+        pairs.push((Marked::of(name), number as u32))?;
     }
-    Ok(lookup)
+    rows_by_text(alloc, pairs)
 }
 
 /// The rows by their groups and key entries.
@@ -118,12 +120,12 @@ pub(crate) fn rows_by_key(
     requires kept { All (HasFamily dictionary.now families.now) rows.now }
     ensures { IfOk result (λ lookup. Finds lookup (HasText (map row_of rows.now) (HasKeyText dictionary.now))) }
 {
-    let mut lookup = no_rows(alloc);
+    let mut pairs = Vec::new(alloc);
     for (number, row) in rows.iter().enumerate() {
         let text = group_text(alloc, row, &families[row.place].keys)?;
-        add_row(alloc, &mut lookup, &text, number as u32)?;
+        pairs.push((Marked::of(text), number as u32))?;
     }
-    Ok(lookup)
+    rows_by_text(alloc, pairs)
 }
 
 /// The rows of FILE by their FILE_FSET.
@@ -137,15 +139,16 @@ pub(crate) fn rows_by_file_set(
     requires kept { All (HasFamily dictionary.now families.now) rows.now }
     ensures { IfOk result (λ lookup. Finds lookup (HasText (map row_of rows.now) HasFileSet)) }
 {
-    let mut lookup = no_rows(alloc);
+    let mut pairs = Vec::new(alloc);
     for (number, row) in rows.iter().enumerate() {
         let group = row.group;
         if group.name.as_slice() == b"FILE".as_slice() {
             let file_set = field(row, families[row.place].file_set);
-            add_row(alloc, &mut lookup, file_set, number as u32)?;
+            let text = Vec::from_slice(alloc, file_set)?;
+            pairs.push((Marked::of(text), number as u32))?;
         }
     }
-    Ok(lookup)
+    rows_by_text(alloc, pairs)
 }
 
 /// What is kept for the row's group.

@@ -9,6 +9,7 @@ mod graph;
 mod index;
 pub mod laws;
 mod lookup;
+mod marked;
 mod parents;
 mod placed;
 mod separators;

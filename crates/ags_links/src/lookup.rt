@@ -1,51 +1,52 @@
 //! The index: from a text to the rows that have it.
 
-ghost use Rattle.std.specs.Prelude.{◌≡◌, ◌++◌, ◌∷◌, [], ℕ, List, OnOk, if◌then◌else◌};
-ghost use Rattle.std.specs.Str.{bytes_eq};
+ghost use Rattle.std.specs.Prelude.{◌≡◌, ℕ, List, IfOk};
 ghost use Rattle.ags_links.specs.Lookups.{found};
 
+use crate::marked::{Marked, mark_of};
 use std::alloc::{AllocError, Global};
-use std::collections::BTreeMap;
+use std::marker::Model;
 
-/// Rows by a text that they have.
+/// Rows by a text that they have. Contracts see each text with its row.
 #[derive(Drop)]
 pub(crate) struct Lookup {
-    pub(crate) rows: BTreeMap<Vec<u8>, Vec<u32>>,
+    // in the order of the texts
+    pairs: Vec<(Marked, u32)>,
+    // the rows of the pairs alone, so that those of one text are a slice
+    rows: Vec<u32>,
 }
 
-/// No rows.
-pub(crate) fn no_rows(alloc: Global) -> Lookup
-    ensures { (q : List ℕ) → found result q ≡ [] }
-{
-    Lookup {
-        rows: BTreeMap::new(alloc),
-    }
+impl Model for Lookup {
+    ghost use Rattle.ags_links.specs.Lookups.{Lookup as Pairs, AreByText};
+
+    ghost Value = { Pairs };
+
+    ghost view = { λ l. l.pairs.items };
+
+    ghost invariant = { λ l. AreByText l.pairs.items l.rows.items };
 }
 
-/// Adds a row behind those that have the text.
-pub(crate) fn add_row(
-    alloc: Global,
-    lookup: &mut Lookup,
-    text: &[u8],
-    row: u32,
-) -> Result<(), AllocError>
-    ensures { OnOk result ((q : List ℕ) → found lookup.new q ≡ found lookup.old q ++ (if bytes_eq text.now q then row ∷ [] else [])) }
+/// The rows of these pairs by their texts; rows of one text in the order of the pairs.
+pub(crate) fn rows_by_text(alloc: Global, pairs: Vec<(Marked, u32)>) -> Result<Lookup, AllocError>
+    ensures { IfOk result (λ lookup. (text : List ℕ) → found lookup text ≡ found pairs.items text) }
 {
-    let mut rows = match lookup.rows.remove(text) {
-        Some(rows) => rows,
-        None => Vec::new(alloc),
-    };
-    rows.push(row)?;
-    lookup.rows.insert(Vec::from_slice(alloc, text)?, rows)?;
-    Ok(())
+    let mut sorted = pairs;
+    sorted.sort_by(|first, second| first.0.order(&second.0))?;
+    let rows = sorted.iter().map(|pair| pair.1).collect(alloc)?;
+    Ok(Lookup {
+        pairs: sorted,
+        rows,
+    })
 }
 
 /// The rows that have the text.
 pub(crate) fn rows_with<'l>(lookup: &'l Lookup, text: &[u8]) -> &'l [u32]
     ensures { result.now ≡ found lookup.now text.now }
 {
-    match lookup.rows.get(text) {
-        Some(rows) => rows.as_slice(),
-        None => &[],
-    }
+    let mark = mark_of(text);
+    let pairs = lookup.pairs.as_slice();
+    let first = pairs.partition_point(|pair| pair.0.against(mark, text).is_lt());
+    let rest = &pairs[first..];
+    let count = rest.partition_point(|pair| pair.0.against(mark, text).is_le());
+    &lookup.rows[first..first + count]
 }

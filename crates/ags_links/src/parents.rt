@@ -9,7 +9,8 @@ ghost use Rattle.ags_links.specs.ParentRows.{AreLinkHeadings, link_names, IsPare
 ghost use Rattle.ags_links.specs.Placing.{row_of};
 
 use crate::families::{Family, family_at, places_of};
-use crate::lookup::{Lookup, add_row, no_rows, rows_with};
+use crate::lookup::{Lookup, rows_by_text, rows_with};
+use crate::marked::Marked;
 use crate::placed::PlacedRow;
 use crate::texts::{entries_text, is_first, names_text};
 use ags_dict::Dictionary;
@@ -175,14 +176,14 @@ fn rows_by_entries(
     requires numbers { AreNumbers (length rows.now) links.now }
     ensures { IfOk result (λ lookup. Finds lookup (HasAmong links.now.rows.now (map row_of rows.now) (HasEntries (link_names links.now)))) }
 {
-    let mut lookup = no_rows(alloc);
+    let mut pairs = Vec::new(alloc);
     for number in links.rows {
         let row = &rows[*number as usize];
         let places = places_of(alloc, &families[row.place].headings, &links.headings)?;
         let text = entries_text(alloc, row, &places)?;
-        add_row(alloc, &mut lookup, &text, *number)?;
+        pairs.push((Marked::of(text), *number))?;
     }
-    Ok(lookup)
+    rows_by_text(alloc, pairs)
 }
 
 /// The look-up of the group at this place: its own where no group before has the same links, else an empty one.
@@ -203,7 +204,7 @@ fn lookup_at(
     if is_first(texts, &links.text, place) {
         rows_by_entries(alloc, dictionary, rows, families, links)
     } else {
-        Ok(no_rows(alloc))
+        rows_by_text(alloc, Vec::new(alloc))
     }
 }
 

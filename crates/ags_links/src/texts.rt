@@ -1,6 +1,6 @@
 //! Lists of entries as one text, for the index.
 
-ghost use Rattle.std.specs.Prelude.{◌≡◌, ◌==◌, ◌<◌, ◌+◌, ◌^◌, ◌++◌, ◌∷◌, ◌↔◌, ℕ, List, Contains, IfOk, OnOk, IfSome, IsTrue, Some, map, length, position};
+ghost use Rattle.std.specs.Prelude.{◌≡◌, ◌==◌, ◌<◌, ◌+◌, ◌^◌, ◌++◌, ◌∷◌, ◌↔◌, ℕ, List, Contains, All, IfOk, OnOk, IfSome, IsTrue, Some, flat_map, map, length, position};
 ghost use Rattle.ags_rows.specs.Contents.{field_at, place_in};
 ghost use Rattle.ags_rows.specs.Parts.{parts_at};
 ghost use Rattle.ags_links.specs.KeyTexts.{byte_text, ended_text, key_text};
@@ -27,12 +27,31 @@ fn push_marked(out: &mut Vec<u8>, byte: u8) -> Result<(), AllocError>
     Ok(())
 }
 
+/// Whether no byte of the text is a mark.
+fn is_plain(text: &[u8]) -> bool
+    ensures { IsTrue result → All (λ byte. ESCAPE_MARK < byte) text.now }
+{
+    text.iter().all(|byte| *byte > ESCAPE_MARK)
+}
+
+/// Adds the bytes of a text, each mark behind an escape mark.
+fn push_bytes(out: &mut Vec<u8>, text: &[u8]) -> Result<(), AllocError>
+    ensures { OnOk result (out.new.items ≡ out.old.items ++ flat_map byte_text text.now) }
+{
+    for byte in text {
+        push_marked(out, *byte)?;
+    }
+    Ok(())
+}
+
 /// Adds one text and its end.
 fn push_text(out: &mut Vec<u8>, text: &[u8]) -> Result<(), AllocError>
     ensures { OnOk result (out.new.items ≡ out.old.items ++ ended_text text.now) }
 {
-    for byte in text {
-        push_marked(out, *byte)?;
+    if is_plain(text) {
+        out.extend_from_slice(text)?;
+    } else {
+        push_bytes(out, text)?;
     }
     out.push(END_MARK)?;
     Ok(())

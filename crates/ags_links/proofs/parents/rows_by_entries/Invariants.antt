@@ -6,4 +6,4 @@ use Rattle.ags_links.specs.ParentRows.{link_names}
 use Rattle.ags_links.proofs.parents.rows_by_entries.Given as goal
 
 abbrev pub invariant-loop-number : goal.invariant-loop-number
-invariant-loop-number l = Finds l.lookup (HasAmong (take l.number-index l.links.rows.now) (map row_of l.rows) (HasEntries (link_names l.links)))
+invariant-loop-number l = Finds l.pairs.items (HasAmong (take l.number-index l.links.rows.now) (map row_of l.rows) (HasEntries (link_names l.links)))
