@@ -208,11 +208,11 @@ deposit_added keep rules caller project embargo bytes day old mid new n fine rea
       failure = no_failure (keep.has_failed new) false appends.failing refl;
       cause = λ s. sym appends.failing;
       answered = λ s.
-          ∣ told_answer register state request (Receipt n embargo) refl
+          ∣ (told_answer register state request (Receipt n embargo) refl).0
           (fine_reply register state caller project embargo bytes day (Receipt n embargo) fine
           (ap (λ (k : ℕ). Receipt k embargo) (count s) ∙ receipt_new register embargo (length state) (first_equal 1 caller.firm project bytes state) (none s) (has_room s))) ∣₁;
       kept = λ s.
-          told_after register state (keep.deposits new) request (Receipt n embargo) refl
+          (told_after register state (keep.deposits new) request (Receipt n embargo) refl).0
           (inl (record { number = fine.number; permitted = fine.permitted; small = fine.small; clean = fine.clean; unheld = none s; room = has_room s }, new_list s));
       denied = λ m. owed_never register state request (Denied m) (Receipt n embargo) (λ h. asks (Denied m) h tt);
       too_large = owed_never register state request TooLarge (Receipt n embargo) (λ h. asks TooLarge h tt);
@@ -240,10 +240,10 @@ deposit_unadded keep rules caller project embargo bytes day old mid new errors.F
       failure = no_failure (keep.has_failed new) false appends.failing refl;
       cause = λ s. sym appends.failing;
       answered = λ s.
-          ∣ told_answer register state request Full refl
+          ∣ (told_answer register state request Full refl).0
           (fine_reply register state caller project embargo bytes day Full fine (receipt_full register embargo (length state) (first_equal 1 caller.firm project bytes state) (none s) (no_room s))) ∣₁;
       kept = λ s.
-          told_after register state (keep.deposits new) request Full refl
+          (told_after register state (keep.deposits new) request Full refl).0
           (inr ((λ taken. omega (arith, taken.room, no_room s)), appends.refused s refl ∙ reads.same (appends.sound s) refl));
       denied = λ m. owed_never register state request (Denied m) Full (λ h. asks (Denied m) h tt);
       too_large = owed_never register state request TooLarge Full (λ h. asks TooLarge h tt);

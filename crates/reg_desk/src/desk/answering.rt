@@ -1,6 +1,7 @@
 //! One request, and a list of them.
 
-ghost use Rattle.std.specs.Prelude.{◌≡◌, ◌||◌, List, true, false, length, map, IfOk, OnErr};
+ghost use Rattle.std.specs.Prelude.{◌≡◌, ◌<◌, ◌≤◌, ◌+◌, ◌||◌, ◌++◌, ◌∷◌, [], List, true, false, length, map, vec_len, IfOk, OnErr};
+ghost use Rattle.std.specs.Vec.{vec_capacity};
 ghost use Rattle.std.specs.List.{AllZip, list_any};
 ghost use Rattle.reg_store.specs.Deposit.{Deposit};
 ghost use Rattle.reg_desk.specs.Asked.{asked};
@@ -50,12 +51,22 @@ impl<K: Keep> Desk<K> {
         let mut answers = Vec::with_capacity(alloc, requests.len())?;
         for request in requests {
             let answer = self.answer(alloc, request);
-            match answers.push(answer) {
-                Ok(()) => {}
-                Err(_) => unreachable!(),
-            }
+            push_answer(&mut answers, answer);
         }
         Ok(answers)
+    }
+}
+
+/// Appends the answer, for which there is room.
+fn push_answer(answers: &mut Vec<Answer>, answer: Answer)
+    requires { vec_len answers.old < vec_capacity answers.old }
+    ensures answers { answers.new.items ≡ answers.old.items ++ answer ∷ [] }
+    ensures len { vec_len answers.new ≡ vec_len answers.old + 1 }
+    ensures room { vec_capacity answers.old ≤ vec_capacity answers.new }
+{
+    match answers.push(answer) {
+        Ok(()) => {}
+        Err(_) => unreachable!(),
     }
 }
 

@@ -34,12 +34,12 @@ loop-request-preserved g c =
     ap (λ (k : ℕ). map asked (take k requests)) next ∙ asked_more requests i c.request-item.result c.loop-request-test.true
     ∙ ap (λ (r : Request). map asked (take i requests) ++ asked r ∷ []) (sym c.request-item.is) in
     record {
-      count = omega (arith, c.in-Ok.ensures.len, was.count);
-      room = omega (arith, c.in-Ok.ensures.capacity, was.room);
+      count = omega (arith, c.push_answer.ensures.len, was.count);
+      room = omega (arith, c.push_answer.ensures.room, was.room);
       policy = by.policy ∙ was.policy;
       going =
-          subst (λ (l : List Asked). Going g.K.Keep desk.policy desk.keep new.keep desk.failed new.failed l c.push.new.self.items) (sym more)
-          (subst (Going g.K.Keep desk.policy desk.keep new.keep desk.failed new.failed (map asked (take i requests) ++ asked c.request-item.result ∷ [])) (sym c.in-Ok.ensures.items)
+          subst (λ (l : List Asked). Going g.K.Keep desk.policy desk.keep new.keep desk.failed new.failed l c.push_answer.new.answers.items) (sym more)
+          (subst (Going g.K.Keep desk.policy desk.keep new.keep desk.failed new.failed (map asked (take i requests) ++ asked c.request-item.result ∷ [])) (sym c.push_answer.ensures.answers)
           (run_more g.K.Keep desk.policy desk.keep mid.keep new.keep desk.failed mid.failed new.failed (map asked (take i requests)) c.loop-request.answers.items (asked c.request-item.result) c.answer-answer.result
           g.met.K.Keep.settled mid.sticky was.going by.failed by.stuck
           (λ e. subst (λ (rules : List Rule). Serves g.K.Keep rules (asked c.request-item.result) mid.keep new.keep c.answer-answer.result) was.policy (by.served e))));
