@@ -1,14 +1,14 @@
 -- Pairs of a text and a row in the order of their texts: what one more pair adds, what a sort leaves, and where the pairs of a text stand.
-use Rattle.std.proofs.Common.{◌≡◌, ℕ, suc, zero, ◌+◌, ◌-◌, ◌<◌, ◌≤◌, Bool, true, false, not, ◌&&◌, cond, List, [], ◌∷◌, ◌++◌, length, map, take, drop, get_or, refl, sym, ap, ◌∙◌, arith}
+use Rattle.std.proofs.Common.{◌≡◌, ℕ, suc, zero, ◌+◌, ◌-◌, ◌<◌, ◌≤◌, Bool, true, false, not, ◌&&◌, cond, List, [], ◌∷◌, ◌++◌, length, map, take, drop, get_or, refl, sym, ap, ◌∙◌, arith, Vec, inl, inr, ◌⊎◌}
+use Rattle.std.specs.declared.alloc.Global.{Global}
 use Rattle.std.specs.declared.cmp.Ordering.{Ordering}
 use Rattle.std.specs.declared.cmp.Ordering.TheVariants.{Less, Equal, Greater}
-use Rattle.std.specs.Ordering.{is_lt, is_le, is_eq, nat_cmp, on, ordering_reverse}
+use Rattle.std.specs.Ordering.{is_lt, is_le, is_eq, nat_cmp, ordering_reverse}
 use Rattle.std.specs.Cmp.Lexicographic.{slice_cmp}
 use Rattle.std.specs.List.{filter, AllWithin}
 use Rattle.std.specs.List.Sorted.{IsSortedBy, IsStableBy, IsPartitionedBy, IsPartitionPoint, ties}
 use Rattle.std.specs.Str.{bytes_eq}
 use Rattle.std.proofs.lemmas.Bool.{true≢false}
-use Rattle.std.specs.Cmp.{IsTotalOrder, nat_cmp_total, on_total, then_total, tied_then, tied_itself}
 use Rattle.std.proofs.lemmas.Cmp.{nat_list_cmp_total}
 use Rattle.std.proofs.lemmas.List.{map-append, get_or-drop, length-drop}
 use Rattle.std.proofs.lemmas.List.Elements.{filter-append}
@@ -16,42 +16,22 @@ use Rattle.std.proofs.lemmas.List.Sorted.{sorted_far, ranks_by}
 use Rattle.std.proofs.lemmas.Map.Text.{is_eq-slice_cmp}
 use Rattle.std.proofs.lemmas.Slice.Eq.{bytes_eq-Decides}
 use Rattle.std.proofs.Math.Seq.{drop-nil, take-nil}
-use Rattle.ags_links.specs.Lookups.{Lookup, found}
-use Rattle.ags_links.specs.TextMarks.{text_mark, text_order}
+use Rattle.ags_links.specs.Lookups.{Lookup, found, pairs_of}
 
 abbrev pub Pair : Type 0
-Pair = List ℕ × ℕ
+Pair = Vec ℕ Global × ℕ
+
+abbrev pub key : Pair → List ℕ
+key p = p.0.items
+
+abbrev pub order : List ℕ → List ℕ → Ordering
+order a b = slice_cmp nat_cmp a b
 
 abbrev pub below : Pair → Pair → Bool
-below p q = is_lt (text_order p.0 q.0)
+below p q = is_lt (order (key p) (key q))
 
 abbrev pub has : List ℕ → Pair → Bool
-has text p = bytes_eq p.0 text
-
--- ---- the order of texts
-
-by_marks : IsTotalOrder (on text_mark nat_cmp)
-by_marks = on_total text_mark nat_cmp_total
-
-pub order_total : IsTotalOrder text_order
-order_total = then_total by_marks nat_list_cmp_total
-
-same_marks : (b : Bool) (a c : List ℕ) → is_eq (slice_cmp nat_cmp a c) ≡ b → is_eq (nat_cmp (text_mark a) (text_mark c)) && b ≡ b
-same_marks true a c e =
-    let same = (bytes_eq-Decides a c).0 (sym (is_eq-slice_cmp a c) ∙ e) in
-    ap (λ (x : List ℕ). is_eq (nat_cmp (text_mark a) (text_mark x)) && true) (sym same) ∙ ap (λ o. is_eq o && true) (tied_itself nat_cmp_total (text_mark a))
-same_marks false a c e = no (is_eq (nat_cmp (text_mark a) (text_mark c))) where
-  no : (s : Bool) → s && false ≡ false
-  no true = refl
-  no false = refl
-
--- equal in that order are equal texts alone
-pub order_eq : (a c : List ℕ) → is_eq (text_order a c) ≡ bytes_eq a c
-order_eq a c =
-    sym (tied_then (nat_cmp (text_mark a) (text_mark c)) (slice_cmp nat_cmp a c))
-    ∙ ap (λ s. is_eq (nat_cmp (text_mark a) (text_mark c)) && s) refl
-    ∙ same_marks (is_eq (slice_cmp nat_cmp a c)) a c refl
-    ∙ is_eq-slice_cmp a c
+has text p = bytes_eq (key p) text
 
 -- ---- one more pair
 
@@ -59,11 +39,24 @@ one_found : (b : Bool) (text : List ℕ) (n : ℕ) → map (λ (p : List ℕ × 
 one_found true text n = refl
 one_found false text n = refl
 
-pub pushed : (pairs : Lookup) (text : List ℕ) (n : ℕ) (q : List ℕ) → found (pairs ++ (text, n) ∷ []) q ≡ found pairs q ++ cond (bytes_eq text q) (n ∷ []) []
+pub pushed : (pairs : List Pair) (text : Vec ℕ Global) (n : ℕ) (q : List ℕ) → found (pairs_of (pairs ++ (text, n) ∷ [])) q ≡ found (pairs_of pairs) q ++ cond (bytes_eq text.items q) (n ∷ []) []
 pushed pairs text n q =
-    ap (map (λ (p : Pair). p.1)) (filter-append (has q) pairs ((text, n) ∷ []))
-    ∙ map-append (λ (p : Pair). p.1) (filter (has q) pairs) (filter (has q) ((text, n) ∷ []))
-    ∙ ap (λ l. found pairs q ++ l) (one_found (bytes_eq text q) text n)
+    let test : List ℕ × ℕ → Bool = λ p. bytes_eq p.0 q in
+    ap (λ ps. found ps q) (map-append (λ (p : Pair). (key p, p.1)) pairs ((text, n) ∷ []))
+    ∙ ap (map (λ (p : List ℕ × ℕ). p.1)) (filter-append test (pairs_of pairs) ((text.items, n) ∷ []))
+    ∙ map-append (λ (p : List ℕ × ℕ). p.1) (filter test (pairs_of pairs)) (filter test ((text.items, n) ∷ []))
+    ∙ ap (λ l. found (pairs_of pairs) q ++ l) (one_found (bytes_eq text.items q) text.items n)
+
+-- ---- what is found, by the pairs themselves
+
+kept : (b : Bool) (p : Pair) (xs : Lookup) (ys : List Pair) → map (λ (x : List ℕ × ℕ). x.1) xs ≡ map (λ (y : Pair). y.1) ys
+    → map (λ (x : List ℕ × ℕ). x.1) (cond b ((key p, p.1) ∷ xs) xs) ≡ map (λ (y : Pair). y.1) (cond b (p ∷ ys) ys)
+kept true p xs ys e = ap (λ l. p.1 ∷ l) e
+kept false p xs ys e = e
+
+pub found_is : (pairs : List Pair) (text : List ℕ) → found (pairs_of pairs) text ≡ map (λ (p : Pair). p.1) (filter (has text) pairs)
+found_is [] text = refl
+found_is (p ∷ ps) text = kept (has text p) p (filter (λ (x : List ℕ × ℕ). bytes_eq x.0 text) (pairs_of ps)) (filter (has text) ps) (found_is ps text)
 
 -- ---- a stable sort by text
 
@@ -72,13 +65,34 @@ tie_of Less = refl
 tie_of Equal = refl
 tie_of Greater = refl
 
-tied : (y z : Pair) → ties below y z ≡ has y.0 z
-tied y z = ap (λ o. not (is_lt o) && not (is_lt (text_order z.0 y.0))) (order_total.antisymm y.0 z.0) ∙ tie_of (text_order z.0 y.0) ∙ order_eq z.0 y.0
+tied : (y z : Pair) → ties below y z ≡ has (key y) z
+tied y z = ap (λ o. not (is_lt o) && not (is_lt (order (key z) (key y)))) (nat_list_cmp_total.antisymm (key y) (key z)) ∙ tie_of (order (key z) (key y)) ∙ is_eq-slice_cmp (key z) (key y)
 
-pub sorted_keeps : (xs ys : Lookup) (text : List ℕ) → IsStableBy below xs ys → found ys text ≡ found xs text
-sorted_keeps xs ys text stable =
-    let same : ties below (text, 0) ≡ has text = λ i z. tied (text, 0) z i in
-    ap (map (λ (p : Pair). p.1)) (ap (λ t. filter t ys) (sym same) ∙ stable (text, 0) ∙ ap (λ t. filter t xs) same)
+-- some pair has the text, or none
+first_has : (text : List ℕ) (x : Pair) (xs : List Pair) (b : Bool) → has text x ≡ b → ((y : Pair) × (has text y ≡ true)) ⊎ (filter (has text) xs ≡ [])
+    → ((y : Pair) × (has text y ≡ true)) ⊎ (filter (has text) (x ∷ xs) ≡ [])
+first_has text x xs true e later = inl (x, e)
+first_has text x xs false e later = elim later [
+  | inl y ↦ inl y
+  | inr none ↦ inr (ap (λ b. cond b (x ∷ filter (has text) xs) (filter (has text) xs)) e ∙ none)
+]
+
+some_has : (text : List ℕ) (xs : List Pair) → ((y : Pair) × (has text y ≡ true)) ⊎ (filter (has text) xs ≡ [])
+some_has text [] = inr refl
+some_has text (x ∷ xs) = first_has text x xs (has text x) refl (some_has text xs)
+
+pub sorted_keeps : (xs ys : List Pair) (text : List ℕ) → IsStableBy below xs ys → found (pairs_of ys) text ≡ found (pairs_of xs) text
+sorted_keeps xs ys text stable = found_is ys text ∙ ap (map (λ (p : Pair). p.1)) same ∙ sym (found_is xs text) where
+  by : ((y : Pair) × (has text y ≡ true)) → filter (has text) ys ≡ filter (has text) xs
+  by y =
+      let alike : ties below y.0 ≡ has text = (λ i z. tied y.0 z i) ∙ ap has ((bytes_eq-Decides (key y.0) text).0 y.1) in
+      ap (λ t. filter t ys) (sym alike) ∙ stable y.0 ∙ ap (λ t. filter t xs) alike
+
+  same : filter (has text) ys ≡ filter (has text) xs
+  same = elim (some_has text ys) [
+    | inl y ↦ by y
+    | inr none ↦ elim (some_has text xs) [ inl y ↦ by y | inr also ↦ none ∙ sym also ]
+  ]
 
 -- ---- where the pairs of a text stand
 
@@ -111,29 +125,29 @@ not_true true h = sym h
 not_true false h = refl
 
 abbrev pub before : List ℕ → Pair → Bool
-before text p = is_lt (text_order p.0 text)
+before text p = is_lt (order (key p) text)
 
 abbrev pub upto : List ℕ → Pair → Bool
-upto text p = is_le (text_order p.0 text)
+upto text p = is_le (order (key p) text)
 
 module _ (pairs : List Pair) (text : List ℕ) (sorted : IsSortedBy below pairs) where
-  up : (i j : ℕ) (d : Pair) → i ≤ j → j < length pairs → is_lt (text_order (get_or pairs j d).0 (get_or pairs i d).0) ≡ false
-  up = sorted_far below (ranks_by order_total (λ (p : Pair). p.0)) pairs sorted
+  up : (i j : ℕ) (d : Pair) → i ≤ j → j < length pairs → is_lt (order (key (get_or pairs j d)) (key (get_or pairs i d))) ≡ false
+  up = sorted_far below (ranks_by nat_list_cmp_total key) pairs sorted
 
-  chain : (a b c : List ℕ) → is_lt (text_order a b) ≡ false → is_lt (text_order b c) ≡ false → is_lt (text_order a c) ≡ false
-  chain = (ranks_by order_total (λ a. a)).chain
+  chain : (a b c : List ℕ) → is_lt (order a b) ≡ false → is_lt (order b c) ≡ false → is_lt (order a c) ≡ false
+  chain = (ranks_by nat_list_cmp_total (λ a. a)).chain
 
   pub parted_before : IsPartitionedBy (before text) pairs
-  parted_before i j d le lt h = by_bool (before text (get_or pairs i d)) (λ f. true≢false (sym h ∙ chain (get_or pairs j d).0 (get_or pairs i d).0 text (up i j d le lt) f))
+  parted_before i j d le lt h = by_bool (before text (get_or pairs i d)) (λ f. true≢false (sym h ∙ chain (key (get_or pairs j d)) (key (get_or pairs i d)) text (up i j d le lt) f))
 
-  upto_is : (a : List ℕ) → is_le (text_order a text) ≡ not (is_lt (text_order text a))
-  upto_is a = ap is_le (order_total.antisymm a text) ∙ le_is (text_order text a)
+  upto_is : (a : List ℕ) → is_le (order a text) ≡ not (is_lt (order text a))
+  upto_is a = ap is_le (nat_list_cmp_total.antisymm a text) ∙ le_is (order text a)
 
   parted_upto : IsPartitionedBy (upto text) pairs
   parted_upto i j d le lt h =
-      let a = (get_or pairs i d).0 in
-      let b = (get_or pairs j d).0 in
-      upto_is a ∙ ap not (chain text b a (not_true (is_lt (text_order text b)) (sym (upto_is b) ∙ h)) (up i j d le lt))
+      let a = key (get_or pairs i d) in
+      let b = key (get_or pairs j d) in
+      upto_is a ∙ ap not (chain text b a (not_true (is_lt (order text b)) (sym (upto_is b) ∙ h)) (up i j d le lt))
 
   pub rest_parted : (first : ℕ) → IsPartitionedBy (upto text) (drop first pairs)
   rest_parted first i j d le lt h =
@@ -153,8 +167,8 @@ cut t (x ∷ xs) zero zero low mid high =
     ap (λ b. cond b (x ∷ filter t xs) (filter t xs)) (high 0 x (omega arith) (omega arith))
     ∙ cut t xs 0 0 (λ k d a b. absurd (omega (arith, b))) (λ k d a b. absurd (omega (arith, b))) (λ k d a b. high (suc k) d (omega arith) (omega (arith, b)))
 
-eq_at : (a b : List ℕ) (o : Bool) → is_eq (text_order a b) ≡ o → bytes_eq a b ≡ o
-eq_at a b o e = sym (order_eq a b) ∙ e
+eq_at : (a b : List ℕ) (o : Bool) → is_eq (order a b) ≡ o → bytes_eq a b ≡ o
+eq_at a b o e = sym (is_eq-slice_cmp a b) ∙ e
 
 -- the pairs of a text stand between those before it and those behind it
 pub stand_between : (pairs : List Pair) (text : List ℕ) (first count : ℕ) → first ≤ length pairs → IsPartitionPoint (λ y. before text y ≡ true) (λ y. before text y ≡ false) pairs first
@@ -163,11 +177,11 @@ pub stand_between : (pairs : List Pair) (text : List ℕ) (first count : ℕ) �
 stand_between pairs text first count within low few high =
     let len = length-drop first pairs in
     cut (has text) pairs first count
-    (λ k d a b. eq_at (get_or pairs k d).0 text false (not_lt (text_order (get_or pairs k d).0 text) (low.0 k d a b)))
+    (λ k d a b. eq_at (key (get_or pairs k d)) text false (not_lt (order (key (get_or pairs k d)) text) (low.0 k d a b)))
     (λ k d a b.
-    let o = text_order (get_or pairs k d).0 text in
-    eq_at (get_or pairs k d).0 text true (is_between o (low.1 k d a (omega (arith, b, few, len, within))) (here k d a ∙ high.0 (k - first) d (omega arith) (omega (arith, a, b)))))
-    (λ k d a b. eq_at (get_or pairs k d).0 text false (not_le (text_order (get_or pairs k d).0 text) (here k d (omega (arith, a)) ∙ high.1 (k - first) d (omega (arith, a)) (omega (arith, a, b, len)))))
+      let o = order (key (get_or pairs k d)) text in
+      eq_at (key (get_or pairs k d)) text true (is_between o (low.1 k d a (omega (arith, b, few, len, within))) (here k d a ∙ high.0 (k - first) d (omega arith) (omega (arith, a, b)))))
+    (λ k d a b. eq_at (key (get_or pairs k d)) text false (not_le (order (key (get_or pairs k d)) text) (here k d (omega (arith, a)) ∙ high.1 (k - first) d (omega (arith, a)) (omega (arith, a, b, len)))))
   where
     back : (k : ℕ) → first ≤ k → first + (k - first) ≡ k
     back k a = omega (arith, a)

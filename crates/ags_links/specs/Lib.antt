@@ -7,7 +7,6 @@ pub mod Walks
 pub mod Turns
 pub mod Work
 pub mod KeyTexts
-pub mod TextMarks
 pub mod Lookups
 pub mod Placing
 pub mod Families

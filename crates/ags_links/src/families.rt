@@ -7,7 +7,6 @@ ghost use Rattle.ags_links.specs.Families.{HasText, HasGroupName, HasKeyText, Ha
 ghost use Rattle.ags_links.specs.Placing.{IsPlaced, row_of};
 
 use crate::lookup::{Lookup, rows_by_text};
-use crate::marked::Marked;
 use crate::placed::{PlacedRow, field};
 use crate::texts::group_text;
 use ags_dict::Dictionary;
@@ -104,7 +103,7 @@ pub(crate) fn rows_by_group(alloc: Global, rows: &[PlacedRow<'_, '_>]) -> Result
     for (number, row) in rows.iter().enumerate() {
         let group = row.group;
         let name = Vec::from_slice(alloc, group.name.as_slice())?;
-        pairs.push((Marked::of(name), number as u32))?;
+        pairs.push((name, number as u32))?;
     }
     rows_by_text(alloc, pairs)
 }
@@ -123,7 +122,7 @@ pub(crate) fn rows_by_key(
     let mut pairs = Vec::new(alloc);
     for (number, row) in rows.iter().enumerate() {
         let text = group_text(alloc, row, &families[row.place].keys)?;
-        pairs.push((Marked::of(text), number as u32))?;
+        pairs.push((text, number as u32))?;
     }
     rows_by_text(alloc, pairs)
 }
@@ -145,7 +144,7 @@ pub(crate) fn rows_by_file_set(
         if group.name.as_slice() == b"FILE".as_slice() {
             let file_set = field(row, families[row.place].file_set);
             let text = Vec::from_slice(alloc, file_set)?;
-            pairs.push((Marked::of(text), number as u32))?;
+            pairs.push((text, number as u32))?;
         }
     }
     rows_by_text(alloc, pairs)

@@ -9,7 +9,6 @@ mod graph;
 mod index;
 pub mod laws;
 mod lookup;
-mod marked;
 mod parents;
 mod placed;
 mod separators;

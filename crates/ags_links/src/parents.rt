@@ -10,7 +10,6 @@ ghost use Rattle.ags_links.specs.Placing.{row_of};
 
 use crate::families::{Family, family_at, places_of};
 use crate::lookup::{Lookup, rows_by_text, rows_with};
-use crate::marked::Marked;
 use crate::placed::PlacedRow;
 use crate::texts::{entries_text, is_first, names_text};
 use ags_dict::Dictionary;
@@ -181,7 +180,7 @@ fn rows_by_entries(
         let row = &rows[*number as usize];
         let places = places_of(alloc, &families[row.place].headings, &links.headings)?;
         let text = entries_text(alloc, row, &places)?;
-        pairs.push((Marked::of(text), *number))?;
+        pairs.push((text, *number))?;
     }
     rows_by_text(alloc, pairs)
 }

@@ -2,8 +2,8 @@ use Rattle.std.proofs.Common.{◌≡◌, ◌+◌, ◌-◌, ◌≤◌, true, fals
 use Rattle.std.proofs.lemmas.List.{take-map, drop-map, take_rest}
 use Rattle.std.proofs.lemmas.List.Sorted.{IsPartitionPoint-from_clause}
 use Rattle.std.specs.List.Sorted.{IsSortedBy, IsPartitionedBy, IsPartitionPoint}
-use Rattle.ags_links.specs.Lookups.{found}
-use Rattle.ags_links.proofs.ByText.{Pair, below, before, upto, parted_before, rest_parted, stand_between}
+use Rattle.ags_links.specs.Lookups.{found, pairs_of}
+use Rattle.ags_links.proofs.ByText.{Pair, below, before, upto, parted_before, rest_parted, stand_between, found_is}
 use Rattle.ags_links.proofs.lookup.rows_with.Goals as goal
 
 pub returns : goal.returns
@@ -26,4 +26,5 @@ returns c =
     ∙ ap (take count) (drop-map row first pairs)
     ∙ take-map row count (drop first pairs)
     ∙ ap (map row) (sym stand)
-    ∙ ap (λ ps. found ps text) (c.as_slice-pairs.ensures.value ∙ c.lookup.view_is)
+    ∙ sym (found_is pairs text)
+    ∙ ap (λ ps. found ps text) (ap pairs_of c.as_slice-pairs.ensures.value ∙ c.lookup.view_is)

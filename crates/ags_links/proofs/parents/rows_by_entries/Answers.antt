@@ -6,7 +6,7 @@ use Rattle.ags_links.specs.Families.{HasAmong, HasEntries}
 use Rattle.ags_links.specs.KeyTexts.{key_text}
 use Rattle.ags_links.specs.ParentRows.{link_names}
 use Rattle.ags_links.specs.Placing.{row_of}
-use Rattle.ags_links.specs.Lookups.{Lookup, found}
+use Rattle.ags_links.specs.Lookups.{found, pairs_of}
 use Rattle.ags_links.proofs.ByText.{pushed}
 use Rattle.ags_links.proofs.Finding.{finds_no_number, finds_number, finds_numbers, finds_ok}
 use Rattle.ags_links.proofs.Heading.{entries_at, places_named}
@@ -15,7 +15,7 @@ use Rattle.ags_links.proofs.RowLemmas.{at_map}
 use Rattle.ags_links.proofs.parents.rows_by_entries.Goals as goal
 
 pub loop-number-init : goal.loop-number-init
-loop-number-init c = finds_no_number c.new-pairs.result.items (HasEntries (link_names c.args.links.now)) (map row_of c.args.rows.now) (λ q. ap (λ (ps : Lookup). found ps q) c.new-pairs.ensures.items)
+loop-number-init c = finds_no_number (pairs_of c.new-pairs.result.items) (HasEntries (link_names c.args.links.now)) (map row_of c.args.rows.now) (λ q. ap (λ ps. found (pairs_of ps) q) c.new-pairs.ensures.items)
 
 pub bounds-families-row : goal.bounds-families-row
 bounds-families-row c =
@@ -31,12 +31,12 @@ loop-number-preserved c =
     let stands : IsAt c.args.rows.now (get_or numbers c.loop-number.number-index 0) row = (c.requires.numbers.0 c.loop-number.number-index 0 c.loop-number-test.true, sym c.index-rows-number.is) in
     let kept = kept_family c.args.dictionary.now c.args.families.now c.args.rows.now (get_or numbers c.loop-number.number-index 0) row c.index-families-row.result c.requires.kept stands (sym c.index-families-row.is) in
     let stood = (get_or c.args.families.now row.place c.index-families-row.result).headings in
-    let text : c.of.result ≡ key_text (map (entry_of of_row) names) =
-    c.of.ensures ∙ c.in_ok-text.ensures
+    let text : c.in_ok-text.text.items ≡ key_text (map (entry_of of_row) names) =
+    c.in_ok-text.ensures
     ∙ ap (λ ps. key_text (map (field_at of_row.fields) ps)) (c.deref-in-loop-number.ensures.value ∙ c.in_ok-places.ensures ∙ places_named stood c.deref.result.now ∙ ap (λ hs. map (place_in stood) (texts hs)) c.deref.ensures.value ∙ ap (λ hs. map (place_in hs) names) (ap (λ (f : Family). f.headings) (sym c.index-families-row.is) ∙ kept.headings))
     ∙ ap key_text (entries_at of_row names) in
-    finds_number c.loop-number.pairs.items c.push.new.self.items (HasEntries names) (map row_of c.args.rows.now) numbers c.loop-number.number-index of_row c.of.result
-    c.loop-number-test.true c.requires.numbers.1 c.loop-number.invariant (λ q. ap (λ (ps : Lookup). found ps q) c.in_ok-push.ensures.items ∙ pushed c.loop-number.pairs.items c.of.result (get_or numbers c.loop-number.number-index 0) q)
+    finds_number (pairs_of c.loop-number.pairs.items) (pairs_of c.push.new.self.items) (HasEntries names) (map row_of c.args.rows.now) numbers c.loop-number.number-index of_row c.in_ok-text.text.items
+    c.loop-number-test.true c.requires.numbers.1 c.loop-number.invariant (λ q. ap (λ ps. found (pairs_of ps) q) c.in_ok-push.ensures.items ∙ pushed c.loop-number.pairs.items c.in_ok-text.text (get_or numbers c.loop-number.number-index 0) q)
     (at_map row_of c.args.rows.now (get_or numbers c.loop-number.number-index 0) row stands)
     (sym text) (λ q h. text ∙ h)
 
@@ -45,5 +45,5 @@ returns c =
     let numbers = c.args.links.now.rows.now in
     let rows = map row_of c.args.rows.now in
     let Has = HasEntries (link_names c.args.links.now) in
-    finds_ok c.rows_by_text.result c.loop-number.pairs.items (HasAmong numbers rows Has) c.rows_by_text.ensures
-    (finds_numbers c.loop-number.pairs.items Has rows numbers c.loop-number.number-index c.loop-number-test.false c.loop-number.invariant)
+    finds_ok c.rows_by_text.result (pairs_of c.loop-number.pairs.items) (HasAmong numbers rows Has) c.rows_by_text.ensures
+    (finds_numbers (pairs_of c.loop-number.pairs.items) Has rows numbers c.loop-number.number-index c.loop-number-test.false c.loop-number.invariant)
