@@ -294,7 +294,7 @@ def peers(place, seconds):
     place.check(f"a peer that sends a byte each {seconds} s", (before, "200"), (stories.received(slow), server.line("200")))
     place.slow.append(f"a peer that sends a byte each {seconds} s: {time.monotonic() - begun:.2f} s")
     place.check("the peer that waited meanwhile", (before, "200"), (stories.received(waiting), server.line("200")))
-    broken = b"".join(b"x\n" for _ in range(LIMIT // 2))
+    broken = b"x\n" * 200000
     deaf = server.connect(4096)
     stories.sent(deaf, head(b"/v1/projects/N1/check", [b"Content-Length: %d" % len(broken)], b"POST") + broken, True)
     time.sleep(max(2, seconds))
