@@ -30,7 +30,9 @@ import reference  # noqa: E402
 DICTIONARY_LIMIT = 67108864
 LAST_NUMBER = 2932896
 NOT_ONE, FAILED = "not a register", "store failed"
-ASKING = ["--policy=policy", "--callers=callers", "--project=N1", "--day=2024-06-01"]
+DAY = "2024-06-01"
+ASKING = ["--policy=policy", "--callers=callers", "--project=N1", "--day=" + DAY]
+REQUESTS = [f"GET /v1/projects/N1/deposits/{n} HTTP/1.1\r\nAuthorization: Bearer {token}\r\n\r\n".encode() for n in (1, 2, 3, 4) for token in ("t-echo", "t-delta")]
 COLUMNS = {"meta": [("name", "text"), ("num", "integer"), ("body", "blob")],
            "deposits": [("number", "integer"), ("firm", "text"), ("project", "text"), ("embargo", "integer"), ("body", "blob")],
            "lines": [("deposit", "integer"), ("seq", "integer"), ("grp", "text"), ("kind", "integer"), ("line", "blob")],
@@ -56,10 +58,18 @@ def rows_of(connection, table):
 
 
 class Lists:
-    """The lines and the steps of bodies, each worked out once."""
+    """The entries of dictionaries, and the lines and the steps of bodies, each worked out once."""
 
     def __init__(self):
-        self.found = {}
+        self.found, self.read = {}, {}
+
+    def entries(self, text):
+        if text not in self.read:
+            try:
+                self.read[text] = machine.read_dictionary(text)
+            except machine.Refused:
+                self.read[text] = None
+        return self.read[text]
 
     def of(self, entries, data):
         key = (tuple(entries), data)
@@ -93,12 +103,11 @@ def held_by(tables, lists):
     if any(None in rows for rows in tables.values()) or set(meta) != {b"format", b"dictionary"} or len(tables["meta"]) != 2 or meta[b"format"] != (1, b"") or meta[b"dictionary"][0] != 0:
         return NOT_ONE
     text = meta[b"dictionary"][1]
-    try:
-        entries = machine.read_dictionary(text)
-    except machine.Refused:
+    entries = lists.entries(text) if len(text) <= DICTIONARY_LIMIT else None
+    if entries is None:
         return NOT_ONE
     deposits = sorted(tables["deposits"])
-    if len(text) > DICTIONARY_LIMIT or [row[0] for row in deposits] != list(range(1, len(deposits) + 1)) or len({(row[1], row[2], row[4]) for row in deposits}) != len(deposits):
+    if [row[0] for row in deposits] != list(range(1, len(deposits) + 1)) or len({(row[1], row[2], row[4]) for row in deposits}) != len(deposits):
         return NOT_ONE
     for number, firm, project, embargo, body in deposits:
         if not is_name(firm) or not is_name(project) or not 0 <= embargo <= LAST_NUMBER or len(body) > machine.LIMIT:
@@ -124,7 +133,7 @@ def tables_in(path, schema):
         connection.text_factory = bytes
         is_same = connection.execute("SELECT type, name, tbl_name, sql FROM sqlite_master ORDER BY rowid").fetchall() == schema
         return {table: rows_of(connection, table) for table in COLUMNS}, is_same
-    except (sqlite3.Error, OverflowError) as fault:
+    except (sqlite3.Error, OverflowError, UnicodeDecodeError) as fault:  # the last where an error's own text is no UTF-8
         raise Unreadable(str(fault)) from None
     finally:
         if connection:
@@ -151,7 +160,7 @@ class Place:
         for name in ("empty", "one", "three"):
             self.copy(name, "whole-" + name)
             self.written("whole-" + name, ["VACUUM"])
-        self.before = {name: self.asked(name)[0] for name in ("empty", "one", "three")}
+        self.before = {name: self.asked(name) for name in ("empty", "one", "three")}
 
     def path(self, name):
         return os.path.join(self.folder, name)
@@ -205,24 +214,31 @@ class Place:
         connection.close()
 
     def asked(self, name):
-        """What the program answers of a register: the listing, and the extracts where there is one; and the words asked."""
-        words = [["list", f"--store={name}", "--token=t-delta", *ASKING]]
-        answers = [self.run(words[0])]
-        if answers[0][2] == 0:
-            for number in (1, 2, 3, 4):
-                for token in ("t-echo", "t-delta"):
-                    words.append(["extract", f"--store={name}", f"--token={token}", *ASKING, str(number)])
-                    answers.append(self.run(words[-1]))
-        return answers, words
+        """What the program answers of a register: the listing by words, and where there is one the extracts over `serve`."""
+        answers = [self.run(["list", f"--store={name}", "--token=t-delta", *ASKING])]
+        return answers + self.served(name) if answers[0][2] == 0 else answers
 
-    def wanted(self, held, words):
-        """What the machine answers to the same words."""
-        entries, deposits = held
-        register = machine.Register(entries)
-        register.deposits = deposits
-        for word in words:
-            self.computer.files[word[1].partition("=")[2]] = register
-        return [self.computer.run(word, "") for word in words]
+    def served(self, name):
+        """The replies to the requests for extracts, and how `serve` ended."""
+        port = bodies.free_port()
+        words = ["serve", f"--store={name}", f"--port={port}", f"--connections={len(REQUESTS)}", *(word for word in ASKING if "project" not in word)]
+        process = subprocess.Popen([self.program, *words], cwd=self.folder, stdin=subprocess.DEVNULL, stdout=subprocess.PIPE, stderr=subprocess.PIPE)
+        try:
+            replies = [hostile.answered(random, port, data) for data in REQUESTS] if process.stdout.readline() else []
+            out, fault = process.communicate(timeout=hostile.PATIENCE)
+            return [*replies, (out, fault, process.returncode)]
+        finally:
+            process.kill()
+            process.wait()
+
+    def wanted(self, held):
+        """What the machine answers to the same."""
+        register = machine.Register(held[0])
+        register.deposits = held[1]
+        self.computer.files["held"] = register
+        rules, callers = machine.read_policy(machine.POLICY), machine.read_callers(machine.CALLERS)
+        replies = [machine.serve(register, rules, callers, DAY, data) for data in REQUESTS]
+        return [self.computer.run(["list", "--store=held", "--token=t-delta", *ASKING], ""), *(reply for _, reply in replies), ("".join(f"{status}\n" for status, _ in replies).encode(), b"", 0)]
 
     def wrong(self, name, template, is_by_rows):
         """What is wrong with the answers of a changed register, or None."""
@@ -233,8 +249,8 @@ class Place:
         except Unreadable as fault:
             held, is_same = None, False
             self.counts["sqlite3 reads nothing"] += 1
-        answers, words = self.asked(name)
-        if any(status < 0 or status in hostile.CRASHES for _, _, status in answers):
+        answers = self.asked(name)
+        if any(answer[2] < 0 or answer[2] in hostile.CRASHES for answer in answers if isinstance(answer, tuple)):
             return f"CRASH: {answers}"
         fault = re.fullmatch(rb"groundreg: (not a register|store failed|register version -?[0-9]+)\n", answers[0][1])
         if fault:
@@ -252,7 +268,7 @@ class Place:
             return None if answers == self.before[template] else f"opened with {answers}, and sqlite3 reads nothing"
         if isinstance(held, str):
             return f"opened with {answers}, where the definition has {held}"
-        want = self.wanted(held, words)
+        want = self.wanted(held)
         return None if answers == want else f"answers {answers}\n  wanted {want}"
 
 
@@ -408,14 +424,17 @@ def cases(place, seed, numbers):
             except sqlite3.Error as fault:
                 place.counts["not taken by sqlite3"] += 1
                 continue
+            place.counts["rows changed by hand"] += 1
             yield what, name, True
         for what, name in files_by_hand(place):
+            place.counts["files changed by hand"] += 1
             yield what, name, False
     for number in numbers:
         made = at_random(random.Random(f"{seed} {number}"), place)
         if made is None:
             place.counts["not taken by sqlite3"] += 1
         else:
+            place.counts["changed at random"] += 1
             yield f"{number} of seed {seed}: {made[0]}", made[1], made[2]
 
 
