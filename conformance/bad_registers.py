@@ -1,0 +1,465 @@
+#!/usr/bin/env python3
+"""Registers that other hands have changed: what the program answers when it opens them.
+
+usage: bad_registers.py PROGRAM [COUNT [SEED [FIRST]]]     the last line is 'N passed, M failed'
+
+The program makes registers. Copies of them are changed by hand in each way that the definition of a register names, and COUNT times at random: bytes of
+the file or of its log, a block, the length, a row, a cell. What the tables then hold is read by Python's sqlite3 and held against the definition, spelled
+out below (`held_by`), and the program has to answer:
+- where a row or a cell was changed: `not a register` or `register version N` as the definition has it, `store failed` in the place of `not a register`,
+  or the listing and the extracts that the machine of machine.py gives for the deposits that the tables hold;
+- where the tables themselves, or bytes, were changed: one of these three faults, or those listings and extracts; where sqlite3 cannot read the file, a
+  fault, or the listing and the extracts from before the change.
+No start may end by a signal, 101, 134 or 139, or not within a minute. `bad_registers.py PROGRAM 1 SEED 17` does random change 17 alone."""
+import collections
+import os
+import random
+import re
+import resource
+import shutil
+import sqlite3
+import subprocess
+import sys
+import tempfile
+sys.dont_write_bytecode = True
+import bodies  # noqa: E402
+import hostile  # noqa: E402
+import machine  # noqa: E402
+import reference  # noqa: E402
+
+DICTIONARY_LIMIT = 67108864
+LAST_NUMBER = 2932896
+NOT_ONE, FAILED = "not a register", "store failed"
+DAY = "2024-06-01"
+ASKING = ["--policy=policy", "--callers=callers", "--project=N1", "--day=" + DAY]
+REQUESTS = [f"GET /v1/projects/N1/deposits/{n} HTTP/1.1\r\nAuthorization: Bearer {token}\r\n\r\n".encode() for n in (1, 2, 3, 4) for token in ("t-echo", "t-delta")]
+COLUMNS = {"meta": [("name", "text"), ("num", "integer"), ("body", "blob")],
+           "deposits": [("number", "integer"), ("firm", "text"), ("project", "text"), ("embargo", "integer"), ("body", "blob")],
+           "lines": [("deposit", "integer"), ("seq", "integer"), ("grp", "text"), ("kind", "integer"), ("line", "blob")],
+           "steps": [("deposit", "integer"), ("child", "integer"), ("target", "integer")]}
+KINDS = [b"GROUP", b"HEADING", b"UNIT", b"TYPE", b"DATA"]
+NUMBERS = [-1, 0, 1, 2, 3, 4, 5, 7, 99, 999999, 1000000, 2932896, 2932897, 2**31, 2**32 + 1, 2**63 - 1, -2**63]
+TEXTS = ["", "N1", "N 1", "Delta", "Echo", "x" * 32, "x" * 33, "é", "a\x00b", "LOCA", "SAMP", "loca", "format", "dictionary"]
+
+
+class Unreadable(Exception):
+    """What sqlite3 cannot read as the tables of a register."""
+
+
+# ---- what the definition says of the tables
+
+def rows_of(connection, table):
+    """The rows of a table by their rowid; each value has its column's type."""
+    columns = COLUMNS[table]
+    kinds = ", ".join(f"typeof({name})" for name, _ in columns)
+    rows = connection.execute(f"SELECT {kinds}, {', '.join(name for name, _ in columns)} FROM {table} NOT INDEXED ORDER BY rowid").fetchall()
+    width = len(columns)
+    return [row[width:] if all(kind == want.encode() for kind, (_, want) in zip(row, columns)) else None for row in rows]
+
+
+class Lists:
+    """The entries of dictionaries, and the lines and the steps of bodies, each worked out once."""
+
+    def __init__(self):
+        self.found, self.read = {}, {}
+
+    def entries(self, text):
+        if text not in self.read:
+            try:
+                self.read[text] = machine.read_dictionary(text)
+            except machine.Refused:
+                self.read[text] = None
+        return self.read[text]
+
+    def of(self, entries, data):
+        key = (tuple(entries), data)
+        if key not in self.found:
+            self.found[key] = None if reference.findings(data, 5, entries) else self.listed(machine.File(data, entries))
+        return self.found[key]
+
+    def listed(self, file):
+        lines = [(g.name, KINDS.index(row.descriptor), machine.line_of(row.descriptor, row.items)[:-2])
+                 for g in file.groups for row in sorted([g.heading, g.unit, g.type, *g.data, Start(g)], key=lambda row: row.line)]
+        return [(seq, *line) for seq, line in enumerate(lines)], sorted((child, target) for child, targets in enumerate(file.steps) for target in targets)
+
+
+class Start:
+    """The GROUP row of a group."""
+
+    def __init__(self, group):
+        self.line, self.descriptor, self.items = group.line, b"GROUP", [group.name]
+
+
+def is_name(text):
+    return re.fullmatch(rb"[A-Za-z0-9_-]{1,32}", text) is not None
+
+
+def held_by(tables, lists):
+    """The fault of opening these rows, or the dictionary's entries with the list of deposits."""
+    for row in tables["meta"]:
+        if row and row[0] == b"format" and row[1] != 1:
+            return f"register version {row[1]}"
+    meta = {row[0]: row[1:] for row in tables["meta"] if row}
+    if any(None in rows for rows in tables.values()) or set(meta) != {b"format", b"dictionary"} or len(tables["meta"]) != 2 or meta[b"format"] != (1, b"") or meta[b"dictionary"][0] != 0:
+        return NOT_ONE
+    text = meta[b"dictionary"][1]
+    entries = lists.entries(text) if len(text) <= DICTIONARY_LIMIT else None
+    if entries is None:
+        return NOT_ONE
+    deposits = sorted(tables["deposits"])
+    if [row[0] for row in deposits] != list(range(1, len(deposits) + 1)) or len({(row[1], row[2], row[4]) for row in deposits}) != len(deposits):
+        return NOT_ONE
+    for number, firm, project, embargo, body in deposits:
+        if not is_name(firm) or not is_name(project) or not 0 <= embargo <= LAST_NUMBER or len(body) > machine.LIMIT:
+            return NOT_ONE
+        listed = lists.of(entries, body)
+        if listed is None or sorted(row[1:] for row in tables["lines"] if row[0] == number) != listed[0] or sorted(row[1:] for row in tables["steps"] if row[0] == number) != listed[1]:
+            return NOT_ONE
+    known = {row[0] for row in deposits}
+    if any(row[0] not in known for row in tables["lines"] + tables["steps"]):
+        return NOT_ONE
+    return entries, [{"firm": row[1].decode(), "project": row[2].decode(), "embargo": day_text(row[3]), "bytes": row[4]} for row in deposits]
+
+
+def day_text(number):
+    return str(machine.datetime.date(1970, 1, 1) + machine.datetime.timedelta(number))
+
+
+def tables_in(path, schema):
+    """The rows of the tables in a file, and whether the tables are defined as in a register. The file is opened, and so may be changed."""
+    connection = None
+    try:
+        connection = sqlite3.connect(path)
+        connection.text_factory = bytes
+        is_same = connection.execute("SELECT type, name, tbl_name, sql FROM sqlite_master ORDER BY rowid").fetchall() == schema
+        return {table: rows_of(connection, table) for table in COLUMNS}, is_same
+    except (sqlite3.Error, OverflowError, UnicodeDecodeError) as fault:  # the last where an error's own text is no UTF-8
+        raise Unreadable(str(fault)) from None
+    finally:
+        if connection:
+            connection.close()
+
+
+# ---- the program's answers
+
+class Place:
+    """A folder with registers that the program made, and the answers to what is asked of a copy."""
+
+    def __init__(self, program, folder):
+        self.program, self.folder, self.lists, self.counts = program, folder, Lists(), collections.Counter()
+        mini = machine.spelled_dictionary(reference.built_in())
+        files = {"mini": mini, "policy": machine.POLICY.encode(), "callers": machine.CALLERS.encode(), "a": machine.FILE_A, "b": machine.FILE_B, "c": machine.file_c(), "other": mini + b" \r\n"}
+        for name, data in files.items():
+            self.put(name, data)
+        self.computer = machine.Computer()
+        self.computer.files.update(files)
+        self.make("empty", "mini", [])
+        self.make("one", "other", [("t-delta", "a")])
+        self.make("three", "mini", [("t-delta", "b"), ("t-foxtrot", "c"), ("t-delta", "a")])
+        self.schema = self.schema_of("three")
+        for name in ("empty", "one", "three"):
+            self.copy(name, "whole-" + name)
+            self.written("whole-" + name, ["VACUUM"])
+        self.before = {name: self.asked(name) for name in ("empty", "one", "three")}
+
+    def path(self, name):
+        return os.path.join(self.folder, name)
+
+    def put(self, name, data):
+        with open(self.path(name), "wb") as file:
+            file.write(data)
+
+    def got(self, name):
+        with open(self.path(name), "rb") as file:
+            return file.read()
+
+    def run(self, words):
+        run = subprocess.run([self.program, *words], cwd=self.folder, stdin=subprocess.DEVNULL, capture_output=True, timeout=hostile.PATIENCE)
+        return run.stdout, run.stderr, run.returncode
+
+    def make(self, name, dictionary, deposits):
+        given = [(["init", f"--store={name}", f"--dictionary={dictionary}"], b"created\n")]
+        given += [(["deposit", f"--store={name}", f"--token={token}", "--embargo=2024-06-01", *ASKING, file], f"receipt {n} 2024-06-01\n".encode()) for n, (token, file) in enumerate(deposits, 1)]
+        for words, want in given:
+            if (got := self.run(words)) != (want, b"", 0):
+                sys.exit(f"{words}: {got}")
+
+    def copy(self, name, copy):
+        bodies.copy_register(self.folder, name, copy)
+
+    def schema_of(self, name):
+        self.copy(name, "read")
+        connection = sqlite3.connect(self.path("read"))
+        connection.text_factory = bytes
+        schema = connection.execute("SELECT type, name, tbl_name, sql FROM sqlite_master ORDER BY rowid").fetchall()
+        connection.close()
+        return schema
+
+    def written(self, name, statements, loosely=False):
+        """Writes into a register as another hand does; loosely, where a column may hold what its type forbids. Whether anything was changed."""
+        connection = sqlite3.connect(self.path(name), isolation_level=None)
+        connection.execute("PRAGMA foreign_keys = OFF")
+        if loosely:
+            connection.execute("PRAGMA writable_schema = ON")
+            kept = connection.execute("SELECT name, sql FROM sqlite_master WHERE type = 'table'").fetchall()
+            connection.execute("UPDATE sqlite_master SET sql = replace(replace(replace(sql, 'STRICT', ''), 'TEXT', 'ANY'), 'NOT NULL', '') WHERE type = 'table'")
+            connection.close()
+            connection = sqlite3.connect(self.path(name), isolation_level=None)
+        for statement, *values in [(item,) if isinstance(item, str) else item for item in statements]:
+            connection.execute(statement, values)
+        if loosely:
+            connection.execute("PRAGMA writable_schema = ON")
+            for table, text in kept:
+                connection.execute("UPDATE sqlite_master SET sql = ? WHERE name = ?", (text, table))
+        connection.close()
+
+    def asked(self, name):
+        """What the program answers of a register: the listing by words, and where there is one the extracts over `serve`."""
+        answers = [self.run(["list", f"--store={name}", "--token=t-delta", *ASKING])]
+        return answers + self.served(name) if answers[0][2] == 0 else answers
+
+    def served(self, name):
+        """The replies to the requests for extracts, and how `serve` ended."""
+        port = bodies.free_port()
+        words = ["serve", f"--store={name}", f"--port={port}", f"--connections={len(REQUESTS)}", *(word for word in ASKING if "project" not in word)]
+        process = subprocess.Popen([self.program, *words], cwd=self.folder, stdin=subprocess.DEVNULL, stdout=subprocess.PIPE, stderr=subprocess.PIPE)
+        try:
+            replies = [hostile.answered(random, port, data) for data in REQUESTS] if process.stdout.readline() else []
+            out, fault = process.communicate(timeout=hostile.PATIENCE)
+            return [*replies, (out, fault, process.returncode)]
+        finally:
+            process.kill()
+            process.wait()
+
+    def wanted(self, held):
+        """What the machine answers to the same."""
+        register = machine.Register(held[0])
+        register.deposits = held[1]
+        self.computer.files["held"] = register
+        rules, callers = machine.read_policy(machine.POLICY), machine.read_callers(machine.CALLERS)
+        replies = [machine.serve(register, rules, callers, DAY, data) for data in REQUESTS]
+        return [self.computer.run(["list", "--store=held", "--token=t-delta", *ASKING], ""), *(reply for _, reply in replies), ("".join(f"{status}\n" for status, _ in replies).encode(), b"", 0)]
+
+    def wrong(self, name, template, is_by_rows):
+        """What is wrong with the answers of a changed register, or None."""
+        self.copy(name, "read")
+        try:
+            tables, is_same = tables_in(self.path("read"), self.schema)
+            held = held_by(tables, self.lists)
+        except Unreadable as fault:
+            held, is_same = None, False
+            self.counts["sqlite3 reads nothing"] += 1
+        answers = self.asked(name)
+        if any(answer[2] < 0 or answer[2] in hostile.CRASHES for answer in answers if isinstance(answer, tuple)):
+            return f"CRASH: {answers}"
+        fault = re.fullmatch(rb"groundreg: (not a register|store failed|register version -?[0-9]+)\n", answers[0][1])
+        if fault:
+            said, status = fault[1].decode(), answers[0][2]
+            self.counts[said if said in (NOT_ONE, FAILED) else "register version N"] += 1
+            if answers[0] != (b"", fault[0], 5 if said == FAILED else 4):
+                return f"status {status} with {said}"
+            if not is_by_rows or not is_same:
+                self.counts["refused, though its tables read as a register"] += isinstance(held, tuple)
+                return None
+            return None if said == held or (said == FAILED and held == NOT_ONE) else f"said {said}, where the definition has {held if isinstance(held, str) else 'a register'}"
+        self.counts["opened"] += 1
+        if held is None:
+            self.counts["opened, where sqlite3 reads nothing"] += 1
+            return None if answers == self.before[template] else f"opened with {answers}, and sqlite3 reads nothing"
+        if isinstance(held, str):
+            return f"opened with {answers}, where the definition has {held}"
+        want = self.wanted(held)
+        return None if answers == want else f"answers {answers}\n  wanted {want}"
+
+
+# ---- changes by hand
+
+def by_hand(place):
+    """(what was changed, register, statements, whether columns may hold what their types forbid)"""
+    clean, other = machine.FILE_A.replace(b"North bank", b"South bank"), machine.spelled_dictionary(reference.built_in()[:-5])
+    for table in COLUMNS:
+        yield f"no table {table}", "three", [f"DROP TABLE {table}"], False
+        yield f"no rows in {table}", "three", [f"DELETE FROM {table}"], False
+        yield f"{table} under another name", "three", [f"ALTER TABLE {table} RENAME TO more"], False
+        yield f"{table} with one column more", "three", [f"ALTER TABLE {table} ADD COLUMN more INTEGER"], False
+        yield f"{table}'s last column under another name", "three", [f"ALTER TABLE {table} RENAME COLUMN {COLUMNS[table][-1][0]} TO more"], False
+        names = ", ".join(name for name, _ in COLUMNS[table])
+        yield f"{table} without types", "three", [f"CREATE TABLE more AS SELECT * FROM {table}", f"DROP TABLE {table}", f"ALTER TABLE more RENAME TO {table}"], False
+        yield f"an index on {table}", "three", [f"CREATE INDEX more ON {table} ({names})"], False
+        yield f"a view on {table}", "three", [f"CREATE VIEW more AS SELECT * FROM {table}"], False
+        yield f"a trigger on {table}", "three", [f"CREATE TRIGGER more AFTER INSERT ON {table} BEGIN DELETE FROM steps; END"], False
+        for column, kind in COLUMNS[table]:
+            for value in NUMBERS if kind == "integer" else TEXTS if kind == "text" else [b"", b"x", clean, machine.FILE_A + b" ", b"\xef\xbb\xbf" + machine.FILE_A, machine.FILE_A[:-1], other]:
+                for where in ("min", "max"):
+                    yield f"{where} {column} of {table} set to {value!r:.20}", "three", [(f"UPDATE OR REPLACE {table} SET {column} = ? WHERE rowid = (SELECT {where}(rowid) FROM {table})", value)], False
+            for value in (None, 1, 1.5, "x", b"x"):
+                yield f"{column} of {table} set to {value!r}, against its type", "three", [(f"UPDATE OR REPLACE {table} SET {column} = ? WHERE rowid = (SELECT max(rowid) FROM {table})", value)], True
+        yield f"a row more in {table}, by numbers", "three", [(f"INSERT OR REPLACE INTO {table} SELECT {', '.join(f'{name} + 1' if name in ('number', 'seq', 'child') else name for name, _ in COLUMNS[table])} FROM {table} ORDER BY rowid DESC LIMIT 1",)], False
+    yield "another table", "three", ["CREATE TABLE more (a INTEGER)"], False
+    for number in (0, 2, 7, -1, 2**63 - 1):
+        yield f"format {number}", "three", [f"UPDATE meta SET num = {number} WHERE name = 'format'"], False
+        yield f"format {number} without other tables", "three", [f"UPDATE meta SET num = {number} WHERE name = 'format'", "DROP TABLE steps", "DROP TABLE lines", "DROP TABLE deposits"], False
+        yield f"format {number} and a table more", "three", [f"UPDATE meta SET num = {number} WHERE name = 'format'", "CREATE TABLE more (a INTEGER)"], False
+    for name in ("format", "dictionary"):
+        yield f"meta without {name}", "three", [f"DELETE FROM meta WHERE name = '{name}'"], False
+        yield f"meta with a body of {name} changed", "three", [f"UPDATE meta SET body = x'41' WHERE name = '{name}'"], False
+        yield f"meta with the number of {name} changed", "three", [f"UPDATE meta SET num = num + 1 WHERE name = '{name}'"], False
+    yield "a third row of meta", "three", ["INSERT INTO meta VALUES ('more', 0, x'')"], False
+    yield "the dictionary spelled otherwise", "three", ["UPDATE meta SET body = CAST(body || x'0d0a' AS BLOB) WHERE name = 'dictionary'"], False
+    yield "a dictionary without the last group", "three", [("UPDATE meta SET body = ? WHERE name = 'dictionary'", other)], False
+    yield "a dictionary without the last group, and no LNMC", "one", [("UPDATE meta SET body = ? WHERE name = 'dictionary'", other)], False
+    for text, length in (("mini", DICTIONARY_LIMIT), ("mini", DICTIONARY_LIMIT + 1)):
+        yield f"a dictionary of {length} bytes", "one", [("UPDATE meta SET body = ? WHERE name = 'dictionary'", place.got(text) + b" " * (length - len(place.got(text))))], False
+    for length in (machine.LIMIT, machine.LIMIT + 1):
+        yield f"a body of {length} bytes", "one", [("UPDATE deposits SET body = ?", machine.FILE_A + b" " * (length - len(machine.FILE_A)))], False
+    again = ["INSERT INTO deposits SELECT 4, firm, project, embargo + {}, body FROM deposits WHERE number = 3", "INSERT INTO lines SELECT 4, seq, grp, kind, line FROM lines WHERE deposit = 3",
+             "INSERT INTO steps SELECT 4, child, target FROM steps WHERE deposit = 3"]
+    yield "two equal deposits", "three", [text.format(0) for text in again], False
+    yield "two equal deposits with different embargoes", "three", [text.format(1) for text in again], False
+    yield "one deposit more", "three", [text.format(0) for text in again] + ["UPDATE deposits SET firm = 'Gamma' WHERE number = 4"], False
+    yield "one deposit more without its lines", "three", [again[0].format(0), "UPDATE deposits SET firm = 'Gamma' WHERE number = 4"], False
+    yield "the last deposit taken out whole", "three", ["DELETE FROM deposits WHERE number = 3", "DELETE FROM lines WHERE deposit = 3", "DELETE FROM steps WHERE deposit = 3"], False
+    yield "the first deposit taken out whole", "three", ["DELETE FROM deposits WHERE number = 1", "DELETE FROM lines WHERE deposit = 1", "DELETE FROM steps WHERE deposit = 1"], False
+    yield "two deposits exchanged", "three", ["UPDATE deposits SET number = number + 10 WHERE number < 3", "UPDATE deposits SET number = 13 - number WHERE number > 10",
+                                              *(f"UPDATE {table} SET deposit = {change} WHERE deposit {which}" for table in ("lines", "steps") for change, which in (("deposit + 10", "< 3"), ("13 - deposit", "> 10")))], False
+    yield "the bodies of two exchanged", "three", ["UPDATE deposits SET body = (SELECT body FROM deposits d WHERE d.number = 4 - deposits.number) WHERE number <> 2"], False
+    yield "lines without a deposit", "three", ["INSERT INTO lines SELECT 9, seq, grp, kind, line FROM lines WHERE deposit = 3"], False
+    yield "steps without a deposit", "three", ["INSERT INTO steps SELECT 9, child, target FROM steps WHERE deposit = 3"], False
+    yield "a line spelled with spaces", "three", ["UPDATE lines SET line = CAST(replace(CAST(line AS TEXT), '\",\"', '\" , \"') AS BLOB) WHERE deposit = 1 AND seq = 4"], False
+    yield "two lines exchanged", "three", ["UPDATE lines SET seq = seq + 100 WHERE deposit = 1 AND seq IN (27, 28)", "UPDATE lines SET seq = 155 - seq WHERE seq > 100"], False
+    for text in ("INSERT INTO steps VALUES (1, 0, 1)", "INSERT INTO steps VALUES (1, 9, 99)", "INSERT INTO steps VALUES (1, 99, 9)", "INSERT INTO steps VALUES (1, -1, 0)", "INSERT INTO steps VALUES (1, 9, 9)",
+                 "UPDATE steps SET target = target + 1 WHERE deposit = 1 AND child = 9", "INSERT INTO lines VALUES (1, 41, 'LNMC', 4, x'2244415441222c22223a')", "INSERT INTO lines VALUES (1, -1, 'PROJ', 0, x'')"):
+        yield text, "three", [text], False
+
+
+def files_by_hand(place):
+    """(what was changed, register): files that were changed as files. Each is made under the name `bad`."""
+    def put(file, log=None):
+        for end in ("", "-wal"):
+            if os.path.exists(place.path("bad" + end)):
+                os.remove(place.path("bad" + end))
+        place.put("bad", file)
+        if log is not None:
+            place.put("bad-wal", log)
+    for name in ("empty", "one", "three"):
+        file, log, whole = place.got(name), place.got(name + "-wal"), place.got("whole-" + name)
+        for what, *parts in [("as it is", file, log), ("without its log", file), ("without its file", b"", log), ("with an empty log", file, b""), ("put together", whole), ("put together, with an empty log", whole, b""),
+                             ("put together, with its old log", whole, log), ("with a log of zeros", file, bytes(len(log))), ("with a log of text", file, b"no log\n" * 99), ("with more behind its file", file + b"x" * 4096, log),
+                             ("with more behind its log", file, log + log), ("of text", b"no database\n" * 99), ("of zeros", bytes(8192)), ("with its header alone", whole[:100]), ("with its first page alone", whole[:4096])]:
+            put(*parts)
+            yield f"{name}, {what}", name
+        for what, at, value in [("its page size", 16, b"\x02\x00"), ("a page size that is none", 16, b"\x03\x00"), ("a rollback journal", 18, b"\x01\x01"), ("an unknown format", 18, b"\x07\x07"), ("room kept on each page", 20, b"\x20"),
+                                ("its length", 28, b"\x00\x00\x00\x01"), ("its first free page", 32, b"\x00\x00\x00\x02\x00\x00\x00\x01"), ("the schema's format", 44, b"\x00\x00\x00\x09"), ("the text's encoding", 56, b"\x00\x00\x00\x02"),
+                                ("its user version", 60, b"\x00\x00\x00\x07"), ("its application", 68, b"abcd"), ("its magic", 0, b"SQLite format 4")]:
+            put(whole[:at] + value + whole[at + len(value):])
+            yield f"{name}, with {what} changed", name
+        step = max(1, len(log) // 40)
+        for length in range(0, len(log), step):
+            put(file, log[:length])
+            yield f"{name}, with {length} bytes of its log", name
+        for length in range(0, len(whole), max(1, len(whole) // 20)):
+            put(whole[:length])
+            yield f"{name}, put together, {length} bytes of it", name
+    for log in ("one", "three"):
+        put(place.got("empty"), place.got(log + "-wal"))
+        yield f"empty, with the log of {log}", "empty"
+
+
+# ---- changes at random
+
+def at_random(chance, place):
+    """A changed copy under the name `bad`: what was changed, of which register, and whether it was a row or a cell. None where sqlite3 took no change."""
+    name = chance.choice(["one", "three", "three"])
+    if chance.random() < 0.5:
+        template, part = (name, chance.choice(["", "-wal"])) if chance.random() < 0.6 else ("whole-" + name, "")
+        place.copy(template, "bad")
+        data = bytearray(place.got("bad" + part))
+        at, kind = chance.randrange(len(data)), chance.randrange(10)
+        if kind < 6:
+            for place_at in [at] + [chance.randrange(len(data)) for _ in range(chance.choice((0, 0, 0, 1, 3)))]:
+                data[place_at] = chance.choice([data[place_at] ^ (1 << chance.randrange(8)), chance.randrange(256), 0, 255])
+        elif kind == 6:
+            del data[at:]
+        elif kind == 7:
+            at, size = at - at % 512, chance.choice((16, 512, 4096))
+            data[at:at + size] = bytes(len(data[at:at + size]))
+        elif kind == 8:
+            other = chance.randrange(len(data))
+            data[at:at + 4096], data[other:other + 4096] = data[other:other + 4096], data[at:at + 4096]
+        else:
+            data[at:at] = bytes([chance.randrange(256)]) * chance.choice((1, 512))
+        place.put("bad" + part, bytes(data))
+        return f"kind {kind} at {at} of {template}{part}", name, False
+    place.copy(name, "bad")
+    table = chance.choice(["meta", "deposits", "lines", "lines", "steps", "steps"])
+    column, kind = chance.choice(COLUMNS[table])
+    where = f"rowid = (SELECT rowid FROM {table} ORDER BY rowid LIMIT 1 OFFSET {chance.randrange(99)} % (SELECT count(*) FROM {table}))"
+    loosely = chance.random() < 0.2
+    values = {"integer": [*NUMBERS, *range(30)], "text": TEXTS, "blob": [b"", b"x", machine.FILE_A, machine.FILE_B, b'"DATA","BH1"']}
+    way = chance.randrange(8)
+    if way == 0:
+        statement = (f"DELETE FROM {table} WHERE {where}",)
+    elif way == 1:
+        statement = (f"INSERT OR REPLACE INTO {table} SELECT {', '.join('?' if name == column else name for name, _ in COLUMNS[table])} FROM {table} WHERE {where}", chance.choice(values[kind]))
+    elif way == 2 and kind == "blob":
+        statement = (f"UPDATE {table} SET {column} = CAST(substr({column}, 1, ?) || x'{chance.randrange(256):02x}' || substr({column}, 2 + ?) AS BLOB) WHERE {where}", *[chance.randrange(1200)] * 2)
+    elif way == 3 and kind == "integer":
+        statement = (f"UPDATE OR REPLACE {table} SET {column} = {column} + ? WHERE {where}", chance.choice([-1, 1, 2, 10]))
+    else:
+        statement = (f"UPDATE OR REPLACE {table} SET {column} = ? WHERE {where}", chance.choice([*values["integer"], *values["text"], *values["blob"], None, 1.5] if loosely else values[kind]))
+    try:
+        place.written("bad", [statement], loosely)
+    except (sqlite3.Error, OverflowError):
+        return None
+    return f"{statement}{' against its type' if loosely else ''}", name, True
+
+
+def cases(place, seed, numbers):
+    """(what was changed, of which register, whether it was a row or a cell), each change made under the name `bad`"""
+    if numbers[0] == 1:
+        for what, name, statements, loosely in by_hand(place):
+            place.copy(name, "bad")
+            try:
+                place.written("bad", statements, loosely)
+            except sqlite3.Error as fault:
+                place.counts["not taken by sqlite3"] += 1
+                continue
+            place.counts["rows changed by hand"] += 1
+            yield what, name, True
+        for what, name in files_by_hand(place):
+            place.counts["files changed by hand"] += 1
+            yield what, name, False
+    for number in numbers:
+        made = at_random(random.Random(f"{seed} {number}"), place)
+        if made is None:
+            place.counts["not taken by sqlite3"] += 1
+        else:
+            place.counts["changed at random"] += 1
+            yield f"{number} of seed {seed}: {made[0]}", made[1], made[2]
+
+
+def main():
+    program = os.path.abspath(sys.argv[1])
+    count, seed, first = (int(sys.argv[n]) if len(sys.argv) > n else usual for n, usual in ((2, 300), (3, 1), (4, 1)))
+    resource.setrlimit(resource.RLIMIT_AS, (hostile.MEMORY, hostile.MEMORY))
+    folder = tempfile.mkdtemp(prefix="registers")
+    place, passed, failed = Place(program, folder), 0, 0
+    for what, name, is_by_rows in cases(place, seed, range(first, first + count)):
+        try:
+            wrong = place.wrong("bad", name, is_by_rows)
+        except subprocess.TimeoutExpired:
+            wrong = "no answer within a minute"
+        passed += wrong is None
+        failed += wrong is not None
+        if wrong:
+            print(f"{what}: {wrong}", flush=True)
+            bodies.copy_register(folder, "bad", f"wrong-{failed}")
+    if not failed:
+        shutil.rmtree(folder)
+    print(f"({', '.join(f'{text}: {times}' for text, times in sorted(place.counts.items()))}{'; the changed files are in ' + folder if failed else ''})")
+    print(f"{passed} passed, {failed} failed")
+    return failed > 0
+
+
+if __name__ == "__main__":
+    sys.exit(main())

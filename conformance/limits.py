@@ -1,0 +1,370 @@
+#!/usr/bin/env python3
+"""The program at its limits and one beyond, texts that are nested or repeated without end, and peers that do not behave.
+
+usage: limits.py PROGRAM [SECONDS]     the last line is 'N passed, M failed'; before it stand the seconds of each start that took more than a tenth of one
+
+SECONDS (a hundredth) is what the slow peer waits behind each of its bytes. Peers speak to one `serve`, and behind each of them a listing is asked, which has
+to be the one from before; `serve` has to end with 0 after its K connections, with the statuses that belong to them. Of a thousand connections one after the
+other each has to be answered as the machine of machine.py has it, and the greatest resident memory after the last may be 64 KiB above that after the
+hundredth (VmHWM, from /proc)."""
+import os
+import resource
+import shutil
+import socket
+import struct
+import subprocess
+import sys
+import tempfile
+import time
+sys.dont_write_bytecode = True
+sys.path.insert(0, os.path.join(os.path.dirname(os.path.abspath(__file__)), "..", "bench"))
+import bodies  # noqa: E402
+import files  # noqa: E402
+import hostile  # noqa: E402
+import machine  # noqa: E402
+import reference  # noqa: E402
+import stories  # noqa: E402
+
+LIMIT = machine.LIMIT
+PATIENCE = 300
+DAY = "2024-06-01"
+ASKING = ["--store=register", "--policy=policy", "--callers=callers", "--project=N1", "--day=" + DAY, "--embargo=" + DAY]
+CLEAN, TOO_LARGE, NO_WORDS = (b"clean\n", b"", 0), (b"", b"groundreg: too large\n", 4), (b"", b"groundreg: words refused\n", 4)
+LISTING = b"GET /v1/projects/N1/deposits HTTP/1.1\r\nAuthorization: Bearer t-delta\r\n\r\n"
+MEMORY_ROOM = 64
+
+
+def refused(name):
+    return b"", f"groundreg: {name} refused\n".encode(), 4
+
+
+class Place:
+    """A folder in which the program is started; what passed and failed, and what took how long."""
+
+    def __init__(self, program, folder):
+        self.program, self.folder, self.passed, self.failed, self.slow = program, folder, 0, 0, []
+        self.mini = machine.spelled_dictionary(reference.built_in())
+        for name, data in (("mini", self.mini), ("policy", machine.POLICY.encode()), ("callers", machine.CALLERS.encode()), ("a", machine.FILE_A)):
+            self.put(name, data)
+        self.start("init", ["init", "--store=register", "--dictionary=mini"], (b"created\n", b"", 0))
+
+    def put(self, name, data):
+        with open(os.path.join(self.folder, name), "wb") as file:
+            file.write(data)
+
+    def check(self, name, want, got):
+        self.passed += got == want
+        self.failed += got != want
+        if got != want:
+            print(f"{name}: wanted {str(want)[:300]}, got {str(got)[:300]}", flush=True)
+
+    def start(self, name, words, want, given=b""):
+        begun = time.monotonic()
+        try:
+            run = subprocess.run([self.program, *words], cwd=self.folder, input=given, capture_output=True, timeout=PATIENCE)
+            got = run.stdout, run.stderr, run.returncode
+        except subprocess.TimeoutExpired:
+            got = "no answer"
+        taken = time.monotonic() - begun
+        if taken > 0.1:
+            self.slow.append(f"{name}: {taken:.2f} s")
+        self.check(name, want, got)
+
+    def with_file(self, name, data, words, want):
+        """A start with these bytes as the file `given`."""
+        self.put("given", data)
+        self.start(name, words, want)
+
+
+def filled(data, length, more=b" "):
+    return data + more * (length - len(data))
+
+
+# ---- lengths
+
+def lengths(place):
+    a = machine.FILE_A
+    for name, data, want in [("a file at the limit", filled(a, LIMIT), CLEAN), ("a file one above it", filled(a, LIMIT + 1), TOO_LARGE), ("one long line", b"x" * LIMIT, (b"5 1 -\n", b"", 1)),
+                             ("a line of quotes", b'"' * LIMIT, (b"3 1 -\n", b"", 1)), ("a line of commas", b"," * LIMIT, (b"5 1 -\n", b"", 1)), ("a row of nulls", b'"",' * (LIMIT // 3 - 1) + b'""', (b"3 1 -\n", b"", 1)), ("zeros", bytes(LIMIT), (b"5 1 -\n", b"", 1))]:
+        place.start(name, [], want, data)
+        place.with_file(name + ", by `check`", data, ["check", "--dictionary=mini", "given"], want)
+    for make in (files.flat, files.deep, files.ring):
+        place.start(f"{make.__name__} of bench/files.py", [], CLEAN, make(LIMIT))
+    place.with_file("a dictionary at the limit", filled(place.mini, LIMIT), ["check", "--dictionary=given", "a"], CLEAN)
+    place.with_file("a dictionary one above it", filled(place.mini, LIMIT + 1), ["check", "--dictionary=given", "a"], refused("dictionary"))
+    place.with_file("`init` with a dictionary one above it", filled(place.mini, LIMIT + 1), ["init", "--store=none", "--dictionary=given"], refused("dictionary"))
+    entries = b"".join(machine.line_of(b"DATA", [b"HEADING", b"LOCA", b"LOCA_%d" % n, b"OTHER", b""]) for n in range(10000, 88000))
+    place.with_file("a dictionary of 78,000 headings of one group", place.mini + entries, ["check", "--dictionary=given", "a"], CLEAN)
+    groups = b"".join(machine.line_of(b"DATA", [b"GROUP", b"%d" % n, b"", b"", b"LOCA"]) for n in range(10000, 99000))
+    place.with_file("a dictionary of 89,000 groups", place.mini + groups, ["check", "--dictionary=given", "a"], CLEAN)
+    place.with_file("a deposit one above the limit", filled(a, LIMIT + 1), ["deposit", "--token=t-delta", *ASKING, "given"], (b"too large\n", b"", 4))
+    place.with_file("the same, which the policy denies", filled(a, LIMIT + 1), ["deposit", "--token=t-echo", *ASKING, "given"], (b"denied 0\n", b"", 2))
+    place.with_file("a deposit at the limit", filled(a, LIMIT), ["deposit", "--token=t-delta", *ASKING, "given"], (f"receipt 1 {DAY}\n".encode(), b"", 0))
+    place.start("its extract", ["extract", "--token=t-delta", *ASKING[:-1], "1"], (a, b"", 0))
+
+
+# ---- policies, callers, words
+
+def policies(place):
+    listed = (f"1 Delta {DAY}\n".encode(), b"", 0)
+    asking = ["list", "--store=register", "--callers=callers", "--project=N1", "--day=" + DAY, "--token=t-delta", "--policy=given"]
+
+    def rules(numbers, more=""):
+        return "".join(f'[[rule]]\nnumber = {n}\neffect = "permit"\n{more}' for n in numbers).encode()
+    never = 'firm = "Nobody"\nheading = "LOCA_ID"\nvalue = "' + "x" * 200 + '"\n'
+    for name, data, want in [
+        ("a policy at the limit", filled(machine.POLICY.encode() + b"#", LIMIT), listed), ("a policy one above it", filled(machine.POLICY.encode() + b"#", LIMIT + 1), refused("policy")),
+        ("9,999 rules", rules(range(1, 10000)), listed), ("10,000 rules", rules(range(1, 10001)), refused("policy")), ("10,000 rules, the last of them twice", rules([*range(1, 10000), 9999]), refused("policy")),
+        ("9,998 long rules that match nothing, and one", rules(range(1, 9999), never) + rules([9999]), listed), ("9,999 inline rules", b"rule = [" + b", ".join(b'{number = %d, effect = "permit"}' % n for n in range(1, 10000)) + b"]\n", listed),
+        ("95,000 rules with one number", rules([1] * 95000), refused("policy")), ("no rules", b"", (b"denied 0\n", b"", 2)), ("460,000 empty rules", b"[[rule]]\n" * 460000, refused("policy")),
+        ("a value of 4 MB", rules([1], 'heading = "LOCA_ID"\nvalue = "' + "x" * (LIMIT - 100) + '"\n'), (b"denied 0\n", b"", 2)), ("a number of a million digits", b"[[rule]]\nnumber = " + b"1" * 1000000 + b"\n", refused("policy")),
+        ("100,000 keys of one table", b"".join(b"k%d = 1\n" % n for n in range(100000)), refused("policy")), ("numbers 1 and 9999", rules([1, 9999]), listed), ("number 0", rules([0]), refused("policy")),
+        ("a name of 32", rules([1]) + b'firm = "' + b"x" * 32 + b'"\n', (b"denied 0\n", b"", 2)), ("a name of 33", rules([1]) + b'firm = "' + b"x" * 33 + b'"\n', refused("policy")),
+        ("a group of 4", rules([1]) + b'verb = "list"\ngroup = "ABCD"\n', (b"denied 0\n", b"", 2)), ("a group of 5", rules([1]) + b'group = "ABCDE"\n', refused("policy")),
+        ("a heading of 9", rules([1]) + b'heading = "ABCDEFGHI"\nvalue = ""\n', (b"denied 0\n", b"", 2)), ("a heading of 10", rules([1]) + b'heading = "ABCDEFGHIJ"\nvalue = ""\n', refused("policy")),
+    ]:
+        place.with_file(name, data, asking, want)
+
+
+def nested(place):
+    """Texts whose values, keys or headers stand within each other: whatever the depth, a policy of that form is refused."""
+    asking = ["list", "--store=register", "--callers=callers", "--project=N1", "--day=" + DAY, "--token=t-delta", "--policy=given"]
+    for depth in (79, 80, 81, 1000, 10000, 100000, 600000):
+        forms = [("arrays", b"rule = " + b"[" * depth + b"]" * depth), ("arrays without an end", b"rule = " + b"[" * depth), ("inline tables", b"rule = " + b"{a=" * depth + b"1" + b"}" * depth), ("inline tables in arrays", b"rule = " + b"[{a=" * depth + b"1" + b"}]" * depth),
+                 ("a dotted key", b"rule" + b".a" * depth + b" = 1"), ("a header", b"[rule" + b".a" * depth + b"]"), ("a header of an array", b"[[rule" + b".a" * depth + b"]]"), ("dotted keys in inline tables", b"rule = " + b"{a.a.a=" * depth + b"1" + b"}" * depth),
+                 ("a value of a rule", b'[[rule]]\nnumber = 1\neffect = "permit"\nfirm = ' + b"[" * depth + b"]" * depth), ("headers, each longer", b"".join(b"[rule" + b".a" * n + b"]\n" for n in range(1, min(depth, 1000)))),
+                 ("line ends in arrays", b"rule = " + b"[\r\n" * depth + b"]" * depth), ("brackets alone", b"[" * depth), ("braces alone", b"{" * depth), ("quotes alone", b'"' * depth), ("backslashes", b'rule = "' + b"\\\\" * depth + b'"')]
+        for name, data in forms:
+            if len(data) <= LIMIT:
+                place.with_file(f"{name}, {depth} deep", data, asking, refused("policy"))
+    place.with_file("callers 100,000 deep", b"caller = " + b"[" * 100000 + b"]" * 100000, [*asking[:2], "--callers=given", *asking[3:6], "--policy=policy"], refused("callers"))
+
+
+def callers(place):
+    asking = ["list", "--store=register", "--policy=policy", "--project=N1", "--day=" + DAY, "--callers=given"]
+    listed = (f"1 Delta {DAY}\n".encode(), b"", 0)
+
+    def many(tokens):
+        return b"caller = [" + b",".join(b'{token="%s",firm="F",role="r"}' % token for token in tokens) + b"]\n"
+    numbered = [b"t%d" % n for n in range(100000)]
+    for name, data, token, want in [
+        ("100,000 callers, the first", many(numbered), "t0", listed), ("100,000 callers, the last", many(numbered), "t99999", listed), ("100,000 callers, none", many(numbered), "t100000", refused("token")),
+        ("100,000 callers, the last as the first", many([*numbered[:-1], b"t0"]), "t0", refused("callers")), ("100,000 callers, all the same", many([b"t"] * 100000), "t", refused("callers")),
+        ("100,000 callers from the last to the first", many(numbered[::-1]), "t7", listed), ("80,000 tables of callers", b"".join(b'[[caller]]\ntoken="t%d"\nfirm="F"\nrole="r"\n' % n for n in range(80000)), "t79999", listed),
+        ("callers at the limit", filled(machine.CALLERS.encode() + b"#", LIMIT), "t-delta", listed), ("callers one above it", filled(machine.CALLERS.encode() + b"#", LIMIT + 1), "t-delta", refused("callers")),
+        ("a token of 64", many([b"~" * 64]), "~" * 64, listed), ("a token of 65", many([b"~" * 65]), "~" * 65, refused("callers")), ("tokens that share 60 characters", many([b"x" * 55 + b"%05d" % n for n in range(45000)]), "x" * 55 + "44999", listed),
+    ]:
+        place.with_file(name, data, [*asking, "--token=" + token], want)
+
+
+def words(place):
+    asking = ["extract", "--store=register", "--policy=policy", "--callers=callers", "--token=t-delta", "--day=" + DAY]
+    text = (machine.FILE_A, b"", 0)
+    for name, more, want in [
+        ("26,000 groups", ["--project=N1", "--groups=" + ",".join(["LOCA"] * 26000), "1"], text), ("a groups' list with a comma too many", ["--project=N1", "--groups=" + "LOCA," * 26000, "1"], refused("groups")),
+        ("a project of 32", ["--project=" + "x" * 32, "1"], (b"unknown\n", b"", 3)), ("a project of 33", ["--project=" + "x" * 33, "1"], refused("project")), ("a project of 130,000", ["--project=" + "x" * 130000, "1"], refused("project")),
+        ("number 999999", ["--project=N1", "999999"], (b"unknown\n", b"", 3)), ("number 1000000", ["--project=N1", "1000000"], refused("number")), ("a number of 130,000 digits", ["--project=N1", "1" * 130000], refused("number")),
+        ("an option a thousand times", ["--project=N1", "1", *["--groups=LOCA"] * 1000], NO_WORDS), ("10,000 numbers", ["--project=N1", *["1"] * 10000], NO_WORDS), ("an unknown option of 130,000", ["--project=N1", "1", "--" + "x" * 130000], NO_WORDS),
+    ]:
+        place.start(name, [*asking, *more], want)
+    for day, want in (("1970-01-01", text), ("9999-12-31", text), ("1969-12-31", refused("day")), ("10000-01-01", refused("day")), ("0" * 130000, refused("day"))):
+        place.start(f"day {day:.20}", [*asking[:-1], "--project=N1", "--day=" + day, "1"], want)
+
+
+# ---- a server
+
+class Server:
+    """`serve` on the register, and what it has to print for the connections made so far."""
+
+    def __init__(self, place, connections):
+        self.place, self.port, self.printed = place, bodies.free_port(), b""
+        self.process = subprocess.Popen([place.program, "serve", "--store=register", "--policy=policy", "--callers=callers", f"--port={self.port}", f"--connections={connections}", "--day=" + DAY],
+                                        cwd=place.folder, stdin=subprocess.DEVNULL, stdout=subprocess.PIPE, stderr=subprocess.PIPE)
+        stories.printed_line(self.process, time.monotonic() + PATIENCE)
+
+    def connect(self, receives=None):
+        connection = socket.socket()
+        connection.settimeout(PATIENCE)
+        if receives:
+            connection.setsockopt(socket.SOL_SOCKET, socket.SO_RCVBUF, receives)
+        connection.connect(("127.0.0.1", self.port))
+        return connection
+
+    def ask(self, data, is_ended=True):
+        connection = self.connect()
+        stories.sent(connection, data, not is_ended)
+        return stories.received(connection)
+
+    def line(self, want):
+        """The next line that is printed has to be one of these."""
+        line = stories.printed_line(self.process, time.monotonic() + PATIENCE).decode().strip()
+        return line if line in want.split("|") else f"line {line!r}, wanted {want}"
+
+    def memory(self):
+        with open(f"/proc/{self.process.pid}/status", encoding="ascii") as file:
+            return int(next(line for line in file if line.startswith("VmHWM:")).split()[1])
+
+    def end(self, name):
+        try:
+            out, fault = self.process.communicate(timeout=PATIENCE)
+            self.place.check(f"{name}: the end", (b"", b"", 0), (out, fault, self.process.returncode))
+        except subprocess.TimeoutExpired:
+            self.place.check(f"{name}: the end", "an end", "none")
+            self.process.kill()
+
+
+def head(target, fields, method=b"GET"):
+    return method + b" " + target + b" HTTP/1.1\r\n" + b"".join(field + b"\r\n" for field in [b"Authorization: Bearer t-delta", *fields]) + b"\r\n"
+
+
+def padded(length, more=()):
+    """A head of a listing of that many bytes."""
+    short = head(b"/v1/projects/N1/deposits", [*more, b"P: "])
+    return head(b"/v1/projects/N1/deposits", [*more, b"P: " + b"y" * (length - len(short))])
+
+
+def heads(place):
+    """(name, bytes, status, reply) of connections at the limits of a head and a body."""
+    listing = machine.reply(("listing", [(1, "Delta", DAY)]))[1]
+    def refusal(status, text):
+        return status, machine.error(status, text)[1]
+    bad = refusal(400, "bad head")
+    clean = 200, machine.reply(("clean",))[1]
+    numbered = [b"X-%d: 1" % n for n in range(33)]
+    check = b"/v1/projects/N1/check"
+    yield "a head of 8,192 bytes", padded(8192), 200, listing
+    yield "a head of 8,193 bytes", padded(8193), *bad
+    yield "a head of 8,192 bytes with 32 fields", padded(8192, numbered[:30]), 200, listing
+    yield "32 fields", head(b"/v1/projects/N1/deposits", numbered[:31]), 200, listing
+    yield "33 fields", head(b"/v1/projects/N1/deposits", numbered[:32]), *bad
+    yield "a head of 1 MB", padded(1 << 20), *bad
+    yield "4 MB without a line end", b"x" * LIMIT, *bad
+    yield "4 MB of line ends", b"\r\n" * (LIMIT // 2), *bad
+    yield "8,100 bytes of line ends before a head", b"\r\n" * 4050 + LISTING, 200, listing
+    yield "zeros", bytes(LIMIT), *bad
+    yield "a field of 4 MB", head(b"/v1/projects/N1/deposits", [b"X: " + b"y" * LIMIT]), *bad
+    yield "1,500 groups", head(b"/v1/projects/N1/deposits/1?groups=" + b",".join([b"LOCA"] * 1500), []), 200, machine.reply(("text", machine.FILE_A))[1]
+    yield "2,500 empty pairs", head(b"/v1/projects/N1/deposits?" + b"&" * 2500, []), 200, listing
+    yield "2,500 percent signs", head(b"/v1/projects/N1/deposits?" + b"%41" * 2500, []), *refusal(400, "bad parameter")
+    yield "a project of 7,000", head(b"/v1/projects/" + b"x" * 7000 + b"/deposits", []), *refusal(400, "bad parameter")
+    yield "2,000 parts of a path", head(b"/v1/projects" + b"/x" * 2000, []), *refusal(404, "no route")
+    for length, want in ((LIMIT, clean), (LIMIT + 1, refusal(413, "too large"))):
+        yield f"a check of {length} bytes", head(check, [b"Content-Length: %d" % length], b"POST") + filled(machine.FILE_A, length), *want
+        yield f"a deposit of {length} bytes", head(b"/v1/projects/N1/deposits", [b"Content-Length: %d" % length], b"POST") + filled(machine.FILE_A, length), want[0], \
+            machine.reply(("receipt", 1, DAY))[1] if want[0] == 200 else want[1]
+    yield "a length of 4,194,305 and no body", head(check, [b"Content-Length: 4194305"], b"POST"), *refusal(413, "too large")
+    yield "a length of 9,999,999,999", head(check, [b"Content-Length: 9999999999"], b"POST"), *refusal(413, "too large")
+    yield "a length of eleven digits", head(check, [b"Content-Length: 00000000001"], b"POST"), *refusal(400, "bad length")
+    yield "a body one byte short", head(check, [b"Content-Length: %d" % LIMIT], b"POST") + filled(machine.FILE_A, LIMIT - 1), *refusal(400, "short body")
+    yield "a body with 4 MB behind it", head(check, [b"Content-Length: 543"], b"POST") + filled(machine.FILE_A, LIMIT), *clean
+
+
+def served(place):
+    given = list(heads(place))
+    server = Server(place, len(given))
+    for name, data, status, want in given:
+        begun = time.monotonic()
+        got = server.ask(data, False if status == 413 else True)
+        place.check(f"{name}, over a connection", (want, str(status)), (got, server.line(str(status))))
+        if time.monotonic() - begun > 0.1:
+            place.slow.append(f"{name}, over a connection: {time.monotonic() - begun:.2f} s")
+    server.end("limits of heads and bodies")
+
+
+def reset(connection):
+    connection.setsockopt(socket.SOL_SOCKET, socket.SO_LINGER, struct.pack("ii", 1, 0))
+    connection.close()
+
+
+def peers(place, seconds):
+    post = head(b"/v1/projects/N1/check", [b"Content-Length: 543"], b"POST") + machine.FILE_A
+    cuts = list(range(0, len(LISTING), 3)) + list(range(len(LISTING), len(post), 40))
+    server = Server(place, 7 + 6 * len(cuts))
+    before = server.ask(LISTING)
+    place.check("a listing", "200", server.line("200"))
+
+    def behind(name):
+        place.check(f"the listing behind {name}", (before, "200"), (server.ask(LISTING), server.line("200")))
+    slow, waiting = server.connect(), server.connect()
+    stories.sent(waiting, LISTING, False)
+    begun = time.monotonic()
+    for byte in LISTING:
+        slow.sendall(bytes([byte]))
+        time.sleep(seconds)
+    place.check(f"a peer that sends a byte each {seconds} s", (before, "200"), (stories.received(slow), server.line("200")))
+    place.slow.append(f"a peer that sends a byte each {seconds} s: {time.monotonic() - begun:.2f} s")
+    place.check("the peer that waited meanwhile", (before, "200"), (stories.received(waiting), server.line("200")))
+    broken = b"x\n" * 200000
+    deaf = server.connect(4096)
+    stories.sent(deaf, head(b"/v1/projects/N1/check", [b"Content-Length: %d" % len(broken)], b"POST") + broken, True)
+    time.sleep(max(2, seconds))
+    waiting = server.connect()
+    stories.sent(waiting, LISTING, False)
+    deaf.close()
+    place.check("a peer that never reads, and lets go", "fault", server.line("fault"))
+    place.check("the peer that waited meanwhile", (before, "200"), (stories.received(waiting), server.line("200")))
+    for name, away in (("a reset", reset), ("an end", socket.socket.close), ("an end of one side", None)):
+        for cut in cuts:
+            data = post[:cut] if cut >= len(LISTING) else LISTING[:cut]
+            connection = server.connect()
+            connection.sendall(data)
+            if away:
+                away(connection)
+                got = server.line("fault|0|400")
+            else:
+                connection.shutdown(socket.SHUT_WR)
+                status, want = machine.serve(machine.Register(), [], machine.read_callers(machine.CALLERS), DAY, data)
+                got = (stories.received(connection), server.line(str(status)))
+                got = "0" if got == (want, str(status)) else got
+            place.check(f"{name} behind {cut} bytes", True, got in ("fault", "0", "400"))
+            behind(f"{name} behind {cut} bytes")
+    reader = server.connect(4096)
+    stories.sent(reader, LISTING, False)
+    slowly = b""
+    while piece := reader.recv(1):
+        slowly += piece
+        time.sleep(min(seconds, 0.01))
+    place.check("a peer that reads byte by byte", (before, "200"), (slowly, server.line("200")))
+    reader.close()
+    place.check("a peer that sends nothing", (b"", "0"), (server.ask(b""), server.line("0")))
+    server.end("peers")
+
+
+def thousand(place):
+    """A thousand connections one after the other."""
+    rules, by = machine.read_policy(machine.POLICY), machine.read_callers(machine.CALLERS)
+    register = machine.Register()
+    register.deposit(rules, by["t-delta"], "N1", DAY, filled(machine.FILE_A, LIMIT))
+    post = head(b"/v1/projects/N1/deposits", [b"Content-Length: 1048"], b"POST") + machine.FILE_B
+    asked = [LISTING, head(b"/v1/projects/N1/deposits/1", []), post, head(b"/v1/projects/N1/deposits/2?groups=LOCA", []), post[:700], b"GET", b"", head(b"/v1/x", []), head(b"/v1/projects/N1/check", [b"Content-Length: 2"], b"POST") + b"x\n", padded(8193)]
+    server, begun = Server(place, 1000), time.monotonic()
+    memory = [server.memory()]
+    for n in range(1000):
+        data = asked[n % len(asked)]
+        status, want = machine.serve(register, rules, by, DAY, data)
+        place.check(f"connection {n + 1} of a thousand", (want, str(status)), (server.ask(data), server.line(str(status))))
+        if n in (98, 498, 998):
+            memory.append(server.memory())
+    place.check("memory that does not grow", True, memory[3] <= memory[1] + MEMORY_ROOM)
+    print(f"(greatest resident memory of `serve` before its first connection and after its 99th, 499th and 999th: {', '.join(map(str, memory))} KiB)")
+    place.slow.append(f"a thousand connections: {time.monotonic() - begun:.2f} s")
+    server.end("a thousand connections")
+
+
+def main():
+    program, seconds = os.path.abspath(sys.argv[1]), float(sys.argv[2]) if len(sys.argv) > 2 else 0.01
+    resource.setrlimit(resource.RLIMIT_AS, (hostile.MEMORY, hostile.MEMORY))
+    folder = tempfile.mkdtemp(prefix="limits")
+    place = Place(program, folder)
+    for part in (lengths, policies, nested, callers, words, served, thousand):
+        part(place)
+    peers(place, seconds)
+    shutil.rmtree(folder)
+    for line in place.slow:
+        print(f"  {line}")
+    print(f"{place.passed} passed, {place.failed} failed")
+    return place.failed > 0
+
+
+if __name__ == "__main__":
+    sys.exit(main())
