@@ -179,8 +179,8 @@ stand_between pairs text first count within low few high =
     cut (has text) pairs first count
     (λ k d a b. eq_at (key (get_or pairs k d)) text false (not_lt (order (key (get_or pairs k d)) text) (low.0 k d a b)))
     (λ k d a b.
-      let o = order (key (get_or pairs k d)) text in
-      eq_at (key (get_or pairs k d)) text true (is_between o (low.1 k d a (omega (arith, b, few, len, within))) (here k d a ∙ high.0 (k - first) d (omega arith) (omega (arith, a, b)))))
+    let o = order (key (get_or pairs k d)) text in
+    eq_at (key (get_or pairs k d)) text true (is_between o (low.1 k d a (omega (arith, b, few, len, within))) (here k d a ∙ high.0 (k - first) d (omega arith) (omega (arith, a, b)))))
     (λ k d a b. eq_at (key (get_or pairs k d)) text false (not_le (order (key (get_or pairs k d)) text) (here k d (omega (arith, a)) ∙ high.1 (k - first) d (omega (arith, a)) (omega (arith, a, b, len)))))
   where
     back : (k : ℕ) → first ≤ k → first + (k - first) ≡ k

@@ -27,10 +27,7 @@ impl Model for Lookup {
 }
 
 /// The rows of these pairs by their texts; rows of one text in the order of the pairs.
-pub(crate) fn rows_by_text(
-    alloc: Global,
-    pairs: Vec<(Vec<u8>, u32)>,
-) -> Result<Lookup, AllocError>
+pub(crate) fn rows_by_text(alloc: Global, pairs: Vec<(Vec<u8>, u32)>) -> Result<Lookup, AllocError>
     ensures { IfOk result (λ lookup. (text : List ℕ) → found lookup text ≡ found (pairs_of pairs.items) text) }
 {
     let mut sorted = pairs;
