@@ -26,10 +26,13 @@ IsDictionary bytes entries =
 
 -- What reading a dictionary gives: its entries, or the first refusal that holds.
 abbrev pub ReadsDictionary : List ℕ → Result Entries DictError → Type 0
+-- it is a dictionary, of these entries
 ReadsDictionary bytes (Ok entries) = IsDictionary bytes entries
 -- it breaks rules other than 1 and 2a, and these are its findings
 ReadsDictionary bytes (Err (NotDictionary found)) = LooseFindings bytes found × (found ≢ [])
+-- it breaks none of these, and has no group DICT
 ReadsDictionary bytes (Err NoDict) = LacksDict bytes
+-- it breaks none, and its group DICT lacks a heading
 ReadsDictionary bytes (Err MissingHeading) = LacksHeading bytes
 -- memory was refused, which says nothing of the bytes
 ReadsDictionary bytes (Err NoMemory) = Unit {0}

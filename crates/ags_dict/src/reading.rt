@@ -89,7 +89,7 @@ impl Dictionary {
     /// The dictionary that a file is.
     pub fn read(alloc: Global, bytes: &[u8]) -> Result<Dictionary, DictError>
         requires { length bytes.now ≤ READABLE }
-        ensures { ReadsDictionary bytes.now result }
+        ensures reads { ReadsDictionary bytes.now result }
     {
         let scan = match Scan::read_loose(alloc, bytes) {
             Ok(scan) => scan,

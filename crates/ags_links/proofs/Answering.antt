@@ -6,16 +6,16 @@ use Rattle.ags_rows.specs.Parts.{parts_at}
 use Rattle.ags_links.specs.Lookups.{Lookup}
 use Rattle.ags_links.specs.DataRows.{DataRow, IsDataRow, Between, ListsRows, entry_of}
 use Rattle.ags_links.specs.Families.{HasText, HasKeyText, HasFileSet}
-use Rattle.ags_links.specs.Keys.{key_of, HasKeyOf, IsFirstOfKey}
+use Rattle.ags_links.specs.Keys.{key_of, HasKeyOf, IsFirstOfKey, AreFirstsOfKeys}
 use Rattle.ags_links.specs.KeyTexts.{key_text}
-use Rattle.ags_links.specs.Lookups.{found, Finds}
+use Rattle.ags_links.specs.Lookups.{found, Finds, HasOneText, AreFirstWith}
 use Rattle.ags_links.specs.ParentRows.{AreLinkHeadings, HasParentEntries}
 use Rattle.ags_links.specs.Parents.{IsParentRow}
 use Rattle.ags_links.specs.RecordLinks.{Names}
 use Rattle.ags_links.specs.Steps.{IsFileRow}
 use Rattle.ags_links.proofs.Members.{contains_head, contains_tail, contains_cons}
 use Rattle.ags_links.proofs.Rising.{first_is_least}
-use Rattle.ags_links.proofs.RowLemmas.{one_at}
+use Rattle.ags_links.proofs.RowLemmas.{one_at, some_at}
 use Rattle.ags_links.proofs.Spelled.{key_text_same}
 
 -- ---- lists under headings
@@ -123,3 +123,31 @@ files_listed rows n r lookup text numbers row finds spelled some e =
     let is : h.0 ≡ r = one_at rows n h.0 r h.2 row in
     let file : IsFileRow r h.1 = subst (λ q. IsFileRow q h.1) is h.4 in
     (h.1, h.3, (file.0, file.2 ∙ sym spelled)))
+
+-- ---- first rows
+
+abbrev rows_keyed : List DataRow → Entries → ℕ → List ℕ → Type 0
+rows_keyed rows entries = HasText rows (HasKeyText entries)
+
+pub key_row : (rows : List DataRow) (entries : Entries) (lookup : Lookup) → Finds lookup (rows_keyed rows entries) → (text : List ℕ) (n : ℕ) → Contains (found lookup text) n → n < length rows
+key_row rows entries lookup finds text n h = ((finds.exact text n).0 h).1.0
+
+pub one_key_text : (rows : List DataRow) (entries : Entries) (lookup : Lookup) → Finds lookup (rows_keyed rows entries) → HasOneText lookup
+one_key_text rows entries lookup finds n text other h k =
+    let r = (finds.exact text n).0 h in
+    let s = (finds.exact other n).0 k in
+    let is : r.0 ≡ s.0 = one_at rows n r.0 s.0 r.1 s.1 in
+    sym r.2 ∙ ap (λ (q : DataRow). key_text (q.group ∷ key_of entries q)) is ∙ s.2
+
+some_first : (numbers : List ℕ) (n : ℕ) → Contains numbers n → 0 < length numbers
+some_first numbers n h = omega (arith, h.1)
+
+pub firsts_stand : (rows : List DataRow) (entries : Entries) (lookup : Lookup) (firsts : List ℕ) → Finds lookup (rows_keyed rows entries) → length firsts ≡ length rows → AreFirstWith lookup firsts → AreFirstsOfKeys rows entries firsts
+firsts_stand rows entries lookup firsts finds size first = (size, λ n lt. at n lt) where
+  at : (n : ℕ) → n < length rows → IsFirstOfKey rows entries n (get_or firsts n 0)
+  at n lt =
+      let row = some_at rows n lt in
+      let r = row.0 in
+      let text = key_text (r.group ∷ key_of entries r) in
+      let has = key_found entries rows n r lookup text row.1 finds refl in
+      subst (IsFirstOfKey rows entries n) (sym (first text n has)) (first_found entries rows n r lookup text (found lookup text) row.1 finds refl refl (some_first (found lookup text) n has))

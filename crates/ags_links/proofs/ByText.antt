@@ -1,22 +1,23 @@
 -- Pairs of a text and a row in the order of their texts: what one more pair adds, what a sort leaves, and where the pairs of a text stand.
-use Rattle.std.proofs.Common.{◌≡◌, ℕ, suc, zero, ◌+◌, ◌-◌, ◌<◌, ◌≤◌, Bool, true, false, not, ◌&&◌, cond, List, [], ◌∷◌, ◌++◌, length, map, take, drop, get_or, refl, sym, ap, ◌∙◌, arith, Vec, inl, inr, ◌⊎◌}
+use Rattle.std.proofs.Common.{◌≡◌, ℕ, suc, zero, ◌+◌, ◌-◌, ◌<◌, ◌≤◌, Bool, true, false, not, ◌&&◌, cond, List, [], ◌∷◌, ◌++◌, length, map, take, drop, get_or, refl, sym, ap, subst, ◌∙◌, arith, Vec, inl, inr, ◌⊎◌}
 use Rattle.std.specs.declared.alloc.Global.{Global}
 use Rattle.std.specs.declared.cmp.Ordering.{Ordering}
 use Rattle.std.specs.declared.cmp.Ordering.TheVariants.{Less, Equal, Greater}
 use Rattle.std.specs.Ordering.{is_lt, is_le, is_eq, nat_cmp, ordering_reverse}
 use Rattle.std.specs.Cmp.Lexicographic.{slice_cmp}
 use Rattle.std.specs.List.{filter, AllWithin}
-use Rattle.std.specs.List.Sorted.{IsSortedBy, IsStableBy, IsPartitionedBy, IsPartitionPoint, ties}
+use Rattle.std.specs.List.Sorted.{IsStableBy, IsPartitionedBy, ties}
 use Rattle.std.specs.Str.{bytes_eq}
-use Rattle.std.proofs.lemmas.Bool.{true≢false}
+use Rattle.std.proofs.lemmas.Bool.{true≢false, cases_lt}
 use Rattle.std.proofs.lemmas.Cmp.{nat_list_cmp_total}
-use Rattle.std.proofs.lemmas.List.{map-append, get_or-drop, length-drop}
+use Rattle.std.proofs.lemmas.List.{map-append, length-map, take-map, drop-map}
 use Rattle.std.proofs.lemmas.List.Elements.{filter-append}
 use Rattle.std.proofs.lemmas.List.Sorted.{sorted_far, ranks_by}
 use Rattle.std.proofs.lemmas.Map.Text.{is_eq-slice_cmp}
 use Rattle.std.proofs.lemmas.Slice.Eq.{bytes_eq-Decides}
 use Rattle.std.proofs.Math.Seq.{drop-nil, take-nil}
-use Rattle.ags_links.specs.Lookups.{Lookup, found, pairs_of}
+use Rattle.ags_links.specs.declared.lookup.Span.{Span}
+use Rattle.ags_links.specs.Lookups.{Lookup, found, pairs_of, stands_before, rows_between, AreInOrder, IsEnd, IsBegin, IsBoundary, IsSpanOf}
 
 abbrev pub Pair : Type 0
 Pair = Vec ℕ Global × ℕ
@@ -65,7 +66,7 @@ tie_of Less = refl
 tie_of Equal = refl
 tie_of Greater = refl
 
-tied : (y z : Pair) → ties below y z ≡ has (key y) z
+pub tied : (y z : Pair) → ties below y z ≡ has (key y) z
 tied y z = ap (λ o. not (is_lt o) && not (is_lt (order (key z) (key y)))) (nat_list_cmp_total.antisymm (key y) (key z)) ∙ tie_of (order (key z) (key y)) ∙ is_eq-slice_cmp (key z) (key y)
 
 -- some pair has the text, or none
@@ -116,6 +117,11 @@ is_between Less h k = sym h
 is_between Equal h k = refl
 is_between Greater h k = k
 
+lt_le : (o : Ordering) → is_lt o ≡ true → is_le o ≡ true
+lt_le Less h = refl
+lt_le Equal h = absurd (true≢false (sym h))
+lt_le Greater h = absurd (true≢false (sym h))
+
 by_bool : (b : Bool) → (b ≡ false → ⊥) → b ≡ true
 by_bool true h = refl
 by_bool false h = absurd (h refl)
@@ -124,35 +130,42 @@ not_true : (b : Bool) → not b ≡ true → b ≡ false
 not_true true h = sym h
 not_true false h = refl
 
-abbrev pub before : List ℕ → Pair → Bool
-before text p = is_lt (order (key p) text)
+by_false : (b : Bool) → (b ≡ true → ⊥) → b ≡ false
+by_false true h = absurd (h refl)
+by_false false h = refl
 
-abbrev pub upto : List ℕ → Pair → Bool
-upto text p = is_le (order (key p) text)
-
-module _ (pairs : List Pair) (text : List ℕ) (sorted : IsSortedBy below pairs) where
+module _ (pairs : List Pair) (text : List ℕ) (sorted : AreInOrder pairs) where
   up : (i j : ℕ) (d : Pair) → i ≤ j → j < length pairs → is_lt (order (key (get_or pairs j d)) (key (get_or pairs i d))) ≡ false
   up = sorted_far below (ranks_by nat_list_cmp_total key) pairs sorted
 
   chain : (a b c : List ℕ) → is_lt (order a b) ≡ false → is_lt (order b c) ≡ false → is_lt (order a c) ≡ false
   chain = (ranks_by nat_list_cmp_total (λ a. a)).chain
 
-  pub parted_before : IsPartitionedBy (before text) pairs
-  parted_before i j d le lt h = by_bool (before text (get_or pairs i d)) (λ f. true≢false (sym h ∙ chain (key (get_or pairs j d)) (key (get_or pairs i d)) text (up i j d le lt) f))
+  parted_before : IsPartitionedBy (stands_before false text) pairs
+  parted_before i j d le lt h = by_bool (stands_before false text (get_or pairs i d)) (λ f. true≢false (sym h ∙ chain (key (get_or pairs j d)) (key (get_or pairs i d)) text (up i j d le lt) f))
 
   upto_is : (a : List ℕ) → is_le (order a text) ≡ not (is_lt (order text a))
   upto_is a = ap is_le (nat_list_cmp_total.antisymm a text) ∙ le_is (order text a)
 
-  parted_upto : IsPartitionedBy (upto text) pairs
+  parted_upto : IsPartitionedBy (stands_before true text) pairs
   parted_upto i j d le lt h =
       let a = key (get_or pairs i d) in
       let b = key (get_or pairs j d) in
       upto_is a ∙ ap not (chain text b a (not_true (is_lt (order text b)) (sym (upto_is b) ∙ h)) (up i j d le lt))
 
-  pub rest_parted : (first : ℕ) → IsPartitionedBy (upto text) (drop first pairs)
-  rest_parted first i j d le lt h =
-      let len = length-drop first pairs in
-      ap (upto text) (get_or-drop first pairs i d) ∙ parted_upto (first + i) (first + j) d (omega (arith, le)) (omega (arith, lt, len)) (ap (upto text) (sym (get_or-drop first pairs j d)) ∙ h)
+  pub parted : (upto : Bool) → IsPartitionedBy (stands_before upto text) pairs
+  parted true = parted_upto
+  parted false = parted_before
+
+  -- where the last below a place stands before, and the one at it does not
+  pub boundary_here : (upto : Bool) (place : ℕ) → place ≤ length pairs → IsEnd upto text pairs place → IsBegin upto text pairs place → IsBoundary upto text pairs place
+  boundary_here upto place le low high = (
+    le,
+    (
+      λ k d a b. parted upto k (place - 1) d (omega (arith, b)) (omega (arith, b, le)) (low d (omega (arith, b))),
+      λ k d a b. by_false (stands_before upto text (get_or pairs k d)) (λ h. true≢false (sym (parted upto place k d a b h) ∙ high d (omega (arith, a, b)))),
+    ),
+  )
 
 -- the elements that pass are those from i on, c of them
 cut : {X : Type 0} (t : X → Bool) (xs : List X) (i c : ℕ) → AllWithin (λ y. t y ≡ false) xs 0 i → AllWithin (λ y. t y ≡ true) xs i (i + c) → AllWithin (λ y. t y ≡ false) xs (i + c) (length xs) → filter t xs ≡ take c (drop i xs)
@@ -170,21 +183,44 @@ cut t (x ∷ xs) zero zero low mid high =
 eq_at : (a b : List ℕ) (o : Bool) → is_eq (order a b) ≡ o → bytes_eq a b ≡ o
 eq_at a b o e = sym (is_eq-slice_cmp a b) ∙ e
 
--- the pairs of a text stand between those before it and those behind it
-pub stand_between : (pairs : List Pair) (text : List ℕ) (first count : ℕ) → first ≤ length pairs → IsPartitionPoint (λ y. before text y ≡ true) (λ y. before text y ≡ false) pairs first
-    → count ≤ length (drop first pairs) → IsPartitionPoint (λ y. upto text y ≡ true) (λ y. upto text y ≡ false) (drop first pairs) count
-    → filter (has text) pairs ≡ take count (drop first pairs)
-stand_between pairs text first count within low few high =
-    let len = length-drop first pairs in
-    cut (has text) pairs first count
-    (λ k d a b. eq_at (key (get_or pairs k d)) text false (not_lt (order (key (get_or pairs k d)) text) (low.0 k d a b)))
-    (λ k d a b.
-    let o = order (key (get_or pairs k d)) text in
-    eq_at (key (get_or pairs k d)) text true (is_between o (low.1 k d a (omega (arith, b, few, len, within))) (here k d a ∙ high.0 (k - first) d (omega arith) (omega (arith, a, b)))))
-    (λ k d a b. eq_at (key (get_or pairs k d)) text false (not_le (order (key (get_or pairs k d)) text) (here k d (omega (arith, a)) ∙ high.1 (k - first) d (omega (arith, a)) (omega (arith, a, b, len)))))
-  where
-    back : (k : ℕ) → first ≤ k → first + (k - first) ≡ k
-    back k a = omega (arith, a)
+-- the pairs from one place to another, and their rows
+pub rows_are : (pairs : List Pair) (first end : ℕ) → rows_between (pairs_of pairs) first end ≡ map (λ (p : Pair). p.1) (take (end - first) (drop first pairs))
+rows_are pairs first end = ap (λ ps. map (λ (x : List ℕ × ℕ). x.1) (take (end - first) ps)) (drop-map of first pairs) ∙ ap (map (λ (x : List ℕ × ℕ). x.1)) (take-map of (end - first) (drop first pairs)) ∙ alone (take (end - first) (drop first pairs)) where
+  of : Pair → List ℕ × ℕ
+  of p = (key p, p.1)
 
-    here : (k : ℕ) (d : Pair) → first ≤ k → upto text (get_or pairs k d) ≡ upto text (get_or (drop first pairs) (k - first) d)
-    here k d a = ap (upto text) (ap (λ n. get_or pairs n d) (sym (back k a)) ∙ sym (get_or-drop first pairs (k - first) d))
+  alone : (xs : List Pair) → map (λ (x : List ℕ × ℕ). x.1) (map of xs) ≡ map (λ (y : Pair). y.1) xs
+  alone [] = refl
+  alone (x ∷ xs) = ap (λ l. x.1 ∷ l) (alone xs)
+
+-- the boundary before the pairs of a text is not behind the one behind them
+ends_later : (pairs : List Pair) (text : List ℕ) (first end : ℕ) → IsBoundary false text pairs first → IsBoundary true text pairs end → end < first → ⊥
+ends_later [] text first end low high lt = omega (arith, low.0, lt)
+ends_later (p ∷ ps) text first end low high lt = true≢false (sym (lt_le (order (key (get_or (p ∷ ps) end p)) text) (low.1.0 end p (omega arith) lt)) ∙ high.1.1 end p (omega arith) (omega (arith, lt, low.0)))
+
+-- the pairs of a text stand between its two boundaries
+pub stand_between : (pairs : List Pair) (text : List ℕ) (first end : ℕ) → IsBoundary false text pairs first → IsBoundary true text pairs end
+    → (first ≤ end) × (filter (has text) pairs ≡ take (end - first) (drop first pairs))
+stand_between pairs text first end low high = (
+  up,
+  cut (has text) pairs first (end - first)
+      (λ k d a b. eq_at (key (get_or pairs k d)) text false (not_lt (order (key (get_or pairs k d)) text) (low.1.0 k d a b)))
+      (λ k d a b. eq_at (key (get_or pairs k d)) text true (is_between (order (key (get_or pairs k d)) text) (low.1.1 k d a (omega (arith, b, up, high.0))) (high.1.0 k d (omega arith) (omega (arith, b, up)))))
+      (λ k d a b. eq_at (key (get_or pairs k d)) text false (not_le (order (key (get_or pairs k d)) text) (high.1.1 k d (omega (arith, a, up)) b))),
+) where
+  up : first ≤ end
+  up = elim (cases_lt end first) [ inl lt ↦ absurd (ends_later pairs text first end low high lt) | inr ge ↦ omega (arith, ge) ]
+
+pub span_stands : (pairs : List Pair) (lookup : Lookup) (text : List ℕ) (span : Span) → pairs_of pairs ≡ lookup → IsBoundary false text pairs span.first → IsBoundary true text pairs span.end → IsSpanOf lookup text span
+span_stands pairs lookup text span is low high = subst (λ l. IsSpanOf l text span) is (
+  (stands.0, omega (arith, high.0, size)),
+  rows_are pairs span.first span.end ∙ ap (map (λ (p : Pair). p.1)) (sym stands.1) ∙ sym (found_is pairs text),
+) where
+  stands : (span.first ≤ span.end) × (filter (has text) pairs ≡ take (span.end - span.first) (drop span.first pairs))
+  stands = stand_between pairs text span.first span.end low high
+
+  of : Pair → List ℕ × ℕ
+  of p = (key p, p.1)
+
+  size : length (pairs_of pairs) ≡ length pairs
+  size = length-map pairs of

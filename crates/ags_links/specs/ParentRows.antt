@@ -1,19 +1,22 @@
 -- What the index keeps of the parent groups: their rows by their entries under link headings, in look-ups that the
 -- groups with one parent group and the same link headings share.
-use Rattle.std.specs.Prelude.{◌≡◌, ◌≢◌, ◌<◌, ◌↔◌, ℕ, List, [], ◌∷◌, Option, Some, None, All, Contains, map}
+use Rattle.std.specs.Prelude.{◌≡◌, ◌≢◌, ◌<◌, ◌↔◌, ℕ, List, [], ◌∷◌, Option, Some, None, All, Contains, map, length}
 use Rattle.std.specs.List.Sorted.{IsStrictlyIncreasing}
-use Rattle.ags_rows.specs.Contents.{place_in}
+use Rattle.ags_rows.specs.Contents.{place_in, field_at}
 use Rattle.ags_rows.specs.declared.rows.Group.{Group}
 use Rattle.ags_dict.specs.Entries.{Entries, keys_of, parent_of}
 use Rattle.ags_links.specs.declared.families.Family.{Family}
 use Rattle.ags_links.specs.Lookups.{Lookup}
 use Rattle.ags_links.specs.declared.parents.ParentLinks.{ParentLinks}
 use Rattle.ags_links.specs.declared.parents.LinkPlaces.{LinkPlaces}
+use Rattle.ags_links.specs.declared.lookup.Span.{Span}
 use Rattle.ags_links.specs.declared.parents.ParentLookups.{ParentLookups}
+use Rattle.ags_links.specs.declared.placed.PlacedRow.{PlacedRow}
 use Rattle.ags_links.specs.DataRows.{DataRow, IsAt, IsDataRow}
 use Rattle.ags_links.specs.Families.{AreKept, HasText, HasEntries, HasAmong}
 use Rattle.ags_links.specs.KeyTexts.{key_text}
-use Rattle.ags_links.specs.Lookups.{Finds, found}
+use Rattle.ags_links.specs.Lookups.{Finds, found, IsSpanOf}
+use Rattle.ags_links.specs.Placing.{row_of}
 
 -- these are the link headings of a group: those of its headings that are KEY headings of its parent group
 abbrev pub AreLinkHeadings : Entries → List ℕ → List (List ℕ) → List (List ℕ) → Type 0
@@ -72,3 +75,16 @@ pub record IsParentIndex (entries : Entries) (rows : List DataRow) (lookups : Li
 
 abbrev pub AreParents : Entries → List DataRow → List Group → ParentLookups → Type 0
 AreParents entries rows groups parents = AreKept groups parents.of_groups.items (λ place. IsParentIndex entries rows parents.lookups.items)
+
+-- the row's group has link places, and these a look-up
+abbrev pub HasLookup : ParentLookups → PlacedRow → Type 0
+HasLookup parents row = (row.place < length parents.of_groups.items)
+    × ((links : LinkPlaces) → IsAt parents.of_groups.items row.place links → links.lookup < length parents.lookups.items)
+
+-- the span is where the look-up of the row's group has the row's entries under its link headings
+abbrev pub IsParentSpan : ParentLookups → PlacedRow → Span → Type 0
+IsParentSpan parents row span = (links : LinkPlaces) (lookup : Lookup) → IsAt parents.of_groups.items row.place links → IsAt parents.lookups.items links.lookup lookup
+    → IsSpanOf lookup (key_text (map (field_at (row_of row).fields) links.places.items)) span
+
+abbrev pub AreParentSpans : List PlacedRow → ParentLookups → List Span → Type 0
+AreParentSpans rows parents spans = AreKept rows spans (λ n. IsParentSpan parents)

@@ -2,11 +2,12 @@
 
 ghost use Rattle.std.specs.Prelude.{◌≡◌, ◌<◌, ◌^◌, IfOk, All, length, map};
 ghost use Rattle.ags_rows.specs.Contents.{place_in};
+ghost use Rattle.ags_links.specs.Keys.{AreFirstsOfKeys};
 ghost use Rattle.ags_links.specs.Lookups.{Finds};
 ghost use Rattle.ags_links.specs.Families.{HasText, HasGroupName, HasKeyText, HasFileSet, HasFamily, IsFamily, AreFamilies, record_links};
 ghost use Rattle.ags_links.specs.Placing.{IsPlaced, row_of};
 
-use crate::lookup::{Lookup, rows_by_text};
+use crate::lookup::{Lookup, first_rows, rows_by_text};
 use crate::placed::{PlacedRow, field};
 use crate::texts::group_text;
 use ags_dict::Dictionary;
@@ -125,6 +126,20 @@ pub(crate) fn rows_by_key(
         pairs.push((text, number as u32))?;
     }
     rows_by_text(alloc, pairs)
+}
+
+/// For each row the first row of its group with an equal key (Rule 10a).
+pub(crate) fn firsts_of_keys(
+    alloc: Global,
+    dictionary: &Dictionary,
+    rows: &[PlacedRow<'_, '_>],
+    by_key: &Lookup,
+) -> Result<Vec<u32>, AllocError>
+    requires { Finds by_key.now (HasText (map row_of rows.now) (HasKeyText dictionary.now)) }
+    ensures { IfOk result (λ firsts. AreFirstsOfKeys (map row_of rows.now) dictionary.now firsts.items) }
+{
+    let firsts = first_rows(alloc, by_key, rows.len())?;
+    Ok(firsts)
 }
 
 /// The rows of FILE by their FILE_FSET.

@@ -4,12 +4,14 @@ ghost use Rattle.std.specs.Prelude.{◌≡◌, ◌<◌, ◌↔◌, ℕ, List, If
 ghost use Rattle.std.specs.List.Sorted.{IsStrictlyIncreasing};
 ghost use Rattle.ags_rows.specs.Contents.{contents_of};
 
-use crate::families::{Family, families, rows_by_file_set, rows_by_group, rows_by_key};
-use crate::lookup::{Lookup, rows_with};
-use crate::parents::{ParentLookups, parents};
+use crate::families::{
+    Family, families, firsts_of_keys, rows_by_file_set, rows_by_group, rows_by_key,
+};
+use crate::lookup::{Lookup, Span, rows_of, rows_with};
+use crate::parents::{ParentLookups, parent_spans, parents};
 use crate::placed::{PlacedRow, field, place_rows};
 use crate::separators::{Separators, separators_in};
-use crate::texts::{distinct, entries_text, group_text, link_parts, pieces_text, push_parts};
+use crate::texts::{distinct, link_parts, pieces_text, push_parts};
 use ags_dict::Dictionary;
 use ags_rows::{Group, Scan};
 use std::alloc::{AllocError, Global};
@@ -33,6 +35,10 @@ pub struct Index<'s, 'f, 'd> {
     rows: Vec<PlacedRow<'s, 'f>>,
     families: Vec<Family<'s, 'd>>,
     parents: ParentLookups,
+    // where the parent rows of each row stand in the look-up of its group
+    spans: Vec<Span>,
+    // for each row the first row of its group with an equal key
+    firsts: Vec<u32>,
     by_key: Lookup,
     by_file_set: Lookup,
     separators: Separators,
@@ -47,7 +53,7 @@ impl<'s, 'f, 'd> Model for Index<'s, 'f, 'd> {
 
     ghost view = { λ i. record { contents = contents_of i.groups.now; entries = i.dictionary.now } };
 
-    ghost invariant = { λ i. Indexes i.groups.now i.dictionary.now i.rows.items i.families.items i.parents i.by_key i.by_file_set i.separators };
+    ghost invariant = { λ i. Indexes i.groups.now i.dictionary.now i.rows.items i.families.items i.parents i.spans.items i.firsts.items i.by_key i.by_file_set i.separators };
 }
 
 /// The numbers rising, each once.
@@ -83,7 +89,9 @@ impl<'s, 'f, 'd> Index<'s, 'f, 'd> {
         let families = families(alloc, groups, dictionary, &rows)?;
         let by_group = rows_by_group(alloc, &rows)?;
         let parents = parents(alloc, groups, dictionary, &rows, &families, &by_group)?;
+        let spans = parent_spans(alloc, &rows, &parents)?;
         let by_key = rows_by_key(alloc, dictionary, &rows, &families)?;
+        let firsts = firsts_of_keys(alloc, dictionary, &rows, &by_key)?;
         let by_file_set = rows_by_file_set(alloc, dictionary, &rows, &families)?;
         Ok(Index {
             alloc,
@@ -92,6 +100,8 @@ impl<'s, 'f, 'd> Index<'s, 'f, 'd> {
             rows,
             families,
             parents,
+            spans,
+            firsts,
             by_key,
             by_file_set,
             separators: separators_in(groups),
@@ -116,14 +126,16 @@ impl<'s, 'f, 'd> Index<'s, 'f, 'd> {
     }
 
     /// The parent rows of a row (Rule 10c).
-    pub(crate) fn parent_rows(&self, row: u32) -> Result<&[u32], AllocError>
+    pub(crate) fn parent_rows(&self, row: u32) -> &[u32]
         requires { row < length (rows_in self.now) }
-        ensures { IfOk result (λ rows. ListsRows rows.now (IsParentAt self.now row)) }
+        ensures { ListsRows result.now (IsParentAt self.now row) }
     {
         let kept = &self.rows[row as usize];
         let links = &self.parents.of_groups[kept.place];
-        let text = entries_text(self.alloc, kept, &links.places)?;
-        Ok(rows_with(&self.parents.lookups[links.lookup], &text))
+        rows_of(
+            &self.parents.lookups[links.lookup],
+            self.spans[row as usize],
+        )
     }
 
     /// The parent rows of a row (Rule 10c), rising.
@@ -131,8 +143,7 @@ impl<'s, 'f, 'd> Index<'s, 'f, 'd> {
         requires { row < length (rows_in self.now) }
         ensures { IfOk result (λ rows. ListsRows rows.items (IsParentAt self.now row)) }
     {
-        let rows = self.parent_rows(row)?;
-        Vec::from_slice(self.alloc, rows)
+        Vec::from_slice(self.alloc, self.parent_rows(row))
     }
 
     /// Whether the row has a parent row (Rule 10c).
@@ -140,8 +151,7 @@ impl<'s, 'f, 'd> Index<'s, 'f, 'd> {
         requires { row < length (rows_in self.now) }
         ensures { IfOk result (λ has. IsTrue has ↔ ((m : ℕ) × IsParentAt self.now row m)) }
     {
-        let rows = self.parent_rows(row)?;
-        Ok(!rows.is_empty())
+        Ok(!self.parent_rows(row).is_empty())
     }
 
     /// The first row of the row's group with an equal key (Rule 10a).
@@ -149,9 +159,7 @@ impl<'s, 'f, 'd> Index<'s, 'f, 'd> {
         requires { row < length (rows_in self.now) }
         ensures { IfOk result (IsFirstOfKeyAt self.now row) }
     {
-        let (kept, family) = self.kept(row);
-        let text = group_text(self.alloc, kept, &family.keys)?;
-        Ok(rows_with(&self.by_key, &text)[0])
+        Ok(self.firsts[row as usize])
     }
 
     /// The rows of FILE with the row's FILE_FSET (Rule 20); none where it is null or absent.

@@ -5,13 +5,13 @@ ghost use Rattle.std.specs.Prelude.{◌≡◌, ◌≢◌, ◌<◌, ◌^◌, ◌�
 ghost use Rattle.ags_rows.specs.Contents.{place_in};
 ghost use Rattle.ags_links.specs.Families.{HasText, HasGroupName, HasEntries, HasAmong, HasFamily, IsFamily, AreFamilies, AreKept, is_one_of};
 ghost use Rattle.ags_links.specs.Lookups.{Finds, found};
-ghost use Rattle.ags_links.specs.ParentRows.{AreLinkHeadings, link_names, IsParentLinks, AreParentLinks, texts_in, AreNumbers, IsLookupAt, AreLookups, IsPlacedAt, AreParents};
+ghost use Rattle.ags_links.specs.ParentRows.{AreLinkHeadings, link_names, IsParentLinks, AreParentLinks, texts_in, AreNumbers, IsLookupAt, AreLookups, IsPlacedAt, AreParents, HasLookup, AreParentSpans};
 ghost use Rattle.ags_links.specs.Placing.{row_of};
 
 use crate::families::{Family, family_at, places_of};
-use crate::lookup::{Lookup, rows_by_text, rows_with};
+use crate::lookup::{Lookup, Span, rows_by_text, rows_with, span_of};
 use crate::placed::PlacedRow;
-use crate::texts::{entries_text, is_first, names_text};
+use crate::texts::{entries_text, is_first, names_text, push_entries};
 use ags_dict::Dictionary;
 use ags_rows::{Group, Places};
 use std::alloc::{AllocError, Global};
@@ -278,4 +278,28 @@ pub(crate) fn parents(
     let lookups = lookups(alloc, dictionary, rows, families, &links, &texts)?;
     let of_groups = link_places(alloc, families, &links, &texts)?;
     Ok(ParentLookups { of_groups, lookups })
+}
+
+/// Where the parent rows of each row stand in the look-up of its group. Rows that follow one another often belong to rows
+/// that do, so those of a row are looked for first where those of the row before end.
+pub(crate) fn parent_spans(
+    alloc: Global,
+    rows: &[PlacedRow<'_, '_>],
+    parents: &ParentLookups,
+) -> Result<Vec<Span>, AllocError>
+    requires { All (HasLookup parents.now) rows.now }
+    ensures { IfOk result (λ spans. AreParentSpans rows.now parents.now spans.items) }
+{
+    let mut spans = Vec::new(alloc);
+    let mut text = Vec::new(alloc);
+    let mut near = 0;
+    for row in rows {
+        let links = &parents.of_groups[row.place];
+        text.clear();
+        push_entries(&mut text, row, &links.places)?;
+        let span = span_of(&parents.lookups[links.lookup], near, &text);
+        spans.push(span)?;
+        near = span.end;
+    }
+    Ok(spans)
 }

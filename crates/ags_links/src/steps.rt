@@ -88,7 +88,7 @@ pub(crate) fn targets(
     requires { row < length (rows_in index.now) }
     ensures { IfOk result (λ rows. ListsRows rows.items (StepAt index.now row)) }
 {
-    let mut found = Vec::from_slice(alloc, index.parent_rows(row)?)?;
+    let mut found = Vec::from_slice(alloc, index.parent_rows(row))?;
     add_link_steps(index, row, &mut found)?;
     add_file_steps(index, row, &mut found)?;
     Ok(each_once(found))

@@ -58,7 +58,7 @@ fn push_text(out: &mut Vec<u8>, text: &[u8]) -> Result<(), AllocError>
 }
 
 /// Adds what stands in the row at the places.
-fn push_entries(
+pub(crate) fn push_entries(
     out: &mut Vec<u8>,
     row: &PlacedRow<'_, '_>,
     places: &[Option<usize>],

@@ -88,9 +88,15 @@ policy_error ReadErrors.NoMemory = NoMemory
 
 -- What reading a policy gives: its rules, or the first refusal that holds of the whole document.
 abbrev pub ReadsPolicy : List ℕ → Result (List Rule) PolicyError → Type 0
+-- a document of rules whose numbers rise
 ReadsPolicy text (Ok rules) = HasRules text rules × IsRisingFrom 0 rules
+-- no TOML document
 ReadsPolicy text (Err Syntax) = IsRefused rule_key rule_keys IsRule text ReadErrors.Syntax
+-- a document with a key other than these
 ReadsPolicy text (Err UnknownKey) = IsRefused rule_key rule_keys IsRule text ReadErrors.UnknownKey
+-- of these keys alone, but some value is none that its key may have
 ReadsPolicy text (Err BadValue) = IsRefused rule_key rule_keys IsRule text ReadErrors.BadValue
+-- a document of rules, but a number is not above that of the rule before
 ReadsPolicy text (Err Order) = (rules : List Rule) × HasRules text rules × ¬ (IsRisingFrom 0 rules)
+-- memory was refused, which says nothing of the text
 ReadsPolicy text (Err NoMemory) = Unit {0}

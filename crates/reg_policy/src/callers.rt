@@ -79,7 +79,7 @@ impl Model for Callers {
 impl Callers {
     /// The callers that the text lists, or the first refusal that holds of it.
     pub fn read(alloc: Global, text: &str) -> Result<Callers, CallersError>
-        ensures { ReadsCallers text.now result }
+        ensures reads { ReadsCallers text.now result }
     {
         let credentials = read_list(alloc, text)?;
         if !are_unique(alloc, &credentials)? {

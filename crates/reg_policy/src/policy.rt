@@ -59,7 +59,7 @@ impl Model for Policy {
 impl Policy {
     /// The policy that the text has, or the first refusal that holds of it.
     pub fn read(alloc: Global, text: &str) -> Result<Policy, PolicyError>
-        ensures { ReadsPolicy text.now result }
+        ensures reads { ReadsPolicy text.now result }
     {
         let rules = read_list(alloc, text)?;
         if !is_rising(&rules) {

@@ -3,5 +3,5 @@ use Rattle.ags_links.proofs.steps.targets.Goals as goal
 
 pub returns : goal.returns
 returns c =
-    all_steps c.args.index.now c.args.row c.in_ok-parent_rows.field-0.now c.in_ok-found.found.items c.add_link_steps.new.found.items c.add_file_steps.new.found.items c.each_once.result.items
-    c.in_ok-found.ensures.items c.in_ok-parent_rows.ensures c.in_ok-add_link_steps.ensures c.in_ok-add_file_steps.ensures c.each_once.ensures.same c.each_once.ensures.rising
+    all_steps c.args.index.now c.args.row c.parent_rows.result.now c.in_ok-found.found.items c.add_link_steps.new.found.items c.add_file_steps.new.found.items c.each_once.result.items
+    c.in_ok-found.ensures.items c.parent_rows.ensures c.in_ok-add_link_steps.ensures c.in_ok-add_file_steps.ensures c.each_once.ensures.same c.each_once.ensures.rising
