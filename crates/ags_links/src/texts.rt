@@ -16,6 +16,9 @@ const END_MARK: u8 = 0;
 /// Stands before a byte of a text that is a mark itself.
 const ESCAPE_MARK: u8 = 1;
 
+/// The bytes that a text is given room for at first; most have no more.
+const ROOM: usize = 32;
+
 /// Adds a byte of a text, behind an escape mark where it is a mark itself.
 fn push_marked(out: &mut Vec<u8>, byte: u8) -> Result<(), AllocError>
     ensures { OnOk result (out.new.items ≡ out.old.items ++ byte_text byte) }
@@ -79,7 +82,7 @@ pub(crate) fn entries_text(
 ) -> Result<Vec<u8>, AllocError>
     ensures { IfOk result (λ text. text.items ≡ key_text (map (field_at (row_of row.now).fields) places.now)) }
 {
-    let mut text = Vec::new(alloc);
+    let mut text = Vec::with_capacity(alloc, ROOM)?;
     push_entries(&mut text, row, places)?;
     Ok(text)
 }
@@ -92,7 +95,7 @@ pub(crate) fn group_text(
 ) -> Result<Vec<u8>, AllocError>
     ensures { IfOk result (λ text. text.items ≡ key_text ((row_of row.now).group ∷ map (field_at (row_of row.now).fields) keys.now)) }
 {
-    let mut text = Vec::new(alloc);
+    let mut text = Vec::with_capacity(alloc, ROOM)?;
     let group = row.group;
     push_text(&mut text, group.name.as_slice())?;
     push_entries(&mut text, row, keys)?;
@@ -119,7 +122,7 @@ pub(crate) fn names_text(
 pub(crate) fn pieces_text(alloc: Global, delimiter: u8, part: &[u8]) -> Result<Vec<u8>, AllocError>
     ensures { IfOk result (λ text. text.items ≡ key_text (parts_at delimiter part.now)) }
 {
-    let mut text = Vec::new(alloc);
+    let mut text = Vec::with_capacity(alloc, ROOM)?;
     for byte in part {
         if *byte == delimiter {
             text.push(END_MARK)?;
@@ -191,6 +194,9 @@ pub(crate) fn is_first(names: &Places<'_>, name: &[u8], place: usize) -> bool
 pub(crate) fn distinct<'t>(alloc: Global, texts: Vec<&'t [u8]>) -> Result<Vec<&'t [u8]>, AllocError>
     ensures { IfOk result (λ once. (text : List ℕ) → Contains (map (λ t. t.now) once.items) text ↔ Contains (map (λ t. t.now) texts.entry.items) text) }
 {
+    if texts.len() < 2 {
+        return Ok(texts);
+    }
     let places = Places::of(alloc, texts)?;
     let mut once = Vec::new(alloc);
     let listed = places.names();
