@@ -9,7 +9,7 @@ ghost use Rattle.ags_links.specs.Placing.{IsPlaced, row_of};
 
 use crate::lookup::{Lookup, first_rows, rows_by_text};
 use crate::placed::{PlacedRow, field};
-use crate::texts::group_text;
+use crate::texts::push_group_entries;
 use ags_dict::Dictionary;
 use ags_rows::{Group, Places, cell_at};
 use std::alloc::{AllocError, Global};
@@ -121,8 +121,11 @@ pub(crate) fn rows_by_key(
     ensures { IfOk result (λ lookup. Finds lookup (HasText (map row_of rows.now) (HasKeyText dictionary.now))) }
 {
     let mut pairs = Vec::new(alloc);
+    let mut entries = Vec::new(alloc);
     for (number, row) in rows.iter().enumerate() {
-        let text = group_text(alloc, row, &families[row.place].keys)?;
+        entries.clear();
+        push_group_entries(&mut entries, row, &families[row.place].keys)?;
+        let text = Vec::from_slice(alloc, &entries)?;
         pairs.push((text, number as u32))?;
     }
     rows_by_text(alloc, pairs)

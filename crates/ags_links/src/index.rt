@@ -87,8 +87,11 @@ impl<'s, 'f, 'd> Index<'s, 'f, 'd> {
         let groups = scan.groups();
         let rows = place_rows(alloc, scan)?;
         let families = families(alloc, groups, dictionary, &rows)?;
-        let by_group = rows_by_group(alloc, &rows)?;
-        let parents = parents(alloc, groups, dictionary, &rows, &families, &by_group)?;
+        // the rows by group are let go before more is kept
+        let parents = {
+            let by_group = rows_by_group(alloc, &rows)?;
+            parents(alloc, groups, dictionary, &rows, &families, &by_group)?
+        };
         let spans = parent_spans(alloc, &rows, &parents)?;
         let by_key = rows_by_key(alloc, dictionary, &rows, &families)?;
         let firsts = firsts_of_keys(alloc, dictionary, &rows, &by_key)?;

@@ -11,7 +11,7 @@ ghost use Rattle.ags_links.specs.Placing.{row_of};
 use crate::families::{Family, family_at, places_of};
 use crate::lookup::{Lookup, Span, rows_by_text, rows_with, span_of};
 use crate::placed::PlacedRow;
-use crate::texts::{entries_text, is_first, names_text, push_entries};
+use crate::texts::{is_first, names_text, push_entries};
 use ags_dict::Dictionary;
 use ags_rows::{Group, Places};
 use std::alloc::{AllocError, Global};
@@ -176,10 +176,13 @@ fn rows_by_entries(
     ensures { IfOk result (λ lookup. Finds lookup (HasAmong links.now.rows.now (map row_of rows.now) (HasEntries (link_names links.now)))) }
 {
     let mut pairs = Vec::new(alloc);
+    let mut entries = Vec::new(alloc);
     for number in links.rows {
         let row = &rows[*number as usize];
         let places = places_of(alloc, &families[row.place].headings, &links.headings)?;
-        let text = entries_text(alloc, row, &places)?;
+        entries.clear();
+        push_entries(&mut entries, row, &places)?;
+        let text = Vec::from_slice(alloc, &entries)?;
         pairs.push((text, *number))?;
     }
     rows_by_text(alloc, pairs)

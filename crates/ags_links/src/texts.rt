@@ -74,32 +74,18 @@ pub(crate) fn push_entries(
     Ok(())
 }
 
-/// What stands in the row at the places, as one text.
-pub(crate) fn entries_text(
-    alloc: Global,
-    row: &PlacedRow<'_, '_>,
-    places: &[Option<usize>],
-) -> Result<Vec<u8>, AllocError>
-    ensures { IfOk result (λ text. text.items ≡ key_text (map (field_at (row_of row.now).fields) places.now)) }
-{
-    let mut text = Vec::with_capacity(alloc, ROOM)?;
-    push_entries(&mut text, row, places)?;
-    Ok(text)
-}
-
-/// The row's group, then what stands in the row at the places of its KEY headings, as one text.
-pub(crate) fn group_text(
-    alloc: Global,
+/// Adds the row's group, then what stands in the row at the places of its KEY headings.
+pub(crate) fn push_group_entries(
+    out: &mut Vec<u8>,
     row: &PlacedRow<'_, '_>,
     keys: &[Option<usize>],
-) -> Result<Vec<u8>, AllocError>
-    ensures { IfOk result (λ text. text.items ≡ key_text ((row_of row.now).group ∷ map (field_at (row_of row.now).fields) keys.now)) }
+) -> Result<(), AllocError>
+    ensures { OnOk result (out.new.items ≡ out.old.items ++ key_text ((row_of row.now).group ∷ map (field_at (row_of row.now).fields) keys.now)) }
 {
-    let mut text = Vec::with_capacity(alloc, ROOM)?;
     let group = row.group;
-    push_text(&mut text, group.name.as_slice())?;
-    push_entries(&mut text, row, keys)?;
-    Ok(text)
+    push_text(out, group.name.as_slice())?;
+    push_entries(out, row, keys)?;
+    Ok(())
 }
 
 /// A name, then others, as one text.

@@ -1,4 +1,4 @@
-use Rattle.std.proofs.Common.{◌≡◌, ◌∷◌, ap, sym, ◌∙◌, map}
+use Rattle.std.proofs.Common.{◌≡◌, ◌∷◌, ◌++◌, ap, sym, ◌∙◌, map}
 use Rattle.ags_rows.specs.Contents.{field_at}
 use Rattle.ags_links.specs.declared.families.Family.{Family}
 use Rattle.ags_links.specs.Families.{HasText, HasKeyText}
@@ -25,7 +25,7 @@ loop-number-preserved c =
     let of_row = row_of row in
     let kept = kept_family c.args.dictionary.now c.args.families.now c.args.rows.now c.loop-number.number row c.index-families-row.result c.requires.kept (c.loop-number-test.true, sym c.index-rows-number.is) (sym c.index-families-row.is) in
     let text : c.in_ok-text.text.items ≡ key_text (of_row.group ∷ key_of c.args.dictionary.now of_row) =
-    c.in_ok-text.ensures
+    c.in_ok-text.ensures.items ∙ c.deref-in-loop-number.ensures.value ∙ c.in_ok-push_group_entries.ensures ∙ ap (λ start. start ++ key_text (of_row.group ∷ map (field_at of_row.fields) c.deref.result.now)) c.clear.ensures.items
     ∙ ap (λ ps. key_text (of_row.group ∷ map (field_at of_row.fields) ps)) (c.deref.ensures.value ∙ ap (λ (f : Family). f.keys.items) (sym c.index-families-row.is) ∙ kept.keys)
     ∙ ap (λ es. key_text (of_row.group ∷ es)) (entries_at of_row (keys_of c.args.dictionary.now of_row.group)) in
     finds_row (pairs_of c.loop-number.pairs.items) (pairs_of c.push.new.self.items) (HasKeyText c.args.dictionary.now) c.args.rows.now c.loop-number.number row c.in_ok-text.text.items c.loop-number-test.true c.index-rows-number.is

@@ -1,4 +1,4 @@
-use Rattle.std.proofs.Common.{◌≡◌, get_or, map, ap, sym, ◌∙◌}
+use Rattle.std.proofs.Common.{◌≡◌, ◌++◌, get_or, map, ap, sym, ◌∙◌}
 use Rattle.ags_rows.specs.Contents.{place_in, field_at}
 use Rattle.ags_links.specs.DataRows.{IsAt, entry_of}
 use Rattle.ags_links.specs.declared.families.Family.{Family}
@@ -32,7 +32,7 @@ loop-number-preserved c =
     let kept = kept_family c.args.dictionary.now c.args.families.now c.args.rows.now (get_or numbers c.loop-number.number-index 0) row c.index-families-row.result c.requires.kept stands (sym c.index-families-row.is) in
     let stood = (get_or c.args.families.now row.place c.index-families-row.result).headings in
     let text : c.in_ok-text.text.items ≡ key_text (map (entry_of of_row) names) =
-    c.in_ok-text.ensures
+    c.in_ok-text.ensures.items ∙ c.deref-in-loop-number-2.ensures.value ∙ c.in_ok-push_entries.ensures ∙ ap (λ start. start ++ key_text (map (field_at of_row.fields) c.deref-in-loop-number.result.now)) c.clear.ensures.items
     ∙ ap (λ ps. key_text (map (field_at of_row.fields) ps)) (c.deref-in-loop-number.ensures.value ∙ c.in_ok-places.ensures ∙ places_named stood c.deref.result.now ∙ ap (λ hs. map (place_in stood) (texts hs)) c.deref.ensures.value ∙ ap (λ hs. map (place_in hs) names) (ap (λ (f : Family). f.headings) (sym c.index-families-row.is) ∙ kept.headings))
     ∙ ap key_text (entries_at of_row names) in
     finds_number (pairs_of c.loop-number.pairs.items) (pairs_of c.push.new.self.items) (HasEntries names) (map row_of c.args.rows.now) numbers c.loop-number.number-index of_row c.in_ok-text.text.items
