@@ -15,4 +15,4 @@ returns-in-Ok-clause-empty g c clean =
     new_list c.args.bytes.now (state g.S.Store c.make_register-made.new.conn) (made.put clean) (made.settled clean)
 
 pub returns : goal.returns
-returns g c = record { empty = tt; dictionary = tt; register = tt; blank = tt; refused = (c.args.dictionary, c.requires.read); working = tt; not_empty = λ e. absurd cc; made = tt; left = c.make_register-made.ensures.crash; same = λ other. absurd (other refl) }
+returns g c = record { empty = tt; dictionary = tt; register = tt; blank = tt; refused = (c.args.dictionary, c.requires.read); working = tt; not_empty = λ e. absurd cc; vacant = λ _. search rules; made = tt; left = c.make_register-made.ensures.crash; same = λ other. absurd (other refl) }
