@@ -1,6 +1,6 @@
 //! Registers that are made, and found, in databases.
 
-ghost use Rattle.std.specs.Prelude.{◌≡◌, ◌≢◌, ◌≤◌, ◌⊎◌, [], false, length, None, Ok, Err, IfOk, IfErr, IfSome};
+ghost use Rattle.std.specs.Prelude.{◌≡◌, ◌≢◌, ◌≤◌, ◌⊎◌, [], false, length, None, Ok, Err, IfOk, IfErr, IfSome, IsTrue};
 ghost use Rattle.sqlite.specs.State.{HasCleanDisk, Survives};
 ghost use Rattle.sqlite.specs.Held.{state};
 ghost use Rattle.sqlite.specs.Steps.{over_memory};
@@ -11,6 +11,7 @@ ghost use Rattle.ags_dict.specs.Reading.{IsDictionary, ReadsDictionary};
 ghost use Rattle.reg_store.specs.Tables.{no_schema, register_schema};
 ghost use Rattle.reg_store.specs.Creates.{IsNewRegister, LeavesNew};
 ghost use Rattle.reg_store.specs.Making.{RefusesBytes};
+ghost use Rattle.reg_store.specs.Quiet.{IsAsBefore};
 ghost use Rattle.reg_store.specs.Register.{IsRegister, deposits_in};
 ghost use Rattle.reg_store.specs.Adoption.{Adopts, is_store_failure};
 ghost use Rattle.reg_store.specs.Opened.{FindsSchema, HoldsRegister, RefusesFiles};
@@ -81,6 +82,8 @@ impl<S: Alter> SqlKeep<S> {
         ensures left { IfErr result (λ e. Survives (state S.Store connection) (state S.Store e.1) (LeavesNew (state S.Store connection) bytes.entry.now)) }
         ensures same { IfErr result (λ e. e.0 ≢ CreateError.Store → HasCleanDisk (state S.Store e.1)
             → ((state S.Store e.1).now ≡ (state S.Store connection).now) × ((state S.Store e.1).committed ≡ (state S.Store connection).committed)) }
+        ensures still { IfErr result (λ e. HasCleanDisk (state S.Store e.1) → IsTrue (state S.Store e.1).is_open
+            → IsAsBefore (state S.Store connection) (state S.Store e.1)) }
     {
         if !is_vacant(connection.schema()) {
             return Err((CreateError::NotEmpty, connection));
@@ -124,6 +127,8 @@ impl<S: Alter> SqlKeep<S> {
         ensures left { IfErr result (λ e. Survives (state S.Store connection) (state S.Store e.1) (LeavesNew (state S.Store connection) bytes.now)) }
         ensures same { IfErr result (λ e. e.0 ≢ CreateError.Store → HasCleanDisk (state S.Store e.1)
             → ((state S.Store e.1).now ≡ (state S.Store connection).now) × ((state S.Store e.1).committed ≡ (state S.Store connection).committed)) }
+        ensures still { IfErr result (λ e. HasCleanDisk (state S.Store e.1) → IsTrue (state S.Store e.1).is_open
+            → IsAsBefore (state S.Store connection) (state S.Store e.1)) }
     {
         match read_dictionary(alloc, bytes) {
             Ok(dictionary) => SqlKeep::make(alloc, connection, dictionary, bytes),
@@ -144,6 +149,8 @@ impl<S: Alter> SqlKeep<S> {
         ensures refused { IfErr result (λ e. HasCleanDisk (state S.Store e.1) → Adopts (state S.Store connection).now (Err e.0)) }
         ensures same { IfErr result (λ e. HasCleanDisk (state S.Store e.1) → is_store_failure e.0 ≡ false
             → ((state S.Store e.1).now ≡ (state S.Store connection).now) × ((state S.Store e.1).committed ≡ (state S.Store connection).committed)) }
+        ensures still { IfErr result (λ e. HasCleanDisk (state S.Store e.1) → IsTrue (state S.Store e.1).is_open
+            → IsAsBefore (state S.Store connection) (state S.Store e.1)) }
         ensures left { IfErr result (λ e. Survives (state S.Store connection) (state S.Store e.1) (λ _. ⊥)) }
     {
         if !has_meta(connection.schema()) {
