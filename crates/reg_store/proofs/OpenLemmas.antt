@@ -2,6 +2,7 @@
 use Rattle.std.proofs.Common.{◌≡◌, List, Err, sym, ap, subst, ◌∙◌}
 use Rattle.std.proofs.Math.Logic.{∥∥₁_map}
 use Rattle.sqlite.specs.Recovery.{Image}
+use Rattle.sqlite.specs.Schema.{Schema}
 use Rattle.sqlite.specs.Tree.{Trees}
 use Rattle.sqlite.specs.Effect.{Database}
 use Rattle.sqlite.specs.State.{State, Opens, IsLive}
@@ -12,7 +13,7 @@ use Rattle.reg_store.specs.declared.adopting.AdoptError.{AdoptError}
 use Rattle.reg_store.specs.Deposit.{Deposit}
 use Rattle.reg_store.specs.Register.{IsRegister}
 use Rattle.reg_store.specs.Adoption.{Adopts}
-use Rattle.reg_store.specs.Opened.{FindsTables, HoldsRegister, RefusesFiles}
+use Rattle.reg_store.specs.Opened.{FindsTables, FindsSchema, HoldsRegister, RefusesFiles}
 
 found_tables : {image : Image} (s : State) → Opens s → FindsIn image s → FindsTables image s.now.trees
 found_tables {image} s opened found =
@@ -26,3 +27,6 @@ found_register {image} {dictionary} {list} s opened found register =
 pub found_refused : {image : Image} {error : AdoptError} (s : State) → Opens s × IsLive s → FindsIn image s → Adopts s.now (Err error) → RefusesFiles image error
 found_refused {image} {error} s opened found refused =
     record { db = s.now; sound = (opened.1 opened.0.is_open).0; found = found_tables {image = image} s opened.0 found; refused = refused }
+
+pub found_schema : {image : Image} {Has : Schema → Type 0} (s : State) → Opens s × IsLive s → FindsIn image s → Has s.now.schema → FindsSchema image Has
+found_schema {image} {Has} s opened found has = record { db = s.now; sound = (opened.1 opened.0.is_open).0; found = found_tables {image = image} s opened.0 found; has = has }

@@ -4,22 +4,28 @@ use Rattle.sqlite.specs.Order.{Row}
 use Rattle.sqlite.specs.declared.error.Error.{Error}
 use Rattle.sqlite_schema.specs.declared.command.Returning.{Returning}
 use Rattle.sqlite.specs.Clock.{timed}
+use Rattle.sqlite.specs.Tree.{Trees}
 use Rattle.sqlite.specs.Effect.{Database}
 use Rattle.sqlite.specs.Listing.{understood, reads_listing, IsSourceOf}
 use Rattle.sqlite.specs.State.{State, Shown, ShowsRows, IsUnchanged, HasCleanDisk, Survives, CommitsShowing, FailsToQuery, IsNotRun, FailsToShow}
 use Rattle.sqlite.proofs.StateLemmas.{survives_weaker, survives_then}
 use Rattle.sqlite.proofs.Callers.{IsPlain, never_commits, unchanged_then}
 use Rattle.reg_store.specs.Tables.{register_schema}
-use Rattle.reg_store.specs.Quiet.{IsAsBefore, IsStill, clean_before}
+use Rattle.reg_store.specs.Quiet.{IsAsBefore, IsIdle, IsStill, clean_before}
 
 pub plain_at : (sql : List ℕ) (s : State) → IsPlain (understood register_schema sql) → s.now.schema ≡ register_schema → IsPlain (understood s.now.schema sql)
 plain_at sql s plain has = subst (λ k. IsPlain (understood k sql)) (sym has) plain
 
--- a query that fails leaves what was committed, where that was all
+-- what is not run leaves what was committed, where that was all
+not_run : (sql : List ℕ) (params : Row) (old new : State) (e : Error) → (IsTrue old.is_open → old.committed ≡ old.now) → IsTrue new.is_open → IsNotRun old new sql params e → IsAsBefore old new
+unfolding IsNotRun
+not_run sql params old new e settled is_open (inl h) = (h.1.0.was_open, h.1.0.now_is, h.1.0.committed_is)
+not_run sql params old new e settled is_open (inr h) = let u = h.3.undone is_open in let was = h.3.was_open is_open in (was, u.0 ∙ settled was, u.1)
+
+-- so does a query that fails
 pub fails_keeps : (sql : List ℕ) (params : Row) (old new : State) (e : Error) → (IsTrue old.is_open → old.committed ≡ old.now) → IsTrue new.is_open → FailsToQuery sql params old new e → IsAsBefore old new
-unfolding FailsToQuery IsNotRun
-fails_keeps sql params old new e settled is_open (inl (inl h)) = (h.1.0.was_open, h.1.0.now_is, h.1.0.committed_is)
-fails_keeps sql params old new e settled is_open (inl (inr h)) = let u = h.3.undone is_open in let was = h.3.was_open is_open in (was, u.0 ∙ settled was, u.1)
+unfolding FailsToQuery
+fails_keeps sql params old new e settled is_open (inl h) = not_run sql params old new e settled is_open h
 fails_keeps sql params old new e settled is_open (inr h) = shows h.0.returning h.2
   where
     shows : (r : Option Returning) → FailsToShow old new sql h.0 (timed params h.0.formats h.1.now) e r → IsAsBefore old new
@@ -76,6 +82,7 @@ ok_quiet old new idle is_open stays survives = record {
   idle = idle;
   is_open = λ clean _. both_open (is_open clean) (stays clean (is_open clean)).0;
   same = λ clean _. (let it = stays clean (is_open clean) in (it.1, it.2));
+  still = stays;
   survives = survives;
 }
 
@@ -85,12 +92,35 @@ open_quiet old mid new idle stays survives unchanged probed = record {
   idle = idle;
   is_open = λ clean _. both_open (unchanged clean).0.is_open (stays (clean_before mid new probed clean) (unchanged clean).0.was_open).0;
   same = λ clean _. (let at = (unchanged clean).0 in let was = stays (clean_before mid new probed clean) at.was_open in (at.now_is ∙ was.1, at.committed_is ∙ was.2));
+  still = λ clean _. (let at = (unchanged clean).0 in let was = stays (clean_before mid new probed clean) at.was_open in (was.0, at.now_is ∙ was.1, at.committed_is ∙ was.2));
   survives = survives_then old mid new _ _ (λ _. ⊥) (λ _ db none. none) (λ _ db none. none) survives probed;
 }
 
 -- the store failed
-pub failed_quiet : (old new : State) → new.in_transaction ≡ false → Survives old new (λ _. ⊥) → IsStill old new true
-failed_quiet old new idle survives = record { idle = idle; is_open = λ clean e. absurd cc; same = λ clean e. absurd cc; survives = survives }
+pub failed_quiet : (old new : State) → new.in_transaction ≡ false → (HasCleanDisk new → IsTrue new.is_open → IsAsBefore old new) → Survives old new (λ _. ⊥) → IsStill old new true
+failed_quiet old new idle stays survives = record { idle = idle; is_open = λ clean e. absurd cc; same = λ clean e. absurd cc; still = stays; survives = survives }
 
-pub failed_then : (old mid new : State) → new.in_transaction ≡ false → Survives old mid (λ _. ⊥) → Survives mid new (λ _. ⊥) → IsStill old new true
-failed_then old mid new idle one two = failed_quiet old new idle (survives_then old mid new _ _ (λ _. ⊥) (λ _ db none. none) (λ _ db none. none) one two)
+-- a text that is only prepared leaves it too
+pub probed : {X : Type 0} (P : X → Type 0) (sql : List ℕ) (old new : State) (r : Result X Error) → IfOk r (λ x. P x × IsUnchanged old new) → IfErr r (λ e. (params : Row) → IsNotRun old new sql params e)
+    → (IsTrue old.is_open → old.committed ≡ old.now) → IsTrue new.is_open → IsAsBefore old new
+probed P sql old new (Ok x) ok err settled is_open = (ok.1.0.was_open, ok.1.0.now_is, ok.1.0.committed_is)
+probed P sql old new (Err e) ok err settled is_open = not_run sql [] old new e settled is_open (err [])
+
+-- the connection is asked whether it is open, and it still is: it shows what it showed from the start
+pub still_then : {P Q : Trees → Type 0} (old mid new : State) → (HasCleanDisk old → IsTrue old.is_open → old.committed ≡ old.now) → (HasCleanDisk mid → IsTrue mid.is_open → IsAsBefore old mid) → Survives old mid P
+    → (HasCleanDisk new → IsTrue new.is_open → (IsTrue mid.is_open → mid.committed ≡ mid.now) → IsAsBefore mid new) → Survives mid new Q → HasCleanDisk new → IsTrue new.is_open → IsAsBefore old new
+still_then old mid new settled stays one probe two clean is_open =
+    let early = clean_before mid new two clean in
+    let middle : IsTrue mid.is_open → mid.committed ≡ mid.now = λ o. (let was = stays early o in was.2 ∙ settled (clean_before old mid one early) was.0 ∙ sym was.1) in
+    let next = probe clean is_open middle in
+    let was = stays early next.0 in (was.0, next.1 ∙ was.1, next.2 ∙ was.2)
+
+-- what a change that failed leaves of a connection that showed no more than was committed
+pub undone_still : (old new : State) → (HasCleanDisk new → IsTrue new.is_open → IsTrue old.is_open) → (HasCleanDisk new → IsTrue new.is_open → (new.now ≡ old.committed) × (new.committed ≡ old.committed))
+    → (IsTrue old.is_open → old.committed ≡ old.now) → HasCleanDisk new → IsTrue new.is_open → IsAsBefore old new
+undone_still old new was_open undone settled clean is_open = let was = was_open clean is_open in let it = undone clean is_open in (was, it.0 ∙ settled was, it.1)
+
+pub failed_then : (old mid new : State) → IsIdle old → new.in_transaction ≡ false → (HasCleanDisk mid → IsTrue mid.is_open → IsAsBefore old mid) → Survives old mid (λ _. ⊥)
+    → (HasCleanDisk new → IsTrue new.is_open → (IsTrue mid.is_open → mid.committed ≡ mid.now) → IsAsBefore mid new) → Survives mid new (λ _. ⊥) → IsStill old new true
+failed_then old mid new idle mode stays one probe two =
+    failed_quiet old new mode (still_then old mid new idle.settled stays one probe two) (survives_then old mid new _ _ (λ _. ⊥) (λ _ db none. none) (λ _ db none. none) one two)

@@ -1,6 +1,7 @@
 -- What the opening of a register in files says of what the files held. The image stands for that: their bytes as they were opened.
 use Rattle.std.specs.Prelude.{◌≡◌, List, Err}
 use Rattle.sqlite.specs.Recovery.{Image}
+use Rattle.sqlite.specs.Schema.{Schema}
 use Rattle.sqlite.specs.Tree.{Trees}
 use Rattle.sqlite.specs.Effect.{Database, IsDatabase}
 use Rattle.sqlite.specs.Files.{AreFoundIn, HoldsDatabase}
@@ -27,3 +28,10 @@ pub record RefusesFiles (image : Image) (error : AdoptError) : Type 0 where
   pub sound : IsDatabase db
   pub found : FindsTables image db.trees
   pub refused : Adopts db (Err error)
+
+-- An open finds a sound database, and this holds of its tables, indexes and views.
+pub record FindsSchema (image : Image) (Has : Schema → Type 0) : Type 0 where
+  pub db : Database
+  pub sound : IsDatabase db
+  pub found : FindsTables image db.trees
+  pub has : Has db.schema

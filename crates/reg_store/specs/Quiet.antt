@@ -17,11 +17,12 @@ pub record IsIdle (s : State) : Type 0 where
 abbrev pub IsAsBefore : State → State → Type 0
 IsAsBefore old new = IsTrue old.is_open × (new.now ≡ old.now) × (new.committed ≡ old.committed)
 
--- Nothing was committed, and where the call did not fail nothing changed.
+-- Nothing was committed. Where the call did not fail nothing changed, nor where the connection is still open.
 pub record IsStill (old new : State) (failed : Bool) : Type 0 where
   pub idle : new.in_transaction ≡ false
   pub is_open : HasCleanDisk new → failed ≡ false → new.is_open ≡ old.is_open
   pub same : HasCleanDisk new → failed ≡ false → (new.now ≡ old.now) × (new.committed ≡ old.committed)
+  pub still : HasCleanDisk new → IsTrue new.is_open → IsAsBefore old new
   pub survives : Survives old new (λ _. ⊥)
 
 -- a store that is sound after a call was sound before it
@@ -34,12 +35,13 @@ quiet_read old new failed quiet = record {
   idle = quiet.idle;
   is_open = λ clean _. quiet.is_open clean refl;
   same = λ clean _. quiet.same clean refl;
+  still = quiet.still;
   survives = quiet.survives;
 }
 
 -- no call, no change
 pub quiet_none : (s : State) (failed : Bool) → s.in_transaction ≡ false → IsStill s s failed
-quiet_none s failed idle = record { idle = idle; is_open = λ clean _. refl; same = λ clean _. (refl, refl); survives = record { clean = omega arith; shield = λ is. is; counts = omega arith; limit = refl; closes = λ clean o. inl o; crash = λ clean db may. inl may } }
+quiet_none s failed idle = record { idle = idle; is_open = λ clean _. refl; same = λ clean _. (refl, refl); still = λ clean o. (o, refl, refl); survives = record { clean = omega arith; shield = λ is. is; counts = omega arith; limit = refl; closes = λ clean o. inl o; crash = λ clean db may. inl may } }
 
 pub quiet_then : (a b c : State) (failed : Bool) → IsStill a b false → IsStill b c failed → IsStill a c failed
 quiet_then a b c failed one two = record {
@@ -47,6 +49,8 @@ quiet_then a b c failed one two = record {
   is_open = λ clean well. two.is_open clean well ∙ one.is_open (clean_before b c two.survives clean) refl;
   same = λ clean well.
       (let early = clean_before b c two.survives clean in let first = one.same early refl in let next = two.same clean well in (next.0 ∙ first.0, next.1 ∙ first.1));
+  still = λ clean o.
+      (let next = two.still clean o in let first = one.still (clean_before b c two.survives clean) next.0 in (first.0, next.1 ∙ first.1, next.2 ∙ first.2));
   survives = survives_then a b c _ _ (λ _. ⊥) (λ _ db none. none) (λ _ db none. none) one.survives two.survives;
 }
 

@@ -1,6 +1,6 @@
 //! Registers that are made, and found, in databases.
 
-ghost use Rattle.std.specs.Prelude.{◌≡◌, ◌≢◌, ◌≤◌, ◌⊎◌, [], false, length, None, Ok, Err, IfOk, IfErr, IfSome};
+ghost use Rattle.std.specs.Prelude.{◌≡◌, ◌≢◌, ◌≤◌, ◌⊎◌, [], false, length, None, Ok, Err, IfOk, IfErr, IfSome, IsTrue};
 ghost use Rattle.sqlite.specs.State.{HasCleanDisk, Survives};
 ghost use Rattle.sqlite.specs.Held.{state};
 ghost use Rattle.sqlite.specs.Steps.{over_memory};
@@ -11,9 +11,10 @@ ghost use Rattle.ags_dict.specs.Reading.{IsDictionary, ReadsDictionary};
 ghost use Rattle.reg_store.specs.Tables.{no_schema, register_schema};
 ghost use Rattle.reg_store.specs.Creates.{IsNewRegister, LeavesNew};
 ghost use Rattle.reg_store.specs.Making.{RefusesBytes};
+ghost use Rattle.reg_store.specs.Quiet.{IsAsBefore};
 ghost use Rattle.reg_store.specs.Register.{IsRegister, deposits_in};
 ghost use Rattle.reg_store.specs.Adoption.{Adopts, is_store_failure};
-ghost use Rattle.reg_store.specs.Opened.{HoldsRegister, RefusesFiles};
+ghost use Rattle.reg_store.specs.Opened.{FindsSchema, HoldsRegister, RefusesFiles};
 
 use crate::adopting::AdoptError;
 use crate::creating::make_register;
@@ -76,10 +77,13 @@ impl<S: Alter> SqlKeep<S> {
         ensures refused { IfErr result (λ e. RefusesBytes bytes.entry.now e.0) }
         ensures working { IfOk result (λ k. k.has_failed ≡ false) }
         ensures not_empty { IfErr result (λ e. e.0 ≡ CreateError.NotEmpty → (state S.Store connection).now.schema ≢ no_schema) }
+        ensures vacant { IfErr result (λ e. e.0 ≡ CreateError.Store → (state S.Store connection).now.schema ≡ no_schema) }
         ensures made { IfOk result (λ k. Survives (state S.Store connection) (state S.Store k.connection) (LeavesNew (state S.Store connection) bytes.entry.now)) }
         ensures left { IfErr result (λ e. Survives (state S.Store connection) (state S.Store e.1) (LeavesNew (state S.Store connection) bytes.entry.now)) }
         ensures same { IfErr result (λ e. e.0 ≢ CreateError.Store → HasCleanDisk (state S.Store e.1)
             → ((state S.Store e.1).now ≡ (state S.Store connection).now) × ((state S.Store e.1).committed ≡ (state S.Store connection).committed)) }
+        ensures still { IfErr result (λ e. HasCleanDisk (state S.Store e.1) → IsTrue (state S.Store e.1).is_open
+            → IsAsBefore (state S.Store connection) (state S.Store e.1)) }
     {
         if !is_vacant(connection.schema()) {
             return Err((CreateError::NotEmpty, connection));
@@ -103,8 +107,8 @@ impl<S: Alter> SqlKeep<S> {
 
     /// An empty register in a database that had no table, under the dictionary that the bytes are.
     ///
-    /// The bytes are looked at first. A connection in a transaction is answered `Store`. A crash within the call leaves what it left before, or an
-    /// empty register where there was no table.
+    /// The bytes are looked at first, then whether there is a table. A connection in a transaction is answered `Store`. One that comes back open shows
+    /// the tables from before. A crash within the call leaves what it left before, or an empty register where there was no table.
     pub fn create_in(
         alloc: Global,
         connection: Connection<S>,
@@ -118,10 +122,13 @@ impl<S: Alter> SqlKeep<S> {
         ensures refused { IfErr result (λ e. RefusesBytes bytes.now e.0) }
         ensures working { IfOk result (λ k. k.has_failed ≡ false) }
         ensures not_empty { IfErr result (λ e. e.0 ≡ CreateError.NotEmpty → (state S.Store connection).now.schema ≢ no_schema) }
+        ensures vacant { IfErr result (λ e. e.0 ≡ CreateError.Store → (state S.Store connection).now.schema ≡ no_schema) }
         ensures made { IfOk result (λ k. Survives (state S.Store connection) (state S.Store k.connection) (LeavesNew (state S.Store connection) bytes.now)) }
         ensures left { IfErr result (λ e. Survives (state S.Store connection) (state S.Store e.1) (LeavesNew (state S.Store connection) bytes.now)) }
         ensures same { IfErr result (λ e. e.0 ≢ CreateError.Store → HasCleanDisk (state S.Store e.1)
             → ((state S.Store e.1).now ≡ (state S.Store connection).now) × ((state S.Store e.1).committed ≡ (state S.Store connection).committed)) }
+        ensures still { IfErr result (λ e. HasCleanDisk (state S.Store e.1) → IsTrue (state S.Store e.1).is_open
+            → IsAsBefore (state S.Store connection) (state S.Store e.1)) }
     {
         match read_dictionary(alloc, bytes) {
             Ok(dictionary) => SqlKeep::make(alloc, connection, dictionary, bytes),
@@ -131,7 +138,7 @@ impl<S: Alter> SqlKeep<S> {
 
     /// The register that a database holds: each kept body is checked anew, and its lines and steps are compared.
     ///
-    /// A connection in a transaction is answered `Store`.
+    /// A connection in a transaction is answered `Store`. One that comes back open shows the tables from before.
     pub fn adopt(
         alloc: Global,
         mut connection: Connection<S>,
@@ -142,6 +149,8 @@ impl<S: Alter> SqlKeep<S> {
         ensures refused { IfErr result (λ e. HasCleanDisk (state S.Store e.1) → Adopts (state S.Store connection).now (Err e.0)) }
         ensures same { IfErr result (λ e. HasCleanDisk (state S.Store e.1) → is_store_failure e.0 ≡ false
             → ((state S.Store e.1).now ≡ (state S.Store connection).now) × ((state S.Store e.1).committed ≡ (state S.Store connection).committed)) }
+        ensures still { IfErr result (λ e. HasCleanDisk (state S.Store e.1) → IsTrue (state S.Store e.1).is_open
+            → IsAsBefore (state S.Store connection) (state S.Store e.1)) }
         ensures left { IfErr result (λ e. Survives (state S.Store connection) (state S.Store e.1) (λ _. ⊥)) }
     {
         if !has_meta(connection.schema()) {
@@ -190,7 +199,9 @@ impl SqlKeep<MemStore> {
 }
 
 impl SqlKeep<FileStore<File>> {
-    /// An empty register in the database at a path. No clause says what was there before.
+    /// An empty register in the database at a path.
+    ///
+    /// It is `create_from` with `Unknown`, of which no clause says anything where the file is not empty.
     pub fn create(
         rt: &HostRuntime,
         alloc: Global,
@@ -204,13 +215,7 @@ impl SqlKeep<FileStore<File>> {
         ensures refused { IfErr result (RefusesBytes bytes.now) }
         ensures working { IfOk result (λ k. k.has_failed ≡ false) }
     {
-        let dictionary = read_dictionary(alloc, bytes)?;
-        let connection = match Connection::open(rt, path) {
-            Ok(connection) => connection,
-            Err(error) if is_memory(&error) => return Err(CreateError::NoMemory),
-            Err(_) => return Err(CreateError::Store),
-        };
-        match SqlKeep::make(alloc, connection, dictionary, bytes) {
+        match SqlKeep::create_from(rt, alloc, path, bytes, Unknown) {
             Ok(keep) => Ok(keep),
             Err((error, _connection)) => Err(error),
         }
@@ -234,6 +239,47 @@ impl SqlKeep<FileStore<File>> {
 }
 
 impl<F: Start> SqlKeep<FileStore<FileFrom<F>>> {
+    /// An empty register in the database at a path that had no table, where `F` stands for what its files held.
+    ///
+    /// The bytes are looked at first. A file that cannot be opened is `Store`, or `NoMemory`; `NotEmpty` comes with the connection that was opened.
+    pub fn create_from(
+        rt: &HostRuntime,
+        alloc: Global,
+        path: &str,
+        bytes: &[u8],
+        start: F,
+    ) -> Result<
+        SqlKeep<FileStore<FileFrom<F>>>,
+        (CreateError, Option<Connection<FileStore<FileFrom<F>>>>),
+    >
+        requires short { length bytes.now ≤ READABLE }
+        ensures empty { IfOk result (λ k. HasCleanDisk (file_state k.connection) → deposits_in (file_state k.connection).committed.trees ≡ []) }
+        ensures dictionary { IfOk result (λ k. ReadsDictionary bytes.now (Ok k.dictionary)) }
+        ensures register { IfOk result (λ k. HasCleanDisk (file_state k.connection) → IsNewRegister bytes.now (file_state k.connection).now) }
+        ensures blank { IfOk result (λ k. HasCleanDisk (file_state k.connection) → FindsSchema (image_at F.Start) (λ schema. schema ≡ no_schema)) }
+        ensures refused { IfErr result (λ e. RefusesBytes bytes.now e.0) }
+        ensures working { IfOk result (λ k. k.has_failed ≡ false) }
+        ensures not_empty { IfErr result (λ e. e.0 ≡ CreateError.NotEmpty → IfSome e.1 (λ c. HasCleanDisk (file_state c)
+            → FindsSchema (image_at F.Start) (λ schema. schema ≢ no_schema))) }
+        ensures vacant { IfErr result (λ e. e.0 ≡ CreateError.Store → IfSome e.1 (λ c. HasCleanDisk (file_state c)
+            → FindsSchema (image_at F.Start) (λ schema. schema ≡ no_schema))) }
+        ensures unopened { IfErr result (λ e. e.1 ≡ None → e.0 ≢ CreateError.NotEmpty) }
+    {
+        let dictionary = match read_dictionary(alloc, bytes) {
+            Ok(dictionary) => dictionary,
+            Err(error) => return Err((error, None)),
+        };
+        let connection = match Connection::open_from(rt, path, false, start) {
+            Ok(connection) => connection,
+            Err((error, _left)) if is_memory(&error) => return Err((CreateError::NoMemory, None)),
+            Err(_) => return Err((CreateError::Store, None)),
+        };
+        match SqlKeep::make(alloc, connection, dictionary, bytes) {
+            Ok(keep) => Ok(keep),
+            Err((error, connection)) => Err((error, Some(connection))),
+        }
+    }
+
     /// The register that the database at a path holds, where `F` stands for what its files held.
     ///
     /// A file that cannot be opened is `Store`, or `NoMemory`; every other refusal comes with the connection that was opened.

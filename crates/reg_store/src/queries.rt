@@ -24,6 +24,8 @@ pub(crate) fn is_memory(error: &Error) -> bool
 /// Whether the connection is known to be open. An answer of want of memory alone does not say it.
 pub(crate) fn is_open<S: Alter>(conn: &mut Connection<S>) -> bool
     ensures known { HasCleanDisk (state S.Store conn.new) → IsTrue result → IsUnchanged (state S.Store conn.old) (state S.Store conn.new) }
+    ensures still { HasCleanDisk (state S.Store conn.new) → IsTrue (state S.Store conn.new).is_open
+        → (IsTrue (state S.Store conn.old).is_open → (state S.Store conn.old).committed ≡ (state S.Store conn.old).now) → IsAsBefore (state S.Store conn.old) (state S.Store conn.new) }
     ensures mode { conn.old.in_transaction ≡ false → conn.new.in_transaction ≡ false }
     ensures crash { Survives (state S.Store conn.old) (state S.Store conn.new) (λ _. ⊥) }
 {

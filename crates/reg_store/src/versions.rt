@@ -48,6 +48,7 @@ fn ask_meta<S: Alter>(conn: &mut Connection<S>) -> Result<Vec<Row>, Error>
 /// Why a database is refused whose first table is meta, and whose tables are not those of a register.
 ///
 /// Another number of the format comes before that it is no register.
+#[tactic(auto, using(crate::proofs::QueryLemmas::still_then))]
 pub(crate) fn refuse_tables<S: Alter>(conn: &mut Connection<S>) -> AdoptError
     requires mode { conn.old.in_transaction ≡ false }
     requires meta { StartsWithMeta (state S.Store conn.old).now.schema }
@@ -56,6 +57,7 @@ pub(crate) fn refuse_tables<S: Alter>(conn: &mut Connection<S>) -> AdoptError
     ensures refused { HasCleanDisk (state S.Store conn.new) → Adopts (state S.Store conn.old).now (Err result) }
     ensures same { HasCleanDisk (state S.Store conn.new) → is_store_failure result ≡ false
         → ((state S.Store conn.new).now ≡ (state S.Store conn.old).now) × ((state S.Store conn.new).committed ≡ (state S.Store conn.old).committed) }
+    ensures still { HasCleanDisk (state S.Store conn.new) → IsTrue (state S.Store conn.new).is_open → IsAsBefore (state S.Store conn.old) (state S.Store conn.new) }
     ensures crash { Survives (state S.Store conn.old) (state S.Store conn.new) (λ _. ⊥) }
 {
     match ask_meta(conn) {

@@ -1,4 +1,4 @@
-use Rattle.std.proofs.Common.{rules, arith, ◌≡◌, refl}
+use Rattle.std.proofs.Common.{rules, arith, ◌≡◌, refl, sym}
 use Rattle.sqlite.specs.State.{HasCleanDisk}
 use Rattle.sqlite.specs.Held.{state}
 use Rattle.reg_store.proofs.CreateLemmas.{new_list, new_keeps}
@@ -15,4 +15,4 @@ returns-in-Ok-clause-empty g c clean =
     new_list c.args.bytes.now (state g.S.Store c.make_register-made.new.conn) (made.put clean) (made.settled clean)
 
 pub returns : goal.returns
-returns g c = record { empty = tt; dictionary = tt; register = tt; blank = tt; refused = (c.args.dictionary, c.requires.read); working = tt; not_empty = λ e. absurd cc; made = tt; left = c.make_register-made.ensures.crash; same = λ other. absurd (other refl) }
+returns g c = record { empty = tt; dictionary = tt; register = tt; blank = tt; refused = (c.args.dictionary, c.requires.read); working = tt; not_empty = λ e. absurd cc; vacant = λ _. search rules; made = tt; left = c.make_register-made.ensures.crash; same = λ other. absurd (other refl); still = λ clean is_open. c.in-Err.ensures.still clean is_open (λ o. sym (c.is_autocommit.ensures.settled (search rules) o)) }
