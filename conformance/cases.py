@@ -1,12 +1,12 @@
 #!/usr/bin/env python3
 """The files of this folder, each with what the rules find in it, worked out by hand.
 
-usage: cases.py          writes NAME.ags for each case and expected.tsv, and compares each case with reference.py
+usage: cases.py          writes files/NAME.ags for each case and files/expected.tsv, and compares each case with reference.py
 The phase of a case is the phase whose findings it shows; a checker of fewer phases has to call the file clean."""
 import os
 import reference
 
-HERE = os.path.dirname(os.path.abspath(__file__))
+FILES = os.path.join(os.path.dirname(os.path.abspath(__file__)), "files")
 
 
 
@@ -220,10 +220,10 @@ def main():
         if got != want:
             wrong += 1
             print(f"{name}: by hand {want}, by reference.py {got}")
-        with open(os.path.join(HERE, name + ".ags"), "wb") as file:
+        with open(os.path.join(FILES, name + ".ags"), "wb") as file:
             file.write(data)
         table.append(f"{name}\t{phase}\t{';'.join(want)}")
-    with open(os.path.join(HERE, "expected.tsv"), "w", encoding="latin-1", newline="\n") as file:
+    with open(os.path.join(FILES, "expected.tsv"), "w", encoding="latin-1", newline="\n") as file:
         file.write("\n".join(table) + "\n")
     print(f"{len(CASES)} files, {wrong} on which the two differ")
     return 1 if wrong else 0

@@ -47,7 +47,7 @@ def change(data, chance):
 def main():
     program = os.path.abspath(sys.argv[1])
     count, seed, phases = (int(sys.argv[n]) if len(sys.argv) > n else usual for n, usual in ((2, 500), (3, 1), (4, 5)))
-    names = sorted(glob.glob(os.path.join(here, "*.ags")))
+    names = sorted(glob.glob(os.path.join(here, "files", "*.ags")))
     chance, passed, failed, clean = random.Random(seed), 0, 0, 0
     for turn in range(count):
         with open(chance.choice(names), "rb") as file:

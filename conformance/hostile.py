@@ -354,10 +354,10 @@ def main():
     program = os.path.abspath(sys.argv[1])
     count, seed = (int(sys.argv[n]) if len(sys.argv) > n else usual for n, usual in ((2, 300), (3, 1)))
     resource.setrlimit(resource.RLIMIT_AS, (MEMORY, MEMORY))
-    here, names, failed, asked = os.path.dirname(os.path.abspath(__file__)), [], 0, 0
-    for name in sorted(os.listdir(here)):
+    files, names, failed, asked = os.path.join(os.path.dirname(os.path.abspath(__file__)), "files"), [], 0, 0
+    for name in sorted(os.listdir(files)):
         if name.endswith(".ags"):
-            with open(os.path.join(here, name), "rb") as file:
+            with open(os.path.join(files, name), "rb") as file:
                 names.append(file.read())
     for word in sys.argv[4:] or KINDS:
         kind, _, first = word.partition(":")

@@ -3,7 +3,7 @@
 
 usage: reference.py [--phases N] < FILE.ags       prints one line `code line subject` a finding, or `clean`, as groundreg does
 
-It proves nothing. It is here so that what the files of this folder must give was computed twice: by hand in cases.py and by
+It proves nothing. It is here so that what the files of files/ must give was computed twice: by hand in cases.py and by
 this program. Every rule is written as a search over all lines, rows or pairs of rows; no index, no order that matters."""
 import re
 import sys

@@ -559,8 +559,8 @@ def told(program, names, seed, number):
 def main():
     program = os.path.abspath(sys.argv[1])
     count, seed, first = (int(sys.argv[n]) if len(sys.argv) > n else usual for n, usual in ((2, 300), (3, 1), (4, 1)))
-    here = os.path.dirname(os.path.abspath(__file__))
-    names = sorted(os.path.join(here, name) for name in os.listdir(here) if name.endswith(".ags"))
+    files = os.path.join(os.path.dirname(os.path.abspath(__file__)), "files")
+    names = sorted(os.path.join(files, name) for name in os.listdir(files) if name.endswith(".ags"))
     passed = failed = runs = connections = 0
     with multiprocessing.Pool(2) as pool:
         for number, difference, asked in pool.imap(functools.partial(told, program, names, seed), range(first, first + count)):

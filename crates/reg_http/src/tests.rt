@@ -258,7 +258,7 @@ Connection: close\r\n\
 \r\n\
 {\"error\":\"out of memory\"}";
 
-/// With memory, and where `bench/refused_tests` refuses one growth: of three equal deposits one at most is answered 503 then, and
+/// With memory, and where `conformance/refused_tests` refuses one growth: of three equal deposits one at most is answered 503 then, and
 /// each other as ever.
 #[test]
 fn memory_is_refused_once(rt: HostRuntime) -> Result<(), Fail> {
