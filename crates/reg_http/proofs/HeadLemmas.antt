@@ -1,5 +1,5 @@
 -- When the bytes of a connection have a head within the limits, and when they have none.
-use Rattle.std.proofs.Common.{◌≡◌, ℕ, ◌+◌, ◌-◌, ◌≤◌, List, [], ◌∷◌, ◌++◌, length, take, drop, map, Option, Some, None, sym, ap, ◌∙◌, arith, length-append}
+use Rattle.std.proofs.Common.{◌≡◌, ℕ, ◌≤◌, List, [], ◌∷◌, ◌++◌, length, take, drop, map, Option, Some, None, sym, ap, ◌∙◌, arith, length-append}
 use Rattle.std.proofs.lemmas.List.{take-append-le, append-nil, take-append-drop, length-take-le, length-map}
 use Rattle.std.proofs.Math.Seq.{take-append_seam}
 use Rattle.std.specs.Io.KnownBytes.{Consumes}
@@ -20,6 +20,17 @@ none_at_first h rest reads =
     ap length (reads.1 ∙ print_request-append h rest) in
     let some = length-append (print_blank h.blank) (h.method ++ 32 ∷ (h.target ++ 32 ∷ after)) in
     let more = length-append h.method (32 ∷ (h.target ++ 32 ∷ after)) in
+    absurd (omega arith)
+
+-- nor is one byte
+pub none_at_one : (b : ℕ) → HasNoHead (b ∷ [])
+none_at_one b h rest head =
+    let after = print_version h.minor ++ (print_end h.line_end ++ (print_section h.fields h.last ++ rest)) in
+    let one : 1 ≡ length (print_blank h.blank ++ (h.method ++ 32 ∷ (h.target ++ 32 ∷ after))) =
+    ap length (head.reads.1 ∙ print_request-append h rest) in
+    let some = length-append (print_blank h.blank) (h.method ++ 32 ∷ (h.target ++ 32 ∷ after)) in
+    let more = length-append h.method (32 ∷ (h.target ++ 32 ∷ after)) in
+    let last = length-append h.target (32 ∷ after) in
     absurd (omega arith)
 
 -- an unfinished head is none

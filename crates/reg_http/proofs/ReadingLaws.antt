@@ -6,7 +6,7 @@ use Rattle.reg_policy.specs.declared.callers.Credential.{Credential}
 use Rattle.reg_http.specs.Asks.{Asking, ask_of, asked_of}
 use Rattle.reg_http.specs.Heads.{IsHead}
 use Rattle.reg_http.specs.HeadParts.{head_parts}
-use Rattle.reg_http.specs.Reading.{HasOneReading, Heard, ReadAs, bad_head, nothing, refusal, refused, request, short_body, silent, whole}
+use Rattle.reg_http.specs.Reading.{HasOneReading, Heard, ReadAs, bad_head, refusal, refused, request, short_body, silent, whole}
 use Rattle.reg_http.specs.declared.refusal.Refusal.{Refusal}
 use Rattle.reg_http.proofs.HeadLemmas.{none_at_first}
 

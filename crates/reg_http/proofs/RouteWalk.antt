@@ -8,7 +8,7 @@ use Rattle.std.proofs.lemmas.List.{drop_all, get_or-drop, get_or-append-add, len
 use Rattle.std.proofs.lemmas.Str.{IsUtf8-between, IsUtf8-nil, IsCharBoundary-before_ascii, IsCharBoundary-after_ascii, IsCharBoundary-end}
 use Rattle.matchit.specs.Rows.{RowsOf, param_token}
 use Rattle.matchit.specs.Router.{RouteOf}
-use Rattle.matchit.specs.Seek.{step, seek, first, has_slash, segment, cuts, better, longest_suffix, after_param, slash}
+use Rattle.matchit.specs.Seek.{step, seek, has_slash, segment, cuts, better, longest_suffix, after_param, slash}
 use Rattle.matchit.specs.Params.{walk, wild_from, wild_stop, part_of, after_token, AllText}
 use Rattle.matchit.proofs.LongestLemmas.{better-again, better-yes, better-no}
 use Rattle.reg_http.specs.Routes.{check_route, deposit_route, deposits_route, page_in, param, route_of, table, taken}

@@ -3,10 +3,10 @@ use Rattle.std.proofs.Common.{◌≡◌, ℕ, ℤ, true, false, ◌+◌, ◌<◌
 use Rattle.std.specs.Prelude.{IfSome, Vec}
 use Rattle.std.specs.declared.alloc.Global.{Global}
 use Rattle.std.specs.Io.KnownBytes.{Appends, Consumes}
-use Rattle.std.proofs.lemmas.List.{append-nil, length-take-le}
+use Rattle.std.proofs.lemmas.List.{append-nil, length-take-le, take_all}
 use Rattle.std.proofs.lemmas.Bool.{cases_Bool}
 use Rattle.httparse.specs.Grammar.{RequestHead, print_request, ReadsRequest}
-use Rattle.reg_http.proofs.HeadLemmas.{none_at_first}
+use Rattle.reg_http.proofs.HeadLemmas.{none_at_first, none_at_one}
 use Rattle.httparse.proofs.GrammarLemmas.{ReadsRequest-append, request_unique}
 use Rattle.httparse.specs.declared.spans.HeaderSpan.{HeaderSpan}
 use Rattle.httparse.specs.declared.spans.RequestSpans.{RequestSpans}
@@ -100,19 +100,13 @@ module _ {D : Type 0} (answers : D → Asked → Answer → D → Type 0) (calle
       (rendered r, status_of r, serving.refused r (reading.refused h rest r head (agrees other)), written)
 
   -- a refusal of what was read of a head
-  pub serve_refused_at : (old left : Option (List ℕ)) (buf : List ℕ) (headers : List HeaderSpan) (spans : RequestSpans) (filled : ℕ)
-      (d : D) (u w : Option (List ℕ)) (r : Refusal) (result : Result Served IoFault) (parts : HeadParts)
-      → (held : HoldsHead buf headers spans filled) → filled ≤ 8192 → IfSome old (λ bytes. Consumes (Some bytes) left (take filled buf))
-      → ((h : RequestHead) → IsRequestAt (take filled buf) headers spans h → parts ≡ head_parts h)
-      → (is_want_of_memory r ≡ false → ask_of callers day parts ≡ Err r)
-      → Written u w (rendered r) (status_of r) result
-      → IfSome old (λ bytes. ServesOne answers callers day bytes d d u w result)
-  serve_refused_at None left buf headers spans filled d u w r result parts held small taken reads agrees written = tt
-  serve_refused_at (Some bytes) None buf headers spans filled d u w r result parts held small taken reads agrees written = absurd taken
-  serve_refused_at (Some bytes) (Some rest) buf headers spans filled d u w r result parts held small taken reads agrees written =
-      let head = head_of bytes rest buf headers spans filled held small taken in
-      let same : parts ≡ head_parts held.head = reads held.head held.at in
-      at_head bytes d u w r result held.head _ head (λ e. ap (ask_of callers day) (sym same) ∙ agrees e) written (cases_Bool (is_want_of_memory r))
+  pub refused_at : (left : Option (List ℕ)) (early : List ℕ) (parts : HeadParts) (d : D) (u w : Option (List ℕ)) (r : Refusal) (result : Result Served IoFault)
+      → (is_want_of_memory r ≡ false → ask_of callers day parts ≡ Err r) → Written u w (rendered r) (status_of r) result
+      → IfSome left (λ more. (bytes : List ℕ) (h : RequestHead) → IsHead bytes h (early ++ more) → parts ≡ head_parts h
+      → ServesOne answers callers day bytes d d u w result)
+  refused_at None early parts d u w r result agrees written = tt
+  refused_at (Some more) early parts d u w r result agrees written = λ bytes h head same.
+      at_head bytes d u w r result h (early ++ more) head (λ e. ap (ask_of callers day) (sym same) ∙ agrees e) written (cases_Bool (is_want_of_memory r))
 
   -- the request at a head, and its body
   serve_body : (bytes all : List ℕ) (old new : D) (u w : Option (List ℕ)) (h : RequestHead) (a : Asking) (result : Result Served IoFault)
@@ -141,19 +135,66 @@ module _ {D : Type 0} (answers : D → Asked → Answer → D → Type 0) (calle
   serve_result bytes all old new u w h a (Err fault.Write) head asks way = serve_body bytes all old new u w h a (Err fault.Write) head asks way
 
   -- a request as it was read
-  pub serve_asked_at : (old left : Option (List ℕ)) (buf : List ℕ) (headers : List HeaderSpan) (spans : RequestSpans) (filled : ℕ) (early : List ℕ)
-      (d e : D) (u w : Option (List ℕ)) (a : Asking) (result : Result Served IoFault) (parts : HeadParts)
-      → (held : HoldsHead buf headers spans filled) → filled ≤ 8192 → early ≡ drop spans.len (take filled buf)
-      → IfSome old (λ bytes. Consumes (Some bytes) left (take filled buf))
-      → ((h : RequestHead) → IsRequestAt (take filled buf) headers spans h → parts ≡ head_parts h)
-      → ask_of callers day parts ≡ Ok a
-      → IfSome left (λ rest. ServesAsked answers a day (early ++ rest) d e u w result)
-      → IfSome old (λ bytes. ServesOne answers callers day bytes d e u w result)
-  serve_asked_at None left buf headers spans filled early d e u w a result parts held small same taken reads agrees way = tt
-  serve_asked_at (Some bytes) None buf headers spans filled early d e u w a result parts held small same taken reads agrees way = absurd taken
-  serve_asked_at (Some bytes) (Some rest) buf headers spans filled early d e u w a result parts held small same taken reads agrees way =
-      let head = head_of bytes rest buf headers spans filled held small taken in
-      serve_result bytes _ d e u w held.head a result (rw same head) (ap (ask_of callers day) (sym (reads held.head held.at)) ∙ agrees) way
+  pub asked_at : (left : Option (List ℕ)) (early : List ℕ) (parts : HeadParts) (d e : D) (u w : Option (List ℕ)) (a : Asking) (result : Result Served IoFault)
+      → ask_of callers day parts ≡ Ok a → IfSome left (λ more. ServesAsked answers a day (early ++ more) d e u w result)
+      → IfSome left (λ more. (bytes : List ℕ) (h : RequestHead) → IsHead bytes h (early ++ more) → parts ≡ head_parts h
+      → ServesOne answers callers day bytes d e u w result)
+  asked_at None early parts d e u w a result asks way = tt
+  asked_at (Some more) early parts d e u w a result asks way = λ bytes h head same.
+      serve_result bytes (early ++ more) d e u w h a result head (ap (ask_of callers day) (sym same) ∙ asks) way
+
+-- a head with anything behind it
+head_before : (bytes rest all : List ℕ) (h : RequestHead) → IsHead bytes h rest → IsHead (print_request h ++ all) h all
+head_before bytes rest all h head = record { reads = (head.reads.0, refl); short = head.short; few = head.few }
+
+module _ {D : Type 0} (answers : D → Asked → Answer → D → Type 0) (callers : List Credential) (day : ℤ) where
+  -- no head was read
+  pub untold_bad : (d : D) (u w : Option (List ℕ)) (result : Result Served IoFault) → Written u w (rendered BadHead) (status_of BadHead) result
+      → (bytes : List ℕ) × ServesOne answers callers day bytes d d u w result
+  untold_bad d u w result written =
+      let one : List ℕ = 0 ∷ [] in
+      (one, serve_refused answers callers day one d u w BadHead result (reading.bad_head (omega arith) (none_at_one 0)) written)
+
+  -- a head was read, and refused
+  pub untold_refused : (parts : HeadParts) (d : D) (u w : Option (List ℕ)) (r : Refusal) (result : Result Served IoFault)
+      → (is_want_of_memory r ≡ false → ask_of callers day parts ≡ Err r) → Written u w (rendered r) (status_of r) result
+      → (bytes rest : List ℕ) (h : RequestHead) → IsHead bytes h rest → parts ≡ head_parts h
+      → (all : List ℕ) × ServesOne answers callers day all d d u w result
+  untold_refused parts d u w r result agrees written = λ bytes rest h head same.
+      (bytes, at_head answers callers day bytes d u w r result h rest head (λ e. ap (ask_of callers day) (sym same) ∙ agrees e) written (cases_Bool (is_want_of_memory r)))
+
+  -- a head was read, and what it asks was served
+  pub untold_asked : (parts : HeadParts) (d e : D) (u w : Option (List ℕ)) (a : Asking) (result : Result Served IoFault)
+      → ask_of callers day parts ≡ Ok a → (all : List ℕ) × ServesAsked answers a day all d e u w result
+      → (bytes rest : List ℕ) (h : RequestHead) → IsHead bytes h rest → parts ≡ head_parts h
+      → (all : List ℕ) × ServesOne answers callers day all d e u w result
+  untold_asked parts d e u w a result asks (all, way) = λ bytes rest h head same. (
+    print_request h ++ all,
+    serve_result answers callers day (print_request h ++ all) all d e u w h a result
+        (head_before bytes rest all h head) (ap (ask_of callers day) (sym same) ∙ asks) way,
+  )
+
+-- what is said of any bytes at a head, of a head in the buffer
+pub of_any : (P : Type 0) (buf : List ℕ) (headers : List HeaderSpan) (spans : RequestSpans) (filled : ℕ) (parts : HeadParts)
+    → (held : HoldsHead buf headers spans filled) → filled ≤ 8192
+    → ((h : RequestHead) → IsRequestAt (take filled buf) headers spans h → parts ≡ head_parts h)
+    → ((bytes rest : List ℕ) (h : RequestHead) → IsHead bytes h rest → parts ≡ head_parts h → P) → P
+of_any P buf headers spans filled parts held small reads way =
+    let bytes = take filled buf ++ [] in
+    way bytes _ held.head (head_of bytes [] buf headers spans filled held small refl) (reads held.head held.at)
+
+-- what is said of a head's bytes, of a head in the buffer
+pub of_whole : (P : List ℕ → Type 0) (old left : Option (List ℕ)) (buf : List ℕ) (headers : List HeaderSpan) (spans : RequestSpans) (filled : ℕ) (early : List ℕ)
+    (parts : HeadParts) → (held : HoldsHead buf headers spans filled) → filled ≤ 8192 → early ≡ drop spans.len (take filled buf)
+    → IfSome old (λ bytes. Consumes (Some bytes) left (take filled buf))
+    → ((h : RequestHead) → IsRequestAt (take filled buf) headers spans h → parts ≡ head_parts h)
+    → IfSome left (λ more. (bytes : List ℕ) (h : RequestHead) → IsHead bytes h (early ++ more) → parts ≡ head_parts h → P bytes)
+    → IfSome old P
+of_whole P None left buf headers spans filled early parts held small same taken reads way = tt
+of_whole P (Some bytes) None buf headers spans filled early parts held small same taken reads way = absurd taken
+of_whole P (Some bytes) (Some more) buf headers spans filled early parts held small same taken reads way =
+    let head = head_of bytes more buf headers spans filled held small taken in
+    way bytes held.head (rw same head) (reads held.head held.at)
 
 module _ {D : Type 0} (answers : D → Asked → Answer → D → Type 0) where
   -- the desk was asked with the body
@@ -169,6 +210,20 @@ module _ {D : Type 0} (answers : D → Asked → Answer → D → Type 0) where
       let P : Asked → Type 0 = λ q. ServesRequest answers q d e u w (Err fault.Write) in
       inl (reads.0, subst P (is ∙ ap (λ t. asked_of a t day) reads.1) way)
   serve_read (Some rest) early a day body request d e u w (Err fault.Read) reads is way ok = tt
+
+-- the desk was asked with a body of that length
+pub untold_read : {D : Type 0} (answers : D → Asked → Answer → D → Type 0) (a : Asking) (day : ℤ) (body : List ℕ) (request : Asked) (d e : D) (u w : Option (List ℕ))
+    (result : Result Served IoFault) → length body ≡ a.length → request ≡ asked_of a body day → ServesRequest answers request d e u w result → is_read result ≡ false
+    → (all : List ℕ) × ServesAsked answers a day all d e u w result
+untold_read answers a day body request d e u w (Ok s) long is way ok =
+    let P : Asked → Type 0 = λ q. ServesRequest answers q d e u w (Ok s) in
+    let whole = take_all a.length body (omega arith) in
+    (body, inl (omega arith, subst P (is ∙ ap (λ t. asked_of a t day) (sym whole)) way))
+untold_read answers a day body request d e u w (Err fault.Write) long is way ok =
+    let P : Asked → Type 0 = λ q. ServesRequest answers q d e u w (Err fault.Write) in
+    let whole = take_all a.length body (omega arith) in
+    (body, inl (omega arith, subst P (is ∙ ap (λ t. asked_of a t day) (sym whole)) way))
+untold_read answers a day body request d e u w (Err fault.Read) long is way ok = (body, tt)
 
 -- the reply to an answer was written
 pub serve_reply : (answer : Answer) (text given : List ℕ) (status : ℕ) (u w : Option (List ℕ)) (r : Result Served IoFault) → IsRendered answer text → given ≡ text
@@ -207,21 +262,20 @@ module _ (callers : List Credential) (day : ℤ) where
   waits_head (Some bytes) calls small = record { headless = λ none. small; headed = λ h rest head. omega (arith, small) }
 
   -- a head was read whole, and the body that it asks for
-  pub waits_body : (old left : Option (List ℕ)) (buf : List ℕ) (headers : List HeaderSpan) (spans : RequestSpans) (filled : ℕ) (a : Asking) (parts : HeadParts) (calls : ℕ)
+  pub waits_body : (old left : Option (List ℕ)) (buf : List ℕ) (headers : List HeaderSpan) (spans : RequestSpans) (filled : ℕ) (parts : HeadParts) (calls : ℕ)
       → (held : HoldsHead buf headers spans filled) → filled ≤ 8192 → IfSome old (λ bytes. Consumes (Some bytes) left (take filled buf))
       → ((h : RequestHead) → IsRequestAt (take filled buf) headers spans h → parts ≡ head_parts h)
-      → ask_of callers day parts ≡ Ok a → calls ≤ longest_head + (a.length + 1)
+      → calls ≤ longest_head + body_reads (ask_of callers day parts)
       → IfSome old (λ bytes. WaitsFor callers day bytes calls)
-  waits_body None left buf headers spans filled a parts calls held small taken reads agrees few = tt
-  waits_body (Some bytes) None buf headers spans filled a parts calls held small taken reads agrees few = absurd taken
-  waits_body (Some bytes) (Some rest) buf headers spans filled a parts calls held small taken reads agrees few =
+  waits_body None left buf headers spans filled parts calls held small taken reads few = tt
+  waits_body (Some bytes) None buf headers spans filled parts calls held small taken reads few = absurd taken
+  waits_body (Some bytes) (Some rest) buf headers spans filled parts calls held small taken reads few =
       let behind = drop spans.len (take filled buf) ++ rest in
       let head = head_of bytes rest buf headers spans filled held small taken in
-      let asks : ask_of callers day (head_parts held.head) ≡ Ok a = ap (ask_of callers day) (sym (reads held.head held.at)) ∙ agrees in
-      let P : Result Asking Refusal → Type 0 = λ r. calls ≤ longest_head + body_reads r in
+      let P : HeadParts → Type 0 = λ p. calls ≤ longest_head + body_reads (ask_of callers day p) in
       record {
         headless = λ none. absurd (none held.head behind head);
         headed = λ h more x.
             (let same = request_unique bytes h held.head more behind x.reads head.reads in
-            subst P (sym (ap (λ n. ask_of callers day (head_parts n)) same.0 ∙ asks)) few);
+            subst P (reads held.head held.at ∙ ap head_parts (sym same.0)) few);
       }

@@ -26,6 +26,7 @@ module _ {D R W : Type 0} (answers : D → Asked → Answer → D → Type 0) (r
   -- one connection: reader and writer before and after, and the desk before and after
   pub record ServesConnection (old new : Tally R × Tally W) (before after : D) (r : Result Served IoFault) : Type 0 where
     pub served : IfSome (remaining (inner_of old.0)) (λ bytes. ServesOne answers callers day bytes before after (contents (inner_of old.1)) (contents (inner_of new.1)) r)
+    pub untold : (bytes : List ℕ) × ServesOne answers callers day bytes before after (contents (inner_of old.1)) (contents (inner_of new.1)) r
     pub read_fault : has_failed new.0 ≡ is_read r
     pub write_fault : has_failed new.1 ≡ is_write r
     pub unread : IsTrue (is_read r) → (after ≡ before) × (new.1 ≡ old.1)

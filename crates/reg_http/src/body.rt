@@ -2,7 +2,7 @@
 ghost use Rattle.std.specs.Prelude.{◌≡◌, ◌≤◌, ◌<◌, ◌+◌, ◌++◌, ◌||◌, false, IfSome, is_none, take, Some};
 ghost use Rattle.reg_http.specs.Tallies.{inner_of, calls_of, has_failed, one_call_more};
 ghost use Rattle.std.specs.Io.KnownBytes.{Consumes, IsAtEnd};
-ghost use Rattle.reg_http.specs.Views.{ReadsBody, is_read_fault};
+ghost use Rattle.reg_http.specs.Views.{FitsBody, ReadsBody, is_read_fault};
 
 use crate::fill::read_more;
 use crate::tally::Tally;
@@ -30,6 +30,7 @@ pub(crate) fn receive_body<R: Read>(
 ) -> Result<Vec<u8>, BodyFault>
     requires { has_failed reader.old ≡ false }
     ensures body { IfSome (R.remaining (inner_of reader.old)) (λ left. ReadsBody (early.now ++ left) length result) }
+    ensures fits { FitsBody length result }
     ensures fault { has_failed reader.new ≡ is_read_fault result }
     ensures calls { calls_of reader.new ≤ calls_of reader.old + length + 1 }
 {

@@ -1,10 +1,14 @@
 //! One connection.
-ghost use Rattle.std.specs.Prelude.{◌≡◌, ◌≤◌, ◌+◌, ◌++◌, false, [], IfSome, IsTrue};
+ghost use Rattle.std.specs.Prelude.{◌≡◌, ◌≤◌, ◌+◌, ◌++◌, ℕ, false, List, [], IfSome, IsTrue};
+ghost use Rattle.httparse.specs.Grammar.{RequestHead};
+ghost use Rattle.reg_http.specs.Asks.{ask_of};
 ghost use Rattle.reg_http.specs.Connections.{most_calls};
+ghost use Rattle.reg_http.specs.HeadParts.{head_parts, parts_seen};
+ghost use Rattle.reg_http.specs.Heads.{IsHead};
 ghost use Rattle.reg_desk.specs.Asked.{asked};
 ghost use Rattle.reg_desk.specs.Desks.{AnsweredBy};
 ghost use Rattle.reg_http.specs.Rendering.{is_fixed, rendered, status_of};
-ghost use Rattle.reg_http.specs.Serving.{ServesOne, ServesAnswer, ServesAsked, ServesRequest, WaitsFor, Written, is_read, is_write};
+ghost use Rattle.reg_http.specs.Serving.{ServesOne, ServesAnswer, ServesAsked, ServesRequest, WaitsFor, Written, body_reads, is_read, is_write};
 ghost use Rattle.reg_http.specs.Tallies.{inner_of, calls_of, has_failed, IsFresh};
 ghost use Rattle.reg_http.specs.Views.{asking_at};
 
@@ -12,10 +16,12 @@ use crate::answer::{built_reply, fixed_reply, status_of};
 use crate::ask::{Ask, head_parts, read_ask};
 use crate::body::{BodyFault, receive_body};
 use crate::head::{HeadRead, LONGEST_HEAD, MOST_FIELDS, receive_head};
+use crate::parts::Parts;
 use crate::refusal::Refusal;
 use crate::request::{groups_sought, request_of};
 use crate::tally::Tally;
 use crate::write::write_text;
+use ags_rows::LIMIT;
 use http::StatusCode;
 use httparse::spans::EMPTY_HEADER_SPAN;
 use reg_desk::{Answer, Desk, Request};
@@ -138,6 +144,8 @@ fn serve_asked<K: Keep, R: Read, W: Write>(
     ensures served { IfSome (R.remaining (inner_of reader.old)) (λ left.
         ServesAsked (AnsweredBy K.Keep) (asking_at ask.now) day (early.now ++ left) desk.old desk.new
         (W.contents (inner_of writer.old)) (W.contents (inner_of writer.new)) result) }
+    ensures untold { (all : List ℕ) × ServesAsked (AnsweredBy K.Keep) (asking_at ask.now) day all desk.old desk.new
+        (W.contents (inner_of writer.old)) (W.contents (inner_of writer.new)) result }
     ensures read_fault { has_failed reader.new ≡ is_read result }
     ensures write_fault { has_failed writer.new ≡ is_write result }
     ensures unread { IsTrue (is_read result) → (desk.new ≡ desk.old) × (writer.new ≡ writer.old) }
@@ -154,6 +162,40 @@ fn serve_asked<K: Keep, R: Read, W: Write>(
     };
     let request = request_of(ask, &body, &groups, day);
     serve_request(alloc, desk, &request, writer)
+}
+
+/// Serves what a head asks that was read, of whose body the first bytes came early with it.
+fn serve_head<K: Keep, R: Read, W: Write>(
+    alloc: Global,
+    desk: &mut Desk<K>,
+    callers: &Callers,
+    day: Day,
+    parts: &Parts<'_>,
+    early: &[u8],
+    reader: &mut Tally<R>,
+    writer: &mut Tally<W>,
+) -> Result<Served, IoFault>
+    requires reader_sound { has_failed reader.old ≡ false }
+    requires writer_sound { has_failed writer.old ≡ false }
+
+    // At bytes that begin with a head of these parts.
+    ensures served { IfSome (R.remaining (inner_of reader.old)) (λ left. (bytes : List ℕ) (h : RequestHead)
+        → IsHead bytes h (early.now ++ left) → parts_seen parts.now ≡ head_parts h
+        → ServesOne (AnsweredBy K.Keep) callers.now day bytes desk.old desk.new
+        (W.contents (inner_of writer.old)) (W.contents (inner_of writer.new)) result) }
+    ensures untold { (bytes rest : List ℕ) (h : RequestHead) → IsHead bytes h rest → parts_seen parts.now ≡ head_parts h
+        → (all : List ℕ) × ServesOne (AnsweredBy K.Keep) callers.now day all desk.old desk.new
+        (W.contents (inner_of writer.old)) (W.contents (inner_of writer.new)) result }
+    ensures read_fault { has_failed reader.new ≡ is_read result }
+    ensures write_fault { has_failed writer.new ≡ is_write result }
+    ensures unread { IsTrue (is_read result) → (desk.new ≡ desk.old) × (writer.new ≡ writer.old) }
+    ensures calls { calls_of reader.new ≤ calls_of reader.old + LIMIT + 1 }
+    ensures waits { calls_of reader.new ≤ calls_of reader.old + body_reads (ask_of callers.now day (parts_seen parts.now)) }
+{
+    match read_ask(alloc, callers, day, parts) {
+        Ok(ask) => serve_asked(alloc, desk, day, &ask, early, reader, writer),
+        Err(refusal) => refuse(writer, refusal),
+    }
 }
 
 /// Serves one connection: reads a request, asks the desk, and writes the reply. Reader and writer are fresh. No body is
@@ -174,6 +216,10 @@ pub fn serve_one<K: Keep, R: Read, W: Write>(
         ServesOne (AnsweredBy K.Keep) callers.now day bytes desk.old desk.new
         (W.contents (inner_of writer.old)) (W.contents (inner_of writer.new)) result) }
 
+    // The same of some bytes, where the reader does not tell its own: the desk was asked once at most.
+    ensures untold { (bytes : List ℕ) × ServesOne (AnsweredBy K.Keep) callers.now day bytes desk.old desk.new
+        (W.contents (inner_of writer.old)) (W.contents (inner_of writer.new)) result }
+
     // Faults are those of the two sides, each exactly.
     ensures read_fault { has_failed reader.new ≡ is_read result }
     ensures write_fault { has_failed writer.new ≡ is_write result }
@@ -191,10 +237,16 @@ pub fn serve_one<K: Keep, R: Read, W: Write>(
         HeadRead::Whole(spans, filled) => {
             let bytes = &buf[..filled];
             let parts = head_parts(bytes, &headers, &spans);
-            match read_ask(alloc, callers, day, &parts) {
-                Ok(ask) => serve_asked(alloc, desk, day, &ask, &bytes[spans.len..], reader, writer),
-                Err(refusal) => refuse(writer, refusal),
-            }
+            serve_head(
+                alloc,
+                desk,
+                callers,
+                day,
+                &parts,
+                &bytes[spans.len..],
+                reader,
+                writer,
+            )
         }
     }
 }

@@ -5,8 +5,9 @@ mod cases;
 
 use crate::{IoFault, Served, Tally, serve_list, serve_one};
 use ags_dict::Dictionary;
+use ags_rows::READABLE;
 use ags_rows::vectors::{FILE_A, MINI};
-use cases::{AT_A_DESK, AT_A_FULL_DESK, BAD_HEAD, HEADS, NO_ROUTE};
+use cases::{AT_A_DESK, AT_A_FULL_DESK, AT_A_WIDE_DESK, BAD_HEAD, HEADS, NO_ROUTE, WIDE_HEADING};
 use reg_desk::Desk;
 use reg_policy::vectors::{CALLERS, POLICY};
 use reg_policy::{Callers, Day, Policy};
@@ -16,14 +17,26 @@ use std::io;
 use std::io::{ErrorKind, Read, Write};
 use std::test::Fail;
 
-/// An empty desk over memory that takes so many deposits; none where memory is refused.
+/// An empty desk over memory that takes so many deposits, under this dictionary; none where memory is refused, or the dictionary
+/// is longer than what can be read.
+fn desk_under(alloc: Global, dictionary: &[u8], most: u32) -> Option<Desk<PlainKeep>>
+    requires least { 0 < most }
+    requires most { most ≤ 999999 }
+{
+    if dictionary.len() > READABLE {
+        return None;
+    }
+    let dictionary = Dictionary::read(alloc, dictionary).ok()?;
+    let policy = Policy::read(alloc, POLICY).ok()?;
+    Some(Desk::new(PlainKeep::with_limit(alloc, dictionary, most), policy))
+}
+
+/// The same under the small dictionary.
 fn desk_of(alloc: Global, most: u32) -> Option<Desk<PlainKeep>>
     requires least { 0 < most }
     requires most { most ≤ 999999 }
 {
-    let dictionary = Dictionary::read(alloc, MINI).ok()?;
-    let policy = Policy::read(alloc, POLICY).ok()?;
-    Some(Desk::new(PlainKeep::with_limit(alloc, dictionary, most), policy))
+    desk_under(alloc, MINI, most)
 }
 
 /// What came of a connection on this day, and what was written.
@@ -50,13 +63,16 @@ fn served(
     }
 }
 
-/// The body that a case calls by a name: the file, the file without its last byte, the file with `lo`, a bell and `ca`, or
-/// `l`, a quote, a byte 01 and a backslash, for the name in its line 26, nothing, or the text itself.
+/// The body that a case calls by a name: the file, the file without its last byte, the file with two bytes behind it, the file
+/// with `lo`, a bell and `ca`, or `lo`, a byte 7f and `ca`, or `l`, a quote, a byte 01 and a backslash, for the name in its line
+/// 26, nothing, or the text itself.
 fn body_of<'t>(name: &'t str) -> [&'t [u8]; 3] {
     match name {
         "A" => [FILE_A, b"", b""],
         "A cut" => [&FILE_A[..542], b"", b""],
+        "A more" => [FILE_A, b"\"x", b""],
         "A bell" => [&FILE_A[..477], b"lo\x07ca", &FILE_A[481..]],
+        "A delete" => [&FILE_A[..477], b"lo\x7fca", &FILE_A[481..]],
         "A quote" => [&FILE_A[..477], b"l\"\"\x01\\", &FILE_A[481..]],
         "-" => [b"", b"", b""],
         text => [text.as_bytes(), b"", b""],
@@ -135,8 +151,14 @@ fn code_of(reply: [&str; 3]) -> Option<u16> {
 #[test]
 fn replies(rt: HostRuntime) -> Result<(), Fail> {
     let alloc = rt.alloc();
-    for (most, cases) in [(999_999, AT_A_DESK), (1, AT_A_FULL_DESK)] {
-        let mut desk = desk_of(alloc, most).ok_or(AllocError)?;
+    let mut wide = Vec::from_slice(alloc, MINI)?;
+    wide.extend_from_slice(WIDE_HEADING)?;
+    for (dictionary, most, cases) in [
+        (MINI, 999_999, AT_A_DESK),
+        (MINI, 1, AT_A_FULL_DESK),
+        (wide.as_slice(), 1, AT_A_WIDE_DESK),
+    ] {
+        let mut desk = desk_under(alloc, dictionary, most).ok_or(AllocError)?;
         for line in cases.lines() {
             let Some(case) = case_of(line) else {
                 continue;

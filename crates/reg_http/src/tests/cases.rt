@@ -1,7 +1,8 @@
 //! Requests and their replies, as texts and as bytes.
 
 /// At an empty desk, in turn. Each line is a case: day, token (`-`: no field), the lines of the head, the body (`A` is the
-/// file, `A cut` all but its last byte, `A bell` and `A quote` have other bytes in a group name), the status, the length, and the body of the reply.
+/// file, `A cut` all but its last byte, `A more` has two bytes behind it, `A bell`, `A delete` and `A quote` have other bytes in
+/// a group name), the status, the length, and the body of the reply.
 pub(crate) const AT_A_DESK: &str = r#"
 # each refusal before the next
 2024-05-01 | - | GET /v1/x HTTP/1.1 | - | 404 Not Found | 20 | {"error":"no route"}
@@ -14,6 +15,7 @@ pub(crate) const AT_A_DESK: &str = r#"
 2024-05-01 | t-echo | POST /v1/projects/N1/check?a=b HTTP/1.1; Content-Length: x | - | 400 Bad Request | 22 | {"error":"bad length"}
 2024-05-01 | t-echo | POST /v1/projects/N1/check HTTP/1.1; Content-Length: 4194305 | - | 413 Payload Too Large | 21 | {"error":"too large"}
 2024-05-01 | t-echo | POST /v1/projects/N1/check?a=b HTTP/1.1; Content-Length: 4194305 | - | 413 Payload Too Large | 21 | {"error":"too large"}
+2024-05-01 | t-gamma | POST /v1/projects/N1/deposits HTTP/1.1; Content-Length: 4194305 | - | 413 Payload Too Large | 21 | {"error":"too large"}
 2024-05-01 | t-echo | POST /v1/projects/N1/check?a=b HTTP/1.1; Content-Length: 543 | A cut | 400 Bad Request | 25 | {"error":"bad parameter"}
 2024-05-01 | t-echo | POST /v1/projects/N1/check HTTP/1.1; Content-Length: 543 | A cut | 400 Bad Request | 22 | {"error":"short body"}
 2024-05-01 | t-gamma | POST /v1/projects/N1/deposits HTTP/1.1; Content-Length: 543 | A cut | 400 Bad Request | 22 | {"error":"short body"}
@@ -57,9 +59,11 @@ pub(crate) const AT_A_DESK: &str = r#"
 2024-05-01 | t-echo | GET /v1/projects/N1/deposits/1?%67roups=LOCA%2CSAMP HTTP/1.1 | - | 404 Not Found | 19 | {"error":"unknown"}
 # answers
 2024-05-01 | t-echo | POST /v1/projects/N1/check HTTP/1.1; Content-Length: 543 | A | 200 OK | 14 | {"clean":true}
+2024-05-01 | t-echo | POST /v1/projects/N1/check HTTP/1.1; Content-Length: 543 | A more | 200 OK | 14 | {"clean":true}
 2024-05-01 | t-echo | POST /v1/projects/N1/check HTTP/1.1; Content-Length: 0 | A | 422 Unprocessable Entity | 49 | {"findings":[{"code":"2","line":0,"subject":""}]}
 2024-05-01 | t-echo | POST /v1/projects/N1/check HTTP/1.1; Content-Length: 1 | x | 422 Unprocessable Entity | 49 | {"findings":[{"code":"5","line":1,"subject":""}]}
 2024-05-01 | t-echo | POST /v1/projects/N1/check HTTP/1.1; Content-Length: 544 | A bell | 422 Unprocessable Entity | 56 | {"findings":[{"code":"19","line":26,"subject":"lo?ca"}]}
+2024-05-01 | t-echo | POST /v1/projects/N1/check HTTP/1.1; Content-Length: 544 | A delete | 422 Unprocessable Entity | 56 | {"findings":[{"code":"19","line":26,"subject":"lo?ca"}]}
 2024-05-01 | t-echo | POST /v1/projects/N1/check HTTP/1.1; Content-Length: 544 | A quote | 422 Unprocessable Entity | 57 | {"findings":[{"code":"19","line":26,"subject":"l\"?\\"}]}
 2024-05-01 | t-echo | GET /v1/projects/N1/deposits/999 HTTP/1.1 | - | 404 Not Found | 19 | {"error":"unknown"}
 2024-05-01 | t-delta | POST /v1/projects/N1/deposits?%65mbargo=2024%2D06-01 HTTP/1.1; Content-Length: 543 | A | 200 OK | 35 | {"embargo":"2024-06-01","number":1}
@@ -78,6 +82,15 @@ pub(crate) const AT_A_FULL_DESK: &str = r#"
 2024-05-01 | t-delta | POST /v1/projects/N1/deposits?embargo=2024-06-01 HTTP/1.1; Content-Length: 543 | A | 200 OK | 35 | {"embargo":"2024-06-01","number":1}
 2024-05-01 | t-foxtrot | POST /v1/projects/N1/deposits HTTP/1.1; Content-Length: 543 | A | 507 Insufficient Storage | 16 | {"error":"full"}
 2024-05-01 | t-delta | POST /v1/projects/N1/deposits HTTP/1.1; Content-Length: 543 | A | 200 OK | 35 | {"embargo":"2024-06-01","number":1}
+"#;
+
+/// A line of a dictionary: a heading that each file has to have, with bytes above 127 in its name.
+pub(crate) const WIDE_HEADING: &[u8] =
+    b"\"DATA\",\"HEADING\",\"LOCA\",\"LOCA_\xc3\x89\",\"REQUIRED\",\"\"\r\n";
+
+/// At a desk whose dictionary has that heading.
+pub(crate) const AT_A_WIDE_DESK: &str = r#"
+2024-05-01 | t-echo | POST /v1/projects/N1/check HTTP/1.1; Content-Length: 543 | A | 422 Unprocessable Entity | 59 | {"findings":[{"code":"10b","line":27,"subject":"LOCA_??"}]}
 "#;
 
 /// Status, length and body of a reply.

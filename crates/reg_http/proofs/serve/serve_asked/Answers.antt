@@ -2,7 +2,7 @@ use Rattle.std.proofs.Common.{ap, ◌∙◌}
 use Rattle.reg_http.specs.Asks.{asked_of}
 use Rattle.reg_desk.specs.Desks.{AnsweredBy}
 use Rattle.reg_http.specs.Views.{asking_at}
-use Rattle.reg_http.proofs.ServeLemmas.{serve_read}
+use Rattle.reg_http.proofs.ServeLemmas.{serve_read, untold_read}
 use Rattle.reg_http.proofs.serve.serve_asked.Goals as goal
 
 pub returns-clause-served : goal.returns-clause-served
@@ -10,3 +10,9 @@ returns-clause-served g c =
     let request = c.request_of-request.ensures ∙ ap (λ t. asked_of (asking_at c.args.ask.now) t c.args.day) c.deref.ensures.value in
     serve_read (AnsweredBy g.K.Keep) _ _ _ _ c.in-Ok.body _ c.args.desk.now c.serve_request.new.desk _ _ _
     c.in-Ok.ensures.body request c.serve_request.ensures.served c.serve_request.ensures.no_read
+
+pub returns-clause-untold : goal.returns-clause-untold
+returns-clause-untold g c =
+    let request = c.request_of-request.ensures ∙ ap (λ t. asked_of (asking_at c.args.ask.now) t c.args.day) c.deref.ensures.value in
+    untold_read (AnsweredBy g.K.Keep) _ _ c.in-Ok.body.items _ c.args.desk.now c.serve_request.new.desk _ _ _
+    c.in-Ok.ensures.fits request c.serve_request.ensures.served c.serve_request.ensures.no_read
