@@ -9,6 +9,9 @@ ghost use Rattle.reg_desk.specs.Desks.{AnsweredBy};
 ghost use Rattle.groundreg.specs.Answers.{AnswersOn};
 ghost use Rattle.groundreg.specs.Asking.{AsksDesk, ChecksUnder};
 
+#[cfg(test)]
+mod tests;
+
 use crate::answers::answer_report;
 use crate::check::{check_stream, run_without_words};
 use crate::fault::{Fault, tell};

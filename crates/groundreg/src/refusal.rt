@@ -2,7 +2,7 @@
 
 ghost use Rattle.std.specs.Prelude.{◌≡◌};
 ghost use Rattle.groundreg.specs.Faults.{Tells};
-ghost use Rattle.groundreg.specs.Refusals.{TellsRefusal, TellsVersion, adopting, unread_text};
+ghost use Rattle.groundreg.specs.Refusals.{TellsRefusal, adopting, unread_text, version_text};
 ghost use Rattle.groundreg.specs.declared.fault.Fault.TheVariants.{NoMemory};
 ghost use Rattle.groundreg.specs.declared.refusal.Refusal.TheVariants.{Plain};
 
@@ -78,7 +78,7 @@ fn tell_unread<E: Write>(err: &mut Watched<E>, path: &str) -> u8
 
 /// Says that the register has a format of this number.
 fn tell_version<E: Write>(err: &mut Watched<E>, number: i64) -> u8
-    ensures { TellsVersion (E.contents err.old.inner) (E.contents err.new.inner) err.old.failed err.new.failed result }
+    ensures { Tells (E.contents err.old.inner) (E.contents err.new.inner) (version_text number) err.old.failed err.new.failed 4 result }
 {
     let mut buffer = Buffer::new();
     let digits = buffer.format(number).as_bytes();

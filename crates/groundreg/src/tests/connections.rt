@@ -1,6 +1,7 @@
 //! Connections that are served, over loopback.
 
-use super::runs::{enter, leave, run_row};
+use super::failing_after;
+use super::runs::{enter, holds, leave};
 use crate::serving::serve_on;
 use crate::watched::Watched;
 use ags_rows::vectors::{FILE_A, MINI};
@@ -12,12 +13,18 @@ use std::io::{Read, Write};
 use std::net::{Shutdown, TcpListener, TcpStream};
 use std::test::Fail;
 
-/// A connection that has sent this, and nothing more.
-fn sent(rt: &HostRuntime, listener: &TcpListener, parts: &[&[u8]]) -> Result<TcpStream, Fail> {
+/// A connection that has sent this, and may send more.
+fn sending(rt: &HostRuntime, listener: &TcpListener, parts: &[&[u8]]) -> Result<TcpStream, Fail> {
     let mut stream = TcpStream::connect(rt, listener.local_addr()?)?;
     for part in parts {
         stream.write_all(part)?;
     }
+    Ok(stream)
+}
+
+/// A connection that has sent this, and nothing more.
+fn sent(rt: &HostRuntime, listener: &TcpListener, parts: &[&[u8]]) -> Result<TcpStream, Fail> {
+    let stream = sending(rt, listener, parts)?;
     stream.shutdown(Shutdown::Write)?;
     Ok(stream)
 }
@@ -30,48 +37,113 @@ fn replied(rt: &HostRuntime, stream: TcpStream, first: &[u8], last: &[u8]) -> Re
     Ok(reply.starts_with(first) && reply.ends_with(last))
 }
 
+/// Serves so many connections on 2024-05-01, over an empty register in memory: the status of the run.
+fn serve_some<W: Write>(
+    rt: &HostRuntime,
+    listener: &TcpListener,
+    connections: u32,
+    out: &mut W,
+) -> Result<u8, Fail> {
+    let alloc = rt.alloc();
+    let keep = SqlKeep::in_memory(alloc, MINI)?;
+    let mut desk = Desk::new(keep, Policy::read(alloc, POLICY)?);
+    let callers = Callers::read(alloc, CALLERS)?;
+    let day = Day::read("2024-05-01").ok_or("day")?;
+    let mut out = Watched::new(out);
+    Ok(serve_on(
+        alloc,
+        listener,
+        &mut desk,
+        &callers,
+        day,
+        connections,
+        &mut out,
+    ))
+}
+
 const DEPOSIT: &[u8] =
     b"POST /v1/projects/N1/deposits?embargo=2024-06-01 HTTP/1.1\r\nAuthorization: Bearer t-delta\r\nContent-Length: 543\r\n\r\n";
 
 const EXTRACT: &[u8] =
     b"GET /v1/projects/N1/deposits/999 HTTP/1.1\r\nAuthorization: Bearer t-delta\r\n\r\n";
 
+/// The beginning of a deposit that is too long, by a caller whom the policy denies it.
+const TOO_LONG: &[u8] =
+    b"POST /v1/projects/N1/deposits HTTP/1.1\r\nAuthorization: Bearer t-gamma\r\nContent-Length: 4194305\r\n\r\n";
+
+const OK: &[u8] = b"HTTP/1.1 200 OK\r\n";
+
+const NOT_FOUND: &[u8] = b"HTTP/1.1 404 Not Found\r\n";
+
+const LONG: &[u8] = b"HTTP/1.1 413 Payload Too Large\r\n";
+
+const RECEIPT: &[u8] = b"\r\n\r\n{\"embargo\":\"2024-06-01\",\"number\":1}";
+
+const UNKNOWN: &[u8] = b"\r\n\r\n{\"error\":\"unknown\"}";
+
+const TOO_LARGE: &[u8] = b"\r\n\r\n{\"error\":\"too large\"}";
+
 #[test]
 fn connections_are_served(rt: HostRuntime) -> Result<(), Fail> {
     let listener = TcpListener::bind(&rt, "127.0.0.1:0")?;
     let first = sent(&rt, &listener, &[DEPOSIT, FILE_A])?;
     let second = sent(&rt, &listener, &[EXTRACT])?;
-    let third = sent(&rt, &listener, &[])?;
-    let alloc = rt.alloc();
-    let keep = SqlKeep::in_memory(alloc, MINI)?;
-    let mut desk = Desk::new(keep, Policy::read(alloc, POLICY)?);
-    let callers = Callers::read(alloc, CALLERS)?;
-    let Some(day) = Day::read("2024-05-01") else {
-        panic!(rt; "no day");
-    };
-    let mut printed = Vec::new(alloc);
-    let mut out = Watched::new(&mut printed);
-    let status = serve_on(alloc, &listener, &mut desk, &callers, day, 3, &mut out);
-    drop(out);
+    let third = sent(&rt, &listener, &[TOO_LONG])?;
+    let last = sent(&rt, &listener, &[])?;
+    let mut printed = Vec::new(rt.alloc());
+    let status = serve_some(&rt, &listener, 4, &mut printed)?;
     assert_eq!(rt; status, 0);
-    assert_eq!(rt; printed.as_slice(), b"200\n404\n0\n".as_slice());
-    assert!(rt;
-        replied(
-            &rt,
-            first,
-            b"HTTP/1.1 200 OK\r\n",
-            b"\r\n\r\n{\"embargo\":\"2024-06-01\",\"number\":1}"
-        )?
-    );
-    assert!(rt;
-        replied(
-            &rt,
-            second,
-            b"HTTP/1.1 404 Not Found\r\n",
-            b"\r\n\r\n{\"error\":\"unknown\"}"
-        )?
-    );
-    assert!(rt; replied(&rt, third, b"", b"")?);
+    assert_eq!(rt; printed.as_slice(), b"200\n404\n413\n0\n".as_slice());
+    assert!(rt; replied(&rt, first, OK, RECEIPT)?);
+    assert!(rt; replied(&rt, second, NOT_FOUND, UNKNOWN)?);
+    assert!(rt; replied(&rt, third, LONG, TOO_LARGE)?);
+    assert!(rt; replied(&rt, last, b"", b"")?);
+    Ok(())
+}
+
+/// A peer that has sent more than is read has the whole reply, and then its end.
+#[test]
+fn a_peer_that_goes_on_sending(rt: HostRuntime) -> Result<(), Fail> {
+    let listener = TcpListener::bind(&rt, "127.0.0.1:0")?;
+    let more = [b'x'; 20_000];
+    let first = sending(&rt, &listener, &[EXTRACT, &more])?;
+    let second = sending(&rt, &listener, &[DEPOSIT, FILE_A, &more])?;
+    let mut printed = Vec::new(rt.alloc());
+    let status = serve_some(&rt, &listener, 2, &mut printed)?;
+    assert_eq!(rt; status, 0);
+    assert_eq!(rt; printed.as_slice(), b"404\n200\n".as_slice());
+    assert!(rt; replied(&rt, first, NOT_FOUND, UNKNOWN)?);
+    assert!(rt; replied(&rt, second, OK, RECEIPT)?);
+    Ok(())
+}
+
+/// A listener that does not wait fails to accept where no connection is there. That is printed, and counts as a connection.
+#[test]
+fn an_accept_that_fails(rt: HostRuntime) -> Result<(), Fail> {
+    let listener = TcpListener::bind(&rt, "127.0.0.1:0")?;
+    listener.set_nonblocking(true)?;
+    let only = sent(&rt, &listener, &[EXTRACT])?;
+    let mut printed = Vec::new(rt.alloc());
+    let status = serve_some(&rt, &listener, 3, &mut printed)?;
+    assert_eq!(rt; status, 0);
+    assert_eq!(rt; printed.as_slice(), b"404\nfault\nfault\n".as_slice());
+    assert!(rt; replied(&rt, only, NOT_FOUND, UNKNOWN)?);
+    Ok(())
+}
+
+/// Each write and flush of a line fails once: the run ends with it.
+#[test]
+fn a_line_that_is_not_written(rt: HostRuntime) -> Result<(), Fail> {
+    let listener = TcpListener::bind(&rt, "127.0.0.1:0")?;
+    listener.set_nonblocking(true)?;
+    for calls in 0..6 {
+        let mut out = failing_after(&rt, b"", 100, calls);
+        let status = serve_some(&rt, &listener, 2, &mut out)?;
+        assert_eq!(rt; out.failed, calls < 4);
+        assert_eq!(rt; status, if out.failed { 6 } else { 0 });
+        assert!(rt; b"fault\nfault\n".starts_with(out.taken.as_slice()));
+        assert!(rt; out.failed || out.flushed);
+    }
     Ok(())
 }
 
@@ -80,19 +152,20 @@ fn a_port_that_is_taken(rt: HostRuntime) -> Result<(), Fail> {
     enter(&rt, "a_port_that_is_taken")?;
     let listener = TcpListener::bind(&rt, "127.0.0.1:0")?;
     let port = listener.local_addr()?.port();
-    let serve = format!(in rt.alloc();
-        "serve|--store=s|--policy=q|--callers=c|--port={port}|--connections=1"
-    )?;
-    let late = format!(in rt.alloc(); "{serve}|--day=tomorrow")?;
-    for (row, said, status) in [
-        (serve.as_str(), b"groundreg: not a register\n".as_slice(), 4),
-        ("init|--store=s|--dictionary=mini", b"", 0),
-        (serve.as_str(), b"groundreg: cannot listen\n", 6),
-        (late.as_str(), b"groundreg: day refused\n", 4),
+    let serve = format!(in rt.alloc(); "serve|&|--port={port}|--connections=1")?;
+    for (more, want) in [
+        ("", "4 ! not a register"),
+        ("|--store=junk", "5 ! store failed"),
+        ("|--day=1", "4 ! day refused"),
     ] {
-        let got = run_row(&rt, row)?;
-        assert_eq!(rt; got.said.as_slice(), said, "{row}");
-        assert_eq!(rt; got.status, status, "{row}");
+        let row = format!(in rt.alloc(); "{serve}{more} => {want}")?;
+        holds(&rt, &rt, &[row.as_str()])?;
     }
+    let last = format!(in rt.alloc(); "{serve} => 6 ! cannot listen")?;
+    holds(
+        &rt,
+        &rt,
+        &["init|--store=s|--dictionary=mini => 0 created", &last],
+    )?;
     leave(&rt, "a_port_that_is_taken")
 }
