@@ -12,6 +12,8 @@ use Rattle.reg_desk.specs.Asked.{Asked, asked}
 use Rattle.reg_desk.specs.declared.request.Request.{Request}
 use Rattle.reg_desk.specs.declared.answer.Answer.{Answer}
 use Rattle.reg_desk.specs.declared.answer.Answer.TheVariants.{StoreFailed}
+use Rattle.reg_desk.specs.declared.desk.Desk.{Desk}
+use Rattle.reg_desk.specs.Desks.{AnsweredBy, AreAnsweredBy}
 use Rattle.reg_desk.specs.Machine.{Register, Where}
 use Rattle.reg_desk.specs.Serving.{is_failed, IsAnswer, IsAfter, AddsAsked, register_at, Serves}
 use Rattle.reg_desk.specs.Running.{AreFailed, AreAnswers, failing, IsLeft, Runs}
@@ -284,6 +286,16 @@ run_more keep rules old mid new began false then_failed requests answers r a set
     works : (t : Bool) → (t ≡ true → false ≡ true) → t ≡ false
     works true h = absurd (true≢false (sym (h refl)))
     works false h = refl
+
+-- ---- the desks
+
+-- the next request is asked of the desk that these left
+pub answered_more : {K : Type 0} (keep : Ghosts K) (old mid new : Desk K keep) (requests : List Asked) (answers : List Answer) (r : Asked) (a : Answer)
+    → AreAnsweredBy keep old requests answers mid → AnsweredBy keep mid r a new → AreAnsweredBy keep old (requests ++ r ∷ []) (answers ++ a ∷ []) new
+answered_more {K = K} keep old mid new [] [] r a h by = (new, subst (λ (d : Desk K keep). AnsweredBy keep d r a new) h by, refl)
+answered_more keep old mid new [] (b ∷ answers) r a h by = absurd h
+answered_more keep old mid new (q ∷ requests) [] r a h by = absurd h
+answered_more keep old mid new (q ∷ requests) (b ∷ answers) r a h by = (h.0, h.1, answered_more keep h.0 mid new requests answers r a h.2 by)
 
 -- ---- the loop
 

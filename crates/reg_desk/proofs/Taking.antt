@@ -21,7 +21,7 @@ use Rattle.reg_desk.specs.declared.answer.Answer.TheVariants.{Receipt, Denied, T
 use Rattle.reg_desk.specs.Machine.{Register, decided, OrRefused, first_equal, receipt_of, IsReply, IsTaken, IsNext}
 use Rattle.reg_desk.specs.Serving.{IsQuiet, IsFree, AsksStore, IsRefusal, AddsAsked, register_at, OnlyReads, Serves, answer_of}
 use Rattle.reg_desk.proofs.Replies.{reply_same, finds_itself}
-use Rattle.reg_desk.proofs.Firsts.{first_none, first_some}
+use Rattle.reg_desk.proofs.Firsts.{first_some}
 use Rattle.reg_desk.proofs.Bodies.{refused_none, refusal_serves}
 use Rattle.reg_desk.proofs.Serves.{told_answer, told_after, memory_answer, memory_after, failed_answer, failed_after, asks_needs, owed_never, replies_at_once, refused_serves, replies_serves, permitted_reply, denied_reply}
 
@@ -187,7 +187,7 @@ no_failure : (t failed : Bool) → t ≡ failed → failed ≡ false → t ≡ t
 no_failure t failed is lives e = sym lives ∙ sym is ∙ e
 
 pub deposit_added : {K : Type 0} (keep : Ghosts K) (rules : List Rule) (caller : Caller) (project : List ℕ) (embargo : ℤ) (bytes : List ℕ) (day : ℤ) (old mid new : K) (n : ℕ)
-    → IsFine (register_at keep rules old) caller project bytes → OnlyReads keep old mid false → (keep.is_sound mid → None ≡ number_of caller.firm project bytes (keep.deposits old))
+    → IsFine (register_at keep rules old) caller project bytes → OnlyReads keep old mid false → (keep.is_sound mid → first_equal 1 caller.firm project bytes (keep.deposits old) ≡ None)
     → Appends keep (asked_deposit caller project embargo bytes) mid new (Ok n)
     → (keep.is_sound new → n ≡ length (keep.deposits new)) → (keep.is_sound new → length (keep.deposits mid) < keep.limit mid)
     → Serves keep rules (deposit caller project embargo bytes day) old new (Receipt n embargo)
@@ -197,7 +197,7 @@ deposit_added keep rules caller project embargo bytes day old mid new n fine rea
     let request = deposit caller project embargo bytes day in
     let d = asked_deposit caller project embargo bytes in
     let asks = fine_asks register state caller project embargo bytes day fine in
-    let none : keep.is_sound new → first_equal 1 caller.firm project bytes state ≡ None = λ s. first_none caller.firm project bytes 1 state (sym (unheld (appends.sound s))) in
+    let none : keep.is_sound new → first_equal 1 caller.firm project bytes state ≡ None = λ s. unheld (appends.sound s) in
     let new_list : keep.is_sound new → keep.deposits new ≡ state ++ d ∷ [] = λ s. appends.added s ∙ ap (λ (l : List Deposit). l ++ d ∷ []) (reads.same (appends.sound s) refl) in
     let has_room : keep.is_sound new → length state < register.limit = λ s. omega (arith, room s, ap length (reads.same (appends.sound s) refl), reads.same_limit) in
     let count : keep.is_sound new → n ≡ length state + 1 = λ s. omega (arith, number s, ap length (new_list s), length-append state (d ∷ [])) in
@@ -222,7 +222,7 @@ deposit_added keep rules caller project embargo bytes day old mid new n fine rea
 
 -- the keep refuses to append
 pub deposit_unadded : {K : Type 0} (keep : Ghosts K) (rules : List Rule) (caller : Caller) (project : List ℕ) (embargo : ℤ) (bytes : List ℕ) (day : ℤ) (old mid new : K) (e : KeepError)
-    → IsFine (register_at keep rules old) caller project bytes → OnlyReads keep old mid false → (keep.is_sound mid → None ≡ number_of caller.firm project bytes (keep.deposits old))
+    → IsFine (register_at keep rules old) caller project bytes → OnlyReads keep old mid false → (keep.is_sound mid → first_equal 1 caller.firm project bytes (keep.deposits old) ≡ None)
     → Appends keep (asked_deposit caller project embargo bytes) mid new (Err e)
     → (keep.is_sound new → e ≡ errors.Full → length (keep.deposits mid) ≡ keep.limit mid)
     → Serves keep rules (deposit caller project embargo bytes day) old new (answer_of e)
@@ -231,7 +231,7 @@ deposit_unadded keep rules caller project embargo bytes day old mid new errors.F
     let state = keep.deposits old in
     let request = deposit caller project embargo bytes day in
     let asks = fine_asks register state caller project embargo bytes day fine in
-    let none : keep.is_sound new → first_equal 1 caller.firm project bytes state ≡ None = λ s. first_none caller.firm project bytes 1 state (sym (unheld (appends.sound s))) in
+    let none : keep.is_sound new → first_equal 1 caller.firm project bytes state ≡ None = λ s. unheld (appends.sound s) in
     let no_room : keep.is_sound new → register.limit ≤ length state = λ s. omega (arith, full s refl, ap length (reads.same (appends.sound s) refl), reads.same_limit) in
     record {
       sound = λ s. reads.sound (appends.sound s);

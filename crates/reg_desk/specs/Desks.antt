@@ -1,5 +1,5 @@
 -- What one request is answered by a desk.
-use Rattle.std.specs.Prelude.{◌≡◌, ℕ, List, [], Some, true, false}
+use Rattle.std.specs.Prelude.{◌≡◌, ℕ, List, [], ◌∷◌, Some, true, false}
 use Rattle.ags_check.specs.Findings.{Findings as AreFindings}
 use Rattle.reg_policy.specs.declared.rule.Rule.{Rule}
 use Rattle.reg_store.specs.Deposit.{Deposit}
@@ -19,6 +19,14 @@ pub record AnsweredBy {K : Type 0} (keep : Ghosts K) (old : Desk K keep) (reques
   pub failed : new.failed ≡ is_failed answer
   pub stuck : old.failed ≡ true → (answer ≡ StoreFailed) × (new.keep ≡ old.keep)
   pub served : old.failed ≡ false → Serves keep old.policy request old.keep new.keep answer
+
+-- One answer for each request, in order: each request is answered so by the desk that the one before it left.
+abbrev pub AreAnsweredBy : {K : Type 0} (keep : Ghosts K) → Desk K keep → List Asked → List Answer → Desk K keep → Type 0
+AreAnsweredBy keep old [] [] new = new ≡ old
+AreAnsweredBy keep old [] (answer ∷ answers) new = ⊥
+AreAnsweredBy keep old (request ∷ requests) [] new = ⊥
+AreAnsweredBy {K} keep old (request ∷ requests) (answer ∷ answers) new =
+    (next : Desk K keep) × AnsweredBy keep old request answer next × AreAnsweredBy keep next requests answers new
 
 -- where the answer is a text, it is a file without findings under the keep's dictionary
 abbrev pub IsCleanText : {K : Type 0} → Ghosts K → K → Answer → Type 0

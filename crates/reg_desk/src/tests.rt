@@ -5,6 +5,7 @@ ghost use Rattle.std.specs.Prelude.{◌≡◌, ◌≤◌, ◌<◌, false};
 mod examples;
 mod failing;
 mod laws;
+mod memory;
 mod refusing;
 
 use crate::{Answer, Desk, Listed, Request};

@@ -7,7 +7,7 @@ ghost use Rattle.reg_store.specs.Deposit.{Deposit};
 ghost use Rattle.reg_desk.specs.Asked.{asked};
 ghost use Rattle.reg_desk.specs.Serving.{is_failed};
 ghost use Rattle.reg_desk.specs.Running.{AreFailed, IsHeldIn, Runs};
-ghost use Rattle.reg_desk.specs.Desks.{AnsweredBy, IsCleanText, IsSameAnswer};
+ghost use Rattle.reg_desk.specs.Desks.{AnsweredBy, AreAnsweredBy, IsCleanText, IsSameAnswer};
 
 use crate::answer::Answer;
 use crate::desk::Desk;
@@ -38,6 +38,7 @@ impl<K: Keep> Desk<K> {
         requests: &[Request<'_>],
     ) -> Result<Vec<Answer>, AllocError>
         ensures unasked { OnErr result (self.new ≡ self.old) }
+        ensures answered { IfOk result (λ answers. AreAnsweredBy K.Keep self.old (map asked requests.entry.now) answers.items self.new) }
         ensures policy { self.new.policy ≡ self.old.policy }
         ensures dictionary { K.dictionary self.new.keep ≡ K.dictionary self.old.keep }
         ensures limit { K.limit self.new.keep ≡ K.limit self.old.keep }

@@ -1,15 +1,50 @@
 //! A deposit: taken once, with a receipt.
 
-ghost use Rattle.std.specs.Prelude.{◌≡◌, ℤ, false};
+ghost use Rattle.std.specs.Prelude.{◌≡◌, ◌≢◌, ℤ, None, Err, IfOk, IfSome, false};
+ghost use Rattle.reg_store.specs.Keep.{fails};
 ghost use Rattle.reg_desk.specs.Asked.{deposit as asks_deposit};
-ghost use Rattle.reg_desk.specs.Serving.{Serves};
+ghost use Rattle.reg_desk.specs.Machine.{first_equal};
+ghost use Rattle.reg_desk.specs.Serving.{OnlyReads, Serves};
 
 use crate::answer::Answer;
 use crate::serving::body::read_body;
 use crate::serving::{decide_request, refused};
 use reg_policy::{Caller, Day, Decision, Name, Policy, Verb};
-use reg_store::Keep;
+use reg_store::{Keep, KeepError};
 use std::alloc::Global;
+
+/// The number and the embargo of the deposit that is held already: the first that is equal in firm, project and bytes.
+#[tactic(auto, using(crate::proofs::Firsts::none_held))]
+fn held_already<K: Keep>(
+    keep: &mut K,
+    firm: &Name,
+    project: &Name,
+    bytes: &[u8],
+) -> Result<Option<(u32, Day)>, KeepError>
+    requires { K.has_failed keep.old ≡ false }
+    ensures reads { OnlyReads K.Keep keep.old keep.new (fails result) }
+    ensures held { K.is_sound keep.new → IfOk result (λ held. held ≡ first_equal 1 firm.now project.now bytes.now (K.deposits keep.old)) }
+    ensures named { result ≢ Err KeepError.Full }
+{
+    match keep.find(firm, project, bytes)? {
+        None => Ok(None),
+        Some(number) => {
+            let head = keep.head(number)?;
+            Ok(Some((number, head.embargo)))
+        }
+    }
+}
+
+/// The receipt of a deposit: one that was held already keeps its embargo, whatever is asked.
+fn receipt(number: u32, held: Option<Day>, asked: Day) -> Answer
+    ensures held { IfSome held (λ until. result ≡ Answer.Receipt number until) }
+    ensures new { held ≡ None → result ≡ Answer.Receipt number asked }
+{
+    Answer::Receipt {
+        number,
+        embargo: held.unwrap_or(asked),
+    }
+}
 
 /// What a deposit is answered.
 #[tactic(none)]
@@ -33,21 +68,12 @@ pub(super) fn serve_deposit<K: Keep>(
         Err(answer) => return answer,
         Ok(checked) => checked,
     };
-    let found = match keep.find(&caller.firm, project, bytes) {
-        Err(error) => return refused(error),
-        Ok(found) => found,
-    };
-    match found {
-        Some(number) => match keep.head(number) {
+    match held_already(keep, &caller.firm, project, bytes) {
+        Err(error) => refused(error),
+        Ok(Some((number, until))) => receipt(number, Some(until), embargo),
+        Ok(None) => match keep.add(&caller.firm, project, embargo, &checked) {
             Err(error) => refused(error),
-            Ok(head) => Answer::Receipt {
-                number,
-                embargo: head.embargo,
-            },
-        },
-        None => match keep.add(&caller.firm, project, embargo, &checked) {
-            Err(error) => refused(error),
-            Ok(number) => Answer::Receipt { number, embargo },
+            Ok(number) => receipt(number, None, embargo),
         },
     }
 }

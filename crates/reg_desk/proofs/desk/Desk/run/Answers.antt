@@ -1,12 +1,14 @@
 use Rattle.std.proofs.Common.{◌≡◌, ◌∙◌, sym, ap, subst, refl, ℕ, ◌+◌, List, [], ◌∷◌, ◌++◌, map, take, suc, arith}
 use Rattle.reg_policy.specs.declared.rule.Rule.{Rule}
 use Rattle.reg_desk.specs.Asked.{Asked, asked}
+use Rattle.reg_desk.specs.declared.answer.Answer.{Answer}
 use Rattle.reg_desk.specs.declared.request.Request.{Request}
+use Rattle.reg_desk.specs.Desks.{AreAnsweredBy}
 use Rattle.std.specs.List.{AllZip}
 use Rattle.std.proofs.Math.Logic.{∥∥₁_map}
 use Rattle.reg_desk.specs.Running.{AreFailed, IsHeldIn, Runs}
 use Rattle.reg_desk.specs.Serving.{Serves}
-use Rattle.reg_desk.proofs.Running.{Going, run_begins, run_more, asked_more, take_whole}
+use Rattle.reg_desk.proofs.Running.{Going, answered_more, run_begins, run_more, asked_more, take_whole}
 use Rattle.reg_desk.proofs.Lasting.{receipts_last}
 use Rattle.reg_desk.proofs.desk.Desk.run.Goals as goal
 
@@ -17,6 +19,7 @@ loop-request-init g c =
       count = c.in_ok-answers.ensures.len;
       room = omega (arith, c.in_ok-answers.ensures.capacity);
       policy = refl;
+      answered = subst (λ (l : List Answer). AreAnsweredBy g.K.Keep desk [] l desk) (sym c.in_ok-answers.ensures.items) refl;
       going = subst (Going g.K.Keep desk.policy desk.keep desk.keep desk.failed desk.failed []) (sym c.in_ok-answers.ensures.items) (run_begins g.K.Keep desk.policy desk.keep desk.failed g.met.K.Keep.settled g.met.K.Keep.unbroken desk.sticky);
     }
 
@@ -37,6 +40,10 @@ loop-request-preserved g c =
       count = omega (arith, c.push_answer.ensures.len, was.count);
       room = omega (arith, c.push_answer.ensures.room, was.room);
       policy = by.policy ∙ was.policy;
+      answered =
+          subst (λ (l : List Asked). AreAnsweredBy g.K.Keep desk l c.push_answer.new.answers.items new) (sym more)
+          (subst (λ (l : List Answer). AreAnsweredBy g.K.Keep desk (map asked (take i requests) ++ asked c.request-item.result ∷ []) l new) (sym c.push_answer.ensures.answers)
+          (answered_more g.K.Keep desk mid new (map asked (take i requests)) c.loop-request.answers.items (asked c.request-item.result) c.answer-answer.result was.answered by));
       going =
           subst (λ (l : List Asked). Going g.K.Keep desk.policy desk.keep new.keep desk.failed new.failed l c.push_answer.new.answers.items) (sym more)
           (subst (Going g.K.Keep desk.policy desk.keep new.keep desk.failed new.failed (map asked (take i requests) ++ asked c.request-item.result ∷ [])) (sym c.push_answer.ensures.answers)
@@ -44,6 +51,11 @@ loop-request-preserved g c =
           g.met.K.Keep.settled mid.sticky was.going by.failed by.stuck
           (λ e. subst (λ (rules : List Rule). Serves g.K.Keep rules (asked c.request-item.result) mid.keep new.keep c.answer-answer.result) was.policy (by.served e))));
     }
+
+pub returns-clause-answered : goal.returns-clause-answered
+returns-clause-answered g c =
+    subst (λ (l : List Request). AreAnsweredBy g.K.Keep c.args.self.now (map asked l) c.loop-request.answers.items c.loop-request.self)
+    (take_whole c.args.requests.now c.loop-request.request-index c.loop-request-test.false) c.loop-request.invariant.answered
 
 pub returns-clause-dictionary : goal.returns-clause-dictionary
 returns-clause-dictionary g c = c.loop-request.invariant.going.same_dictionary
