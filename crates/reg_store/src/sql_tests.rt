@@ -13,7 +13,7 @@ use std::fs;
 use std::process::Abort;
 use std::test::Fail;
 
-/// A file that a register holds, what is changed in its tables, and what adopting them answers.
+/// A file that a register holds, the statements that change its tables, and what adopting them answers.
 struct Case {
     file: &'static [u8],
     change: &'static str,
@@ -79,6 +79,25 @@ const CASES: [Case; 11] = [
     },
 ];
 
+// Whatever its other tables are, the number comes before what is wrong with them.
+const DAMAGED: [Case; 3] = [
+    Case {
+        file: FILE_A,
+        change: "UPDATE deposits SET body = x''; UPDATE meta SET num = 7 WHERE name = 'format'",
+        want: "register version 7",
+    },
+    Case {
+        file: FILE_B,
+        change: "DROP TABLE steps; UPDATE meta SET num = 7 WHERE name = 'format'",
+        want: "register version 7",
+    },
+    Case {
+        file: FILE_B,
+        change: "DROP TABLE steps",
+        want: "not a register",
+    },
+];
+
 /// The connection of a register that holds one file.
 fn taken_apart(alloc: Global, bytes: &[u8]) -> Result<Connection<MemStore>, Fail> {
     let mut keep = SqlKeep::in_memory(alloc, MINI)?;
@@ -98,9 +117,7 @@ fn adopted<S: Alter + Drop>(alloc: Global, connection: Connection<S>) -> Result<
 
 fn changed(alloc: Global, case: &Case) -> Result<String, Fail> {
     let mut connection = taken_apart(alloc, case.file)?;
-    if !case.change.is_empty() {
-        connection.execute(case.change, &[])?;
-    }
+    connection.execute_batch(case.change)?;
     adopted(alloc, connection)
 }
 
@@ -114,7 +131,8 @@ fn compare(alloc: Global, rt: &impl Abort, cases: &[Case]) -> Result<(), Fail> {
 
 #[test]
 fn changed_registers(rt: HostRuntime) -> Result<(), Fail> {
-    compare(rt.alloc(), &rt, &CASES)
+    compare(rt.alloc(), &rt, &CASES)?;
+    compare(rt.alloc(), &rt, &DAMAGED)
 }
 
 /// A body of one byte more than may be kept.

@@ -71,7 +71,7 @@ fn bytes_of(alloc: Global, file: File) -> Result<Vec<u8>, AllocError> {
 }
 
 /// The number of the deposit, that of an equal one or a new one; none where the keep is full.
-fn take<K: Keep>(
+pub(crate) fn take<K: Keep>(
     keep: &mut K,
     firm: &Name,
     project: &Name,
