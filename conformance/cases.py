@@ -1,5 +1,5 @@
 #!/usr/bin/env python3
-"""The files of this folder, each with what the rules find in it, worked out by hand.
+"""The files of files/, each with what the rules find in it, worked out by hand.
 
 usage: cases.py          writes files/NAME.ags for each case and files/expected.tsv, and compares each case with reference.py
 The phase of a case is the phase whose findings it shows; a checker of fewer phases has to call the file clean."""

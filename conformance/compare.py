@@ -1,5 +1,5 @@
 #!/usr/bin/env python3
-"""Changes the files of this folder at random and compares what a checker prints with what reference.py computes.
+"""Changes the files of files/ at random and compares what a checker prints with what reference.py computes.
 
 usage: compare.py PROGRAM [COUNT [SEED [PHASES]]]
 A seed gives the same changes each time. The last line is 'N passed, M failed'."""

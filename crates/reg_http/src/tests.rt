@@ -317,6 +317,64 @@ fn memory_is_refused_once(rt: HostRuntime) -> Result<(), Fail> {
     Ok(())
 }
 
+/// How often memory was wanting while two equal deposits were served in a list; none where an answer is neither as ever nor want of memory,
+/// or where the list was refused whole and something is held that was not.
+fn wanting(alloc: Global, desk: &mut Desk<PlainKeep>, callers: &Callers, day: Day) -> Option<u32> {
+    let (text, other) = (RECEIPT, OUT_OF_MEMORY);
+    let mut connections = [
+        (
+            Tally::new(DEPOSIT.chain(FILE_A)),
+            Tally::new(Expects { text, other }),
+        ),
+        (
+            Tally::new(DEPOSIT.chain(FILE_A)),
+            Tally::new(Expects { text, other }),
+        ),
+    ];
+    let held = desk.keep().count();
+    let Ok(results) = serve_list(alloc, desk, callers, day, &mut connections) else {
+        return if desk.keep().count() == held {
+            Some(1)
+        } else {
+            None
+        };
+    };
+    let mut wanting = 0u32;
+    for served in &results {
+        match served {
+            Ok(Served { status: 200 }) => {}
+            Ok(Served { status: 503 }) => wanting = wanting.saturating_add(1),
+            _ => return None,
+        }
+    }
+    if results.len() == 2 {
+        Some(wanting)
+    } else {
+        None
+    }
+}
+
+/// With memory, and where `conformance/refused_tests` refuses one growth: two equal deposits are served in a list, twice. Memory is wanting
+/// once at most, for the list whole or for one of the four answers, and each other answer is as ever.
+#[test]
+fn memory_is_refused_once_in_a_list(rt: HostRuntime) -> Result<(), Fail> {
+    let alloc = rt.alloc();
+    let (Some(mut desk), Ok(callers), Some(day)) = (
+        desk_of(alloc, 1),
+        Callers::read(alloc, CALLERS),
+        Day::read("2024-05-01"),
+    ) else {
+        return Ok(());
+    };
+    let mut refused = 0u32;
+    for _ in 0..2 {
+        let wanting = wanting(alloc, &mut desk, &callers, day).ok_or("an answer")?;
+        refused = refused.saturating_add(wanting);
+    }
+    assert!(rt; refused <= 1);
+    Ok(())
+}
+
 #[test]
 fn reads_fail(rt: HostRuntime) -> Result<(), Fail> {
     let alloc = rt.alloc();
@@ -385,15 +443,16 @@ fn writes_fail(rt: HostRuntime) -> Result<(), Fail> {
     Ok(())
 }
 
-/// Takes one text, and that in one write.
+/// Takes one of two texts, and that in one write.
 #[derive(Drop)]
 struct Expects {
     text: &'static [u8],
+    other: &'static [u8],
 }
 
 impl Write for Expects {
     fn write(&mut self, buf: &[u8]) -> io::Result<usize> {
-        if buf == self.text {
+        if buf == self.text || buf == self.other {
             Ok(buf.len())
         } else {
             Err(io::Error::from(ErrorKind::BrokenPipe))
@@ -415,15 +474,15 @@ fn connections_in_turn(rt: HostRuntime) -> Result<(), Fail> {
     let mut connections = [
         (
             Tally::new(DEPOSIT.chain(FILE_A)),
-            Tally::new(Expects { text }),
+            Tally::new(Expects { text, other: text }),
         ),
         (
             Tally::new(nothing.chain(nothing)),
-            Tally::new(Expects { text }),
+            Tally::new(Expects { text, other: text }),
         ),
         (
             Tally::new(DEPOSIT.chain(FILE_A)),
-            Tally::new(Expects { text }),
+            Tally::new(Expects { text, other: text }),
         ),
     ];
     let results = serve_list(alloc, &mut desk, &callers, day, &mut connections)?;

@@ -56,13 +56,13 @@ callers_error ReadErrors.NoMemory = NoMemory
 
 -- What reading callers gives: them, or the first refusal that holds of the whole document.
 abbrev pub ReadsCallers : List ℕ → Result (List Credential) CallersError → Type 0
--- a document of callers with a token each
+-- a document of callers, no token of which stands twice
 ReadsCallers text (Ok callers) = HasCallers text callers × (are_unique callers ≡ true)
 -- no TOML document
 ReadsCallers text (Err Syntax) = IsRefused caller_key caller_keys IsCaller text ReadErrors.Syntax
 -- a document with a key other than these
 ReadsCallers text (Err UnknownKey) = IsRefused caller_key caller_keys IsCaller text ReadErrors.UnknownKey
--- of these keys alone, but some value is none that its key may have
+-- of these keys alone, but the array is no list of callers: a value that its key may not have, or a key that is missing
 ReadsCallers text (Err BadValue) = IsRefused caller_key caller_keys IsCaller text ReadErrors.BadValue
 -- a document of callers, but a token stands twice
 ReadsCallers text (Err DuplicateToken) = (callers : List Credential) × HasCallers text callers × (are_unique callers ≡ false)

@@ -94,7 +94,7 @@ ReadsPolicy text (Ok rules) = HasRules text rules × IsRisingFrom 0 rules
 ReadsPolicy text (Err Syntax) = IsRefused rule_key rule_keys IsRule text ReadErrors.Syntax
 -- a document with a key other than these
 ReadsPolicy text (Err UnknownKey) = IsRefused rule_key rule_keys IsRule text ReadErrors.UnknownKey
--- of these keys alone, but some value is none that its key may have
+-- of these keys alone, but the array is no list of rules: a value that its key may not have, a key that is missing, or a heading without a value
 ReadsPolicy text (Err BadValue) = IsRefused rule_key rule_keys IsRule text ReadErrors.BadValue
 -- a document of rules, but a number is not above that of the rule before
 ReadsPolicy text (Err Order) = (rules : List Rule) × HasRules text rules × ¬ (IsRisingFrom 0 rules)

@@ -138,7 +138,7 @@ impl<S: Alter> SqlKeep<S> {
 
     /// The register that a database holds: each kept body is checked anew, and its lines and steps are compared.
     ///
-    /// A connection in a transaction is answered `Store`. One that comes back open shows the tables from before.
+    /// A connection in a transaction is answered `Store`, where its tables are not refused first. One that comes back open shows the tables from before.
     pub fn adopt(
         alloc: Global,
         mut connection: Connection<S>,
@@ -201,7 +201,7 @@ impl SqlKeep<MemStore> {
 impl SqlKeep<FileStore<File>> {
     /// An empty register in the database at a path.
     ///
-    /// It is `create_from` with `Unknown`, of which no clause says anything where the file is not empty.
+    /// It is `create_from` with `Unknown`, so no clause says what the file held.
     pub fn create(
         rt: &HostRuntime,
         alloc: Global,

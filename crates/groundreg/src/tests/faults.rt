@@ -3,6 +3,7 @@
 use super::runs::{enter, holds, leave, write_long};
 use reg_policy::vectors::{CALLERS, POLICY};
 use reg_policy::{Callers, CallersError, Policy, PolicyError};
+use std::alloc::Global;
 use std::test::Fail;
 
 #[test]
@@ -102,23 +103,38 @@ fn faults_of_dictionaries_and_files(rt: HostRuntime) -> Result<(), Fail> {
     leave(&rt, "faults_of_dictionaries_and_files")
 }
 
+/// What both readers answer of their array's name with this behind it.
+fn both(alloc: Global, more: &str) -> Result<(Option<PolicyError>, Option<CallersError>), Fail> {
+    let rules = format!(in alloc; "rule{more}")?;
+    let listed = format!(in alloc; "caller{more}")?;
+    Ok((
+        Policy::read(alloc, &rules).err(),
+        Callers::read(alloc, &listed).err(),
+    ))
+}
+
+/// Arrays in arrays, tables in tables, and a key of so many parts.
+fn nested(alloc: Global, depth: usize) -> Result<[String; 3], Fail> {
+    let (open, close) = ("[".repeat(alloc, depth)?, "]".repeat(alloc, depth)?);
+    let (begin, end) = ("{a = ".repeat(alloc, depth)?, "}".repeat(alloc, depth)?);
+    let parts = ".a".repeat(alloc, depth.saturating_sub(1))?;
+    Ok([
+        format!(in alloc; " = {open}{close}")?,
+        format!(in alloc; " = {begin}1{end}")?,
+        format!(in alloc; "{parts} = 1")?,
+    ])
+}
+
 /// Values are taken up to 80 deep, and keys of up to 80 parts; what goes deeper is no TOML.
 #[test]
 fn texts_that_go_deep(rt: HostRuntime) -> Result<(), Fail> {
     let alloc = rt.alloc();
-    for (depth, policy, callers) in [
-        (2, PolicyError::BadValue, CallersError::BadValue),
-        (80, PolicyError::BadValue, CallersError::BadValue),
-        (81, PolicyError::Syntax, CallersError::Syntax),
-    ] {
-        let (open, close) = ("[".repeat(alloc, depth)?, "]".repeat(alloc, depth)?);
-        let rules = format!(in alloc; "rule = {open}{close}")?;
-        assert_eq!(rt; Policy::read(alloc, &rules).err(), Some(policy));
-        let listed = format!(in alloc; "caller = {open}{close}")?;
-        assert_eq!(rt; Callers::read(alloc, &listed).err(), Some(callers));
-        let parts = ".a".repeat(alloc, depth.saturating_sub(1))?;
-        let key = format!(in alloc; "rule{parts} = 1")?;
-        assert_eq!(rt; Policy::read(alloc, &key).err(), Some(policy));
+    let taken = (Some(PolicyError::BadValue), Some(CallersError::BadValue));
+    let refused = (Some(PolicyError::Syntax), Some(CallersError::Syntax));
+    for (depth, want) in [(2, taken), (80, taken), (81, refused)] {
+        for more in nested(alloc, depth)? {
+            assert_eq!(rt; both(alloc, &more)?, want);
+        }
     }
     Ok(())
 }
