@@ -1,9 +1,10 @@
 -- Tests of what the tables hold.
-use Rattle.std.proofs.Common.{zero, suc, IfErr, ◌⊎◌, inl, inr, ◌≡◌, ◌≢◌, ℕ, ◌+◌, ◌<◌, ◌≤◌, Bool, true, false, IsTrue, List, [], ◌∷◌, length, map, filter, get_or, Option, Some, None, IfSome, Result, Ok, Err, IfOk, refl, sym, ap, subst, subst₂, ◌∙◌, arith}
+use Rattle.std.proofs.Common.{zero, suc, IfErr, ◌⊎◌, inl, inr, ◌≡◌, ◌≢◌, ℕ, ◌+◌, ◌<◌, ◌≤◌, Bool, true, false, IsTrue, List, [], ◌∷◌, length, map, filter, get_or, Option, Some, None, is_some, IfSome, Result, Ok, Err, IfOk, refl, sym, ap, subst, subst₂, ◌∙◌, arith}
 use Rattle.std.proofs.Math.Logic.{∥∥₁_map, ∥∥₁_elim}
 use Rattle.std.proofs.Props.{props}
 use Rattle.std.specs.List.Sorted.{IsPermutation}
 use Rattle.std.specs.Prelude.{ℤ, pos, codes, Contains}
+use Rattle.std.proofs.lemmas.Bool.{cases_lt}
 use Rattle.std.proofs.lemmas.List.{length-map}
 use Rattle.std.proofs.lemmas.List.Sorted.{IsPermutation-sym, IsPermutation-map, Contains-permutation, length_permutation}
 use Rattle.sqlite.specs.declared.types.Value.TheVariants.{Int, Text as Words, Blob as Bytes}
@@ -22,6 +23,7 @@ use Rattle.ags_check.specs.Findings.{CheckedFile, Findings}
 use Rattle.ags_check.proofs.OneFile.{one_clean_file}
 use Rattle.ags_check.proofs.Whole.{one_list}
 use Rattle.reg_store.specs.declared.keep.KeepError.{KeepError}
+use Rattle.reg_store.specs.declared.keep.KeptHead.{KeptHead}
 use Rattle.reg_store.specs.declared.keep.KeptRow.{KeptRow}
 use Rattle.reg_store.specs.Deposit.{Deposit}
 use Rattle.reg_store.specs.Fit.{IsFileOf, IsNamed, kept_rows}
@@ -29,6 +31,7 @@ use Rattle.reg_store.specs.Rows.{columns_3, deposit_table, given_deposit, line_t
 use Rattle.reg_store.specs.Tables.{register_schema}
 use Rattle.reg_store.specs.Register.{deposit_rows, has_number, meta_columns, integer_in, IsRegister}
 use Rattle.reg_store.specs.RegisterLaws.{rows-length}
+use Rattle.reg_store.specs.Heads.{IsHeadAt, head_of}
 use Rattle.reg_store.specs.declared.adopting.AdoptError.{AdoptError}
 use Rattle.reg_store.specs.declared.adopting.AdoptError.TheVariants.{NotRegister, Version, Store, NoMemory}
 use Rattle.reg_store.specs.Formats.{HasFormat, IsFormatRow}
@@ -108,6 +111,13 @@ whole_tests (Ok is) db mid dictionary n d rows same found read named test = test
 pub only_shown : (db : Database) (dictionary : Entries) (n : ℕ) (rows : List Row) → IsPermutation rows (filter (has_number n) (deposit_table db.trees)) → (w : IsWhole db dictionary n) → rows ≡ given_deposit n w.deposit ∷ []
 only_shown db dictionary n rows found w = one_permutation (given_deposit n w.deposit) rows (IsPermutation-sym _ _ (subst (λ all. IsPermutation rows all) w.row found))
 
+-- so the head of what is shown is that of the deposit
+pub head_shown : (db : Database) (n : ℕ) (kept : Deposit) (head : KeptHead) (rows : List Row) → IsPermutation rows (filter (has_number n) (deposit_table db.trees)) → rows ≡ given_deposit n kept ∷ [] → head ≡ head_of kept → IsHeadAt db n head
+head_shown db n kept head rows found read is d row =
+    let alone : rows ≡ given_deposit n d ∷ [] = one_permutation (given_deposit n d) rows (IsPermutation-sym _ _ (subst (λ all. IsPermutation rows all) row found)) in
+    let one : kept ≡ d = ap (λ (all : List Row). of_row (get_or all 0 [])) (sym read ∙ alone) in
+    is ∙ ap head_of one
+
 pub tests_true : {is : Bool} {P : Type 0} → is ≡ true → Tests is P → Tests true P
 tests_true {is} {P} e test = subst (λ (b : Bool). Tests b P) e test
 
@@ -116,6 +126,14 @@ tests_none P none = record { yes = λ e. absurd cc; no = λ e. none }
 
 pub tests_all : (P : ℕ → Type 0) (count : ℕ) → ((k : ℕ) → k < count → ∥ P k ∥₁) → Tests true ((k : ℕ) → k < count → P k)
 tests_all P count each = record { yes = λ e. of_all P count each; no = λ e. absurd cc }
+
+-- the first deposits are whole, and so is the next
+pub whole_more : (old mid : Database) (dictionary : Entries) (at : ℕ) (o : Option KeptHead) (head : KeptHead) → mid ≡ old → o ≡ Some head → Tests (is_some o) (IsWhole mid dictionary (at + 1)) → ((k : ℕ) → k < at → ∥ IsWhole old dictionary (k + 1) ∥₁)
+    → (k : ℕ) → k < at + 1 → ∥ IsWhole old dictionary (k + 1) ∥₁
+whole_more old mid dictionary at o head same is test all k low = elim (cases_lt k at) [
+  | inl below ↦ all k (omega arith)
+  | inr up ↦ (let e : at ≡ k = omega (arith, low) in subst (λ (j : ℕ). ∥ IsWhole old dictionary (j + 1) ∥₁) e (subst (λ (db : Database). ∥ IsWhole db dictionary (at + 1) ∥₁) same (test.yes (ap is_some is))))
+]
 
 -- a file with a finding is no file of the register
 pub no_file : (dictionary : Entries) (d : Deposit) (found : List Finding) → Findings dictionary d.bytes found → found ≢ [] → (file : CheckedFile) → IsFileOf dictionary d file → ⊥

@@ -1,5 +1,5 @@
 -- What the reading methods of the keep say, from what the connection shows.
-use Rattle.std.specs.Prelude.{◌≡◌, ℕ, ◌+◌, ◌-◌, ◌<◌, ◌≤◌, List, [], ◌∷◌, length, map, filter, Option, Some, None, Result, Ok, Err, IfOk, slice_get}
+use Rattle.std.specs.Prelude.{◌≡◌, ℕ, ◌+◌, ◌-◌, ◌<◌, ◌≤◌, List, [], ◌∷◌, length, map, filter, Some, Result, Ok, Err, IfOk, slice_get}
 use Rattle.std.proofs.Common.{zero, suc, sym, ap, ◌∙◌, subst, subst₂, refl, arith, get_or}
 use Rattle.std.proofs.Math.Logic.{∥∥₁_elim}
 use Rattle.std.proofs.Props.{props}
@@ -11,38 +11,21 @@ use Rattle.sqlite.specs.State.{State}
 use Rattle.ags_dict.specs.Entries.{Entries}
 use Rattle.ags_links.specs.Steps.{IsBefore, IsGraphOf, StepAt}
 use Rattle.ags_check.specs.Findings.{CheckedFile, file_of}
-use Rattle.reg_store.specs.declared.keep.KeptHead.{KeptHead}
 use Rattle.reg_store.specs.declared.keep.Kept.{Kept}
 use Rattle.reg_store.specs.declared.keep.KeptRow.{KeptRow}
 use Rattle.reg_store.specs.declared.keep.KeepError.{KeepError}
-use Rattle.reg_store.specs.Keep.{deposit_of, IsHeadOf}
-use Rattle.reg_store.specs.Deposit.{Deposit, numbers_from}
+use Rattle.reg_store.specs.Keep.{deposit_of}
+use Rattle.reg_store.specs.Deposit.{Deposit}
 use Rattle.reg_store.specs.Rows.{deposit_table, given_deposit, line_table, step_table, placed_rows, rows_under, step_pair}
 use Rattle.reg_store.specs.Fit.{IsFileOf, kept_rows}
-use Rattle.reg_store.specs.Register.{deposit_rows, deposits_in, has_number, integer_in, file_lines, file_steps, KeepsRegister, IsRegister}
-use Rattle.reg_store.specs.Shows.{Holds, row_of_number}
+use Rattle.reg_store.specs.Register.{deposits_in, has_number, integer_in, file_lines, file_steps, KeepsRegister}
+use Rattle.reg_store.specs.Shows.{row_of_number}
 use Rattle.ags_links.proofs.OneGraph.{AreAscending, steps_ascend}
 use Rattle.ags_check.proofs.OneFile.{one_clean_file}
 use Rattle.ags_rows.specs.declared.rows.Group.{Group}
 use Rattle.ags_rows.specs.Contents.{contents_of}
 use Rattle.ags_links.specs.DataRows.{data_rows}
 use Rattle.ags_links.specs.Walks.{Wiring}
-
-pub numbers_at : {X : Type 0} (items : X → List ℕ) {s : State} {dictionary : Entries} {count : ℕ} (project : List ℕ) (r : Result X KeepError) → ∥ KeepsRegister s dictionary count ∥₁
-    → IfOk r (λ x. (list : List Deposit) → IsPermutation (deposit_rows 1 list) (deposit_table s.now.trees) → items x ≡ numbers_from 1 project list) → IfOk r (λ x. items x ≡ numbers_from 1 project (deposits_in s.committed.trees))
-numbers_at items {s} {dictionary} {count} project (Ok x) h ok =
-    let same : items x ≡ numbers_from 1 project (deposits_in s.committed.trees) = ∥∥₁_elim h (Prim.hlevel props) (λ (k : KeepsRegister s dictionary count). ok (deposits_in s.committed.trees) k.register.deposits) in same
-numbers_at items project (Err e) h ok = tt
-
-abbrev pub HasHead : KeptHead → Deposit → Type 0
-HasHead head d = (head.firm ≡ d.firm) × (head.project ≡ d.project) × (head.embargo ≡ d.embargo)
-
-pub head_at : {s : State} {dictionary : Entries} {count : ℕ} (n : ℕ) (r : Result KeptHead KeepError) → ∥ KeepsRegister s dictionary count ∥₁
-    → IfOk r (λ head. Holds (deposit_table s.now.trees) n (HasHead head)) → IfOk r (λ head. (d : Deposit) → slice_get (deposits_in s.committed.trees) (n - 1) ≡ Some d → IsHeadOf d head)
-head_at {s} {dictionary} {count} n (Ok head) h ok = λ d at.
-    let it : HasHead head d = ∥∥₁_elim h (Prim.hlevel props) (λ (k : KeepsRegister s dictionary count). ok (deposits_in s.committed.trees) d k.register.deposits at) in
-    record { firm = it.0; project = it.1; embargo = it.2 }
-head_at n (Err e) h ok = tt
 
 -- a row of deposits, by its columns alone
 abbrev of_row : Row → Deposit

@@ -1,6 +1,6 @@
 //! A register that is found in a database is examined: its numbers, then deposit by deposit.
 
-ghost use Rattle.std.specs.Prelude.{◌≡◌, ◌≢◌, ◌≤◌, ◌+◌, [], ℕ, List, length, map, false, None, Some, Option, IsTrue, IfOk, IfErr, IfSome};
+ghost use Rattle.std.specs.Prelude.{◌≡◌, ◌≢◌, ◌≤◌, ◌+◌, [], ℕ, List, length, map, true, false, None, Some, Option, is_some, Ok, IsTrue, IfOk, IfErr, IfSome};
 ghost use Rattle.std.specs.List.Sorted.{IsPermutation};
 ghost use Rattle.sqlite.specs.State.{HasCleanDisk};
 ghost use Rattle.sqlite.specs.Held.{state};
@@ -13,13 +13,15 @@ ghost use Rattle.reg_store.specs.Fit.{IsFileOf};
 ghost use Rattle.reg_store.specs.Quiet.{IsIdle, IsStill};
 ghost use Rattle.reg_store.specs.Rows.{line_table, step_table, deposit_table, placed_rows, step_pair, rows_under};
 ghost use Rattle.reg_store.specs.Register.{deposit_rows};
+ghost use Rattle.reg_store.specs.Heads.{HoldsHeads, IsHeadAt};
 ghost use Rattle.reg_store.specs.Adopts.{id_of, number_rows as numbered};
 ghost use Rattle.reg_store.specs.Whole.{AreWhole, Counts, HasMeta, HoldsBody, IsAlone, IsWhole, Tests};
 ghost use Rattle.reg_store.specs.Adoption.{Adopts, CountsDeposits, MetaOf, gives_up};
 ghost use Rattle.sqlite.specs.Effect.{IsDatabase};
 
 use crate::adopting::{AdoptError, are_lines, are_steps, count_numbers, read_meta};
-use crate::keep::{KeepError, Kept, KeptRow};
+use crate::heads::into_head;
+use crate::keep::{KeepError, Kept, KeptHead, KeptRow};
 use crate::queries::query;
 use crate::readers::read_deposit;
 use crate::reading::{equal_rows, line_rows, meta_rows, numbered_rows, step_rows};
@@ -194,67 +196,83 @@ fn holds_kept<S: Alter>(
     is_alone(conn, kept)
 }
 
-/// Whether the deposit of a number is whole.
+/// The head of a number's deposit, if that is whole.
 #[tactic(auto, using(crate::specs::Quiet::quiet_then, crate::specs::Quiet::quiet_read, crate::specs::Quiet::idle_then))]
-fn holds_deposit<S: Alter>(
+fn whole_head<S: Alter>(
     conn: &mut Connection<S>,
     alloc: Global,
     dictionary: &Dictionary,
     number: u32,
-) -> Result<bool, KeepError>
+) -> Result<Option<KeptHead>, KeepError>
     requires idle { IsIdle (state S.Store conn.old) }
-    ensures tested { HasCleanDisk (state S.Store conn.new) → IfOk result (λ is. Tests is (IsWhole (state S.Store conn.old).now dictionary.now number)) }
+    ensures tested { HasCleanDisk (state S.Store conn.new) → IfOk result (λ found. Tests (is_some found) (IsWhole (state S.Store conn.old).now dictionary.now number)) }
+    ensures head { HasCleanDisk (state S.Store conn.new) → IfOk result (λ found. IfSome found (IsHeadAt (state S.Store conn.old).now number)) }
     ensures named { IfErr result (λ e. e ≢ KeepError.Full) }
     ensures quiet { IsStill (state S.Store conn.old) (state S.Store conn.new) (fails result) }
 {
     let rows = numbered_rows(conn, number)?;
     match read_deposit(alloc, number, &rows) {
-        Ok(kept) => holds_kept(conn, alloc, dictionary, number, &kept),
-        Err(KeepError::Store) => Ok(false),
+        Ok(kept) => {
+            if holds_kept(conn, alloc, dictionary, number, &kept)? {
+                Ok(Some(into_head(kept)))
+            } else {
+                Ok(None)
+            }
+        }
+        Err(KeepError::Store) => Ok(None),
         Err(error) => Err(error),
     }
 }
 
-/// Whether the deposits from 1 to the count are whole.
+/// Whether the deposits from 1 to the count are whole. Their heads are put into the list.
 #[tactic(auto, using(crate::specs::Quiet::quiet_then, crate::specs::Quiet::quiet_none, crate::specs::Quiet::quiet_read, crate::specs::Quiet::idle_then))]
 pub(crate) fn holds_deposits<S: Alter>(
     conn: &mut Connection<S>,
     alloc: Global,
     dictionary: &Dictionary,
     count: u32,
+    heads: &mut Vec<KeptHead>,
 ) -> Result<bool, KeepError>
     requires idle { IsIdle (state S.Store conn.old) }
+    requires none { heads.old.items ≡ [] }
     ensures tested { HasCleanDisk (state S.Store conn.new) → IfOk result (λ is. Tests is (AreWhole (state S.Store conn.old).now dictionary.now count)) }
+    ensures long { result ≡ Ok true → length heads.new.items ≡ count }
+    ensures heads { HasCleanDisk (state S.Store conn.new) → result ≡ Ok true → HoldsHeads (state S.Store conn.old).now count heads.new.items }
     ensures named { IfErr result (λ e. e ≢ KeepError.Full) }
     ensures quiet { IsStill (state S.Store conn.old) (state S.Store conn.new) (fails result) }
 {
     for at in 0..count {
-        if !holds_deposit(conn, alloc, dictionary, at + 1)? {
+        let Some(head) = whole_head(conn, alloc, dictionary, at + 1)? else {
             return Ok(false);
-        }
+        };
+        heads.push(head)?;
     }
     Ok(true)
 }
 
-/// How many deposits the register has, if the tables are one. The dictionary is that of its meta.
+/// How many deposits the register has, if the tables are one. The dictionary is that of its meta, and the heads are put into the list.
 #[tactic(auto, using(crate::specs::Quiet::quiet_then, crate::specs::Quiet::quiet_read, crate::specs::Quiet::idle_then))]
 fn find_register<S: Alter>(
     conn: &mut Connection<S>,
     alloc: Global,
     dictionary: &Dictionary,
+    heads: &mut Vec<KeptHead>,
 ) -> Result<Option<u32>, KeepError>
     requires idle { IsIdle (state S.Store conn.old) }
     requires meta { HasCleanDisk (state S.Store conn.old) → HasMeta (state S.Store conn.old).now dictionary.now }
     requires sound { HasCleanDisk (state S.Store conn.old) → IsDatabase (state S.Store conn.old).now }
+    requires none { heads.old.items ≡ [] }
     ensures found { HasCleanDisk (state S.Store conn.new) → IfOk result (CountsDeposits (state S.Store conn.old).now dictionary.now) }
     ensures few { IfOk result (λ found. IfSome found (λ count. count ≤ 999999)) }
+    ensures long { IfOk result (λ found. IfSome found (λ count. length heads.new.items ≡ count)) }
+    ensures heads { HasCleanDisk (state S.Store conn.new) → IfOk result (λ found. IfSome found (λ count. HoldsHeads (state S.Store conn.old).now count heads.new.items)) }
     ensures named { IfErr result (λ e. e ≢ KeepError.Full) }
     ensures quiet { IsStill (state S.Store conn.old) (state S.Store conn.new) (fails result) }
 {
     let Some(count) = find_count(conn)? else {
         return Ok(None);
     };
-    if holds_deposits(conn, alloc, dictionary, count)? {
+    if holds_deposits(conn, alloc, dictionary, count, heads)? {
         Ok(Some(count))
     } else {
         Ok(None)
@@ -278,15 +296,19 @@ fn find_dictionary<S: Alter>(
     }
 }
 
-/// The dictionary of the register and how many deposits it has, if the tables are one.
+/// The dictionary of the register and how many deposits it has, if the tables are one. Their heads are put into the list.
 #[tactic(auto, using(crate::specs::Quiet::quiet_then, crate::specs::Quiet::quiet_read, crate::specs::Quiet::idle_then))]
 pub(crate) fn examine<S: Alter>(
     conn: &mut Connection<S>,
     alloc: Global,
+    heads: &mut Vec<KeptHead>,
 ) -> Result<(Dictionary, u32), AdoptError>
     requires idle { IsIdle (state S.Store conn.old) }
+    requires none { heads.old.items ≡ [] }
     ensures adopts { HasCleanDisk (state S.Store conn.new) → Adopts (state S.Store conn.old).now result }
     ensures few { IfOk result (λ found. found.1 ≤ 999999) }
+    ensures long { IfOk result (λ found. length heads.new.items ≡ found.1) }
+    ensures heads { HasCleanDisk (state S.Store conn.new) → IfOk result (λ found. HoldsHeads (state S.Store conn.old).now found.1 heads.new.items) }
     ensures open { HasCleanDisk (state S.Store conn.new) → gives_up result ≡ false → IsTrue (state S.Store conn.new).is_open }
     ensures quiet { IsStill (state S.Store conn.old) (state S.Store conn.new) (gives_up result) }
 {
@@ -295,7 +317,7 @@ pub(crate) fn examine<S: Alter>(
         Err(error) => return Err(error),
     };
     let _schema = conn.schema();
-    match find_register(conn, alloc, &dictionary) {
+    match find_register(conn, alloc, &dictionary, heads) {
         Ok(Some(count)) => Ok((dictionary, count)),
         Ok(None) => Err(AdoptError::NotRegister),
         Err(KeepError::NoMemory) => Err(AdoptError::NoMemory),

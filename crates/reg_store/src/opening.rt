@@ -97,6 +97,7 @@ impl<S: Alter> SqlKeep<S> {
                 connection,
                 dictionary,
                 count: 0,
+                heads: Vec::new(alloc),
                 has_failed: false,
                 alloc,
             }),
@@ -163,11 +164,13 @@ impl<S: Alter> SqlKeep<S> {
             let error = refuse_tables(&mut connection);
             return Err((error, connection));
         }
-        match examine(&mut connection, alloc) {
+        let mut heads = Vec::new(alloc);
+        match examine(&mut connection, alloc, &mut heads) {
             Ok((dictionary, count)) => Ok(SqlKeep {
                 connection,
                 dictionary,
                 count,
+                heads,
                 has_failed: false,
                 alloc,
             }),

@@ -1,13 +1,13 @@
 //! What is read of a register.
 
-ghost use Rattle.std.specs.Prelude.{◌≡◌, ◌≢◌, ◌<◌, ◌∷◌, [], ℕ, pos, false, List, length, map, filter, Option, IsTrue, IfOk, IfErr};
+ghost use Rattle.std.specs.Prelude.{◌≡◌, ◌≢◌, ◌∷◌, [], ℕ, pos, false, List, length, map, filter, Option, IsTrue, IfOk, IfErr};
 ghost use Rattle.std.specs.Option.{option_to_list};
 ghost use Rattle.std.specs.List.Sorted.{IsPermutation};
 ghost use Rattle.sqlite.specs.declared.types.Value.TheVariants.{Int};
 ghost use Rattle.sqlite.specs.State.{HasCleanDisk, Survives};
 ghost use Rattle.sqlite.specs.Held.{state};
 ghost use Rattle.reg_store.specs.Quiet.{IsIdle, IsStill};
-ghost use Rattle.reg_store.specs.Deposit.{Deposit, number_of, numbers_from};
+ghost use Rattle.reg_store.specs.Deposit.{Deposit, number_of};
 ghost use Rattle.reg_store.specs.Keep.{fails, deposit_of};
 ghost use Rattle.reg_store.specs.Rows.{deposit_table, given_deposit, line_table, step_table, placed_rows, step_pair, rows_under, columns_3};
 ghost use Rattle.reg_store.specs.declared.keep.KeptRow.{KeptRow};
@@ -15,15 +15,14 @@ ghost use Rattle.sqlite.specs.Tree.{IsAscending};
 ghost use Rattle.ags_links.specs.Steps.{IsBefore};
 ghost use Rattle.reg_store.specs.Methods.{HasRows, HasSteps};
 ghost use Rattle.reg_store.specs.Fit.{IsNamed};
-ghost use Rattle.reg_store.specs.Shows.{Holds, head_row};
 ghost use Rattle.reg_store.specs.Register.{deposit_rows, has_number, meta_columns};
 ghost use Rattle.reg_store.specs.Apart.{AreApart};
 ghost use Rattle.reg_store.specs.Finds.{is_equal};
 
 use crate::gathering::take_shown;
-use crate::keep::{KeepError, Kept, KeptHead, KeptRow};
+use crate::keep::{KeepError, Kept, KeptRow};
 use crate::queries::{is_memory, query};
-use crate::readers::{DataCount, KeptLines, KeptSteps, read_deposit, read_head, read_numbers};
+use crate::readers::{DataCount, KeptLines, KeptSteps, read_deposit};
 use ags_links::Graph;
 use sqlite::{Alter, Connection, Error, ErrorCode, Row, params};
 use std::alloc::Global;
@@ -87,69 +86,6 @@ pub(crate) fn find_number<S: Alter>(
 {
     match equal_rows(conn, firm, project, bytes) {
         Ok(rows) => first_number(&rows),
-        Err(error) => Err(error),
-    }
-}
-
-fn project_rows<S: Alter>(conn: &mut Connection<S>, project: &str) -> Result<Vec<Row>, KeepError>
-    requires idle { IsIdle (state S.Store conn.old) }
-    ensures found { HasCleanDisk (state S.Store conn.new) → IfOk result (λ rows. (list : List Deposit) → IsPermutation (deposit_rows 1 list) (deposit_table (state S.Store conn.old).now.trees)
-        → rows.items ≡ map (λ n. Int (pos n) ∷ []) (numbers_from 1 project.now list)) }
-    ensures named { IfErr result (λ e. e ≢ KeepError.Full) }
-    ensures quiet { IsStill (state S.Store conn.old) (state S.Store conn.new) (fails result) }
-{
-    query(
-        conn,
-        "SELECT number FROM deposits WHERE project = ?1 ORDER BY number",
-        params![project],
-    )
-}
-
-/// The numbers of a project's deposits.
-pub(crate) fn find_numbers<S: Alter>(
-    conn: &mut Connection<S>,
-    alloc: Global,
-    project: &str,
-) -> Result<Vec<u32>, KeepError>
-    requires idle { IsIdle (state S.Store conn.old) }
-    ensures found { HasCleanDisk (state S.Store conn.new) → IfOk result (λ ns. (list : List Deposit) → IsPermutation (deposit_rows 1 list) (deposit_table (state S.Store conn.old).now.trees) → ns.items ≡ numbers_from 1 project.now list) }
-    ensures named { IfErr result (λ e. e ≢ KeepError.Full) }
-    ensures quiet { IsStill (state S.Store conn.old) (state S.Store conn.new) (fails result) }
-{
-    match project_rows(conn, project) {
-        Ok(rows) => read_numbers(alloc, &rows),
-        Err(error) => Err(error),
-    }
-}
-
-fn head_rows<S: Alter>(conn: &mut Connection<S>, number: u32) -> Result<Vec<Row>, KeepError>
-    requires low { HasCleanDisk (state S.Store conn.old) → 0 < number }
-    requires idle { IsIdle (state S.Store conn.old) }
-    ensures found { HasCleanDisk (state S.Store conn.new) → IfOk result (λ rows. Holds (deposit_table (state S.Store conn.old).now.trees) number (λ d. rows.items ≡ head_row d ∷ [])) }
-    ensures named { IfErr result (λ e. e ≢ KeepError.Full) }
-    ensures quiet { IsStill (state S.Store conn.old) (state S.Store conn.new) (fails result) }
-{
-    query(
-        conn,
-        "SELECT firm, project, embargo FROM deposits WHERE number = ?1",
-        params![number],
-    )
-}
-
-/// The head of a deposit.
-pub(crate) fn find_head<S: Alter>(
-    conn: &mut Connection<S>,
-    alloc: Global,
-    number: u32,
-) -> Result<KeptHead, KeepError>
-    requires low { HasCleanDisk (state S.Store conn.old) → 0 < number }
-    requires idle { IsIdle (state S.Store conn.old) }
-    ensures found { HasCleanDisk (state S.Store conn.new) → IfOk result (λ head. Holds (deposit_table (state S.Store conn.old).now.trees) number (λ d. (head.firm ≡ d.firm) × (head.project ≡ d.project) × (head.embargo ≡ d.embargo))) }
-    ensures named { IfErr result (λ e. e ≢ KeepError.Full) }
-    ensures quiet { IsStill (state S.Store conn.old) (state S.Store conn.new) (fails result) }
-{
-    match head_rows(conn, number) {
-        Ok(rows) => read_head(alloc, &rows),
         Err(error) => Err(error),
     }
 }

@@ -1,15 +1,17 @@
 //! A keep over a database.
 
-ghost use Rattle.std.specs.Prelude.{◌≡◌, ◌≤◌, pos, false, IsTrue};
+ghost use Rattle.std.specs.Prelude.{◌≡◌, ◌≤◌, length, pos, false, IsTrue};
 ghost use Rattle.reg_policy.specs.Days.{is_day_number};
 ghost use Rattle.reg_store.specs.Keep.{fails, is_store as store_error};
 ghost use Rattle.reg_store.specs.KeepLaws.{few_at, fit_at, remains_at, settled_at, stays_at, unbroken_at};
 ghost use Rattle.sqlite.specs.State.{HasCleanDisk};
 ghost use Rattle.sqlite.specs.Held.{state};
+ghost use Rattle.reg_store.specs.Heads.{AreHeads};
 ghost use Rattle.reg_store.specs.Register.{deposits_in, LeavesBroken, LeavesList, KeepsRegister};
 
+use crate::heads::{head_in, make_room, numbers_in};
 use crate::keep::{Keep, KeepError, Kept, KeptHead, KeptRow};
-use crate::reading::{find_deposit, find_graph, find_head, find_lines, find_number, find_numbers};
+use crate::reading::{find_deposit, find_graph, find_lines, find_number};
 use crate::rows::kept_rows;
 use crate::statements::{Filed, add_file};
 use ags_check::Checked;
@@ -28,11 +30,14 @@ pub struct SqlKeep<S: Alter> {
     pub(crate) connection: Connection<S>,
     pub(crate) dictionary: Dictionary,
     pub(crate) count: u32,
+    pub(crate) heads: Vec<KeptHead>,
     pub(crate) has_failed: bool,
     pub(crate) alloc: Global,
     ghost idle: { connection.in_transaction ≡ false },
     ghost few: { count ≤ 999999 },
+    ghost long: { length heads.items ≡ count },
     ghost kept: { has_failed ≡ false → HasCleanDisk (state S.Store connection) → ∥ KeepsRegister (state S.Store connection) dictionary count ∥₁ },
+    ghost headed: { has_failed ≡ false → HasCleanDisk (state S.Store connection) → AreHeads heads.items (deposits_in (state S.Store connection).committed.trees) },
 }
 
 impl<S: Alter> SqlKeep<S> {
@@ -45,6 +50,7 @@ impl<S: Alter> SqlKeep<S> {
             connection,
             dictionary: _,
             count: _,
+            heads: _,
             has_failed: _,
             alloc: _,
         } = self;
@@ -96,6 +102,10 @@ impl<S: Alter> Keep for SqlKeep<S> {
         if rows.len() >= 4_294_967_296 {
             return Err(KeepError::NoMemory);
         }
+        let room = make_room(&mut self.heads, firm, project, embargo);
+        let Ok(head) = room else {
+            return Err(KeepError::NoMemory);
+        };
         let filed = Filed {
             number,
             firm: firm.text(),
@@ -111,6 +121,7 @@ impl<S: Alter> Keep for SqlKeep<S> {
         );
         match added {
             Ok(()) => {
+                self.heads.push_reserved(head);
                 self.count = number;
                 Ok(number)
             }
@@ -128,7 +139,7 @@ impl<S: Alter> Keep for SqlKeep<S> {
     }
 
     fn head(&mut self, n: u32) -> Result<KeptHead, KeepError> {
-        let found = find_head(&mut self.connection, self.alloc, n);
+        let found = head_in(self.heads.as_slice(), n);
         self.has_failed = is_store(&found);
         found
     }
@@ -146,9 +157,7 @@ impl<S: Alter> Keep for SqlKeep<S> {
     }
 
     fn numbers(&mut self, project: &Name) -> Result<Vec<u32>, KeepError> {
-        let found = find_numbers(&mut self.connection, self.alloc, project.text());
-        self.has_failed = is_store(&found);
-        found
+        numbers_in(self.alloc, self.heads.as_slice(), project)
     }
 
     fn count(&self) -> u32 {

@@ -1,6 +1,11 @@
-use Rattle.std.proofs.Common.{◌≡◌, ◌+◌, ◌<◌, ℕ, false}
+use Rattle.std.proofs.Common.{◌≡◌, ◌+◌, ◌<◌, ◌≤◌, ℕ, List, length, take, false}
+use Rattle.std.specs.List.Sorted.{IsPermutation}
 use Rattle.sqlite.specs.State.{HasCleanDisk}
 use Rattle.sqlite.specs.Held.{state}
+use Rattle.reg_store.specs.Deposit.{Deposit}
+use Rattle.reg_store.specs.Rows.{deposit_table}
+use Rattle.reg_store.specs.Register.{deposit_rows}
+use Rattle.reg_store.specs.Heads.{AreHeads}
 use Rattle.reg_store.specs.Quiet.{IsIdle, IsStill}
 use Rattle.reg_store.specs.Whole.{IsWhole}
 use Rattle.reg_store.proofs.examining.holds_deposits.Given as goal
@@ -9,4 +14,10 @@ abbrev pub invariant-loop-at : goal.invariant-loop-at
 invariant-loop-at g l =
     let old = state g.S.Store l.fn.conn in
     let now = state g.S.Store l.conn in
-    IsIdle now × IsStill old now false × (HasCleanDisk now → (k : ℕ) → k < l.at → ∥ IsWhole old.now l.dictionary (k + 1) ∥₁)
+    record {
+      idle : IsIdle now;
+      still : IsStill old now false;
+      whole : HasCleanDisk now → (k : ℕ) → k < l.at → ∥ IsWhole old.now l.dictionary (k + 1) ∥₁;
+      long : length l.heads.items ≡ l.at;
+      heads : HasCleanDisk now → (list : List Deposit) → IsPermutation (deposit_rows 1 list) (deposit_table old.now.trees) → l.at ≤ length list → AreHeads l.heads.items (take l.at list);
+    }

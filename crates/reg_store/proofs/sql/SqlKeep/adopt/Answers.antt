@@ -6,6 +6,7 @@ use Rattle.reg_store.specs.Quiet.{clean_before}
 use Rattle.reg_store.specs.KeepLaws.{adopted_keeps, adopted_list}
 use Rattle.reg_store.proofs.SchemaLemmas.{register_is, not_register}
 use Rattle.reg_store.proofs.FormatLemmas.{autocommit_idle, meta_first, refused_unstarted}
+use Rattle.reg_store.proofs.HeadsLemmas.{heads_found}
 use Rattle.reg_store.proofs.sql.SqlKeep.adopt.Goals as goal
 
 pub examine-requires : goal.examine-requires
@@ -15,6 +16,7 @@ examine-requires g c = record {
     schema = λ clean. register_is c.args.connection.schema (search rules);
     settled = λ clean is_open. sym (c.is_autocommit.ensures.settled (search rules) is_open);
   };
+  none = search rules;
 }
 
 pub refuse_tables-error-requires-clause-mode : goal.refuse_tables-error-requires-clause-mode
@@ -28,15 +30,18 @@ invariant_of-result g c =
     let old = state g.S.Store c.args.connection in
     let new = state g.S.Store c.examine.new.conn in
     let made = c.in-Ok.ensures in
+    let kept = λ (clean : HasCleanDisk new).
+    (let opened = made.open clean refl in
+    let was : IsTrue old.is_open = subst IsTrue (made.quiet.is_open clean refl) opened in
+    let same = made.quiet.same clean refl in
+    let settled : old.now ≡ old.committed = search (rules, was) in
+    adopted_keeps old new c.in-Ok.dictionary c.in-Ok.count opened same.0 (same.1 ∙ sym settled ∙ sym same.0) (made.adopts clean)) in
     record {
       idle = made.quiet.idle;
       few = made.few;
-      kept = λ _ clean.
-          (let opened = made.open clean refl in
-          let was : IsTrue old.is_open = subst IsTrue (made.quiet.is_open clean refl) opened in
-          let same = made.quiet.same clean refl in
-          let settled : old.now ≡ old.committed = search (rules, was) in
-          adopted_keeps old new c.in-Ok.dictionary c.in-Ok.count opened same.0 (same.1 ∙ sym settled ∙ sym same.0) (made.adopts clean));
+      long = made.long;
+      kept = λ _ clean. kept clean;
+      headed = λ _ clean. heads_found new c.in-Ok.dictionary c.in-Ok.count old.now c.examine.new.heads.items (kept clean) (made.quiet.same clean refl).0 (made.heads clean);
     }
 
 pub returns-in-Ok-clause-adopted : goal.returns-in-Ok-clause-adopted

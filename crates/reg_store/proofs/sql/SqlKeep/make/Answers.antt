@@ -2,12 +2,18 @@ use Rattle.std.proofs.Common.{rules, arith, ◌≡◌, refl, sym}
 use Rattle.sqlite.specs.State.{HasCleanDisk}
 use Rattle.sqlite.specs.Held.{state}
 use Rattle.reg_store.proofs.CreateLemmas.{new_list, new_keeps}
+use Rattle.reg_store.proofs.HeadsLemmas.{no_heads}
 use Rattle.reg_store.proofs.sql.SqlKeep.make.Goals as goal
 
 pub invariant_of-result-clause-kept : goal.invariant_of-result-clause-kept
 invariant_of-result-clause-kept g c works clean =
     let made = c.in-Ok.ensures in
     new_keeps c.args.bytes.now c.args.dictionary (state g.S.Store c.make_register-made.new.conn) (made.put clean) (made.sound clean) (made.open clean refl) (made.settled clean) c.requires.short c.requires.read
+
+pub invariant_of-result-clause-headed : goal.invariant_of-result-clause-headed
+invariant_of-result-clause-headed g c works clean =
+    let made = c.in-Ok.ensures in
+    no_heads _ _ (search rules) (new_list c.args.bytes.now (state g.S.Store c.make_register-made.new.conn) (made.put clean) (made.settled clean))
 
 pub returns-in-Ok-clause-empty : goal.returns-in-Ok-clause-empty
 returns-in-Ok-clause-empty g c clean =

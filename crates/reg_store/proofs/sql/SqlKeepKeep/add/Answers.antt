@@ -1,4 +1,5 @@
-use Rattle.std.proofs.Common.{rules, arith, ◌≡◌, ◌<◌, false, refl, sym, ap, subst, subst₂, ◌+◌, ◌∙◌}
+use Rattle.std.proofs.Common.{rules, arith, ◌≡◌, ◌<◌, false, length, refl, sym, ap, subst, subst₂, ◌+◌, ◌++◌, ◌∷◌, [], ◌∙◌}
+use Rattle.std.proofs.lemmas.List.{length_push}
 use Rattle.sqlite.specs.Effect.{Database}
 use Rattle.sqlite.specs.State.{HasCleanDisk, Survives}
 use Rattle.sqlite.specs.Held.{state}
@@ -10,13 +11,14 @@ use Rattle.reg_store.specs.Inserts.{AddsFile}
 use Rattle.reg_store.specs.Register.{deposits_in}
 use Rattle.reg_store.specs.RegisterLaws.{IsReady}
 use Rattle.reg_store.specs.KeepLaws.{schema_at, settled_of, keeps_same, HoldsMore, adds_at, counted_at, crash_at, PutsOf, whole_put}
+use Rattle.reg_store.proofs.HeadsLemmas.{heads_push, heads_same}
 use Rattle.reg_store.proofs.sql.SqlKeepKeep.add.Goals as goal
 
 pub add_file-added-requires-clause-schema : goal.add_file-added-requires-clause-schema
 add_file-added-requires-clause-schema g c clean = schema_at (c.args.self.now.kept c.requires.working clean)
 
-pub invariant_of-self-clause-kept : goal.invariant_of-self-clause-kept
-invariant_of-self-clause-kept g c works clean =
+pub invariant_of-self-in-Ok-added-clause-kept : goal.invariant_of-self-in-Ok-added-clause-kept
+invariant_of-self-in-Ok-added-clause-kept g c works clean =
     let keep = c.args.self.now in
     let old = state g.S.Store keep.connection in
     let new = state g.S.Store c.add_file-added.new.conn in
@@ -44,6 +46,43 @@ invariant_of-self-in-Err-clause-kept g c works clean =
     let was = keep.kept c.requires.working first in
     let undone = c.in-Err.ensures.undone clean bare in
     keeps_same {old = old} {new = new} was (c.in-Err.ensures.open clean bare) (undone.0 ∙ settled_of was) undone.1
+
+pub invariant_of-self-in-Ok-added-clause-headed : goal.invariant_of-self-in-Ok-added-clause-headed
+invariant_of-self-in-Ok-added-clause-headed g c works clean =
+    let keep = c.args.self.now in
+    let old = state g.S.Store keep.connection in
+    let new = state g.S.Store c.add_file-added.new.conn in
+    let first = clean_before old new c.add_file-added.ensures.crash clean in
+    let file = c.args.checked.now in
+    let d = deposit_from c.args.firm.now c.args.project.now c.args.embargo file.bytes in
+    let low : keep.count < 999999 = omega arith in
+    let fit : IsFileOf keep.dictionary d file = record { given = c.requires.dictionary; bytes = refl; clean = c.bytes.ensures.clean; short = c.requires.short } in
+    let named : IsNamed d = record { firm = c.text.ensures.is_name; project = c.text-2.ensures.is_name; embargo = c.stored_day.ensures.is_day } in
+    let ready : IsReady keep.dictionary (deposits_in old.committed.trees) d file = record { its = fit; named = named; fresh = c.requires.fresh first } in
+    let rows_are : c.as_slice.result.now ≡ kept_rows file.groups = search rules in
+    let steps_are : c.steps.result.now ≡ file.graph.steps = search rules in
+    let bare = rw (c.text.ensures.text, c.text-2.ensures.text, c.bytes.ensures.bytes, c.stored_day.ensures.number) at (c.in-Ok-added.ensures.put clean) in
+    let put = subst₂ (λ rows steps. AddsFile (keep.count + 1) d rows steps old.now new.now) rows_are steps_are bare in
+    let more : HoldsMore old new keep.dictionary keep.count d = adds_at {old = old} {new = new} d file (keep.kept c.requires.working first) low put (c.in-Ok-added.ensures.sound clean) (c.in-Ok-added.ensures.settled clean) (c.in-Ok-added.ensures.open clean refl) ready in
+    let list = deposits_in old.committed.trees in
+    c.push_reserved.ensures.items ∙ ap (λ all. all ++ c.in-Ok-room.head ∷ []) c.make_room-room.ensures.same ∙ ap (λ head. keep.heads.items ++ head ∷ []) c.in-Ok-room.ensures.head
+    ∙ heads_push keep.heads.items list (deposits_in new.committed.trees) d (keep.headed c.requires.working first) more.list
+
+pub invariant_of-self-in-Ok-added-clause-long : goal.invariant_of-self-in-Ok-added-clause-long
+invariant_of-self-in-Ok-added-clause-long g c =
+    ap length c.push_reserved.ensures.items ∙ length_push c.make_room-room.new.heads.items c.in-Ok-room.head ∙ ap (λ n. n + 1) (ap length c.make_room-room.ensures.same ∙ c.args.self.now.long)
+
+pub invariant_of-self-clause-headed : goal.invariant_of-self-clause-headed
+invariant_of-self-clause-headed g c works clean = c.make_room-room.ensures.same ∙ c.args.self.now.headed works clean
+
+pub invariant_of-self-in-Err-clause-headed : goal.invariant_of-self-in-Err-clause-headed
+invariant_of-self-in-Err-clause-headed g c works clean =
+    let keep = c.args.self.now in
+    let old = state g.S.Store keep.connection in
+    let new = state g.S.Store c.add_file-added.new.conn in
+    let first = clean_before old new c.add_file-added.ensures.crash clean in
+    let bare : is_store c.in-Err.error ≡ false = sym c.is_store_error-self.ensures ∙ works in
+    c.make_room-room.ensures.same ∙ heads_same keep.heads.items old.committed new.committed (keep.headed c.requires.working first) (c.in-Err.ensures.undone clean bare).1
 
 pub returns-in-Ok-added : goal.returns-in-Ok-added
 returns-in-Ok-added g c =

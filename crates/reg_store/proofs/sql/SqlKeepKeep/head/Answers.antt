@@ -1,30 +1,25 @@
-use Rattle.std.proofs.Common.{refl, sym, ◌∙◌}
+use Rattle.std.proofs.Common.{rules, ◌≡◌, ◌-◌, Some, IfOk, slice_get, refl, subst}
 use Rattle.sqlite.specs.Held.{state}
-use Rattle.reg_store.specs.Quiet.{clean_before}
-use Rattle.reg_store.specs.KeepLaws.{idle_at, keeps_quiet}
-use Rattle.reg_store.specs.Methods.{head_at}
+use Rattle.reg_store.specs.Quiet.{quiet_none}
+use Rattle.reg_store.specs.Register.{deposits_in}
+use Rattle.reg_store.proofs.HeadsLemmas.{head_there}
 use Rattle.reg_store.proofs.ReadsLemmas.{reads_still}
 use Rattle.reg_store.proofs.sql.SqlKeepKeep.head.Goals as goal
 
-pub find_head-found-requires-clause-idle : goal.find_head-found-requires-clause-idle
-find_head-found-requires-clause-idle g c = idle_at (state g.S.Store c.args.self.now.connection) c.args.self.now.idle (c.args.self.now.kept c.requires.working)
-
-pub invariant_of-self-clause-idle : goal.invariant_of-self-clause-idle
-invariant_of-self-clause-idle g c = c.find_head-found.ensures.quiet.idle
-
 pub invariant_of-self-clause-kept : goal.invariant_of-self-clause-kept
-invariant_of-self-clause-kept g c works clean =
-    keeps_quiet (state g.S.Store c.args.self.now.connection) (state g.S.Store c.find_head-found.new.conn) (c.args.self.now.kept c.requires.working) c.find_head-found.ensures.quiet clean (sym c.is_store-self.ensures ∙ works)
+invariant_of-self-clause-kept g c works clean = c.args.self.now.kept c.requires.working clean
+
+pub invariant_of-self-clause-headed : goal.invariant_of-self-clause-headed
+invariant_of-self-clause-headed g c works clean = c.args.self.now.headed c.requires.working clean
 
 pub returns-clause-leaves : goal.returns-clause-leaves
-returns-clause-leaves g c = reads_still (λ k. state g.S.Store k.connection) (λ k. k.dictionary) 999999 (λ k. k.has_failed) _ _ _ c.find_head-found.ensures.quiet refl c.is_store-self.ensures
+returns-clause-leaves g c =
+    let still = quiet_none (state g.S.Store c.args.self.now.connection) _ c.args.self.now.idle in
+    reads_still (λ k. state g.S.Store k.connection) (λ k. k.dictionary) 999999 (λ k. k.has_failed) _ _ _ still refl c.is_store-self.ensures
 
 pub returns-clause-read : goal.returns-clause-read
 returns-clause-read g c clean =
-    let old = state g.S.Store c.args.self.now.connection in
-    let new = state g.S.Store c.find_head-found.new.conn in
-    let first = clean_before old new c.find_head-found.ensures.quiet.survives clean in
-    head_at {s = old} c.args.n c.find_head-found.result (c.args.self.now.kept c.requires.working first) (c.find_head-found.ensures.found clean)
-
-pub find_head-found-requires-clause-low : goal.find_head-found-requires-clause-low
-find_head-found-requires-clause-low g c clean = (c.requires.number clean).0
+    let keep = c.args.self.now in
+    let same : c.as_slice.result.now ≡ keep.heads.items = search rules in
+    let read = subst (λ heads. IfOk c.head_in-found.result (λ head. slice_get heads (c.args.n - 1) ≡ Some head)) same c.head_in-found.ensures.read in
+    head_there keep.heads.items (deposits_in (state g.S.Store keep.connection).committed.trees) (c.args.n - 1) c.head_in-found.result (keep.headed c.requires.working clean) read

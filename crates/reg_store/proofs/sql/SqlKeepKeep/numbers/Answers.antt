@@ -1,27 +1,21 @@
-use Rattle.std.proofs.Common.{refl, sym, ◌∙◌}
+use Rattle.std.proofs.Common.{rules, ◌≡◌, IfOk, map, refl, sym, subst, ◌∙◌}
 use Rattle.sqlite.specs.Held.{state}
-use Rattle.reg_store.specs.Quiet.{clean_before}
-use Rattle.reg_store.specs.KeepLaws.{idle_at, keeps_quiet}
-use Rattle.reg_store.specs.Methods.{numbers_at}
+use Rattle.reg_store.specs.Deposit.{numbers_from}
+use Rattle.reg_store.specs.Heads.{bare_of}
+use Rattle.reg_store.specs.Quiet.{quiet_none}
+use Rattle.reg_store.specs.Register.{deposits_in}
+use Rattle.reg_store.proofs.HeadsLemmas.{numbers_there}
 use Rattle.reg_store.proofs.ReadsLemmas.{reads_still}
 use Rattle.reg_store.proofs.sql.SqlKeepKeep.numbers.Goals as goal
 
-pub find_numbers-found-requires : goal.find_numbers-found-requires
-find_numbers-found-requires g c = record { idle = idle_at (state g.S.Store c.args.self.now.connection) c.args.self.now.idle (c.args.self.now.kept c.requires.working) }
-
-pub invariant_of-self-clause-idle : goal.invariant_of-self-clause-idle
-invariant_of-self-clause-idle g c = c.find_numbers-found.ensures.quiet.idle
-
-pub invariant_of-self-clause-kept : goal.invariant_of-self-clause-kept
-invariant_of-self-clause-kept g c works clean =
-    keeps_quiet (state g.S.Store c.args.self.now.connection) (state g.S.Store c.find_numbers-found.new.conn) (c.args.self.now.kept c.requires.working) c.find_numbers-found.ensures.quiet clean (sym c.is_store-self.ensures ∙ works)
-
 pub returns-clause-leaves : goal.returns-clause-leaves
-returns-clause-leaves g c = reads_still (λ k. state g.S.Store k.connection) (λ k. k.dictionary) 999999 (λ k. k.has_failed) _ _ _ c.find_numbers-found.ensures.quiet refl c.is_store-self.ensures
+returns-clause-leaves g c =
+    let still = quiet_none (state g.S.Store c.args.self.now.connection) _ c.args.self.now.idle in
+    reads_still (λ k. state g.S.Store k.connection) (λ k. k.dictionary) 999999 (λ k. k.has_failed) _ _ _ still refl (c.requires.working ∙ sym c.numbers_in.ensures.well)
 
 pub returns-clause-numbers : goal.returns-clause-numbers
 returns-clause-numbers g c clean =
-    let old = state g.S.Store c.args.self.now.connection in
-    let new = state g.S.Store c.find_numbers-found.new.conn in
-    let first = clean_before old new c.find_numbers-found.ensures.quiet.survives clean in
-    numbers_at (λ x. x.items) {s = old} c.args.project.now c.find_numbers-found.result (c.args.self.now.kept c.requires.working first) (rw (c.text.ensures.text) at (c.find_numbers-found.ensures.found clean))
+    let keep = c.args.self.now in
+    let same : c.as_slice.result.now ≡ keep.heads.items = search rules in
+    let told = subst (λ heads. IfOk c.numbers_in.result (λ ns. ns.items ≡ numbers_from 1 c.args.project.now (map bare_of heads))) same c.numbers_in.ensures.numbers in
+    numbers_there (λ ns. ns.items) keep.heads.items (deposits_in (state g.S.Store keep.connection).committed.trees) c.args.project.now c.numbers_in.result (keep.headed c.requires.working clean) told
