@@ -7,8 +7,7 @@ use Rattle.ags_rows.specs.Collecting.{OneOf}
 use Rattle.ags_rows.specs.Contents.{contents_of}
 use Rattle.ags_rows.specs.Findings.{FileParts, FirstFound, FileGroups}
 use Rattle.ags_rows.specs.Stands.{StandsInLines, StandsInOrder, StandsInGroups}
-use Rattle.ags_rows.proofs.Once.{same_file}
-use Rattle.ags_rows.proofs.WellFormed.{clear_first}
+use Rattle.ags_rows.proofs.Lemmas.{same_file, clear_first}
 use Rattle.ags_dict.specs.Entries.{Entries, extended}
 use Rattle.ags_check.specs.Findings.{Findings, dictionary_phases}
 use Rattle.ags_check.specs.HeaderPhase.{header_rules}

@@ -9,7 +9,7 @@ use Rattle.ags_rows.specs.declared.finding.Finding.{Finding}
 use Rattle.ags_rows.specs.Collecting.{At, Adds, Notes, AmongBefore, OneOf}
 use Rattle.ags_rows.specs.Contents.{Contents, group_contents, field_at, place_in}
 use Rattle.ags_rows.specs.declared.rows.Group.{Group}
-use Rattle.ags_rows.proofs.Collecting.{found_if, adds_note, among_more, among_all, one_more, one_none}
+use Rattle.ags_rows.proofs.Lemmas.{found_if, adds_note, among_more, among_all, one_more, one_none}
 use Rattle.ags_check.specs.declared.rows.columns.Column.{Column}
 use Rattle.ags_check.specs.Columns.{IsColumn, AreColumns, entry_under, column_text, column_rules}
 use Rattle.ags_check.specs.RowRules.{DataEntry, entry_in, unit_over, IsUnfit, IsUnlistedUnit, IsUnlistedType, IsUnlistedUnitEntry, IsUnlistedAbbreviationEntry, IsUnlistedTypeEntry}

@@ -6,8 +6,7 @@ use Rattle.ags_rows.specs.Contents.{Contents}
 use Rattle.ags_rows.specs.Names.{is_definition}
 use Rattle.ags_links.specs.DataRows.{DataRow, IsDataRow, Between, entry_of, row_in, data_rows}
 use Rattle.ags_links.specs.Steps.{IsFileRow}
-use Rattle.ags_links.proofs.Numbering.{row_of_group, row_among}
-use Rattle.ags_links.proofs.RowLemmas.{one_at}
+use Rattle.ags_links.proofs.Lemmas.{row_of_group, row_among, one_at}
 use Rattle.ags_check.specs.RowRules.{IsListed, IsUnlistedFileSet}
 
 abbrev pub file_set : DataRow → List ℕ

@@ -8,8 +8,8 @@ use Rattle.ags_rows.specs.Collecting.{At}
 use Rattle.ags_rows.specs.Contents.{Contents, group_contents, contents_of, place_in}
 use Rattle.ags_dict.specs.Entries.{Entries, parent_of}
 use Rattle.ags_check.specs.Header.{HasGroup, LacksParentGroup}
-use Rattle.ags_rows.proofs.AtPlaces.{contains_at, at_contained}
-use Rattle.ags_links.proofs.Heading.{placed, place_of}
+use Rattle.ags_rows.proofs.Lemmas.{contains_at, at_contained}
+use Rattle.ags_links.proofs.Lemmas.{placed, place_of}
 use Rattle.ags_check.proofs.HeaderRules.{has_place}
 
 -- ---- places in a list, and in what is made of it

@@ -9,11 +9,11 @@ use Rattle.ags_rows.specs.declared.rows.Group.{Group}
 use Rattle.ags_rows.specs.Collecting.{At, Adds}
 use Rattle.ags_rows.specs.Contents.{place_in, group_contents}
 use Rattle.ags_dict.specs.Entries.{Entries, order_of, keys_of, required_of}
-use Rattle.ags_links.proofs.Heading.{placed, place_of, at_place}
+use Rattle.ags_links.proofs.Lemmas.{placed, place_of, at_place}
 use Rattle.ags_check.specs.Header.{IsUnknownHeading, IsOvertaken, IsMisplaced, LacksKey, LacksRequired, IsMisnamed}
 use Rattle.ags_check.specs.HeaderSteps.{IsMisnamedBy}
 use Rattle.ags_check.specs.Placing.{AtNames, AtHeading}
-use Rattle.ags_rows.proofs.AtPlaces.{contains_at, at_contained}
+use Rattle.ags_rows.proofs.Lemmas.{contains_at, at_contained}
 use Rattle.ags_check.proofs.Naming.{at_heading}
 
 -- ---- whether a name has a place

@@ -14,7 +14,7 @@ use Rattle.ags_check.specs.RowPhase.{data_entry_rules, data_row_rules, entry_rul
 use Rattle.ags_check.specs.Keeping.{KeepsOnlyRow, KeepsHeader, KeepsHeaders, KeepsEntry, KeepsRow, KeepsRows}
 use Rattle.ags_check.specs.Findings.{IsClear}
 use Rattle.ags_check.proofs.Groups.{at_map}
-use Rattle.ags_rows.proofs.AtPlaces.{contains_at}
+use Rattle.ags_rows.proofs.Lemmas.{contains_at}
 use Rattle.ags_check.proofs.Numbering.{group_stands}
 
 contents_contain : (groups : List Group) (k : ℕ) (g : Group) → At groups k g → Contains (contents_of groups) (group_contents g)

@@ -11,13 +11,13 @@ use Rattle.ags_rows.specs.Collecting.{At, OneOf}
 use Rattle.ags_rows.specs.Contents.{Contents, group_contents, contents_of, fields_of}
 use Rattle.ags_dict.specs.Entries.{Entries, has_group, required_of}
 use Rattle.ags_links.specs.DataRows.{row_in, rows_before}
-use Rattle.ags_links.proofs.Numbering.{row_of_group}
+use Rattle.ags_links.proofs.Lemmas.{row_of_group}
 use Rattle.ags_check.specs.HeaderPhase.{unknown_code, only_row_rules, group_header_rules, header_rules}
 use Rattle.ags_check.specs.RowRules.{unit_over, type_over, IsUnlistedUnit, IsUnlistedType, RepeatsKey}
 use Rattle.ags_check.specs.RowPhase.{data_row_rules, entry_rules}
 use Rattle.ags_check.specs.Findings.{IsClear}
 use Rattle.ags_check.proofs.Groups.{map_at}
-use Rattle.ags_rows.proofs.AtPlaces.{at_contained}
+use Rattle.ags_rows.proofs.Lemmas.{at_contained}
 use Rattle.ags_check.proofs.Naming.{at_stands}
 use Rattle.ags_check.specs.Keeping.{KeepsOnlyRow, KeepsHeader, KeepsHeaders, KeepsRow, KeepsRows}
 

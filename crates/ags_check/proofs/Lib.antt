@@ -15,3 +15,4 @@ pub mod Kept
 pub mod CleanContents
 pub mod OneFile
 pub mod FileSets
+pub mod Lemmas

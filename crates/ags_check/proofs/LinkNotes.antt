@@ -7,7 +7,7 @@ use Rattle.ags_rows.specs.declared.finding.Finding.{Finding}
 use Rattle.ags_rows.specs.Collecting.{Adds, AmongBefore, OneOf}
 use Rattle.ags_rows.specs.Contents.{Contents, under, field_at}
 use Rattle.ags_rows.specs.Names.{is_definition}
-use Rattle.ags_rows.proofs.Collecting.{found_if, one_none, adds_none}
+use Rattle.ags_rows.proofs.Lemmas.{found_if, one_none, adds_none, contains_at}
 use Rattle.ags_dict.specs.Entries.{Entries}
 use Rattle.ags_links.specs.DataRows.{row_in, entry_of, data_rows}
 use Rattle.ags_links.specs.RecordLinks.{separators_of, IsBroken}
@@ -15,7 +15,6 @@ use Rattle.ags_check.specs.declared.rows.columns.Column.{Column}
 use Rattle.ags_check.specs.Columns.{IsColumn, AreColumns, column_text}
 use Rattle.ags_check.specs.RowRules.{IsBrokenLink}
 use Rattle.ags_check.specs.RowPhase.{InHeadings, link_rules, required_rules}
-use Rattle.ags_rows.proofs.AtPlaces.{contains_at}
 use Rattle.ags_check.proofs.EntryNotes.{note_more, columns_more, heading_at, heading_of}
 
 -- what stands in the row at a column's place stands under its heading

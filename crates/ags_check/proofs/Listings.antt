@@ -10,13 +10,12 @@ use Rattle.std.proofs.lemmas.List.Folds.{Any-from_list_any, list_any-from_Any}
 use Rattle.std.proofs.lemmas.Slice.Eq.{bytes_eq-Decides}
 use Rattle.ags_rows.specs.Contents.{Contents, under, group_contents, contents_of, place_in}
 use Rattle.ags_rows.specs.declared.rows.Group.{Group}
-use Rattle.ags_rows.proofs.Collecting.{none_is}
+use Rattle.ags_rows.proofs.Lemmas.{none_is}
 use Rattle.ags_links.specs.RecordLinks.{separators_of}
-use Rattle.ags_links.proofs.Members.{contains_head, contains_tail, contains_cons, contains_map, map_contains}
+use Rattle.ags_links.proofs.Lemmas.{contains_head, contains_tail, contains_cons, contains_map, map_contains, placed}
 use Rattle.ags_rows.specs.Parts.{parts_at}
 use Rattle.ags_check.specs.CodeLists.{read_rows, listed_texts, abbreviation_in, abbreviations, PairSet, has_pair, is_pair, HasPairs, lacks_part}
 use Rattle.ags_check.specs.RowRules.{IsListed, IsUnlisted, IsAbbreviation, IsUnlistedAbbreviation}
-use Rattle.ags_links.proofs.Heading.{placed}
 use Rattle.ags_check.proofs.HeaderRules.{unplaced}
 
 -- a row of a group of the name, and what is read from it

@@ -10,8 +10,7 @@ use Rattle.ags_rows.specs.declared.finding.Finding.{Finding}
 use Rattle.ags_rows.specs.declared.rows.Group.{Group}
 use Rattle.ags_rows.specs.Collecting.{At, Adds}
 use Rattle.ags_rows.specs.Collecting.{Notes, AmongBefore}
-use Rattle.ags_rows.proofs.AtPlaces.{at_within, at_read, at_from_read}
-use Rattle.ags_rows.proofs.Collecting.{adds_note, adds_same, among_more, among_all}
+use Rattle.ags_rows.proofs.Lemmas.{at_within, at_read, at_from_read, adds_note, adds_same, among_more, among_all}
 use Rattle.ags_links.specs.DataRows.{IsAt}
 use Rattle.ags_check.specs.Placing.{AtNames, AtHeading}
 

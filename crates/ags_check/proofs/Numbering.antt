@@ -5,7 +5,7 @@ use Rattle.ags_rows.specs.declared.rows.Group.{Group}
 use Rattle.ags_rows.specs.Collecting.{At}
 use Rattle.ags_rows.specs.Contents.{group_contents, contents_of, fields_of}
 use Rattle.ags_links.specs.DataRows.{IsAt, data_rows, rows_before}
-use Rattle.ags_links.proofs.Numbering as numbers
+use Rattle.ags_links.proofs.Lemmas as numbers
 use Rattle.ags_check.specs.Columns.{RowsStand}
 use Rattle.ags_check.proofs.Groups.{at_map}
 use Rattle.ags_check.proofs.Naming.{stands_at}

@@ -3,10 +3,10 @@ use Rattle.std.proofs.Common.{◌≡◌, ℕ, List, sym, ap, subst, ◌∙◌}
 use Rattle.ags_rows.specs.declared.rows.Group.{Group}
 use Rattle.ags_rows.specs.Contents.{contents_of}
 use Rattle.ags_rows.specs.Findings.{FileGroups}
-use Rattle.ags_rows.proofs.Once.{one_grouping}
+use Rattle.ags_rows.proofs.Lemmas.{one_grouping}
 use Rattle.ags_dict.specs.Entries.{Entries, extended}
 use Rattle.ags_links.specs.Steps.{IsGraphOf}
-use Rattle.ags_links.proofs.OneGraph.{one_graph}
+use Rattle.ags_links.proofs.Lemmas.{one_graph}
 use Rattle.ags_check.specs.Findings.{CheckedFile, file_of}
 use Rattle.ags_check.specs.Laws.{OneCleanFile}
 use Rattle.ags_check.proofs.Whole.{clean_entries}

@@ -11,7 +11,7 @@ use Rattle.std.specs.Str.{bytes_eq}
 use Rattle.std.proofs.lemmas.List.{take_rest}
 use Rattle.std.proofs.lemmas.Map.Text.{is_eq-slice_cmp}
 use Rattle.ags_rows.specs.Parts.{parts_at}
-use Rattle.ags_links.proofs.Cutting.{parts_cut, part_left}
+use Rattle.ags_links.proofs.Lemmas.{parts_cut, part_left}
 use Rattle.ags_check.specs.CodeLists.{PairSet, has_pair, is_pair, lacks_part}
 
 then_equal : (a b : Ordering) → is_eq (ordering_then a b) ≡ (is_eq a && is_eq b)

@@ -4,7 +4,7 @@ use Rattle.std.specs.Prelude.{slice_get}
 use Rattle.std.proofs.lemmas.Bool.{true≢false, cases_lt, lt-ltb, ltb-true}
 use Rattle.std.proofs.lemmas.Option.{none-some, same_Some}
 use Rattle.ags_rows.specs.Collecting.{At}
-use Rattle.ags_rows.proofs.Collecting.{before_or_at, some_same}
+use Rattle.ags_rows.proofs.Lemmas.{before_or_at, some_same}
 use Rattle.ags_check.specs.Header.{IsOvertaken}
 use Rattle.ags_check.specs.HeaderSteps.{later, is_behind, IsLatest}
 

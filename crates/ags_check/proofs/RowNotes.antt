@@ -9,7 +9,7 @@ use Rattle.ags_rows.specs.declared.rows.Group.{Group}
 use Rattle.ags_rows.specs.declared.rows.Row.{Row}
 use Rattle.ags_rows.specs.Collecting.{Adds, Notes, OneOf}
 use Rattle.ags_rows.specs.Contents.{Contents, group_contents, fields_of}
-use Rattle.ags_rows.proofs.Collecting.{found_if, one_more, one_none}
+use Rattle.ags_rows.proofs.Lemmas.{found_if, one_more, one_none}
 use Rattle.ags_dict.specs.Entries.{Entries, keys_of, parent_of, required_of}
 use Rattle.ags_links.specs.DataRows.{DataRow, IsDataRow, Between, row_in, data_rows}
 use Rattle.ags_links.specs.Keys.{IsFirstOfKey, HasKeyOf}

@@ -6,8 +6,7 @@ use Rattle.ags_rows.specs.declared.finding.Finding.{Finding}
 use Rattle.ags_rows.specs.declared.rows.Group.{Group}
 use Rattle.ags_rows.specs.Contents.{Contents, contents_of}
 use Rattle.ags_rows.specs.Findings.{FileParts, phases, AreExactly, FirstFound, FileGroups}
-use Rattle.ags_rows.proofs.Collecting.{found_late}
-use Rattle.ags_rows.proofs.Once.{same_file, one_first_found}
+use Rattle.ags_rows.proofs.Lemmas.{found_late, same_file, one_first_found}
 use Rattle.ags_dict.specs.declared.entries.GroupEntry.{GroupEntry}
 use Rattle.ags_dict.specs.declared.entries.HeadingEntry.{HeadingEntry}
 use Rattle.ags_dict.specs.Entries.{Entries, extended}

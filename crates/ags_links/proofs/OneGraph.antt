@@ -4,14 +4,9 @@ use Rattle.std.specs.Prelude.{◌⊎◌, slice_index_or}
 use Rattle.std.specs.List.{AllByRecursion}
 use Rattle.std.proofs.lemmas.List.Elements.{All-from_recursion, All-contains}
 use Rattle.ags_links.specs.Laws.{OneGraph}
-use Rattle.ags_links.specs.Steps.{IsBefore, ListsSteps, StepAt}
+use Rattle.ags_links.specs.Steps.{IsBefore, AreAscending, ListsSteps, StepAt}
 use Rattle.ags_links.specs.Walks.{Wiring}
 use Rattle.ags_links.proofs.Members.{contains_head, contains_tail, contains_cons}
-
--- each step stands before all behind it
-abbrev pub AreAscending : List (ℕ × ℕ) → Type 0
-AreAscending [] = Unit {0}
-AreAscending (p ∷ steps) = AllByRecursion (IsBefore p) steps × AreAscending steps
 
 pub before_then : (p q r : ℕ × ℕ) → IsBefore p q → IsBefore q r → IsBefore p r
 before_then p q r (inl a) (inl b) = inl (omega (arith, a, b))

@@ -1,6 +1,7 @@
 -- The steps of a file: from a DATA row to its parent rows (Rule 10c), to the rows that its record links name (Rule 11)
 -- and to the rows of FILE with its FILE_FSET (Rule 20). A row of a definition group has no step.
-use Rattle.std.specs.Prelude.{◌≡◌, ◌≢◌, ◌<◌, ◌+◌, ◌⊎◌, ◌↔◌, ℕ, List, [], false, length, codes, Contains, slice_index_or}
+use Rattle.std.specs.Prelude.{◌≡◌, ◌≢◌, ◌<◌, ◌+◌, ◌⊎◌, ◌↔◌, ℕ, List, [], ◌∷◌, false, length, codes, Contains, slice_index_or}
+use Rattle.std.specs.List.{AllByRecursion}
 use Rattle.ags_rows.specs.Contents.{under}
 use Rattle.ags_rows.specs.Names.{is_definition}
 use Rattle.ags_dict.specs.Entries.{Entries}
@@ -45,6 +46,11 @@ StepAt file n m = Between (data_rows file.contents) (Step file.entries (separato
 -- one step stands before another: by the row that it starts at, then by the row that it ends at
 abbrev pub IsBefore : ℕ × ℕ → ℕ × ℕ → Type 0
 IsBefore p q = (p.0 < q.0) ⊎ ((p.0 ≡ q.0) × (p.1 < q.1))
+
+-- each step stands before all behind it
+abbrev pub AreAscending : List (ℕ × ℕ) → Type 0
+AreAscending [] = Unit {0}
+AreAscending (p ∷ steps) = AllByRecursion (IsBefore p) steps × AreAscending steps
 
 -- the list has exactly these steps, sorted, each once
 pub record ListsSteps (steps : List (ℕ × ℕ)) (IsOne : ℕ → ℕ → Type 0) : Type 0 where

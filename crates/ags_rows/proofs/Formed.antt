@@ -11,8 +11,8 @@ use Rattle.ags_rows.specs.Names.{is_group_name, is_heading_name}
 use Rattle.ags_rows.specs.Collecting.{At, OneOf}
 use Rattle.ags_rows.specs.Stands.{shape_rules, name_rules, StandsInHeadings, StandsInGroups}
 use Rattle.ags_rows.specs.Contents.{contents_of, fields_of, group_contents}
-use Rattle.ags_rows.specs.Writing.{ArePlain, AreUnder, AreHeadings, StandOnce, group_names, IsWellFormedGroup, IsWellFormed}
-use Rattle.ags_rows.proofs.Written.{IsPlainGroup, all_at}
+use Rattle.ags_rows.specs.Writing.{ArePlain, IsPlainGroup, AreUnder, AreHeadings, StandOnce, group_names, IsWellFormedGroup, IsWellFormed}
+use Rattle.ags_rows.proofs.Written.{all_at}
 use Rattle.ags_rows.proofs.WellFormed.{all_from_at, once_apart, once_from, map_at, at_map}
 
 -- ---- the names of groups

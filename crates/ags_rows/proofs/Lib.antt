@@ -21,3 +21,4 @@ pub mod Loosely
 pub mod ByTest
 pub mod Mini
 pub mod RowTexts
+pub mod Lemmas

@@ -20,8 +20,7 @@ use Rattle.ags_rows.specs.Collecting.{At}
 use Rattle.ags_rows.specs.Stands.{StandsInLines, StandsInOrder, StandsInGroups}
 use Rattle.ags_rows.specs.Findings.{FirstFound, later_phases, FileGroups}
 use Rattle.ags_rows.specs.Contents.{contents_of, fields_of}
-use Rattle.ags_rows.specs.Writing.{IsPlainByte, ArePlain, StandOnce}
-use Rattle.ags_rows.proofs.Written.{IsPlainGroup}
+use Rattle.ags_rows.specs.Writing.{IsPlainByte, ArePlain, IsPlainGroup, StandOnce}
 
 -- ---- lists whose elements have a property
 

@@ -23,7 +23,7 @@ use Rattle.ags_rows.specs.Collecting.{At, OneOf}
 use Rattle.ags_rows.specs.Stands.{line_rules, StandsInLines, StandsInOrder}
 use Rattle.ags_rows.specs.Parsing.{IsFirstLine, MayStandBehind}
 use Rattle.ags_rows.specs.Contents.{Contents, group_contents}
-use Rattle.ags_rows.specs.Writing.{written_row, group_lines, empty_line, written_lines, text_of, written_file, IsPlainByte, ArePlain, IsWellFormedGroup, IsWellFormed}
+use Rattle.ags_rows.specs.Writing.{written_row, group_lines, empty_line, written_lines, text_of, written_file, IsPlainByte, ArePlain, IsPlainGroup, IsWellFormedGroup, IsWellFormed}
 use Rattle.ags_rows.specs.Names.{is_capital, is_digit, is_group_letter, is_heading_letter, is_group_name, is_heading_name}
 use Rattle.ags_rows.proofs.Fields.{same_fields, line_spells}
 use Rattle.ags_rows.proofs.Cuts.{type_ends, groups_behind}
@@ -121,14 +121,6 @@ group_name_plain name e = all_tested IsPlainByte is_group_letter group_letter_pl
 
 heading_name_plain : (name : List ℕ) → is_heading_name name ≡ true → AllByRecursion IsPlainByte name
 heading_name_plain name e = all_tested IsPlainByte is_heading_letter heading_letter_plain name (and_parts (nat_le 1 (length name) && nat_le (length name) 9) (list_all is_heading_letter name) e).1
-
--- a group of bytes that can be written
-pub record IsPlainGroup (group : Contents) : Type 0 where
-  pub name : AllByRecursion IsPlainByte group.name
-  pub headings : ArePlain group.headings
-  pub units : ArePlain group.units
-  pub types : ArePlain group.types
-  pub rows : AllByRecursion ArePlain group.rows
 
 group_plain : (g : Contents) → IsWellFormedGroup g → IsPlainGroup g
 group_plain g h = record {

@@ -47,6 +47,14 @@ pub record IsPlainByte (b : ℕ) : Type 0 where
 abbrev pub ArePlain : List (List ℕ) → Type 0
 ArePlain fields = AllByRecursion (λ f. AllByRecursion IsPlainByte f) fields
 
+-- a group of bytes that can be written
+pub record IsPlainGroup (group : Contents) : Type 0 where
+  pub name : AllByRecursion IsPlainByte group.name
+  pub headings : ArePlain group.headings
+  pub units : ArePlain group.units
+  pub types : ArePlain group.types
+  pub rows : AllByRecursion ArePlain group.rows
+
 -- no text stands twice
 abbrev pub StandOnce : List (List ℕ) → Type 0
 StandOnce texts = AllPairs (λ text later. text ≢ later) texts

@@ -6,7 +6,7 @@ use Rattle.std.proofs.lemmas.Option.{same_Some}
 use Rattle.ags_rows.specs.declared.finding.Finding.{Finding}
 use Rattle.ags_rows.specs.declared.TheConstants.{LIMIT}
 use Rattle.ags_check.specs.Findings.{Findings as AreFindings}
-use Rattle.ags_check.proofs.Whole.{one_list}
+use Rattle.ags_check.proofs.Lemmas.{one_list}
 use Rattle.reg_policy.specs.declared.callers.Caller.{Caller}
 use Rattle.reg_policy.specs.declared.subject.Decision.{Decision}
 use Rattle.reg_policy.specs.declared.subject.Decision.TheVariants.{Permit, Deny}

@@ -3,7 +3,7 @@ use Rattle.std.proofs.Common.{◌≡◌, ℕ, List, [], ◌∷◌, refl, sym, ap
 use Rattle.std.specs.List.{AllZip}
 use Rattle.serde_json.specs.Data.{Data}
 use Rattle.serde_json.specs.Written.{compact_text}
-use Rattle.reg_policy.proofs.DayTexts.{one_text_of_day}
+use Rattle.reg_policy.proofs.Lemmas.{one_text_of_day}
 use Rattle.reg_http.specs.Bodies.{IsListedData, listed_data, listing_data, receipt_data}
 use Rattle.reg_http.specs.Rendering.{HasOneRendering, IsBody, answer_kind, answer_status}
 use Rattle.reg_http.specs.Replies.{reply_text}

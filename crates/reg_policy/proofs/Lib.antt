@@ -6,3 +6,4 @@ pub mod Keys
 pub mod Items
 pub mod Tokens
 pub mod Once
+pub mod Lemmas

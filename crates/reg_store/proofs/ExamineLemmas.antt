@@ -14,14 +14,13 @@ use Rattle.sqlite.specs.Effect.{Database, IsDatabase}
 use Rattle.ags_rows.specs.declared.TheConstants.{READABLE}
 use Rattle.ags_rows.specs.Contents.{Contents, contents_of}
 use Rattle.ags_rows.specs.Findings.{LooseFindings}
-use Rattle.ags_rows.proofs.Once.{one_loose_list, one_loose_grouping}
+use Rattle.ags_rows.proofs.Lemmas.{one_loose_list, one_loose_grouping}
 use Rattle.ags_dict.specs.Entries.{has_dict, lacks_heading, standard_entries}
 use Rattle.ags_dict.specs.Reading.{HasContents, IsDictionary, LacksDict, LacksHeading}
 use Rattle.ags_rows.specs.declared.finding.Finding.{Finding}
 use Rattle.ags_dict.specs.Entries.{Entries}
 use Rattle.ags_check.specs.Findings.{CheckedFile, Findings}
-use Rattle.ags_check.proofs.OneFile.{one_clean_file}
-use Rattle.ags_check.proofs.Whole.{one_list}
+use Rattle.ags_check.proofs.Lemmas.{one_clean_file, one_list}
 use Rattle.reg_store.specs.declared.keep.KeepError.{KeepError}
 use Rattle.reg_store.specs.declared.keep.KeptHead.{KeptHead}
 use Rattle.reg_store.specs.declared.keep.KeptRow.{KeptRow}

@@ -13,8 +13,7 @@ use Rattle.ags_rows.specs.declared.rows.Group.{Group}
 use Rattle.ags_dict.specs.Entries.{Entries}
 use Rattle.ags_links.specs.Walks.{Wiring}
 use Rattle.ags_check.specs.Findings.{CheckedFile, Findings, IsClean}
-use Rattle.ags_check.proofs.Whole.{one_list}
-use Rattle.ags_check.proofs.OneFile.{one_clean_file}
+use Rattle.ags_check.proofs.Lemmas.{one_list, one_clean_file}
 use Rattle.reg_store.specs.declared.keep.Kept.{Kept}
 use Rattle.reg_store.specs.declared.keep.KeptRow.{KeptRow}
 use Rattle.reg_store.specs.Keep.{deposit_of}

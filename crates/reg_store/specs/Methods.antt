@@ -9,7 +9,7 @@ use Rattle.sqlite.specs.Tree.{IsAscending}
 use Rattle.sqlite.specs.Order.{Row, bytes, column}
 use Rattle.sqlite.specs.State.{State}
 use Rattle.ags_dict.specs.Entries.{Entries}
-use Rattle.ags_links.specs.Steps.{IsBefore, IsGraphOf, StepAt}
+use Rattle.ags_links.specs.Steps.{IsBefore, AreAscending, IsGraphOf, StepAt}
 use Rattle.ags_check.specs.Findings.{CheckedFile, file_of}
 use Rattle.reg_store.specs.declared.keep.Kept.{Kept}
 use Rattle.reg_store.specs.declared.keep.KeptRow.{KeptRow}
@@ -20,8 +20,8 @@ use Rattle.reg_store.specs.Rows.{deposit_table, given_deposit, line_table, step_
 use Rattle.reg_store.specs.Fit.{IsFileOf, kept_rows}
 use Rattle.reg_store.specs.Register.{deposits_in, has_number, integer_in, file_lines, file_steps, KeepsRegister}
 use Rattle.reg_store.specs.Shows.{row_of_number}
-use Rattle.ags_links.proofs.OneGraph.{AreAscending, steps_ascend}
-use Rattle.ags_check.proofs.OneFile.{one_clean_file}
+use Rattle.ags_links.proofs.Lemmas.{steps_ascend}
+use Rattle.ags_check.proofs.Lemmas.{one_clean_file}
 use Rattle.ags_rows.specs.declared.rows.Group.{Group}
 use Rattle.ags_rows.specs.Contents.{contents_of}
 use Rattle.ags_links.specs.DataRows.{data_rows}

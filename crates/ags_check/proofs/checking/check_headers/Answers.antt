@@ -3,8 +3,7 @@ use Rattle.ags_rows.specs.declared.finding.Finding.{Finding}
 use Rattle.ags_rows.specs.declared.rows.Group.{Group}
 use Rattle.ags_rows.specs.Collecting.{OneOf}
 use Rattle.ags_rows.specs.Findings.{AreExactly}
-use Rattle.ags_rows.proofs.Collecting.{none_listed}
-use Rattle.ags_rows.proofs.Files.{is_nil}
+use Rattle.ags_rows.proofs.Lemmas.{none_listed, is_nil}
 use Rattle.ags_check.specs.HeaderPhase.{header_rules}
 use Rattle.ags_check.proofs.Whole.{some_found}
 use Rattle.ags_check.proofs.checking.check_headers.Goals as goal

@@ -2,8 +2,7 @@ use Rattle.std.proofs.Common.{List, subst}
 use Rattle.ags_rows.specs.declared.rows.Group.{Group}
 use Rattle.ags_rows.specs.Collecting.{OneOf}
 use Rattle.ags_rows.specs.Findings.{AreExactly}
-use Rattle.ags_rows.proofs.Collecting.{none_listed}
-use Rattle.ags_rows.proofs.Files.{is_nil}
+use Rattle.ags_rows.proofs.Lemmas.{none_listed, is_nil}
 use Rattle.ags_check.specs.RowPhase.{entry_rules}
 use Rattle.ags_check.proofs.checking.check_rows.Goals as goal
 

@@ -3,7 +3,7 @@ use Rattle.ags_rows.specs.declared.code.Code.{Code}
 use Rattle.ags_rows.specs.declared.finding.Finding.{Finding}
 use Rattle.ags_rows.specs.Collecting.{Adds, OneOf}
 use Rattle.ags_rows.specs.Contents.{contents_of}
-use Rattle.ags_rows.proofs.Collecting.{one_more, one_none, listed}
+use Rattle.ags_rows.proofs.Lemmas.{one_more, one_none, listed}
 use Rattle.ags_check.specs.HeaderPhase.{unknown_code, group_header_rules, file_rules}
 use Rattle.ags_check.specs.Placing.{InGroups}
 use Rattle.ags_check.proofs.header.header_findings.Goals as goal

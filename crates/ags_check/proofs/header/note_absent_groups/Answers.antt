@@ -1,7 +1,7 @@
 use Rattle.std.proofs.Common.{[], ◌∷◌, codes}
 use Rattle.ags_rows.specs.declared.code.Code.TheVariants.{Rule14, Rule15, Rule17}
 use Rattle.ags_rows.specs.Contents.{contents_of}
-use Rattle.ags_rows.proofs.Collecting.{one_more, one_none}
+use Rattle.ags_rows.proofs.Lemmas.{one_more, one_none}
 use Rattle.ags_check.specs.Header.{LacksGroup}
 use Rattle.ags_check.specs.Placing.{OfFile}
 use Rattle.ags_check.proofs.header.note_absent_groups.Goals as goal

@@ -3,7 +3,7 @@ use Rattle.std.proofs.lemmas.Option.{slice_get_read}
 use Rattle.ags_rows.specs.declared.rows.Group.{Group}
 use Rattle.ags_rows.specs.Collecting.{At, OneOf}
 use Rattle.ags_rows.specs.Contents.{contents_of}
-use Rattle.ags_rows.proofs.Collecting.{among_more, among_all}
+use Rattle.ags_rows.proofs.Lemmas.{among_more, among_all}
 use Rattle.ags_check.specs.HeaderPhase.{group_header_rules}
 use Rattle.ags_check.proofs.header.note_all_header_rows.Goals as goal
 

@@ -2,7 +2,7 @@ use Rattle.std.proofs.Common.{[], ◌∷◌}
 use Rattle.ags_rows.specs.declared.code.Code.TheVariants.{Rule10c}
 use Rattle.ags_rows.specs.Collecting.{OneOf}
 use Rattle.ags_rows.specs.Contents.{group_contents, contents_of}
-use Rattle.ags_rows.proofs.Collecting.{one_more, one_none}
+use Rattle.ags_rows.proofs.Lemmas.{one_more, one_none}
 use Rattle.ags_check.specs.Header.{LacksParentGroup}
 use Rattle.ags_check.specs.HeaderPhase.{heading_row_rules, only_row_rules}
 use Rattle.ags_check.specs.Placing.{AtGroup, OfKnown}

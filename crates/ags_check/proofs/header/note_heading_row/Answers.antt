@@ -1,7 +1,7 @@
 use Rattle.std.proofs.Common.{◌≡◌, [], ◌∷◌, ap, ◌∙◌}
 use Rattle.ags_rows.specs.declared.code.Code.TheVariants.{Rule7, Rule10a, Rule10b, Rule19b}
 use Rattle.ags_rows.specs.Contents.{group_contents}
-use Rattle.ags_rows.proofs.Collecting.{one_more, one_none}
+use Rattle.ags_rows.proofs.Lemmas.{one_more, one_none}
 use Rattle.ags_dict.specs.Entries.{keys_of, required_of}
 use Rattle.ags_check.specs.Header.{IsMisplaced, LacksKey, LacksRequired, IsMisnamed}
 use Rattle.ags_check.specs.Placing.{AtHeading}

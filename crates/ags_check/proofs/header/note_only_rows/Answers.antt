@@ -1,7 +1,7 @@
 use Rattle.std.proofs.Common.{[], ◌∷◌, codes}
 use Rattle.ags_rows.specs.declared.code.Code.TheVariants.{Rule11b, Rule13, Rule14}
 use Rattle.ags_rows.specs.Contents.{group_contents}
-use Rattle.ags_rows.proofs.Collecting.{one_more, one_none}
+use Rattle.ags_rows.proofs.Lemmas.{one_more, one_none}
 use Rattle.ags_check.specs.Header.{IsLongSign, IsFurtherRow}
 use Rattle.ags_check.specs.Placing.{AtRow}
 use Rattle.ags_check.proofs.header.note_only_rows.Goals as goal

@@ -1,7 +1,7 @@
 use Rattle.std.proofs.Common.{List, subst}
 use Rattle.ags_rows.specs.declared.finding.Finding.{Finding}
 use Rattle.ags_rows.specs.Collecting.{Adds, OneOf}
-use Rattle.ags_rows.proofs.Collecting.{listed}
+use Rattle.ags_rows.proofs.Lemmas.{listed}
 use Rattle.ags_check.specs.RowPhase.{entry_rules}
 use Rattle.ags_check.proofs.rows.entry_findings.Goals as goal
 

@@ -3,7 +3,7 @@ use Rattle.std.proofs.lemmas.Option.{slice_get_read}
 use Rattle.ags_rows.specs.declared.rows.Group.{Group}
 use Rattle.ags_rows.specs.Collecting.{Adds, At, OneOf}
 use Rattle.ags_rows.specs.Contents.{Contents, contents_of}
-use Rattle.ags_rows.proofs.Collecting.{among_more, among_all, one_more, one_none}
+use Rattle.ags_rows.proofs.Lemmas.{among_more, among_all, one_more, one_none}
 use Rattle.ags_dict.specs.Entries.{Entries}
 use Rattle.ags_links.specs.DataRows.{data_rows}
 use Rattle.ags_check.specs.Columns.{RowsStand}

@@ -4,7 +4,7 @@ use Rattle.ags_rows.specs.declared.code.Code.TheVariants.{Rule10a, Rule10c}
 use Rattle.ags_rows.specs.Collecting.{Adds}
 use Rattle.ags_rows.specs.Contents.{Contents, group_contents, fields_of, under}
 use Rattle.ags_rows.specs.Names.{is_definition}
-use Rattle.ags_rows.proofs.Collecting.{found_if}
+use Rattle.ags_rows.proofs.Lemmas.{found_if}
 use Rattle.ags_dict.specs.Entries.{Entries, required_of}
 use Rattle.ags_links.specs.DataRows.{row_in}
 use Rattle.ags_check.specs.RowPhase.{InHeadings, data_entry_rules, required_rules}

@@ -2,7 +2,7 @@ use Rattle.std.proofs.Common.{◌+◌, ◌≤◌, List, refl, subst, length, ari
 use Rattle.std.proofs.lemmas.Option.{slice_get_read}
 use Rattle.ags_rows.specs.declared.rows.Row.{Row}
 use Rattle.ags_rows.specs.Collecting.{At, OneOf}
-use Rattle.ags_rows.proofs.Collecting.{among_more, among_all}
+use Rattle.ags_rows.proofs.Lemmas.{among_more, among_all}
 use Rattle.ags_check.specs.RowPhase.{data_row_rules}
 use Rattle.ags_check.proofs.rows.note_data_rows.Goals as goal
 

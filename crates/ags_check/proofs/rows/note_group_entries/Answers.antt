@@ -1,7 +1,7 @@
 use Rattle.std.proofs.Common.{◌+◌, List, sym, subst}
 use Rattle.ags_rows.specs.Collecting.{Adds, Among, OneOf}
 use Rattle.ags_rows.specs.Contents.{Contents}
-use Rattle.ags_rows.proofs.Collecting.{two_rules}
+use Rattle.ags_rows.proofs.Lemmas.{two_rules}
 use Rattle.ags_links.specs.Indexing.{rows_in}
 use Rattle.ags_check.specs.Columns.{Outlined, RowsStand}
 use Rattle.ags_check.specs.RowPhase.{InHeadings, unit_and_type_rules, data_row_rules}

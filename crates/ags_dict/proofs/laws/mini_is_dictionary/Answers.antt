@@ -1,8 +1,7 @@
 use Rattle.std.proofs.Common.{refl, sym}
 use Rattle.ags_rows.specs.declared.vectors.TheConstants.{MINI}
 use Rattle.ags_rows.specs.Mini.{mini_contents}
-use Rattle.ags_rows.proofs.Mini.{mini_groups}
-use Rattle.ags_rows.proofs.Loosely.{loose_groups}
+use Rattle.ags_rows.proofs.Lemmas.{mini_groups, loose_groups}
 use Rattle.ags_dict.specs.Reading.{HasContents}
 use Rattle.ags_dict.proofs.laws.mini_is_dictionary.Goals as goal
 

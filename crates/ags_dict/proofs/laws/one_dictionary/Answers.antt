@@ -1,6 +1,6 @@
 use Rattle.std.proofs.Common.{◌≡◌, ℕ, List, Bool, true, false, sym, ap, ◌∙◌}
 use Rattle.ags_rows.specs.Contents.{Contents, contents_of}
-use Rattle.ags_rows.proofs.Once.{one_loose_grouping}
+use Rattle.ags_rows.proofs.Lemmas.{one_loose_grouping}
 use Rattle.ags_dict.specs.Entries.{has_dict, lacks_heading, standard_entries}
 use Rattle.ags_dict.specs.Reading.{HasContents}
 use Rattle.ags_dict.proofs.laws.one_dictionary.Goals as goal

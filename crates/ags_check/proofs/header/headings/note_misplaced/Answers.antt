@@ -5,7 +5,7 @@ use Rattle.ags_rows.specs.Contents.{place_in}
 use Rattle.ags_dict.specs.Entries.{order_of}
 use Rattle.ags_check.specs.Header.{IsOvertaken}
 use Rattle.ags_check.specs.HeaderSteps.{IsLatest, is_behind, later}
-use Rattle.ags_rows.proofs.Collecting.{among_none}
+use Rattle.ags_rows.proofs.Lemmas.{among_none}
 use Rattle.ags_check.proofs.Naming.{texts, NotesName, name_at, names_more, names_all}
 use Rattle.ags_check.proofs.Ranks.{latest_none, latest_more, behind_overtaken, overtaken_behind}
 use Rattle.ags_check.proofs.header.headings.note_misplaced.Goals as goal

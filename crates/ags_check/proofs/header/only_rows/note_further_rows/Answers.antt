@@ -5,7 +5,7 @@ use Rattle.std.proofs.lemmas.Option.{slice_get_read}
 use Rattle.ags_rows.specs.declared.rows.Row.{Row}
 use Rattle.ags_rows.specs.Collecting.{At, Notes}
 use Rattle.ags_rows.specs.Contents.{group_contents, fields_of}
-use Rattle.ags_rows.proofs.Collecting.{among_more, among_all, adds_note}
+use Rattle.ags_rows.proofs.Lemmas.{among_more, among_all, adds_note}
 use Rattle.ags_check.specs.Header.{IsFurtherRow}
 use Rattle.ags_check.proofs.header.only_rows.note_further_rows.Goals as goal
 

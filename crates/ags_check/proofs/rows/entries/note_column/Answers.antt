@@ -2,7 +2,7 @@ use Rattle.std.proofs.Common.{List, [], ◌∷◌}
 use Rattle.ags_rows.specs.declared.code.Code.TheVariants.{Rule15, Rule17}
 use Rattle.ags_rows.specs.declared.finding.Finding.{Finding}
 use Rattle.ags_rows.specs.Collecting.{Notes}
-use Rattle.ags_rows.proofs.Collecting.{one_none}
+use Rattle.ags_rows.proofs.Lemmas.{one_none}
 use Rattle.ags_check.specs.RowRules.{IsUnlistedType}
 use Rattle.ags_check.proofs.EntryNotes.{note_more}
 use Rattle.ags_check.proofs.rows.entries.note_column.Goals as goal

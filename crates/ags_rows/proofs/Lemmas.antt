@@ -1,0 +1,18 @@
+-- What proofs of the crates above cite of this one, beside contracts and definitions. Each is proved here: nothing in it has to be believed.
+-- What stands at a place of a list, and what a list contains.
+pub use Rattle.ags_rows.proofs.AtPlaces.{at_within, at_read, at_from_read, contains_at, at_contained}
+pub use Rattle.ags_rows.proofs.Collecting.{none_is, before_or_at, some_same}
+pub use Rattle.ags_rows.proofs.Written.{all_at}
+pub use Rattle.ags_rows.proofs.WellFormed.{all_from_at, once_apart, once_from}
+-- Findings that are added rule by rule and element by element, sorted at the end, and of the first phase that has any.
+pub use Rattle.ags_rows.proofs.Files.{is_nil}
+pub use Rattle.ags_rows.proofs.Collecting.{found_if, adds_none, adds_same, adds_note, among_none, among_more, among_all, one_none, one_more, two_rules, listed, none_listed, found_late}
+pub use Rattle.ags_rows.proofs.WellFormed.{clear_first}
+-- A file has one cutting into rows and groups, and one list of findings.
+pub use Rattle.ags_rows.proofs.Once.{same_file, one_grouping, one_loose_grouping, one_first_found, one_loose_list}
+pub use Rattle.ags_rows.proofs.Loosely.{loose_groups}
+pub use Rattle.ags_rows.proofs.Mini.{mini_groups}
+-- A line has one reading; what is written is read back; the groups of a file that was read can be written.
+pub use Rattle.ags_rows.proofs.Fields.{line_spells, same_fields}
+pub use Rattle.ags_rows.proofs.RoundTrip.{file_is_read}
+pub use Rattle.ags_rows.proofs.WellFormed.{read_plain}
