@@ -4,7 +4,7 @@ use Rattle.std.proofs.lemmas.Bool.{cases_lt}
 use Rattle.std.proofs.lemmas.List.{length-append, length-map, get_or_append_left, get_or-append-add}
 use Rattle.ags_rows.specs.Contents.{Contents}
 use Rattle.ags_links.specs.DataRows.{DataRow, IsAt, IsDataRow, IsRowOfGroup, row_in, group_rows, data_rows, rows_before}
-use Rattle.ags_links.specs.Laws.{RowsAreNumbered}
+use Rattle.ags_links.specs.Laws.{RowsAreNumbered, RowsStandOnce, RowsBeforeAddUp}
 use Rattle.ags_links.proofs.RowLemmas.{some_at, at_map, map_at}
 
 -- ---- rows behind other rows
@@ -102,6 +102,35 @@ row_of_file file n r p =
 
 pub rows_are_numbered : RowsAreNumbered
 rows_are_numbered file n row = (row_of_group file n row, row_of_file file n row)
+
+-- further groups have no fewer rows before them
+before_rises : (file : List Contents) (i j : ℕ) → i ≤ j → rows_before file i ≤ rows_before file j
+before_rises file zero j le = omega arith
+before_rises file (suc i) zero le = absurd (omega (arith, le))
+before_rises [] (suc i) (suc j) le = omega arith
+before_rises (g ∷ file) (suc i) (suc j) le = omega (arith, before_more g file i, before_more g file j, before_rises file i j (omega (arith, le)))
+
+-- a row of an earlier group has a smaller number
+never_earlier : (file : List Contents) (n : ℕ) (row other : DataRow) (here : IsRowOfGroup file n row) (there : IsRowOfGroup file n other) → suc here.group_place ≤ there.group_place → ⊥
+never_earlier file n row other here there le =
+    omega (arith, here.number, there.number, here.of_group.0, before_next file here.group_place here.group here.of_file, before_rises file (suc here.group_place) there.group_place le)
+
+pub rows_stand_once : RowsStandOnce
+rows_stand_once file n row other here there = elim (cases_lt here.group_place there.group_place) [
+  | inl lt ↦ absurd (never_earlier file n row other here there (omega (arith, lt)))
+  | inr le ↦ (elim (cases_lt there.group_place here.group_place) [
+    | inl lt ↦ absurd (never_earlier file n other row there here (omega (arith, lt)))
+    | inr ge ↦ (
+        let same : here.group_place ≡ there.group_place = omega (arith, le, ge) in
+        (same, omega (arith, here.number, there.number, ap (rows_before file) same))
+        )
+  ])
+]
+
+pub rows_before_add_up : RowsBeforeAddUp
+rows_before_add_up file place group at =
+    let next : place + 1 ≡ suc place = omega arith in
+    (ap (rows_before file) next ∙ before_next file place group at, before_few file place group at)
 
 -- ---- what the rows of a file contain
 

@@ -1,14 +1,24 @@
 -- Laws over the definitions alone.
-use Rattle.std.specs.Prelude.{◌≡◌, ◌↔◌, ℕ, List, Bool, true}
+use Rattle.std.specs.Prelude.{◌≡◌, ◌≤◌, ◌+◌, ◌↔◌, ℕ, List, Bool, true, length}
 use Rattle.ags_rows.specs.Contents.{Contents}
 use Rattle.ags_rows.specs.Names.{is_definition}
-use Rattle.ags_links.specs.DataRows.{DataFile, DataRow, IsDataRow, IsRowOfGroup, data_rows}
+use Rattle.ags_links.specs.DataRows.{DataFile, DataRow, IsAt, IsDataRow, IsRowOfGroup, data_rows, rows_before}
 use Rattle.ags_links.specs.Steps.{StepAt, IsGraphOf}
 use Rattle.ags_links.specs.Walks.{Wiring, HasStep, Reaches, IsMarked, IsShown, IsReached}
 
 -- Each number of a DATA row is that of one row of one group, and back.
 abbrev pub RowsAreNumbered : Type 0
 RowsAreNumbered = (file : List Contents) (n : ℕ) (row : DataRow) → IsDataRow (data_rows file) n row ↔ IsRowOfGroup file n row
+
+-- The number of a DATA row is that of one row alone: one group has it, at one place.
+abbrev pub RowsStandOnce : Type 0
+RowsStandOnce = (file : List Contents) (n : ℕ) (row other : DataRow) (here : IsRowOfGroup file n row) (there : IsRowOfGroup file n other)
+    → (here.group_place ≡ there.group_place) × (here.place ≡ there.place)
+
+-- Before the next group stand the rows that stand before this one, and its own; all of them are rows of the file.
+abbrev pub RowsBeforeAddUp : Type 0
+RowsBeforeAddUp = (file : List Contents) (place : ℕ) (group : Contents) → IsAt file place group
+    → (rows_before file (place + 1) ≡ rows_before file place + length group.rows) × (rows_before file place + length group.rows ≤ length (data_rows file))
 
 -- A row of a definition group has no step.
 abbrev pub DefinitionsHaveNoStep : Type 0

@@ -1,10 +1,20 @@
 //! Laws over the definitions alone.
 
-ghost use Rattle.ags_links.specs.Laws.{RowsAreNumbered, DefinitionsHaveNoStep, OneGraph, GraphsWalkAsFiles};
+ghost use Rattle.ags_links.specs.Laws.{RowsAreNumbered, RowsStandOnce, RowsBeforeAddUp, DefinitionsHaveNoStep, OneGraph, GraphsWalkAsFiles};
 
 /// Each number of a DATA row is that of one row of one group, and back.
 pub fn rows_are_numbered()
     ensures { RowsAreNumbered }
+{}
+
+/// The number of a DATA row is that of one row alone: one group has it, at one place.
+pub fn rows_stand_once()
+    ensures { RowsStandOnce }
+{}
+
+/// Before the next group stand the rows that stand before this one, and its own; all of them are rows of the file.
+pub fn rows_before_add_up()
+    ensures { RowsBeforeAddUp }
 {}
 
 /// A row of a definition group has no step.
