@@ -175,6 +175,7 @@ fn printed(alloc: Global, answer: &Answer) -> Result<String, Fail> {
             }
         }
         Answer::Listing(lines) => {
+            text.push_str("deposits:")?;
             for line in lines.as_slice() {
                 text.push_str(line_of(alloc, line)?.as_str())?;
             }

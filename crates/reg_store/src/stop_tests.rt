@@ -276,13 +276,14 @@ struct Case {
     least: usize,
 }
 
-fn compare(alloc: Global, rt: &impl Abort, file: File, cases: &[Case]) -> Result<(), Fail> {
+/// How many runs stopped.
+fn compare(alloc: Global, rt: &impl Abort, file: File, cases: &[Case]) -> Result<usize, Fail> {
     let stages = stages(alloc, rt, file)?;
     for case in cases {
         let found = stages.iter().filter(|stage| **stage == case.stage).count();
         assert!(rt; case.least <= found, "{found} stops in {:?}", case.stage);
     }
-    Ok(())
+    Ok(stages.len())
 }
 
 const CASES: [Case; 4] = [
@@ -306,10 +307,14 @@ const CASES: [Case; 4] = [
 
 #[test]
 fn stops_of_the_log(rt: HostRuntime) -> Result<(), Fail> {
-    compare(rt.alloc(), &rt, File::Log, &CASES)
+    let stops = compare(rt.alloc(), &rt, File::Log, &CASES)?;
+    println!(rt; "{stops} stops of the log")?;
+    Ok(())
 }
 
 #[test]
 fn stops_of_the_database_file(rt: HostRuntime) -> Result<(), Fail> {
-    compare(rt.alloc(), &rt, File::Database, &CASES)
+    let stops = compare(rt.alloc(), &rt, File::Database, &CASES)?;
+    println!(rt; "{stops} stops of the database file")?;
+    Ok(())
 }

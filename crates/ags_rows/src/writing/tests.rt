@@ -218,7 +218,7 @@ fn spelled(rt: HostRuntime) -> Result<(), Fail> {
     Ok(())
 }
 
-/// Run with each allocation refused in turn (`rt try --test --fail-alloc N`).
+/// Run with each allocation refused in turn by `conformance/refused_tests`.
 #[test]
 fn unchanged_on_want_of_memory(rt: HostRuntime) -> Result<(), Fail> {
     let before = b"before".as_slice();

@@ -140,7 +140,10 @@ fn tells<K: Keep + Drop>(
 fn hidden_rows_are_not_told(rt: HostRuntime) -> Result<(), Fail> {
     let alloc = rt.alloc();
     assert!(rt; MINI.len() <= READABLE);
-    let mut want = String::from_str(alloc, "1 Delta 2024-06-01;; receipt 2 2024-06-01; ")?;
+    let mut want = String::from_str(
+        alloc,
+        "deposits:1 Delta 2024-06-01;; receipt 2 2024-06-01; ",
+    )?;
     for body in &[B_SHOWN, A] {
         want.push_str(wanted(alloc, &Want::Gives(*body))?.as_str())?;
         want.push_str("; ")?;
