@@ -24,12 +24,12 @@ const CASES: [Case; 11] = [
     Case {
         file: FILE_A,
         change: "",
-        want: "1 of 999999",
+        want: "1 of 999999: Delta N1 19875 A",
     },
     Case {
         file: FILE_B,
         change: "",
-        want: "1 of 999999",
+        want: "1 of 999999: Delta N1 19875 B",
     },
     Case {
         file: FILE_A,
@@ -110,7 +110,10 @@ fn taken_apart(alloc: Global, bytes: &[u8]) -> Result<Connection<MemStore>, Fail
 /// What adopting answers.
 fn adopted<S: Alter + Drop>(alloc: Global, connection: Connection<S>) -> Result<String, Fail> {
     match SqlKeep::adopt(alloc, connection) {
-        Ok(keep) => Ok(format!(in alloc; "{} of {}", keep.count(), keep.limit())?),
+        Ok(mut keep) => {
+            let first = deposit(alloc, &mut keep, 1)?;
+            Ok(format!(in alloc; "{} of {}: {}", keep.count(), keep.limit(), first.as_str())?)
+        }
         Err((refused, _connection)) => Ok(format!(in alloc; "{refused}")?),
     }
 }
@@ -135,23 +138,41 @@ fn changed_registers(rt: HostRuntime) -> Result<(), Fail> {
     compare(rt.alloc(), &rt, &DAMAGED)
 }
 
-/// A body of one byte more than may be kept.
-fn long_body(alloc: Global) -> Result<Vec<u8>, Fail> {
-    Ok([b' '].repeat(alloc, LIMIT + 1)?)
+/// A, with as many spaces behind it as make it so long. Its rows and steps are those of A.
+fn long_body(alloc: Global, length: usize) -> Result<Vec<u8>, Fail> {
+    let spaces = [b' '].repeat(alloc, length.saturating_sub(FILE_A.len()))?;
+    let mut body = Vec::from_slice(alloc, FILE_A)?;
+    body.extend_from_slice(&spaces)?;
+    Ok(body)
 }
 
-/// What adopting answers where the kept body is too long.
-fn adopted_too_long(alloc: Global) -> Result<String, Fail> {
+/// What adopting answers where the kept body is so long.
+fn adopted_so_long(alloc: Global, length: usize) -> Result<String, Fail> {
     let mut connection = taken_apart(alloc, FILE_A)?;
-    let body = long_body(alloc)?;
+    let body = long_body(alloc, length)?;
     connection.execute("UPDATE deposits SET body = ?1", params![&body])?;
     adopted(alloc, connection)
 }
 
 #[test]
 fn a_body_that_is_too_long(rt: HostRuntime) -> Result<(), Fail> {
-    let found = adopted_too_long(rt.alloc())?;
+    let kept = adopted_so_long(rt.alloc(), LIMIT)?;
+    assert_eq!(rt; kept.as_str(), "1 of 999999: Delta N1 19875 another file");
+    let found = adopted_so_long(rt.alloc(), LIMIT + 1)?;
     assert_eq!(rt; found.as_str(), "not a register");
+    Ok(())
+}
+
+/// A line or a step of a deposit that is not there cannot be written: the foreign keys are on.
+#[test]
+fn rows_of_no_deposit(rt: HostRuntime) -> Result<(), Fail> {
+    let mut connection = taken_apart(rt.alloc(), FILE_A)?;
+    let line = connection.execute_batch("INSERT INTO lines VALUES (2, 0, 'PROJ', 0, x'')");
+    assert!(rt; line.is_err());
+    let step = connection.execute_batch("INSERT INTO steps VALUES (2, 0, 0)");
+    assert!(rt; step.is_err());
+    let found = adopted(rt.alloc(), connection)?;
+    assert_eq!(rt; found.as_str(), "1 of 999999: Delta N1 19875 A");
     Ok(())
 }
 
