@@ -42,21 +42,46 @@ class Place:
         return sum(os.path.getsize(self.path(name)) for name in ("register", "register-wal") if os.path.exists(self.path(name)))
 
     def serve(self, requests):
-        """Seconds for these requests, one connection each, from the first connection to the last reply; every reply has to be 200."""
+        """Seconds for these requests, and the last reply."""
         port = bodies.free_port()
         serving = subprocess.Popen([self.program, "serve", *WORDS, "--port", str(port), "--connections", str(len(requests)), "--day", "2024-06-01"], cwd=self.folder,
                                    stdout=subprocess.PIPE, preexec_fn=self.limit)
         serving.stdout.readline()
-        begun = time.monotonic()
-        for request in requests:
-            with socket.create_connection(("127.0.0.1", port)) as connection:
-                connection.sendall(request)
-                reply = b"".join(iter(lambda: connection.recv(1 << 20), b""))
-            if not reply.startswith(b"HTTP/1.1 200"):
-                sys.exit(f"a request was answered {reply[:80]}")
-        taken = time.monotonic() - begun
+        taken, reply = ask(port, requests)
         serving.communicate()
-        return taken
+        return taken, reply
+
+
+def ask(port, requests):
+    """Seconds for these requests, one connection each, from the first connection to the last reply, and that reply; each has to be 200."""
+    begun = time.monotonic()
+    for request in requests:
+        with socket.create_connection(("127.0.0.1", port)) as connection:
+            connection.sendall(request)
+            reply = b"".join(iter(lambda: connection.recv(1 << 20), b""))
+        if not reply.startswith(b"HTTP/1.1 200"):
+            sys.exit(f"a request was answered {reply[:80]}")
+    return time.monotonic() - begun, reply
+
+
+def built_plainly(folder):
+    """The server in plain Rust, or None where there is no rustc."""
+    if not shutil.which("rustc"):
+        return None
+    plain = os.path.join(folder, "plain")
+    subprocess.run(["rustc", "-O", "--edition", "2021", os.path.join(os.path.dirname(os.path.abspath(__file__)), "plain.rs"), "-o", plain], check=True)
+    return plain
+
+
+def answered_plainly(plain, folder, requests, reply):
+    """Seconds that the server in plain Rust takes for these requests, each of which it answers with the bytes of this reply."""
+    path = os.path.join(folder, "reply")
+    with open(path, "wb") as file:
+        file.write(reply)
+    serving = subprocess.Popen([plain, path, str(len(requests))], stdout=subprocess.PIPE)
+    taken, _ = ask(int(serving.stdout.readline()), requests)
+    serving.communicate()
+    return taken
 
 
 def by_sqlite(place):
@@ -109,14 +134,19 @@ def measure(program, size, limit):
         note = "" if len(text) > size // 2 else " (not whole)"
         print(f"| {make.__name__} | {len(data)} | {deposited:.2f} | {listed:.2f} | {drawn:.2f}{note} | {held} | {written:.2f} | {read:.2f} | {beside} |", flush=True)
     place = Place(program, folder, limit)
-    print(f"\n| {REQUESTS} requests, a connection each | a second |\n|---|---|")
+    tools = tempfile.mkdtemp(prefix="bench")
+    plain = built_plainly(tools)
+    print(f"\n| {REQUESTS} requests, a connection each | a second | of a plain Rust server that answers the same bytes |\n|---|---|---|")
     asked = f"GET /v1/projects/N1/deposits{{}} {FIELDS}\r\n"
     for name, requests in (("deposits of 1 kB", [post(small(n)) for n in range(REQUESTS)]), ("extracts of 1 kB", [asked.format("/1").encode()] * REQUESTS),
                            (f"listings of {REQUESTS} deposits", [asked.format("").encode()] * (REQUESTS // 10)), ("the same deposit again", [post(small(1))] * REQUESTS)):
-        print(f"| {name} | {len(requests) / place.serve(requests):.1f} |", flush=True)
+        taken, reply = place.serve(requests)
+        beside = f"{len(requests) / answered_plainly(plain, tools, requests, reply):.1f}" if plain else "-"
+        print(f"| {name} | {len(requests) / taken:.1f} | {beside} |", flush=True)
+    shutil.rmtree(tools)
     place = Place(program, folder, limit)
     text = files.deep(size // 4)
-    taken = place.serve([post(text.replace(b"North bank", b"Site %02d" % n)) for n in range(100)])
+    taken, _ = place.serve([post(text.replace(b"North bank", b"Site %02d" % n)) for n in range(100)])
     opened, _ = place.run("list", *WORDS, "--token", "t-delta", "--project", "N2", "--day", "2024-06-01")
     print(f"\n100 deposits of {len(text)} bytes: {taken / 100:.2f} s each over the socket, {place.bytes_held()} bytes; opened, and a listing of no deposits, in {opened:.2f} s")
     shutil.rmtree(folder)
