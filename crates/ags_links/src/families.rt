@@ -141,6 +141,7 @@ pub(crate) fn firsts_of_keys(
     requires { Finds by_key.now (HasText (map row_of rows.now) (HasKeyText dictionary.now)) }
     ensures { IfOk result (λ firsts. AreFirstsOfKeys (map row_of rows.now) dictionary.now firsts.items) }
 {
+    // `first_rows` speaks of texts, this of keys; the proof goes by the list's name
     let firsts = first_rows(alloc, by_key, rows.len())?;
     Ok(firsts)
 }

@@ -77,6 +77,7 @@ impl Graph {
         ensures in_range { InRange self.now.rows self.now.steps }
         ensures few { self.now.rows < 2 ^ 32 }
     {
+        // reading the count brings what is known of it into the proof
         let _rows = self.rows;
         &self.steps
     }

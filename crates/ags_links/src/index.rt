@@ -215,6 +215,7 @@ impl<'s, 'f, 'd> Index<'s, 'f, 'd> {
             self.separators.concatenator,
             field(kept, family.headings.find(heading)),
         )?;
+        // the proof speaks of the list by its name
         let once = distinct(self.alloc, parts)?;
         Ok(once)
     }
@@ -232,6 +233,7 @@ impl<'s, 'f, 'd> Index<'s, 'f, 'd> {
             kept,
             &family.links,
         )?;
+        // the proof speaks of the list by its name
         let once = distinct(self.alloc, parts)?;
         Ok(once)
     }

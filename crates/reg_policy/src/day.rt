@@ -64,6 +64,7 @@ impl Day {
         self.written()
     }
 
+    /// The text, apart from what `text` proves of it.
     fn written(self) -> [u8; 10]
         ensures written { Writes result self }
         ensures in_range { IsTrue (is_day_number self) }
