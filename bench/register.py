@@ -136,7 +136,7 @@ def measure(program, size, limit):
     place = Place(program, folder, limit)
     tools = tempfile.mkdtemp(prefix="bench")
     plain = built_plainly(tools)
-    print(f"\n| {REQUESTS} requests, a connection each | a second | of a plain Rust server that answers the same bytes |\n|---|---|---|")
+    print(f"\n| {REQUESTS} requests, a connection each | a second | of a plain Rust server that answers each with the last reply |\n|---|---|---|")
     asked = f"GET /v1/projects/N1/deposits{{}} {FIELDS}\r\n"
     for name, requests in (("deposits of 1 kB", [post(small(n)) for n in range(REQUESTS)]), ("extracts of 1 kB", [asked.format("/1").encode()] * REQUESTS),
                            (f"listings of {REQUESTS} deposits", [asked.format("").encode()] * (REQUESTS // 10)), ("the same deposit again", [post(small(1))] * REQUESTS)):

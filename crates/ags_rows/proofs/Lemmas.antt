@@ -1,4 +1,4 @@
--- What proofs of the crates above cite of this one, beside contracts and definitions. Each is proved here: nothing in it has to be believed.
+-- What proofs and definitions of the crates above cite of this one, beside its contracts and definitions. Each is proved here: nothing in it has to be believed.
 -- What stands at a place of a list, and what a list contains.
 pub use Rattle.ags_rows.proofs.AtPlaces.{at_within, at_read, at_from_read, contains_at, at_contained}
 pub use Rattle.ags_rows.proofs.Collecting.{none_is, before_or_at, some_same}
@@ -10,6 +10,7 @@ pub use Rattle.ags_rows.proofs.Collecting.{found_if, adds_none, adds_same, adds_
 pub use Rattle.ags_rows.proofs.WellFormed.{clear_first}
 -- A file has one cutting into rows and groups, and one list of findings.
 pub use Rattle.ags_rows.proofs.Once.{same_file, one_grouping, one_loose_grouping, one_first_found, one_loose_list}
+-- A file without findings has the same groups where it is read loosely; the groups of the built-in dictionary.
 pub use Rattle.ags_rows.proofs.Loosely.{loose_groups}
 pub use Rattle.ags_rows.proofs.Mini.{mini_groups}
 -- A line has one reading; what is written is read back; the groups of a file that was read can be written.
