@@ -13,10 +13,10 @@ use std::test::Fail;
 
 /// New lines in place of those from the first to the last.
 #[derive(Drop)]
-pub struct Edit {
-    pub first: usize,
-    pub last: usize,
-    pub lines: &'static str,
+pub(crate) struct Edit {
+    pub(crate) first: usize,
+    pub(crate) last: usize,
+    pub(crate) lines: &'static str,
 }
 
 /// A file with lines of its own in place of others; the edits stand in the order of the lines.
@@ -90,7 +90,7 @@ fn checked(alloc: Global, file: &[u8], edits: &[Edit]) -> Result<String, Fail> {
 
 /// The file that is edited.
 #[derive(Clone, Copy)]
-pub enum Base {
+pub(crate) enum Base {
     A,
     B,
     C,
@@ -109,11 +109,11 @@ fn bytes_of(base: Base) -> &'static [u8] {
 
 /// A file with edits, and what is printed of it.
 #[derive(Drop)]
-pub struct Case {
-    pub name: &'static str,
-    pub file: Base,
-    pub edits: &'static [Edit],
-    pub want: &'static str,
+pub(crate) struct Case {
+    pub(crate) name: &'static str,
+    pub(crate) file: Base,
+    pub(crate) edits: &'static [Edit],
+    pub(crate) want: &'static str,
 }
 
 #[test]
