@@ -41,6 +41,14 @@ struct Session<'c> {
     day: Day,
 }
 
+/// What is asked of the desk.
+#[derive(Drop)]
+enum Task<'t> {
+    Deposit { embargo: Day, bytes: &'t [u8] },
+    List,
+    Extract { number: u32, groups: &'t [&'t [u8]] },
+}
+
 /// Makes a register.
 fn init<'w, W: Write>(
     rt: &HostRuntime,
@@ -214,8 +222,11 @@ fn deposit<'w, W: Write>(
     let session = session_of(alloc, &callers, asker, today)?;
     let embargo = day_or(embargo, Some(session.day))?;
     let bytes = read_path(rt, alloc, file)?;
-    let mut desk = Desk::new(open_store(rt, alloc, asker.store)?, policy);
-    ask_deposit(alloc, &mut desk, &session, embargo, &bytes, out)
+    let task = Task::Deposit {
+        embargo,
+        bytes: &bytes,
+    };
+    ask_store(rt, alloc, asker.store, policy, &session, &task, out)
 }
 
 /// Asks the desk to keep a file, as the one who asks.
@@ -249,8 +260,7 @@ fn list<'w, W: Write>(
     let policy = read_policy(rt, alloc, asker.policy)?;
     let callers = read_callers(rt, alloc, asker.callers)?;
     let session = session_of(alloc, &callers, asker, today)?;
-    let mut desk = Desk::new(open_store(rt, alloc, asker.store)?, policy);
-    ask_list(alloc, &mut desk, &session, out)
+    ask_store(rt, alloc, asker.store, policy, &session, &Task::List, out)
 }
 
 /// Asks the desk for the deposits of a project, as the one who asks.
@@ -293,8 +303,11 @@ fn extract<'w, W: Write>(
     let session = session_of(alloc, &callers, asker, today)?;
     let groups = groups_of(alloc, groups)?;
     let number = number_of_deposit(number.as_bytes()).ok_or(Fault::NumberRefused)?;
-    let mut desk = Desk::new(open_store(rt, alloc, asker.store)?, policy);
-    ask_extract(alloc, &mut desk, &session, number, &groups, out)
+    let task = Task::Extract {
+        number,
+        groups: &groups,
+    };
+    ask_store(rt, alloc, asker.store, policy, &session, &task, out)
 }
 
 /// Asks the desk for an extract, as the one who asks.
@@ -316,6 +329,43 @@ fn ask_extract<'w, K: Keep, W: Write>(
         day: session.day,
     };
     ask_desk(alloc, desk, &request, out)
+}
+
+/// Asks the desk of the register in the file at a path, as the one who asks.
+fn ask_store<'w, W: Write>(
+    rt: &HostRuntime,
+    alloc: Global,
+    store: &'w str,
+    policy: Policy,
+    session: &Session<'_>,
+    task: &Task<'_>,
+    out: &mut Watched<W>,
+) -> Result<u8, Refusal<'w>> {
+    let keep = open_store(rt, alloc, store)?;
+    ask_keep(alloc, keep, policy, session, task, out)
+}
+
+/// Asks the desk of a keep. What speaks of the keep stands here, for any keep: over the one of a file it would be proved at each place anew, at length.
+fn ask_keep<'w, K: Keep + Drop, W: Write>(
+    alloc: Global,
+    keep: K,
+    policy: Policy,
+    session: &Session<'_>,
+    task: &Task<'_>,
+    out: &mut Watched<W>,
+) -> Result<u8, Refusal<'w>>
+    requires { K.has_failed keep ≡ false }
+{
+    let mut desk = Desk::new(keep, policy);
+    match task {
+        Task::Deposit { embargo, bytes } => {
+            ask_deposit(alloc, &mut desk, session, *embargo, bytes, out)
+        }
+        Task::List => ask_list(alloc, &mut desk, session, out),
+        Task::Extract { number, groups } => {
+            ask_extract(alloc, &mut desk, session, *number, groups, out)
+        }
+    }
 }
 
 /// Does what the words ask.

@@ -1,5 +1,7 @@
 //! A register that is served over connections.
 
+ghost use Rattle.std.specs.Prelude.{◌≡◌, false};
+
 use crate::commands::{day_or, open_store};
 use crate::fault::Fault;
 use crate::files::{read_callers, read_policy};
@@ -9,7 +11,7 @@ use crate::words::Service;
 use itoa::Buffer;
 use reg_desk::Desk;
 use reg_http::{Tally, serve_one};
-use reg_policy::{Callers, Day};
+use reg_policy::{Callers, Day, Policy};
 use reg_store::Keep;
 use std::alloc::Global;
 use std::io::Write;
@@ -87,7 +89,24 @@ pub(crate) fn serve<'w, W: Write>(
     let policy = read_policy(rt, alloc, service.policy)?;
     let callers = read_callers(rt, alloc, service.callers)?;
     let day = day_or(service.day, today)?;
-    let mut desk = Desk::new(open_store(rt, alloc, service.store)?, policy);
+    let keep = open_store(rt, alloc, service.store)?;
+    serve_keep(rt, alloc, keep, policy, &callers, day, service, out)
+}
+
+/// Listens, and serves from a keep.
+fn serve_keep<'w, K: Keep + Drop, W: Write>(
+    rt: &HostRuntime,
+    alloc: Global,
+    keep: K,
+    policy: Policy,
+    callers: &Callers,
+    day: Day,
+    service: &Service<'w>,
+    out: &mut Watched<W>,
+) -> Result<u8, Refusal<'w>>
+    requires { K.has_failed keep ≡ false }
+{
+    let mut desk = Desk::new(keep, policy);
     let Ok(listener) = TcpListener::bind(rt, ("127.0.0.1", service.port)) else {
         return Err(Refusal::CannotListen);
     };
@@ -98,7 +117,7 @@ pub(crate) fn serve<'w, W: Write>(
         alloc,
         &listener,
         &mut desk,
-        &callers,
+        callers,
         day,
         service.connections,
         out,
