@@ -155,7 +155,7 @@ fn mini_is_read(rt: HostRuntime) -> Result<(), Fail> {
         ),
         (b"NONE".as_slice(), b"///none".as_slice()),
     ] {
-        assert_eq!(rt; said(alloc, &mini, group)?.as_slice(), want);
+        assert!(rt; said(alloc, &mini, group)?.as_slice() == want);
     }
     Ok(())
 }
@@ -175,24 +175,23 @@ fn questions(rt: HostRuntime) -> Result<(), Fail> {
         (b"SAMP", b"LOCA_ID", Some(0), true, true),
         (b"LNM", b"LOCA_ID", None, false, true),
     ] {
-        assert_eq!(rt;
+        assert!(rt;
             (
                 mini.place_in_order(group, heading),
                 mini.has_group(group),
                 mini.elsewhere(group, heading)
-            ),
-            (place, is_group, is_elsewhere)
+            ) == (place, is_group, is_elsewhere)
         );
     }
-    assert_eq!(rt; (mini.group_count(), mini.heading_count()), (10, 38));
+    assert!(rt; (mini.group_count(), mini.heading_count()) == (10, 38));
     Ok(())
 }
 
 #[test]
 fn no_dictionaries(rt: HostRuntime) -> Result<(), Fail> {
     let alloc = rt.alloc();
-    assert_eq!(rt; refusal(alloc, FILE_A)?.as_str(), "no DICT");
-    assert_eq!(rt; refusal(alloc, b"")?.as_str(), "2 0 ;");
+    assert!(rt; refusal(alloc, FILE_A)?.as_str() == "no DICT");
+    assert!(rt; refusal(alloc, b"")?.as_str() == "2 0 ;");
     Ok(())
 }
 
@@ -206,7 +205,7 @@ fn edited_lines(rt: HostRuntime) -> Result<(), Fail> {
         (Edit::LosesLastColumn, "missing heading"),
     ] {
         let bytes = edited(alloc, edit)?;
-        assert_eq!(rt; refusal(alloc, bytes.as_slice())?.as_str(), want);
+        assert!(rt; refusal(alloc, bytes.as_slice())?.as_str() == want);
     }
     Ok(())
 }
@@ -220,7 +219,7 @@ fn loose_spelling(rt: HostRuntime) -> Result<(), Fail> {
     ] {
         let bytes = replaced(alloc, MINI, old, new)?;
         assert!(rt; bytes.as_slice() != MINI);
-        assert_eq!(rt; refusal(alloc, bytes.as_slice())?.as_str(), "");
+        assert!(rt; refusal(alloc, bytes.as_slice())?.as_str() == "");
     }
     Ok(())
 }
@@ -250,7 +249,7 @@ fn statuses_and_parents(rt: HostRuntime) -> Result<(), Fail> {
     ] {
         let bytes = replaced(alloc, MINI, old, new)?;
         let changed = read(alloc, bytes.as_slice())?;
-        assert_eq!(rt; said(alloc, &changed, group)?.as_slice(), want);
+        assert!(rt; said(alloc, &changed, group)?.as_slice() == want);
     }
     Ok(())
 }
@@ -301,10 +300,7 @@ fn other_groups_stand_beside_dict(rt: HostRuntime) -> Result<(), Fail> {
     let alloc = rt.alloc();
     let dictionary = read(alloc, WITH_OTHER_GROUPS)?;
     let loca = said(alloc, &dictionary, b"LOCA")?;
-    assert_eq!(rt;
-        loca.as_slice(),
-        b"LOCA_ID LOCA_GL /LOCA_ID /LOCA_ID /PROJ".as_slice()
-    );
+    assert!(rt; loca.as_slice() == b"LOCA_ID LOCA_GL /LOCA_ID /LOCA_ID /PROJ".as_slice());
     Ok(())
 }
 
@@ -332,7 +328,7 @@ fn own_entries_come_last(rt: HostRuntime) -> Result<(), Fail> {
         (b"LOCA".as_slice(), loca.as_slice()),
         (b"NEWG".as_slice(), b"///LOCA".as_slice()),
     ] {
-        assert_eq!(rt; said(alloc, &extended, group)?.as_slice(), want);
+        assert!(rt; said(alloc, &extended, group)?.as_slice() == want);
     }
     Ok(())
 }
@@ -340,18 +336,14 @@ fn own_entries_come_last(rt: HostRuntime) -> Result<(), Fail> {
 #[test]
 fn own_entries_are_found(rt: HostRuntime) -> Result<(), Fail> {
     let extended = extended(rt.alloc(), OWN_DICT)?;
-    assert_eq!(rt;
+    assert!(rt;
         (
             extended.place_in_order(b"LOCA", b"LOCA_XTRA"),
             extended.elsewhere(b"LOCA", b"LOCA_XTRA"),
             extended.elsewhere(b"SAMP", b"LOCA_XTRA")
-        ),
-        (Some(5), false, true)
+        ) == (Some(5), false, true)
     );
-    assert_eq!(rt;
-        (extended.group_count(), extended.heading_count()),
-        (11, 39)
-    );
+    assert!(rt; (extended.group_count(), extended.heading_count()) == (11, 39));
     Ok(())
 }
 
@@ -372,7 +364,7 @@ fn refusals_as_printed(rt: HostRuntime) -> Result<(), Fail> {
         (DictError::NoMemory, "out of memory, out of memory"),
     ] {
         let text = format!(in alloc; "{refusal}, {refusal:?}")?;
-        assert_eq!(rt; text.as_str(), *want);
+        assert!(rt; text.as_str() == *want);
     }
     Ok(())
 }

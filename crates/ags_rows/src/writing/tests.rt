@@ -108,7 +108,7 @@ fn written_dictionary(rt: HostRuntime) -> Result<(), Fail> {
     let units = cells_of(&rt, ["", "", "", "", ""])?;
     let types = cells_of(&rt, ["X", "X", "X", "X", "X"])?;
     let rows = dictionary_rows(&rt)?;
-    assert_eq!(rt; rows.len(), 48);
+    assert!(rt; rows.len() == 48);
     let mut text = Vec::new(rt.alloc());
     write_group(
         &mut text,
@@ -118,7 +118,7 @@ fn written_dictionary(rt: HostRuntime) -> Result<(), Fail> {
         types.as_slice(),
         rows.as_slice(),
     )?;
-    assert_eq!(rt; text.as_slice(), MINI);
+    assert!(rt; text.as_slice() == MINI);
     Ok(())
 }
 
@@ -132,11 +132,11 @@ fn scanned_dictionary(rt: HostRuntime) -> Result<(), Fail> {
         assert!(rt; false, "the dictionary is one group");
         return Ok(());
     };
-    assert_eq!(rt; dictionary.name.as_slice(), b"DICT".as_slice());
+    assert!(rt; dictionary.name.as_slice() == b"DICT".as_slice());
     let rows = dictionary.rows.as_slice();
-    assert_eq!(rt; rows.len(), 48);
+    assert!(rt; rows.len() == 48);
     for (place, row) in rows.iter().enumerate() {
-        assert_eq!(rt; row.line as usize, place + 5);
+        assert!(rt; row.line as usize == place + 5);
     }
     Ok(())
 }
@@ -173,12 +173,12 @@ fn files(rt: HostRuntime) -> Result<(), Fail> {
         (FILE_B, 1048, 47),
         (FILE_C, 1153, 49),
     ] {
-        assert_eq!(rt; file.len(), length);
-        assert_eq!(rt; file.iter().filter(|b| **b == b'\n').count(), lines);
-        assert_eq!(rt; written_again(&rt, file)?.as_slice(), file);
+        assert!(rt; file.len() == length);
+        assert!(rt; file.iter().filter(|b| **b == b'\n').count() == lines);
+        assert!(rt; written_again(&rt, file)?.as_slice() == file);
     }
     let line_33 = FILE_C.split(|b| *b == b'\n').nth(32);
-    assert_eq!(rt; line_33, Some(b"\"DATA\",\"BH2\",\"FINAL\"\r".as_slice()));
+    assert!(rt; line_33 == Some(b"\"DATA\",\"BH2\",\"FINAL\"\r".as_slice()));
     Ok(())
 }
 
@@ -186,17 +186,17 @@ fn files(rt: HostRuntime) -> Result<(), Fail> {
 fn spelled(rt: HostRuntime) -> Result<(), Fail> {
     let mut text = Vec::new(rt.alloc());
     quote(&mut text, b"a\"b")?;
-    assert_eq!(rt; text.as_slice(), b"\"a\"\"b\"".as_slice());
+    assert!(rt; text.as_slice() == b"\"a\"\"b\"".as_slice());
     let Some(two) = cells(rt.alloc(), b"\"a\" , \"b\"")? else {
         assert!(rt; false, "two fields");
         return Ok(());
     };
     let mut row = Vec::new(rt.alloc());
     write_row(&mut row, Descriptor::Data, two.as_slice())?;
-    assert_eq!(rt; row.as_slice(), b"\"DATA\",\"a\",\"b\"\r\n".as_slice());
+    assert!(rt; row.as_slice() == b"\"DATA\",\"a\",\"b\"\r\n".as_slice());
     let mut line = Vec::new(rt.alloc());
     write_line(&mut line, Descriptor::Group, slice::from_ref(&bare("LOCA")))?;
-    assert_eq!(rt; line.as_slice(), b"\"GROUP\",\"LOCA\"".as_slice());
+    assert!(rt; line.as_slice() == b"\"GROUP\",\"LOCA\"".as_slice());
     assert!(rt;
         cells(rt.alloc(), b"\"a\"b")?.is_none(),
         "a letter behind a quote"
@@ -214,7 +214,7 @@ fn spelled(rt: HostRuntime) -> Result<(), Fail> {
         &[bare("ID")],
         &[data],
     )?;
-    assert_eq!(rt; loca.as_slice(), &FILE_A[468..]);
+    assert!(rt; loca.as_slice() == &FILE_A[468..]);
     Ok(())
 }
 
@@ -236,13 +236,13 @@ fn unchanged_on_want_of_memory(rt: HostRuntime) -> Result<(), Fail> {
         return Ok(());
     };
     if quote(&mut field, note.as_bytes()).is_err() {
-        assert_eq!(rt; field.as_slice(), before);
+        assert!(rt; field.as_slice() == before);
     }
     if write_row(&mut row, Descriptor::Data, &cells).is_err() {
-        assert_eq!(rt; row.as_slice(), before);
+        assert!(rt; row.as_slice() == before);
     }
     if write_group(&mut group, b"LOCA", &cells, &cells, &cells, &[]).is_err() {
-        assert_eq!(rt; group.as_slice(), before);
+        assert!(rt; group.as_slice() == before);
     }
     Ok(())
 }
