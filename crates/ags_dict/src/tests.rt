@@ -138,11 +138,10 @@ fn own_groups(alloc: Global) -> Result<Scan<'static>, DictError> {
     }
 }
 
-/// MINI, extended by `OWN_DICT`.
-fn extended(alloc: Global) -> Result<Dictionary, DictError> {
+/// A dictionary, extended by `OWN_DICT`.
+fn extended(alloc: Global, dictionary: &Dictionary) -> Result<Dictionary, DictError> {
     let scan = own_groups(alloc)?;
-    let mini = read(alloc, MINI)?;
-    Ok(mini.extend(alloc, &scan)?)
+    Ok(dictionary.extend(alloc, &scan)?)
 }
 
 /// The dictionary of a source.
@@ -153,7 +152,7 @@ fn dictionary(alloc: Global, source: Source) -> Result<Dictionary, DictError> {
         Source::File(bytes) => read(alloc, bytes),
         Source::Replaced(old, new) => read(alloc, replaced(alloc, old, new)?.as_slice()),
         Source::Narrowed => read(alloc, narrowed(alloc)?.as_slice()),
-        Source::Extended => extended(alloc),
+        Source::Extended => extended(alloc, &read(alloc, MINI)?),
     }
 }
 
