@@ -138,10 +138,16 @@ fn own_groups(alloc: Global) -> Result<Scan<'static>, DictError> {
     }
 }
 
-/// A dictionary, extended by `OWN_DICT`.
-fn extended(alloc: Global, dictionary: &Dictionary) -> Result<Dictionary, DictError> {
+/// MINI, extended by groups.
+fn extended_by(alloc: Global, scan: &Scan) -> Result<Dictionary, DictError> {
+    let mini = read(alloc, MINI)?;
+    Ok(mini.extend(alloc, scan)?)
+}
+
+/// MINI, extended by `OWN_DICT`.
+fn extended(alloc: Global) -> Result<Dictionary, DictError> {
     let scan = own_groups(alloc)?;
-    Ok(dictionary.extend(alloc, &scan)?)
+    extended_by(alloc, &scan)
 }
 
 /// The dictionary of a source.
@@ -152,7 +158,7 @@ fn dictionary(alloc: Global, source: Source) -> Result<Dictionary, DictError> {
         Source::File(bytes) => read(alloc, bytes),
         Source::Replaced(old, new) => read(alloc, replaced(alloc, old, new)?.as_slice()),
         Source::Narrowed => read(alloc, narrowed(alloc)?.as_slice()),
-        Source::Extended => extended(alloc, &read(alloc, MINI)?),
+        Source::Extended => extended(alloc),
     }
 }
 
