@@ -24,20 +24,20 @@ fn same(marks: &[bool], want: &[bool]) -> bool {
 fn check_reached(rt: &(impl Abort + AllocGlobal), case: &Case) -> Result<(), Fail> {
     let steps = Vec::from_slice(rt.alloc(), case.steps)?;
     let graph = Graph::new(case.rows, steps).expect(rt, "in range");
-    assert_eq!(rt; case.marks.len(), graph.rows() as usize);
+    assert!(rt; case.marks.len() == graph.rows() as usize);
     let (marks, turns) = reached(rt.alloc(), &graph, case.marks)?;
     assert!(rt; same(&marks, case.want), "{}", case.what);
-    assert_eq!(rt; turns, case.turns, "{}", case.what);
+    assert!(rt; turns == case.turns, "{}", case.what);
     Ok(())
 }
 
 fn check_shown(rt: &(impl Abort + AllocGlobal), case: &Case) -> Result<(), Fail> {
     let steps = Vec::from_slice(rt.alloc(), case.steps)?;
     let graph = Graph::new(case.rows, steps).expect(rt, "in range");
-    assert_eq!(rt; case.marks.len(), graph.rows() as usize);
+    assert!(rt; case.marks.len() == graph.rows() as usize);
     let (marks, turns) = shown(rt.alloc(), &graph, case.marks)?;
     assert!(rt; same(&marks, case.want), "{}", case.what);
-    assert_eq!(rt; turns, case.turns, "{}", case.what);
+    assert!(rt; turns == case.turns, "{}", case.what);
     Ok(())
 }
 
@@ -115,7 +115,7 @@ fn a_number_that_is_no_row(rt: HostRuntime) -> Result<(), Fail> {
     assert!(rt; Graph::new(3, steps).is_none());
     let steps = Vec::from_slice(rt.alloc(), &[(2, 1), (0, 1), (2, 1)])?;
     let graph = Graph::new(3, steps).expect(&rt, "in range");
-    assert_eq!(rt; graph.rows(), 3);
+    assert!(rt; graph.rows() == 3);
     assert!(rt; graph.steps() == [(2, 1), (0, 1), (2, 1)].as_slice());
     Ok(())
 }
@@ -140,7 +140,7 @@ fn counted(
     graph: &Graph,
     marks: &[bool],
 ) -> Result<[u128; 4], Fail> {
-    assert_eq!(rt; marks.len(), graph.rows() as usize);
+    assert!(rt; marks.len() == graph.rows() as usize);
     let (from, from_turns) = reached(rt.alloc(), graph, marks)?;
     let (visible, visible_turns) = shown(rt.alloc(), graph, marks)?;
     let from_rows = from.iter().filter(|mark| **mark).count();
@@ -164,14 +164,8 @@ fn a_chain_of_a_hundred_thousand_rows(rt: HostRuntime) -> Result<(), Fail> {
     let first = marks_but(&rt, rows, false, Some(0))?;
     let all = marks_but(&rt, rows, true, None)?;
     let all_but_last = marks_but(&rt, rows, true, Some(99_999))?;
-    assert_eq!(rt;
-        counted(&rt, &graph, &first)?,
-        [100_000, 199_999, 0, 199_999]
-    );
-    assert_eq!(rt; counted(&rt, &graph, &all)?, [100_000, 199_999, 100_000, 0]);
-    assert_eq!(rt;
-        counted(&rt, &graph, &all_but_last)?,
-        [100_000, 199_999, 0, 199_999]
-    );
+    assert!(rt; counted(&rt, &graph, &first)? == [100_000, 199_999, 0, 199_999]);
+    assert!(rt; counted(&rt, &graph, &all)? == [100_000, 199_999, 100_000, 0]);
+    assert!(rt; counted(&rt, &graph, &all_but_last)? == [100_000, 199_999, 0, 199_999]);
     Ok(())
 }
