@@ -139,10 +139,10 @@ fn marks_but(alloc: Global, rows: u32, mark: bool, other: u32) -> Result<Vec<boo
     Ok(marks)
 }
 
-/// A row that leads to the next, and so on.
-fn chain(alloc: Global, last: u32) -> Result<Vec<(u32, u32)>, AllocError> {
+/// 99,999 steps, each to the next row.
+fn chain(alloc: Global) -> Result<Vec<(u32, u32)>, AllocError> {
     let mut steps = Vec::new(alloc);
-    for row in 0..last {
+    for row in 0..99_999 {
         steps.push((row, row + 1))?;
     }
     Ok(steps)
@@ -192,7 +192,7 @@ fn is_closed(alloc: Global, graph: &Graph, case: &Marks) -> bool {
 
 /// The graph of a chain of 100,000 rows.
 fn chain_of_rows(alloc: Global) -> Option<Graph> {
-    match chain(alloc, 99_999) {
+    match chain(alloc) {
         Ok(steps) => Graph::new(100_000, steps),
         Err(_) => None,
     }
