@@ -218,55 +218,48 @@ fn policy_of(alloc: Global, texts: &[&str]) -> Result<Policy, PolicyError> {
     }
 }
 
-#[test]
-fn policies_read_or_refused(rt: HostRuntime) {
-    for (texts, want) in &POLICIES {
-        let refusal = policy_of(rt.alloc(), texts).err();
-        assert!(rt; refusal == *want, "{}", texts[1]);
+/// Whether the texts are refused as wanted, or are a policy.
+fn is_policy(alloc: Global, texts: &[&str], want: Option<PolicyError>) -> bool {
+    match policy_of(alloc, texts) {
+        Ok(_) => want.is_none(),
+        Err(error) => want == Some(error),
     }
 }
 
-/// One who asks, under a policy.
+#[test]
+fn policies_read_or_refused(rt: HostRuntime) {
+    for (texts, want) in &POLICIES {
+        assert!(rt; is_policy(rt.alloc(), texts, *want), "{}", texts[1]);
+    }
+}
+
+/// One who asks in a project.
 #[derive(Drop)]
 struct Asker {
-    policy: Policy,
     caller: Caller,
     project: Name,
 }
 
-/// The caller of a firm and a role.
-fn caller_of(alloc: Global, firm: &str, role: &str) -> Result<Caller, NameError> {
+/// A caller in the project N1.
+fn asker_of(alloc: Global, firm: &str, role: &str) -> Result<Asker, NameError> {
     let firm = Name::read(alloc, firm)?;
     let role = Name::read(alloc, role)?;
-    Ok(Caller { firm, role })
-}
-
-/// A caller under a policy, in the project N1.
-fn asker_of(alloc: Global, policy: &[&str], firm: &str, role: &str) -> Option<Asker> {
-    let Ok(policy) = policy_of(alloc, policy) else {
-        return None;
-    };
-    let Ok(caller) = caller_of(alloc, firm, role) else {
-        return None;
-    };
-    let Ok(project) = Name::read(alloc, "N1") else {
-        return None;
-    };
-    Some(Asker {
-        policy,
-        caller,
+    let project = Name::read(alloc, "N1")?;
+    Ok(Asker {
+        caller: Caller { firm, role },
         project,
     })
 }
 
-/// A policy, a firm, its role, what it asks, and what is decided.
-type Request = (
-    &'static [&'static str],
-    &'static str,
-    &'static str,
-    Verb,
-    Decision,
-);
+/// A request under a policy, and what is decided.
+#[derive(Drop)]
+struct Request {
+    policy: &'static [&'static str],
+    firm: &'static str,
+    role: &'static str,
+    verb: Verb,
+    want: Decision,
+}
 
 /// Every fact that a request may lack is the star.
 const STARS: &[&str] = &[
@@ -286,200 +279,206 @@ const OF_ENTRY: &[&str] = &[RULE, "heading = \"LOCA_ID\"\nvalue = \"\"\n"];
 const POLICY: &[&str] = &[vectors::POLICY];
 
 const REQUESTS: [Request; 25] = [
-    (
-        POLICY,
-        "Gamma",
-        "contractor",
-        Verb::Deposit,
-        Decision::Deny(5),
-    ),
-    (
-        POLICY,
-        "Delta",
-        "contractor",
-        Verb::Deposit,
-        Decision::Permit(10),
-    ),
-    (
-        POLICY,
-        "Echo",
-        "consultant",
-        Verb::Deposit,
-        Decision::Deny(0),
-    ),
-    (
-        POLICY,
-        "Echo",
-        "consultant",
-        Verb::Check,
-        Decision::Permit(20),
-    ),
-    (
-        POLICY,
-        "Echo",
-        "consultant",
-        Verb::List,
-        Decision::Permit(30),
-    ),
-    (
-        POLICY,
-        "Echo",
-        "consultant",
-        Verb::Extract,
-        Decision::Permit(40),
-    ),
-    (
-        &[""],
-        "Delta",
-        "contractor",
-        Verb::Deposit,
-        Decision::Deny(0),
-    ),
-    (
-        &["rule = []\n"],
-        "Delta",
-        "contractor",
-        Verb::Deposit,
-        Decision::Deny(0),
-    ),
-    (
-        STARS,
-        "Echo",
-        "consultant",
-        Verb::Deposit,
-        Decision::Permit(1),
-    ),
-    (
-        OF_GROUP,
-        "Echo",
-        "consultant",
-        Verb::Deposit,
-        Decision::Deny(0),
-    ),
-    (
-        OF_GROUP,
-        "Echo",
-        "consultant",
-        Verb::Check,
-        Decision::Deny(0),
-    ),
-    (
-        OF_GROUP,
-        "Echo",
-        "consultant",
-        Verb::List,
-        Decision::Deny(0),
-    ),
-    (
-        OF_GROUP,
-        "Echo",
-        "consultant",
-        Verb::Extract,
-        Decision::Deny(0),
-    ),
-    (
-        OF_OWNER,
-        "Echo",
-        "consultant",
-        Verb::Deposit,
-        Decision::Deny(0),
-    ),
-    (
-        OF_OWNER,
-        "Echo",
-        "consultant",
-        Verb::Check,
-        Decision::Deny(0),
-    ),
-    (
-        OF_OWNER,
-        "Echo",
-        "consultant",
-        Verb::List,
-        Decision::Deny(0),
-    ),
-    (
-        OF_OWNER,
-        "Echo",
-        "consultant",
-        Verb::Extract,
-        Decision::Deny(0),
-    ),
-    (
-        OF_EMBARGO,
-        "Echo",
-        "consultant",
-        Verb::Deposit,
-        Decision::Deny(0),
-    ),
-    (
-        OF_EMBARGO,
-        "Echo",
-        "consultant",
-        Verb::Check,
-        Decision::Deny(0),
-    ),
-    (
-        OF_EMBARGO,
-        "Echo",
-        "consultant",
-        Verb::List,
-        Decision::Deny(0),
-    ),
-    (
-        OF_EMBARGO,
-        "Echo",
-        "consultant",
-        Verb::Extract,
-        Decision::Deny(0),
-    ),
-    (
-        OF_ENTRY,
-        "Echo",
-        "consultant",
-        Verb::Deposit,
-        Decision::Deny(0),
-    ),
-    (
-        OF_ENTRY,
-        "Echo",
-        "consultant",
-        Verb::Check,
-        Decision::Deny(0),
-    ),
-    (
-        OF_ENTRY,
-        "Echo",
-        "consultant",
-        Verb::List,
-        Decision::Deny(0),
-    ),
-    (
-        OF_ENTRY,
-        "Echo",
-        "consultant",
-        Verb::Extract,
-        Decision::Deny(0),
-    ),
+    Request {
+        policy: POLICY,
+        firm: "Gamma",
+        role: "contractor",
+        verb: Verb::Deposit,
+        want: Decision::Deny(5),
+    },
+    Request {
+        policy: POLICY,
+        firm: "Delta",
+        role: "contractor",
+        verb: Verb::Deposit,
+        want: Decision::Permit(10),
+    },
+    Request {
+        policy: POLICY,
+        firm: "Echo",
+        role: "consultant",
+        verb: Verb::Deposit,
+        want: Decision::Deny(0),
+    },
+    Request {
+        policy: POLICY,
+        firm: "Echo",
+        role: "consultant",
+        verb: Verb::Check,
+        want: Decision::Permit(20),
+    },
+    Request {
+        policy: POLICY,
+        firm: "Echo",
+        role: "consultant",
+        verb: Verb::List,
+        want: Decision::Permit(30),
+    },
+    Request {
+        policy: POLICY,
+        firm: "Echo",
+        role: "consultant",
+        verb: Verb::Extract,
+        want: Decision::Permit(40),
+    },
+    Request {
+        policy: &[""],
+        firm: "Delta",
+        role: "contractor",
+        verb: Verb::Deposit,
+        want: Decision::Deny(0),
+    },
+    Request {
+        policy: &["rule = []\n"],
+        firm: "Delta",
+        role: "contractor",
+        verb: Verb::Deposit,
+        want: Decision::Deny(0),
+    },
+    Request {
+        policy: STARS,
+        firm: "Echo",
+        role: "consultant",
+        verb: Verb::Deposit,
+        want: Decision::Permit(1),
+    },
+    Request {
+        policy: OF_GROUP,
+        firm: "Echo",
+        role: "consultant",
+        verb: Verb::Deposit,
+        want: Decision::Deny(0),
+    },
+    Request {
+        policy: OF_GROUP,
+        firm: "Echo",
+        role: "consultant",
+        verb: Verb::Check,
+        want: Decision::Deny(0),
+    },
+    Request {
+        policy: OF_GROUP,
+        firm: "Echo",
+        role: "consultant",
+        verb: Verb::List,
+        want: Decision::Deny(0),
+    },
+    Request {
+        policy: OF_GROUP,
+        firm: "Echo",
+        role: "consultant",
+        verb: Verb::Extract,
+        want: Decision::Deny(0),
+    },
+    Request {
+        policy: OF_OWNER,
+        firm: "Echo",
+        role: "consultant",
+        verb: Verb::Deposit,
+        want: Decision::Deny(0),
+    },
+    Request {
+        policy: OF_OWNER,
+        firm: "Echo",
+        role: "consultant",
+        verb: Verb::Check,
+        want: Decision::Deny(0),
+    },
+    Request {
+        policy: OF_OWNER,
+        firm: "Echo",
+        role: "consultant",
+        verb: Verb::List,
+        want: Decision::Deny(0),
+    },
+    Request {
+        policy: OF_OWNER,
+        firm: "Echo",
+        role: "consultant",
+        verb: Verb::Extract,
+        want: Decision::Deny(0),
+    },
+    Request {
+        policy: OF_EMBARGO,
+        firm: "Echo",
+        role: "consultant",
+        verb: Verb::Deposit,
+        want: Decision::Deny(0),
+    },
+    Request {
+        policy: OF_EMBARGO,
+        firm: "Echo",
+        role: "consultant",
+        verb: Verb::Check,
+        want: Decision::Deny(0),
+    },
+    Request {
+        policy: OF_EMBARGO,
+        firm: "Echo",
+        role: "consultant",
+        verb: Verb::List,
+        want: Decision::Deny(0),
+    },
+    Request {
+        policy: OF_EMBARGO,
+        firm: "Echo",
+        role: "consultant",
+        verb: Verb::Extract,
+        want: Decision::Deny(0),
+    },
+    Request {
+        policy: OF_ENTRY,
+        firm: "Echo",
+        role: "consultant",
+        verb: Verb::Deposit,
+        want: Decision::Deny(0),
+    },
+    Request {
+        policy: OF_ENTRY,
+        firm: "Echo",
+        role: "consultant",
+        verb: Verb::Check,
+        want: Decision::Deny(0),
+    },
+    Request {
+        policy: OF_ENTRY,
+        firm: "Echo",
+        role: "consultant",
+        verb: Verb::List,
+        want: Decision::Deny(0),
+    },
+    Request {
+        policy: OF_ENTRY,
+        firm: "Echo",
+        role: "consultant",
+        verb: Verb::Extract,
+        want: Decision::Deny(0),
+    },
 ];
 
-/// What is decided of a request.
-fn decided(alloc: Global, request: &Request) -> Option<Decision> {
-    let (policy, firm, role, verb, _) = request;
-    match asker_of(alloc, policy, firm, role) {
-        Some(asker) => {
-            let subject = Subject::of_request(&asker.caller, &asker.project, *verb);
-            Some(asker.policy.decide(&subject))
+/// What a policy decides of a request.
+fn asked(alloc: Global, policy: &Policy, request: &Request) -> Option<Decision> {
+    match asker_of(alloc, request.firm, request.role) {
+        Ok(asker) => {
+            let subject = Subject::of_request(&asker.caller, &asker.project, request.verb);
+            Some(policy.decide(&subject))
         }
-        None => None,
+        Err(_) => None,
+    }
+}
+
+/// Whether a request is decided as wanted.
+fn is_decided(alloc: Global, request: &Request) -> bool {
+    match policy_of(alloc, request.policy) {
+        Ok(policy) => asked(alloc, &policy, request) == Some(request.want),
+        Err(_) => false,
     }
 }
 
 #[test]
 fn requests_decided(rt: HostRuntime) {
     for request in &REQUESTS {
-        let (_, firm, _, _, want) = request;
-        assert!(rt; decided(rt.alloc(), request) == Some(*want), "{firm}");
+        assert!(rt; is_decided(rt.alloc(), request), "{}", request.firm);
     }
 }
 
@@ -587,8 +586,19 @@ fn fields(alloc: Global, line: &'static [u8]) -> Option<Vec<Cell<'static>>> {
     }
 }
 
-/// What is decided of a row with these headings and cells.
-fn decided_of(asker: &Asker, sight: &Sight, headings: &[Cell], cells: &[Cell]) -> Decision {
+/// What a policy decides of a row that Echo wants to see.
+fn seen(alloc: Global, policy: &Policy, row: RowFacts<'_>) -> Option<Decision> {
+    match asker_of(alloc, "Echo", "consultant") {
+        Ok(echo) => {
+            let subject = Subject::of_row(&echo.caller, &echo.project, row);
+            Some(policy.decide(&subject))
+        }
+        Err(_) => None,
+    }
+}
+
+/// Whether the row with these headings and cells is decided as wanted.
+fn is_seen(alloc: Global, sight: &Sight, headings: &[Cell<'_>], cells: &[Cell<'_>]) -> bool {
     let row = RowFacts {
         group: sight.group,
         own: sight.own,
@@ -596,28 +606,32 @@ fn decided_of(asker: &Asker, sight: &Sight, headings: &[Cell], cells: &[Cell]) -
         headings,
         cells,
     };
-    let subject = Subject::of_row(&asker.caller, &asker.project, row);
-    asker.policy.decide(&subject)
+    match policy_of(alloc, sight.policy) {
+        Ok(policy) => seen(alloc, &policy, row) == Some(sight.want),
+        Err(_) => false,
+    }
 }
 
-/// What is decided of a row.
-fn seen(alloc: Global, sight: &Sight) -> Option<Decision> {
-    let Some(echo) = asker_of(alloc, sight.policy, "Echo", "consultant") else {
-        return None;
-    };
-    let Some(headings) = fields(alloc, sight.headings) else {
-        return None;
-    };
-    let Some(cells) = fields(alloc, sight.cells) else {
-        return None;
-    };
-    Some(decided_of(&echo, sight, &headings, &cells))
+/// Whether the row with these headings is decided as wanted.
+fn is_seen_under(alloc: Global, sight: &Sight, headings: &[Cell<'_>]) -> bool {
+    match fields(alloc, sight.cells) {
+        Some(cells) => is_seen(alloc, sight, headings, cells.as_slice()),
+        None => false,
+    }
+}
+
+/// Whether a row is decided as wanted.
+fn is_row_decided(alloc: Global, sight: &Sight) -> bool {
+    match fields(alloc, sight.headings) {
+        Some(headings) => is_seen_under(alloc, sight, headings.as_slice()),
+        None => false,
+    }
 }
 
 #[test]
 fn rows_decided(rt: HostRuntime) {
     for sight in &SIGHTS {
-        assert!(rt; seen(rt.alloc(), sight) == Some(sight.want));
+        assert!(rt; is_row_decided(rt.alloc(), sight));
     }
 }
 
@@ -684,60 +698,107 @@ fn callers_of(alloc: Global, texts: &[&str]) -> Result<Callers, CallersError> {
     }
 }
 
+/// Whether the texts are refused as wanted, or are callers.
+fn are_callers(alloc: Global, texts: &[&str], want: Option<CallersError>) -> bool {
+    match callers_of(alloc, texts) {
+        Ok(_) => want.is_none(),
+        Err(error) => want == Some(error),
+    }
+}
+
 #[test]
 fn callers_read_or_refused(rt: HostRuntime) {
     for (texts, want) in &CALLERS {
-        let refusal = callers_of(rt.alloc(), texts).err();
-        assert!(rt; refusal == *want, "{}", texts[1]);
+        assert!(rt; are_callers(rt.alloc(), texts, *want), "{}", texts[1]);
     }
 }
 
-/// Callers, a token, and the firm and the role of its caller.
-type Token = (
-    &'static str,
-    &'static str,
-    Option<(&'static str, &'static str)>,
-);
+/// Callers, a token, and the firm and the role of its caller; none of either where there is no such caller.
+#[derive(Drop)]
+struct Token {
+    callers: &'static str,
+    token: &'static str,
+    firm: &'static str,
+    role: &'static str,
+}
 
 const TOKENS: [Token; 9] = [
-    (vectors::CALLERS, "t-delta", Some(("Delta", "contractor"))),
-    (vectors::CALLERS, "t-gamma", Some(("Gamma", "contractor"))),
-    (
-        vectors::CALLERS,
-        "t-foxtrot",
-        Some(("Foxtrot", "contractor")),
-    ),
-    (vectors::CALLERS, "t-echo", Some(("Echo", "consultant"))),
-    (vectors::CALLERS, "", None),
-    (vectors::CALLERS, "t-ech", None),
-    (vectors::CALLERS, "t-echoo", None),
-    (vectors::CALLERS, "T-ECHO", None),
-    ("", "t-echo", None),
+    Token {
+        callers: vectors::CALLERS,
+        token: "t-delta",
+        firm: "Delta",
+        role: "contractor",
+    },
+    Token {
+        callers: vectors::CALLERS,
+        token: "t-gamma",
+        firm: "Gamma",
+        role: "contractor",
+    },
+    Token {
+        callers: vectors::CALLERS,
+        token: "t-foxtrot",
+        firm: "Foxtrot",
+        role: "contractor",
+    },
+    Token {
+        callers: vectors::CALLERS,
+        token: "t-echo",
+        firm: "Echo",
+        role: "consultant",
+    },
+    Token {
+        callers: vectors::CALLERS,
+        token: "",
+        firm: "",
+        role: "",
+    },
+    Token {
+        callers: vectors::CALLERS,
+        token: "t-ech",
+        firm: "",
+        role: "",
+    },
+    Token {
+        callers: vectors::CALLERS,
+        token: "t-echoo",
+        firm: "",
+        role: "",
+    },
+    Token {
+        callers: vectors::CALLERS,
+        token: "T-ECHO",
+        firm: "",
+        role: "",
+    },
+    Token {
+        callers: "",
+        token: "t-echo",
+        firm: "",
+        role: "",
+    },
 ];
 
-/// Whether the caller of a token is of this firm and role, or is none.
-fn is_found(callers: &Callers, token: &str, want: Option<(&str, &str)>) -> bool {
-    match (callers.find(token.as_bytes()), want) {
-        (Some(caller), Some((firm, role))) => {
-            caller.firm.text() == firm && caller.role.text() == role
-        }
-        (None, None) => true,
-        _ => false,
+/// Whether the caller of a token is of the wanted firm and role, or is none.
+fn is_found(callers: &Callers, want: &Token) -> bool {
+    match callers.find(want.token.as_bytes()) {
+        Some(caller) => caller.firm.text() == want.firm && caller.role.text() == want.role,
+        None => want.firm.is_empty(),
     }
 }
 
-/// Whether a text of callers is read, with the caller of a token.
-fn finds(alloc: Global, text: &str, token: &str, want: Option<(&str, &str)>) -> bool {
-    match Callers::read(alloc, text) {
-        Ok(callers) => is_found(&callers, token, want),
+/// Whether the callers are read, with the caller of the token.
+fn is_listed(alloc: Global, want: &Token) -> bool {
+    match Callers::read(alloc, want.callers) {
+        Ok(callers) => is_found(&callers, want),
         Err(_) => false,
     }
 }
 
 #[test]
 fn callers_found(rt: HostRuntime) {
-    for (text, token, want) in &TOKENS {
-        assert!(rt; finds(rt.alloc(), text, token, *want), "{token}");
+    for want in &TOKENS {
+        assert!(rt; is_listed(rt.alloc(), want), "{}", want.token);
     }
 }
 
