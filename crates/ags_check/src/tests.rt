@@ -135,17 +135,22 @@ pub(crate) struct Case {
 
 /// Whether a case's file is answered as wanted.
 fn agrees(alloc: Global, mini: &Dictionary, case: &Case) -> bool {
-    let Ok(file) = edited(alloc, bytes_of(case.file), case.edits) else {
-        return false;
-    };
-    match checked(alloc, mini, file.as_slice()) {
-        Ok(found) => found.as_str() == case.want,
+    match edited(alloc, bytes_of(case.file), case.edits) {
+        Ok(file) => is_answered(alloc, mini, file.as_slice(), case.want),
+        Err(_) => false,
+    }
+}
+
+/// Whether `check` answers a file as wanted.
+fn is_answered(alloc: Global, mini: &Dictionary, file: &[u8], want: &str) -> bool {
+    match checked(alloc, mini, file) {
+        Ok(found) => found.as_str() == want,
         Err(_) => false,
     }
 }
 
 /// The first case that is not answered as wanted.
-fn wrong(alloc: Global, mini: &Dictionary, cases: &[Case]) -> Option<&'static str> {
+fn first_wrong(alloc: Global, mini: &Dictionary, cases: &[Case]) -> Option<&'static str> {
     for case in cases {
         if !agrees(alloc, mini, case) {
             return Some(case.name);
@@ -154,13 +159,18 @@ fn wrong(alloc: Global, mini: &Dictionary, cases: &[Case]) -> Option<&'static st
     None
 }
 
+/// The same, under MINI.
+fn wrong(alloc: Global, cases: &[Case]) -> Option<&'static str> {
+    match dictionary(alloc) {
+        Some(mini) => first_wrong(alloc, &mini, cases),
+        None => Some("the dictionary"),
+    }
+}
+
 #[test]
 fn headers_and_rows_are_checked(rt: HostRuntime) {
-    let Some(mini) = dictionary(rt.alloc()) else {
-        panic!(rt; "no dictionary");
-    };
     for cases in [headers::CASES, rows::CASES] {
-        if let Some(name) = wrong(rt.alloc(), &mini, cases) {
+        if let Some(name) = wrong(rt.alloc(), cases) {
             panic!(rt; "{name}");
         }
     }
@@ -186,14 +196,32 @@ fn ends(alloc: Global, mini: &Dictionary, file: &[u8]) -> bool {
     }
 }
 
+/// The first length of a file at which it is not answered as wanted.
+fn first_wrong_end(alloc: Global, mini: &Dictionary, file: &[u8]) -> Option<usize> {
+    for (bytes, _byte) in file.iter().enumerate() {
+        if !ends(alloc, mini, &file[..bytes]) {
+            return Some(bytes);
+        }
+    }
+    if ends(alloc, mini, file) {
+        None
+    } else {
+        Some(file.len())
+    }
+}
+
+/// The same, under MINI.
+fn wrong_end(alloc: Global, file: &[u8]) -> Option<usize> {
+    match dictionary(alloc) {
+        Some(mini) => first_wrong_end(alloc, &mini, file),
+        None => Some(file.len()),
+    }
+}
+
 #[test]
 fn files_end_early(rt: HostRuntime) {
-    let Some(mini) = dictionary(rt.alloc()) else {
-        panic!(rt; "no dictionary");
-    };
-    let file = FILE_A;
-    for bytes in 0..file.len() + 1 {
-        assert!(rt; ends(rt.alloc(), &mini, &file[..bytes]), "{bytes} bytes");
+    if let Some(bytes) = wrong_end(rt.alloc(), FILE_A) {
+        panic!(rt; "{bytes} bytes");
     }
 }
 
@@ -215,13 +243,18 @@ fn steps_of(alloc: Global, mini: &Dictionary, file: &[u8]) -> Option<usize> {
     }
 }
 
+/// The same, under MINI.
+fn steps_under(alloc: Global, file: &[u8]) -> Option<usize> {
+    match dictionary(alloc) {
+        Some(mini) => steps_of(alloc, &mini, file),
+        None => None,
+    }
+}
+
 /// How many steps the graph of FILE_A with edits has.
 fn steps_with(alloc: Global, edits: &[Edit]) -> Option<usize> {
-    let Some(mini) = dictionary(alloc) else {
-        return None;
-    };
     match edited(alloc, FILE_A, edits) {
-        Ok(file) => steps_of(alloc, &mini, file.as_slice()),
+        Ok(file) => steps_under(alloc, file.as_slice()),
         Err(_) => None,
     }
 }
