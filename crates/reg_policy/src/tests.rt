@@ -121,93 +121,170 @@ fn joined(alloc: Global, texts: &[&str]) -> Result<String, AllocError> {
 
 const RULE: &str = "[[rule]]\nnumber = 1\neffect = \"permit\"\n";
 
-/// Policies, and what reading them refuses.
-const POLICIES: [([&str; 2], Option<PolicyError>); 31] = [
-    (["", "[[rule"], Some(PolicyError::Syntax)),
-    (
-        [
-            "",
-            "[[rule]]\nnumber = 99999999999999999999\neffect = \"deny\"\n",
-        ],
-        Some(PolicyError::Syntax),
-    ),
-    (["", "other = 1\n"], Some(PolicyError::UnknownKey)),
-    (
-        [
-            "",
-            "[[rule]]\nnumber = 0\neffect = \"deny\"\n[[rule]]\ncolour = 1\n",
-        ],
-        Some(PolicyError::UnknownKey),
-    ),
-    (
-        ["", "rule = [3, { colour = 1 }]\n"],
-        Some(PolicyError::UnknownKey),
-    ),
-    (["", "[rule]\ncolour = 1\n"], Some(PolicyError::BadValue)),
-    (["", "rule = 3\n"], Some(PolicyError::BadValue)),
-    (["", "rule = [3]\n"], Some(PolicyError::BadValue)),
-    (["", "[[rule]]\nnumber = 1\n"], Some(PolicyError::BadValue)),
-    (
-        ["", "[[rule]]\neffect = \"deny\"\n"],
-        Some(PolicyError::BadValue),
-    ),
-    (
-        ["", "[[rule]]\nnumber = 0\neffect = \"deny\"\n"],
-        Some(PolicyError::BadValue),
-    ),
-    (
-        ["", "[[rule]]\nnumber = 10000\neffect = \"deny\"\n"],
-        Some(PolicyError::BadValue),
-    ),
-    (
-        ["", "[[rule]]\nnumber = 1\neffect = \"*\"\n"],
-        Some(PolicyError::BadValue),
-    ),
-    (
-        [
-            "",
-            "[[rule]]\nnumber = 2\neffect = \"deny\"\n[[rule]]\nnumber = 1\n",
-        ],
-        Some(PolicyError::BadValue),
-    ),
-    (
-        [
-            "",
-            "[[rule]]\nnumber = 20\neffect = \"deny\"\n[[rule]]\nnumber = 10\neffect = \"deny\"\n",
-        ],
-        Some(PolicyError::Order),
-    ),
-    (
-        [
-            "",
-            "[[rule]]\nnumber = 1\neffect = \"deny\"\n[[rule]]\nnumber = 1\neffect = \"deny\"\n",
-        ],
-        Some(PolicyError::Order),
-    ),
-    ([RULE, "colour = 1\n"], Some(PolicyError::UnknownKey)),
-    (
-        [RULE, "from = \"2024-06-02\"\n"],
-        Some(PolicyError::UnknownKey),
-    ),
-    ([RULE, "firm.x = \"a\"\n"], Some(PolicyError::BadValue)),
-    ([RULE, "firm = 3\n"], Some(PolicyError::BadValue)),
-    ([RULE, "firm = \"N 1\"\n"], Some(PolicyError::BadValue)),
-    ([RULE, "verb = \"read\"\n"], Some(PolicyError::BadValue)),
-    ([RULE, "group = \"LOCAS\"\n"], Some(PolicyError::BadValue)),
-    ([RULE, "owner = \"mine\"\n"], Some(PolicyError::BadValue)),
-    ([RULE, "embargo = \"over\"\n"], Some(PolicyError::BadValue)),
-    (
-        [RULE, "heading = \"LOCA_ID\"\n"],
-        Some(PolicyError::BadValue),
-    ),
-    ([RULE, "value = \"x\"\n"], Some(PolicyError::BadValue)),
-    (
-        [RULE, "heading = \"*\"\nvalue = \"x\"\n"],
-        Some(PolicyError::BadValue),
-    ),
-    ([RULE, "firm = \"*\"\n"], None),
-    ([RULE, "heading = \"LOCA_ID\"\nvalue = \"*\"\n"], None),
-    ([RULE, "heading = \"LOCA_ID\"\nvalue = \"\"\n"], None),
+/// A policy in two parts, and what reading it refuses.
+#[derive(Drop)]
+struct Spelt {
+    head: &'static str,
+    text: &'static str,
+    want: Option<PolicyError>,
+}
+
+const POLICIES: [Spelt; 31] = [
+    Spelt {
+        head: "",
+        text: "[[rule",
+        want: Some(PolicyError::Syntax),
+    },
+    Spelt {
+        head: "",
+        text: "[[rule]]\nnumber = 99999999999999999999\neffect = \"deny\"\n",
+        want: Some(PolicyError::Syntax),
+    },
+    Spelt {
+        head: "",
+        text: "other = 1\n",
+        want: Some(PolicyError::UnknownKey),
+    },
+    Spelt {
+        head: "",
+        text: "[[rule]]\nnumber = 0\neffect = \"deny\"\n[[rule]]\ncolour = 1\n",
+        want: Some(PolicyError::UnknownKey),
+    },
+    Spelt {
+        head: "",
+        text: "rule = [3, { colour = 1 }]\n",
+        want: Some(PolicyError::UnknownKey),
+    },
+    Spelt {
+        head: "",
+        text: "[rule]\ncolour = 1\n",
+        want: Some(PolicyError::BadValue),
+    },
+    Spelt {
+        head: "",
+        text: "rule = 3\n",
+        want: Some(PolicyError::BadValue),
+    },
+    Spelt {
+        head: "",
+        text: "rule = [3]\n",
+        want: Some(PolicyError::BadValue),
+    },
+    Spelt {
+        head: "",
+        text: "[[rule]]\nnumber = 1\n",
+        want: Some(PolicyError::BadValue),
+    },
+    Spelt {
+        head: "",
+        text: "[[rule]]\neffect = \"deny\"\n",
+        want: Some(PolicyError::BadValue),
+    },
+    Spelt {
+        head: "",
+        text: "[[rule]]\nnumber = 0\neffect = \"deny\"\n",
+        want: Some(PolicyError::BadValue),
+    },
+    Spelt {
+        head: "",
+        text: "[[rule]]\nnumber = 10000\neffect = \"deny\"\n",
+        want: Some(PolicyError::BadValue),
+    },
+    Spelt {
+        head: "",
+        text: "[[rule]]\nnumber = 1\neffect = \"*\"\n",
+        want: Some(PolicyError::BadValue),
+    },
+    Spelt {
+        head: "",
+        text: "[[rule]]\nnumber = 2\neffect = \"deny\"\n[[rule]]\nnumber = 1\n",
+        want: Some(PolicyError::BadValue),
+    },
+    Spelt {
+        head: "",
+        text: "[[rule]]\nnumber = 20\neffect = \"deny\"\n[[rule]]\nnumber = 10\neffect = \"deny\"\n",
+        want: Some(PolicyError::Order),
+    },
+    Spelt {
+        head: "",
+        text: "[[rule]]\nnumber = 1\neffect = \"deny\"\n[[rule]]\nnumber = 1\neffect = \"deny\"\n",
+        want: Some(PolicyError::Order),
+    },
+    Spelt {
+        head: RULE,
+        text: "colour = 1\n",
+        want: Some(PolicyError::UnknownKey),
+    },
+    Spelt {
+        head: RULE,
+        text: "from = \"2024-06-02\"\n",
+        want: Some(PolicyError::UnknownKey),
+    },
+    Spelt {
+        head: RULE,
+        text: "firm.x = \"a\"\n",
+        want: Some(PolicyError::BadValue),
+    },
+    Spelt {
+        head: RULE,
+        text: "firm = 3\n",
+        want: Some(PolicyError::BadValue),
+    },
+    Spelt {
+        head: RULE,
+        text: "firm = \"N 1\"\n",
+        want: Some(PolicyError::BadValue),
+    },
+    Spelt {
+        head: RULE,
+        text: "verb = \"read\"\n",
+        want: Some(PolicyError::BadValue),
+    },
+    Spelt {
+        head: RULE,
+        text: "group = \"LOCAS\"\n",
+        want: Some(PolicyError::BadValue),
+    },
+    Spelt {
+        head: RULE,
+        text: "owner = \"mine\"\n",
+        want: Some(PolicyError::BadValue),
+    },
+    Spelt {
+        head: RULE,
+        text: "embargo = \"over\"\n",
+        want: Some(PolicyError::BadValue),
+    },
+    Spelt {
+        head: RULE,
+        text: "heading = \"LOCA_ID\"\n",
+        want: Some(PolicyError::BadValue),
+    },
+    Spelt {
+        head: RULE,
+        text: "value = \"x\"\n",
+        want: Some(PolicyError::BadValue),
+    },
+    Spelt {
+        head: RULE,
+        text: "heading = \"*\"\nvalue = \"x\"\n",
+        want: Some(PolicyError::BadValue),
+    },
+    Spelt {
+        head: RULE,
+        text: "firm = \"*\"\n",
+        want: None,
+    },
+    Spelt {
+        head: RULE,
+        text: "heading = \"LOCA_ID\"\nvalue = \"*\"\n",
+        want: None,
+    },
+    Spelt {
+        head: RULE,
+        text: "heading = \"LOCA_ID\"\nvalue = \"\"\n",
+        want: None,
+    },
 ];
 
 /// The policy that the texts spell.
@@ -218,18 +295,18 @@ fn policy_of(alloc: Global, texts: &[&str]) -> Result<Policy, PolicyError> {
     }
 }
 
-/// Whether the texts are refused as wanted, or are a policy.
-fn is_policy(alloc: Global, texts: &[&str], want: Option<PolicyError>) -> bool {
-    match policy_of(alloc, texts) {
-        Ok(_) => want.is_none(),
-        Err(error) => want == Some(error),
+/// Whether a policy is read, or refused as wanted.
+fn is_policy(alloc: Global, case: &Spelt) -> bool {
+    match policy_of(alloc, &[case.head, case.text]) {
+        Ok(_) => case.want.is_none(),
+        Err(error) => case.want == Some(error),
     }
 }
 
 #[test]
 fn policies_read_or_refused(rt: HostRuntime) {
-    for (texts, want) in &POLICIES {
-        assert!(rt; is_policy(rt.alloc(), texts, *want), "{}", texts[1]);
+    for case in &POLICIES {
+        assert!(rt; is_policy(rt.alloc(), case), "{}", case.text);
     }
 }
 
@@ -643,51 +720,88 @@ const WHO: &str = "\"\nfirm = \"A\"\nrole = \"b\"\n";
 /// 64 characters.
 const LONGEST: &str = "1234567890123456789012345678901234567890123456789012345678901234";
 
-/// Callers, and what reading them refuses.
-const CALLERS: [([&str; 3], Option<CallersError>); 12] = [
-    (["", "[[caller", ""], Some(CallersError::Syntax)),
-    (["", "rule = []\n", ""], Some(CallersError::UnknownKey)),
-    (
-        [
-            "",
-            "[[caller]]\ntoken = \"a b\"\n[[caller]]\ncolour = 1\n",
-            "",
-        ],
-        Some(CallersError::UnknownKey),
-    ),
-    (
-        ["", "[[caller]]\ntoken = \"a\"\nfirm = \"A\"\n", ""],
-        Some(CallersError::BadValue),
-    ),
-    (
-        [
-            "",
-            "[[caller]]\ntoken = \"a\"\nfirm = \"A\"\nrole = \"*\"\n",
-            "",
-        ],
-        Some(CallersError::BadValue),
-    ),
-    (
-        [
-            "",
-            "[[caller]]\ntoken = \"a\"\nfirm = \"A\"\nrole = \"b\"\n[[caller]]\ntoken = \"c\"\nfirm = \"A\"\nrole = \"b\"\n[[caller]]\ntoken = \"a\"\nfirm = \"B\"\nrole = \"b\"\n",
-            "",
-        ],
-        Some(CallersError::DuplicateToken),
-    ),
-    ([TOKEN, "!~", WHO], None),
-    ([TOKEN, LONGEST, WHO], None),
-    ([TOKEN, "", WHO], Some(CallersError::BadValue)),
-    ([TOKEN, "a b", WHO], Some(CallersError::BadValue)),
-    ([TOKEN, "é", WHO], Some(CallersError::BadValue)),
-    (
-        [
-            TOKEN,
-            "12345678901234567890123456789012345678901234567890123456789012345",
-            WHO,
-        ],
-        Some(CallersError::BadValue),
-    ),
+/// Callers in three parts, and what reading them refuses.
+#[derive(Drop)]
+struct Signed {
+    head: &'static str,
+    text: &'static str,
+    tail: &'static str,
+    want: Option<CallersError>,
+}
+
+const CALLERS: [Signed; 12] = [
+    Signed {
+        head: "",
+        text: "[[caller",
+        tail: "",
+        want: Some(CallersError::Syntax),
+    },
+    Signed {
+        head: "",
+        text: "rule = []\n",
+        tail: "",
+        want: Some(CallersError::UnknownKey),
+    },
+    Signed {
+        head: "",
+        text: "[[caller]]\ntoken = \"a b\"\n[[caller]]\ncolour = 1\n",
+        tail: "",
+        want: Some(CallersError::UnknownKey),
+    },
+    Signed {
+        head: "",
+        text: "[[caller]]\ntoken = \"a\"\nfirm = \"A\"\n",
+        tail: "",
+        want: Some(CallersError::BadValue),
+    },
+    Signed {
+        head: "",
+        text: "[[caller]]\ntoken = \"a\"\nfirm = \"A\"\nrole = \"*\"\n",
+        tail: "",
+        want: Some(CallersError::BadValue),
+    },
+    Signed {
+        head: "",
+        text: "[[caller]]\ntoken = \"a\"\nfirm = \"A\"\nrole = \"b\"\n[[caller]]\ntoken = \"c\"\nfirm = \"A\"\nrole = \"b\"\n[[caller]]\ntoken = \"a\"\nfirm = \"B\"\nrole = \"b\"\n",
+        tail: "",
+        want: Some(CallersError::DuplicateToken),
+    },
+    Signed {
+        head: TOKEN,
+        text: "!~",
+        tail: WHO,
+        want: None,
+    },
+    Signed {
+        head: TOKEN,
+        text: LONGEST,
+        tail: WHO,
+        want: None,
+    },
+    Signed {
+        head: TOKEN,
+        text: "",
+        tail: WHO,
+        want: Some(CallersError::BadValue),
+    },
+    Signed {
+        head: TOKEN,
+        text: "a b",
+        tail: WHO,
+        want: Some(CallersError::BadValue),
+    },
+    Signed {
+        head: TOKEN,
+        text: "é",
+        tail: WHO,
+        want: Some(CallersError::BadValue),
+    },
+    Signed {
+        head: TOKEN,
+        text: "12345678901234567890123456789012345678901234567890123456789012345",
+        tail: WHO,
+        want: Some(CallersError::BadValue),
+    },
 ];
 
 /// The callers that the texts spell.
@@ -698,18 +812,18 @@ fn callers_of(alloc: Global, texts: &[&str]) -> Result<Callers, CallersError> {
     }
 }
 
-/// Whether the texts are refused as wanted, or are callers.
-fn are_callers(alloc: Global, texts: &[&str], want: Option<CallersError>) -> bool {
-    match callers_of(alloc, texts) {
-        Ok(_) => want.is_none(),
-        Err(error) => want == Some(error),
+/// Whether callers are read, or refused as wanted.
+fn are_callers(alloc: Global, case: &Signed) -> bool {
+    match callers_of(alloc, &[case.head, case.text, case.tail]) {
+        Ok(_) => case.want.is_none(),
+        Err(error) => case.want == Some(error),
     }
 }
 
 #[test]
 fn callers_read_or_refused(rt: HostRuntime) {
-    for (texts, want) in &CALLERS {
-        assert!(rt; are_callers(rt.alloc(), texts, *want), "{}", texts[1]);
+    for case in &CALLERS {
+        assert!(rt; are_callers(rt.alloc(), case), "{}", case.text);
     }
 }
 
