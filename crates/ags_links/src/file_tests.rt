@@ -172,8 +172,27 @@ fn dictionary(alloc: Global) -> Option<Dictionary> {
     Dictionary::read(alloc, mini).ok()
 }
 
+/// The file that is edited.
+#[derive(Clone, Copy)]
+enum Base {
+    A,
+    B,
+    C,
+    Files,
+}
+
+/// The bytes of the file.
+fn bytes_of(base: Base) -> &'static [u8] {
+    match base {
+        Base::A => FILE_A,
+        Base::B => FILE_B,
+        Base::C => FILE_C,
+        Base::Files => FILES,
+    }
+}
+
 /// A file, what is replaced in it, what is asked, and the answer.
-type Case = (&'static [u8], &'static [Edit], Ask, &'static str);
+type Case = (Base, &'static [Edit], Ask, &'static str);
 
 const LINK: &[u8] = b"SAMP|BH1|3.00|S9";
 
@@ -186,51 +205,51 @@ const STEPS_OF_C: &str = "15 rows;7>0;8>0;9>7;9>11;10>8;11>7;11>9;12>7;12>9;13>9
 const BROKEN: &[Edit] = &[(b"|3.00|S9\"", b"|3.00|S9+SAMP|BH1|9.00|S9\"")];
 
 const CASES: [Case; 23] = [
-    (FILE_A, &[], Ask::Steps, "6 rows;5>0;"),
-    (FILE_B, &[], Ask::Steps, STEPS_OF_B),
-    (FILE_C, &[], Ask::Steps, STEPS_OF_C),
-    (FILES, &[], Ask::Steps, "4 rows;0>1;0>2;"),
-    (FILE_C, BROKEN, Ask::Link(9), "broken"),
-    (FILE_C, BROKEN, Ask::Steps, STEPS_OF_C),
-    (FILE_C, &[], Ask::Link(10), "broken"),
-    (FILE_C, &[(LINK, LINK)], Ask::Link(9), "11;"),
+    (Base::A, &[], Ask::Steps, "6 rows;5>0;"),
+    (Base::B, &[], Ask::Steps, STEPS_OF_B),
+    (Base::C, &[], Ask::Steps, STEPS_OF_C),
+    (Base::Files, &[], Ask::Steps, "4 rows;0>1;0>2;"),
+    (Base::C, BROKEN, Ask::Link(9), "broken"),
+    (Base::C, BROKEN, Ask::Steps, STEPS_OF_C),
+    (Base::C, &[], Ask::Link(10), "broken"),
+    (Base::C, &[(LINK, LINK)], Ask::Link(9), "11;"),
     (
-        FILE_C,
+        Base::C,
         &[(LINK, b"SAMP|BH1|9.00|S9")],
         Ask::Link(9),
         "broken",
     ),
     (
-        FILE_C,
+        Base::C,
         &[(LINK, b"SAMP|BH1|3.00|S9+SAMP|BH1|9.00|S9")],
         Ask::Link(9),
         "broken",
     ),
     (
-        FILE_C,
+        Base::C,
         &[(LINK, b"SAMP|BH1|3.00|S9+")],
         Ask::Link(9),
         "broken",
     ),
-    (FILE_C, &[(LINK, b"SAMP|BH1|3.00")], Ask::Link(9), "broken"),
-    (FILE_C, &[(LINK, b"")], Ask::Link(9), "broken"),
-    (FILE_C, &[(LINK, b"PROJ|P7")], Ask::Link(9), "0;"),
+    (Base::C, &[(LINK, b"SAMP|BH1|3.00")], Ask::Link(9), "broken"),
+    (Base::C, &[(LINK, b"")], Ask::Link(9), "broken"),
+    (Base::C, &[(LINK, b"PROJ|P7")], Ask::Link(9), "0;"),
     (
-        FILE_C,
+        Base::C,
         &[(LINK, b"SAMP|BH1|3.00|S9+PROJ|P7+SAMP|BH1|3.00|S9")],
         Ask::Link(9),
         "0;11;",
     ),
     // other separators in TRAN
     (
-        FILE_C,
+        Base::C,
         &[(b"\"|\",\"+\"", b"\"/\",\"\""), (LINK, b"SAMP/BH1/3.00/S9")],
         Ask::Link(9),
         "11;",
     ),
     // two rows of one key
     (
-        FILE_B,
+        Base::B,
         &[(
             b"\"BH2\",\"2.00\",\"S2\",\"\"",
             b"\"BH1\",\"1.50\",\"S1\",\"\"",
@@ -238,18 +257,18 @@ const CASES: [Case; 23] = [
         Ask::Files(10),
         "9;",
     ),
-    (FILES, &[], Ask::Files(0), "0;has 1;2;"),
-    (FILES, &[], Ask::Files(3), "3;has 3;"),
-    (FILE_B, &[], Ask::Parents(0), ""),
-    (FILE_B, &[], Ask::Parents(7), "has 0;"),
-    (FILE_B, &[], Ask::Parents(10), "has 8;"),
-    (FILE_B, &[], Ask::Parents(12), "has 10;"),
+    (Base::Files, &[], Ask::Files(0), "0;has 1;2;"),
+    (Base::Files, &[], Ask::Files(3), "3;has 3;"),
+    (Base::B, &[], Ask::Parents(0), ""),
+    (Base::B, &[], Ask::Parents(7), "has 0;"),
+    (Base::B, &[], Ask::Parents(10), "has 8;"),
+    (Base::B, &[], Ask::Parents(12), "has 10;"),
 ];
 
 /// Whether what is asked of a case's file is answered as wanted.
 fn agrees(alloc: Global, mini: &Dictionary, case: &Case) -> bool {
     let (file, edits, ask, want) = case;
-    match edited(alloc, file, edits) {
+    match edited(alloc, bytes_of(*file), edits) {
         Ok(file) => answers(alloc, mini, file.as_slice(), *ask, want),
         Err(_) => false,
     }
