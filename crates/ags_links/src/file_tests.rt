@@ -192,7 +192,13 @@ fn bytes_of(base: Base) -> &'static [u8] {
 }
 
 /// A file, what is replaced in it, what is asked, and the answer.
-type Case = (Base, &'static [Edit], Ask, &'static str);
+#[derive(Drop)]
+struct Case {
+    file: Base,
+    edits: &'static [Edit],
+    ask: Ask,
+    want: &'static str,
+}
 
 const LINK: &[u8] = b"SAMP|BH1|3.00|S9";
 
@@ -205,71 +211,155 @@ const STEPS_OF_C: &str = "15 rows;7>0;8>0;9>7;9>11;10>8;11>7;11>9;12>7;12>9;13>9
 const BROKEN: &[Edit] = &[(b"|3.00|S9\"", b"|3.00|S9+SAMP|BH1|9.00|S9\"")];
 
 const CASES: [Case; 23] = [
-    (Base::A, &[], Ask::Steps, "6 rows;5>0;"),
-    (Base::B, &[], Ask::Steps, STEPS_OF_B),
-    (Base::C, &[], Ask::Steps, STEPS_OF_C),
-    (Base::Files, &[], Ask::Steps, "4 rows;0>1;0>2;"),
-    (Base::C, BROKEN, Ask::Link(9), "broken"),
-    (Base::C, BROKEN, Ask::Steps, STEPS_OF_C),
-    (Base::C, &[], Ask::Link(10), "broken"),
-    (Base::C, &[(LINK, LINK)], Ask::Link(9), "11;"),
-    (
-        Base::C,
-        &[(LINK, b"SAMP|BH1|9.00|S9")],
-        Ask::Link(9),
-        "broken",
-    ),
-    (
-        Base::C,
-        &[(LINK, b"SAMP|BH1|3.00|S9+SAMP|BH1|9.00|S9")],
-        Ask::Link(9),
-        "broken",
-    ),
-    (
-        Base::C,
-        &[(LINK, b"SAMP|BH1|3.00|S9+")],
-        Ask::Link(9),
-        "broken",
-    ),
-    (Base::C, &[(LINK, b"SAMP|BH1|3.00")], Ask::Link(9), "broken"),
-    (Base::C, &[(LINK, b"")], Ask::Link(9), "broken"),
-    (Base::C, &[(LINK, b"PROJ|P7")], Ask::Link(9), "0;"),
-    (
-        Base::C,
-        &[(LINK, b"SAMP|BH1|3.00|S9+PROJ|P7+SAMP|BH1|3.00|S9")],
-        Ask::Link(9),
-        "0;11;",
-    ),
+    Case {
+        file: Base::A,
+        edits: &[],
+        ask: Ask::Steps,
+        want: "6 rows;5>0;",
+    },
+    Case {
+        file: Base::B,
+        edits: &[],
+        ask: Ask::Steps,
+        want: STEPS_OF_B,
+    },
+    Case {
+        file: Base::C,
+        edits: &[],
+        ask: Ask::Steps,
+        want: STEPS_OF_C,
+    },
+    Case {
+        file: Base::Files,
+        edits: &[],
+        ask: Ask::Steps,
+        want: "4 rows;0>1;0>2;",
+    },
+    Case {
+        file: Base::C,
+        edits: BROKEN,
+        ask: Ask::Link(9),
+        want: "broken",
+    },
+    Case {
+        file: Base::C,
+        edits: BROKEN,
+        ask: Ask::Steps,
+        want: STEPS_OF_C,
+    },
+    Case {
+        file: Base::C,
+        edits: &[],
+        ask: Ask::Link(10),
+        want: "broken",
+    },
+    Case {
+        file: Base::C,
+        edits: &[(LINK, LINK)],
+        ask: Ask::Link(9),
+        want: "11;",
+    },
+    Case {
+        file: Base::C,
+        edits: &[(LINK, b"SAMP|BH1|9.00|S9")],
+        ask: Ask::Link(9),
+        want: "broken",
+    },
+    Case {
+        file: Base::C,
+        edits: &[(LINK, b"SAMP|BH1|3.00|S9+SAMP|BH1|9.00|S9")],
+        ask: Ask::Link(9),
+        want: "broken",
+    },
+    Case {
+        file: Base::C,
+        edits: &[(LINK, b"SAMP|BH1|3.00|S9+")],
+        ask: Ask::Link(9),
+        want: "broken",
+    },
+    Case {
+        file: Base::C,
+        edits: &[(LINK, b"SAMP|BH1|3.00")],
+        ask: Ask::Link(9),
+        want: "broken",
+    },
+    Case {
+        file: Base::C,
+        edits: &[(LINK, b"")],
+        ask: Ask::Link(9),
+        want: "broken",
+    },
+    Case {
+        file: Base::C,
+        edits: &[(LINK, b"PROJ|P7")],
+        ask: Ask::Link(9),
+        want: "0;",
+    },
+    Case {
+        file: Base::C,
+        edits: &[(LINK, b"SAMP|BH1|3.00|S9+PROJ|P7+SAMP|BH1|3.00|S9")],
+        ask: Ask::Link(9),
+        want: "0;11;",
+    },
     // other separators in TRAN
-    (
-        Base::C,
-        &[(b"\"|\",\"+\"", b"\"/\",\"\""), (LINK, b"SAMP/BH1/3.00/S9")],
-        Ask::Link(9),
-        "11;",
-    ),
+    Case {
+        file: Base::C,
+        edits: &[(b"\"|\",\"+\"", b"\"/\",\"\""), (LINK, b"SAMP/BH1/3.00/S9")],
+        ask: Ask::Link(9),
+        want: "11;",
+    },
     // two rows of one key
-    (
-        Base::B,
-        &[(
+    Case {
+        file: Base::B,
+        edits: &[(
             b"\"BH2\",\"2.00\",\"S2\",\"\"",
             b"\"BH1\",\"1.50\",\"S1\",\"\"",
         )],
-        Ask::Files(10),
-        "9;",
-    ),
-    (Base::Files, &[], Ask::Files(0), "0;has 1;2;"),
-    (Base::Files, &[], Ask::Files(3), "3;has 3;"),
-    (Base::B, &[], Ask::Parents(0), ""),
-    (Base::B, &[], Ask::Parents(7), "has 0;"),
-    (Base::B, &[], Ask::Parents(10), "has 8;"),
-    (Base::B, &[], Ask::Parents(12), "has 10;"),
+        ask: Ask::Files(10),
+        want: "9;",
+    },
+    Case {
+        file: Base::Files,
+        edits: &[],
+        ask: Ask::Files(0),
+        want: "0;has 1;2;",
+    },
+    Case {
+        file: Base::Files,
+        edits: &[],
+        ask: Ask::Files(3),
+        want: "3;has 3;",
+    },
+    Case {
+        file: Base::B,
+        edits: &[],
+        ask: Ask::Parents(0),
+        want: "",
+    },
+    Case {
+        file: Base::B,
+        edits: &[],
+        ask: Ask::Parents(7),
+        want: "has 0;",
+    },
+    Case {
+        file: Base::B,
+        edits: &[],
+        ask: Ask::Parents(10),
+        want: "has 8;",
+    },
+    Case {
+        file: Base::B,
+        edits: &[],
+        ask: Ask::Parents(12),
+        want: "has 10;",
+    },
 ];
 
 /// Whether what is asked of a case's file is answered as wanted.
 fn agrees(alloc: Global, mini: &Dictionary, case: &Case) -> bool {
-    let (file, edits, ask, want) = case;
-    match edited(alloc, bytes_of(*file), edits) {
-        Ok(file) => answers(alloc, mini, file.as_slice(), *ask, want),
+    match edited(alloc, bytes_of(case.file), case.edits) {
+        Ok(file) => answers(alloc, mini, file.as_slice(), case.ask, case.want),
         Err(_) => false,
     }
 }
@@ -285,7 +375,7 @@ fn answers(alloc: Global, mini: &Dictionary, file: &[u8], ask: Ask, want: &str) 
 fn first_wrong(alloc: Global, mini: &Dictionary) -> Option<&'static str> {
     for case in &CASES {
         if !agrees(alloc, mini, case) {
-            return Some(case.3);
+            return Some(case.want);
         }
     }
     None
