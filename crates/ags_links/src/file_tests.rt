@@ -1,10 +1,10 @@
+//! The worked examples of files. Where memory wants, no answer is the wanted one.
 use crate::{Graph, Index, Targets};
 use ags_dict::Dictionary;
 use ags_rows::vectors::{FILE_A, FILE_B, FILE_C, MINI};
 use ags_rows::{READABLE, Scan};
+use std::alloc::{AllocError, Global};
 use std::fmt::Write;
-use std::process::Abort;
-use std::test::Fail;
 
 /// A file whose PROJ row has a set of two files; a third file is of another set.
 const FILES: &[u8] = b"\
@@ -23,53 +23,9 @@ const FILES: &[u8] = b"\
 \"DATA\",\"F2\",\"c.pdf\"\r\n\
 ";
 
-/// The dictionary that the files are read under.
-fn dictionary(rt: &(impl Abort + AllocGlobal)) -> Dictionary {
-    assert!(rt; MINI.len() <= READABLE);
-    match Dictionary::read(rt.alloc(), MINI) {
-        Ok(dictionary) => dictionary,
-        Err(_) => panic!(rt; "no dictionary"),
-    }
-}
-
-/// The groups of a file.
-fn scanned<'f>(rt: &(impl Abort + AllocGlobal), file: &'f [u8]) -> Scan<'f> {
-    assert!(rt; file.len() <= READABLE);
-    match Scan::read(rt.alloc(), file) {
-        Ok(scan) => scan,
-        Err(_) => panic!(rt; "the file has findings"),
-    }
-}
-
-/// The graph of a file.
-fn graph_of(rt: &(impl Abort + AllocGlobal), file: &[u8]) -> Result<Graph, Fail> {
-    let dictionary = dictionary(rt);
-    let scan = scanned(rt, file);
-    let index = Index::build(rt.alloc(), &scan, &dictionary)?;
-    Ok(Graph::of(rt.alloc(), &index)?)
-}
-
-/// What stands in a row under a heading, read as a record link; none where it is broken.
-fn linked(
-    rt: &(impl Abort + AllocGlobal),
-    file: &[u8],
-    row: u32,
-    heading: &[u8],
-) -> Result<Option<Vec<u32>>, Fail> {
-    let dictionary = dictionary(rt);
-    let scan = scanned(rt, file);
-    let index = Index::build(rt.alloc(), &scan, &dictionary)?;
-    let graph = Graph::of(rt.alloc(), &index)?;
-    assert!(rt; row < graph.rows());
-    match index.link_targets(row, heading)? {
-        Targets::Rows(rows) => Ok(Some(rows)),
-        Targets::Broken => Ok(None),
-    }
-}
-
-/// The file with the first place of a text replaced.
-fn edited(rt: &impl AllocGlobal, file: &[u8], old: &[u8], new: &[u8]) -> Result<Vec<u8>, Fail> {
-    let mut text = Vec::new(rt.alloc());
+/// The bytes with the first place of a text replaced.
+fn replaced(alloc: Global, file: &[u8], old: &[u8], new: &[u8]) -> Result<Vec<u8>, AllocError> {
+    let mut text = Vec::new(alloc);
     for (place, byte) in file.iter().enumerate() {
         if let Some(behind) = file[place..].strip_prefix(old) {
             text.extend_from_slice(new)?;
@@ -81,154 +37,363 @@ fn edited(rt: &impl AllocGlobal, file: &[u8], old: &[u8], new: &[u8]) -> Result<
     Ok(text)
 }
 
-/// The steps of the third file: of rows to their parents, and of record links.
-const STEPS_OF_C: &[(u32, u32)] = &[
-    (7, 0),
-    (8, 0),
-    (9, 7),
-    (9, 11),
-    (10, 8),
-    (11, 7),
-    (11, 9),
-    (12, 7),
-    (12, 9),
-    (13, 9),
-    (14, 10),
-];
+/// A text, and what stands in its place.
+type Edit = (&'static [u8], &'static [u8]);
 
-const STEPS_OF_B: &[(u32, u32)] = &[(7, 0), (8, 0), (9, 7), (10, 8), (11, 9), (12, 10)];
-
-#[test]
-fn steps_of_files(rt: HostRuntime) -> Result<(), Fail> {
-    for (file, rows, steps) in [
-        (FILE_A, 6, [(5, 0)].as_slice()),
-        (FILE_B, 13, STEPS_OF_B),
-        (FILE_C, 15, STEPS_OF_C),
-        (FILES, 4, [(0, 1), (0, 2)].as_slice()),
-    ] {
-        let graph = graph_of(&rt, file)?;
-        assert!(rt; graph.rows() == rows);
-        assert!(rt; graph.steps() == steps, "{rows} rows");
-    }
-    Ok(())
-}
-
-#[test]
-fn broken_links_step_by_their_sound_parts(rt: HostRuntime) -> Result<(), Fail> {
-    let file = edited(&rt, FILE_C, b"|3.00|S9\"", b"|3.00|S9+SAMP|BH1|9.00|S9\"")?;
-    assert!(rt; linked(&rt, &file, 9, b"SAMP_LINK")?.is_none());
-    let graph = graph_of(&rt, &file)?;
-    assert!(rt; graph.steps().contains(&(9, 11)));
-    Ok(())
-}
-
-#[test]
-fn a_null_names_no_row(rt: HostRuntime) -> Result<(), Fail> {
-    assert!(rt; linked(&rt, FILE_C, 10, b"SAMP_LINK")?.is_none());
-    Ok(())
-}
-
-/// What row 9 of the third file names with another record link, as text.
-fn named_by(rt: &(impl Abort + AllocGlobal), link: &str) -> Result<String, Fail> {
-    let file = edited(rt, FILE_C, b"SAMP|BH1|3.00|S9", link.as_bytes())?;
-    let mut text = String::new(rt.alloc());
-    match linked(rt, &file, 9, b"SAMP_LINK")? {
-        Some(rows) => {
-            for row in &rows {
-                write!(text, "{row};")?;
-            }
-        }
-        None => text.push_str("broken")?,
+/// A file with texts replaced, one after the other.
+fn edited(alloc: Global, file: &[u8], edits: &[Edit]) -> Result<Vec<u8>, AllocError> {
+    let mut text = Vec::from_slice(alloc, file)?;
+    for (old, new) in edits {
+        text = replaced(alloc, text.as_slice(), old, new)?;
     }
     Ok(text)
 }
 
-#[test]
-fn what_links_name(rt: HostRuntime) -> Result<(), Fail> {
-    for (link, want) in [
-        ("SAMP|BH1|3.00|S9", "11;"),
-        ("SAMP|BH1|9.00|S9", "broken"),
-        ("SAMP|BH1|3.00|S9+SAMP|BH1|9.00|S9", "broken"),
-        ("SAMP|BH1|3.00|S9+", "broken"),
-        ("SAMP|BH1|3.00", "broken"),
-        ("", "broken"),
-        ("PROJ|P7", "0;"),
-        ("SAMP|BH1|3.00|S9+PROJ|P7+SAMP|BH1|3.00|S9", "0;11;"),
-    ] {
-        assert!(rt; named_by(&rt, link)?.as_str() == want, "{link}");
+/// What is asked of a file's index.
+#[derive(Clone, Copy)]
+enum Ask {
+    /// How many rows and steps the graph has.
+    Counts,
+    /// The graph's rows and steps.
+    Steps,
+    /// Whether a row has a parent, and the parent rows.
+    Parents(u32),
+    /// The rows that a row's SAMP_LINK names.
+    Link(u32),
+    /// The first row with a row's key, whether it has files, and the rows of FILE with its FILE_FSET.
+    Files(u32),
+}
+
+/// Tells rows.
+fn tell_rows(text: &mut String, rows: &[u32]) -> Result<(), AllocError> {
+    for row in rows {
+        write!(text, "{row};")?;
     }
     Ok(())
 }
 
-#[test]
-fn separators_of_tran(rt: HostRuntime) -> Result<(), Fail> {
-    let file = edited(&rt, FILE_C, b"\"|\",\"+\"", b"\"/\",\"\"")?;
-    let file = edited(&rt, &file, b"SAMP|BH1|3.00|S9", b"SAMP/BH1/3.00/S9")?;
-    let Some(rows) = linked(&rt, &file, 9, b"SAMP_LINK")? else {
-        panic!(rt; "the link is broken");
-    };
-    assert!(rt; rows.as_slice() == [11].as_slice());
-    Ok(())
+/// Tells how many rows and steps a graph has.
+fn tell_counts(text: &mut String, graph: &Graph) -> Result<(), AllocError> {
+    let rows = graph.rows();
+    let steps = graph.steps().len();
+    Ok(write!(text, "{rows} rows, {steps} steps")?)
 }
 
-/// The first row with the row's key, and the rows of FILE with its FILE_FSET.
-fn asked(rt: &(impl Abort + AllocGlobal), file: &[u8], row: u32) -> Result<(u32, Vec<u32>), Fail> {
-    let dictionary = dictionary(rt);
-    let scan = scanned(rt, file);
-    let index = Index::build(rt.alloc(), &scan, &dictionary)?;
-    assert!(rt; row < Graph::of(rt.alloc(), &index)?.rows());
-    let files = index.files(row)?;
-    assert!(rt; index.has_file(row) == !files.is_empty());
-    Ok((index.first_of_key(row)?, files))
-}
-
-#[test]
-fn equal_keys(rt: HostRuntime) -> Result<(), Fail> {
-    let file = edited(
-        &rt,
-        FILE_B,
-        b"\"BH2\",\"2.00\",\"S2\",\"\"",
-        b"\"BH1\",\"1.50\",\"S1\",\"\"",
-    )?;
-    let (first, files) = asked(&rt, &file, 10)?;
-    assert!(rt; first == 9);
-    assert!(rt; files.len() == 0);
-    Ok(())
-}
-
-#[test]
-fn rows_of_a_set(rt: HostRuntime) -> Result<(), Fail> {
-    let (_, files) = asked(&rt, FILES, 0)?;
-    assert!(rt; files.as_slice() == [1, 2].as_slice());
-    let (first, files) = asked(&rt, FILES, 3)?;
-    assert!(rt; first == 3);
-    assert!(rt; files.as_slice() == [3].as_slice());
-    Ok(())
-}
-
-/// The parent rows of a row.
-fn parents_of(rt: &(impl Abort + AllocGlobal), file: &[u8], row: u32) -> Result<Vec<u32>, Fail> {
-    let dictionary = dictionary(rt);
-    let scan = scanned(rt, file);
-    let index = Index::build(rt.alloc(), &scan, &dictionary)?;
-    assert!(rt; row < Graph::of(rt.alloc(), &index)?.rows());
-    let parents = index.parents(row)?;
-    assert!(rt; index.has_parent(row)? == !parents.is_empty());
-    Ok(parents)
-}
-
-#[test]
-fn parents_of_rows(rt: HostRuntime) -> Result<(), Fail> {
-    for (row, want) in [
-        (0, [].as_slice()),
-        (7, [0].as_slice()),
-        (10, [8].as_slice()),
-        (12, [10].as_slice()),
-    ] {
-        let parents = parents_of(&rt, FILE_B, row)?;
-        assert!(rt; parents.as_slice() == want, "row {row}");
+/// Tells a graph's rows and steps.
+fn tell_steps(text: &mut String, graph: &Graph) -> Result<(), AllocError> {
+    let rows = graph.rows();
+    write!(text, "{rows} rows;")?;
+    for (row, target) in graph.steps() {
+        write!(text, "{row}>{target};")?;
     }
     Ok(())
+}
+
+/// Tells a row's parents.
+fn tell_parents(text: &mut String, index: &Index, row: u32) -> Result<(), AllocError> {
+    if row >= index.row_count() {
+        return text.push_str("no such row");
+    }
+    if index.has_parent(row)? {
+        text.push_str("has ")?;
+    }
+    tell_rows(text, index.parents(row)?.as_slice())
+}
+
+/// Tells what a row's record link names.
+fn tell_link(text: &mut String, index: &Index, row: u32) -> Result<(), AllocError> {
+    if row >= index.row_count() {
+        return text.push_str("no such row");
+    }
+    match index.link_targets(row, b"SAMP_LINK")? {
+        Targets::Rows(rows) => tell_rows(text, rows.as_slice()),
+        Targets::Broken => text.push_str("broken"),
+    }
+}
+
+/// Tells the first row with a row's key, and its files.
+fn tell_files(text: &mut String, index: &Index, row: u32) -> Result<(), AllocError> {
+    if row >= index.row_count() {
+        return text.push_str("no such row");
+    }
+    tell_rows(text, &[index.first_of_key(row)?])?;
+    if index.has_file(row) {
+        text.push_str("has ")?;
+    }
+    tell_rows(text, index.files(row)?.as_slice())
+}
+
+/// Tells what is asked.
+fn tell(alloc: Global, text: &mut String, index: &Index, ask: Ask) -> Result<(), AllocError> {
+    match ask {
+        Ask::Counts => tell_counts(text, &Graph::of(alloc, index)?),
+        Ask::Steps => tell_steps(text, &Graph::of(alloc, index)?),
+        Ask::Parents(row) => tell_parents(text, index, row),
+        Ask::Link(row) => tell_link(text, index, row),
+        Ask::Files(row) => tell_files(text, index, row),
+    }
+}
+
+/// Tells what is asked of the groups of a file.
+fn tell_groups(
+    alloc: Global,
+    text: &mut String,
+    mini: &Dictionary,
+    scan: &Scan,
+    ask: Ask,
+) -> Result<(), AllocError> {
+    let index = Index::build(alloc, scan, mini)?;
+    tell(alloc, text, &index, ask)
+}
+
+/// Tells what is asked of a file.
+fn tell_file(
+    alloc: Global,
+    text: &mut String,
+    mini: &Dictionary,
+    file: &[u8],
+    ask: Ask,
+) -> Result<(), AllocError> {
+    if file.len() > READABLE {
+        return text.push_str("too large");
+    }
+    match Scan::read(alloc, file) {
+        Ok(scan) => tell_groups(alloc, text, mini, &scan, ask),
+        Err(_) => text.push_str("findings"),
+    }
+}
+
+/// The dictionary that the files are read under.
+fn dictionary(alloc: Global) -> Option<Dictionary> {
+    let mini = MINI;
+    if mini.len() > READABLE {
+        return None;
+    }
+    Dictionary::read(alloc, mini).ok()
+}
+
+/// The file that is edited.
+#[derive(Clone, Copy)]
+enum Base {
+    A,
+    B,
+    C,
+    Files,
+}
+
+/// The bytes of the file.
+fn bytes_of(base: Base) -> &'static [u8] {
+    match base {
+        Base::A => FILE_A,
+        Base::B => FILE_B,
+        Base::C => FILE_C,
+        Base::Files => FILES,
+    }
+}
+
+/// A file, what is replaced in it, what is asked, and the answer.
+#[derive(Drop)]
+struct Case {
+    file: Base,
+    edits: &'static [Edit],
+    ask: Ask,
+    want: &'static str,
+}
+
+const LINK: &[u8] = b"SAMP|BH1|3.00|S9";
+
+/// Steps of rows to their parents, and of record links.
+const STEPS_OF_B: &str = "13 rows;7>0;8>0;9>7;10>8;11>9;12>10;";
+
+const STEPS_OF_C: &str = "15 rows;7>0;8>0;9>7;9>11;10>8;11>7;11>9;12>7;12>9;13>9;14>10;";
+
+/// A link of two parts, the second of which names no row.
+const BROKEN: &[Edit] = &[(b"|3.00|S9\"", b"|3.00|S9+SAMP|BH1|9.00|S9\"")];
+
+const CASES: [Case; 23] = [
+    Case {
+        file: Base::A,
+        edits: &[],
+        ask: Ask::Steps,
+        want: "6 rows;5>0;",
+    },
+    Case {
+        file: Base::B,
+        edits: &[],
+        ask: Ask::Steps,
+        want: STEPS_OF_B,
+    },
+    Case {
+        file: Base::C,
+        edits: &[],
+        ask: Ask::Steps,
+        want: STEPS_OF_C,
+    },
+    Case {
+        file: Base::Files,
+        edits: &[],
+        ask: Ask::Steps,
+        want: "4 rows;0>1;0>2;",
+    },
+    Case {
+        file: Base::C,
+        edits: BROKEN,
+        ask: Ask::Link(9),
+        want: "broken",
+    },
+    Case {
+        file: Base::C,
+        edits: BROKEN,
+        ask: Ask::Steps,
+        want: STEPS_OF_C,
+    },
+    Case {
+        file: Base::C,
+        edits: &[],
+        ask: Ask::Link(10),
+        want: "broken",
+    },
+    Case {
+        file: Base::C,
+        edits: &[(LINK, LINK)],
+        ask: Ask::Link(9),
+        want: "11;",
+    },
+    Case {
+        file: Base::C,
+        edits: &[(LINK, b"SAMP|BH1|9.00|S9")],
+        ask: Ask::Link(9),
+        want: "broken",
+    },
+    Case {
+        file: Base::C,
+        edits: &[(LINK, b"SAMP|BH1|3.00|S9+SAMP|BH1|9.00|S9")],
+        ask: Ask::Link(9),
+        want: "broken",
+    },
+    Case {
+        file: Base::C,
+        edits: &[(LINK, b"SAMP|BH1|3.00|S9+")],
+        ask: Ask::Link(9),
+        want: "broken",
+    },
+    Case {
+        file: Base::C,
+        edits: &[(LINK, b"SAMP|BH1|3.00")],
+        ask: Ask::Link(9),
+        want: "broken",
+    },
+    Case {
+        file: Base::C,
+        edits: &[(LINK, b"")],
+        ask: Ask::Link(9),
+        want: "broken",
+    },
+    Case {
+        file: Base::C,
+        edits: &[(LINK, b"PROJ|P7")],
+        ask: Ask::Link(9),
+        want: "0;",
+    },
+    Case {
+        file: Base::C,
+        edits: &[(LINK, b"SAMP|BH1|3.00|S9+PROJ|P7+SAMP|BH1|3.00|S9")],
+        ask: Ask::Link(9),
+        want: "0;11;",
+    },
+    // other separators in TRAN
+    Case {
+        file: Base::C,
+        edits: &[(b"\"|\",\"+\"", b"\"/\",\"\""), (LINK, b"SAMP/BH1/3.00/S9")],
+        ask: Ask::Link(9),
+        want: "11;",
+    },
+    // two rows of one key
+    Case {
+        file: Base::B,
+        edits: &[(
+            b"\"BH2\",\"2.00\",\"S2\",\"\"",
+            b"\"BH1\",\"1.50\",\"S1\",\"\"",
+        )],
+        ask: Ask::Files(10),
+        want: "9;",
+    },
+    Case {
+        file: Base::Files,
+        edits: &[],
+        ask: Ask::Files(0),
+        want: "0;has 1;2;",
+    },
+    Case {
+        file: Base::Files,
+        edits: &[],
+        ask: Ask::Files(3),
+        want: "3;has 3;",
+    },
+    Case {
+        file: Base::B,
+        edits: &[],
+        ask: Ask::Parents(0),
+        want: "",
+    },
+    Case {
+        file: Base::B,
+        edits: &[],
+        ask: Ask::Parents(7),
+        want: "has 0;",
+    },
+    Case {
+        file: Base::B,
+        edits: &[],
+        ask: Ask::Parents(10),
+        want: "has 8;",
+    },
+    Case {
+        file: Base::B,
+        edits: &[],
+        ask: Ask::Parents(12),
+        want: "has 10;",
+    },
+];
+
+/// Whether what is asked of a case's file is answered as wanted.
+fn agrees(alloc: Global, mini: &Dictionary, case: &Case) -> bool {
+    match edited(alloc, bytes_of(case.file), case.edits) {
+        Ok(file) => answers(alloc, mini, file.as_slice(), case.ask, case.want),
+        Err(_) => false,
+    }
+}
+
+/// Whether what is asked of a file is answered by a text.
+fn answers(alloc: Global, mini: &Dictionary, file: &[u8], ask: Ask, want: &str) -> bool {
+    let mut text = String::new(alloc);
+    let told = tell_file(alloc, &mut text, mini, file, ask).is_ok();
+    told && text.as_str() == want
+}
+
+/// What the first case that is not answered as wanted should be answered by.
+fn first_wrong(alloc: Global, mini: &Dictionary) -> Option<&'static str> {
+    for case in &CASES {
+        if !agrees(alloc, mini, case) {
+            return Some(case.want);
+        }
+    }
+    None
+}
+
+/// The same, under MINI.
+fn wrong(alloc: Global) -> Option<&'static str> {
+    match dictionary(alloc) {
+        Some(mini) => first_wrong(alloc, &mini),
+        None => Some("a dictionary"),
+    }
+}
+
+#[test]
+fn files_answer(rt: HostRuntime) {
+    if let Some(want) = wrong(rt.alloc()) {
+        panic!(rt; "not {want}");
+    }
 }
 
 /// The header rows of the groups that the large file has.
@@ -242,7 +407,7 @@ const TESTS: &str =
     "\"GROUP\",\"LNMC\"\r\n\"HEADING\",\"LOCA_ID\",\"SAMP_TOP\",\"SAMP_REF\"\r\n\"UNIT\",\"\",\"m\",\"\"\r\n\"TYPE\",\"ID\",\"2DP\",\"X\"\r\n";
 
 /// A group of 20,000 rows, of 1,000 boreholes in turn.
-fn add_samples(text: &mut String, header: &str) -> Result<(), Fail> {
+fn add_samples(text: &mut String, header: &str) -> Result<(), AllocError> {
     text.push_str(header)?;
     for sample in 0..20_000 {
         let hole = sample % 1_000;
@@ -251,17 +416,41 @@ fn add_samples(text: &mut String, header: &str) -> Result<(), Fail> {
     Ok(())
 }
 
-#[test]
-fn forty_thousand_rows(rt: HostRuntime) -> Result<(), Fail> {
-    let mut text = String::new(rt.alloc());
+/// 1,000 boreholes.
+fn add_holes(text: &mut String) -> Result<(), AllocError> {
     text.push_str(HOLES)?;
     for hole in 0..1_000 {
         write!(text, "\"DATA\",\"B{hole}\"\r\n")?;
     }
+    Ok(())
+}
+
+/// The large file.
+fn large(alloc: Global) -> Result<String, AllocError> {
+    let mut text = String::new(alloc);
+    add_holes(&mut text)?;
     add_samples(&mut text, SAMPLES)?;
     add_samples(&mut text, TESTS)?;
-    let graph = graph_of(&rt, text.as_bytes())?;
-    assert!(rt; graph.rows() == 41_000);
-    assert!(rt; graph.steps().len() == 40_000);
-    Ok(())
+    Ok(text)
+}
+
+/// Whether the graph of the large file has so many rows and steps.
+fn large_agrees(alloc: Global, mini: &Dictionary, want: &str) -> bool {
+    match large(alloc) {
+        Ok(text) => answers(alloc, mini, text.as_bytes(), Ask::Counts, want),
+        Err(_) => false,
+    }
+}
+
+/// Whether the large file is answered as wanted under MINI.
+fn is_large(alloc: Global, want: &str) -> bool {
+    match dictionary(alloc) {
+        Some(mini) => large_agrees(alloc, &mini, want),
+        None => false,
+    }
+}
+
+#[test]
+fn forty_thousand_rows(rt: HostRuntime) {
+    assert!(rt; is_large(rt.alloc(), "41000 rows, 40000 steps"));
 }

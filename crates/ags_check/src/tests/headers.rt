@@ -2,7 +2,7 @@
 
 use crate::tests::{Base, Case, Edit};
 
-pub const CASES: [Case; 23] = [
+pub const CASES: &[Case] = &[
     Case {
         name: "a file of five groups",
         file: Base::A,

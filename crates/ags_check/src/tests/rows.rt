@@ -2,7 +2,7 @@
 
 use crate::tests::{Base, Case, Edit};
 
-pub const CASES: [Case; 22] = [
+pub const CASES: &[Case] = &[
     Case {
         name: "a mark, spaces, a quote in a cell and no line end at the end",
         file: Base::A,
