@@ -317,7 +317,7 @@ fn plays<K: Keep + Drop>(
         let day = Day::read(day).ok_or("day")?;
         let got = answered(alloc, &mut desk, caller, day, ask)?;
         let want = wanted(alloc, want)?;
-        assert!(rt; got.as_str() == want.as_str(), "{}", example.name);
+        assert_eq!(rt; got.as_str(), want.as_str(), "{}", example.name);
     }
     Ok(())
 }
@@ -326,7 +326,7 @@ fn plays<K: Keep + Drop>(
 fn bodies_are_as_long_as_they_should_be(rt: HostRuntime) -> Result<(), Fail> {
     let alloc = rt.alloc();
     for Length(name, body, length) in &LENGTHS {
-        assert!(rt; bytes_of(alloc, body)?.len() == *length, "{name}");
+        assert_eq!(rt; bytes_of(alloc, body)?.len(), *length, "{name}");
     }
     Ok(())
 }

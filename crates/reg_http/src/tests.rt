@@ -167,7 +167,7 @@ fn replies(rt: HostRuntime) -> Result<(), Fail> {
             let (status, written) = served(alloc, &mut desk, case.day, &request)?;
             let reply = reply_of(alloc, case.reply)?;
             assert!(rt; written == reply, "{line}");
-            assert!(rt; status == code_of(case.reply), "{line}");
+            assert_eq!(rt; status, code_of(case.reply), "{line}");
         }
     }
     Ok(())
@@ -209,7 +209,7 @@ fn no_byte(rt: HostRuntime) -> Result<(), Fail> {
     let alloc = rt.alloc();
     let mut desk = desk_of(alloc, 1).ok_or(AllocError)?;
     let (status, written) = served(alloc, &mut desk, "2024-05-01", b"")?;
-    assert!(rt; status == Some(0));
+    assert_eq!(rt; status, Some(0));
     assert!(rt; written.is_empty());
     Ok(())
 }
@@ -310,7 +310,7 @@ fn memory_is_refused_once(rt: HostRuntime) -> Result<(), Fail> {
             refused = true;
             assert!(rt; written.as_slice() == OUT_OF_MEMORY);
         } else {
-            assert!(rt; served == Ok(Served { status: 200 }));
+            assert_eq!(rt; served, Ok(Served { status: 200 }));
             assert!(rt; written.as_slice() == RECEIPT);
         }
     }
@@ -401,12 +401,12 @@ fn reads_fail(rt: HostRuntime) -> Result<(), Fail> {
         let (held, most) = (desk.keep().count(), calls as u64 + 1);
         assert!(rt; reader.calls() <= most);
         if calls < request.len() {
-            assert!(rt; served == Err(IoFault::Read));
+            assert_eq!(rt; served, Err(IoFault::Read));
             assert!(rt; written.is_empty());
-            assert!(rt; held == 0);
+            assert_eq!(rt; held, 0);
         } else {
-            assert!(rt; served == Ok(Served { status: 200 }));
-            assert!(rt; held == 1);
+            assert_eq!(rt; served, Ok(Served { status: 200 }));
+            assert_eq!(rt; held, 1);
         }
     }
     Ok(())
@@ -433,11 +433,11 @@ fn writes_fail(rt: HostRuntime) -> Result<(), Fail> {
             &mut Tally::new(request.as_slice()),
             &mut Tally::new(&mut slow),
         );
-        assert!(rt; served_first == Err(IoFault::Write));
+        assert_eq!(rt; served_first, Err(IoFault::Write));
         assert!(rt; slow.taken.as_slice() == &RECEIPT[..calls]);
-        assert!(rt; desk.keep().count() == 1);
+        assert_eq!(rt; desk.keep().count(), 1);
         let (status, again) = served(alloc, &mut desk, "2024-05-01", &request)?;
-        assert!(rt; status == Some(200));
+        assert_eq!(rt; status, Some(200));
         assert!(rt; again.as_slice() == RECEIPT);
     }
     Ok(())
@@ -486,14 +486,14 @@ fn connections_in_turn(rt: HostRuntime) -> Result<(), Fail> {
         ),
     ];
     let results = serve_list(alloc, &mut desk, &callers, day, &mut connections)?;
-    assert!(rt; results.len() == 3);
+    assert_eq!(rt; results.len(), 3);
     for ((result, connection), (status, writes)) in results
         .iter()
         .zip(&connections)
         .zip([(200, 1), (0, 0), (200, 1)])
     {
-        assert!(rt; *result == Ok(Served { status }));
-        assert!(rt; connection.1.calls() == writes);
+        assert_eq!(rt; *result, Ok(Served { status }));
+        assert_eq!(rt; connection.1.calls(), writes);
     }
     Ok(())
 }

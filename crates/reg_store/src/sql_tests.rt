@@ -127,7 +127,7 @@ fn changed(alloc: Global, case: &Case) -> Result<String, Fail> {
 fn compare(alloc: Global, rt: &impl Abort, cases: &[Case]) -> Result<(), Fail> {
     for case in cases {
         let found = changed(alloc, case)?;
-        assert!(rt; found.as_str() == case.want, "after {}", case.change);
+        assert_eq!(rt; found.as_str(), case.want, "after {}", case.change);
     }
     Ok(())
 }
@@ -157,9 +157,9 @@ fn adopted_so_long(alloc: Global, length: usize) -> Result<String, Fail> {
 #[test]
 fn a_body_that_is_too_long(rt: HostRuntime) -> Result<(), Fail> {
     let kept = adopted_so_long(rt.alloc(), LIMIT)?;
-    assert!(rt; kept.as_str() == "1 of 999999: Delta N1 19875 another file");
+    assert_eq!(rt; kept.as_str(), "1 of 999999: Delta N1 19875 another file");
     let found = adopted_so_long(rt.alloc(), LIMIT + 1)?;
-    assert!(rt; found.as_str() == "not a register");
+    assert_eq!(rt; found.as_str(), "not a register");
     Ok(())
 }
 
@@ -172,7 +172,7 @@ fn rows_of_no_deposit(rt: HostRuntime) -> Result<(), Fail> {
     let step = connection.execute_batch("INSERT INTO steps VALUES (2, 0, 0)");
     assert!(rt; step.is_err());
     let found = adopted(rt.alloc(), connection)?;
-    assert!(rt; found.as_str() == "1 of 999999: Delta N1 19875 A");
+    assert_eq!(rt; found.as_str(), "1 of 999999: Delta N1 19875 A");
     Ok(())
 }
 
@@ -267,7 +267,7 @@ fn answer(rt: &HostRuntime, visit: &Visit) -> Result<String, Fail> {
 fn compare_all(rt: &HostRuntime, stop: &impl Abort, visits: &[Visit]) -> Result<(), Fail> {
     for one in visits {
         let found = answer(rt, one)?;
-        assert!(stop; found.as_str() == one.want, "at {}", one.path);
+        assert_eq!(stop; found.as_str(), one.want, "at {}", one.path);
     }
     Ok(())
 }

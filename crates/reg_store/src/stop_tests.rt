@@ -96,11 +96,11 @@ fn is_taken<K: Keep>(
 {
     match send(alloc, keep, bytes)? {
         Ok(found) => {
-            assert!(rt; found == Some(number));
+            assert_eq!(rt; found, Some(number));
             Ok(true)
         }
         Err(error) => {
-            assert!(rt; error == KeepError::Store);
+            assert_eq!(rt; error, KeepError::Store);
             Ok(false)
         }
     }
@@ -212,9 +212,9 @@ fn look<K: Keep>(
     }
     let first = deposit(alloc, keep, 1)?;
     let second = deposit(alloc, keep, 2)?;
-    assert!(rt; first.as_str() == "Delta N1 19875 A", "{stage:?} {stop:?}");
-    assert!(rt; second.as_str() == "Delta N1 19875 B", "{stage:?} {stop:?}");
-    assert!(rt; keep.count() == 2, "{stage:?} {stop:?}");
+    assert_eq!(rt; first.as_str(), "Delta N1 19875 A", "{stage:?} {stop:?}");
+    assert_eq!(rt; second.as_str(), "Delta N1 19875 B", "{stage:?} {stop:?}");
+    assert_eq!(rt; keep.count(), 2, "{stage:?} {stop:?}");
     Ok(())
 }
 
@@ -232,8 +232,8 @@ fn found_again(
     let connection = match SqlKeep::adopt(alloc, connection) {
         Ok(keep) => return Ok(keep),
         Err((error, connection)) => {
-            assert!(rt; stage == Stage::Making, "{stop:?}");
-            assert!(rt; error == AdoptError::NotRegister, "{stop:?}");
+            assert_eq!(rt; stage, Stage::Making, "{stop:?}");
+            assert_eq!(rt; error, AdoptError::NotRegister, "{stop:?}");
             connection
         }
     };

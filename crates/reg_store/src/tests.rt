@@ -288,7 +288,7 @@ fn ask_all<K: Keep + Drop>(
 {
     for case in cases {
         let found = answer(alloc, &mut keep, case.call)?;
-        assert!(rt; found.as_str() == case.want);
+        assert_eq!(rt; found.as_str(), case.want);
     }
     Ok(())
 }

@@ -54,8 +54,8 @@ fn deposits<K: Keep + Drop, A: Abort>(
     let mut desk = Desk::new(keep, Policy::read(alloc, POLICY)?);
     for (file, want, status) in rows {
         let (printed, ended) = deposited(alloc, &mut desk, file)?;
-        assert!(handle; printed.as_slice() == *want);
-        assert!(handle; ended == *status);
+        assert_eq!(handle; printed.as_slice(), *want);
+        assert_eq!(handle; ended, *status);
     }
     Ok(())
 }

@@ -101,8 +101,8 @@ fn connections_are_served(rt: HostRuntime) -> Result<(), Fail> {
     let last = sent(&rt, &listener, &[])?;
     let mut printed = Vec::new(rt.alloc());
     let status = serve_some(&rt, &listener, 4, &mut printed)?;
-    assert!(rt; status == 0);
-    assert!(rt; printed.as_slice() == b"200\n404\n413\n0\n".as_slice());
+    assert_eq!(rt; status, 0);
+    assert_eq!(rt; printed.as_slice(), b"200\n404\n413\n0\n".as_slice());
     assert!(rt; replied(&rt, first, RECEIPT)?);
     assert!(rt; replied(&rt, second, UNKNOWN)?);
     assert!(rt; replied(&rt, third, TOO_LARGE)?);
@@ -119,8 +119,8 @@ fn a_peer_that_goes_on_sending(rt: HostRuntime) -> Result<(), Fail> {
     let second = sending(&rt, &listener, &[DEPOSIT, FILE_A, &more])?;
     let mut printed = Vec::new(rt.alloc());
     let status = serve_some(&rt, &listener, 2, &mut printed)?;
-    assert!(rt; status == 0);
-    assert!(rt; printed.as_slice() == b"404\n200\n".as_slice());
+    assert_eq!(rt; status, 0);
+    assert_eq!(rt; printed.as_slice(), b"404\n200\n".as_slice());
     assert!(rt; replied(&rt, first, UNKNOWN)?);
     assert!(rt; replied(&rt, second, RECEIPT)?);
     Ok(())
@@ -134,8 +134,8 @@ fn an_accept_that_fails(rt: HostRuntime) -> Result<(), Fail> {
     let only = sent(&rt, &listener, &[EXTRACT])?;
     let mut printed = Vec::new(rt.alloc());
     let status = serve_some(&rt, &listener, 3, &mut printed)?;
-    assert!(rt; status == 0);
-    assert!(rt; printed.as_slice() == b"404\nfault\nfault\n".as_slice());
+    assert_eq!(rt; status, 0);
+    assert_eq!(rt; printed.as_slice(), b"404\nfault\nfault\n".as_slice());
     assert!(rt; replied(&rt, only, UNKNOWN)?);
     Ok(())
 }
@@ -151,8 +151,8 @@ fn a_line_that_is_not_written(rt: HostRuntime) -> Result<(), Fail> {
     for calls in 0..6 {
         let mut out = failing_after(&rt, b"", 100, calls);
         let status = serve_some(&rt, &listener, 2, &mut out)?;
-        assert!(rt; out.failed == (calls < 4));
-        assert!(rt; status == (if out.failed { 6 } else { 0 }));
+        assert_eq!(rt; out.failed, calls < 4);
+        assert_eq!(rt; status, if out.failed { 6 } else { 0 });
         assert!(rt; PRINTED.starts_with(out.taken.as_slice()));
         assert!(rt; out.failed || (out.flushed && out.taken.len() == PRINTED.len()));
     }

@@ -133,7 +133,7 @@ fn texts_that_go_deep(rt: HostRuntime) -> Result<(), Fail> {
     let refused = (Some(PolicyError::Syntax), Some(CallersError::Syntax));
     for (depth, want) in [(2, taken), (80, taken), (81, refused)] {
         for more in nested(alloc, depth)? {
-            assert!(rt; both(alloc, &more)? == want);
+            assert_eq!(rt; both(alloc, &more)?, want);
         }
     }
     Ok(())

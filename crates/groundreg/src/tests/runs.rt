@@ -151,7 +151,7 @@ pub(crate) fn holds<A: Abort>(rt: &HostRuntime, handle: &A, rows: &[&str]) -> Re
         let (words, _) = row.split_once(" => ").ok_or("a row has `=>`")?;
         let ran = run_row(rt, words)?;
         let got = row_of(rt, words, &ran)?;
-        assert!(handle; got.as_str() == *row);
+        assert_eq!(handle; got.as_str(), *row);
     }
     Ok(())
 }
@@ -240,7 +240,7 @@ fn words_are_refused(rt: HostRuntime) -> Result<(), Fail> {
         let ran = run_row(&rt, row)?;
         let got = row_of(&rt, row, &ran)?;
         let want = format!(in rt.alloc(); "{row} => 4 ! words refused")?;
-        assert!(rt; got.as_str() == want.as_str());
+        assert_eq!(rt; got.as_str(), want.as_str());
     }
     Ok(())
 }
@@ -269,7 +269,7 @@ fn words_may_stand_in_any_order(rt: HostRuntime) -> Result<(), Fail> {
     ];
     holds(&rt, &rt, &rows)?;
     let some = run_row(&rt, "extract|@|--groups|SAMP|1")?;
-    assert!(rt; some.printed.as_slice() == &FILE_A[..466]);
-    assert!(rt; some.status == 0);
+    assert_eq!(rt; some.printed.as_slice(), &FILE_A[..466]);
+    assert_eq!(rt; some.status, 0);
     leave(&rt, "words_may_stand_in_any_order")
 }

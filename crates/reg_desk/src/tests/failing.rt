@@ -46,9 +46,9 @@ fn answered_before(alloc: Global, rt: &impl Abort, answers: &[Answer]) -> Result
         let got = printed(alloc, answer)?;
         failed = failed || got.as_str() == "store failed";
         if failed {
-            assert!(rt; got.as_str() == "store failed");
+            assert_eq!(rt; got.as_str(), "store failed");
         } else {
-            assert!(rt; got.as_str() == wanted(alloc, want)?.as_str());
+            assert_eq!(rt; got.as_str(), wanted(alloc, want)?.as_str());
             before = before.saturating_add(1);
         }
     }
@@ -81,17 +81,18 @@ fn runs_that_fail(rt: HostRuntime) -> Result<(), Fail> {
         let keep = Refusing::new(PlainKeep::new(alloc, mini), answered);
         let mut desk = Desk::new(keep, Policy::read(alloc, POLICY)?);
         let answers = desk.run(alloc, &requests)?;
-        assert!(rt; answers.len() == requests.len());
+        assert_eq!(rt; answers.len(), requests.len());
         let before = answered_before(alloc, &rt, &answers)?;
         assert!(rt; before < stops.len());
         stops[before] = true;
         failed = failed.saturating_add(u32::from(before < requests.len()));
-        assert!(rt;
-            desk.keep().count() == u32::from(0 < before),
+        assert_eq!(rt;
+            desk.keep().count(),
+            u32::from(0 < before),
             "after {answered} calls"
         );
     }
-    assert!(rt; stops == [true, true, true, true, false, true, true, true]);
+    assert_eq!(rt; stops, [true, true, true, true, false, true, true, true]);
     println!(rt; "{failed} calls of the keep failed")?;
     Ok(())
 }

@@ -51,7 +51,7 @@ fn desk_with<K: Keep + Drop>(
         &mut desk,
         &deposit_of(delta, &project, day, bytes, day),
     )?;
-    assert!(rt; receipt.as_str() == "receipt 1 2024-06-01");
+    assert_eq!(rt; receipt.as_str(), "receipt 1 2024-06-01");
     Ok(desk)
 }
 
@@ -70,18 +70,18 @@ fn draws_twice<K: Keep + Drop>(alloc: Global, rt: &impl Abort, keep: K) -> Resul
     let mut desk = desk_with(alloc, rt, keep, FILE_B)?;
     let text = text_of(alloc, &mut desk, echo, &project, 1, day)?;
     let bytes = text.as_slice();
-    assert!(rt; bytes.len() == 956);
-    assert!(rt; bytes == bytes_of(alloc, &B_SHOWN)?.as_slice());
+    assert_eq!(rt; bytes.len(), 956);
+    assert_eq!(rt; bytes, bytes_of(alloc, &B_SHOWN)?.as_slice());
     let clean = told(alloc, &mut desk, &check_of(echo, &project, bytes, day))?;
-    assert!(rt; clean.as_str() == "clean");
+    assert_eq!(rt; clean.as_str(), "clean");
     let second = told(
         alloc,
         &mut desk,
         &deposit_of(delta, &project, day, bytes, day),
     )?;
-    assert!(rt; second.as_str() == "receipt 2 2024-06-01");
+    assert_eq!(rt; second.as_str(), "receipt 2 2024-06-01");
     let again = text_of(alloc, &mut desk, delta, &project, 2, day)?;
-    assert!(rt; again.as_slice() == bytes);
+    assert_eq!(rt; again.as_slice(), bytes);
     Ok(())
 }
 
@@ -152,8 +152,8 @@ fn hidden_rows_are_not_told(rt: HostRuntime) -> Result<(), Fail> {
         let mini = Dictionary::read(alloc, MINI)?;
         let in_memory = tells(alloc, &rt, PlainKeep::new(alloc, mini), body)?;
         let in_tables = tells(alloc, &rt, SqlKeep::in_memory(alloc, MINI)?, body)?;
-        assert!(rt; in_memory.as_str() == want.as_str());
-        assert!(rt; in_tables.as_str() == want.as_str());
+        assert_eq!(rt; in_memory.as_str(), want.as_str());
+        assert_eq!(rt; in_tables.as_str(), want.as_str());
     }
     Ok(())
 }
