@@ -1,17 +1,20 @@
 //! Requests to a register, and their answers. A deposit is sent on 2024-05-01 under an embargo until 2024-06-01 where nothing else is said.
 
-use super::{Ask, Body, Edit, Example, File, Length, Step, Want};
+use super::{Ask, Body, Edit, Example, File, Length, Line, Step, Want};
 
 /// As many deposits as a register may hold.
 pub const MOST: u32 = 999_999;
 
 const SENT: &str = "2024-05-01";
 
-const UNTIL: &str = "2024-06-01";
+pub const UNTIL: &str = "2024-06-01";
 
-const FIRST: Want = Want::Says("receipt 1 2024-06-01");
+pub const FIRST: Want = Want::Receipt(1, UNTIL);
 
-const SECOND: Want = Want::Says("receipt 2 2024-06-01");
+pub const SECOND: Want = Want::Receipt(2, UNTIL);
+
+/// The first deposit where it is the only one.
+pub const LISTED: Want = Want::Lists(&[Line(1, "Delta", UNTIL)]);
 
 /// The first file.
 pub const A: Body = Body {
@@ -211,19 +214,9 @@ pub const EXAMPLES: [Example; 8] = [
         name: "a deposit that the policy denies",
         limit: MOST,
         steps: &[
-            Step(
-                "t-gamma",
-                SENT,
-                Ask::Deposit(A, UNTIL),
-                Want::Says("denied 5"),
-            ),
-            Step(
-                "t-echo",
-                SENT,
-                Ask::Deposit(A, UNTIL),
-                Want::Says("denied 0"),
-            ),
-            Step("t-delta", SENT, Ask::List, Want::Says("deposits:")),
+            Step("t-gamma", SENT, Ask::Deposit(A, UNTIL), Want::Denied(5)),
+            Step("t-echo", SENT, Ask::Deposit(A, UNTIL), Want::Denied(0)),
+            Step("t-delta", SENT, Ask::List, Want::Lists(&[])),
             Step("t-delta", SENT, Ask::Deposit(A, UNTIL), FIRST),
         ],
     },
@@ -236,13 +229,13 @@ pub const EXAMPLES: [Example; 8] = [
                 "t-delta",
                 SENT,
                 Ask::Check(A_UNENDED),
-                Want::Says("2b 29 -;"),
+                Want::Finding("2b", 29),
             ),
             Step(
                 "t-delta",
                 SENT,
                 Ask::Deposit(A_UNENDED, UNTIL),
-                Want::Says("2b 29 -;"),
+                Want::Finding("2b", 29),
             ),
             Step(
                 "t-delta",
@@ -335,25 +328,15 @@ pub const EXAMPLES: [Example; 8] = [
                 Ask::Extract(999, &[]),
                 Want::Says("unknown"),
             ),
-            Step("t-echo", "2024-05-31", Ask::List, Want::Says("deposits:")),
+            Step("t-echo", "2024-05-31", Ask::List, Want::Lists(&[])),
             Step(
                 "t-delta",
                 "2024-05-31",
                 Ask::Extract(1, &[]),
                 Want::Gives(A),
             ),
-            Step(
-                "t-delta",
-                "2024-05-31",
-                Ask::List,
-                Want::Says("deposits:1 Delta 2024-06-01;"),
-            ),
-            Step(
-                "t-echo",
-                UNTIL,
-                Ask::List,
-                Want::Says("deposits:1 Delta 2024-06-01;"),
-            ),
+            Step("t-delta", "2024-05-31", Ask::List, LISTED),
+            Step("t-echo", UNTIL, Ask::List, LISTED),
         ],
     },
     Example {

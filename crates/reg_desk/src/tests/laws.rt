@@ -2,96 +2,36 @@
 
 ghost use Rattle.std.specs.Prelude.{◌≡◌, ◌≤◌, false};
 
-use super::examples::{A, B, B_SHOWN, B_TESTED, B_WETTER};
+use super::examples::{A, B, B_SHOWN, B_TESTED, B_WETTER, FIRST, LISTED, MOST, SECOND, UNTIL};
 use super::{
-    Body, Want, bytes_of, check_of, deposit_of, extract_of, list_of, printed, told, wanted,
+    Ask, Body, Step, Want, count_wanted, deposit_of, desk_over, extract_of, holds, list_of,
+    memory_of, plays_in_memory, plays_in_tables,
 };
-use crate::{Answer, Desk, Request};
-use ags_dict::Dictionary;
-use ags_rows::vectors::{FILE_A, FILE_B, MINI};
-use ags_rows::{Bytes, READABLE};
-use reg_policy::vectors::{CALLERS, POLICY};
-use reg_policy::{Caller, Callers, Day, Name, Policy};
-use reg_store::{Keep, PlainKeep, SqlKeep};
-use std::alloc::Global;
-use std::process::Abort;
-use std::test::Fail;
-
-/// The text of an extract of all groups.
-fn text_of<K: Keep>(
-    alloc: Global,
-    desk: &mut Desk<K>,
-    caller: &Caller,
-    project: &Name,
-    number: u32,
-    day: Day,
-) -> Result<Bytes, Fail> {
-    match desk.answer(alloc, &extract_of(caller, project, number, &[], day)) {
-        Answer::Text(text) => Ok(text),
-        _ => Err(Fail::new("no text")),
-    }
-}
-
-/// A desk that gave Delta a receipt for this body.
-fn desk_with<K: Keep + Drop>(
-    alloc: Global,
-    rt: &impl Abort,
-    keep: K,
-    bytes: &[u8],
-) -> Result<Desk<K>, Fail>
-    requires { K.has_failed keep ≡ false }
-{
-    let callers = Callers::read(alloc, CALLERS)?;
-    let delta = callers.find(b"t-delta").ok_or("token")?;
-    let project = Name::read(alloc, "N1")?;
-    let day = Day::read("2024-06-01").ok_or("day")?;
-    let mut desk = Desk::new(keep, Policy::read(alloc, POLICY)?);
-    let receipt = told(
-        alloc,
-        &mut desk,
-        &deposit_of(delta, &project, day, bytes, day),
-    )?;
-    assert_eq!(rt; receipt.as_str(), "receipt 1 2024-06-01");
-    Ok(desk)
-}
+use crate::{Desk, Request};
+use ags_rows::READABLE;
+use ags_rows::vectors::{FILE_A, MINI};
+use reg_policy::vectors::CALLERS;
+use reg_policy::{Caller, Callers, Day, Name};
+use reg_store::{Keep, SqlKeep};
+use std::alloc::{AllocError, Global};
 
 /// Delta deposits the second file, and what Echo got of it; Delta gets that text again.
 ///
 /// `extracts_are_clean`: both answers are texts. `extract_of_an_extract`: the second deposit is the text of an extract of a file
 /// without findings, and every row of it is shown to Delta, whose it is.
-fn draws_twice<K: Keep + Drop>(alloc: Global, rt: &impl Abort, keep: K) -> Result<(), Fail>
-    requires { K.has_failed keep ≡ false }
-{
-    let callers = Callers::read(alloc, CALLERS)?;
-    let delta = callers.find(b"t-delta").ok_or("token")?;
-    let echo = callers.find(b"t-echo").ok_or("token")?;
-    let project = Name::read(alloc, "N1")?;
-    let day = Day::read("2024-06-01").ok_or("day")?;
-    let mut desk = desk_with(alloc, rt, keep, FILE_B)?;
-    let text = text_of(alloc, &mut desk, echo, &project, 1, day)?;
-    let bytes = text.as_slice();
-    assert_eq!(rt; bytes.len(), 956);
-    assert_eq!(rt; bytes, bytes_of(alloc, &B_SHOWN)?.as_slice());
-    let clean = told(alloc, &mut desk, &check_of(echo, &project, bytes, day))?;
-    assert_eq!(rt; clean.as_str(), "clean");
-    let second = told(
-        alloc,
-        &mut desk,
-        &deposit_of(delta, &project, day, bytes, day),
-    )?;
-    assert_eq!(rt; second.as_str(), "receipt 2 2024-06-01");
-    let again = text_of(alloc, &mut desk, delta, &project, 2, day)?;
-    assert_eq!(rt; again.as_slice(), bytes);
-    Ok(())
-}
+const DRAWN_TWICE: &[Step] = &[
+    Step("t-delta", UNTIL, Ask::Deposit(B, UNTIL), FIRST),
+    Step("t-echo", UNTIL, Ask::Extract(1, &[]), Want::Gives(B_SHOWN)),
+    Step("t-echo", UNTIL, Ask::Check(B_SHOWN), Want::Says("clean")),
+    Step("t-delta", UNTIL, Ask::Deposit(B_SHOWN, UNTIL), SECOND),
+    Step("t-delta", UNTIL, Ask::Extract(2, &[]), Want::Gives(B_SHOWN)),
+];
 
 #[test]
-fn extracts_of_extracts(rt: HostRuntime) -> Result<(), Fail> {
+fn extracts_of_extracts(rt: HostRuntime) {
     let alloc = rt.alloc();
-    let mini = Dictionary::read(alloc, MINI)?;
-    draws_twice(alloc, &rt, PlainKeep::new(alloc, mini))?;
-    assert!(rt; MINI.len() <= READABLE);
-    draws_twice(alloc, &rt, SqlKeep::in_memory(alloc, MINI)?)
+    assert!(rt; plays_in_memory(alloc, MOST, DRAWN_TWICE).unwrap_or(false));
+    assert!(rt; plays_in_tables(alloc, DRAWN_TWICE).unwrap_or(false));
 }
 
 /// Echo's list, a deposit by Foxtrot, and Echo's extracts of the first two deposits.
@@ -109,51 +49,81 @@ fn four_of<'a>(
     ]
 }
 
-/// What four requests in turn are answered where this body is the first deposit.
-fn tells<K: Keep + Drop>(
+/// What they are answered.
+const TOLD: [Want; 4] = [LISTED, SECOND, Want::Gives(B_SHOWN), Want::Gives(A)];
+
+/// Whether four requests in turn are answered so.
+fn tells<K: Keep>(
     alloc: Global,
-    rt: &impl Abort,
-    keep: K,
-    body: &Body,
-) -> Result<String, Fail>
-    requires { K.has_failed keep ≡ false }
-{
-    let callers = Callers::read(alloc, CALLERS)?;
-    let echo = callers.find(b"t-echo").ok_or("token")?;
-    let foxtrot = callers.find(b"t-foxtrot").ok_or("token")?;
-    let project = Name::read(alloc, "N1")?;
-    let day = Day::read("2024-06-01").ok_or("day")?;
-    let bytes = bytes_of(alloc, body)?;
-    let mut desk = desk_with(alloc, rt, keep, bytes.as_slice())?;
-    let answers = desk.run(alloc, &four_of(echo, foxtrot, &project, day))?;
-    let mut text = String::new(alloc);
-    for answer in &answers {
-        text.push_str(printed(alloc, answer)?.as_str())?;
-        text.push_str("; ")?;
-    }
-    Ok(text)
+    desk: &mut Desk<K>,
+    requests: &[Request],
+) -> Result<bool, AllocError> {
+    let answers = desk.run(alloc, requests)?;
+    Ok(answers.len() == 4 && count_wanted(alloc, &answers, &TOLD)? == 4)
 }
 
-/// `no_leak`: the second file, with another result in a hidden row, with one hidden row more, and without its hidden rows have
-/// no finding; Echo is shown the same of each, and no request brings any of them.
+/// Whether those four requests are.
+fn tells_four<K: Keep>(
+    alloc: Global,
+    desk: &mut Desk<K>,
+    callers: &Callers,
+    project: &Name,
+) -> Option<bool> {
+    let echo = callers.find(b"t-echo")?;
+    let foxtrot = callers.find(b"t-foxtrot")?;
+    let day = Day::read(UNTIL)?;
+    tells(alloc, desk, &four_of(echo, foxtrot, project, day)).ok()
+}
+
+/// The same once Delta has a receipt for this body.
+fn tells_behind<K: Keep>(
+    alloc: Global,
+    desk: &mut Desk<K>,
+    callers: &Callers,
+    body: &Body,
+) -> Option<bool> {
+    let step = Step("t-delta", UNTIL, Ask::Deposit(*body, UNTIL), FIRST);
+    let project = Name::read(alloc, "N1").ok()?;
+    if !holds(alloc, desk, callers, &project, &step).ok()? {
+        return None;
+    }
+    tells_four(alloc, desk, callers, &project)
+}
+
+/// The same of a desk over this keep.
+fn tells_over<K: Keep + Drop>(alloc: Global, keep: K, body: &Body) -> Option<bool>
+    requires { K.has_failed keep ≡ false }
+{
+    let mut desk = desk_over(alloc, keep).ok()?;
+    let callers = Callers::read(alloc, CALLERS).ok()?;
+    tells_behind(alloc, &mut desk, &callers, body)
+}
+
+/// The same of a desk over a keep in memory.
+fn tells_in_memory(alloc: Global, body: &Body) -> Option<bool> {
+    tells_over(alloc, memory_of(alloc, MOST)?, body)
+}
+
+/// The same of a desk over tables.
+fn tells_in_tables(alloc: Global, body: &Body) -> Option<bool> {
+    if MINI.len() > READABLE {
+        return None;
+    }
+    match SqlKeep::in_memory(alloc, MINI) {
+        Ok(keep) => tells_over(alloc, keep, body),
+        Err(_) => None,
+    }
+}
+
+/// The second file, with another result in a hidden row, with one hidden row more, and without its hidden rows.
+const BODIES: [Body; 4] = [B, B_WETTER, B_TESTED, B_SHOWN];
+
+/// `no_leak`: these bodies have no finding; Echo is shown the same of each, and no request brings any of them.
 #[test]
-fn hidden_rows_are_not_told(rt: HostRuntime) -> Result<(), Fail> {
+fn hidden_rows_are_not_told(rt: HostRuntime) {
     let alloc = rt.alloc();
-    assert!(rt; MINI.len() <= READABLE);
-    let mut want = String::from_str(
-        alloc,
-        "deposits:1 Delta 2024-06-01;; receipt 2 2024-06-01; ",
-    )?;
-    for body in &[B_SHOWN, A] {
-        want.push_str(wanted(alloc, &Want::Gives(*body))?.as_str())?;
-        want.push_str("; ")?;
+    for body in &BODIES {
+        assert!(rt; tells_in_memory(alloc, body).unwrap_or(false));
+        assert!(rt; tells_in_tables(alloc, body).unwrap_or(false));
     }
-    for body in &[B, B_WETTER, B_TESTED, B_SHOWN] {
-        let mini = Dictionary::read(alloc, MINI)?;
-        let in_memory = tells(alloc, &rt, PlainKeep::new(alloc, mini), body)?;
-        let in_tables = tells(alloc, &rt, SqlKeep::in_memory(alloc, MINI)?, body)?;
-        assert_eq!(rt; in_memory.as_str(), want.as_str());
-        assert_eq!(rt; in_tables.as_str(), want.as_str());
-    }
-    Ok(())
 }

@@ -1,15 +1,16 @@
 //! Memory that is refused to one growth, by `conformance/refused_tests`: want of memory is answered then, once, and by the same call with
 //! memory what should be.
 
-ghost use Rattle.std.specs.Prelude.{◌≡◌, false};
+ghost use Rattle.std.specs.Prelude.{◌≡◌, ◌≤◌, false};
 
-use super::{deposit_of, extract_of};
+use super::examples::UNTIL;
+use super::{deposit_of, desk_over, extract_of, is_receipt, name_of};
 use crate::{Answer, Desk, Request};
 use ags_check::{CheckError, check};
 use ags_dict::{DictError, Dictionary};
 use ags_links::{Graph, reached, shown};
 use ags_rows::vectors::{FILE_A, FILE_B, MINI};
-use ags_rows::{Group, READABLE, RowsError, Scan, cells, write_group};
+use ags_rows::{Cell, Group, READABLE, RowsError, Scan, cells, write_group};
 use reg_policy::vectors::{CALLERS, POLICY};
 use reg_policy::{
     Caller, Callers, CallersError, Day, Decision, Name, NameError, Policy, PolicyError, RowFacts,
@@ -18,10 +19,9 @@ use reg_policy::{
 use reg_store::{CreateError, Keep, PlainKeep, SqlKeep};
 use std::alloc::{AllocError, Global};
 use std::process::Abort;
-use std::test::Fail;
 
 /// Calls of the crates below.
-#[derive(Clone, Copy, Debug)]
+#[derive(Clone, Copy)]
 enum Call {
     Scan,
     Dictionary,
@@ -30,12 +30,12 @@ enum Call {
     Reached,
 }
 
-const CALLS: [Call; 5] = [
-    Call::Scan,
-    Call::Dictionary,
-    Call::Callers,
-    Call::Shown,
-    Call::Reached,
+const CALLS: [(&str, Call); 5] = [
+    ("scan", Call::Scan),
+    ("dictionary", Call::Dictionary),
+    ("callers", Call::Callers),
+    ("shown", Call::Shown),
+    ("reached", Call::Reached),
 ];
 
 /// Whether the last group of the second file, which begins behind 831 bytes, is written as it stands there.
@@ -89,47 +89,68 @@ fn checks(alloc: Global) -> Result<bool, AllocError> {
     }
 }
 
-/// Whether rule 70 hides a preliminary location of another firm once its embargo is over.
-fn hides(
+/// Whether rule 70 hides a preliminary location of another firm once its embargo is over, under these headings.
+fn hides_under(
     alloc: Global,
     policy: &Policy,
     caller: &Caller,
     project: &Name,
+    headings: &[Cell],
 ) -> Result<bool, AllocError> {
-    let (Some(headings), Some(fields)) = (
-        cells(alloc, b"\"LOCA_ID\",\"LOCA_STAT\"")?,
-        cells(alloc, b"\"BH2\",\"PRELIM\"")?,
-    ) else {
+    let Some(fields) = cells(alloc, b"\"BH2\",\"PRELIM\"")? else {
         return Ok(false);
     };
     let facts = RowFacts {
         group: b"LOCA",
         own: false,
         past: true,
-        headings: headings.as_slice(),
+        headings,
         cells: fields.as_slice(),
     };
     Ok(policy.decide(&Subject::of_row(caller, project, facts)) == Decision::Deny(70))
 }
 
-/// Whether the policy is read, and hides that.
-fn decides(alloc: Global, caller: &Caller) -> Result<bool, AllocError> {
-    match (Policy::read(alloc, POLICY), Name::read(alloc, "N1")) {
-        (Ok(policy), Ok(project)) => hides(alloc, &policy, caller, &project),
-        (Err(PolicyError::NoMemory), _) | (_, Err(NameError::NoMemory)) => Err(AllocError),
-        _ => Ok(false),
+/// The same under the headings of a location.
+fn hides(
+    alloc: Global,
+    policy: &Policy,
+    caller: &Caller,
+    project: &Name,
+) -> Result<bool, AllocError> {
+    match cells(alloc, b"\"LOCA_ID\",\"LOCA_STAT\"")? {
+        Some(headings) => hides_under(alloc, policy, caller, project, headings.as_slice()),
+        None => Ok(false),
     }
+}
+
+/// Whether the policy is read, and hides that.
+fn decides_in(alloc: Global, caller: &Caller, project: &Name) -> Result<bool, AllocError> {
+    match Policy::read(alloc, POLICY) {
+        Ok(policy) => hides(alloc, &policy, caller, project),
+        Err(PolicyError::NoMemory) => Err(AllocError),
+        Err(_) => Ok(false),
+    }
+}
+
+/// The same where the project's name is read before.
+fn decides(alloc: Global, caller: &Caller) -> Result<bool, AllocError> {
+    match Name::read(alloc, "N1") {
+        Ok(project) => decides_in(alloc, caller, &project),
+        Err(NameError::NoMemory) => Err(AllocError),
+        Err(_) => Ok(false),
+    }
+}
+
+/// Whether Delta is a contractor.
+fn is_delta(caller: &Caller) -> bool {
+    caller.firm.text() == "Delta" && caller.role.text() == "contractor"
 }
 
 /// Whether the callers are read with Delta, a contractor, and the policy decides of its requests.
 fn knows(alloc: Global) -> Result<bool, AllocError> {
     match Callers::read(alloc, CALLERS) {
         Ok(callers) => match callers.find(b"t-delta") {
-            Some(delta) => Ok(
-                delta.firm.text() == "Delta"
-                    && delta.role.text() == "contractor"
-                    && decides(alloc, delta)?,
-            ),
+            Some(delta) => Ok(is_delta(delta) && decides(alloc, delta)?),
             None => Ok(false),
         },
         Err(CallersError::NoMemory) => Err(AllocError),
@@ -172,9 +193,9 @@ fn is_right(alloc: Global, call: Call) -> Result<bool, AllocError> {
 /// How many of the calls answer want of memory; each other is right.
 fn refused_of(alloc: Global, rt: &impl Abort) -> u32 {
     let mut refused = 0u32;
-    for call in CALLS {
-        match is_right(alloc, call) {
-            Ok(right) => assert!(rt; right, "{call:?}"),
+    for (name, call) in &CALLS {
+        match is_right(alloc, *call) {
+            Ok(right) => assert!(rt; right, "{name}"),
             Err(_) => refused = refused.saturating_add(1),
         }
     }
@@ -192,16 +213,6 @@ fn calls(rt: HostRuntime) {
     assert!(rt; refused <= 1);
 }
 
-/// Whether it is the receipt of the first deposit.
-fn is_receipt(answer: &Answer) -> bool {
-    match answer {
-        Answer::Receipt { number, embargo } => {
-            *number == 1 && embargo.text().as_slice() == b"2024-06-01".as_slice()
-        }
-        _ => false,
-    }
-}
-
 /// Whether it is the extract of the first file, where that is held, and else that the deposit is unknown.
 fn is_extract(answer: &Answer, held: bool) -> bool {
     match answer {
@@ -211,18 +222,41 @@ fn is_extract(answer: &Answer, held: bool) -> bool {
     }
 }
 
+/// Whether it is want of memory.
+fn is_refused(answer: &Answer) -> bool {
+    name_of(answer) == "out of memory"
+}
+
 /// How many of the answers to a deposit and its extract are want of memory; none where another is not the machine's.
+fn wants_of(deposit: &Answer, extract: &Answer, held: bool) -> Option<u32> {
+    if is_refused(deposit) {
+        return if is_extract(extract, held) {
+            Some(1)
+        } else {
+            None
+        };
+    }
+    if !is_receipt(deposit, 1, UNTIL) {
+        None
+    } else if is_refused(extract) {
+        Some(1)
+    } else if is_extract(extract, true) {
+        Some(0)
+    } else {
+        None
+    }
+}
+
+/// The same of a run.
 fn wants(answers: &[Answer], held: bool) -> Option<u32> {
     match answers {
-        [Answer::NoMemory, second] if is_extract(second, held) => Some(1),
-        [first, Answer::NoMemory] if is_receipt(first) => Some(1),
-        [first, second] if is_receipt(first) && is_extract(second, true) => Some(0),
+        [deposit, extract] => wants_of(deposit, extract, held),
         _ => None,
     }
 }
 
-/// The same of a run. Where it is refused memory itself, nothing was asked.
-fn wants_of<K: Keep>(alloc: Global, desk: &mut Desk<K>, requests: &[Request]) -> Option<u32> {
+/// The same of a run that is asked. Where it is refused memory itself, nothing was asked.
+fn asks<K: Keep>(alloc: Global, desk: &mut Desk<K>, requests: &[Request]) -> Option<u32> {
     let held = desk.keep().count();
     match desk.run(alloc, requests) {
         Ok(answers) => wants(&answers, held == 1),
@@ -231,50 +265,72 @@ fn wants_of<K: Keep>(alloc: Global, desk: &mut Desk<K>, requests: &[Request]) ->
     }
 }
 
-/// Delta deposits the first file and Echo draws it, three times, and memory is refused to one answer or run at most.
-fn asks<K: Keep + Drop>(alloc: Global, rt: &impl Abort, keep: K) -> Result<(), Fail>
-    requires { K.has_failed keep ≡ false }
-{
-    let (Ok(policy), Ok(callers), Ok(project)) = (
-        Policy::read(alloc, POLICY),
-        Callers::read(alloc, CALLERS),
-        Name::read(alloc, "N1"),
-    ) else {
-        return Ok(());
-    };
-    let delta = callers.find(b"t-delta").ok_or("token")?;
-    let echo = callers.find(b"t-echo").ok_or("token")?;
-    let day = Day::read("2024-06-01").ok_or("day")?;
+/// The same of three such runs: Delta deposits the first file and Echo draws it.
+fn asks_thrice<K: Keep>(
+    alloc: Global,
+    desk: &mut Desk<K>,
+    callers: &Callers,
+    project: &Name,
+) -> Option<u32> {
+    let delta = callers.find(b"t-delta")?;
+    let echo = callers.find(b"t-echo")?;
+    let day = Day::read(UNTIL)?;
     let requests = [
-        deposit_of(delta, &project, day, FILE_A, day),
-        extract_of(echo, &project, 1, &[], day),
+        deposit_of(delta, project, day, FILE_A, day),
+        extract_of(echo, project, 1, &[], day),
     ];
-    let mut desk = Desk::new(keep, policy);
     let mut refused = 0u32;
     for _ in 0..3 {
-        let wants = wants_of(alloc, &mut desk, &requests).ok_or("another answer")?;
-        refused = refused.saturating_add(wants);
+        refused = refused.saturating_add(asks(alloc, desk, &requests)?);
     }
-    assert!(rt; refused <= 1);
-    Ok(())
+    Some(refused)
 }
 
-#[test]
-fn runs_in_memory(rt: HostRuntime) -> Result<(), Fail> {
-    let alloc = rt.alloc();
-    let Ok(mini) = Dictionary::read(alloc, MINI) else {
-        return Ok(());
+/// The same of a desk over this keep. Where memory is refused before it begins, nothing is asked.
+fn asks_over<K: Keep + Drop>(alloc: Global, keep: K) -> Option<u32>
+    requires { K.has_failed keep ≡ false }
+{
+    let Ok(mut desk) = desk_over(alloc, keep) else {
+        return Some(0);
     };
-    asks(alloc, &rt, PlainKeep::new(alloc, mini))
+    let Ok(callers) = Callers::read(alloc, CALLERS) else {
+        return Some(0);
+    };
+    match Name::read(alloc, "N1") {
+        Ok(project) => asks_thrice(alloc, &mut desk, &callers, &project),
+        Err(_) => Some(0),
+    }
+}
+
+/// The same over a keep in memory.
+fn asks_memory(alloc: Global) -> Option<u32> {
+    match Dictionary::read(alloc, MINI) {
+        Ok(mini) => asks_over(alloc, PlainKeep::new(alloc, mini)),
+        Err(_) => Some(0),
+    }
+}
+
+/// The same over tables.
+fn asks_tables(alloc: Global) -> Option<u32> {
+    if MINI.len() > READABLE {
+        return None;
+    }
+    match SqlKeep::in_memory(alloc, MINI) {
+        Ok(keep) => asks_over(alloc, keep),
+        Err(CreateError::NoMemory) => Some(0),
+        Err(_) => None,
+    }
+}
+
+/// Memory is refused to one answer or run at most.
+#[test]
+fn runs_in_memory(rt: HostRuntime) {
+    let refused = asks_memory(rt.alloc()).unwrap_or(u32::MAX);
+    assert!(rt; refused <= 1);
 }
 
 #[test]
-fn runs_in_tables(rt: HostRuntime) -> Result<(), Fail> {
-    let alloc = rt.alloc();
-    assert!(rt; MINI.len() <= READABLE);
-    match SqlKeep::in_memory(alloc, MINI) {
-        Ok(keep) => asks(alloc, &rt, keep),
-        Err(CreateError::NoMemory) => Ok(()),
-        Err(error) => Err(error.into()),
-    }
+fn runs_in_tables(rt: HostRuntime) {
+    let refused = asks_tables(rt.alloc()).unwrap_or(u32::MAX);
+    assert!(rt; refused <= 1);
 }

@@ -115,3 +115,67 @@ pub(crate) const HEADS: [(&[u8], [&str; 3]); 9] = [
         NO_DEPOSIT,
     ),
 ];
+
+/// Heads of 32 or 33 fields, and of 8,192 or 8,193 bytes: how long the last field is, how many of one letter stand before it, and the
+/// reply.
+pub(crate) const LONG_HEADS: [(usize, usize, [&str; 3]); 3] = [
+    (7979, 31, NO_ROUTE),
+    (7980, 31, BAD_HEAD),
+    (1, 32, BAD_HEAD),
+];
+
+/// A body that a case calls by a name: the file up to one place, the bytes between, and the file from another place on.
+#[derive(Clone, Copy)]
+pub(crate) struct Altered {
+    pub(crate) name: &'static str,
+    pub(crate) end: usize,
+    pub(crate) between: &'static [u8],
+    pub(crate) begin: usize,
+}
+
+/// The file, the file without its last byte, the file with two bytes behind it, the file with `lo`, a bell and `ca`, or `lo`, a byte 7f and
+/// `ca`, or `l`, a quote, a byte 01 and a backslash, for the name in its line 26, and nothing.
+pub(crate) const BODIES: [Altered; 7] = [
+    Altered {
+        name: "A",
+        end: 543,
+        between: b"",
+        begin: 543,
+    },
+    Altered {
+        name: "A cut",
+        end: 542,
+        between: b"",
+        begin: 543,
+    },
+    Altered {
+        name: "A more",
+        end: 543,
+        between: b"\"x",
+        begin: 543,
+    },
+    Altered {
+        name: "A bell",
+        end: 477,
+        between: b"lo\x07ca",
+        begin: 481,
+    },
+    Altered {
+        name: "A delete",
+        end: 477,
+        between: b"lo\x7fca",
+        begin: 481,
+    },
+    Altered {
+        name: "A quote",
+        end: 477,
+        between: b"l\"\"\x01\\",
+        begin: 481,
+    },
+    Altered {
+        name: "-",
+        end: 0,
+        between: b"",
+        begin: 543,
+    },
+];
