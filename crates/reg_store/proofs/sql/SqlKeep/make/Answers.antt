@@ -3,6 +3,7 @@ use Rattle.sqlite.specs.State.{HasCleanDisk}
 use Rattle.sqlite.specs.Held.{state}
 use Rattle.reg_store.proofs.CreateLemmas.{new_list, new_keeps}
 use Rattle.reg_store.proofs.HeadsLemmas.{no_heads}
+use Rattle.reg_store.proofs.RepeatsLemmas.{none_below, none_digested}
 use Rattle.reg_store.proofs.sql.SqlKeep.make.Goals as goal
 
 pub invariant_of-result-clause-kept : goal.invariant_of-result-clause-kept
@@ -14,6 +15,11 @@ pub invariant_of-result-clause-headed : goal.invariant_of-result-clause-headed
 invariant_of-result-clause-headed g c works clean =
     let made = c.in-Ok.ensures in
     no_heads _ _ (search rules) (new_list c.args.bytes.now (state g.S.Store c.make_register-made.new.conn) (made.put clean) (made.settled clean))
+
+pub invariant_of-result-clause-digested : goal.invariant_of-result-clause-digested
+invariant_of-result-clause-digested g c works clean =
+    let made = c.in-Ok.ensures in
+    none_digested _ _ (new_list c.args.bytes.now (state g.S.Store c.make_register-made.new.conn) (made.put clean) (made.settled clean))
 
 pub returns-in-Ok-clause-empty : goal.returns-in-Ok-clause-empty
 returns-in-Ok-clause-empty g c clean =
