@@ -140,7 +140,7 @@ finds_rows lookup Has rows i le so_far = subst (λ rs. Finds lookup (HasText (ma
 
 -- ---- rows of a list of numbers
 
-before_next : (numbers : List ℕ) (i m : ℕ) → IsStrictlyIncreasing numbers → i < length numbers → Contains (take i numbers) m → m < get_or numbers i 0
+pub before_next : (numbers : List ℕ) (i m : ℕ) → IsStrictlyIncreasing numbers → i < length numbers → Contains (take i numbers) m → m < get_or numbers i 0
 before_next numbers i m rises lt h =
     let len : length (take i numbers) ≡ i = length-take-le i numbers (omega arith) in
     let below : h.0 < i = omega (arith, h.1, len) in

@@ -4,11 +4,9 @@ ghost use Rattle.std.specs.Prelude.{◌≡◌, ◌<◌, ◌↔◌, ℕ, List, If
 ghost use Rattle.std.specs.List.Sorted.{IsStrictlyIncreasing};
 ghost use Rattle.ags_rows.specs.Contents.{contents_of};
 
-use crate::families::{
-    Family, families, firsts_of_keys, rows_by_file_set, rows_by_group, rows_by_key,
-};
-use crate::lookup::{Lookup, Span, rows_of, rows_with};
-use crate::parents::{ParentLookups, parent_spans, parents};
+use crate::families::{Family, families, firsts_of_keys, rows_by_file_set, rows_by_key};
+use crate::lookup::{Lookup, rows_with};
+use crate::parents::{ParentLists, parent_lists, part_of};
 use crate::placed::{PlacedRow, field, place_rows};
 use crate::separators::{Separators, separators_in};
 use crate::texts::{distinct, link_parts, pieces_text, push_parts};
@@ -34,9 +32,7 @@ pub struct Index<'s, 'f, 'd> {
     dictionary: &'d Dictionary,
     rows: Vec<PlacedRow<'s, 'f>>,
     families: Vec<Family<'s, 'd>>,
-    parents: ParentLookups,
-    // where the parent rows of each row stand in the look-up of its group
-    spans: Vec<Span>,
+    parents: ParentLists,
     // for each row the first row of its group with an equal key
     firsts: Vec<u32>,
     by_key: Lookup,
@@ -53,7 +49,7 @@ impl<'s, 'f, 'd> Model for Index<'s, 'f, 'd> {
 
     ghost view = { λ i. record { contents = contents_of i.groups.now; entries = i.dictionary.now } };
 
-    ghost invariant = { λ i. Indexes i.groups.now i.dictionary.now i.rows.items i.families.items i.parents i.spans.items i.firsts.items i.by_key i.by_file_set i.separators };
+    ghost invariant = { λ i. Indexes i.groups.now i.dictionary.now i.rows.items i.families.items i.parents i.firsts.items i.by_key i.by_file_set i.separators };
 }
 
 /// The numbers rising, each once.
@@ -87,12 +83,7 @@ impl<'s, 'f, 'd> Index<'s, 'f, 'd> {
         let groups = scan.groups();
         let rows = place_rows(alloc, scan)?;
         let families = families(alloc, groups, dictionary, &rows)?;
-        // the rows by group are let go before more is kept
-        let parents = {
-            let by_group = rows_by_group(alloc, &rows)?;
-            parents(alloc, groups, dictionary, &rows, &families, &by_group)?
-        };
-        let spans = parent_spans(alloc, &rows, &parents)?;
+        let parents = parent_lists(alloc, groups, dictionary, &rows, &families)?;
         let by_key = rows_by_key(alloc, dictionary, &rows, &families)?;
         let firsts = firsts_of_keys(alloc, dictionary, &rows, &by_key)?;
         let by_file_set = rows_by_file_set(alloc, dictionary, &rows, &families)?;
@@ -103,7 +94,6 @@ impl<'s, 'f, 'd> Index<'s, 'f, 'd> {
             rows,
             families,
             parents,
-            spans,
             firsts,
             by_key,
             by_file_set,
@@ -133,12 +123,8 @@ impl<'s, 'f, 'd> Index<'s, 'f, 'd> {
         requires { row < length (rows_in self.now) }
         ensures { ListsRows result.now (IsParentAt self.now row) }
     {
-        let kept = &self.rows[row as usize];
-        let links = &self.parents.of_groups[kept.place];
-        rows_of(
-            &self.parents.lookups[links.lookup],
-            self.spans[row as usize],
-        )
+        let span = self.parents.spans[row as usize];
+        part_of(&self.parents.rows, span)
     }
 
     /// The parent rows of a row (Rule 10c), rising.

@@ -1,10 +1,12 @@
-use Rattle.std.proofs.Common.{◌≡◌, get_or, sym, subst, map, ap, ◌∙◌, Contains}
+use Rattle.std.proofs.Common.{◌≡◌, get_or, sym, subst, map, ap, ◌∙◌, Contains, take, arith}
+use Rattle.std.proofs.lemmas.List.{take_all}
 use Rattle.ags_rows.specs.Contents.{place_in}
 use Rattle.ags_links.specs.declared.families.Family.{Family}
 use Rattle.ags_links.specs.declared.parents.ParentLinks.{ParentLinks}
-use Rattle.ags_links.specs.ParentRows.{IsPlacedAt, link_names}
+use Rattle.ags_links.specs.ParentRows.{IsPlacedAt, looked_names}
 use Rattle.ags_links.proofs.Heading.{places_named}
 use Rattle.ags_links.proofs.Kept.{kept_none, kept_next, kept_all, texts}
+use Rattle.ags_links.proofs.Listing.{not_less}
 use Rattle.ags_links.proofs.Members.{contains_map}
 use Rattle.ags_links.proofs.RowLemmas.{one_at}
 use Rattle.ags_links.proofs.parents.link_places.Goals as goal
@@ -19,14 +21,17 @@ first_with-requires c =
 
 pub loop-place-preserved : goal.loop-place-preserved
 loop-place-preserved c =
+    let links = c.index-links-place.result in
     rw c.in_ok-push.ensures.items
-    (kept_next (IsPlacedAt c.args.families.now c.args.texts.now) c.args.links.now c.loop-place.place c.loop-place.of_groups.items c.index-links-place.result _ c.loop-place-test.true c.index-links-place.is c.loop-place.invariant (
+    (kept_next (IsPlacedAt c.args.families.now c.args.texts.now) c.args.links.now c.loop-place.place c.loop-place.of_groups.items links _ c.loop-place-test.true c.index-links-place.is c.loop-place.invariant (
       λ family at.
           let is : c.index-families-place.result ≡ family = one_at c.args.families.now c.loop-place.place c.index-families-place.result family (at.0, sym c.index-families-place.is) at in
           let stood = (get_or c.args.families.now c.loop-place.place c.index-families-place.result).headings in
-          c.in_ok-places_of.ensures ∙ places_named stood c.deref.result.now ∙ ap (λ hs. map (place_in stood) (texts hs)) c.deref.ensures.value
-          ∙ ap (λ (f : Family). map (place_in f.headings) (link_names c.index-links-place.result)) (sym c.index-families-place.is ∙ is),
+          c.in_ok-places_of.ensures ∙ places_named stood (take links.looked c.deref-2.result.now) ∙ ap (λ hs. map (place_in stood) (texts (take links.looked hs))) c.deref-2.ensures.value
+          ∙ ap (λ (f : Family). map (place_in f.headings) (looked_names links)) (sym c.index-families-place.is ∙ is),
       c.first_with.ensures,
+      ap texts (c.in_ok-from_slice.ensures.items ∙ c.deref.ensures.value),
+      λ all. ap texts (take_all links.looked links.headings.items (omega (arith, not_less links.looked c.len.result all, c.len.ensures))),
     ))
 
 pub returns : goal.returns

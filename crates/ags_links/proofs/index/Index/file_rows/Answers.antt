@@ -14,5 +14,5 @@ pub returns : goal.returns
 returns c =
     let row = row_of c.kept.result.0.now in
     let file_set = c.field-file_set.result.now in
-    files_listed (rows_in c.args.self.now) c.args.row row c.self.inside.by_file_set file_set c.rows_with.result.now c.kept.ensures.row (inside_filed c.self.inside.groups.now c.self.inside.dictionary.now c.self.inside.rows.items c.self.inside.families.items c.self.inside.parents c.self.inside.spans.items c.self.inside.firsts.items c.self.inside.by_key c.self.inside.by_file_set c.self.inside.separators c.args.self.now c.self.invariant c.self.view_is) (c.field-file_set.ensures ∙ ap (field_at row.fields) c.kept.ensures.family.file_set)
+    files_listed (rows_in c.args.self.now) c.args.row row c.self.inside.by_file_set file_set c.rows_with.result.now c.kept.ensures.row (inside_filed c.self.inside.groups.now c.self.inside.dictionary.now c.self.inside.rows.items c.self.inside.families.items c.self.inside.parents c.self.inside.firsts.items c.self.inside.by_key c.self.inside.by_file_set c.self.inside.separators c.args.self.now c.self.invariant c.self.view_is) (c.field-file_set.ensures ∙ ap (field_at row.fields) c.kept.ensures.family.file_set)
     (not_null file_set c.is_empty.result c.is_empty.ensures c.if-is_empty.false) c.rows_with.ensures

@@ -7,7 +7,7 @@ use Rattle.ags_links.proofs.index.Index.first_of_key.Goals as goal
 use Rattle.ags_links.proofs.index.Index.first_of_key.Goals.{After-self}
 
 firsts : (c : After-self) → AreFirstsOfKeys (rows_in c.args.self.now) c.args.self.now.entries c.self.inside.firsts.items
-firsts c = let i = c.self.inside in inside_firsts i.groups.now i.dictionary.now i.rows.items i.families.items i.parents i.spans.items i.firsts.items i.by_key i.by_file_set i.separators c.args.self.now c.self.invariant c.self.view_is
+firsts c = let i = c.self.inside in inside_firsts i.groups.now i.dictionary.now i.rows.items i.families.items i.parents i.firsts.items i.by_key i.by_file_set i.separators c.args.self.now c.self.invariant c.self.view_is
 
 pub index-requires : goal.index-requires
 index-requires c = omega (arith, c.requires, (firsts c).0, c.self.inside.firsts.ok.0)

@@ -21,7 +21,7 @@ returns c = λ r row part.
     let cut : texts c.push_parts.new.out.items ≡ parts_at separator (entry_of r heading) =
     c.in_ok-push_parts.ensures ∙ ap (λ ps. texts ps ++ parts_at c.self.inside.separators.concatenator c.field.result.now) c.new-parts.ensures.items
     ∙ ap (λ t. parts_at c.self.inside.separators.concatenator t) entry
-    ∙ ap (λ s. parts_at s.concatenator (entry_of kept heading)) (inside_separators c.self.inside.groups.now c.self.inside.dictionary.now c.self.inside.rows.items c.self.inside.families.items c.self.inside.parents c.self.inside.spans.items c.self.inside.firsts.items c.self.inside.by_key c.self.inside.by_file_set c.self.inside.separators c.args.self.now c.self.invariant c.self.view_is)
+    ∙ ap (λ s. parts_at s.concatenator (entry_of kept heading)) (inside_separators c.self.inside.groups.now c.self.inside.dictionary.now c.self.inside.rows.items c.self.inside.families.items c.self.inside.parents c.self.inside.firsts.items c.self.inside.by_key c.self.inside.by_file_set c.self.inside.separators c.args.self.now c.self.invariant c.self.view_is)
     ∙ ap (λ q. parts_at separator (entry_of q heading)) is in
     let same = c.in_ok-once.ensures part in
     (λ h. subst (λ ps. Contains ps part) cut (same.0 h), λ h. same.1 (subst (λ ps. Contains ps part) (sym cut) h))
