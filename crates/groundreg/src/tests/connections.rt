@@ -1,7 +1,7 @@
 //! Connections that are served, over loopback.
 
 use super::failing_after;
-use super::runs::{enter, holds, leave};
+use super::runs::{answers, enter, leave};
 use crate::serving::serve_on;
 use crate::watched::Watched;
 use ags_rows::vectors::{FILE_A, MINI};
@@ -9,56 +9,27 @@ use reg_desk::Desk;
 use reg_policy::vectors::{CALLERS, POLICY};
 use reg_policy::{Callers, Day, Policy};
 use reg_store::SqlKeep;
+use sqlite::MemStore;
+use std::alloc::Global;
+use std::io;
 use std::io::{Read, Write};
 use std::net::{Shutdown, TcpListener, TcpStream};
 use std::test::Fail;
 
-/// A connection that has sent this, and may send more.
-fn sending(rt: &HostRuntime, listener: &TcpListener, parts: &[&[u8]]) -> Result<TcpStream, Fail> {
-    let mut stream = TcpStream::connect(rt, listener.local_addr()?)?;
-    for part in parts {
-        stream.write_all(part)?;
-    }
-    Ok(stream)
+/// One who connects: what is sent, whether more is sent behind it, which no one reads, and the whole reply.
+struct Peer {
+    sends: &'static [&'static [u8]],
+    goes_on: bool,
+    reply: &'static [u8],
 }
 
-/// A connection that has sent this, and nothing more.
-fn sent(rt: &HostRuntime, listener: &TcpListener, parts: &[&[u8]]) -> Result<TcpStream, Fail> {
-    let stream = sending(rt, listener, parts)?;
-    stream.shutdown(Shutdown::Write)?;
-    Ok(stream)
-}
-
-/// Whether this is the whole reply.
-fn replied(rt: &HostRuntime, stream: TcpStream, want: &[u8]) -> Result<bool, Fail> {
-    let mut stream = stream;
-    let mut reply = Vec::new(rt.alloc());
-    stream.read_to_end(&mut reply)?;
-    Ok(reply.as_slice() == want)
-}
-
-/// Serves so many connections on 2024-05-01, over an empty register in memory: the status of the run.
-fn serve_some<W: Write>(
-    rt: &HostRuntime,
-    listener: &TcpListener,
-    connections: u32,
-    out: &mut W,
-) -> Result<u8, Fail> {
-    let alloc = rt.alloc();
-    let keep = SqlKeep::in_memory(alloc, MINI)?;
-    let mut desk = Desk::new(keep, Policy::read(alloc, POLICY)?);
-    let callers = Callers::read(alloc, CALLERS)?;
-    let day = Day::read("2024-05-01").ok_or("day")?;
-    let mut out = Watched::new(out);
-    Ok(serve_on(
-        alloc,
-        listener,
-        &mut desk,
-        &callers,
-        day,
-        connections,
-        &mut out,
-    ))
+/// Connections that are there when a listener is served, which waits for others or does not. As many are served as `count`
+/// says, and their lines are printed.
+struct Case {
+    waits: bool,
+    peers: &'static [Peer],
+    count: u32,
+    printed: &'static [u8],
 }
 
 const DEPOSIT: &[u8] =
@@ -92,92 +63,208 @@ Connection: close\r\n\
 \r\n\
 {\"error\":\"too large\"}";
 
+const CASES: [Case; 3] = [
+    Case {
+        waits: true,
+        peers: &[
+            Peer {
+                sends: &[DEPOSIT, FILE_A],
+                goes_on: false,
+                reply: RECEIPT,
+            },
+            Peer {
+                sends: &[EXTRACT],
+                goes_on: false,
+                reply: UNKNOWN,
+            },
+            Peer {
+                sends: &[TOO_LONG],
+                goes_on: false,
+                reply: TOO_LARGE,
+            },
+            Peer {
+                sends: &[],
+                goes_on: false,
+                reply: b"",
+            },
+        ],
+        count: 4,
+        printed: b"200\n404\n413\n0\n",
+    },
+    // A peer that has sent more than is read has the whole reply, and then its end.
+    Case {
+        waits: true,
+        peers: &[
+            Peer {
+                sends: &[EXTRACT],
+                goes_on: true,
+                reply: UNKNOWN,
+            },
+            Peer {
+                sends: &[DEPOSIT, FILE_A],
+                goes_on: true,
+                reply: RECEIPT,
+            },
+        ],
+        count: 2,
+        printed: b"404\n200\n",
+    },
+    // A listener that does not wait fails to accept where no connection is there. That is printed, and counts as a connection.
+    Case {
+        waits: false,
+        peers: &[Peer {
+            sends: &[EXTRACT],
+            goes_on: false,
+            reply: UNKNOWN,
+        }],
+        count: 3,
+        printed: b"404\nfault\nfault\n",
+    },
+];
+
+/// A listener that waits for a connection, or does not.
+fn listening(rt: &HostRuntime, waits: bool) -> io::Result<TcpListener> {
+    let listener = TcpListener::bind(rt, "127.0.0.1:0")?;
+    listener.set_nonblocking(!waits)?;
+    Ok(listener)
+}
+
+/// Sends what a peer sends. One that does not go on says that it has sent all.
+fn send(stream: &mut TcpStream, peer: &Peer) -> io::Result<()> {
+    for part in peer.sends {
+        stream.write_all(part)?;
+    }
+    if peer.goes_on {
+        stream.write_all(&[b'x'; 20_000])
+    } else {
+        stream.shutdown(Shutdown::Write)
+    }
+}
+
+/// The connection of a peer.
+fn connected(rt: &HostRuntime, listener: &TcpListener, peer: &Peer) -> io::Result<TcpStream> {
+    let mut stream = TcpStream::connect(rt, listener.local_addr()?)?;
+    send(&mut stream, peer)?;
+    Ok(stream)
+}
+
+/// The connections of peers, in their order.
+fn all_connected(
+    rt: &HostRuntime,
+    listener: &TcpListener,
+    peers: &[Peer],
+) -> io::Result<Vec<TcpStream>> {
+    let mut streams = Vec::new(rt.alloc());
+    for peer in peers {
+        streams.push(connected(rt, listener, peer)?)?;
+    }
+    Ok(streams)
+}
+
+/// Whether this is the whole reply.
+fn replied(alloc: Global, mut stream: &TcpStream, want: &[u8]) -> io::Result<bool> {
+    let mut reply = Vec::new(alloc);
+    stream.read_to_end(&mut reply)?;
+    Ok(reply.as_slice() == want)
+}
+
+/// Whether each peer has its whole reply.
+fn all_replied(alloc: Global, streams: &[TcpStream], peers: &[Peer]) -> io::Result<bool> {
+    for (stream, peer) in streams.iter().zip(peers) {
+        if !replied(alloc, stream, peer.reply)? {
+            return Ok(false);
+        }
+    }
+    Ok(true)
+}
+
+/// A desk over an empty register in memory.
+fn new_desk(alloc: Global) -> Result<Desk<SqlKeep<MemStore>>, Fail> {
+    let policy = Policy::read(alloc, POLICY)?;
+    let keep = SqlKeep::in_memory(alloc, MINI)?;
+    Ok(Desk::new(keep, policy))
+}
+
+/// Serves so many connections on 2024-05-01, over an empty register in memory: the status of the run.
+fn serve_some<W: Write>(
+    alloc: Global,
+    listener: &TcpListener,
+    count: u32,
+    out: &mut W,
+) -> Result<u8, Fail> {
+    let day = Day::read("2024-05-01").ok_or("day")?;
+    let callers = Callers::read(alloc, CALLERS)?;
+    let mut desk = new_desk(alloc)?;
+    let out = &mut Watched::new(out);
+    Ok(serve_on(alloc, listener, &mut desk, &callers, day, count, out))
+}
+
+/// Whether a listener is served with status 0 and these lines.
+fn prints(alloc: Global, listener: &TcpListener, count: u32, want: &[u8]) -> Result<bool, Fail> {
+    let mut printed = Vec::new(alloc);
+    let status = serve_some(alloc, listener, count, &mut printed)?;
+    Ok((status == 0) & (printed.as_slice() == want))
+}
+
+/// Whether a case is served as it says.
+fn is_served(rt: &HostRuntime, case: &Case) -> Result<bool, Fail> {
+    let listener = listening(rt, case.waits)?;
+    let streams = all_connected(rt, &listener, case.peers)?;
+    if !prints(rt.alloc(), &listener, case.count, case.printed)? {
+        return Ok(false);
+    }
+    Ok(all_replied(rt.alloc(), streams.as_slice(), case.peers)?)
+}
+
 #[test]
 fn connections_are_served(rt: HostRuntime) -> Result<(), Fail> {
-    let listener = TcpListener::bind(&rt, "127.0.0.1:0")?;
-    let first = sent(&rt, &listener, &[DEPOSIT, FILE_A])?;
-    let second = sent(&rt, &listener, &[EXTRACT])?;
-    let third = sent(&rt, &listener, &[TOO_LONG])?;
-    let last = sent(&rt, &listener, &[])?;
-    let mut printed = Vec::new(rt.alloc());
-    let status = serve_some(&rt, &listener, 4, &mut printed)?;
-    assert_eq!(rt; status, 0);
-    assert_eq!(rt; printed.as_slice(), b"200\n404\n413\n0\n".as_slice());
-    assert!(rt; replied(&rt, first, RECEIPT)?);
-    assert!(rt; replied(&rt, second, UNKNOWN)?);
-    assert!(rt; replied(&rt, third, TOO_LARGE)?);
-    assert!(rt; replied(&rt, last, b"")?);
+    for case in &CASES {
+        assert!(rt; is_served(&rt, case)?);
+    }
     Ok(())
 }
 
-/// A peer that has sent more than is read has the whole reply, and then its end.
-#[test]
-fn a_peer_that_goes_on_sending(rt: HostRuntime) -> Result<(), Fail> {
-    let listener = TcpListener::bind(&rt, "127.0.0.1:0")?;
-    let more = [b'x'; 20_000];
-    let first = sending(&rt, &listener, &[EXTRACT, &more])?;
-    let second = sending(&rt, &listener, &[DEPOSIT, FILE_A, &more])?;
-    let mut printed = Vec::new(rt.alloc());
-    let status = serve_some(&rt, &listener, 2, &mut printed)?;
-    assert_eq!(rt; status, 0);
-    assert_eq!(rt; printed.as_slice(), b"404\n200\n".as_slice());
-    assert!(rt; replied(&rt, first, UNKNOWN)?);
-    assert!(rt; replied(&rt, second, RECEIPT)?);
-    Ok(())
+/// Whether a run is right whose write or flush of a line after `calls` others fails: two connections that fail take four.
+fn line_fails(alloc: Global, listener: &TcpListener, calls: usize) -> Result<bool, Fail> {
+    let mut out = failing_after(alloc, b"", 100, calls);
+    let status = serve_some(alloc, listener, 2, &mut out)?;
+    let ended = if calls < 4 { 6 } else { 0 };
+    Ok((status == ended) & out.has(calls < 4, b"fault\nfault\n"))
 }
-
-/// A listener that does not wait fails to accept where no connection is there. That is printed, and counts as a connection.
-#[test]
-fn an_accept_that_fails(rt: HostRuntime) -> Result<(), Fail> {
-    let listener = TcpListener::bind(&rt, "127.0.0.1:0")?;
-    listener.set_nonblocking(true)?;
-    let only = sent(&rt, &listener, &[EXTRACT])?;
-    let mut printed = Vec::new(rt.alloc());
-    let status = serve_some(&rt, &listener, 3, &mut printed)?;
-    assert_eq!(rt; status, 0);
-    assert_eq!(rt; printed.as_slice(), b"404\nfault\nfault\n".as_slice());
-    assert!(rt; replied(&rt, only, UNKNOWN)?);
-    Ok(())
-}
-
-/// What is printed of two connections that fail.
-const PRINTED: &[u8] = b"fault\nfault\n";
 
 /// Each write and flush of a line fails once: the run ends with it.
 #[test]
 fn a_line_that_is_not_written(rt: HostRuntime) -> Result<(), Fail> {
-    let listener = TcpListener::bind(&rt, "127.0.0.1:0")?;
-    listener.set_nonblocking(true)?;
+    let listener = listening(&rt, false)?;
     for calls in 0..6 {
-        let mut out = failing_after(&rt, b"", 100, calls);
-        let status = serve_some(&rt, &listener, 2, &mut out)?;
-        assert_eq!(rt; out.failed, calls < 4);
-        assert_eq!(rt; status, if out.failed { 6 } else { 0 });
-        assert!(rt; PRINTED.starts_with(out.taken.as_slice()));
-        assert!(rt; out.failed || (out.flushed && out.taken.len() == PRINTED.len()));
+        assert!(rt; line_fails(rt.alloc(), &listener, calls)?);
     }
     Ok(())
+}
+
+/// What `serve` says of a port that is taken, before there is a register.
+const BEFORE: [(&str, &str); 3] = [
+    ("", "4 ! not a register"),
+    ("|--store=junk", "5 ! store failed"),
+    ("|--day=1", "4 ! day refused"),
+];
+
+/// Whether `serve` at a port, with more words behind it, answers so.
+fn serves(rt: &HostRuntime, port: u16, more: &str, want: &str) -> Result<bool, Fail> {
+    let words = format!(in rt.alloc(); "serve|&|--port={port}|--connections=1{more}")?;
+    Ok(answers(rt, &words, want)?)
 }
 
 #[test]
 fn a_port_that_is_taken(rt: HostRuntime) -> Result<(), Fail> {
     enter(&rt, "a_port_that_is_taken")?;
-    let listener = TcpListener::bind(&rt, "127.0.0.1:0")?;
+    let listener = listening(&rt, true)?;
     let port = listener.local_addr()?.port();
-    let serve = format!(in rt.alloc(); "serve|&|--port={port}|--connections=1")?;
-    for (more, want) in [
-        ("", "4 ! not a register"),
-        ("|--store=junk", "5 ! store failed"),
-        ("|--day=1", "4 ! day refused"),
-    ] {
-        let row = format!(in rt.alloc(); "{serve}{more} => {want}")?;
-        holds(&rt, &rt, &[row.as_str()])?;
+    for (more, want) in &BEFORE {
+        assert!(rt; serves(&rt, port, more, want)?);
     }
-    let last = format!(in rt.alloc(); "{serve} => 6 ! cannot listen")?;
-    holds(
-        &rt,
-        &rt,
-        &["init|--store=s|--dictionary=mini => 0 created", &last],
-    )?;
-    leave(&rt, "a_port_that_is_taken")
+    assert!(rt; answers(&rt, "init|--store=s|--dictionary=mini", "0 created")?);
+    assert!(rt; serves(&rt, port, "", "6 ! cannot listen")?);
+    leave(&rt, "a_port_that_is_taken")?;
+    Ok(())
 }

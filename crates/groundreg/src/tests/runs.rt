@@ -1,23 +1,22 @@
-//! Runs with words, over files in the folder that a test runs in.
+//! Runs with words, over files in a folder of their own.
 
+use super::faults;
 use crate::commands::run_words;
 use crate::watched::Watched;
 use ags_rows::vectors::{FILE_A, FILE_B, MINI};
 use reg_policy::Day;
 use reg_policy::vectors::{CALLERS, POLICY};
 use std::alloc::AllocError;
-use std::io::Write;
-use std::process::Abort;
-use std::str::from_utf8;
+use std::io::Read;
 use std::test::Fail;
-use std::{env, fs};
+use std::{env, fs, io};
 
 /// What a run answers: its status, what was printed and what was said of a fault.
 #[derive(Drop)]
-pub(crate) struct Ran {
-    pub(crate) status: u8,
-    pub(crate) printed: Vec<u8>,
-    pub(crate) said: Vec<u8>,
+struct Ran {
+    status: u8,
+    printed: Vec<u8>,
+    said: Vec<u8>,
 }
 
 /// The options that commands share. In a row `@` stands for those of them that the row does not name, and `&` for those of `serve`.
@@ -43,43 +42,85 @@ fn push_options<'w>(
     Ok(())
 }
 
+/// Appends a word of a row, or what it stands for.
+fn push_word<'w>(words: &mut Vec<&'w str>, row: &str, word: &'w str) -> Result<(), AllocError> {
+    match word {
+        "@" => push_options(words, row, &OPTIONS),
+        "&" => push_options(words, row, &OPTIONS[..3]),
+        _ => Ok(words.push(word)?),
+    }
+}
+
 /// The words of a row, with `|` between them.
-fn words_in<'w>(rt: &HostRuntime, row: &'w str) -> Result<Vec<&'w str>, Fail> {
+fn words_in<'w>(rt: &HostRuntime, row: &'w str) -> Result<Vec<&'w str>, AllocError> {
     let mut words = Vec::new(rt.alloc());
     words.push("groundreg")?;
     for word in row.split('|') {
-        match word {
-            "@" => push_options(&mut words, row, &OPTIONS)?,
-            "&" => push_options(&mut words, row, &OPTIONS[..3])?,
-            _ => words.push(word)?,
-        }
+        push_word(&mut words, row, word)?;
     }
     Ok(words)
 }
 
-/// A run on 2024-05-01 with the words of a row and an empty input.
-pub(crate) fn run_row(rt: &HostRuntime, row: &str) -> Result<Ran, Fail> {
-    let words = words_in(rt, row)?;
+/// A run on 2024-05-01 with these words and an empty input.
+fn run(rt: &HostRuntime, words: &[&str]) -> Ran {
     let mut input: &[u8] = b"";
     let mut printed = Vec::new(rt.alloc());
     let mut said = Vec::new(rt.alloc());
     let status = run_words(
         rt,
-        words.as_slice(),
+        words,
         Day::read("2024-05-01"),
         &mut Watched::new(&mut input),
         &mut Watched::new(&mut printed),
         &mut Watched::new(&mut said),
     );
-    Ok(Ran {
+    Ran {
         status,
         printed,
         said,
-    })
+    }
+}
+
+/// The files that the rows name, but the policy, the callers and those that are too long.
+const FILES: [(&str, &[u8]); 8] = [
+    ("mini", MINI),
+    ("a", FILE_A),
+    ("b", FILE_B),
+    ("--day", FILE_A),
+    ("empty", b""),
+    ("junk", b"this is no database"),
+    ("bytes", b"\xFF\xFE"),
+    ("open", b"[[rule"),
+];
+
+/// Writes the files that the rows name, into the folder that the test runs in.
+fn write_files(rt: &HostRuntime) -> io::Result<()> {
+    fs::write(rt, "q", POLICY)?;
+    fs::write(rt, "c", CALLERS)?;
+    for (path, bytes) in &FILES {
+        fs::write(rt, *path, *bytes)?;
+    }
+    Ok(())
+}
+
+/// Writes a file of one byte more than is taken: a text, and spaces behind it.
+fn write_long(rt: &HostRuntime, path: &str, text: &[u8]) -> io::Result<()> {
+    let mut file = fs::create(rt, path)?;
+    let mut bytes = text.chain(io::repeat(b' ')).take(4_194_305);
+    io::copy(&mut bytes, &mut file)?;
+    Ok(())
+}
+
+/// Writes the files that are too long.
+fn write_long_files(rt: &HostRuntime) -> io::Result<()> {
+    write_long(rt, "long", FILE_A)?;
+    write_long(rt, "longest", MINI)?;
+    write_long(rt, "long_q", POLICY.as_bytes())?;
+    write_long(rt, "long_c", CALLERS.as_bytes())
 }
 
 /// Makes a folder, goes there, and writes the files that the rows name.
-pub(crate) fn enter(rt: &HostRuntime, folder: &str) -> Result<(), Fail> {
+pub(crate) fn enter(rt: &HostRuntime, folder: &str) -> io::Result<()> {
     let _ = fs::remove_dir_all(rt, folder);
     fs::create_dir(rt, folder)?;
     env::set_current_dir(rt, folder)?;
@@ -87,107 +128,95 @@ pub(crate) fn enter(rt: &HostRuntime, folder: &str) -> Result<(), Fail> {
 }
 
 /// Leaves the folder, and removes it with all that is in it.
-pub(crate) fn leave(rt: &HostRuntime, folder: &str) -> Result<(), Fail> {
+pub(crate) fn leave(rt: &HostRuntime, folder: &str) -> io::Result<()> {
     env::set_current_dir(rt, "..")?;
-    fs::remove_dir_all(rt, folder)?;
-    Ok(())
+    fs::remove_dir_all(rt, folder)
 }
 
-/// Writes the files that the rows name, into the folder that the test runs in.
-fn write_files(rt: &HostRuntime) -> Result<(), Fail> {
-    fs::write(rt, "mini", MINI)?;
-    fs::write(rt, "a", FILE_A)?;
-    fs::write(rt, "b", FILE_B)?;
-    fs::write(rt, "q", POLICY)?;
-    fs::write(rt, "c", CALLERS)?;
-    fs::write(rt, "empty", "")?;
-    fs::write(rt, "junk", "this is no database")?;
-    fs::write(rt, "bytes", b"\xFF\xFE".as_slice())?;
-    fs::write(rt, "open", "[[rule")?;
-    write_long(rt, "long", FILE_A)?;
-    write_long(rt, "longest", MINI)
-}
-
-/// Writes a file of one byte more than is taken: a text, and spaces behind it.
-pub(crate) fn write_long(rt: &HostRuntime, path: &str, start: &[u8]) -> Result<(), Fail> {
-    let mut file = fs::create(rt, path)?;
-    file.write_all(start)?;
-    let spaces = vec![in rt.alloc(); b' '; 4_194_305usize.saturating_sub(start.len())]?;
-    file.write_all(spaces.as_slice())?;
-    Ok(())
-}
-
-/// What is said of a fault, without the program's name and the end of the line.
-fn fault_in(said: &str) -> Option<&str> {
-    said.strip_prefix("groundreg: ")?.strip_suffix('\n')
-}
-
-/// A text, and behind it what is printed: `(a)` for the bytes of file a, else a line without its end.
-fn with_printed(rt: &HostRuntime, start: &str, printed: &[u8]) -> Result<String, Fail> {
+/// What is printed, as a row has it: `(a)` for the bytes of file a, `(a to 466)` for the first 466 of them.
+fn shown(printed: &[u8]) -> &[u8] {
     if printed == FILE_A {
-        return Ok(format!(in rt.alloc(); "{start} (a)")?);
-    }
-    let line = from_utf8(printed)?;
-    match line.strip_suffix('\n') {
-        Some(text) => Ok(format!(in rt.alloc(); "{start} {text}")?),
-        None => Ok(format!(in rt.alloc(); "{start}{line}")?),
-    }
-}
-
-/// A run as a row has it: its words, `=>`, its status and what is printed, and behind `!` what is said of a fault.
-fn row_of(rt: &HostRuntime, words: &str, ran: &Ran) -> Result<String, Fail> {
-    let start = format!(in rt.alloc(); "{words} => {}", ran.status)?;
-    let row = with_printed(rt, start.as_str(), ran.printed.as_slice())?;
-    let said = from_utf8(ran.said.as_slice())?;
-    match fault_in(said) {
-        Some(text) => Ok(format!(in rt.alloc(); "{row} ! {text}")?),
-        None => Ok(format!(in rt.alloc(); "{row}{said}")?),
+        b"(a)\n"
+    } else if printed == &FILE_A[..466] {
+        b"(a to 466)\n"
+    } else {
+        printed
     }
 }
 
-/// Rows of words and what comes of them: each runs after the ones before it.
-pub(crate) fn holds<A: Abort>(rt: &HostRuntime, handle: &A, rows: &[&str]) -> Result<(), Fail> {
+/// Appends a line without its end, and a mark before it. A text that is no line is appended as it is.
+fn push_line(row: &mut Vec<u8>, mark: &[u8], line: &[u8]) -> Result<(), AllocError> {
+    let Some(text) = line.strip_suffix(b"\n") else {
+        return row.extend_from_slice(line);
+    };
+    row.extend_from_slice(mark)?;
+    row.extend_from_slice(text)
+}
+
+/// Appends what is said of a fault, without the program's name.
+fn push_fault(row: &mut Vec<u8>, said: &[u8]) -> Result<(), AllocError> {
+    match said.strip_prefix(b"groundreg: ") {
+        Some(fault) => push_line(row, b" ! ", fault),
+        None => row.extend_from_slice(said),
+    }
+}
+
+/// A run as a row has it behind `=>`: its status and what is printed, and behind `!` what is said of a fault.
+fn row_of(rt: &HostRuntime, ran: &Ran) -> Result<Vec<u8>, AllocError> {
+    let mut row = Vec::new(rt.alloc());
+    row.push(b'0'.saturating_add(ran.status))?;
+    push_line(&mut row, b" ", shown(ran.printed.as_slice()))?;
+    push_fault(&mut row, ran.said.as_slice())?;
+    Ok(row)
+}
+
+/// Whether a run with the words of a row answers so.
+pub(crate) fn answers(rt: &HostRuntime, words: &str, want: &str) -> Result<bool, AllocError> {
+    let words = words_in(rt, words)?;
+    let ran = run(rt, words.as_slice());
+    let row = row_of(rt, &ran)?;
+    Ok(row.as_slice() == want.as_bytes())
+}
+
+/// Runs rows of words and what comes of them, each after the ones before it. The words of a row without `=>` are refused.
+/// The fault is the first row of which something else comes.
+pub(crate) fn hold(rt: &HostRuntime, rows: &[&str]) -> Result<(), Fail> {
     for row in rows {
-        let (words, _) = row.split_once(" => ").ok_or("a row has `=>`")?;
-        let ran = run_row(rt, words)?;
-        let got = row_of(rt, words, &ran)?;
-        assert_eq!(handle; got.as_str(), *row);
+        let (words, want) = row.split_once(" => ").unwrap_or((row, "4 ! words refused"));
+        if !answers(rt, words, want)? {
+            return Err(Fail::from(*row));
+        }
     }
     Ok(())
 }
 
-#[test]
-fn a_register_from_its_making_to_an_extract(rt: HostRuntime) -> Result<(), Fail> {
-    enter(&rt, "a_register_from_its_making_to_an_extract")?;
-    let rows = [
-        "init|--store|s|--dictionary|mini => 0 created",
-        "init|--store|s|--dictionary|mini => 4 ! store not empty",
-        "init|--store|other|--dictionary|a => 4 ! dictionary refused",
-        "list|@ => 0",
-        "deposit|@|--day|2024-05-01|--embargo|2024-06-01|a => 0 receipt 1 2024-06-01",
-        "deposit|@|--token=t-gamma|--day|2024-05-01|--embargo|2024-06-01|a => 2 denied 5",
-        "deposit|@|--embargo|2030-01-01|a => 0 receipt 1 2024-06-01",
-        "list|@|--day=2024-05-01 => 0 1 Delta 2024-06-01",
-        "list|@ => 0 1 Delta 2024-06-01",
-        "list|@|--token=t-echo => 0",
-        "extract|@|--token=t-echo|--day=2024-05-31|1 => 3 unknown",
-        "extract|@|--token=t-echo|1 => 3 unknown",
-        "extract|@|--token=t-echo|--day=2024-06-01|1 => 0 (a)",
-        "extract|@|999999 => 3 unknown",
-        "list|@|--project|N 1 => 4 ! project refused",
-        "withdraw => 4 ! words refused",
-        // The embargo of a deposit without one is its day, and findings are printed as for the run without words.
-        "deposit|@|--token=t-foxtrot|--day=2024-05-02|a => 0 receipt 2 2024-05-02",
-        "deposit|@|empty => 1 2 0 -",
-        "deposit|@|long => 4 too large",
-        // One who may not deposit is told so, however long the file is.
-        "deposit|@|--token=t-gamma|long => 2 denied 5",
-        "check|--dictionary|mini|b => 0 clean",
-        "check|--dictionary=mini|empty => 1 2 0 -",
-    ];
-    holds(&rt, &rt, &rows)?;
-    leave(&rt, "a_register_from_its_making_to_an_extract")
-}
+/// A register from its making to an extract.
+const REGISTER: [&str; 22] = [
+    "init|--store|s|--dictionary|mini => 0 created",
+    "init|--store|s|--dictionary|mini => 4 ! store not empty",
+    "init|--store|other|--dictionary|a => 4 ! dictionary refused",
+    "list|@ => 0",
+    "deposit|@|--day|2024-05-01|--embargo|2024-06-01|a => 0 receipt 1 2024-06-01",
+    "deposit|@|--token=t-gamma|--day|2024-05-01|--embargo|2024-06-01|a => 2 denied 5",
+    "deposit|@|--embargo|2030-01-01|a => 0 receipt 1 2024-06-01",
+    "list|@|--day=2024-05-01 => 0 1 Delta 2024-06-01",
+    "list|@ => 0 1 Delta 2024-06-01",
+    "list|@|--token=t-echo => 0",
+    "extract|@|--token=t-echo|--day=2024-05-31|1 => 3 unknown",
+    "extract|@|--token=t-echo|1 => 3 unknown",
+    "extract|@|--token=t-echo|--day=2024-06-01|1 => 0 (a)",
+    "extract|@|999999 => 3 unknown",
+    "list|@|--project|N 1 => 4 ! project refused",
+    "withdraw => 4 ! words refused",
+    // The embargo of a deposit without one is its day, and findings are printed as for the run without words.
+    "deposit|@|--token=t-foxtrot|--day=2024-05-02|a => 0 receipt 2 2024-05-02",
+    "deposit|@|empty => 1 2 0 -",
+    "deposit|@|long => 4 too large",
+    // One who may not deposit is told so, however long the file is.
+    "deposit|@|--token=t-gamma|long => 2 denied 5",
+    "check|--dictionary|mini|b => 0 clean",
+    "check|--dictionary=mini|empty => 1 2 0 -",
+];
 
 /// Words that are refused.
 const REFUSED: [&str; 41] = [
@@ -234,42 +263,45 @@ const REFUSED: [&str; 41] = [
     "serve|&|--port=80|--connections=1|--token=t-delta",
 ];
 
-#[test]
-fn words_are_refused(rt: HostRuntime) -> Result<(), Fail> {
-    for row in &REFUSED {
-        let ran = run_row(&rt, row)?;
-        let got = row_of(&rt, row, &ran)?;
-        let want = format!(in rt.alloc(); "{row} => 4 ! words refused")?;
-        assert_eq!(rt; got.as_str(), want.as_str());
-    }
-    Ok(())
-}
+/// Words may stand in any order.
+const IN_ANY_ORDER: [&str; 16] = [
+    "init|--dictionary=mini|--store|s => 0 created",
+    "deposit|a|@ => 0 receipt 1 2024-05-01",
+    "extract|1|@ => 0 (a)",
+    "extract|@|--groups=|1 => 0 (a)",
+    "extract|@|--groups|LOCA,LOCA|1 => 0 (a)",
+    "list|@|--token=-t => 4 ! token refused",
+    "check|--dictionary|mini|./a => 0 clean",
+    "check|./gone|--dictionary|mini => 6 ! cannot read ./gone",
+    "check|--dictionary|mini|. => 6 ! cannot read .",
+    // Behind a word `--` nothing is an option.
+    "check|--dictionary=mini|--|a => 0 clean",
+    "check|--dictionary=mini|--|--day => 0 clean",
+    "check|--dictionary=mini|--|-- => 6 ! cannot read --",
+    "deposit|@|--|--day => 0 receipt 1 2024-05-01",
+    "extract|@|--|1 => 0 (a)",
+    "list|@|-- => 0 1 Delta 2024-05-01",
+    "extract|@|--groups|SAMP|1 => 0 (a to 466)",
+];
+
+/// Rows that run one after the other, each of these in a folder of its own.
+const SCENES: [&[&str]; 7] = [
+    &REGISTER,
+    &REFUSED,
+    &IN_ANY_ORDER,
+    &faults::OF_WORDS_AND_POLICIES,
+    &faults::OF_CALLERS_AND_TOKENS,
+    &faults::OF_REQUESTS,
+    &faults::OF_DICTIONARIES_AND_FILES,
+];
 
 #[test]
-fn words_may_stand_in_any_order(rt: HostRuntime) -> Result<(), Fail> {
-    enter(&rt, "words_may_stand_in_any_order")?;
-    fs::write(&rt, "--day", FILE_A)?;
-    let rows = [
-        "init|--dictionary=mini|--store|s => 0 created",
-        "deposit|a|@ => 0 receipt 1 2024-05-01",
-        "extract|1|@ => 0 (a)",
-        "extract|@|--groups=|1 => 0 (a)",
-        "extract|@|--groups|LOCA,LOCA|1 => 0 (a)",
-        "list|@|--token=-t => 4 ! token refused",
-        "check|--dictionary|mini|./a => 0 clean",
-        "check|./gone|--dictionary|mini => 6 ! cannot read ./gone",
-        "check|--dictionary|mini|. => 6 ! cannot read .",
-        // Behind a word `--` nothing is an option.
-        "check|--dictionary=mini|--|a => 0 clean",
-        "check|--dictionary=mini|--|--day => 0 clean",
-        "check|--dictionary=mini|--|-- => 6 ! cannot read --",
-        "deposit|@|--|--day => 0 receipt 1 2024-05-01",
-        "extract|@|--|1 => 0 (a)",
-        "list|@|-- => 0 1 Delta 2024-05-01",
-    ];
-    holds(&rt, &rt, &rows)?;
-    let some = run_row(&rt, "extract|@|--groups|SAMP|1")?;
-    assert_eq!(rt; some.printed.as_slice(), &FILE_A[..466]);
-    assert_eq!(rt; some.status, 0);
-    leave(&rt, "words_may_stand_in_any_order")
+fn words_are_done_or_refused(rt: HostRuntime) -> Result<(), Fail> {
+    for rows in &SCENES {
+        enter(&rt, "words_are_done_or_refused")?;
+        write_long_files(&rt)?;
+        hold(&rt, rows)?;
+        leave(&rt, "words_are_done_or_refused")?;
+    }
+    Ok(())
 }
