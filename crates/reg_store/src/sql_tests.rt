@@ -1,14 +1,15 @@
 //! Registers that are made, closed and found again, and registers whose tables were changed.
 
-ghost use Rattle.std.specs.Prelude.{◌≤◌, length};
+ghost use Rattle.std.specs.Prelude.{◌≡◌, ◌≤◌, false, length};
 
-use crate::tests::{deposit, take_file};
-use crate::{CreateError, Keep, SqlKeep};
+use crate::tests::{take_named, tell_deposit};
+use crate::{AdoptError, CreateError, Keep, KeepError, SqlKeep};
 use ags_dict::DictError;
 use ags_rows::vectors::{FILE_A, FILE_B, MINI};
 use ags_rows::{LIMIT, READABLE};
-use sqlite::{Alter, Connection, MemStore, params};
-use std::alloc::Global;
+use sqlite::{Alter, Connection, File, FileStore, MemStore, params};
+use std::alloc::{AllocError, Global};
+use std::fmt::Write;
 use std::fs;
 use std::process::Abort;
 use std::test::Fail;
@@ -20,7 +21,7 @@ struct Case {
     want: &'static str,
 }
 
-const CASES: [Case; 11] = [
+const CASES: [Case; 13] = [
     Case {
         file: FILE_A,
         change: "",
@@ -77,6 +78,17 @@ const CASES: [Case; 11] = [
         change: "UPDATE lines SET kind = 3 WHERE seq = 40",
         want: "not a register",
     },
+    // A line or a step of a deposit that is not there cannot be written: the foreign keys are on.
+    Case {
+        file: FILE_A,
+        change: "INSERT INTO lines VALUES (2, 0, 'PROJ', 0, x'')",
+        want: "refused, 1 of 999999: Delta N1 19875 A",
+    },
+    Case {
+        file: FILE_A,
+        change: "INSERT INTO steps VALUES (2, 0, 0)",
+        want: "refused, 1 of 999999: Delta N1 19875 A",
+    },
 ];
 
 // Whatever its other tables are, the number comes before what is wrong with them.
@@ -99,91 +111,137 @@ const DAMAGED: [Case; 3] = [
 ];
 
 /// The connection of a register that holds one file.
-fn taken_apart(alloc: Global, bytes: &[u8]) -> Result<Connection<MemStore>, Fail> {
-    let mut keep = SqlKeep::in_memory(alloc, MINI)?;
-    if bytes.len() <= LIMIT {
-        take_file(alloc, &mut keep, "Delta", "N1", bytes)?;
+fn taken_apart(alloc: Global, bytes: &[u8]) -> Option<Connection<MemStore>> {
+    match SqlKeep::in_memory(alloc, MINI) {
+        Ok(mut keep) => match take_named(alloc, &mut keep, "Delta", "N1", bytes) {
+            Ok(1) => Some(keep.into_connection()),
+            _ => None,
+        },
+        Err(_) => None,
     }
-    Ok(keep.into_connection())
+}
+
+/// How many deposits a register holds and may hold, and its first one.
+fn tell_register<K: Keep>(keep: &mut K, told: &mut String) -> Result<(), KeepError>
+    requires { K.has_failed keep.old ≡ false }
+{
+    let count = keep.count();
+    let limit = keep.limit();
+    write!(told, "{count} of {limit}: ")?;
+    tell_deposit(keep, 1, told)
+}
+
+fn tell_refused(refused: AdoptError, told: &mut String) -> Result<(), AllocError> {
+    write!(told, "{refused}")
 }
 
 /// What adopting answers.
-fn adopted<S: Alter + Drop>(alloc: Global, connection: Connection<S>) -> Result<String, Fail> {
+fn tell_adopted<S: Alter + Drop>(
+    alloc: Global,
+    connection: Connection<S>,
+    told: &mut String,
+) -> Result<(), KeepError> {
     match SqlKeep::adopt(alloc, connection) {
-        Ok(mut keep) => {
-            let first = deposit(alloc, &mut keep, 1)?;
-            Ok(format!(in alloc; "{} of {}: {}", keep.count(), keep.limit(), first.as_str())?)
-        }
-        Err((refused, _connection)) => Ok(format!(in alloc; "{refused}")?),
+        Ok(mut keep) => tell_register(&mut keep, told),
+        Err((refused, _connection)) => Ok(tell_refused(refused, told)?),
     }
 }
 
-fn changed(alloc: Global, case: &Case) -> Result<String, Fail> {
-    let mut connection = taken_apart(alloc, case.file)?;
-    connection.execute_batch(case.change)?;
-    adopted(alloc, connection)
+/// What the statements answer, and then adopting.
+fn tell_changed(
+    alloc: Global,
+    mut connection: Connection<MemStore>,
+    change: &str,
+    told: &mut String,
+) -> Result<(), KeepError> {
+    if connection.execute_batch(change).is_err() {
+        told.push_str("refused, ")?;
+    }
+    tell_adopted(alloc, connection, told)
 }
 
-fn compare(alloc: Global, rt: &impl Abort, cases: &[Case]) -> Result<(), Fail> {
+fn tell_case(alloc: Global, case: &Case, told: &mut String) -> Result<(), KeepError> {
+    match taken_apart(alloc, case.file) {
+        Some(connection) => tell_changed(alloc, connection, case.change, told),
+        None => Err(KeepError::Store),
+    }
+}
+
+/// Whether the change and adopting answer so.
+fn is_answered(alloc: Global, case: &Case) -> bool {
+    let mut told = String::new(alloc);
+    tell_case(alloc, case, &mut told).is_ok() && told.as_str() == case.want
+}
+
+fn compare(alloc: Global, rt: &impl Abort, cases: &[Case]) {
     for case in cases {
-        let found = changed(alloc, case)?;
-        assert_eq!(rt; found.as_str(), case.want, "after {}", case.change);
+        assert!(rt; is_answered(alloc, case), "after {}", case.change);
     }
-    Ok(())
-}
-
-#[test]
-fn changed_registers(rt: HostRuntime) -> Result<(), Fail> {
-    compare(rt.alloc(), &rt, &CASES)?;
-    compare(rt.alloc(), &rt, &DAMAGED)
 }
 
 /// A, with as many spaces behind it as make it so long. Its rows and steps are those of A.
-fn long_body(alloc: Global, length: usize) -> Result<Vec<u8>, Fail> {
+fn long_body(alloc: Global, length: usize) -> Result<Vec<u8>, AllocError> {
     let spaces = [b' '].repeat(alloc, length.saturating_sub(FILE_A.len()))?;
     let mut body = Vec::from_slice(alloc, FILE_A)?;
     body.extend_from_slice(&spaces)?;
     Ok(body)
 }
 
+/// Whether the body of the one deposit becomes this.
+fn has_body(connection: &mut Connection<MemStore>, body: &[u8]) -> bool {
+    let changed = connection.execute("UPDATE deposits SET body = ?1", params![body]);
+    matches!(changed, Ok(1))
+}
+
+/// What adopting answers where the one kept body is this.
+fn tell_with_body(
+    alloc: Global,
+    mut connection: Connection<MemStore>,
+    body: &[u8],
+    told: &mut String,
+) -> Result<(), KeepError> {
+    if !has_body(&mut connection, body) {
+        return Err(KeepError::Store);
+    }
+    tell_adopted(alloc, connection, told)
+}
+
 /// What adopting answers where the kept body is so long.
-fn adopted_so_long(alloc: Global, length: usize) -> Result<String, Fail> {
-    let mut connection = taken_apart(alloc, FILE_A)?;
+fn tell_long(alloc: Global, length: usize, told: &mut String) -> Result<(), KeepError> {
     let body = long_body(alloc, length)?;
-    connection.execute("UPDATE deposits SET body = ?1", params![&body])?;
-    adopted(alloc, connection)
+    match taken_apart(alloc, FILE_A) {
+        Some(connection) => tell_with_body(alloc, connection, body.as_slice(), told),
+        None => Err(KeepError::Store),
+    }
+}
+
+/// Whether adopting answers so where the kept body is so long.
+fn is_answered_long(alloc: Global, length: usize, want: &str) -> bool {
+    let mut told = String::new(alloc);
+    tell_long(alloc, length, &mut told).is_ok() && told.as_str() == want
+}
+
+/// Whether bytes that are no dictionary are refused as such.
+fn refuses_no_dictionary(alloc: Global) -> bool {
+    matches!(
+        SqlKeep::in_memory(alloc, FILE_A),
+        Err(CreateError::Dictionary(DictError::NoDict))
+    )
 }
 
 #[test]
-fn a_body_that_is_too_long(rt: HostRuntime) -> Result<(), Fail> {
-    let kept = adopted_so_long(rt.alloc(), LIMIT)?;
-    assert_eq!(rt; kept.as_str(), "1 of 999999: Delta N1 19875 another file");
-    let found = adopted_so_long(rt.alloc(), LIMIT + 1)?;
-    assert_eq!(rt; found.as_str(), "not a register");
-    Ok(())
-}
-
-/// A line or a step of a deposit that is not there cannot be written: the foreign keys are on.
-#[test]
-fn rows_of_no_deposit(rt: HostRuntime) -> Result<(), Fail> {
-    let mut connection = taken_apart(rt.alloc(), FILE_A)?;
-    let line = connection.execute_batch("INSERT INTO lines VALUES (2, 0, 'PROJ', 0, x'')");
-    assert!(rt; line.is_err());
-    let step = connection.execute_batch("INSERT INTO steps VALUES (2, 0, 0)");
-    assert!(rt; step.is_err());
-    let found = adopted(rt.alloc(), connection)?;
-    assert_eq!(rt; found.as_str(), "1 of 999999: Delta N1 19875 A");
-    Ok(())
-}
-
-#[test]
-fn bytes_that_are_no_dictionary(rt: HostRuntime) {
+fn changed_registers(rt: HostRuntime) {
+    compare(rt.alloc(), &rt, &CASES);
+    compare(rt.alloc(), &rt, &DAMAGED);
     assert!(rt;
-        matches!(
-            SqlKeep::in_memory(rt.alloc(), FILE_A),
-            Err(CreateError::Dictionary(DictError::NoDict))
+        is_answered_long(
+            rt.alloc(),
+            LIMIT,
+            "1 of 999999: Delta N1 19875 another file"
         )
     );
+    assert!(rt; is_answered_long(rt.alloc(), LIMIT + 1, "not a register"));
+    assert!(rt; refuses_no_dictionary(rt.alloc()));
 }
 
 /// What is done at a path.
@@ -232,51 +290,76 @@ const VISITS: [Visit; 5] = [
     },
 ];
 
-fn create(rt: &HostRuntime, path: &str, bytes: &[u8]) -> Result<String, Fail>
+/// Whether the database of a file could be closed.
+fn is_closed(connection: Connection<FileStore<File>>) -> bool {
+    connection.close().is_ok()
+}
+
+fn tell_made(refused: &CreateError, told: &mut String) -> Result<(), AllocError> {
+    write!(told, "{refused}")
+}
+
+fn tell_create(
+    rt: &HostRuntime,
+    path: &str,
+    bytes: &[u8],
+    told: &mut String,
+) -> Result<(), KeepError>
     requires { length bytes.now ≤ READABLE }
 {
     match SqlKeep::create(rt, rt.alloc(), path, bytes) {
         Ok(mut keep) => {
-            let taken = take_file(rt.alloc(), &mut keep, "Delta", "N1", FILE_A)?;
-            keep.into_connection().close()?;
-            Ok(taken)
+            let number = take_named(rt.alloc(), &mut keep, "Delta", "N1", FILE_A)?;
+            write!(told, "{number}")?;
+            if is_closed(keep.into_connection()) {
+                Ok(())
+            } else {
+                Err(KeepError::Store)
+            }
         }
-        Err(refused) => Ok(format!(in rt.alloc(); "{refused}")?),
+        Err(refused) => Ok(tell_made(&refused, told)?),
     }
 }
 
-fn open(rt: &HostRuntime, path: &str) -> Result<String, Fail> {
+fn tell_open(rt: &HostRuntime, path: &str, told: &mut String) -> Result<(), KeepError> {
     match SqlKeep::open(rt, rt.alloc(), path) {
         Ok(mut keep) => {
-            let read = deposit(rt.alloc(), &mut keep, 1)?;
-            keep.into_connection().close()?;
-            Ok(read)
+            tell_deposit(&mut keep, 1, told)?;
+            if is_closed(keep.into_connection()) {
+                Ok(())
+            } else {
+                Err(KeepError::Store)
+            }
         }
-        Err(refused) => Ok(format!(in rt.alloc(); "{refused}")?),
+        Err(refused) => Ok(tell_refused(refused, told)?),
     }
 }
 
-fn answer(rt: &HostRuntime, visit: &Visit) -> Result<String, Fail> {
+fn tell_visit(rt: &HostRuntime, visit: &Visit, told: &mut String) -> Result<(), KeepError> {
     match visit.act {
-        Act::Create(bytes) if bytes.len() <= READABLE => create(rt, visit.path, bytes),
-        Act::Create(_) => Ok(String::new(rt.alloc())),
-        Act::Open => open(rt, visit.path),
+        Act::Create(bytes) if bytes.len() <= READABLE => tell_create(rt, visit.path, bytes, told),
+        Act::Create(_) => Ok(()),
+        Act::Open => tell_open(rt, visit.path, told),
     }
 }
 
-fn compare_all(rt: &HostRuntime, stop: &impl Abort, visits: &[Visit]) -> Result<(), Fail> {
+/// Whether what is done at a path answers so.
+fn is_visited(rt: &HostRuntime, visit: &Visit) -> bool {
+    let mut told = String::new(rt.alloc());
+    tell_visit(rt, visit, &mut told).is_ok() && told.as_str() == visit.want
+}
+
+fn compare_all(rt: &HostRuntime, stop: &impl Abort, visits: &[Visit]) {
     for one in visits {
-        let found = answer(rt, one)?;
-        assert_eq!(stop; found.as_str(), one.want, "at {}", one.path);
+        assert!(stop; is_visited(rt, one), "at {}", one.path);
     }
-    Ok(())
 }
 
 #[test]
 fn registers_in_files(rt: HostRuntime) -> Result<(), Fail> {
     let _ = fs::remove_dir_all(&rt, FOLDER);
     fs::create_dir(&rt, FOLDER)?;
-    compare_all(&rt, &rt, &VISITS)?;
+    compare_all(&rt, &rt, &VISITS);
     fs::remove_dir_all(&rt, FOLDER)?;
     Ok(())
 }

@@ -2,17 +2,15 @@
 
 ghost use Rattle.std.specs.Prelude.{◌≡◌, ◌<◌, ◌≤◌, false, length, IfOk, IsTrue, OnOk};
 
-use crate::{Keep, KeepError, Kept, KeptHead, KeptRow, PlainKeep, SqlKeep};
+use crate::{Keep, KeepError, Kept, KeptRow, PlainKeep, SqlKeep};
 use ags_check::{Checked, check};
-use ags_dict::{DictError, Dictionary};
+use ags_dict::Dictionary;
 use ags_links::Graph;
 use ags_rows::LIMIT;
 use ags_rows::vectors::{FILE_A, FILE_B, MINI};
 use reg_policy::{Day, Name};
-use sqlite::{Connection, MemStore};
 use std::alloc::{AllocError, Global};
 use std::fmt::Write;
-use std::process::Abort;
 use std::test::Fail;
 
 /// A file that is deposited.
@@ -47,138 +45,215 @@ struct Case {
 /// Where the name of A's project begins.
 const NAME_AT: usize = 93;
 
-fn original(file: File) -> &'static [u8] {
-    match file {
-        File::A | File::OtherA => FILE_A,
-        File::B => FILE_B,
+/// A name of the tests. One that is none counts as want of memory, which no test expects.
+fn name(alloc: Global, text: &str) -> Result<Name, KeepError> {
+    match Name::read(alloc, text) {
+        Ok(name) => Ok(name),
+        Err(_) => Err(KeepError::NoMemory),
     }
 }
 
-/// The file with another first letter of its project's name.
-fn renamed(alloc: Global, bytes: &[u8]) -> Result<Vec<u8>, AllocError> {
-    let mut renamed = Vec::from_slice(alloc, bytes)?;
+/// The file A with another first letter of its project's name.
+fn renamed(alloc: Global) -> Result<Vec<u8>, AllocError> {
+    let mut renamed = Vec::from_slice(alloc, FILE_A)?;
     if NAME_AT < renamed.len() {
         renamed[NAME_AT] = b'F';
     }
     Ok(renamed)
 }
 
-fn bytes_of(alloc: Global, file: File) -> Result<Vec<u8>, AllocError> {
-    match file {
-        File::OtherA => renamed(alloc, original(file)),
-        _ => Vec::from_slice(alloc, original(file)),
+/// A file of the tests, checked. One that is too long or has findings counts as want of memory, which no test expects.
+fn checked<'b>(
+    alloc: Global,
+    dictionary: &Dictionary,
+    bytes: &'b [u8],
+) -> Result<Checked<'b>, KeepError>
+    ensures given { IfOk result (λ checked. checked.given ≡ dictionary.now) }
+    ensures short { IfOk result (λ checked. length checked.bytes ≤ LIMIT) }
+{
+    if bytes.len() > LIMIT {
+        return Err(KeepError::NoMemory);
+    }
+    match check(alloc, dictionary, bytes) {
+        Ok(checked) => Ok(checked),
+        Err(_) => Err(KeepError::NoMemory),
     }
 }
 
-/// The number of the deposit, that of an equal one or a new one; none where the keep is full.
-pub(crate) fn take<K: Keep>(
+/// The first day after each embargo of the tests: 2024-06-01.
+fn free_from() -> Result<Day, KeepError> {
+    match Day::new(19_875) {
+        Some(day) => Ok(day),
+        None => Err(KeepError::NoMemory),
+    }
+}
+
+/// The number of the deposit, that of an equal one or a new one; 0 where the keep is full.
+fn take<K: Keep>(
     keep: &mut K,
     firm: &Name,
     project: &Name,
     embargo: Day,
     checked: &Checked<'_>,
-) -> Result<Option<u32>, KeepError>
+) -> Result<u32, KeepError>
     requires working { K.has_failed keep.old ≡ false }
     requires dictionary { checked.now.given ≡ K.dictionary keep.old }
     requires short { length checked.now.bytes ≤ LIMIT }
     ensures { OnOk result (K.has_failed keep.new ≡ false) }
 {
     if let Some(held) = keep.find(firm, project, checked.bytes())? {
-        return Ok(Some(held));
+        return Ok(held);
     }
     match keep.add(firm, project, embargo, checked) {
-        Ok(number) => Ok(Some(number)),
-        Err(KeepError::Full) => Ok(None),
+        Ok(number) => Ok(number),
+        Err(KeepError::Full) => Ok(0),
         Err(refused) => Err(refused),
     }
 }
 
-fn printed_number(alloc: Global, number: Option<u32>) -> Result<String, Fail> {
-    match number {
-        Some(number) => Ok(format!(in alloc; "{number}")?),
-        None => Ok(String::from_str(alloc, "full")?),
-    }
+/// Takes the file of a firm for a project.
+pub(crate) fn take_file<K: Keep>(
+    alloc: Global,
+    keep: &mut K,
+    firm: &Name,
+    project: &Name,
+    bytes: &[u8],
+) -> Result<u32, KeepError>
+    requires { K.has_failed keep.old ≡ false }
+    ensures { OnOk result (K.has_failed keep.new ≡ false) }
+{
+    let embargo = free_from()?;
+    let checked = checked(alloc, keep.dictionary(), bytes)?;
+    take(keep, firm, project, embargo, &checked)
 }
 
-/// Takes the file of a firm for a project, under an embargo until 2024-06-01.
-pub(crate) fn take_file<K: Keep>(
+/// Takes the file of a firm for a project, both by name.
+pub(crate) fn take_named<K: Keep>(
     alloc: Global,
     keep: &mut K,
     firm: &str,
     project: &str,
     bytes: &[u8],
-) -> Result<String, Fail>
-    requires working { K.has_failed keep.old ≡ false }
-    requires short { length bytes.now ≤ LIMIT }
+) -> Result<u32, KeepError>
+    requires { K.has_failed keep.old ≡ false }
     ensures { OnOk result (K.has_failed keep.new ≡ false) }
 {
-    let firm = Name::read(alloc, firm)?;
-    let project = Name::read(alloc, project)?;
-    let embargo = Day::new(19_875).ok_or("day")?;
-    let checked = check(alloc, keep.dictionary(), bytes)?;
-    let number = take(keep, &firm, &project, embargo, &checked)?;
-    printed_number(alloc, number)
+    let firm = name(alloc, firm)?;
+    let project = name(alloc, project)?;
+    take_file(alloc, keep, &firm, &project, bytes)
+}
+
+fn take_renamed<K: Keep>(
+    alloc: Global,
+    keep: &mut K,
+    firm: &str,
+    project: &str,
+) -> Result<u32, KeepError>
+    requires { K.has_failed keep.old ≡ false }
+    ensures { OnOk result (K.has_failed keep.new ≡ false) }
+{
+    let bytes = renamed(alloc)?;
+    take_named(alloc, keep, firm, project, bytes.as_slice())
+}
+
+fn take_any<K: Keep>(
+    alloc: Global,
+    keep: &mut K,
+    firm: &str,
+    project: &str,
+    file: File,
+) -> Result<u32, KeepError>
+    requires { K.has_failed keep.old ≡ false }
+    ensures { OnOk result (K.has_failed keep.new ≡ false) }
+{
+    match file {
+        File::A => take_named(alloc, keep, firm, project, FILE_A),
+        File::B => take_named(alloc, keep, firm, project, FILE_B),
+        File::OtherA => take_renamed(alloc, keep, firm, project),
+    }
+}
+
+fn tell_taken(number: u32, told: &mut String) -> Result<(), AllocError> {
+    if number == 0 {
+        told.push_str("full")
+    } else {
+        write!(told, "{number}")
+    }
 }
 
 /// Which of the files these bytes are.
-fn printed_file(bytes: &[u8]) -> &'static str {
+fn file_of(bytes: &[u8]) -> &'static str {
     if bytes == FILE_A {
-        "A"
+        " A"
     } else if bytes == FILE_B {
-        "B"
+        " B"
     } else {
-        "another file"
+        " another file"
     }
 }
 
-fn printed_deposit(alloc: Global, kept: &Kept) -> Result<String, Fail> {
-    let mut text = String::new(alloc);
-    text.push_str(kept.firm.text())?;
-    text.push(' ')?;
-    text.push_str(kept.project.text())?;
-    let file = printed_file(kept.bytes.as_slice());
-    write!(text, " {} {file}", kept.embargo.number())?;
-    Ok(text)
+/// Who sent a deposit, for which project, and until when it is under embargo.
+fn tell_sent(
+    firm: &Name,
+    project: &Name,
+    embargo: Day,
+    told: &mut String,
+) -> Result<(), AllocError> {
+    let firm = firm.text();
+    let project = project.text();
+    let day = embargo.number();
+    write!(told, "{firm} {project} {day}")
 }
 
-fn printed_head(alloc: Global, head: &KeptHead) -> Result<String, Fail> {
-    let mut text = String::new(alloc);
-    text.push_str(head.firm.text())?;
-    text.push(' ')?;
-    text.push_str(head.project.text())?;
-    write!(text, " {}", head.embargo.number())?;
-    Ok(text)
+fn tell_kept(kept: &Kept, told: &mut String) -> Result<(), AllocError> {
+    tell_sent(&kept.firm, &kept.project, kept.embargo, told)?;
+    told.push_str(file_of(kept.bytes.as_slice()))
+}
+
+/// How many of the rows are DATA rows.
+fn data_count(rows: &[KeptRow]) -> usize {
+    let mut count: usize = 0;
+    for row in rows {
+        if row.kind == 4 {
+            count = count.saturating_add(1);
+        }
+    }
+    count
+}
+
+fn tell_row(alloc: Global, row: &KeptRow, told: &mut String) -> Result<(), AllocError> {
+    let group = String::from_utf8_lossy(alloc, row.group.as_slice())?;
+    let line = String::from_utf8_lossy(alloc, row.line.as_slice())?;
+    let kind = row.kind;
+    write!(told, ", last {group} {kind} {line}")
 }
 
 /// How many rows there are, how many of them are DATA rows, and the last one.
-fn printed_rows(alloc: Global, rows: &[KeptRow]) -> Result<String, Fail> {
-    let mut text = String::new(alloc);
-    let data = rows.iter().filter(|row| row.kind == 4).count();
-    write!(text, "{} rows, {data} of kind 4", rows.len())?;
-    if let Some(last) = rows.last() {
-        let group = String::from_utf8_lossy(alloc, last.group.as_slice())?;
-        let line = String::from_utf8_lossy(alloc, last.line.as_slice())?;
-        write!(text, ", last {group} {} {line}", last.kind)?;
+fn tell_kept_rows(alloc: Global, rows: &[KeptRow], told: &mut String) -> Result<(), AllocError> {
+    let count = rows.len();
+    let data = data_count(rows);
+    write!(told, "{count} rows, {data} of kind 4")?;
+    match rows.last() {
+        Some(last) => tell_row(alloc, last, told),
+        None => Ok(()),
     }
-    Ok(text)
 }
 
 /// How many rows there are, and the steps between them.
-fn printed_steps(alloc: Global, graph: &Graph) -> Result<String, Fail> {
-    let mut text = String::new(alloc);
-    write!(text, "{} rows", graph.rows())?;
+fn tell_graph(graph: &Graph, told: &mut String) -> Result<(), AllocError> {
+    let rows = graph.rows();
+    write!(told, "{rows} rows")?;
     for (child, target) in graph.steps() {
-        write!(text, " {child}-{target}")?;
+        write!(told, " {child}-{target}")?;
     }
-    Ok(text)
+    Ok(())
 }
 
-fn printed_numbers(alloc: Global, numbers: &[u32]) -> Result<String, Fail> {
-    let mut text = String::new(alloc);
+fn tell_each(numbers: &[u32], told: &mut String) -> Result<(), AllocError> {
     for number in numbers {
-        write!(text, "{number};")?;
+        write!(told, "{number};")?;
     }
-    Ok(text)
+    Ok(())
 }
 
 /// Whether a deposit of that number is held.
@@ -190,108 +265,147 @@ fn is_held<K: Keep>(keep: &K, n: u32) -> bool
 }
 
 /// The deposit of that number, or nothing where it is not held.
-pub(crate) fn deposit<K: Keep>(alloc: Global, keep: &mut K, n: u32) -> Result<String, Fail>
+pub(crate) fn tell_deposit<K: Keep>(
+    keep: &mut K,
+    n: u32,
+    told: &mut String,
+) -> Result<(), KeepError>
     requires { K.has_failed keep.old ≡ false }
     ensures { OnOk result (K.has_failed keep.new ≡ false) }
 {
     if !is_held(keep, n) {
-        return Ok(String::new(alloc));
+        return Ok(());
     }
     let kept = keep.deposit(n)?;
-    printed_deposit(alloc, &kept)
+    Ok(tell_kept(&kept, told)?)
 }
 
-fn head<K: Keep>(alloc: Global, keep: &mut K, n: u32) -> Result<String, Fail>
+fn tell_head<K: Keep>(keep: &mut K, n: u32, told: &mut String) -> Result<(), KeepError>
     requires { K.has_failed keep.old ≡ false }
     ensures { OnOk result (K.has_failed keep.new ≡ false) }
 {
     if !is_held(keep, n) {
-        return Ok(String::new(alloc));
+        return Ok(());
     }
     let head = keep.head(n)?;
-    printed_head(alloc, &head)
+    Ok(tell_sent(&head.firm, &head.project, head.embargo, told)?)
 }
 
-fn rows<K: Keep>(alloc: Global, keep: &mut K, n: u32) -> Result<String, Fail>
+fn tell_rows<K: Keep>(
+    alloc: Global,
+    keep: &mut K,
+    n: u32,
+    told: &mut String,
+) -> Result<(), KeepError>
     requires { K.has_failed keep.old ≡ false }
     ensures { OnOk result (K.has_failed keep.new ≡ false) }
 {
     if !is_held(keep, n) {
-        return Ok(String::new(alloc));
+        return Ok(());
     }
     let rows = keep.rows(n)?;
-    printed_rows(alloc, rows.as_slice())
+    Ok(tell_kept_rows(alloc, rows.as_slice(), told)?)
 }
 
-fn steps<K: Keep>(alloc: Global, keep: &mut K, n: u32) -> Result<String, Fail>
+fn tell_steps<K: Keep>(keep: &mut K, n: u32, told: &mut String) -> Result<(), KeepError>
     requires { K.has_failed keep.old ≡ false }
     ensures { OnOk result (K.has_failed keep.new ≡ false) }
 {
     if !is_held(keep, n) {
-        return Ok(String::new(alloc));
+        return Ok(());
     }
     let graph = keep.steps(n)?;
-    printed_steps(alloc, &graph)
+    Ok(tell_graph(&graph, told)?)
 }
 
-fn numbers<K: Keep>(alloc: Global, keep: &mut K, project: &str) -> Result<String, Fail>
+fn tell_numbers<K: Keep>(
+    alloc: Global,
+    keep: &mut K,
+    project: &str,
+    told: &mut String,
+) -> Result<(), KeepError>
     requires { K.has_failed keep.old ≡ false }
     ensures { OnOk result (K.has_failed keep.new ≡ false) }
 {
-    let project = Name::read(alloc, project)?;
+    let project = name(alloc, project)?;
     let numbers = keep.numbers(&project)?;
-    printed_numbers(alloc, numbers.as_slice())
+    Ok(tell_each(numbers.as_slice(), told)?)
 }
 
-fn sizes<K: Keep>(alloc: Global, keep: &K) -> Result<String, Fail> {
-    let mut text = String::new(alloc);
-    let dictionary = keep.dictionary();
-    write!(text, "{} of {}", keep.count(), keep.limit())?;
-    write!(
-        text,
-        ", {} and {} entries",
-        dictionary.group_count(),
-        dictionary.heading_count()
-    )?;
-    Ok(text)
+/// How many entries the dictionary has.
+fn tell_entries(dictionary: &Dictionary, told: &mut String) -> Result<(), AllocError> {
+    let groups = dictionary.group_count();
+    let headings = dictionary.heading_count();
+    write!(told, ", {groups} and {headings} entries")
 }
 
-fn answer<K: Keep>(alloc: Global, keep: &mut K, call: Call) -> Result<String, Fail>
+fn tell_sizes<K: Keep>(keep: &K, told: &mut String) -> Result<(), AllocError> {
+    let count = keep.count();
+    let limit = keep.limit();
+    write!(told, "{count} of {limit}")?;
+    tell_entries(keep.dictionary(), told)
+}
+
+fn tell_take<K: Keep>(
+    alloc: Global,
+    keep: &mut K,
+    firm: &str,
+    project: &str,
+    file: File,
+    told: &mut String,
+) -> Result<(), KeepError>
+    requires { K.has_failed keep.old ≡ false }
+    ensures { OnOk result (K.has_failed keep.new ≡ false) }
+{
+    let number = take_any(alloc, keep, firm, project, file)?;
+    Ok(tell_taken(number, told)?)
+}
+
+/// Adds the answer of a call to a text.
+fn tell<K: Keep>(
+    alloc: Global,
+    keep: &mut K,
+    call: Call,
+    told: &mut String,
+) -> Result<(), KeepError>
     requires { K.has_failed keep.old ≡ false }
     ensures { OnOk result (K.has_failed keep.new ≡ false) }
 {
     match call {
-        Call::Take(firm, project, file) => {
-            let bytes = bytes_of(alloc, file)?;
-            if bytes.len() > LIMIT {
-                return Ok(String::new(alloc));
-            }
-            take_file(alloc, keep, firm, project, bytes.as_slice())
-        }
-        Call::Deposit(n) => deposit(alloc, keep, n),
-        Call::Head(n) => head(alloc, keep, n),
-        Call::Rows(n) => rows(alloc, keep, n),
-        Call::Steps(n) => steps(alloc, keep, n),
-        Call::Numbers(project) => numbers(alloc, keep, project),
-        Call::Sizes => sizes(alloc, keep),
+        Call::Take(firm, project, file) => tell_take(alloc, keep, firm, project, file, told),
+        Call::Deposit(n) => tell_deposit(keep, n, told),
+        Call::Head(n) => tell_head(keep, n, told),
+        Call::Rows(n) => tell_rows(alloc, keep, n, told),
+        Call::Steps(n) => tell_steps(keep, n, told),
+        Call::Numbers(project) => tell_numbers(alloc, keep, project, told),
+        Call::Sizes => Ok(tell_sizes(keep, told)?),
     }
 }
 
-/// Asks a keep each call in turn.
-fn ask_all<K: Keep + Drop>(
-    alloc: Global,
-    rt: &impl Abort,
-    mut keep: K,
-    cases: &[Case],
-) -> Result<(), Fail>
-    requires { K.has_failed keep ≡ false }
+/// Whether a keep answers a call so.
+fn is_answered<K: Keep>(alloc: Global, keep: &mut K, case: &Case) -> Result<bool, KeepError>
+    requires { K.has_failed keep.old ≡ false }
+    ensures { OnOk result (K.has_failed keep.new ≡ false) }
+{
+    let mut told = String::new(alloc);
+    tell(alloc, keep, case.call, &mut told)?;
+    Ok(told.as_str() == case.want)
+}
+
+/// Whether a keep answers each call so, of calls that are asked in turn; else the first answer that it does not give.
+fn compared<K: Keep>(alloc: Global, keep: &mut K, cases: &[Case]) -> Result<&'static str, KeepError>
+    requires { K.has_failed keep.old ≡ false }
 {
     for case in cases {
-        let found = answer(alloc, &mut keep, case.call)?;
-        assert_eq!(rt; found.as_str(), case.want);
+        if !is_answered(alloc, keep, case)? {
+            return Ok(case.want);
+        }
     }
-    Ok(())
+    Ok(SAME)
 }
+
+/// Every answer is as wanted.
+const SAME: &str = "all as wanted";
 
 const CASES: [Case; 14] = [
     Case {
@@ -372,44 +486,40 @@ const FULL: [Case; 4] = [
     },
 ];
 
-fn mini(alloc: Global) -> Result<Dictionary, DictError> {
-    Dictionary::read(alloc, MINI)
+/// The calls over a keep in memory.
+fn in_memory(alloc: Global, limit: u32, cases: &[Case]) -> Result<&'static str, KeepError>
+    requires least { 0 < limit }
+    requires most { limit ≤ 999999 }
+{
+    match Dictionary::read(alloc, MINI) {
+        Ok(dictionary) => {
+            let mut keep = PlainKeep::with_limit(alloc, dictionary, limit);
+            compared(alloc, &mut keep, cases)
+        }
+        Err(_) => Err(KeepError::NoMemory),
+    }
 }
 
-/// An empty register in the tables of a database in memory.
-fn in_tables(alloc: Global) -> Result<SqlKeep<MemStore>, Fail>
-    ensures { IfOk result (λ keep. keep.has_failed ≡ false) }
-{
-    let connection = Connection::open_in_memory(alloc)?;
-    match SqlKeep::create_in(alloc, connection, MINI) {
-        Ok(keep) => Ok(keep),
-        Err((refused, _)) => Err(refused.into()),
+/// The calls over the tables of a database in memory.
+fn in_tables(alloc: Global, cases: &[Case]) -> Result<&'static str, KeepError> {
+    match SqlKeep::in_memory(alloc, MINI) {
+        Ok(mut keep) => compared(alloc, &mut keep, cases),
+        Err(_) => Err(KeepError::Store),
     }
 }
 
 #[test]
 fn calls_in_memory(rt: HostRuntime) -> Result<(), Fail> {
-    let dictionary = mini(rt.alloc())?;
-    ask_all(
-        rt.alloc(),
-        &rt,
-        PlainKeep::new(rt.alloc(), dictionary),
-        &CASES,
-    )
+    let many = in_memory(rt.alloc(), 999_999, &CASES)?;
+    assert!(rt; many == SAME, "{many}");
+    let few = in_memory(rt.alloc(), 1, &FULL)?;
+    assert!(rt; few == SAME, "{few}");
+    Ok(())
 }
 
 #[test]
 fn calls_in_tables(rt: HostRuntime) -> Result<(), Fail> {
-    ask_all(rt.alloc(), &rt, in_tables(rt.alloc())?, &CASES)
-}
-
-#[test]
-fn a_second_deposit_is_full(rt: HostRuntime) -> Result<(), Fail> {
-    let dictionary = mini(rt.alloc())?;
-    ask_all(
-        rt.alloc(),
-        &rt,
-        PlainKeep::with_limit(rt.alloc(), dictionary, 1),
-        &FULL,
-    )
+    let found = in_tables(rt.alloc(), &CASES)?;
+    assert!(rt; found == SAME, "{found}");
+    Ok(())
 }
