@@ -2,7 +2,7 @@
 
 ghost use Rattle.std.specs.Prelude.{◌≡◌, ◌<◌, ◌≤◌, false, length, IfOk, IsTrue, OnOk};
 
-use crate::{Keep, KeepError, Kept, KeptHead, KeptRow, PlainKeep, SqlKeep};
+use crate::{Keep, KeepError, Kept, KeptHead, KeptRow, PlainKeep, ProjectRow, SqlKeep};
 use ags_check::{Checked, check};
 use ags_dict::{DictError, Dictionary};
 use ags_links::Graph;
@@ -33,6 +33,9 @@ enum Call {
     Head(u32),
     Rows(u32),
     Steps(u32),
+    Project(u32),
+    /// `targets` of a deposit's row.
+    Targets(u32, u32),
     Numbers(&'static str),
     /// `count`, `limit`, and how many entries `dictionary` has.
     Sizes,
@@ -173,6 +176,17 @@ fn printed_steps(alloc: Global, graph: &Graph) -> Result<String, Fail> {
     Ok(text)
 }
 
+/// The number of the row of PROJ, the HEADING row before it, and the row.
+fn printed_project(alloc: Global, found: &Option<ProjectRow>) -> Result<String, Fail> {
+    let mut text = String::new(alloc);
+    if let Some(row) = found {
+        let headings = String::from_utf8_lossy(alloc, row.headings.as_slice())?;
+        let line = String::from_utf8_lossy(alloc, row.line.as_slice())?;
+        write!(text, "{} {headings} {line}", row.number)?;
+    }
+    Ok(text)
+}
+
 fn printed_numbers(alloc: Global, numbers: &[u32]) -> Result<String, Fail> {
     let mut text = String::new(alloc);
     for number in numbers {
@@ -234,6 +248,28 @@ fn steps<K: Keep>(alloc: Global, keep: &mut K, n: u32) -> Result<String, Fail>
     printed_steps(alloc, &graph)
 }
 
+fn project<K: Keep>(alloc: Global, keep: &mut K, n: u32) -> Result<String, Fail>
+    requires { K.has_failed keep.old ≡ false }
+    ensures { OnOk result (K.has_failed keep.new ≡ false) }
+{
+    if !is_held(keep, n) {
+        return Ok(String::new(alloc));
+    }
+    let found = keep.project_row(n)?;
+    printed_project(alloc, &found)
+}
+
+fn targets<K: Keep>(alloc: Global, keep: &mut K, n: u32, row: u32) -> Result<String, Fail>
+    requires { K.has_failed keep.old ≡ false }
+    ensures { OnOk result (K.has_failed keep.new ≡ false) }
+{
+    if !is_held(keep, n) {
+        return Ok(String::new(alloc));
+    }
+    let targets = keep.targets(n, row)?;
+    printed_numbers(alloc, targets.as_slice())
+}
+
 fn numbers<K: Keep>(alloc: Global, keep: &mut K, project: &str) -> Result<String, Fail>
     requires { K.has_failed keep.old ≡ false }
     ensures { OnOk result (K.has_failed keep.new ≡ false) }
@@ -272,6 +308,8 @@ fn answer<K: Keep>(alloc: Global, keep: &mut K, call: Call) -> Result<String, Fa
         Call::Head(n) => head(alloc, keep, n),
         Call::Rows(n) => rows(alloc, keep, n),
         Call::Steps(n) => steps(alloc, keep, n),
+        Call::Project(n) => project(alloc, keep, n),
+        Call::Targets(n, row) => targets(alloc, keep, n, row),
         Call::Numbers(project) => numbers(alloc, keep, project),
         Call::Sizes => sizes(alloc, keep),
     }
@@ -293,7 +331,7 @@ fn ask_all<K: Keep + Drop>(
     Ok(())
 }
 
-const CASES: [Case; 14] = [
+const CASES: [Case; 17] = [
     Case {
         call: Call::Sizes,
         want: "0 of 999999, 10 and 38 entries",
@@ -338,6 +376,18 @@ const CASES: [Case; 14] = [
     Case {
         call: Call::Steps(1),
         want: "13 rows 7-0 8-0 9-7 10-8 11-9 12-10",
+    },
+    Case {
+        call: Call::Project(1),
+        want: "0 \"HEADING\",\"PROJ_ID\",\"PROJ_NAME\" \"DATA\",\"P7\",\"North bank\"",
+    },
+    Case {
+        call: Call::Targets(1, 9),
+        want: "7;",
+    },
+    Case {
+        call: Call::Targets(1, 0),
+        want: "",
     },
     Case {
         call: Call::Numbers("N1"),
