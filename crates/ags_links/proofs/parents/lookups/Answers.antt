@@ -1,5 +1,5 @@
 use Rattle.std.proofs.Common.{sym, subst, length, arith}
-use Rattle.ags_links.specs.ParentRows.{AreNumbers, AreUsersBelow, HasUsers, IsLookupAt}
+use Rattle.ags_links.specs.ParentRows.{AreNumbers, IsLookupAt}
 use Rattle.ags_links.proofs.Kept.{kept_none, kept_next, kept_all}
 use Rattle.ags_links.proofs.parents.lookups.Goals as goal
 
@@ -10,12 +10,10 @@ pub lookup_at-requires-clause-numbers : goal.lookup_at-requires-clause-numbers
 lookup_at-requires-clause-numbers c = subst (AreNumbers (length c.args.rows.now)) (sym c.index-links-place.is) (c.requires.numbers c.loop-place.place c.index-links-place.result c.loop-place-test.true)
 
 pub lookup_at-requires-clause-users : goal.lookup_at-requires-clause-users
-lookup_at-requires-clause-users c =
-    subst (HasUsers c.args.rows.now c.args.of_groups.now c.loop-place.place) (sym c.index-users-place.is) (c.requires.users c.loop-place.place c.index-users-place.result (omega (arith, c.loop-place-test.true, c.requires.size)))
+lookup_at-requires-clause-users c = c.requires.users c.loop-place.place _ (omega (arith, c.loop-place-test.true, c.requires.size))
 
 pub lookup_at-requires-clause-below : goal.lookup_at-requires-clause-below
-lookup_at-requires-clause-below c =
-    subst (AreUsersBelow (length c.args.rows.now)) (sym c.index-users-place.is) (c.requires.below c.loop-place.place c.index-users-place.result (omega (arith, c.loop-place-test.true, c.requires.size)))
+lookup_at-requires-clause-below c = c.requires.below c.loop-place.place _ (omega (arith, c.loop-place-test.true, c.requires.size))
 
 pub loop-place-preserved : goal.loop-place-preserved
 loop-place-preserved c =
