@@ -3,7 +3,7 @@ use Rattle.std.proofs.Common.{◌≡◌, ℕ, ◌<◌, List, [], ◌∷◌, leng
 use Rattle.std.specs.List.Sorted.{IsStrictlyIncreasing}
 use Rattle.ags_dict.specs.Entries.{Entries, parent_of}
 use Rattle.ags_rows.specs.Parts.{parts_at}
-use Rattle.ags_links.specs.Lookups.{Lookup}
+use Rattle.ags_links.specs.Lookups.{Lookup, FindsAsked}
 use Rattle.ags_links.specs.DataRows.{DataRow, IsDataRow, Between, ListsRows, entry_of}
 use Rattle.ags_links.specs.Families.{HasText, HasKeyText, HasFileSet}
 use Rattle.ags_links.specs.Keys.{key_of, HasKeyOf, IsFirstOfKey, AreFirstsOfKeys}
@@ -47,17 +47,28 @@ lists_found lookup Has text numbers IsOne finds e to from = record {
   );
 }
 
+-- what is found at a text that is asked for is listed
+lists_asked : (lookup : Lookup) (IsAsked : List ℕ → Type 0) (Has : ℕ → List ℕ → Type 0) (text numbers : List ℕ) (IsOne : ℕ → Type 0) → FindsAsked lookup IsAsked Has → IsAsked text → numbers ≡ found lookup text
+    → ((n : ℕ) → Has n text → IsOne n) → ((n : ℕ) → IsOne n → Has n text) → ListsRows numbers IsOne
+lists_asked lookup IsAsked Has text numbers IsOne finds asked e to from = record {
+  rising = subst IsStrictlyIncreasing (sym e) (finds.rising text);
+  exact = λ n. (
+    λ h. to n ((finds.exact text asked n).0 (subst (λ l. Contains l n) e h)),
+    λ h. subst (λ l. Contains l n) (sym e) ((finds.exact text asked n).1 (from n h)),
+  );
+}
+
 -- ---- parents
 
 pub some_same : (p q : List ℕ) → Some p ≡ Some q → p ≡ q
 some_same p q e = cc
 
 -- a row that has the entries in the row's parent group is a parent row, and the other way round
-pub parents_listed : (entries : Entries) (rows : List DataRow) (n : ℕ) (r : DataRow) (names : List (List ℕ)) (lookup : Lookup) (text numbers : List ℕ) → IsDataRow rows n r
+pub parents_listed : (entries : Entries) (rows : List DataRow) (n : ℕ) (r : DataRow) (names : List (List ℕ)) (lookup : Lookup) (IsAsked : List ℕ → Type 0) (text numbers : List ℕ) → IsDataRow rows n r
     → ((m : ℕ) (s : DataRow) → IsDataRow rows m s → parent_of entries r.group ≡ Some s.group → AreLinkHeadings entries s.group r.headings names)
-    → Finds lookup (HasText rows (HasParentEntries entries r.group names)) → numbers ≡ found lookup text → text ≡ key_text (map (entry_of r) names) → ListsRows numbers (Between rows (IsParentRow entries) n)
-parents_listed entries rows n r names lookup text numbers row headings finds e spelled =
-    lists_found lookup (HasText rows (HasParentEntries entries r.group names)) text numbers (Between rows (IsParentRow entries) n) finds e
+    → FindsAsked lookup IsAsked (HasText rows (HasParentEntries entries r.group names)) → IsAsked text → numbers ≡ found lookup text → text ≡ key_text (map (entry_of r) names) → ListsRows numbers (Between rows (IsParentRow entries) n)
+parents_listed entries rows n r names lookup IsAsked text numbers row headings finds asked e spelled =
+    lists_asked lookup IsAsked (HasText rows (HasParentEntries entries r.group names)) text numbers (Between rows (IsParentRow entries) n) finds asked e
     (λ m h.
     let s = h.0 in
     let same : map (entry_of s) names ≡ map (entry_of r) names = key_text_same (map (entry_of s) names) (map (entry_of r) names) (h.2.1 ∙ spelled) in

@@ -193,6 +193,11 @@ rows_are pairs first end = ap (λ ps. map (λ (x : List ℕ × ℕ). x.1) (take 
   alone [] = refl
   alone (x ∷ xs) = ap (λ l. x.1 ∷ l) (alone xs)
 
+-- the rows of all pairs
+pub rows_alone : (pairs : List Pair) → map (λ (x : List ℕ × ℕ). x.1) (pairs_of pairs) ≡ map (λ (y : Pair). y.1) pairs
+rows_alone [] = refl
+rows_alone (x ∷ xs) = ap (λ l. x.1 ∷ l) (rows_alone xs)
+
 -- the boundary before the pairs of a text is not behind the one behind them
 ends_later : (pairs : List Pair) (text : List ℕ) (first end : ℕ) → IsBoundary false text pairs first → IsBoundary true text pairs end → end < first → ⊥
 ends_later [] text first end low high lt = omega (arith, low.0, lt)

@@ -9,7 +9,7 @@ use Rattle.ags_links.specs.Lookups.{Lookup}
 use Rattle.ags_links.specs.declared.placed.PlacedRow.{PlacedRow}
 use Rattle.ags_links.specs.DataRows.{DataRow, IsDataRow}
 use Rattle.ags_links.specs.Families.{HasText, HasAmong}
-use Rattle.ags_links.specs.Lookups.{found, Finds}
+use Rattle.ags_links.specs.Lookups.{found, Finds, FindsAsked}
 use Rattle.ags_links.specs.Placing.{row_of}
 use Rattle.ags_links.proofs.Rising.{rising_nil, rising_push, earlier_is_below}
 use Rattle.ags_links.proofs.RowLemmas.{nothing_at, at_before, at_last, at_cases, one_at}
@@ -68,6 +68,21 @@ pub finds_same : (lookup : Lookup) (Had Has : ℕ → List ℕ → Type 0) → F
 finds_same lookup Had Has so_far to from = record {
   rising = so_far.rising;
   exact = λ q m. (λ h. to m q ((so_far.exact q m).0 h), λ h. (so_far.exact q m).1 (from m q h));
+}
+
+-- what is found at each text is found at those that are asked for
+pub finds_asked : (lookup : Lookup) (IsAsked : List ℕ → Type 0) (Had Has : ℕ → List ℕ → Type 0) → Finds lookup Had
+    → ((m : ℕ) (q : List ℕ) → IsAsked q → Had m q → Has m q) → ((m : ℕ) (q : List ℕ) → IsAsked q → Has m q → Had m q) → FindsAsked lookup IsAsked Has
+finds_asked lookup IsAsked Had Has so_far to from = record {
+  rising = so_far.rising;
+  exact = λ q asked m. (λ h. to m q asked ((so_far.exact q m).0 h), λ h. (so_far.exact q m).1 (from m q asked h));
+}
+
+pub asked_same : (lookup : Lookup) (WasAsked IsAsked : List ℕ → Type 0) (Had Has : ℕ → List ℕ → Type 0) → FindsAsked lookup WasAsked Had → ((q : List ℕ) → IsAsked q → WasAsked q)
+    → ((m : ℕ) (q : List ℕ) → Had m q → Has m q) → ((m : ℕ) (q : List ℕ) → Has m q → Had m q) → FindsAsked lookup IsAsked Has
+asked_same lookup WasAsked IsAsked Had Has so_far asks to from = record {
+  rising = so_far.rising;
+  exact = λ q asked m. (λ h. to m q ((so_far.exact q (asks q asked) m).0 h), λ h. (so_far.exact q (asks q asked) m).1 (from m q h));
 }
 
 pub finds_none : (lookup : Lookup) (Has : ℕ → List ℕ → Type 0) → ((q : List ℕ) → found lookup q ≡ []) → ((m : ℕ) (q : List ℕ) → Has m q → ⊥) → Finds lookup Has
@@ -140,7 +155,7 @@ finds_rows lookup Has rows i le so_far = subst (λ rs. Finds lookup (HasText (ma
 
 -- ---- rows of a list of numbers
 
-before_next : (numbers : List ℕ) (i m : ℕ) → IsStrictlyIncreasing numbers → i < length numbers → Contains (take i numbers) m → m < get_or numbers i 0
+pub before_next : (numbers : List ℕ) (i m : ℕ) → IsStrictlyIncreasing numbers → i < length numbers → Contains (take i numbers) m → m < get_or numbers i 0
 before_next numbers i m rises lt h =
     let len : length (take i numbers) ≡ i = length-take-le i numbers (omega arith) in
     let below : h.0 < i = omega (arith, h.1, len) in

@@ -5,16 +5,16 @@ use Rattle.ags_rows.specs.declared.rows.Group.{Group}
 use Rattle.ags_rows.specs.Contents.{contents_of}
 use Rattle.ags_dict.specs.Entries.{Entries}
 use Rattle.ags_links.specs.declared.families.Family.{Family}
-use Rattle.ags_links.specs.declared.parents.LinkPlaces.{LinkPlaces}
+use Rattle.ags_links.specs.declared.parents.ParentLists.{ParentLists}
 use Rattle.ags_links.specs.declared.parents.ParentLookups.{ParentLookups}
 use Rattle.ags_links.specs.declared.lookup.Span.{Span}
 use Rattle.ags_links.specs.Lookups.{Lookup}
 use Rattle.ags_links.specs.declared.placed.PlacedRow.{PlacedRow}
 use Rattle.ags_links.specs.declared.separators.Separators.{Separators}
 use Rattle.ags_links.specs.DataRows.{DataFile, DataRow, IsAt}
-use Rattle.ags_links.specs.Families.{HasText, HasKeyText, HasFileSet, AreFamilies}
+use Rattle.ags_links.specs.Families.{AreKept, HasText, HasKeyText, HasFileSet, AreFamilies}
 use Rattle.ags_links.specs.Keys.{AreFirstsOfKeys}
-use Rattle.ags_links.specs.ParentRows.{AreParents, IsParentIndex, HasLookup}
+use Rattle.ags_links.specs.ParentRows.{AreParents, IsParentList, HasLookup}
 use Rattle.ags_links.specs.Indexing.{Indexes, rows_in}
 use Rattle.ags_links.specs.Lookups.{Finds}
 use Rattle.ags_links.specs.Placing.{IsPlaced, row_of}
@@ -24,31 +24,31 @@ use Rattle.ags_links.proofs.Kept.{placed_at}
 abbrev file_of : List Group → Entries → DataFile
 file_of groups entries = record { contents = contents_of groups; entries = entries }
 
-pub inside_keyed : (groups : List Group) (entries : Entries) (rows : List PlacedRow) (kept : List Family) (parents : ParentLookups) (spans : List Span) (firsts : List ℕ) (by_key by_file_set : Lookup) (separators : Separators) (f : DataFile) → Indexes groups entries rows kept parents spans firsts by_key by_file_set separators
+pub inside_keyed : (groups : List Group) (entries : Entries) (rows : List PlacedRow) (kept : List Family) (parents : ParentLists) (spans : List Span) (firsts : List ℕ) (by_key by_file_set : Lookup) (separators : Separators) (f : DataFile) → Indexes groups entries rows kept parents spans firsts by_key by_file_set separators
     → record { contents = contents_of groups; entries = entries } ≡ f → Finds by_key (HasText (rows_in f) (HasKeyText f.entries))
 inside_keyed groups entries rows kept parents spans firsts by_key by_file_set separators f index e =
     subst (λ (g : DataFile). Finds by_key (HasText (rows_in g) (HasKeyText g.entries))) e (subst (λ rs. Finds by_key (HasText rs (HasKeyText entries))) index.numbered index.keyed)
 
-pub inside_filed : (groups : List Group) (entries : Entries) (rows : List PlacedRow) (kept : List Family) (parents : ParentLookups) (spans : List Span) (firsts : List ℕ) (by_key by_file_set : Lookup) (separators : Separators) (f : DataFile) → Indexes groups entries rows kept parents spans firsts by_key by_file_set separators
+pub inside_filed : (groups : List Group) (entries : Entries) (rows : List PlacedRow) (kept : List Family) (parents : ParentLists) (spans : List Span) (firsts : List ℕ) (by_key by_file_set : Lookup) (separators : Separators) (f : DataFile) → Indexes groups entries rows kept parents spans firsts by_key by_file_set separators
     → record { contents = contents_of groups; entries = entries } ≡ f → Finds by_file_set (HasText (rows_in f) HasFileSet)
 inside_filed groups entries rows kept parents spans firsts by_key by_file_set separators f index e =
     subst (λ (g : DataFile). Finds by_file_set (HasText (rows_in g) HasFileSet)) e (subst (λ rs. Finds by_file_set (HasText rs HasFileSet)) index.numbered index.filed)
 
-pub inside_families : (groups : List Group) (entries : Entries) (rows : List PlacedRow) (kept : List Family) (parents : ParentLookups) (spans : List Span) (firsts : List ℕ) (by_key by_file_set : Lookup) (separators : Separators) (f : DataFile) → Indexes groups entries rows kept parents spans firsts by_key by_file_set separators
+pub inside_families : (groups : List Group) (entries : Entries) (rows : List PlacedRow) (kept : List Family) (parents : ParentLists) (spans : List Span) (firsts : List ℕ) (by_key by_file_set : Lookup) (separators : Separators) (f : DataFile) → Indexes groups entries rows kept parents spans firsts by_key by_file_set separators
     → record { contents = contents_of groups; entries = entries } ≡ f → AreFamilies f.entries groups kept
 inside_families groups entries rows kept parents spans firsts by_key by_file_set separators f index e =
     subst (λ (g : DataFile). AreFamilies g.entries groups kept) e index.families
 
-pub inside_parents : (groups : List Group) (entries : Entries) (rows : List PlacedRow) (kept : List Family) (parents : ParentLookups) (spans : List Span) (firsts : List ℕ) (by_key by_file_set : Lookup) (separators : Separators) (f : DataFile) → Indexes groups entries rows kept parents spans firsts by_key by_file_set separators
-    → record { contents = contents_of groups; entries = entries } ≡ f → AreParents f.entries (rows_in f) groups parents
+pub inside_parents : (groups : List Group) (entries : Entries) (rows : List PlacedRow) (kept : List Family) (parents : ParentLists) (spans : List Span) (firsts : List ℕ) (by_key by_file_set : Lookup) (separators : Separators) (f : DataFile) → Indexes groups entries rows kept parents spans firsts by_key by_file_set separators
+    → record { contents = contents_of groups; entries = entries } ≡ f → AreKept rows spans (IsParentList f.entries (rows_in f) parents)
 inside_parents groups entries rows kept parents spans firsts by_key by_file_set separators f index e =
-    subst (λ (g : DataFile). AreParents g.entries (rows_in g) groups parents) e (subst (λ rs. AreParents entries rs groups parents) index.numbered index.parented)
+    subst (λ (g : DataFile). AreKept rows spans (IsParentList g.entries (rows_in g) parents)) e (subst (λ rs. AreKept rows spans (IsParentList entries rs parents)) index.numbered index.parented)
 
-pub inside_separators : (groups : List Group) (entries : Entries) (rows : List PlacedRow) (kept : List Family) (parents : ParentLookups) (spans : List Span) (firsts : List ℕ) (by_key by_file_set : Lookup) (separators : Separators) (f : DataFile) → Indexes groups entries rows kept parents spans firsts by_key by_file_set separators
+pub inside_separators : (groups : List Group) (entries : Entries) (rows : List PlacedRow) (kept : List Family) (parents : ParentLists) (spans : List Span) (firsts : List ℕ) (by_key by_file_set : Lookup) (separators : Separators) (f : DataFile) → Indexes groups entries rows kept parents spans firsts by_key by_file_set separators
     → record { contents = contents_of groups; entries = entries } ≡ f → separators ≡ separators_of f.contents
 inside_separators groups entries rows kept parents spans firsts by_key by_file_set separators f index e = subst (λ (g : DataFile). separators ≡ separators_of g.contents) e index.separated
 
-pub inside_rows : (groups : List Group) (entries : Entries) (rows : List PlacedRow) (kept : List Family) (parents : ParentLookups) (spans : List Span) (firsts : List ℕ) (by_key by_file_set : Lookup) (separators : Separators) (f : DataFile) → Indexes groups entries rows kept parents spans firsts by_key by_file_set separators
+pub inside_rows : (groups : List Group) (entries : Entries) (rows : List PlacedRow) (kept : List Family) (parents : ParentLists) (spans : List Span) (firsts : List ℕ) (by_key by_file_set : Lookup) (separators : Separators) (f : DataFile) → Indexes groups entries rows kept parents spans firsts by_key by_file_set separators
     → record { contents = contents_of groups; entries = entries } ≡ f → map row_of rows ≡ rows_in f
 inside_rows groups entries rows kept parents spans firsts by_key by_file_set separators f index e = subst (λ (g : DataFile). map row_of rows ≡ rows_in g) e index.numbered
 
@@ -59,23 +59,14 @@ rows_below rows found n e lt = subst (λ count. n < count) (sym (ap length e) �
 pub group_at : (groups : List Group) (rows : List PlacedRow) (found : List DataRow) (n : ℕ) (x : PlacedRow) → map row_of rows ≡ found → n < length found → All (IsPlaced groups) rows → x ≡ get_or rows n x → IsAt groups x.place x.group.now
 group_at groups rows found n x e lt placed is = placed_at groups rows n x placed (rows_below rows found n e lt, sym is)
 
--- what is kept for a row's group
-pub parents_of_row : (groups : List Group) (entries : Entries) (rows : List PlacedRow) (kept : List Family) (parents : ParentLookups) (spans : List Span) (firsts : List ℕ) (by_key by_file_set : Lookup) (separators : Separators) (f : DataFile) (n : ℕ) (x : PlacedRow) (links : LinkPlaces) → Indexes groups entries rows kept parents spans firsts by_key by_file_set separators
-    → record { contents = contents_of groups; entries = entries } ≡ f → n < length (rows_in f) → x ≡ get_or rows n x → links ≡ get_or parents.of_groups.items x.place links → IsParentIndex f.entries (rows_in f) parents.lookups.items x.group.now links
-parents_of_row groups entries rows kept parents spans firsts by_key by_file_set separators f n x links index e lt is at =
-    let numbered = inside_rows groups entries rows kept parents spans firsts by_key by_file_set separators f index e in
-    let placed = group_at groups rows (rows_in f) n x numbered lt index.placed is in
-    let parented = inside_parents groups entries rows kept parents spans firsts by_key by_file_set separators f index e in
-    parented.each x.place x.group.now links placed (omega (arith, placed.0, parented.each_has), sym at)
-
 -- each row's group has a look-up for its parent rows
-pub have_lookups : (groups : List Group) (entries : Entries) (rows : List PlacedRow) (parents : ParentLookups) → AreParents entries (map row_of rows) groups parents → All (IsPlaced groups) rows → All (HasLookup parents) rows
+pub have_lookups : (groups : List Group) (entries : Entries) (rows : List PlacedRow) (parents : ParentLookups) → AreParents entries rows groups parents → All (IsPlaced groups) rows → All (HasLookup parents) rows
 have_lookups groups entries rows parents parented placed i d lt =
     let row = get_or rows i d in
     let at_group : IsAt groups row.place row.group.now = placed i d lt in
     (omega (arith, at_group.0, parented.each_has), λ links at_links. (parented.each row.place row.group.now links at_group at_links).stands.0)
 
-pub inside_firsts : (groups : List Group) (entries : Entries) (rows : List PlacedRow) (kept : List Family) (parents : ParentLookups) (spans : List Span) (firsts : List ℕ) (by_key by_file_set : Lookup) (separators : Separators) (f : DataFile) → Indexes groups entries rows kept parents spans firsts by_key by_file_set separators
+pub inside_firsts : (groups : List Group) (entries : Entries) (rows : List PlacedRow) (kept : List Family) (parents : ParentLists) (spans : List Span) (firsts : List ℕ) (by_key by_file_set : Lookup) (separators : Separators) (f : DataFile) → Indexes groups entries rows kept parents spans firsts by_key by_file_set separators
     → record { contents = contents_of groups; entries = entries } ≡ f → AreFirstsOfKeys (rows_in f) f.entries firsts
 inside_firsts groups entries rows kept parents spans firsts by_key by_file_set separators f index e =
     subst (λ (g : DataFile). AreFirstsOfKeys (rows_in g) g.entries firsts) e (subst (λ rs. AreFirstsOfKeys rs entries firsts) index.numbered index.first)

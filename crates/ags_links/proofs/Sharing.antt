@@ -13,10 +13,12 @@ use Rattle.ags_links.specs.declared.parents.LinkPlaces.{LinkPlaces}
 use Rattle.ags_links.specs.declared.parents.ParentLookups.{ParentLookups}
 use Rattle.ags_links.specs.DataRows.{DataRow, IsAt, IsDataRow}
 use Rattle.ags_links.specs.Families.{AreKept, AreFamilies, HasText, HasGroupName, HasEntries, HasAmong}
-use Rattle.ags_links.specs.Lookups.{Finds, found}
-use Rattle.ags_links.specs.ParentRows.{AreLinkHeadings, AreParentLinks, AreLookups, AreNumbers, HasParentEntries, IsParentLinks, IsParentIndex, IsPlacedAt, ParentLinksTo, link_names, texts_in}
+use Rattle.ags_links.specs.Lookups.{Finds, FindsAsked, found}
+use Rattle.ags_links.specs.ParentRows.{AreLinkHeadings, AreParentLinks, AreLookups, AreNumbers, HasParentEntries, IsParentLinks, IsAskedOf, IsParentIndex, IsPlacedAt, AreParents, ParentLinksTo, link_names, texts_in}
 use Rattle.ags_links.proofs.Answering.{some_same}
-use Rattle.ags_links.proofs.Finding.{finds_same}
+use Rattle.ags_links.specs.Placing.{row_of}
+use Rattle.ags_links.specs.declared.placed.PlacedRow.{PlacedRow}
+use Rattle.ags_links.proofs.Finding.{asked_same}
 use Rattle.ags_links.proofs.Heading.{at_place}
 use Rattle.ags_links.proofs.Kept.{found_below, found_rising}
 use Rattle.ags_links.proofs.Rising.{rising_nil}
@@ -69,10 +71,10 @@ to_listed by_group entries rows g l None n r finds is e row = absurd (none_some 
 to_listed by_group entries rows g l (Some p) n r finds is e row = subst (λ ns. Contains ns n) (sym is.0) ((finds.exact p n).1 (r, row, some_same r.group p (sym e)))
 
 -- what is found among the rows of the parent group is found among all rows
-found_in_parent : (by_group lookup : Lookup) (entries : Entries) (rows : List DataRow) (g : Group) (l : ParentLinks) → Finds by_group (HasText rows HasGroupName) → IsParentLinks entries by_group g l
-    → Finds lookup (HasAmong l.rows.now rows (HasEntries (link_names l))) → Finds lookup (HasText rows (HasParentEntries entries g.name (link_names l)))
-found_in_parent by_group lookup entries rows g l finds is so_far =
-    finds_same lookup (HasAmong l.rows.now rows (HasEntries (link_names l))) (HasText rows (HasParentEntries entries g.name (link_names l))) so_far
+found_in_parent : (by_group lookup : Lookup) (IsAsked : List ℕ → Type 0) (entries : Entries) (rows : List DataRow) (g : Group) (l : ParentLinks) → Finds by_group (HasText rows HasGroupName) → IsParentLinks entries by_group g l
+    → FindsAsked lookup IsAsked (HasAmong l.rows.now rows (HasEntries (link_names l))) → FindsAsked lookup IsAsked (HasText rows (HasParentEntries entries g.name (link_names l)))
+found_in_parent by_group lookup IsAsked entries rows g l finds is so_far =
+    asked_same lookup IsAsked IsAsked (HasAmong l.rows.now rows (HasEntries (link_names l))) (HasText rows (HasParentEntries entries g.name (link_names l))) so_far (λ q asked. asked)
     (λ n text h. (h.1.0, h.1.1, (listed_to by_group entries rows g l (parent_of entries g.name) n h.1.0 finds is h.0 h.1.1, h.1.2)))
     (λ n text h. (to_listed by_group entries rows g l (parent_of entries g.name) n h.0 finds is h.2.0 h.1, (h.0, h.1, h.2.1)))
 
@@ -86,14 +88,14 @@ headings_to by_group entries rows g l (Some p) n s finds is row e =
 
 -- ---- all groups
 
-pub parents_made : (entries : Entries) (rows : List DataRow) (groups : List Group) (by_group : Lookup) (families : List Family) (links : List ParentLinks) (texts : List (List ℕ)) (parents : ParentLookups) → AreFamilies entries groups families
-    → Finds by_group (HasText rows HasGroupName) → AreParentLinks entries by_group groups links → texts ≡ texts_in links → AreLookups rows texts links parents.lookups.items → AreKept links parents.of_groups.items (IsPlacedAt families texts)
-    → AreKept groups parents.of_groups.items (λ place. IsParentIndex entries rows parents.lookups.items)
-parents_made entries rows groups by_group families links texts parents of_groups finds linked are looked placed = record {
+pub parents_made : (entries : Entries) (kept : List PlacedRow) (groups : List Group) (by_group : Lookup) (families : List Family) (links : List ParentLinks) (texts : List (List ℕ)) (parents : ParentLookups) → AreFamilies entries groups families
+    → Finds by_group (HasText (map row_of kept) HasGroupName) → AreParentLinks entries by_group groups links → texts ≡ texts_in links → AreLookups kept parents.of_groups.items links parents.lookups.items → AreKept links parents.of_groups.items (IsPlacedAt families texts)
+    → AreParents entries kept groups parents
+parents_made entries kept groups by_group families links texts parents of_groups finds linked are looked placed = record {
   each_has = placed.each_has ∙ linked.each_has;
   each = λ place g x at_group at_x. made place g x at_group at_x;
 } where
-  made : (place : ℕ) (g : Group) (x : LinkPlaces) → IsAt groups place g → IsAt parents.of_groups.items place x → IsParentIndex entries rows parents.lookups.items g x
+  made : (place : ℕ) (g : Group) (x : LinkPlaces) → IsAt groups place g → IsAt parents.of_groups.items place x → IsParentIndex entries kept parents.of_groups.items parents.lookups.items g x
   made place g x at_group at_x =
       let l = some_at links place (omega (arith, at_group.0, linked.each_has)) in
       let family = some_at families place (omega (arith, at_group.0, of_groups.each_has)) in
@@ -106,13 +108,14 @@ parents_made entries rows groups by_group families links texts parents of_groups
       let lookup = some_at parents.lookups.items x.lookup (omega (arith, below, looked.each_has)) in
       let text : ◌≡◌ {A = List ℕ} k.0.text.items l.0.text.items = map_at (λ (k : ParentLinks). k.text.items) links x.lookup k.0 l.0.text.items k.1 (subst (λ ts. IsAt ts x.lookup l.0.text.items) are (first.0, first.1)) in
       let same = alike entries by_group h.0 g k.0 l.0 (parent_of entries h.0.name) (parent_of entries g.name) (linked.each x.lookup h.0 k.0 h.1 k.1) is text in
-      let among : Finds lookup.0 (HasAmong k.0.rows.now rows (HasEntries (link_names k.0))) = looked.each x.lookup k.0 lookup.0 k.1 lookup.1 (ap (place_in texts) text ∙ at.1) in
-      let mine : Finds lookup.0 (HasAmong l.0.rows.now rows (HasEntries (link_names l.0))) = subst (λ ns. Finds lookup.0 (HasAmong ns rows (HasEntries (link_names l.0)))) same.0 (subst (λ names. Finds lookup.0 (HasAmong k.0.rows.now rows (HasEntries names))) same.1 among) in
+      let IsAsked : List ℕ → Type 0 = IsAskedOf kept parents.of_groups.items x.lookup in
+      let among : FindsAsked lookup.0 IsAsked (HasAmong k.0.rows.now (map row_of kept) (HasEntries (link_names k.0))) = looked.each x.lookup k.0 lookup.0 k.1 lookup.1 in
+      let mine : FindsAsked lookup.0 IsAsked (HasAmong l.0.rows.now (map row_of kept) (HasEntries (link_names l.0))) = subst (λ ns. FindsAsked lookup.0 IsAsked (HasAmong ns (map row_of kept) (HasEntries (link_names l.0)))) same.0 (subst (λ names. FindsAsked lookup.0 IsAsked (HasAmong k.0.rows.now (map row_of kept) (HasEntries names))) same.1 among) in
       record {
         names = link_names l.0;
         lookup = lookup.0;
         stands = lookup.1;
         places = at.0 family.0 family.1 ∙ ap (λ hs. map (place_in hs) (link_names l.0)) (of_groups.each place g family.0 at_group family.1).headings;
-        headings = λ n s row e. headings_to by_group entries rows g l.0 (parent_of entries g.name) n s finds is row e;
-        finds = found_in_parent by_group lookup.0 entries rows g l.0 finds is mine;
+        headings = λ n s row e. headings_to by_group entries (map row_of kept) g l.0 (parent_of entries g.name) n s finds is row e;
+        finds = found_in_parent by_group lookup.0 IsAsked entries (map row_of kept) g l.0 finds is mine;
       }

@@ -7,14 +7,14 @@ use Rattle.ags_links.specs.declared.families.Family.{Family}
 use Rattle.ags_links.specs.declared.index.Targets.{Targets}
 use Rattle.ags_links.specs.Lookups.{Lookup}
 use Rattle.ags_links.specs.declared.lookup.Span.{Span}
-use Rattle.ags_links.specs.declared.parents.ParentLookups.{ParentLookups}
+use Rattle.ags_links.specs.declared.parents.ParentLists.{ParentLists}
 use Rattle.ags_links.specs.declared.placed.PlacedRow.{PlacedRow}
 use Rattle.ags_links.specs.declared.separators.Separators.{Separators}
 use Rattle.ags_links.specs.DataRows.{DataFile, DataRow, data_rows, IsDataRow, Between}
 use Rattle.ags_links.specs.Families.{HasText, HasKeyText, HasFileSet, AreFamilies}
 use Rattle.ags_links.specs.Keys.{IsFirstOfKey, AreFirstsOfKeys}
 use Rattle.ags_links.specs.Lookups.{Finds}
-use Rattle.ags_links.specs.ParentRows.{AreParents, AreParentSpans}
+use Rattle.ags_links.specs.ParentRows.{AreParentLists}
 use Rattle.ags_links.specs.Parents.{IsParentRow}
 use Rattle.ags_links.specs.Placing.{IsPlaced, row_of}
 use Rattle.ags_links.specs.RecordLinks as links
@@ -22,13 +22,12 @@ use Rattle.ags_links.specs.Steps.{IsFileRow, Linked, LinkStep, FileStep}
 use Rattle.ags_links.specs.Targets.{AreTargets}
 
 -- the index of these groups under these entries
-pub record Indexes (groups : List Group) (entries : Entries) (rows : List PlacedRow) (kept : List Family) (parents : ParentLookups) (spans : List Span) (firsts : List ℕ) (by_key by_file_set : Lookup) (separators : Separators) : Type 0 where
+pub record Indexes (groups : List Group) (entries : Entries) (rows : List PlacedRow) (kept : List Family) (parents : ParentLists) (spans : List Span) (firsts : List ℕ) (by_key by_file_set : Lookup) (separators : Separators) : Type 0 where
   pub placed : All (IsPlaced groups) rows
   pub numbered : map row_of rows ≡ data_rows (contents_of groups)
   pub few : length rows < 2 ^ 32
   pub families : AreFamilies entries groups kept
-  pub parented : AreParents entries (map row_of rows) groups parents
-  pub spanned : AreParentSpans rows parents spans
+  pub parented : AreParentLists entries rows parents spans
   pub first : AreFirstsOfKeys (map row_of rows) entries firsts
   pub keyed : Finds by_key (HasText (map row_of rows) (HasKeyText entries))
   pub filed : Finds by_file_set (HasText (map row_of rows) HasFileSet)

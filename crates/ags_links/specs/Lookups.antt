@@ -63,6 +63,11 @@ pub record Finds (lookup : Lookup) (Has : ℕ → List ℕ → Type 0) : Type 0 
   pub rising : (text : List ℕ) → IsStrictlyIncreasing (found lookup text)
   pub exact : (text : List ℕ) (n : ℕ) → Contains (found lookup text) n ↔ Has n text
 
+-- for each text that is asked of it the rows that have it, rising
+pub record FindsAsked (lookup : Lookup) (IsAsked : List ℕ → Type 0) (Has : ℕ → List ℕ → Type 0) : Type 0 where
+  pub rising : (text : List ℕ) → IsStrictlyIncreasing (found lookup text)
+  pub exact : (text : List ℕ) → IsAsked text → (n : ℕ) → Contains (found lookup text) n ↔ Has n text
+
 -- no row has two texts
 abbrev pub HasOneText : Lookup → Type 0
 HasOneText lookup = (n : ℕ) (text other : List ℕ) → Contains (found lookup text) n → Contains (found lookup other) n → text ≡ other

@@ -1,7 +1,8 @@
 -- What the index keeps of the parent groups: their rows by their entries under link headings, in look-ups that the
 -- groups with one parent group and the same link headings share.
-use Rattle.std.specs.Prelude.{◌≡◌, ◌≢◌, ◌<◌, ◌↔◌, ℕ, List, [], ◌∷◌, Option, Some, None, All, Contains, map, length}
+use Rattle.std.specs.Prelude.{◌≡◌, ◌≢◌, ◌<◌, ◌≤◌, ◌-◌, ◌↔◌, ℕ, List, Vec, [], ◌∷◌, Option, Some, None, All, Contains, map, length, take, drop, slice_index_or}
 use Rattle.std.specs.List.Sorted.{IsStrictlyIncreasing}
+use Rattle.std.specs.declared.alloc.Global.{Global}
 use Rattle.ags_rows.specs.Contents.{place_in, field_at}
 use Rattle.ags_rows.specs.declared.rows.Group.{Group}
 use Rattle.ags_dict.specs.Entries.{Entries, keys_of, parent_of}
@@ -11,11 +12,15 @@ use Rattle.ags_links.specs.declared.parents.ParentLinks.{ParentLinks}
 use Rattle.ags_links.specs.declared.parents.LinkPlaces.{LinkPlaces}
 use Rattle.ags_links.specs.declared.lookup.Span.{Span}
 use Rattle.ags_links.specs.declared.parents.ParentLookups.{ParentLookups}
+use Rattle.ags_links.specs.declared.parents.ParentLists.{ParentLists}
+use Rattle.ags_links.specs.declared.parents.Users.{Users}
+use Rattle.ags_links.specs.declared.parents.Users.TheVariants.{Nobody, One, Many}
 use Rattle.ags_links.specs.declared.placed.PlacedRow.{PlacedRow}
-use Rattle.ags_links.specs.DataRows.{DataRow, IsAt, IsDataRow}
+use Rattle.ags_links.specs.DataRows.{DataRow, IsAt, IsDataRow, Between, ListsRows}
 use Rattle.ags_links.specs.Families.{AreKept, HasText, HasEntries, HasAmong}
 use Rattle.ags_links.specs.KeyTexts.{key_text}
-use Rattle.ags_links.specs.Lookups.{Finds, found, IsSpanOf}
+use Rattle.ags_links.specs.Lookups.{FindsAsked, found, IsSpanOf}
+use Rattle.ags_links.specs.Parents.{IsParentRow}
 use Rattle.ags_links.specs.Placing.{row_of}
 
 -- these are the link headings of a group: those of its headings that are KEY headings of its parent group
@@ -48,12 +53,55 @@ texts_in links = map (λ l. l.text.items) links
 abbrev pub AreNumbers : ℕ → ParentLinks → Type 0
 AreNumbers count links = All (λ n. n < count) links.rows.now × IsStrictlyIncreasing links.rows.now
 
--- where no group before has the same links, the rows are found by their entries under the link headings
-abbrev pub IsLookupAt : List DataRow → List (List ℕ) → ℕ → ParentLinks → Lookup → Type 0
-IsLookupAt rows texts place links lookup = place_in texts links.text.items ≡ Some place → Finds lookup (HasAmong links.rows.now rows (HasEntries (link_names links)))
+-- the row's entries at the places, as one text
+abbrev pub text_at : List (Option ℕ) → PlacedRow → List ℕ
+text_at places row = key_text (map (field_at (row_of row).fields) places)
 
-abbrev pub AreLookups : List DataRow → List (List ℕ) → List ParentLinks → List Lookup → Type 0
-AreLookups rows texts links lookups = AreKept links lookups (IsLookupAt rows texts)
+-- row n has its parent rows in this look-up
+pub record IsUserOf (rows : List PlacedRow) (of_groups : List LinkPlaces) (lookup n : ℕ) (row : PlacedRow) (links : LinkPlaces) : Type 0 where
+  pub stands : IsAt rows n row
+  pub grouped : IsAt of_groups row.place links
+  pub uses : links.lookup ≡ lookup
+
+-- some row that has its parent rows in this look-up has them at this text
+abbrev pub IsAskedOf : List PlacedRow → List LinkPlaces → ℕ → List ℕ → Type 0
+IsAskedOf rows of_groups lookup text = (n : ℕ) × (row : PlacedRow) × (links : LinkPlaces) × IsUserOf rows of_groups lookup n row links × (text_at links.places.items row ≡ text)
+
+-- row n is among the users
+abbrev pub IsAmongUsers : Users → ℕ → Type 0
+IsAmongUsers Nobody n = ⊥
+IsAmongUsers (One m) n = m ≡ n
+IsAmongUsers Many n = Unit {0}
+
+-- a user that is told is among so many rows
+abbrev pub AreUsersBelow : ℕ → Users → Type 0
+AreUsersBelow count Nobody = Unit {0}
+AreUsersBelow count (One n) = n < count
+AreUsersBelow count Many = Unit {0}
+
+-- the row's group has link places, and a look-up at one of the places
+abbrev pub HasPlaces : List LinkPlaces → PlacedRow → Type 0
+HasPlaces of_groups row = (row.place < length of_groups) × ((links : LinkPlaces) → IsAt of_groups row.place links → links.lookup < length of_groups)
+
+-- the rows that have their parent rows in the look-up are among its users
+abbrev pub HasUsers : List PlacedRow → List LinkPlaces → ℕ → Users → Type 0
+HasUsers rows of_groups lookup users = (n : ℕ) (row : PlacedRow) (links : LinkPlaces) → IsUserOf rows of_groups lookup n row links → IsAmongUsers users n
+
+abbrev pub HaveUsers : List PlacedRow → List LinkPlaces → List Users → Type 0
+HaveUsers rows of_groups users = (lookup : ℕ) (d : Users) → lookup < length users → HasUsers rows of_groups lookup (slice_index_or users lookup d)
+
+-- of these numbers some are chosen, which rise; those of rows with this text of entries under the headings are among them
+pub record AreCandidates (rows : List DataRow) (numbers : List ℕ) (headings : List (List ℕ)) (text : List ℕ) (chosen : List ℕ) : Type 0 where
+  pub rising : IsStrictlyIncreasing chosen
+  pub among : (n : ℕ) → Contains chosen n → Contains numbers n
+  pub all : (n : ℕ) (s : DataRow) → Contains numbers n → IsDataRow rows n s → HasEntries headings s text → Contains chosen n
+
+-- the rows are found by their entries under the link headings, where some row has its parent rows
+abbrev pub IsLookupAt : List PlacedRow → List LinkPlaces → ℕ → ParentLinks → Lookup → Type 0
+IsLookupAt rows of_groups place links lookup = FindsAsked lookup (IsAskedOf rows of_groups place) (HasAmong links.rows.now (map row_of rows) (HasEntries (link_names links)))
+
+abbrev pub AreLookups : List PlacedRow → List LinkPlaces → List ParentLinks → List Lookup → Type 0
+AreLookups rows of_groups links lookups = AreKept links lookups (IsLookupAt rows of_groups)
 
 -- the places of the link headings, and the first place of a group with the same links
 abbrev pub IsPlacedAt : List Family → List (List ℕ) → ℕ → ParentLinks → LinkPlaces → Type 0
@@ -64,17 +112,17 @@ IsPlacedAt families texts place links kept = ((family : Family) → IsAt familie
 abbrev pub HasParentEntries : Entries → List ℕ → List (List ℕ) → DataRow → List ℕ → Type 0
 HasParentEntries entries group headings r text = (parent_of entries group ≡ Some r.group) × HasEntries headings r text
 
--- the rows of the group's parent group are found by their entries under its link headings
-pub record IsParentIndex (entries : Entries) (rows : List DataRow) (lookups : List Lookup) (group : Group) (links : LinkPlaces) : Type 0 where
+-- the rows of the group's parent group are found by their entries under its link headings, where some row asks for them
+pub record IsParentIndex (entries : Entries) (rows : List PlacedRow) (of_groups : List LinkPlaces) (lookups : List Lookup) (group : Group) (links : LinkPlaces) : Type 0 where
   pub names : List (List ℕ)
   pub lookup : Lookup
   pub stands : IsAt lookups links.lookup lookup
   pub places : links.places.items ≡ map (place_in group.headings) names
-  pub headings : (n : ℕ) (s : DataRow) → IsDataRow rows n s → parent_of entries group.name ≡ Some s.group → AreLinkHeadings entries s.group group.headings names
-  pub finds : Finds lookup (HasText rows (HasParentEntries entries group.name names))
+  pub headings : (n : ℕ) (s : DataRow) → IsDataRow (map row_of rows) n s → parent_of entries group.name ≡ Some s.group → AreLinkHeadings entries s.group group.headings names
+  pub finds : FindsAsked lookup (IsAskedOf rows of_groups links.lookup) (HasText (map row_of rows) (HasParentEntries entries group.name names))
 
-abbrev pub AreParents : Entries → List DataRow → List Group → ParentLookups → Type 0
-AreParents entries rows groups parents = AreKept groups parents.of_groups.items (λ place. IsParentIndex entries rows parents.lookups.items)
+abbrev pub AreParents : Entries → List PlacedRow → List Group → ParentLookups → Type 0
+AreParents entries rows groups parents = AreKept groups parents.of_groups.items (λ place. IsParentIndex entries rows parents.of_groups.items parents.lookups.items)
 
 -- the row's group has link places, and these a look-up
 abbrev pub HasLookup : ParentLookups → PlacedRow → Type 0
@@ -88,3 +136,27 @@ IsParentSpan parents row span = (links : LinkPlaces) (lookup : Lookup) → IsAt 
 
 abbrev pub AreParentSpans : List PlacedRow → ParentLookups → List Span → Type 0
 AreParentSpans rows parents spans = AreKept rows spans (λ n. IsParentSpan parents)
+
+-- of each look-up its rows
+abbrev pub AreRowsOf : List Lookup → List (Vec ℕ Global) → Type 0
+AreRowsOf lookups lists = AreKept lookups lists (λ place lookup list. list.items ≡ map (λ p. p.1) lookup)
+
+-- the span is within the numbers
+abbrev pub IsInside : List ℕ → Span → Type 0
+IsInside numbers span = (span.first ≤ span.end) × (span.end ≤ length numbers)
+
+-- the numbers of the span
+abbrev pub part_of : List ℕ → Span → List ℕ
+part_of numbers span = take (span.end - span.first) (drop span.first numbers)
+
+-- row n has its parent rows in the span, among those of the look-up of its group
+pub record IsParentList (entries : Entries) (rows : List DataRow) (parents : ParentLists) (n : ℕ) (row : PlacedRow) (span : Span) : Type 0 where
+  pub links : LinkPlaces
+  pub list : Vec ℕ Global
+  pub grouped : IsAt parents.of_groups.items row.place links
+  pub stands : IsAt parents.lists.items links.lookup list
+  pub inside : IsInside list.items span
+  pub lists : ListsRows (part_of list.items span) (Between rows (IsParentRow entries) n)
+
+abbrev pub AreParentLists : Entries → List PlacedRow → ParentLists → List Span → Type 0
+AreParentLists entries rows parents spans = AreKept rows spans (IsParentList entries (map row_of rows) parents)

@@ -7,8 +7,8 @@ ghost use Rattle.ags_rows.specs.Contents.{contents_of};
 use crate::families::{
     Family, families, firsts_of_keys, rows_by_file_set, rows_by_group, rows_by_key,
 };
-use crate::lookup::{Lookup, Span, rows_of, rows_with};
-use crate::parents::{ParentLookups, parent_spans, parents};
+use crate::lookup::{Lookup, Span, rows_with};
+use crate::parents::{ParentLists, parent_spans, parents, part_of, without_texts};
 use crate::placed::{PlacedRow, field, place_rows};
 use crate::separators::{Separators, separators_in};
 use crate::texts::{distinct, link_parts, pieces_text, push_parts};
@@ -34,8 +34,8 @@ pub struct Index<'s, 'f, 'd> {
     dictionary: &'d Dictionary,
     rows: Vec<PlacedRow<'s, 'f>>,
     families: Vec<Family<'s, 'd>>,
-    parents: ParentLookups,
-    // where the parent rows of each row stand in the look-up of its group
+    parents: ParentLists,
+    // where the parent rows of each row stand among the rows of the look-up of its group
     spans: Vec<Span>,
     // for each row the first row of its group with an equal key
     firsts: Vec<u32>,
@@ -87,12 +87,13 @@ impl<'s, 'f, 'd> Index<'s, 'f, 'd> {
         let groups = scan.groups();
         let rows = place_rows(alloc, scan)?;
         let families = families(alloc, groups, dictionary, &rows)?;
-        // the rows by group are let go before more is kept
-        let parents = {
+        // the rows by group are let go before more is kept, and the texts once they are looked up
+        let looked_up = {
             let by_group = rows_by_group(alloc, &rows)?;
             parents(alloc, groups, dictionary, &rows, &families, &by_group)?
         };
-        let spans = parent_spans(alloc, &rows, &parents)?;
+        let spans = parent_spans(alloc, &rows, &looked_up)?;
+        let parents = without_texts(alloc, looked_up)?;
         let by_key = rows_by_key(alloc, dictionary, &rows, &families)?;
         let firsts = firsts_of_keys(alloc, dictionary, &rows, &by_key)?;
         let by_file_set = rows_by_file_set(alloc, dictionary, &rows, &families)?;
@@ -135,10 +136,8 @@ impl<'s, 'f, 'd> Index<'s, 'f, 'd> {
     {
         let kept = &self.rows[row as usize];
         let links = &self.parents.of_groups[kept.place];
-        rows_of(
-            &self.parents.lookups[links.lookup],
-            self.spans[row as usize],
-        )
+        let span = self.spans[row as usize];
+        part_of(&self.parents.lists[links.lookup], span)
     }
 
     /// The parent rows of a row (Rule 10c), rising.

@@ -1,6 +1,6 @@
 //! The index: from a text to the rows that have it.
 
-ghost use Rattle.std.specs.Prelude.{◌≡◌, ◌<◌, ◌≤◌, ℕ, List, Contains, IfOk, IsTrue, length};
+ghost use Rattle.std.specs.Prelude.{◌≡◌, ◌<◌, ◌≤◌, ℕ, List, Contains, IfOk, IsTrue, length, map};
 ghost use Rattle.ags_links.specs.Lookups.{found, pairs_of, stands_before, rows_between, AreInOrder, HasOneText, AreFirstWith, IsEnd, IsBegin, IsBoundary, IsWithin, IsSpanOf};
 
 use std::alloc::{AllocError, Global};
@@ -93,6 +93,13 @@ pub(crate) fn span_of(lookup: &Lookup, near: usize, text: &[u8]) -> Span
     let first = boundary(pairs, near, text, false);
     let end = boundary(pairs, first.saturating_add(1), text, true);
     Span { first, end }
+}
+
+/// The rows of all pairs, in their order.
+pub(crate) fn all_rows(lookup: &Lookup) -> &[u32]
+    ensures { result.now ≡ map (λ p. p.1) lookup.now }
+{
+    &lookup.rows
 }
 
 /// The rows of a span.

@@ -1,16 +1,17 @@
 //! The rows of the parent groups by their entries under link headings. Groups with one parent group and the same
 //! link headings share one look-up, so that the rows of a parent group are not read again for each of them.
 
-ghost use Rattle.std.specs.Prelude.{◌≡◌, ◌≢◌, ◌<◌, ◌^◌, ◌↔◌, [], ℕ, List, Contains, IfOk, All, Some, length, map, filter};
-ghost use Rattle.ags_rows.specs.Contents.{place_in};
+ghost use Rattle.std.specs.Prelude.{◌≡◌, ◌≢◌, ◌<◌, ◌^◌, ◌↔◌, [], ℕ, List, Contains, IfOk, IsTrue, All, Some, length, map, filter};
+ghost use Rattle.std.specs.List.Sorted.{IsStrictlyIncreasing};
+ghost use Rattle.ags_rows.specs.Contents.{field_at, place_in};
 ghost use Rattle.ags_links.specs.Families.{HasText, HasGroupName, HasEntries, HasAmong, HasFamily, IsFamily, AreFamilies, AreKept, is_one_of};
-ghost use Rattle.ags_links.specs.Lookups.{Finds, found};
-ghost use Rattle.ags_links.specs.ParentRows.{AreLinkHeadings, link_names, IsParentLinks, AreParentLinks, texts_in, AreNumbers, IsLookupAt, AreLookups, IsPlacedAt, AreParents, HasLookup, AreParentSpans};
+ghost use Rattle.ags_links.specs.Lookups.{Finds, FindsAsked, found};
+ghost use Rattle.ags_links.specs.ParentRows.{AreLinkHeadings, link_names, text_at, IsParentLinks, AreParentLinks, texts_in, AreNumbers, AreCandidates, IsAmongUsers, AreUsersBelow, HasUsers, HaveUsers, HasPlaces, IsLookupAt, AreLookups, IsPlacedAt, AreParents, HasLookup, AreParentSpans, AreRowsOf, IsInside, part_of};
 ghost use Rattle.ags_links.specs.Placing.{row_of};
 
 use crate::families::{Family, family_at, places_of};
-use crate::lookup::{Lookup, Span, rows_by_text, rows_with, span_of};
-use crate::placed::PlacedRow;
+use crate::lookup::{Lookup, Span, all_rows, rows_by_text, rows_with, span_of};
+use crate::placed::{PlacedRow, field};
 use crate::texts::{is_first, names_text, push_entries};
 use ags_dict::Dictionary;
 use ags_rows::{Group, Places};
@@ -38,6 +39,21 @@ pub(crate) struct LinkPlaces {
 pub(crate) struct ParentLookups {
     pub(crate) of_groups: Vec<LinkPlaces>,
     pub(crate) lookups: Vec<Lookup>,
+}
+
+/// The rows that have their parent rows in one look-up.
+#[derive(Clone, Copy)]
+pub(crate) enum Users {
+    Nobody,
+    One(u32),
+    Many,
+}
+
+/// The link places of each group, and the rows of each look-up.
+#[derive(Drop)]
+pub(crate) struct ParentLists {
+    pub(crate) of_groups: Vec<LinkPlaces>,
+    pub(crate) lists: Vec<Vec<u32>>,
 }
 
 /// Those of a group's headings that are KEY headings of another.
@@ -162,24 +178,26 @@ fn texts_of<'k>(alloc: Global, links: &'k [ParentLinks<'_, '_>]) -> Result<Place
     Places::of(alloc, texts)
 }
 
-/// The rows of the parent group by their entries under the link headings.
+/// These rows by their entries under the headings.
 fn rows_by_entries(
     alloc: Global,
     dictionary: &Dictionary,
     rows: &[PlacedRow<'_, '_>],
     families: &[Family<'_, '_>],
-    links: &ParentLinks<'_, '_>,
+    headings: &[&[u8]],
+    numbers: &[u32],
 ) -> Result<Lookup, AllocError>
     requires few { length rows.now < 2 ^ 32 }
     requires kept { All (HasFamily dictionary.now families.now) rows.now }
-    requires numbers { AreNumbers (length rows.now) links.now }
-    ensures { IfOk result (λ lookup. Finds lookup (HasAmong links.now.rows.now (map row_of rows.now) (HasEntries (link_names links.now)))) }
+    requires below { All (λ n. n < length rows.now) numbers.now }
+    requires rising { IsStrictlyIncreasing numbers.now }
+    ensures { IfOk result (λ lookup. Finds lookup (HasAmong numbers.now (map row_of rows.now) (HasEntries (map (λ h. h.now) headings.now)))) }
 {
     let mut pairs = Vec::new(alloc);
     let mut entries = Vec::new(alloc);
-    for number in links.rows {
+    for number in numbers {
         let row = &rows[*number as usize];
-        let places = places_of(alloc, &families[row.place].headings, &links.headings)?;
+        let places = places_of(alloc, &families[row.place].headings, headings)?;
         entries.clear();
         push_entries(&mut entries, row, &places)?;
         let text = Vec::from_slice(alloc, &entries)?;
@@ -188,45 +206,202 @@ fn rows_by_entries(
     rows_by_text(alloc, pairs)
 }
 
-/// The look-up of the group at this place: its own where no group before has the same links, else an empty one.
+/// Whether two rows have equal entries at these places.
+fn agree(
+    row: &PlacedRow<'_, '_>,
+    places: &[Option<usize>],
+    other: &PlacedRow<'_, '_>,
+    other_places: &[Option<usize>],
+) -> bool
+    ensures { map (field_at (row_of row.now).fields) places.now ≡ map (field_at (row_of other.now).fields) other_places.now → IsTrue result }
+{
+    let count = places.len().min(other_places.len());
+    for index in 0..count {
+        let here = places[index];
+        let there = other_places[index];
+        let entry = field(row, here);
+        let other_entry = field(other, there);
+        if entry != other_entry {
+            return false;
+        }
+    }
+    true
+}
+
+/// Whether the other row is not of the group at this place, or agrees with the row.
+fn may_be_parent(
+    row: &PlacedRow<'_, '_>,
+    places: &[Option<usize>],
+    other: &PlacedRow<'_, '_>,
+    place: usize,
+    other_places: &[Option<usize>],
+) -> bool
+    ensures apart { (other.now.place ≡ place → ⊥) → IsTrue result }
+    ensures agree { map (field_at (row_of row.now).fields) places.now ≡ map (field_at (row_of other.now).fields) other_places.now → IsTrue result }
+{
+    other.place != place || agree(row, places, other, other_places)
+}
+
+/// Those of the rows of the parent group that may be parent rows of this row: those that agree with it, and those of
+/// other groups of that name.
+fn candidates(
+    alloc: Global,
+    dictionary: &Dictionary,
+    rows: &[PlacedRow<'_, '_>],
+    families: &[Family<'_, '_>],
+    links: &ParentLinks<'_, '_>,
+    row: &PlacedRow<'_, '_>,
+    places: &[Option<usize>],
+) -> Result<Vec<u32>, AllocError>
+    requires kept { All (HasFamily dictionary.now families.now) rows.now }
+    requires numbers { AreNumbers (length rows.now) links.now }
+    ensures { IfOk result (λ chosen. AreCandidates (map row_of rows.now) links.now.rows.now (link_names links.now) (text_at places.now row.now) chosen.items) }
+{
+    let mut chosen = Vec::new(alloc);
+    let numbers = links.rows;
+    if numbers.is_empty() {
+        return Ok(chosen);
+    }
+    let start = numbers[0] as usize;
+    let first = &rows[start];
+    let stood = places_of(alloc, &families[first.place].headings, &links.headings)?;
+    for number in numbers {
+        let other = &rows[*number as usize];
+        if may_be_parent(row, places, other, first.place, &stood) {
+            chosen.push(*number)?;
+        }
+    }
+    Ok(chosen)
+}
+
+/// The look-up for one row: by its entries, of the rows of the parent group that may be its parent rows.
+fn lookup_for(
+    alloc: Global,
+    dictionary: &Dictionary,
+    rows: &[PlacedRow<'_, '_>],
+    families: &[Family<'_, '_>],
+    links: &ParentLinks<'_, '_>,
+    row: &PlacedRow<'_, '_>,
+    places: &[Option<usize>],
+) -> Result<Lookup, AllocError>
+    requires few { length rows.now < 2 ^ 32 }
+    requires kept { All (HasFamily dictionary.now families.now) rows.now }
+    requires numbers { AreNumbers (length rows.now) links.now }
+    ensures { IfOk result (λ lookup. FindsAsked lookup (λ text. text_at places.now row.now ≡ text) (HasAmong links.now.rows.now (map row_of rows.now) (HasEntries (link_names links.now)))) }
+{
+    let numbers = candidates(alloc, dictionary, rows, families, links, row, places)?;
+    let lookup = rows_by_entries(alloc, dictionary, rows, families, &links.headings, &numbers)?;
+    Ok(lookup)
+}
+
+/// The look-up at this place: by the entries that its users ask for, so that for one row it has no more than that needs.
 fn lookup_at(
     alloc: Global,
     dictionary: &Dictionary,
     rows: &[PlacedRow<'_, '_>],
     families: &[Family<'_, '_>],
     links: &ParentLinks<'_, '_>,
-    texts: &Places<'_>,
+    of_groups: &[LinkPlaces],
     place: usize,
+    users: Users,
 ) -> Result<Lookup, AllocError>
     requires few { length rows.now < 2 ^ 32 }
     requires kept { All (HasFamily dictionary.now families.now) rows.now }
+    requires grouped { All (HasPlaces of_groups.now) rows.now }
     requires numbers { AreNumbers (length rows.now) links.now }
-    ensures { IfOk result (IsLookupAt (map row_of rows.now) texts.now place links.now) }
+    requires users { HasUsers rows.now of_groups.now place users }
+    requires below { AreUsersBelow (length rows.now) users }
+    ensures { IfOk result (IsLookupAt rows.now of_groups.now place links.now) }
 {
-    if is_first(texts, &links.text, place) {
-        rows_by_entries(alloc, dictionary, rows, families, links)
-    } else {
-        rows_by_text(alloc, Vec::new(alloc))
+    match users {
+        Users::Nobody => {
+            let none = rows_by_text(alloc, Vec::new(alloc))?;
+            Ok(none)
+        }
+        Users::One(number) => {
+            let row = &rows[number as usize];
+            let places = &of_groups[row.place].places;
+            let own = lookup_for(alloc, dictionary, rows, families, links, row, places)?;
+            Ok(own)
+        }
+        Users::Many => {
+            let all = rows_by_entries(
+                alloc,
+                dictionary,
+                rows,
+                families,
+                &links.headings,
+                links.rows,
+            )?;
+            Ok(all)
+        }
     }
 }
 
-/// The look-ups, one for each group, of which those that are first with their links are filled.
+/// The users, and one more row.
+fn with_user(users: Users, number: u32) -> Users
+    ensures new { IsAmongUsers result number }
+    ensures old { (n : ℕ) → IsAmongUsers users n → IsAmongUsers result n }
+    ensures below { (count : ℕ) → AreUsersBelow count users → number < count → AreUsersBelow count result }
+{
+    match users {
+        Users::Nobody => Users::One(number),
+        _ => Users::Many,
+    }
+}
+
+/// For each look-up the rows that have their parent rows in it.
+fn users_of(
+    alloc: Global,
+    rows: &[PlacedRow<'_, '_>],
+    of_groups: &[LinkPlaces],
+) -> Result<Vec<Users>, AllocError>
+    requires few { length rows.now < 2 ^ 32 }
+    requires grouped { All (HasPlaces of_groups.now) rows.now }
+    ensures size { IfOk result (λ users. length users.items ≡ length of_groups.now) }
+    ensures users { IfOk result (λ users. HaveUsers rows.now of_groups.now users.items) }
+    ensures below { IfOk result (λ users. All (AreUsersBelow (length rows.now)) users.items) }
+{
+    let mut users = vec![in alloc; Users::Nobody; of_groups.len()]?;
+    for (number, row) in rows.iter().enumerate() {
+        let lookup = of_groups[row.place].lookup;
+        let before = users[lookup];
+        users[lookup] = with_user(before, number as u32);
+    }
+    Ok(users)
+}
+
+/// The look-ups, one for each group, of which those that rows use are filled.
 fn lookups(
     alloc: Global,
     dictionary: &Dictionary,
     rows: &[PlacedRow<'_, '_>],
     families: &[Family<'_, '_>],
     links: &[ParentLinks<'_, '_>],
-    texts: &Places<'_>,
+    of_groups: &[LinkPlaces],
+    users: &[Users],
 ) -> Result<Vec<Lookup>, AllocError>
     requires few { length rows.now < 2 ^ 32 }
     requires kept { All (HasFamily dictionary.now families.now) rows.now }
+    requires grouped { All (HasPlaces of_groups.now) rows.now }
     requires numbers { All (AreNumbers (length rows.now)) links.now }
-    ensures { IfOk result (λ lookups. AreLookups (map row_of rows.now) texts.now links.now lookups.items) }
+    requires size { length users.now ≡ length links.now }
+    requires users { HaveUsers rows.now of_groups.now users.now }
+    requires below { All (AreUsersBelow (length rows.now)) users.now }
+    ensures { IfOk result (λ lookups. AreLookups rows.now of_groups.now links.now lookups.items) }
 {
     let mut lookups = Vec::new(alloc);
     for (place, of_group) in links.iter().enumerate() {
-        lookups.push(lookup_at(alloc, dictionary, rows, families, of_group, texts, place)?)?;
+        lookups.push(lookup_at(
+            alloc,
+            dictionary,
+            rows,
+            families,
+            of_group,
+            of_groups,
+            place,
+            users[place],
+        )?)?;
     }
     Ok(lookups)
 }
@@ -274,12 +449,15 @@ pub(crate) fn parents(
     requires kept { All (HasFamily dictionary.now families.now) rows.now }
     requires families { AreFamilies dictionary.now groups.now families.now }
     requires by_group { Finds by_group.now (HasText (map row_of rows.now) HasGroupName) }
-    ensures { IfOk result (AreParents dictionary.now (map row_of rows.now) groups.now) }
+    ensures { IfOk result (AreParents dictionary.now rows.now groups.now) }
 {
     let links = all_parent_links(alloc, groups, dictionary, rows, families, by_group)?;
     let texts = texts_of(alloc, &links)?;
-    let lookups = lookups(alloc, dictionary, rows, families, &links, &texts)?;
     let of_groups = link_places(alloc, families, &links, &texts)?;
+    let users = users_of(alloc, rows, &of_groups)?;
+    let lookups = lookups(
+        alloc, dictionary, rows, families, &links, &of_groups, &users,
+    )?;
     Ok(ParentLookups { of_groups, lookups })
 }
 
@@ -305,4 +483,39 @@ pub(crate) fn parent_spans(
         near = span.end;
     }
     Ok(spans)
+}
+
+/// The rows of each look-up.
+fn rows_alone(alloc: Global, lookups: &[Lookup]) -> Result<Vec<Vec<u32>>, AllocError>
+    ensures { IfOk result (λ lists. AreRowsOf lookups.now lists.items) }
+{
+    let mut lists = Vec::new(alloc);
+    for lookup in lookups {
+        let list = Vec::from_slice(alloc, all_rows(lookup))?;
+        lists.push(list)?;
+    }
+    Ok(lists)
+}
+
+/// The rows of each look-up. The texts that these were found by are let go.
+pub(crate) fn without_texts(
+    alloc: Global,
+    parents: ParentLookups,
+) -> Result<ParentLists, AllocError>
+    ensures groups { IfOk result (λ kept. kept.of_groups ≡ parents.of_groups) }
+    ensures lists { IfOk result (λ kept. AreRowsOf parents.lookups.items kept.lists.items) }
+{
+    let lists = rows_alone(alloc, &parents.lookups)?;
+    Ok(ParentLists {
+        of_groups: parents.of_groups,
+        lists,
+    })
+}
+
+/// The numbers of a span.
+pub(crate) fn part_of(numbers: &[u32], span: Span) -> &[u32]
+    requires { IsInside numbers.now span }
+    ensures { result.now ≡ part_of numbers.now span }
+{
+    &numbers[span.first..span.end]
 }
