@@ -81,19 +81,36 @@ fn check_headers(
     Ok(())
 }
 
-/// The steps between the rows, if these break nothing of the fifth phase, or all its findings.
+/// The steps between the rows of an index, if these break nothing of the fifth phase, or all its findings.
+fn check_indexed(
+    alloc: Global,
+    dictionary: &Dictionary,
+    scan: &Scan,
+    index: &Index,
+) -> Result<Graph, CheckError>
+    requires contents { index.now.contents ≡ contents_of scan.now }
+    requires entries { index.now.entries ≡ dictionary.now }
+    ensures graph { IfOk result (IsGraphOf index.now) }
+    ensures clear { OnOk result (IsClear (entry_rules dictionary.now scan.now)) }
+    ensures findings { (found : List Finding) → IsErrOf result (CheckError.Findings found) → AreExactly (OneOf (entry_rules dictionary.now scan.now)) found × (found ≢ []) }
+{
+    let of_rows = entry_findings(alloc, dictionary, index, scan.groups())?;
+    if !of_rows.is_empty() {
+        return Err(CheckError::Findings(of_rows));
+    }
+    let graph = Graph::of(alloc, index)?;
+    Ok(graph)
+}
+
+/// The steps between the rows, if these break nothing of the fifth phase, or all its findings. The index is lent, so that one place drops
+/// it: each would be proved anew, at length.
 fn check_rows(alloc: Global, dictionary: &Dictionary, scan: &Scan) -> Result<Graph, CheckError>
     ensures graph { IfOk result (IsGraphOf (record { contents = contents_of scan.now; entries = dictionary.now })) }
     ensures clear { OnOk result (IsClear (entry_rules dictionary.now scan.now)) }
     ensures findings { (found : List Finding) → IsErrOf result (CheckError.Findings found) → AreExactly (OneOf (entry_rules dictionary.now scan.now)) found × (found ≢ []) }
 {
     let index = Index::build(alloc, scan, dictionary)?;
-    let of_rows = entry_findings(alloc, dictionary, &index, scan.groups())?;
-    if !of_rows.is_empty() {
-        return Err(CheckError::Findings(of_rows));
-    }
-    let graph = Graph::of(alloc, &index)?;
-    Ok(graph)
+    check_indexed(alloc, dictionary, scan, &index)
 }
 
 /// The file, if it breaks no rule under the dictionary, or all findings of the first phase that has any.

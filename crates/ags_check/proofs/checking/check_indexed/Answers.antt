@@ -4,7 +4,7 @@ use Rattle.ags_rows.specs.Collecting.{OneOf}
 use Rattle.ags_rows.specs.Findings.{AreExactly}
 use Rattle.ags_rows.proofs.Lemmas.{none_listed, is_nil}
 use Rattle.ags_check.specs.RowPhase.{entry_rules}
-use Rattle.ags_check.proofs.checking.check_rows.Goals as goal
+use Rattle.ags_check.proofs.checking.check_indexed.Goals as goal
 
 pub returns-clause-clear : goal.returns-clause-clear
 returns-clause-clear c =
