@@ -10,7 +10,8 @@ ghost use Rattle.reg_store.specs.Heads.{AreHeads};
 ghost use Rattle.reg_store.specs.Register.{deposits_in, LeavesBroken, LeavesList, KeepsRegister};
 
 use crate::heads::{head_in, make_room, numbers_in};
-use crate::keep::{Keep, KeepError, Kept, KeptHead, KeptRow};
+use crate::keep::{Keep, KeepError, Kept, KeptHead, KeptRow, ProjectRow};
+use crate::project::{find_project, find_targets};
 use crate::reading::{find_deposit, find_graph, find_lines, find_number};
 use crate::rows::kept_rows;
 use crate::statements::{Filed, add_file};
@@ -152,6 +153,18 @@ impl<S: Alter> Keep for SqlKeep<S> {
 
     fn steps(&mut self, n: u32) -> Result<Graph, KeepError> {
         let found = find_graph(&mut self.connection, self.alloc, n);
+        self.has_failed = is_store(&found);
+        found
+    }
+
+    fn project_row(&mut self, n: u32) -> Result<Option<ProjectRow>, KeepError> {
+        let found = find_project(&mut self.connection, self.alloc, n);
+        self.has_failed = is_store(&found);
+        found
+    }
+
+    fn targets(&mut self, n: u32, row: u32) -> Result<Vec<u32>, KeepError> {
+        let found = find_targets(&mut self.connection, self.alloc, n, row);
         self.has_failed = is_store(&found);
         found
     }
