@@ -31,6 +31,10 @@ use Rattle.ags_links.specs.Walks.{Wiring}
 abbrev of_row : Row → Deposit
 of_row c = record { firm = bytes (column c 1); project = bytes (column c 2); embargo = integer_in (column c 3); bytes = bytes (column c 4) }
 
+-- one row is that of one deposit
+pub same_deposit : (n : ℕ) (a b : Deposit) (rows : List Row) → rows ≡ given_deposit n a ∷ [] → rows ≡ given_deposit n b ∷ [] → a ≡ b
+same_deposit n a b rows x y = ap (λ (all : List Row). of_row (get_or all 0 [])) (sym x ∙ y)
+
 pub slice_get_in : {X : Type 0} (xs : List X) (k : ℕ) → k < length xs → (x : X) × (slice_get xs k ≡ Some x)
 slice_get_in [] k low = absurd (omega (arith, low))
 slice_get_in (x ∷ xs) zero low = (x, refl)
