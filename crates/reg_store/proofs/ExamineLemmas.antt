@@ -22,22 +22,26 @@ use Rattle.ags_dict.specs.Entries.{Entries}
 use Rattle.ags_check.specs.Findings.{CheckedFile, Findings}
 use Rattle.ags_check.proofs.Lemmas.{one_clean_file, one_list}
 use Rattle.reg_store.specs.declared.keep.KeepError.{KeepError}
-use Rattle.reg_store.specs.declared.keep.KeptHead.{KeptHead}
+use Rattle.reg_store.specs.declared.heads.DigestedHead.{DigestedHead}
+use Rattle.reg_store.specs.declared.repeats.Digests.{Digests}
 use Rattle.reg_store.specs.declared.keep.KeptRow.{KeptRow}
-use Rattle.reg_store.specs.Deposit.{Deposit}
+use Rattle.reg_store.specs.Deposit.{Deposit, is_repeat}
 use Rattle.reg_store.specs.Fit.{IsFileOf, IsNamed, kept_rows}
 use Rattle.reg_store.specs.Rows.{columns_3, deposit_table, given_deposit, line_table, step_table, placed_rows, step_pair, rows_under}
 use Rattle.reg_store.specs.Tables.{register_schema}
 use Rattle.reg_store.specs.Register.{deposit_rows, has_number, meta_columns, integer_in, IsRegister}
 use Rattle.reg_store.specs.RegisterLaws.{rows-length}
-use Rattle.reg_store.specs.Heads.{IsHeadAt, head_of}
+use Rattle.reg_store.specs.Digests.{AreBelow, HasEqual, HasNoEqual, HoldsDigests, IsFirst, IsNew, is_among, numbers_under, own_digest}
+use Rattle.reg_store.specs.Heads.{IsDigestedAt, head_of}
+use Rattle.reg_store.specs.Methods.{same_deposit}
+use Rattle.reg_store.proofs.RepeatsLemmas.{false_if, same_digest}
 use Rattle.reg_store.specs.declared.adopting.AdoptError.{AdoptError}
 use Rattle.reg_store.specs.declared.adopting.AdoptError.TheVariants.{NotRegister, Version, Store, NoMemory}
 use Rattle.reg_store.specs.Formats.{HasFormat, IsFormatRow}
 use Rattle.reg_store.specs.Adoption.{Adopts, CountsDeposits, MetaOf, ReadsMeta}
 use Rattle.reg_store.proofs.RowsLemmas.{numbers_long}
 use Rattle.reg_store.specs.Adopts.{id_of, number_rows}
-use Rattle.reg_store.specs.Whole.{AreWhole, Counts, HasMeta, HoldsBody, IsAlone, IsWhole, Tests, adopts_whole, of_all, whole_at}
+use Rattle.reg_store.specs.Whole.{AreWhole, Counts, HasMeta, HoldsBody, IsWhole, Tests, adopts_whole, of_all, whole_at}
 use Rattle.reg_store.proofs.FormatLemmas.{register_first}
 
 -- the rows that are shown are the table's, and are these where the table holds these
@@ -86,36 +90,48 @@ body_tests (Ok is) db dictionary n d file its lines steps lines_are steps_are te
         let one : held.0 ≡ file = one_clean_file held.0 file held.1.clean its.clean (held.1.given ∙ sym its.given) (held.1.bytes ∙ sym its.bytes) in
         (subst Lines (sym lines_are) (subst (λ (f : CheckedFile). Lines (kept_rows f.groups)) one held.2.lines), subst Steps (sym steps_are) (subst (λ (f : CheckedFile). Steps f.graph.steps) one held.2.steps))
 
--- a row of deposits is that of one deposit
-abbrev of_row : Row → Deposit
-of_row c = record { firm = bytes (column c 1); project = bytes (column c 2); embargo = integer_in (column c 3); bytes = bytes (column c 4) }
-
-pub whole_tests : (r : Result Bool KeepError) (db mid : Database) (dictionary : Entries) (n : ℕ) (d : Deposit) (rows : List Row) → mid ≡ db → IsPermutation rows (filter (has_number n) (deposit_table db.trees)) → rows ≡ given_deposit n d ∷ [] → IsNamed d
-    → IfOk r (λ is. Tests is (HoldsBody mid dictionary n d × IsAlone mid d)) → IfOk r (λ is. Tests is (IsWhole db dictionary n))
-whole_tests (Err e) db mid dictionary n d rows same found read named test = tt
-whole_tests (Ok is) db mid dictionary n d rows same found read named test = tests_as is _ (IsWhole db dictionary n) there back (subst (λ (t : Database). Tests is (HoldsBody t dictionary n d × IsAlone t d)) same test)
+pub whole_tests : (r : Result Bool KeepError) (db mid : Database) (dictionary : Entries) (n : ℕ) (d : Deposit) (rows : List Row) (digests : Digests) (numbers : List ℕ) → mid ≡ db → IsPermutation rows (filter (has_number n) (deposit_table db.trees)) → rows ≡ given_deposit n d ∷ [] → IsNamed d
+    → numbers ≡ numbers_under digests (own_digest d) → AreBelow digests n → HoldsDigests db n digests → IfOk r (λ is. Tests is (HoldsBody mid dictionary n d × IsNew mid numbers d)) → IfOk r (λ is. Tests is (IsWhole db dictionary n))
+whole_tests (Err e) db mid dictionary n d rows digests numbers same found read named own below held test = tt
+whole_tests (Ok is) db mid dictionary n d rows digests numbers same found read named own below held test =
+    tests_as is _ (IsWhole db dictionary n) there back (subst (λ (t : Database). Tests is (HoldsBody t dictionary n d × IsNew t numbers d)) same test)
   where
     row : filter (has_number n) (deposit_table db.trees) ≡ given_deposit n d ∷ []
     row = one_permutation (given_deposit n d) _ (subst (λ all. IsPermutation all (filter (has_number n) (deposit_table db.trees))) read found)
 
-    there : HoldsBody db dictionary n d × IsAlone db d → IsWhole db dictionary n
-    there both = record { deposit = d; row = row; named = named; body = both.0; alone = both.1 }
+    -- an equal deposit of a smaller number has the digest
+    first : IsNew db numbers d → IsFirst db n d
+    first none m low high e its = false_if (is_repeat d.firm d.project d.bytes e) (λ yes.
+        (let same_own : own_digest e ≡ own_digest d = same_digest d.firm d.project d.bytes e yes in
+        let among : is_among m numbers ≡ true = ap (is_among m) (own ∙ ap (numbers_under digests) (sym same_own)) ∙ held m low high e its in
+        none m among e its))
 
-    back : IsWhole db dictionary n → HoldsBody db dictionary n d × IsAlone db d
+    there : HoldsBody db dictionary n d × IsNew db numbers d → IsWhole db dictionary n
+    there both = record { deposit = d; row = row; named = named; body = both.0; alone = first both.1 }
+
+    back : IsWhole db dictionary n → HoldsBody db dictionary n d × IsNew db numbers d
     back w =
-        let one : w.deposit ≡ d = ap (λ (all : List Row). of_row (get_or all 0 [])) (sym w.row ∙ row) in
-        (subst (HoldsBody db dictionary n) one w.body, subst (IsAlone db) one w.alone)
+        let one : w.deposit ≡ d = same_deposit n w.deposit d _ w.row row in
+        let alone = subst (IsFirst db n) one w.alone in
+        (subst (HoldsBody db dictionary n) one w.body, λ m among e its. (let it = below (own_digest d) m (sym (ap (is_among m) own) ∙ among) in alone m it.0 it.1 e its))
 
 -- the row that is shown of a whole deposit is its row
 pub only_shown : (db : Database) (dictionary : Entries) (n : ℕ) (rows : List Row) → IsPermutation rows (filter (has_number n) (deposit_table db.trees)) → (w : IsWhole db dictionary n) → rows ≡ given_deposit n w.deposit ∷ []
 only_shown db dictionary n rows found w = one_permutation (given_deposit n w.deposit) rows (IsPermutation-sym _ _ (subst (λ all. IsPermutation rows all) w.row found))
 
--- so the head of what is shown is that of the deposit
-pub head_shown : (db : Database) (n : ℕ) (kept : Deposit) (head : KeptHead) (rows : List Row) → IsPermutation rows (filter (has_number n) (deposit_table db.trees)) → rows ≡ given_deposit n kept ∷ [] → head ≡ head_of kept → IsHeadAt db n head
-head_shown db n kept head rows found read is d row =
+-- so the head and the digest of what is shown are those of the deposit
+pub head_shown : (db : Database) (n : ℕ) (kept : Deposit) (one : DigestedHead) (rows : List Row) → IsPermutation rows (filter (has_number n) (deposit_table db.trees)) → rows ≡ given_deposit n kept ∷ [] → one.head ≡ head_of kept → one.digest ≡ own_digest kept → IsDigestedAt db n one
+head_shown db n kept one rows found read head digest d row =
     let alone : rows ≡ given_deposit n d ∷ [] = one_permutation (given_deposit n d) rows (IsPermutation-sym _ _ (subst (λ all. IsPermutation rows all) row found)) in
-    let one : kept ≡ d = ap (λ (all : List Row). of_row (get_or all 0 [])) (sym read ∙ alone) in
-    is ∙ ap head_of one
+    let same : kept ≡ d = same_deposit n kept d rows read alone in
+    (head ∙ ap head_of same, digest ∙ ap own_digest same)
+
+-- what is found under the digest tells whether a deposit is new
+pub new_tests : (db : Database) (numbers : List ℕ) (d : Deposit) → HasNoEqual db numbers d.firm d.project d.bytes → Tests true (IsNew db numbers d)
+new_tests db numbers d none = record { yes = λ e. ∣ none ∣₁; no = λ e. absurd cc }
+
+pub old_tests : (db : Database) (numbers : List ℕ) (d : Deposit) (n : ℕ) → HasEqual db d.firm d.project d.bytes n → is_among n numbers ≡ true → Tests false (IsNew db numbers d)
+old_tests db numbers d n has among = record { yes = λ e. absurd cc; no = λ e none. absurd (let clash : true ≡ false = sym has.2 ∙ none n among has.0 has.1 in cc) }
 
 pub tests_true : {is : Bool} {P : Type 0} → is ≡ true → Tests is P → Tests true P
 tests_true {is} {P} e test = subst (λ (b : Bool). Tests b P) e test
@@ -127,7 +143,7 @@ pub tests_all : (P : ℕ → Type 0) (count : ℕ) → ((k : ℕ) → k < count 
 tests_all P count each = record { yes = λ e. of_all P count each; no = λ e. absurd cc }
 
 -- the first deposits are whole, and so is the next
-pub whole_more : (old mid : Database) (dictionary : Entries) (at : ℕ) (o : Option KeptHead) (head : KeptHead) → mid ≡ old → o ≡ Some head → Tests (is_some o) (IsWhole mid dictionary (at + 1)) → ((k : ℕ) → k < at → ∥ IsWhole old dictionary (k + 1) ∥₁)
+pub whole_more : (old mid : Database) (dictionary : Entries) (at : ℕ) (o : Option DigestedHead) (head : DigestedHead) → mid ≡ old → o ≡ Some head → Tests (is_some o) (IsWhole mid dictionary (at + 1)) → ((k : ℕ) → k < at → ∥ IsWhole old dictionary (k + 1) ∥₁)
     → (k : ℕ) → k < at + 1 → ∥ IsWhole old dictionary (k + 1) ∥₁
 whole_more old mid dictionary at o head same is test all k low = elim (cases_lt k at) [
   | inl below ↦ all k (omega arith)

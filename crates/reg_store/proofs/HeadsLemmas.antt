@@ -16,7 +16,8 @@ use Rattle.reg_store.specs.Deposit.{Deposit, numbers_from}
 use Rattle.reg_store.specs.Keep.{IsHeadOf}
 use Rattle.reg_store.specs.Rows.{deposit_table}
 use Rattle.reg_store.specs.Register.{deposit_rows, deposits_in, KeepsRegister}
-use Rattle.reg_store.specs.Heads.{AreHeads, HoldsHeads, IsHeadAt, bare_of, head_of}
+use Rattle.reg_store.specs.Digests.{IsRowOf}
+use Rattle.reg_store.specs.Heads.{AreHeads, HoldsHeads, bare_of, head_of}
 use Rattle.reg_store.specs.Methods.{slice_get_in}
 use Rattle.reg_store.specs.Quiet.{IsStill, clean_before}
 use Rattle.reg_store.specs.Shows.{row_of_number}
@@ -88,7 +89,7 @@ taken_all (x ∷ xs) zero e = absurd (omega (arith, e))
 taken_all (x ∷ xs) (suc k) e = ap (λ all. x ∷ all) (taken_all xs k (omega (arith, e)))
 
 -- the heads of the first deposits, and that of the next
-pub heads_read : (db : Database) (heads : List KeptHead) (head : KeptHead) (k : ℕ) (list : List Deposit) → AreHeads heads (take k list) → IsHeadAt db (k + 1) head → IsPermutation (deposit_rows 1 list) (deposit_table db.trees) → k < length list
+pub heads_read : (db : Database) (heads : List KeptHead) (head : KeptHead) (k : ℕ) (list : List Deposit) → AreHeads heads (take k list) → ((d : Deposit) → IsRowOf db (k + 1) d → head ≡ head_of d) → IsPermutation (deposit_rows 1 list) (deposit_table db.trees) → k < length list
     → AreHeads (heads ++ head ∷ []) (take (k + 1) list)
 heads_read db heads head k list are is there low =
     let found = slice_get_in list k low in

@@ -1,5 +1,5 @@
 -- A register in memory: what is known of a kept deposit and of its file.
-use Rattle.std.proofs.Common.{◌≡◌, ◌≢◌, ℕ, ◌<◌, ◌≤◌, Bool, true, false, List, [], ◌∷◌, ◌++◌, length, map, All, Some, Ok, Err, Result, get_or, if◌then◌else◌, sym, ap, subst, ◌∙◌, arith, refl}
+use Rattle.std.proofs.Common.{◌≡◌, ◌≢◌, ℕ, ◌<◌, ◌≤◌, Bool, true, false, List, [], ◌∷◌, ◌++◌, length, map, All, Option, Some, Ok, Err, Result, get_or, if◌then◌else◌, sym, ap, subst, ◌∙◌, arith, refl}
 use Rattle.std.specs.Prelude.{IfOk, slice_get}
 use Rattle.std.proofs.Math.Logic.{∥∥₁_map, ∥∥₁_elim}
 use Rattle.std.proofs.Math.ListN.{get_or-map}
@@ -16,6 +16,8 @@ use Rattle.ags_check.specs.Findings.{CheckedFile, Findings, IsClean}
 use Rattle.ags_check.proofs.Lemmas.{one_list, one_clean_file}
 use Rattle.reg_store.specs.declared.keep.Kept.{Kept}
 use Rattle.reg_store.specs.declared.keep.KeptRow.{KeptRow}
+use Rattle.reg_store.specs.declared.keep.ProjectRow.{ProjectRow}
+use Rattle.reg_store.specs.Project.{project_of, targets_of}
 use Rattle.reg_store.specs.Keep.{deposit_of}
 use Rattle.reg_store.specs.Deposit.{Deposit}
 use Rattle.reg_store.specs.Fit.{IsFit, IsFileOf, kept_rows}
@@ -79,3 +81,14 @@ pub graph_is : {E : Type 0} (dictionary : Entries) (d : Deposit) (checked : Chec
     → IfOk r (λ copied. copied ≡ graph) → IfOk r (λ copied. (file : CheckedFile) → IsFileOf dictionary d file → copied ≡ file.graph)
 graph_is dictionary d checked graph (Ok copied) its of same = λ file other. same ∙ of ∙ ap (λ (f : CheckedFile). f.graph) (one_file dictionary d checked file its other)
 graph_is dictionary d checked graph (Err e) its of same = tt
+
+pub project_is : {E : Type 0} (dictionary : Entries) (d : Deposit) (rows read : List KeptRow) (r : Result (Option ProjectRow) E) → read ≡ rows → ((file : CheckedFile) → IsFileOf dictionary d file → rows ≡ kept_rows file.groups)
+    → IfOk r (λ found. found ≡ project_of read) → IfOk r (λ found. (file : CheckedFile) → IsFileOf dictionary d file → found ≡ project_of (kept_rows file.groups))
+project_is dictionary d rows read (Ok found) same are is = λ file its. is ∙ ap project_of (same ∙ are file its)
+project_is dictionary d rows read (Err e) same are is = tt
+
+pub targets_are : {X E : Type 0} (items : X → List ℕ) (dictionary : Entries) (d : Deposit) (checked : CheckedFile) (row : ℕ) (graph : Wiring) (steps : List (ℕ × ℕ)) (r : Result X E) → IsFileOf dictionary d checked → graph ≡ checked.graph
+    → steps ≡ graph.steps → IfOk r (λ x. items x ≡ targets_of row steps) → IfOk r (λ x. (file : CheckedFile) → IsFileOf dictionary d file → items x ≡ targets_of row file.graph.steps)
+targets_are items dictionary d checked row graph steps (Ok x) its of same is = λ file other.
+    is ∙ ap (targets_of row) (same ∙ ap (λ (g : Wiring). g.steps) (of ∙ ap (λ (f : CheckedFile). f.graph) (one_file dictionary d checked file its other)))
+targets_are items dictionary d checked row graph steps (Err e) its of same is = tt

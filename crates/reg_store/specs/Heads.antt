@@ -1,11 +1,13 @@
 -- The heads of a register's deposits, which stand in memory.
-use Rattle.std.specs.Prelude.{◌≡◌, ℕ, List, [], ◌∷◌, length, map, filter}
+use Rattle.std.specs.Prelude.{◌≡◌, ℕ, List, [], length, map}
 use Rattle.std.specs.List.Sorted.{IsPermutation}
 use Rattle.sqlite.specs.Effect.{Database}
+use Rattle.reg_store.specs.declared.heads.DigestedHead.{DigestedHead}
 use Rattle.reg_store.specs.declared.keep.KeptHead.{KeptHead}
 use Rattle.reg_store.specs.Deposit.{Deposit}
-use Rattle.reg_store.specs.Rows.{deposit_table, given_deposit}
-use Rattle.reg_store.specs.Register.{deposit_rows, has_number}
+use Rattle.reg_store.specs.Digests.{IsRowOf, own_digest}
+use Rattle.reg_store.specs.Rows.{deposit_table}
+use Rattle.reg_store.specs.Register.{deposit_rows}
 
 abbrev pub head_of : Deposit → KeptHead
 head_of d = record { firm = d.firm; project = d.project; embargo = d.embargo }
@@ -18,9 +20,9 @@ AreHeads heads list = heads ≡ map head_of list
 abbrev pub bare_of : KeptHead → Deposit
 bare_of head = record { firm = head.firm; project = head.project; embargo = head.embargo; bytes = [] }
 
--- The head is that of the deposit whose row is the only one of the number.
-abbrev pub IsHeadAt : Database → ℕ → KeptHead → Type 0
-IsHeadAt db n head = (d : Deposit) → filter (has_number n) (deposit_table db.trees) ≡ given_deposit n d ∷ [] → head ≡ head_of d
+-- The head and the digest are those of the deposit whose row is the only one of the number.
+abbrev pub IsDigestedAt : Database → ℕ → DigestedHead → Type 0
+IsDigestedAt db n one = (d : Deposit) → IsRowOf db n d → (one.head ≡ head_of d) × (one.digest ≡ own_digest d)
 
 -- The heads are those of the deposits in the tables, of which there are so many.
 abbrev pub HoldsHeads : Database → ℕ → List KeptHead → Type 0

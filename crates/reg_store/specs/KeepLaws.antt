@@ -176,12 +176,6 @@ whole_put {old} {new} {dictionary} {count} d file h low survives ready clean lef
     go (inl may) = (left.0, may, left.2)
     go (inr put) = absurd (∥∥₁_elim h (Prim.hlevel props) (none put))
 
-pub number_found_at : {s : State} {dictionary : Entries} {count : ℕ} (firm project bytes : List ℕ) (r : Result (Option ℕ) KeepError) → ∥ KeepsRegister s dictionary count ∥₁
-    → IfOk r (λ n. (list : List Deposit) → IsPermutation (deposit_rows 1 list) (deposit_table s.now.trees) → AreApart list → n ≡ number_of firm project bytes list) → IfOk r (λ n. n ≡ number_of firm project bytes (deposits_in s.committed.trees))
-number_found_at {s} {dictionary} {count} firm project bytes (Ok n) h ok =
-    let same : n ≡ number_of firm project bytes (deposits_in s.committed.trees) = ∥∥₁_elim h (Prim.hlevel props) (λ (k : KeepsRegister s dictionary count). ok (deposits_in s.committed.trees) k.register.deposits k.register.apart) in same
-number_found_at firm project bytes (Err e) h ok = tt
-
 -- ---- what a query needs and leaves
 
 pub idle_at : (s : State) {dictionary : Entries} {count : ℕ} → s.in_transaction ≡ false → (HasCleanDisk s → ∥ KeepsRegister s dictionary count ∥₁) → IsIdle s

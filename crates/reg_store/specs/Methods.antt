@@ -31,6 +31,10 @@ use Rattle.ags_links.specs.Walks.{Wiring}
 abbrev of_row : Row → Deposit
 of_row c = record { firm = bytes (column c 1); project = bytes (column c 2); embargo = integer_in (column c 3); bytes = bytes (column c 4) }
 
+-- one row is that of one deposit
+pub same_deposit : (n : ℕ) (a b : Deposit) (rows : List Row) → rows ≡ given_deposit n a ∷ [] → rows ≡ given_deposit n b ∷ [] → a ≡ b
+same_deposit n a b rows x y = ap (λ (all : List Row). of_row (get_or all 0 [])) (sym x ∙ y)
+
 pub slice_get_in : {X : Type 0} (xs : List X) (k : ℕ) → k < length xs → (x : X) × (slice_get xs k ≡ Some x)
 slice_get_in [] k low = absurd (omega (arith, low))
 slice_get_in (x ∷ xs) zero low = (x, refl)
@@ -58,7 +62,7 @@ zip_at R (a ∷ xs) (b ∷ ys) zero x h at = let same : a ≡ x = cc in (b, refl
 zip_at R (a ∷ xs) (b ∷ ys) (suc k) x h at = zip_at R xs ys k x h.1 at
 
 -- the file that the register holds of a deposit, whose groups and graph are those of any other file of it
-held_file : {s : State} {dictionary : Entries} {count : ℕ} (n : ℕ) (d : Deposit) (k : KeepsRegister s dictionary count) → 0 < n → slice_get (deposits_in s.committed.trees) (n - 1) ≡ Some d
+pub held_file : {s : State} {dictionary : Entries} {count : ℕ} (n : ℕ) (d : Deposit) (k : KeepsRegister s dictionary count) → 0 < n → slice_get (deposits_in s.committed.trees) (n - 1) ≡ Some d
     → (file : CheckedFile) × IsFileOf dictionary d file × IsPermutation (placed_rows 0 (kept_rows file.groups)) (rows_under n (line_table s.now.trees)) × IsPermutation (map step_pair file.graph.steps) (rows_under n (step_table s.now.trees))
 held_file {s} {dictionary} n d k low at =
     let it = zip_at (IsFileOf dictionary) (deposits_in s.committed.trees) k.register.files (n - 1) d k.register.each at in
@@ -67,7 +71,7 @@ held_file {s} {dictionary} n d k low at =
     let steps = subst₂ (λ o (m : ℕ). IsPermutation (file_steps o) (rows_under m (step_table s.now.trees))) it.1 e (k.register.steps (n - 1)) in
     (it.0, it.2, lines, steps)
 
-same_file : (dictionary : Entries) (d : Deposit) (a b : CheckedFile) → IsFileOf dictionary d a → IsFileOf dictionary d b → (a.groups ≡ b.groups) × (a.graph ≡ b.graph)
+pub same_file : (dictionary : Entries) (d : Deposit) (a b : CheckedFile) → IsFileOf dictionary d a → IsFileOf dictionary d b → (a.groups ≡ b.groups) × (a.graph ≡ b.graph)
 same_file dictionary d a b x y = let one : a ≡ b = one_clean_file a b x.clean y.clean (x.given ∙ sym y.given) (x.bytes ∙ sym y.bytes) in (ap (λ (f : CheckedFile). f.groups) one, ap (λ (f : CheckedFile). f.graph) one)
 
 pub rows_at : {X : Type 0} (items : X → List KeptRow) {s : State} {dictionary : Entries} {count : ℕ} (n : ℕ) (r : Result X KeepError) → 0 < n → ∥ KeepsRegister s dictionary count ∥₁

@@ -2,11 +2,8 @@
 use Rattle.std.proofs.Common.{◌≡◌, ◌≢◌, ℕ, zero, suc, ◌+◌, ◌-◌, ◌<◌, ◌≤◌, ℤ, pos, Bool, true, false, List, [], ◌∷◌, map, filter, length, get_or, Option, Some, None, slice_get, refl, sym, ap, subst, subst₂, ◌∙◌, arith, inl, inr, ◌⊎◌}
 use Rattle.std.proofs.Math.Logic.{∥∥₁_map, ∥∥₁_elim}
 use Rattle.std.proofs.Props.{props}
-use Rattle.std.specs.Option.{option_to_list}
-use Rattle.std.specs.List.{AllByRecursion, AllZip, position_from}
+use Rattle.std.specs.List.{AllByRecursion, AllZip}
 use Rattle.std.specs.List.Sorted.{IsPermutation}
-use Rattle.std.proofs.lemmas.List.Sorted.{length_permutation, IsPermutation-map}
-use Rattle.sqlite_keyed.proofs.ListLemmas.{IsPermutation-filter}
 use Rattle.sqlite.specs.declared.types.Value.TheVariants.{Int, Text as Words, Blob as Bytes}
 use Rattle.sqlite.specs.Order.{Row, column}
 use Rattle.sqlite.specs.Effect.{Database, IsDatabase}
@@ -17,16 +14,13 @@ use Rattle.ags_check.specs.Findings.{CheckedFile}
 use Rattle.reg_store.specs.Deposit.{Deposit, is_repeat}
 use Rattle.reg_store.specs.Tables.{register_schema}
 use Rattle.reg_store.specs.Fit.{IsFileOf, IsNamed, kept_rows}
-use Rattle.reg_store.specs.Apart.{AreApart}
-use Rattle.reg_store.specs.ApartLaws.{repeats_from, at_most_one}
+use Rattle.reg_store.specs.ApartLaws.{apart_all, apart_pair}
+use Rattle.reg_store.specs.Digests.{IsFirst}
 use Rattle.reg_store.specs.Rows.{deposit_table, given_deposit, columns_3, line_table, step_table, rows_under, placed_rows, step_pair}
 use Rattle.reg_store.specs.Register.{deposit_rows, has_number, meta_columns, file_lines, file_steps, IsRegister}
-use Rattle.reg_store.specs.RegisterLaws.{rows-length}
 use Rattle.reg_store.specs.Shows.{row_of_number}
-use Rattle.reg_store.specs.Finds.{is_equal, repeats_long}
-use Rattle.reg_store.specs.Adopts.{number_rows, id_of, by_numbers, IsRead, adopts}
-use Rattle.reg_store.specs.Adopting.{apart_found}
-use Rattle.reg_store.specs.Methods.{slice_get_in, zip_at}
+use Rattle.reg_store.specs.Adopts.{number_rows, id_of, IsRead, adopts}
+use Rattle.reg_store.specs.Methods.{same_deposit, slice_get_in, zip_at}
 
 -- A test finds the fact out: it is true only where the fact holds, and false only where it does not.
 pub record Tests (is : Bool) (Fact : Type 0) : Type 0 where
@@ -42,17 +36,13 @@ pub record HoldsFile (db : Database) (n : ℕ) (file : CheckedFile) : Type 0 whe
 abbrev pub HoldsBody : Database → Entries → ℕ → Deposit → Type 0
 HoldsBody db dictionary n d = (file : CheckedFile) × IsFileOf dictionary d file × HoldsFile db n file
 
--- No two rows of deposits are equal to this one.
-abbrev pub IsAlone : Database → Deposit → Type 0
-IsAlone db d = length (filter (is_equal d.firm d.project d.bytes) (deposit_table db.trees)) ≤ 1
-
--- The deposit of a number is whole: its row is the only one, with names and a day; its bytes have no finding; its lines and steps are there; and it has no equal.
+-- The deposit of a number is whole: its row is the only one, with names and a day; its bytes have no finding; its lines and steps are there; and no deposit of a smaller number is equal.
 pub record IsWhole (db : Database) (dictionary : Entries) (n : ℕ) : Type 0 where
   pub deposit : Deposit
   pub row : filter (has_number n) (deposit_table db.trees) ≡ given_deposit n deposit ∷ []
   pub named : IsNamed deposit
   pub body : HoldsBody db dictionary n deposit
-  pub alone : IsAlone db deposit
+  pub alone : IsFirst db n deposit
 
 -- The numbers of the deposits are those from 1 to the count, which is at most 999,999; or they are not.
 abbrev pub Counts : Database → Option ℕ → Type 0
@@ -72,10 +62,6 @@ pub record HasMeta (db : Database) (dictionary : Entries) : Type 0 where
 
 -- ---- a register has whole deposits
 
-permit : (xs : List ℕ) (o : Option ℕ) → xs ≡ option_to_list o → length xs ≤ 1
-permit xs None e = let none : length xs ≡ 0 = ap length e in omega (arith, none)
-permit xs (Some n) e = let one : length xs ≡ 1 = ap length e in omega (arith, one)
-
 pub whole_at : (db : Database) (dictionary : Entries) (list : List Deposit) → IsRegister db dictionary list → AreWhole db dictionary (length list)
 whole_at db dictionary list r k low =
     let found = slice_get_in list k low in
@@ -83,10 +69,6 @@ whole_at db dictionary list r k low =
     let e : (k + 1) - 1 ≡ k = omega arith in
     let at : slice_get list ((k + 1) - 1) ≡ Some d = ap (slice_get list) e ∙ found.1 in
     let it = zip_at (IsFileOf dictionary) list r.files k d r.each found.1 in
-    let same = IsPermutation-filter (is_equal d.firm d.project d.bytes) _ _ r.deposits in
-    let many : length (filter (is_equal d.firm d.project d.bytes) (deposit_table db.trees)) ≡ length (repeats_from 1 d.firm d.project d.bytes list) =
-    length_permutation _ _ same ∙ repeats_long 1 d.firm d.project d.bytes list in
-    let few : length (repeats_from 1 d.firm d.project d.bytes list) ≤ 1 = permit _ _ (at_most_one 1 d.firm d.project d.bytes list r.apart) in
     record {
       deposit = d;
       row = row_of_number (k + 1) list (deposit_table db.trees) d (omega arith) r.deposits at;
@@ -99,7 +81,10 @@ whole_at db dictionary list r k low =
           steps = subst (λ o. IsPermutation (file_steps o) (rows_under (k + 1) (step_table db.trees))) it.1 (r.steps k);
         },
       );
-      alone = subst (λ (n : ℕ). n ≤ 1) (sym many) few;
+      alone = λ m above below x row.
+          (let there = slice_get_in list (m - 1) (omega (arith, above, below, low)) in
+          let one : there.0 ≡ x = same_deposit m there.0 x _ (row_of_number m list (deposit_table db.trees) there.0 above r.deposits there.1) row in
+          subst (λ (y : Deposit). is_repeat d.firm d.project d.bytes y ≡ false) one (apart_pair list (m - 1) k d there.0 r.apart (omega (arith, above, below)) there.1 found.1));
     }
   where
     named_at : (list : List Deposit) (k : ℕ) (d : Deposit) → AllByRecursion IsNamed list → slice_get list k ≡ Some d → IsNamed d
@@ -170,16 +155,10 @@ adopts_whole db dictionary count schema sound meta counts all = (list, adopts db
         let e : k + 1 ≡ 1 + k = omega arith in
         subst₂ (λ (n : ℕ) (x : Deposit). filter (has_number n) table ≡ given_deposit n x ∷ []) e it.1 it.0.row
 
-    are : IsPermutation (deposit_rows 1 list) table
-    are = by_numbers 1 list table numbers rows
-
-    once : (k : ℕ) (d : Deposit) → slice_get list k ≡ Some d → length (repeats_from 1 d.firm d.project d.bytes list) ≤ 1
-    once k d at =
-        let it = list_at P (λ k p. p.deposit) count all k d at in
-        let alone : IsAlone db d = subst (IsAlone db) it.1 it.0.alone in
-        let same = IsPermutation-filter (is_equal d.firm d.project d.bytes) _ _ are in
-        let many : length (repeats_from 1 d.firm d.project d.bytes list) ≡ length (filter (is_equal d.firm d.project d.bytes) table) = sym (repeats_long 1 d.firm d.project d.bytes list) ∙ sym (length_permutation _ _ same) in
-        subst (λ (n : ℕ). n ≤ 1) (sym many) alone
+    earlier : (j k : ℕ) (d x : Deposit) → j < k → slice_get list j ≡ Some x → slice_get list k ≡ Some d → is_repeat d.firm d.project d.bytes x ≡ false
+    earlier j k d x low first second =
+        let it = list_at P (λ k p. p.deposit) count all k d second in
+        subst (λ (y : Deposit). is_repeat y.firm y.project y.bytes x ≡ false) it.1 (it.0.alone (1 + j) (omega arith) (omega (arith, low)) x (rows j x first))
 
     read : IsRead db dictionary list
     read = record {
@@ -194,7 +173,7 @@ adopts_whole db dictionary count schema sound meta counts all = (list, adopts db
       files = files;
       each = list_zip (IsFileOf dictionary) P (λ k p. p.deposit) (λ k p. p.body.0) count all (λ k p. p.body.1);
       named = list_all_of IsNamed P (λ k p. p.deposit) count all (λ k p. p.named);
-      apart = apart_found 1 list once;
+      apart = apart_all list earlier;
       few = subst (λ (n : ℕ). n ≤ 999999) (sym long) counts.0;
       lines = λ k file at. (let it = list_at P (λ k p. p.body.0) count all k file at in subst (λ (f : CheckedFile). IsPermutation (placed_rows 0 (kept_rows f.groups)) (rows_under (k + 1) (line_table db.trees))) it.1 it.0.body.2.lines);
       steps = λ k file at. (let it = list_at P (λ k p. p.body.0) count all k file at in subst (λ (f : CheckedFile). IsPermutation (map step_pair f.graph.steps) (rows_under (k + 1) (step_table db.trees))) it.1 it.0.body.2.steps);

@@ -13,18 +13,20 @@ ghost use Rattle.reg_store.specs.Fit.{IsFileOf};
 ghost use Rattle.reg_store.specs.Quiet.{IsIdle, IsStill};
 ghost use Rattle.reg_store.specs.Rows.{line_table, step_table, deposit_table, placed_rows, step_pair, rows_under};
 ghost use Rattle.reg_store.specs.Register.{deposit_rows};
-ghost use Rattle.reg_store.specs.Heads.{HoldsHeads, IsHeadAt};
+ghost use Rattle.reg_store.specs.Heads.{HoldsHeads, IsDigestedAt};
+ghost use Rattle.reg_store.specs.Digests.{AreBelow, HoldsDigests, IsNew, numbers_under};
 ghost use Rattle.reg_store.specs.Adopts.{id_of, number_rows as numbered};
-ghost use Rattle.reg_store.specs.Whole.{AreWhole, Counts, HasMeta, HoldsBody, IsAlone, IsWhole, Tests};
+ghost use Rattle.reg_store.specs.Whole.{AreWhole, Counts, HasMeta, HoldsBody, IsWhole, Tests};
 ghost use Rattle.reg_store.specs.Adoption.{Adopts, CountsDeposits, MetaOf, gives_up};
 ghost use Rattle.sqlite.specs.Effect.{IsDatabase};
 
 use crate::adopting::{AdoptError, are_lines, are_steps, count_numbers, read_meta};
-use crate::heads::into_head;
+use crate::heads::{DigestedHead, into_head};
 use crate::keep::{KeepError, Kept, KeptHead, KeptRow};
 use crate::queries::query;
 use crate::readers::read_deposit;
-use crate::reading::{equal_rows, line_rows, meta_rows, numbered_rows, step_rows};
+use crate::reading::{line_rows, meta_rows, numbered_rows, step_rows};
+use crate::repeats::{Digests, digest_of, find_equal};
 use crate::rows::kept_rows;
 use ags_check::{CheckError, Checked, check};
 use ags_dict::Dictionary;
@@ -158,25 +160,33 @@ fn holds_body<S: Alter>(
     holds_file(conn, number, lines.as_slice(), checked.graph().steps())
 }
 
-/// Whether no two rows of deposits are equal to this one.
-fn is_alone<S: Alter>(conn: &mut Connection<S>, kept: &Kept) -> Result<bool, KeepError>
+/// Whether no deposit of these numbers is equal to this one.
+fn is_new<S: Alter>(
+    conn: &mut Connection<S>,
+    alloc: Global,
+    numbers: &[u32],
+    kept: &Kept,
+) -> Result<bool, KeepError>
     requires idle { IsIdle (state S.Store conn.old) }
-    ensures tested { HasCleanDisk (state S.Store conn.new) → IfOk result (λ is. Tests is (IsAlone (state S.Store conn.old).now (deposit_of kept.now))) }
+    ensures tested { HasCleanDisk (state S.Store conn.new) → IfOk result (λ is. Tests is (IsNew (state S.Store conn.old).now numbers.now (deposit_of kept.now))) }
     ensures named { IfErr result (λ e. e ≢ KeepError.Full) }
     ensures quiet { IsStill (state S.Store conn.old) (state S.Store conn.new) (fails result) }
 {
-    match equal_rows(
+    match find_equal(
         conn,
-        kept.firm.text(),
-        kept.project.text(),
+        alloc,
+        numbers,
+        &kept.firm,
+        &kept.project,
         kept.bytes.as_slice(),
     ) {
-        Ok(rows) => Ok(rows.len() <= 1),
+        Ok(Some(_number)) => Ok(false),
+        Ok(None) => Ok(true),
         Err(error) => Err(error),
     }
 }
 
-/// Whether the deposit has no finding, its lines and steps are kept, and no other is equal.
+/// Whether the deposit has no finding, its lines and steps are kept, and none of these numbers is that of an equal one.
 #[tactic(auto, using(crate::specs::Quiet::quiet_then, crate::specs::Quiet::quiet_read, crate::specs::Quiet::idle_then))]
 fn holds_kept<S: Alter>(
     conn: &mut Connection<S>,
@@ -184,37 +194,45 @@ fn holds_kept<S: Alter>(
     dictionary: &Dictionary,
     number: u32,
     kept: &Kept,
+    numbers: &[u32],
 ) -> Result<bool, KeepError>
     requires idle { IsIdle (state S.Store conn.old) }
-    ensures tested { HasCleanDisk (state S.Store conn.new) → IfOk result (λ is. Tests is (HoldsBody (state S.Store conn.old).now dictionary.now number (deposit_of kept.now) × IsAlone (state S.Store conn.old).now (deposit_of kept.now))) }
+    ensures tested { HasCleanDisk (state S.Store conn.new) → IfOk result (λ is. Tests is (HoldsBody (state S.Store conn.old).now dictionary.now number (deposit_of kept.now) × IsNew (state S.Store conn.old).now numbers.now (deposit_of kept.now))) }
     ensures named { IfErr result (λ e. e ≢ KeepError.Full) }
     ensures quiet { IsStill (state S.Store conn.old) (state S.Store conn.new) (fails result) }
 {
     if !holds_body(conn, alloc, dictionary, number, kept)? {
         return Ok(false);
     }
-    is_alone(conn, kept)
+    is_new(conn, alloc, numbers, kept)
 }
 
-/// The head of a number's deposit, if that is whole.
+/// The head of a number's deposit with its digest, if that deposit is whole. The digests are those of the numbers below.
 #[tactic(auto, using(crate::specs::Quiet::quiet_then, crate::specs::Quiet::quiet_read, crate::specs::Quiet::idle_then))]
 fn whole_head<S: Alter>(
     conn: &mut Connection<S>,
     alloc: Global,
     dictionary: &Dictionary,
     number: u32,
-) -> Result<Option<KeptHead>, KeepError>
+    digests: &Digests,
+) -> Result<Option<DigestedHead>, KeepError>
     requires idle { IsIdle (state S.Store conn.old) }
+    requires below { AreBelow digests.now number }
+    requires digested { HasCleanDisk (state S.Store conn.old) → HoldsDigests (state S.Store conn.old).now number digests.now }
     ensures tested { HasCleanDisk (state S.Store conn.new) → IfOk result (λ found. Tests (is_some found) (IsWhole (state S.Store conn.old).now dictionary.now number)) }
-    ensures head { HasCleanDisk (state S.Store conn.new) → IfOk result (λ found. IfSome found (IsHeadAt (state S.Store conn.old).now number)) }
+    ensures head { HasCleanDisk (state S.Store conn.new) → IfOk result (λ found. IfSome found (IsDigestedAt (state S.Store conn.old).now number)) }
     ensures named { IfErr result (λ e. e ≢ KeepError.Full) }
     ensures quiet { IsStill (state S.Store conn.old) (state S.Store conn.new) (fails result) }
 {
     let rows = numbered_rows(conn, number)?;
     match read_deposit(alloc, number, &rows) {
         Ok(kept) => {
-            if holds_kept(conn, alloc, dictionary, number, &kept)? {
-                Ok(Some(into_head(kept)))
+            let digest = digest_of(&kept.firm, &kept.project, kept.bytes.as_slice());
+            if holds_kept(conn, alloc, dictionary, number, &kept, digests.of(&digest))? {
+                Ok(Some(DigestedHead {
+                    head: into_head(kept),
+                    digest,
+                }))
             } else {
                 Ok(None)
             }
@@ -224,7 +242,7 @@ fn whole_head<S: Alter>(
     }
 }
 
-/// Whether the deposits from 1 to the count are whole. Their heads are put into the list.
+/// Whether the deposits from 1 to the count are whole. Their heads and digests are put into the lists.
 #[tactic(auto, using(crate::specs::Quiet::quiet_then, crate::specs::Quiet::quiet_none, crate::specs::Quiet::quiet_read, crate::specs::Quiet::idle_then))]
 pub(crate) fn holds_deposits<S: Alter>(
     conn: &mut Connection<S>,
@@ -232,47 +250,57 @@ pub(crate) fn holds_deposits<S: Alter>(
     dictionary: &Dictionary,
     count: u32,
     heads: &mut Vec<KeptHead>,
+    digests: &mut Digests,
 ) -> Result<bool, KeepError>
     requires idle { IsIdle (state S.Store conn.old) }
     requires none { heads.old.items ≡ [] }
+    requires no_digests { (digest : List ℕ) → numbers_under digests.old digest ≡ [] }
     ensures tested { HasCleanDisk (state S.Store conn.new) → IfOk result (λ is. Tests is (AreWhole (state S.Store conn.old).now dictionary.now count)) }
     ensures long { result ≡ Ok true → length heads.new.items ≡ count }
     ensures heads { HasCleanDisk (state S.Store conn.new) → result ≡ Ok true → HoldsHeads (state S.Store conn.old).now count heads.new.items }
+    ensures below { result ≡ Ok true → AreBelow digests.new (count + 1) }
+    ensures digests { HasCleanDisk (state S.Store conn.new) → result ≡ Ok true → HoldsDigests (state S.Store conn.old).now (count + 1) digests.new }
     ensures named { IfErr result (λ e. e ≢ KeepError.Full) }
     ensures quiet { IsStill (state S.Store conn.old) (state S.Store conn.new) (fails result) }
 {
     for at in 0..count {
-        let Some(head) = whole_head(conn, alloc, dictionary, at + 1)? else {
+        let Some(one) = whole_head(conn, alloc, dictionary, at + 1, digests)? else {
             return Ok(false);
         };
+        let DigestedHead { head, digest } = one;
         heads.push(head)?;
+        digests.add(alloc, digest, at + 1)?;
     }
     Ok(true)
 }
 
-/// How many deposits the register has, if the tables are one. The dictionary is that of its meta, and the heads are put into the list.
+/// How many deposits the register has, if the tables are one. The dictionary is that of its meta; heads and digests are put into the lists.
 #[tactic(auto, using(crate::specs::Quiet::quiet_then, crate::specs::Quiet::quiet_read, crate::specs::Quiet::idle_then))]
 fn find_register<S: Alter>(
     conn: &mut Connection<S>,
     alloc: Global,
     dictionary: &Dictionary,
     heads: &mut Vec<KeptHead>,
+    digests: &mut Digests,
 ) -> Result<Option<u32>, KeepError>
     requires idle { IsIdle (state S.Store conn.old) }
     requires meta { HasCleanDisk (state S.Store conn.old) → HasMeta (state S.Store conn.old).now dictionary.now }
     requires sound { HasCleanDisk (state S.Store conn.old) → IsDatabase (state S.Store conn.old).now }
     requires none { heads.old.items ≡ [] }
+    requires no_digests { (digest : List ℕ) → numbers_under digests.old digest ≡ [] }
     ensures found { HasCleanDisk (state S.Store conn.new) → IfOk result (CountsDeposits (state S.Store conn.old).now dictionary.now) }
     ensures few { IfOk result (λ found. IfSome found (λ count. count ≤ 999999)) }
     ensures long { IfOk result (λ found. IfSome found (λ count. length heads.new.items ≡ count)) }
     ensures heads { HasCleanDisk (state S.Store conn.new) → IfOk result (λ found. IfSome found (λ count. HoldsHeads (state S.Store conn.old).now count heads.new.items)) }
+    ensures below { IfOk result (λ found. IfSome found (λ count. AreBelow digests.new (count + 1))) }
+    ensures digests { HasCleanDisk (state S.Store conn.new) → IfOk result (λ found. IfSome found (λ count. HoldsDigests (state S.Store conn.old).now (count + 1) digests.new)) }
     ensures named { IfErr result (λ e. e ≢ KeepError.Full) }
     ensures quiet { IsStill (state S.Store conn.old) (state S.Store conn.new) (fails result) }
 {
     let Some(count) = find_count(conn)? else {
         return Ok(None);
     };
-    if holds_deposits(conn, alloc, dictionary, count, heads)? {
+    if holds_deposits(conn, alloc, dictionary, count, heads, digests)? {
         Ok(Some(count))
     } else {
         Ok(None)
@@ -296,19 +324,23 @@ fn find_dictionary<S: Alter>(
     }
 }
 
-/// The dictionary of the register and how many deposits it has, if the tables are one. Their heads are put into the list.
+/// The dictionary of the register and how many deposits it has, if the tables are one. Heads and digests are put into the lists.
 #[tactic(auto, using(crate::specs::Quiet::quiet_then, crate::specs::Quiet::quiet_read, crate::specs::Quiet::idle_then))]
 pub(crate) fn examine<S: Alter>(
     conn: &mut Connection<S>,
     alloc: Global,
     heads: &mut Vec<KeptHead>,
+    digests: &mut Digests,
 ) -> Result<(Dictionary, u32), AdoptError>
     requires idle { IsIdle (state S.Store conn.old) }
     requires none { heads.old.items ≡ [] }
+    requires no_digests { (digest : List ℕ) → numbers_under digests.old digest ≡ [] }
     ensures adopts { HasCleanDisk (state S.Store conn.new) → Adopts (state S.Store conn.old).now result }
     ensures few { IfOk result (λ found. found.1 ≤ 999999) }
     ensures long { IfOk result (λ found. length heads.new.items ≡ found.1) }
     ensures heads { HasCleanDisk (state S.Store conn.new) → IfOk result (λ found. HoldsHeads (state S.Store conn.old).now found.1 heads.new.items) }
+    ensures below { IfOk result (λ found. AreBelow digests.new (found.1 + 1)) }
+    ensures digests { HasCleanDisk (state S.Store conn.new) → IfOk result (λ found. HoldsDigests (state S.Store conn.old).now (found.1 + 1) digests.new) }
     ensures open { HasCleanDisk (state S.Store conn.new) → gives_up result ≡ false → IsTrue (state S.Store conn.new).is_open }
     ensures quiet { IsStill (state S.Store conn.old) (state S.Store conn.new) (gives_up result) }
 {
@@ -317,7 +349,7 @@ pub(crate) fn examine<S: Alter>(
         Err(error) => return Err(error),
     };
     let _schema = conn.schema();
-    match find_register(conn, alloc, &dictionary, heads) {
+    match find_register(conn, alloc, &dictionary, heads, digests) {
         Ok(Some(count)) => Ok((dictionary, count)),
         Ok(None) => Err(AdoptError::NotRegister),
         Err(KeepError::NoMemory) => Err(AdoptError::NoMemory),

@@ -9,6 +9,13 @@ use crate::keep::{KeepError, Kept, KeptHead};
 use reg_policy::{Day, Name};
 use std::alloc::{AllocError, Global};
 
+/// The head of a deposit with its digest.
+#[derive(Drop)]
+pub(crate) struct DigestedHead {
+    pub head: KeptHead,
+    pub digest: [u8; 32],
+}
+
 /// The head of a deposit, whose bytes are let go.
 pub(crate) fn into_head(kept: Kept) -> KeptHead
     ensures { result ≡ head_of (deposit_of kept) }

@@ -21,6 +21,7 @@ use crate::creating::make_register;
 use crate::examining::examine;
 use crate::keep::KeepError;
 use crate::queries::is_memory;
+use crate::repeats::Digests;
 use crate::schema::{is_register, is_vacant};
 use crate::sql::SqlKeep;
 use crate::versions::{has_meta, refuse_tables};
@@ -98,6 +99,7 @@ impl<S: Alter> SqlKeep<S> {
                 dictionary,
                 count: 0,
                 heads: Vec::new(alloc),
+                digests: Digests::new(alloc),
                 has_failed: false,
                 alloc,
             }),
@@ -165,12 +167,14 @@ impl<S: Alter> SqlKeep<S> {
             return Err((error, connection));
         }
         let mut heads = Vec::new(alloc);
-        match examine(&mut connection, alloc, &mut heads) {
+        let mut digests = Digests::new(alloc);
+        match examine(&mut connection, alloc, &mut heads, &mut digests) {
             Ok((dictionary, count)) => Ok(SqlKeep {
                 connection,
                 dictionary,
                 count,
                 heads,
+                digests,
                 has_failed: false,
                 alloc,
             }),

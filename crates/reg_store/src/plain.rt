@@ -5,9 +5,11 @@ ghost use Rattle.ags_check.specs.Findings.{CheckedFile};
 ghost use Rattle.reg_store.specs.Keep.{deposit_of, IsHeadOf};
 ghost use Rattle.reg_store.specs.Deposit.{is_repeat, number_of, numbers_from};
 ghost use Rattle.reg_store.specs.Fit.{IsFit, IsFileOf, kept_rows as rows_in};
+ghost use Rattle.reg_store.specs.Project.{project_of, targets_of};
 ghost use Rattle.reg_store.specs.PlainLaws.{few_of, fit_of};
 
-use crate::keep::{Keep, KeepError, Kept, KeptHead, KeptRow};
+use crate::keep::{Keep, KeepError, Kept, KeptHead, KeptRow, ProjectRow};
+use crate::project::{project_in, targets_in};
 use crate::rows::kept_rows;
 use crate::sql::MOST;
 use ags_check::{CheckError, Checked, check};
@@ -174,6 +176,33 @@ fn checked_steps(alloc: Global, dictionary: &Dictionary, kept: &Kept) -> Result<
     copy_graph(alloc, checked.graph())
 }
 
+/// The row of PROJ of a deposit's file.
+fn checked_project(
+    alloc: Global,
+    dictionary: &Dictionary,
+    kept: &Kept,
+) -> Result<Option<ProjectRow>, AllocError>
+    requires { IsFit dictionary.now (deposit_of kept.now) }
+    ensures { IfOk result (λ found. (file : CheckedFile) → IsFileOf dictionary.now (deposit_of kept.now) file → found ≡ project_of (rows_in file.groups)) }
+{
+    let rows = checked_rows(alloc, dictionary, kept)?;
+    project_in(alloc, &rows)
+}
+
+/// The rows to which a row of a deposit's file has a step.
+fn checked_targets(
+    alloc: Global,
+    dictionary: &Dictionary,
+    kept: &Kept,
+    row: u32,
+) -> Result<Vec<u32>, AllocError>
+    requires { IsFit dictionary.now (deposit_of kept.now) }
+    ensures { IfOk result (λ targets. (file : CheckedFile) → IsFileOf dictionary.now (deposit_of kept.now) file → targets.items ≡ targets_of row file.graph.steps) }
+{
+    let checked = recheck(alloc, dictionary, kept)?;
+    targets_in(alloc, checked.graph().steps(), row)
+}
+
 impl Keep for PlainKeep {
     ghost use Rattle.reg_store.specs.Plain.{deposits_of, dictionary_of, limit_of};
 
@@ -243,6 +272,21 @@ impl Keep for PlainKeep {
     fn steps(&mut self, n: u32) -> Result<Graph, KeepError> {
         let graph = checked_steps(self.alloc, &self.dictionary, &self.kept[n as usize - 1])?;
         Ok(graph)
+    }
+
+    fn project_row(&mut self, n: u32) -> Result<Option<ProjectRow>, KeepError> {
+        let found = checked_project(self.alloc, &self.dictionary, &self.kept[n as usize - 1])?;
+        Ok(found)
+    }
+
+    fn targets(&mut self, n: u32, row: u32) -> Result<Vec<u32>, KeepError> {
+        let targets = checked_targets(
+            self.alloc,
+            &self.dictionary,
+            &self.kept[n as usize - 1],
+            row,
+        )?;
+        Ok(targets)
     }
 
     fn numbers(&mut self, project: &Name) -> Result<Vec<u32>, KeepError> {

@@ -1,13 +1,10 @@
 //! What is read of a register.
 
-ghost use Rattle.std.specs.Prelude.{◌≡◌, ◌≢◌, ◌∷◌, [], ℕ, pos, false, List, length, map, filter, Option, IsTrue, IfOk, IfErr};
-ghost use Rattle.std.specs.Option.{option_to_list};
+ghost use Rattle.std.specs.Prelude.{◌≡◌, ◌≢◌, ◌∷◌, [], ℕ, false, List, map, filter, IsTrue, IfOk, IfErr};
 ghost use Rattle.std.specs.List.Sorted.{IsPermutation};
-ghost use Rattle.sqlite.specs.declared.types.Value.TheVariants.{Int};
 ghost use Rattle.sqlite.specs.State.{HasCleanDisk, Survives};
 ghost use Rattle.sqlite.specs.Held.{state};
 ghost use Rattle.reg_store.specs.Quiet.{IsIdle, IsStill};
-ghost use Rattle.reg_store.specs.Deposit.{Deposit, number_of};
 ghost use Rattle.reg_store.specs.Keep.{fails, deposit_of};
 ghost use Rattle.reg_store.specs.Rows.{deposit_table, given_deposit, line_table, step_table, placed_rows, step_pair, rows_under, columns_3};
 ghost use Rattle.reg_store.specs.declared.keep.KeptRow.{KeptRow};
@@ -15,9 +12,7 @@ ghost use Rattle.sqlite.specs.Tree.{IsAscending};
 ghost use Rattle.ags_links.specs.Steps.{IsBefore};
 ghost use Rattle.reg_store.specs.Methods.{HasRows, HasSteps};
 ghost use Rattle.reg_store.specs.Fit.{IsNamed};
-ghost use Rattle.reg_store.specs.Register.{deposit_rows, has_number, meta_columns};
-ghost use Rattle.reg_store.specs.Apart.{AreApart};
-ghost use Rattle.reg_store.specs.Finds.{is_equal};
+ghost use Rattle.reg_store.specs.Register.{has_number, meta_columns};
 
 use crate::gathering::take_shown;
 use crate::keep::{KeepError, Kept, KeptRow};
@@ -26,39 +21,6 @@ use crate::readers::{DataCount, KeptLines, KeptSteps, read_deposit};
 use ags_links::Graph;
 use sqlite::{Alter, Connection, Error, ErrorCode, Row, params};
 use std::alloc::Global;
-
-pub(crate) fn equal_rows<S: Alter>(
-    conn: &mut Connection<S>,
-    firm: &str,
-    project: &str,
-    bytes: &[u8],
-) -> Result<Vec<Row>, KeepError>
-    requires idle { IsIdle (state S.Store conn.old) }
-    ensures found { HasCleanDisk (state S.Store conn.new) → IfOk result (λ rows. (list : List Deposit) → IsPermutation (deposit_rows 1 list) (deposit_table (state S.Store conn.old).now.trees) → AreApart list
-        → rows.items ≡ map (λ n. Int (pos n) ∷ []) (option_to_list (number_of firm.now project.now bytes.now list))) }
-    ensures many { HasCleanDisk (state S.Store conn.new) → IfOk result (λ rows. length rows.items ≡ length (filter (is_equal firm.now project.now bytes.now) (deposit_table (state S.Store conn.old).now.trees))) }
-    ensures named { IfErr result (λ e. e ≢ KeepError.Full) }
-    ensures quiet { IsStill (state S.Store conn.old) (state S.Store conn.new) (fails result) }
-{
-    query(
-        conn,
-        "SELECT number FROM deposits WHERE firm = ?1 AND project = ?2 AND body = ?3",
-        params![firm, project, bytes],
-    )
-}
-
-fn first_number(rows: &[Row]) -> Result<Option<u32>, KeepError>
-    ensures named { IfErr result (λ e. e ≢ KeepError.Full) }
-    ensures first { IfOk result (λ first. (o : Option ℕ) → rows.now ≡ map (λ n. Int (pos n) ∷ []) (option_to_list o) → first ≡ o) }
-{
-    let Some(row) = rows.first() else {
-        return Ok(None);
-    };
-    match row.get(0) {
-        Ok(number) => Ok(Some(number)),
-        Err(error) => Err(read_error(&error)),
-    }
-}
 
 /// Why a row is not read: want of memory, or it is not one of a register.
 pub(crate) fn read_error(error: &Error) -> KeepError
@@ -69,24 +31,6 @@ pub(crate) fn read_error(error: &Error) -> KeepError
         KeepError::NoMemory
     } else {
         KeepError::Store
-    }
-}
-
-/// The number of an equal deposit.
-pub(crate) fn find_number<S: Alter>(
-    conn: &mut Connection<S>,
-    firm: &str,
-    project: &str,
-    bytes: &[u8],
-) -> Result<Option<u32>, KeepError>
-    requires idle { IsIdle (state S.Store conn.old) }
-    ensures found { HasCleanDisk (state S.Store conn.new) → IfOk result (λ n. (list : List Deposit) → IsPermutation (deposit_rows 1 list) (deposit_table (state S.Store conn.old).now.trees) → AreApart list → n ≡ number_of firm.now project.now bytes.now list) }
-    ensures named { IfErr result (λ e. e ≢ KeepError.Full) }
-    ensures quiet { IsStill (state S.Store conn.old) (state S.Store conn.new) (fails result) }
-{
-    match equal_rows(conn, firm, project, bytes) {
-        Ok(rows) => first_number(&rows),
-        Err(error) => Err(error),
     }
 }
 

@@ -1,17 +1,20 @@
 //! A keep over a database.
 
-ghost use Rattle.std.specs.Prelude.{◌≡◌, ◌≤◌, length, pos, false, IsTrue};
+ghost use Rattle.std.specs.Prelude.{◌≡◌, ◌≤◌, ◌+◌, length, pos, false, IsTrue};
 ghost use Rattle.reg_policy.specs.Days.{is_day_number};
 ghost use Rattle.reg_store.specs.Keep.{fails, is_store as store_error};
 ghost use Rattle.reg_store.specs.KeepLaws.{few_at, fit_at, remains_at, settled_at, stays_at, unbroken_at};
 ghost use Rattle.sqlite.specs.State.{HasCleanDisk};
 ghost use Rattle.sqlite.specs.Held.{state};
+ghost use Rattle.reg_store.specs.Digests.{AreBelow, AreDigested};
 ghost use Rattle.reg_store.specs.Heads.{AreHeads};
 ghost use Rattle.reg_store.specs.Register.{deposits_in, LeavesBroken, LeavesList, KeepsRegister};
 
 use crate::heads::{head_in, make_room, numbers_in};
-use crate::keep::{Keep, KeepError, Kept, KeptHead, KeptRow};
-use crate::reading::{find_deposit, find_graph, find_lines, find_number};
+use crate::keep::{Keep, KeepError, Kept, KeptHead, KeptRow, ProjectRow};
+use crate::project::{find_project, find_targets};
+use crate::reading::{find_deposit, find_graph, find_lines};
+use crate::repeats::{Digests, digest_of, find_equal};
 use crate::rows::kept_rows;
 use crate::statements::{Filed, add_file};
 use ags_check::Checked;
@@ -31,13 +34,16 @@ pub struct SqlKeep<S: Alter> {
     pub(crate) dictionary: Dictionary,
     pub(crate) count: u32,
     pub(crate) heads: Vec<KeptHead>,
+    pub(crate) digests: Digests,
     pub(crate) has_failed: bool,
     pub(crate) alloc: Global,
     ghost idle: { connection.in_transaction ≡ false },
     ghost few: { count ≤ 999999 },
     ghost long: { length heads.items ≡ count },
+    ghost below: { AreBelow digests (count + 1) },
     ghost kept: { has_failed ≡ false → HasCleanDisk (state S.Store connection) → ∥ KeepsRegister (state S.Store connection) dictionary count ∥₁ },
     ghost headed: { has_failed ≡ false → HasCleanDisk (state S.Store connection) → AreHeads heads.items (deposits_in (state S.Store connection).committed.trees) },
+    ghost digested: { has_failed ≡ false → HasCleanDisk (state S.Store connection) → AreDigested digests (deposits_in (state S.Store connection).committed.trees) },
 }
 
 impl<S: Alter> SqlKeep<S> {
@@ -51,6 +57,7 @@ impl<S: Alter> SqlKeep<S> {
             dictionary: _,
             count: _,
             heads: _,
+            digests: _,
             has_failed: _,
             alloc: _,
         } = self;
@@ -79,7 +86,16 @@ impl<S: Alter> Keep for SqlKeep<S> {
         project: &Name,
         bytes: &[u8],
     ) -> Result<Option<u32>, KeepError> {
-        let found = find_number(&mut self.connection, firm.text(), project.text(), bytes);
+        let digest = digest_of(firm, project, bytes);
+        let numbers = self.digests.of(&digest);
+        let found = find_equal(
+            &mut self.connection,
+            self.alloc,
+            numbers,
+            firm,
+            project,
+            bytes,
+        );
         self.has_failed = is_store(&found);
         found
     }
@@ -106,12 +122,18 @@ impl<S: Alter> Keep for SqlKeep<S> {
         let Ok(head) = room else {
             return Err(KeepError::NoMemory);
         };
+        let body = checked.bytes();
+        let digest = digest_of(firm, project, body);
+        let noted = self.digests.make_room(self.alloc, &digest, number);
+        let Ok(numbers) = noted else {
+            return Err(KeepError::NoMemory);
+        };
         let filed = Filed {
             number,
             firm: firm.text(),
             project: project.text(),
             embargo: stored_day(embargo),
-            body: checked.bytes(),
+            body,
         };
         let added = add_file(
             &mut self.connection,
@@ -122,6 +144,7 @@ impl<S: Alter> Keep for SqlKeep<S> {
         match added {
             Ok(()) => {
                 self.heads.push_reserved(head);
+                self.digests.note(digest, numbers);
                 self.count = number;
                 Ok(number)
             }
@@ -152,6 +175,18 @@ impl<S: Alter> Keep for SqlKeep<S> {
 
     fn steps(&mut self, n: u32) -> Result<Graph, KeepError> {
         let found = find_graph(&mut self.connection, self.alloc, n);
+        self.has_failed = is_store(&found);
+        found
+    }
+
+    fn project_row(&mut self, n: u32) -> Result<Option<ProjectRow>, KeepError> {
+        let found = find_project(&mut self.connection, self.alloc, n);
+        self.has_failed = is_store(&found);
+        found
+    }
+
+    fn targets(&mut self, n: u32, row: u32) -> Result<Vec<u32>, KeepError> {
+        let found = find_targets(&mut self.connection, self.alloc, n, row);
         self.has_failed = is_store(&found);
         found
     }

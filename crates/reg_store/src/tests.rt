@@ -2,7 +2,7 @@
 
 ghost use Rattle.std.specs.Prelude.{◌≡◌, ◌<◌, ◌≤◌, false, length, IfOk, IsTrue, OnOk};
 
-use crate::{Keep, KeepError, Kept, KeptRow, PlainKeep, SqlKeep};
+use crate::{Keep, KeepError, Kept, KeptRow, PlainKeep, ProjectRow, SqlKeep};
 use ags_check::{Checked, check};
 use ags_dict::Dictionary;
 use ags_links::Graph;
@@ -31,6 +31,9 @@ enum Call {
     Head(u32),
     Rows(u32),
     Steps(u32),
+    Project(u32),
+    /// `targets` of a deposit's row.
+    Targets(u32, u32),
     Numbers(&'static str),
     /// `count`, `limit`, and how many entries `dictionary` has.
     Sizes,
@@ -249,6 +252,18 @@ fn tell_graph(graph: &Graph, told: &mut String) -> Result<(), AllocError> {
     Ok(())
 }
 
+/// The number of the row of PROJ, the HEADING row before it, and the row.
+fn tell_project_row(
+    alloc: Global,
+    found: &ProjectRow,
+    told: &mut String,
+) -> Result<(), AllocError> {
+    let headings = String::from_utf8_lossy(alloc, found.headings.as_slice())?;
+    let line = String::from_utf8_lossy(alloc, found.line.as_slice())?;
+    let number = found.number;
+    write!(told, "{number} {headings} {line}")
+}
+
 fn tell_each(numbers: &[u32], told: &mut String) -> Result<(), AllocError> {
     for number in numbers {
         write!(told, "{number};")?;
@@ -318,6 +333,35 @@ fn tell_steps<K: Keep>(keep: &mut K, n: u32, told: &mut String) -> Result<(), Ke
     Ok(tell_graph(&graph, told)?)
 }
 
+fn tell_project<K: Keep>(
+    alloc: Global,
+    keep: &mut K,
+    n: u32,
+    told: &mut String,
+) -> Result<(), KeepError>
+    requires { K.has_failed keep.old ≡ false }
+    ensures { OnOk result (K.has_failed keep.new ≡ false) }
+{
+    if !is_held(keep, n) {
+        return Ok(());
+    }
+    match keep.project_row(n)? {
+        Some(found) => Ok(tell_project_row(alloc, &found, told)?),
+        None => Ok(()),
+    }
+}
+
+fn tell_targets<K: Keep>(keep: &mut K, n: u32, row: u32, told: &mut String) -> Result<(), KeepError>
+    requires { K.has_failed keep.old ≡ false }
+    ensures { OnOk result (K.has_failed keep.new ≡ false) }
+{
+    if !is_held(keep, n) {
+        return Ok(());
+    }
+    let targets = keep.targets(n, row)?;
+    Ok(tell_each(targets.as_slice(), told)?)
+}
+
 fn tell_numbers<K: Keep>(
     alloc: Global,
     keep: &mut K,
@@ -377,6 +421,8 @@ fn tell<K: Keep>(
         Call::Head(n) => tell_head(keep, n, told),
         Call::Rows(n) => tell_rows(alloc, keep, n, told),
         Call::Steps(n) => tell_steps(keep, n, told),
+        Call::Project(n) => tell_project(alloc, keep, n, told),
+        Call::Targets(n, row) => tell_targets(keep, n, row, told),
         Call::Numbers(project) => tell_numbers(alloc, keep, project, told),
         Call::Sizes => Ok(tell_sizes(keep, told)?),
     }
@@ -407,7 +453,7 @@ fn compared<K: Keep>(alloc: Global, keep: &mut K, cases: &[Case]) -> Result<&'st
 /// Every answer is as wanted.
 const SAME: &str = "all as wanted";
 
-const CASES: [Case; 14] = [
+const CASES: [Case; 17] = [
     Case {
         call: Call::Sizes,
         want: "0 of 999999, 10 and 38 entries",
@@ -452,6 +498,18 @@ const CASES: [Case; 14] = [
     Case {
         call: Call::Steps(1),
         want: "13 rows 7-0 8-0 9-7 10-8 11-9 12-10",
+    },
+    Case {
+        call: Call::Project(1),
+        want: "0 \"HEADING\",\"PROJ_ID\",\"PROJ_NAME\" \"DATA\",\"P7\",\"North bank\"",
+    },
+    Case {
+        call: Call::Targets(1, 9),
+        want: "7;",
+    },
+    Case {
+        call: Call::Targets(1, 0),
+        want: "",
     },
     Case {
         call: Call::Numbers("N1"),

@@ -1,8 +1,9 @@
-use Rattle.std.proofs.Common.{rules, ◌≡◌, None, Some, Err, IfSome, refl, subst}
+use Rattle.std.proofs.Common.{rules, ◌≡◌, ◌+◌, None, Some, Err, IfSome, refl, subst}
 use Rattle.sqlite.specs.Effect.{Database}
 use Rattle.sqlite.specs.Held.{state}
 use Rattle.reg_store.specs.Quiet.{clean_before}
 use Rattle.reg_store.specs.Adoption.{CountsDeposits}
+use Rattle.reg_store.specs.Digests.{HoldsDigests}
 use Rattle.reg_store.specs.Heads.{HoldsHeads}
 use Rattle.reg_store.proofs.ExamineLemmas.{meta_adopts, none_adopts}
 use Rattle.reg_store.proofs.examining.examine.Goals as goal
@@ -35,3 +36,12 @@ returns-in-Ok-Some-clause-heads g c clean =
     let heads = c.find_register.new.heads.items in
     let found = subst (λ o. IfSome o (λ count. HoldsHeads mid.now count heads)) c.in-Ok-Some.field-0-is (c.in-Ok-Some.ensures.heads clean) in
     subst (λ (db : Database). HoldsHeads db c.in-Ok-Some.count heads) same found
+
+pub returns-in-Ok-Some-clause-digests : goal.returns-in-Ok-Some-clause-digests
+returns-in-Ok-Some-clause-digests g c clean =
+    let mid = state g.S.Store c.find_dictionary.new.conn in
+    let early = clean_before mid (state g.S.Store c.find_register.new.conn) c.find_register.ensures.quiet.survives clean in
+    let same = (c.in-Ok.ensures.quiet.same early refl).0 in
+    let digests = c.find_register.new.digests in
+    let found = subst (λ o. IfSome o (λ count. HoldsDigests mid.now (count + 1) digests)) c.in-Ok-Some.field-0-is (c.in-Ok-Some.ensures.digests clean) in
+    subst (λ (db : Database). HoldsDigests db (c.in-Ok-Some.count + 1) digests) same found

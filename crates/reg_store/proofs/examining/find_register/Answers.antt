@@ -1,8 +1,9 @@
-use Rattle.std.proofs.Common.{rules, ◌≡◌, true, false, Some, Ok, refl, ap, subst}
+use Rattle.std.proofs.Common.{rules, ◌≡◌, ◌+◌, true, false, Some, Ok, refl, ap, subst}
 use Rattle.sqlite.specs.Effect.{Database}
 use Rattle.sqlite.specs.Held.{state}
 use Rattle.reg_store.specs.Quiet.{clean_before}
 use Rattle.reg_store.specs.Whole.{AreWhole, Counts, Tests}
+use Rattle.reg_store.specs.Digests.{HoldsDigests}
 use Rattle.reg_store.specs.Heads.{HoldsHeads}
 use Rattle.reg_store.proofs.ExamineLemmas.{finds_none, finds_whole}
 use Rattle.reg_store.proofs.examining.find_register.Goals as goal
@@ -38,3 +39,11 @@ returns-then-branch-clause-heads g c clean =
     let same = (c.in_ok-count.ensures.quiet.same early refl).0 in
     let is : c.in_ok-holds_deposits.field-0 ≡ true = search rules in
     subst (λ (db : Database). HoldsHeads db c.in-Some.count c.holds_deposits.new.heads.items) same (c.in_ok-holds_deposits.ensures.heads clean (ap Ok is))
+
+pub returns-then-branch-clause-digests : goal.returns-then-branch-clause-digests
+returns-then-branch-clause-digests g c clean =
+    let mid = state g.S.Store c.find_count.new.conn in
+    let early = clean_before mid (state g.S.Store c.holds_deposits.new.conn) c.holds_deposits.ensures.quiet.survives clean in
+    let same = (c.in_ok-count.ensures.quiet.same early refl).0 in
+    let is : c.in_ok-holds_deposits.field-0 ≡ true = search rules in
+    subst (λ (db : Database). HoldsDigests db (c.in-Some.count + 1) c.holds_deposits.new.digests) same (c.in_ok-holds_deposits.ensures.digests clean (ap Ok is))

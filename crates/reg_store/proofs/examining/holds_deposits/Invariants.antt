@@ -5,6 +5,7 @@ use Rattle.sqlite.specs.Held.{state}
 use Rattle.reg_store.specs.Deposit.{Deposit}
 use Rattle.reg_store.specs.Rows.{deposit_table}
 use Rattle.reg_store.specs.Register.{deposit_rows}
+use Rattle.reg_store.specs.Digests.{AreBelow, HoldsDigests}
 use Rattle.reg_store.specs.Heads.{AreHeads}
 use Rattle.reg_store.specs.Quiet.{IsIdle, IsStill}
 use Rattle.reg_store.specs.Whole.{IsWhole}
@@ -20,4 +21,6 @@ invariant-loop-at g l =
       whole : HasCleanDisk now → (k : ℕ) → k < l.at → ∥ IsWhole old.now l.dictionary (k + 1) ∥₁;
       long : length l.heads.items ≡ l.at;
       heads : HasCleanDisk now → (list : List Deposit) → IsPermutation (deposit_rows 1 list) (deposit_table old.now.trees) → l.at ≤ length list → AreHeads l.heads.items (take l.at list);
+      below : AreBelow l.digests (l.at + 1);
+      digested : HasCleanDisk now → HoldsDigests old.now (l.at + 1) l.digests;
     }

@@ -7,6 +7,7 @@ use Rattle.reg_store.specs.KeepLaws.{adopted_keeps, adopted_list}
 use Rattle.reg_store.proofs.SchemaLemmas.{register_is, not_register}
 use Rattle.reg_store.proofs.FormatLemmas.{autocommit_idle, meta_first, refused_unstarted}
 use Rattle.reg_store.proofs.HeadsLemmas.{heads_found}
+use Rattle.reg_store.proofs.RepeatsLemmas.{digested_found}
 use Rattle.reg_store.proofs.sql.SqlKeep.adopt.Goals as goal
 
 pub examine-requires : goal.examine-requires
@@ -17,6 +18,7 @@ examine-requires g c = record {
     settled = λ clean is_open. sym (c.is_autocommit.ensures.settled (search rules) is_open);
   };
   none = search rules;
+  no_digests = c.new-digests.ensures;
 }
 
 pub refuse_tables-error-requires-clause-mode : goal.refuse_tables-error-requires-clause-mode
@@ -42,6 +44,8 @@ invariant_of-result g c =
       long = made.long;
       kept = λ _ clean. kept clean;
       headed = λ _ clean. heads_found new c.in-Ok.dictionary c.in-Ok.count old.now c.examine.new.heads.items (kept clean) (made.quiet.same clean refl).0 (made.heads clean);
+      below = made.below;
+      digested = λ _ clean. digested_found new c.in-Ok.dictionary c.in-Ok.count old.now c.examine.new.digests (kept clean) (made.quiet.same clean refl).0 (made.digests clean);
     }
 
 pub returns-in-Ok-clause-adopted : goal.returns-in-Ok-clause-adopted

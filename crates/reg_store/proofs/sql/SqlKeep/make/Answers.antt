@@ -1,8 +1,10 @@
-use Rattle.std.proofs.Common.{rules, arith, ◌≡◌, refl, sym}
+use Rattle.std.proofs.Common.{rules, arith, ◌≡◌, List, Some, slice_get, refl, sym, subst}
 use Rattle.sqlite.specs.State.{HasCleanDisk}
 use Rattle.sqlite.specs.Held.{state}
 use Rattle.reg_store.proofs.CreateLemmas.{new_list, new_keeps}
 use Rattle.reg_store.proofs.HeadsLemmas.{no_heads}
+use Rattle.reg_store.specs.Deposit.{Deposit}
+use Rattle.reg_store.proofs.RepeatsLemmas.{none_below}
 use Rattle.reg_store.proofs.sql.SqlKeep.make.Goals as goal
 
 pub invariant_of-result-clause-kept : goal.invariant_of-result-clause-kept
@@ -14,6 +16,15 @@ pub invariant_of-result-clause-headed : goal.invariant_of-result-clause-headed
 invariant_of-result-clause-headed g c works clean =
     let made = c.in-Ok.ensures in
     no_heads _ _ (search rules) (new_list c.args.bytes.now (state g.S.Store c.make_register-made.new.conn) (made.put clean) (made.settled clean))
+
+pub invariant_of-result-clause-below : goal.invariant_of-result-clause-below
+invariant_of-result-clause-below g c = none_below c.new-in-Ok.result 1 c.new-in-Ok.ensures
+
+pub invariant_of-result-clause-digested : goal.invariant_of-result-clause-digested
+invariant_of-result-clause-digested g c works clean k d at =
+    let made = c.in-Ok.ensures in
+    let empty = new_list c.args.bytes.now (state g.S.Store c.make_register-made.new.conn) (made.put clean) (made.settled clean) in
+    absurd (let none = subst (λ (all : List Deposit). slice_get all k ≡ Some d) empty at in cc)
 
 pub returns-in-Ok-clause-empty : goal.returns-in-Ok-clause-empty
 returns-in-Ok-clause-empty g c clean =

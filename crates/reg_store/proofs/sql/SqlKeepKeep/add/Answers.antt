@@ -11,7 +11,9 @@ use Rattle.reg_store.specs.Inserts.{AddsFile}
 use Rattle.reg_store.specs.Register.{deposits_in}
 use Rattle.reg_store.specs.RegisterLaws.{IsReady}
 use Rattle.reg_store.specs.KeepLaws.{schema_at, settled_of, keeps_same, HoldsMore, adds_at, counted_at, crash_at, PutsOf, whole_put}
+use Rattle.reg_store.specs.Digests.{AddsNumber, digest_of, own_digest}
 use Rattle.reg_store.proofs.HeadsLemmas.{heads_push, heads_same}
+use Rattle.reg_store.proofs.RepeatsLemmas.{below_more, below_same, digested_push, digested_same, noted_adds}
 use Rattle.reg_store.proofs.sql.SqlKeepKeep.add.Goals as goal
 
 pub add_file-added-requires-clause-schema : goal.add_file-added-requires-clause-schema
@@ -26,12 +28,12 @@ invariant_of-self-in-Ok-added-clause-kept g c works clean =
     let file = c.args.checked.now in
     let d = deposit_from c.args.firm.now c.args.project.now c.args.embargo file.bytes in
     let low : keep.count < 999999 = omega arith in
-    let fit : IsFileOf keep.dictionary d file = record { given = c.requires.dictionary; bytes = refl; clean = c.bytes.ensures.clean; short = c.requires.short } in
+    let fit : IsFileOf keep.dictionary d file = record { given = c.requires.dictionary; bytes = refl; clean = c.bytes-body.ensures.clean; short = c.requires.short } in
     let named : IsNamed d = record { firm = c.text.ensures.is_name; project = c.text-2.ensures.is_name; embargo = c.stored_day.ensures.is_day } in
     let ready : IsReady keep.dictionary (deposits_in old.committed.trees) d file = record { its = fit; named = named; fresh = c.requires.fresh first } in
     let rows_are : c.as_slice.result.now ≡ kept_rows file.groups = search rules in
     let steps_are : c.steps.result.now ≡ file.graph.steps = search rules in
-    let bare = rw (c.text.ensures.text, c.text-2.ensures.text, c.bytes.ensures.bytes, c.stored_day.ensures.number) at (c.in-Ok-added.ensures.put clean) in
+    let bare = rw (c.text.ensures.text, c.text-2.ensures.text, c.bytes-body.ensures.bytes, c.stored_day.ensures.number) at (c.in-Ok-added.ensures.put clean) in
     let put = subst₂ (λ rows steps. AddsFile (keep.count + 1) d rows steps old.now new.now) rows_are steps_are bare in
     let more : HoldsMore old new keep.dictionary keep.count d = adds_at {old = old} {new = new} d file (keep.kept c.requires.working first) low put (c.in-Ok-added.ensures.sound clean) (c.in-Ok-added.ensures.settled clean) (c.in-Ok-added.ensures.open clean refl) ready in
     more.kept
@@ -56,12 +58,12 @@ invariant_of-self-in-Ok-added-clause-headed g c works clean =
     let file = c.args.checked.now in
     let d = deposit_from c.args.firm.now c.args.project.now c.args.embargo file.bytes in
     let low : keep.count < 999999 = omega arith in
-    let fit : IsFileOf keep.dictionary d file = record { given = c.requires.dictionary; bytes = refl; clean = c.bytes.ensures.clean; short = c.requires.short } in
+    let fit : IsFileOf keep.dictionary d file = record { given = c.requires.dictionary; bytes = refl; clean = c.bytes-body.ensures.clean; short = c.requires.short } in
     let named : IsNamed d = record { firm = c.text.ensures.is_name; project = c.text-2.ensures.is_name; embargo = c.stored_day.ensures.is_day } in
     let ready : IsReady keep.dictionary (deposits_in old.committed.trees) d file = record { its = fit; named = named; fresh = c.requires.fresh first } in
     let rows_are : c.as_slice.result.now ≡ kept_rows file.groups = search rules in
     let steps_are : c.steps.result.now ≡ file.graph.steps = search rules in
-    let bare = rw (c.text.ensures.text, c.text-2.ensures.text, c.bytes.ensures.bytes, c.stored_day.ensures.number) at (c.in-Ok-added.ensures.put clean) in
+    let bare = rw (c.text.ensures.text, c.text-2.ensures.text, c.bytes-body.ensures.bytes, c.stored_day.ensures.number) at (c.in-Ok-added.ensures.put clean) in
     let put = subst₂ (λ rows steps. AddsFile (keep.count + 1) d rows steps old.now new.now) rows_are steps_are bare in
     let more : HoldsMore old new keep.dictionary keep.count d = adds_at {old = old} {new = new} d file (keep.kept c.requires.working first) low put (c.in-Ok-added.ensures.sound clean) (c.in-Ok-added.ensures.settled clean) (c.in-Ok-added.ensures.open clean refl) ready in
     let list = deposits_in old.committed.trees in
@@ -84,6 +86,49 @@ invariant_of-self-in-Err-clause-headed g c works clean =
     let bare : is_store c.in-Err.error ≡ false = sym c.is_store_error-self.ensures ∙ works in
     c.make_room-room.ensures.same ∙ heads_same keep.heads.items old.committed new.committed (keep.headed c.requires.working first) (c.in-Err.ensures.undone clean bare).1
 
+pub invariant_of-self-in-Ok-added-clause-below : goal.invariant_of-self-in-Ok-added-clause-below
+invariant_of-self-in-Ok-added-clause-below g c =
+    let keep = c.args.self.now in
+    let digest = c.digest_of-digest.result in
+    let adds : AddsNumber keep.digests c.note.new.self digest (keep.count + 1) = noted_adds keep.digests c.make_room-noted.new.self c.note.new.self digest c.in-Ok-noted.numbers.items (keep.count + 1) c.make_room-noted.ensures.same c.in-Ok-noted.ensures.more c.note.ensures in
+    below_more keep.digests c.note.new.self digest (keep.count + 1) (omega arith) adds keep.below
+
+pub invariant_of-self-in-Ok-added-clause-digested : goal.invariant_of-self-in-Ok-added-clause-digested
+invariant_of-self-in-Ok-added-clause-digested g c works clean =
+    let keep = c.args.self.now in
+    let old = state g.S.Store keep.connection in
+    let new = state g.S.Store c.add_file-added.new.conn in
+    let first = clean_before old new c.add_file-added.ensures.crash clean in
+    let file = c.args.checked.now in
+    let d = deposit_from c.args.firm.now c.args.project.now c.args.embargo file.bytes in
+    let low : keep.count < 999999 = omega arith in
+    let fit : IsFileOf keep.dictionary d file = record { given = c.requires.dictionary; bytes = refl; clean = c.bytes-body.ensures.clean; short = c.requires.short } in
+    let named : IsNamed d = record { firm = c.text.ensures.is_name; project = c.text-2.ensures.is_name; embargo = c.stored_day.ensures.is_day } in
+    let ready : IsReady keep.dictionary (deposits_in old.committed.trees) d file = record { its = fit; named = named; fresh = c.requires.fresh first } in
+    let rows_are : c.as_slice.result.now ≡ kept_rows file.groups = search rules in
+    let steps_are : c.steps.result.now ≡ file.graph.steps = search rules in
+    let bare = rw (c.text.ensures.text, c.text-2.ensures.text, c.bytes-body.ensures.bytes, c.stored_day.ensures.number) at (c.in-Ok-added.ensures.put clean) in
+    let put = subst₂ (λ rows steps. AddsFile (keep.count + 1) d rows steps old.now new.now) rows_are steps_are bare in
+    let more : HoldsMore old new keep.dictionary keep.count d = adds_at {old = old} {new = new} d file (keep.kept c.requires.working first) low put (c.in-Ok-added.ensures.sound clean) (c.in-Ok-added.ensures.settled clean) (c.in-Ok-added.ensures.open clean refl) ready in
+    let digest = c.digest_of-digest.result in
+    let adds : AddsNumber keep.digests c.note.new.self digest (keep.count + 1) = noted_adds keep.digests c.make_room-noted.new.self c.note.new.self digest c.in-Ok-noted.numbers.items (keep.count + 1) c.make_room-noted.ensures.same c.in-Ok-noted.ensures.more c.note.ensures in
+    let its : digest ≡ own_digest d = c.digest_of-digest.ensures ∙ ap (digest_of c.args.firm.now c.args.project.now) c.bytes-body.ensures.bytes in
+    digested_push keep.digests c.note.new.self digest (deposits_in old.committed.trees) (deposits_in new.committed.trees) d (keep.count + 1) (keep.digested c.requires.working first) adds its
+    (ap (λ n. n + 1) (counted_at {s = old} (keep.kept c.requires.working first))) more.list
+
+pub invariant_of-self-in-Err-clause-below : goal.invariant_of-self-in-Err-clause-below
+invariant_of-self-in-Err-clause-below g c = below_same c.args.self.now.digests c.make_room-noted.new.self (c.args.self.now.count + 1) c.make_room-noted.ensures.same c.args.self.now.below
+
+pub invariant_of-self-in-Err-clause-digested : goal.invariant_of-self-in-Err-clause-digested
+invariant_of-self-in-Err-clause-digested g c works clean =
+    let keep = c.args.self.now in
+    let old = state g.S.Store keep.connection in
+    let new = state g.S.Store c.add_file-added.new.conn in
+    let first = clean_before old new c.add_file-added.ensures.crash clean in
+    let bare : is_store c.in-Err.error ≡ false = sym c.is_store_error-self.ensures ∙ works in
+    digested_same keep.digests c.make_room-noted.new.self (deposits_in old.committed.trees) (deposits_in new.committed.trees) c.make_room-noted.ensures.same
+    (ap (λ (db : Database). deposits_in db.trees) (c.in-Err.ensures.undone clean bare).1) (keep.digested c.requires.working first)
+
 pub returns-in-Ok-added : goal.returns-in-Ok-added
 returns-in-Ok-added g c =
     let keep = c.args.self.now in
@@ -93,15 +138,15 @@ returns-in-Ok-added g c =
     let d = deposit_from c.args.firm.now c.args.project.now c.args.embargo file.bytes in
     let low : keep.count < 999999 = omega arith in
     let before = λ (clean : HasCleanDisk new). clean_before old new c.add_file-added.ensures.crash clean in
-    let survives = rw (c.text.ensures.text, c.text-2.ensures.text, c.bytes.ensures.bytes, c.stored_day.ensures.number) at c.add_file-added.ensures.crash in
-    let fit : IsFileOf keep.dictionary d file = record { given = c.requires.dictionary; bytes = refl; clean = c.bytes.ensures.clean; short = c.requires.short } in
+    let survives = rw (c.text.ensures.text, c.text-2.ensures.text, c.bytes-body.ensures.bytes, c.stored_day.ensures.number) at c.add_file-added.ensures.crash in
+    let fit : IsFileOf keep.dictionary d file = record { given = c.requires.dictionary; bytes = refl; clean = c.bytes-body.ensures.clean; short = c.requires.short } in
     let named : IsNamed d = record { firm = c.text.ensures.is_name; project = c.text-2.ensures.is_name; embargo = c.stored_day.ensures.is_day } in
     let rows_are : c.as_slice.result.now ≡ kept_rows file.groups = search rules in
     let steps_are : c.steps.result.now ≡ file.graph.steps = search rules in
     let put_survives = subst₂ (λ rows steps. Survives old new (PutsOf old (keep.count + 1) d rows steps)) rows_are steps_are survives in
     let ready = λ (clean : HasCleanDisk new). (let is : IsReady keep.dictionary (deposits_in old.committed.trees) d file = record { its = fit; named = named; fresh = c.requires.fresh (before clean) } in is) in
     let more = λ (clean : HasCleanDisk new).
-    (let bare = rw (c.text.ensures.text, c.text-2.ensures.text, c.bytes.ensures.bytes, c.stored_day.ensures.number) at (c.in-Ok-added.ensures.put clean) in
+    (let bare = rw (c.text.ensures.text, c.text-2.ensures.text, c.bytes-body.ensures.bytes, c.stored_day.ensures.number) at (c.in-Ok-added.ensures.put clean) in
     let put = subst₂ (λ rows steps. AddsFile (keep.count + 1) d rows steps old.now new.now) rows_are steps_are bare in
     let it : HoldsMore old new keep.dictionary keep.count d = adds_at {old = old} {new = new} d file (keep.kept c.requires.working (before clean)) low put (c.in-Ok-added.ensures.sound clean) (c.in-Ok-added.ensures.settled clean) (c.in-Ok-added.ensures.open clean refl) (ready clean) in it) in
     record {
@@ -129,8 +174,8 @@ returns-clause-leaves g c =
     let d = deposit_from c.args.firm.now c.args.project.now c.args.embargo file.bytes in
     let low : keep.count < 999999 = omega arith in
     let before = λ (clean : HasCleanDisk new). clean_before old new c.add_file-added.ensures.crash clean in
-    let survives = rw (c.text.ensures.text, c.text-2.ensures.text, c.bytes.ensures.bytes, c.stored_day.ensures.number) at c.add_file-added.ensures.crash in
-    let fit : IsFileOf keep.dictionary d file = record { given = c.requires.dictionary; bytes = refl; clean = c.bytes.ensures.clean; short = c.requires.short } in
+    let survives = rw (c.text.ensures.text, c.text-2.ensures.text, c.bytes-body.ensures.bytes, c.stored_day.ensures.number) at c.add_file-added.ensures.crash in
+    let fit : IsFileOf keep.dictionary d file = record { given = c.requires.dictionary; bytes = refl; clean = c.bytes-body.ensures.clean; short = c.requires.short } in
     let named : IsNamed d = record { firm = c.text.ensures.is_name; project = c.text-2.ensures.is_name; embargo = c.stored_day.ensures.is_day } in
     let rows_are : c.as_slice.result.now ≡ kept_rows file.groups = search rules in
     let steps_are : c.steps.result.now ≡ file.graph.steps = search rules in

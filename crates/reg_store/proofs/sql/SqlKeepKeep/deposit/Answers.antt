@@ -4,6 +4,7 @@ use Rattle.reg_store.specs.Quiet.{clean_before}
 use Rattle.reg_store.specs.KeepLaws.{idle_at, keeps_quiet}
 use Rattle.reg_store.specs.Methods.{deposit_read_at}
 use Rattle.reg_store.proofs.HeadsLemmas.{heads_quiet}
+use Rattle.reg_store.proofs.RepeatsLemmas.{digested_quiet}
 use Rattle.reg_store.proofs.ReadsLemmas.{reads_still}
 use Rattle.reg_store.proofs.sql.SqlKeepKeep.deposit.Goals as goal
 
@@ -20,6 +21,10 @@ invariant_of-self-clause-kept g c works clean =
 pub invariant_of-self-clause-headed : goal.invariant_of-self-clause-headed
 invariant_of-self-clause-headed g c works clean =
     heads_quiet (state g.S.Store c.args.self.now.connection) (state g.S.Store c.find_deposit-found.new.conn) c.args.self.now.heads.items (c.args.self.now.headed c.requires.working) c.find_deposit-found.ensures.quiet clean (sym c.is_store-self.ensures ∙ works)
+
+pub invariant_of-self-clause-digested : goal.invariant_of-self-clause-digested
+invariant_of-self-clause-digested g c works clean =
+    digested_quiet (state g.S.Store c.args.self.now.connection) (state g.S.Store c.find_deposit-found.new.conn) c.args.self.now.digests (c.args.self.now.digested c.requires.working) c.find_deposit-found.ensures.quiet clean (sym c.is_store-self.ensures ∙ works)
 
 pub returns-clause-leaves : goal.returns-clause-leaves
 returns-clause-leaves g c = reads_still (λ k. state g.S.Store k.connection) (λ k. k.dictionary) 999999 (λ k. k.has_failed) _ _ _ c.find_deposit-found.ensures.quiet refl c.is_store-self.ensures

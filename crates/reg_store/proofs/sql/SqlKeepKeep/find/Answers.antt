@@ -1,32 +1,40 @@
-use Rattle.std.proofs.Common.{refl, sym, ◌∙◌}
+use Rattle.std.proofs.Common.{◌≡◌, ap, refl, sym, ◌∙◌}
 use Rattle.sqlite.specs.Held.{state}
+use Rattle.reg_store.specs.Digests.{digest_of, numbers_under}
 use Rattle.reg_store.specs.Quiet.{clean_before}
-use Rattle.reg_store.specs.KeepLaws.{idle_at, keeps_quiet, number_found_at}
+use Rattle.reg_store.specs.KeepLaws.{idle_at, keeps_quiet}
 use Rattle.reg_store.proofs.HeadsLemmas.{heads_quiet}
+use Rattle.reg_store.proofs.RepeatsLemmas.{digested_quiet, repeat_told}
 use Rattle.reg_store.proofs.ReadsLemmas.{reads_still}
 use Rattle.reg_store.proofs.sql.SqlKeepKeep.find.Goals as goal
 
-pub find_number-found-requires : goal.find_number-found-requires
-find_number-found-requires g c = record { idle = idle_at (state g.S.Store c.args.self.now.connection) c.args.self.now.idle (c.args.self.now.kept c.requires.working) }
+pub find_equal-found-requires : goal.find_equal-found-requires
+find_equal-found-requires g c = record { idle = idle_at (state g.S.Store c.args.self.now.connection) c.args.self.now.idle (c.args.self.now.kept c.requires.working) }
 
 pub invariant_of-self-clause-idle : goal.invariant_of-self-clause-idle
-invariant_of-self-clause-idle g c = c.find_number-found.ensures.quiet.idle
+invariant_of-self-clause-idle g c = c.find_equal-found.ensures.quiet.idle
 
 pub invariant_of-self-clause-kept : goal.invariant_of-self-clause-kept
 invariant_of-self-clause-kept g c works clean =
-    keeps_quiet (state g.S.Store c.args.self.now.connection) (state g.S.Store c.find_number-found.new.conn) (c.args.self.now.kept c.requires.working) c.find_number-found.ensures.quiet clean (sym c.is_store-self.ensures ∙ works)
+    keeps_quiet (state g.S.Store c.args.self.now.connection) (state g.S.Store c.find_equal-found.new.conn) (c.args.self.now.kept c.requires.working) c.find_equal-found.ensures.quiet clean (sym c.is_store-self.ensures ∙ works)
 
 pub invariant_of-self-clause-headed : goal.invariant_of-self-clause-headed
 invariant_of-self-clause-headed g c works clean =
-    heads_quiet (state g.S.Store c.args.self.now.connection) (state g.S.Store c.find_number-found.new.conn) c.args.self.now.heads.items (c.args.self.now.headed c.requires.working) c.find_number-found.ensures.quiet clean (sym c.is_store-self.ensures ∙ works)
+    heads_quiet (state g.S.Store c.args.self.now.connection) (state g.S.Store c.find_equal-found.new.conn) c.args.self.now.heads.items (c.args.self.now.headed c.requires.working) c.find_equal-found.ensures.quiet clean (sym c.is_store-self.ensures ∙ works)
+
+pub invariant_of-self-clause-digested : goal.invariant_of-self-clause-digested
+invariant_of-self-clause-digested g c works clean =
+    digested_quiet (state g.S.Store c.args.self.now.connection) (state g.S.Store c.find_equal-found.new.conn) c.args.self.now.digests (c.args.self.now.digested c.requires.working) c.find_equal-found.ensures.quiet clean (sym c.is_store-self.ensures ∙ works)
 
 pub returns-clause-leaves : goal.returns-clause-leaves
-returns-clause-leaves g c = reads_still (λ k. state g.S.Store k.connection) (λ k. k.dictionary) 999999 (λ k. k.has_failed) _ _ _ c.find_number-found.ensures.quiet refl c.is_store-self.ensures
+returns-clause-leaves g c = reads_still (λ k. state g.S.Store k.connection) (λ k. k.dictionary) 999999 (λ k. k.has_failed) _ _ _ c.find_equal-found.ensures.quiet refl c.is_store-self.ensures
 
 pub returns-clause-found : goal.returns-clause-found
 returns-clause-found g c clean =
-    let old = state g.S.Store c.args.self.now.connection in
-    let new = state g.S.Store c.find_number-found.new.conn in
-    let first = clean_before old new c.find_number-found.ensures.quiet.survives clean in
-    number_found_at {s = old} c.args.firm.now c.args.project.now c.args.bytes.now c.find_number-found.result (c.args.self.now.kept c.requires.working first)
-    (rw (c.text.ensures.text, c.text-2.ensures.text) at (c.find_number-found.ensures.found clean))
+    let keep = c.args.self.now in
+    let old = state g.S.Store keep.connection in
+    let new = state g.S.Store c.find_equal-found.new.conn in
+    let first = clean_before old new c.find_equal-found.ensures.quiet.survives clean in
+    let own : c.of-numbers.result.now ≡ numbers_under keep.digests (digest_of c.args.firm.now c.args.project.now c.args.bytes.now) = c.of-numbers.ensures ∙ ap (numbers_under keep.digests) c.digest_of-digest.ensures in
+    repeat_told {s = old} c.args.firm.now c.args.project.now c.args.bytes.now keep.digests c.of-numbers.result.now c.find_equal-found.result (keep.kept c.requires.working first) own keep.below (keep.digested c.requires.working first)
+    (c.find_equal-found.ensures.equal clean) c.find_equal-found.ensures.among (c.find_equal-found.ensures.none clean)

@@ -12,6 +12,9 @@ invariant_of-self-clause-kept g c works clean = c.args.self.now.kept c.requires.
 pub invariant_of-self-clause-headed : goal.invariant_of-self-clause-headed
 invariant_of-self-clause-headed g c works clean = c.args.self.now.headed c.requires.working clean
 
+pub invariant_of-self-clause-digested : goal.invariant_of-self-clause-digested
+invariant_of-self-clause-digested g c works clean = c.args.self.now.digested c.requires.working clean
+
 pub returns-clause-leaves : goal.returns-clause-leaves
 returns-clause-leaves g c =
     let still = quiet_none (state g.S.Store c.args.self.now.connection) _ c.args.self.now.idle in

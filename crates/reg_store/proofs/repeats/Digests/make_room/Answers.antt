@@ -1,0 +1,20 @@
+use Rattle.std.proofs.Common.{◌≡◌, ℕ, List, false, refl, sym, ap, ◌∙◌}
+use Rattle.std.specs.Prelude.{is_some}
+use Rattle.std.specs.BTreeMap.{get_by}
+use Rattle.std.specs.Cmp.Lexicographic.{slice_cmp}
+use Rattle.std.specs.Ordering.{nat_cmp}
+use Rattle.reg_store.specs.declared.repeats.Digests.{Digests}
+use Rattle.reg_store.specs.Digests.{numbers_under}
+use Rattle.reg_store.proofs.RepeatsLemmas.{room_made}
+use Rattle.reg_store.proofs.repeats.Digests.make_room.Goals as goal
+use Rattle.reg_store.proofs.repeats.Digests.make_room.Goals.{then-not-contains_key+in_ok-insert+in-Some-1, then-not-contains_key+in_ok-insert+in-None-1, else-not-contains_key}
+
+pub returns-clause-same : goal.returns-clause-same
+returns-clause-same c other =
+    let under = λ (digests : Digests). numbers_under digests other in
+    let old = c.args.self.now.held in
+    elim c.if-not-contains_key.branch [
+      | then-not-contains_key+in_ok-insert+in-Some-1 w ↦ ap under w.self-is ∙ room_made old w.insert.new.self c.args.digest.now w.new.result (sym c.contains_key.ensures ∙ w.if-not-contains_key.true) w.new.ensures.items w.in_ok-insert.ensures.updates other
+      | then-not-contains_key+in_ok-insert+in-None-1 w ↦ ap under w.self-is ∙ room_made old w.insert.new.self c.args.digest.now w.new.result (sym c.contains_key.ensures ∙ w.if-not-contains_key.true) w.new.ensures.items w.in_ok-insert.ensures.updates other
+      | else-not-contains_key w ↦ ap under w.self-is
+    ]
