@@ -3,7 +3,7 @@ use Rattle.std.proofs.Common.{◌≡◌, ℕ, zero, suc, ◌+◌, ◌<◌, Bool,
 use Rattle.std.specs.Prelude.{codes, ◌==◌, ◌-◌, ◌≤◌, slice_get, length}
 use Rattle.std.specs.List.{AllZip}
 use Rattle.std.specs.Str.{bytes_eq}
-use Rattle.std.proofs.lemmas.Bool.{true≢false, eqb-true, eqb-false}
+use Rattle.std.proofs.lemmas.Bool.{true≢false, and_parts, eqb-true, eqb-false}
 use Rattle.std.proofs.lemmas.Slice.Eq.{bytes_eq-Decides}
 use Rattle.ags_rows.specs.Contents.{Contents, contents_of}
 use Rattle.ags_rows.specs.Writing.{group_names}
@@ -23,7 +23,7 @@ use Rattle.reg_store.specs.declared.keep.KeptRow.{KeptRow}
 use Rattle.reg_store.specs.declared.keep.ProjectRow.{ProjectRow}
 use Rattle.reg_desk.specs.Serving.{OfFile, OnlyReads}
 use Rattle.reg_desk.specs.Shown.{Look, IsPermitted, IsPermittedAt, IsProjectShown}
-use Rattle.reg_desk.specs.View.{IsLineOf, IsOpen, IsUnreadable, MayBeSeen, Sees, plain_lines, plain_row, project_line}
+use Rattle.reg_desk.specs.View.{IsLineOf, IsOpen, IsUnreadable, MayBeSeen, Sees, is_only, plain_lines, plain_row, project_line}
 use Rattle.reg_desk.proofs.Bridges.{HasAt, IsOfProject, at_first, at_later, of_first, of_later, lines_spelled}
 use Rattle.reg_desk.proofs.Clean.{clean_formed, clean_keeps}
 
@@ -147,28 +147,35 @@ open_hidden look file project may clean is law hidden = λ shows.
     let row : there.0 ≡ line.0 = one_at (data_rows (contents_of file.groups)) project.number there.0 line.0 there.1 line.1 in
     true≢false (sym ((law line.0 line.2).1 (subst (IsPermitted look) row there.2)) ∙ hidden)
 
-no_target : (row target : ℕ) (steps : List (ℕ × ℕ)) → targets_of row steps ≡ [] → Contains steps (row, target) → ⊥
-no_target row target [] none has = omega (arith, has.1)
-no_target row target (step ∷ steps) none has = go (step.0 == row) refl (no_target row target steps) none
+-- where each of the row's steps leads to itself, so does each
+only_target : (row target : ℕ) (steps : List (ℕ × ℕ)) → is_only row (targets_of row steps) ≡ true → Contains steps (row, target) → target ≡ row
+only_target row target [] only has = absurd (omega (arith, has.1))
+only_target row target (step ∷ steps) only has = go (step.0 == row) refl (only_target row target steps) only has
   where
-    go : (b : Bool) → step.0 == row ≡ b → (targets_of row steps ≡ [] → Contains steps (row, target) → ⊥)
-        → map (λ s. s.1) (if b then step ∷ filter (λ s. s.0 == row) steps else filter (λ s. s.0 == row) steps) ≡ [] → ⊥
-    go true e more none = absurd cc
-    go false e more none = elim (contains_cons step steps (row, target) has) [
-      | inl same ↦ eqb-false step.0 row e (ap (λ (s : ℕ × ℕ). s.0) same)
-      | inr later ↦ more none later
+    go : (b : Bool) → step.0 == row ≡ b → (is_only row (targets_of row steps) ≡ true → Contains steps (row, target) → target ≡ row)
+        → is_only row (map (λ s. s.1) (if b then step ∷ filter (λ s. s.0 == row) steps else filter (λ s. s.0 == row) steps)) ≡ true → Contains (step ∷ steps) (row, target) → target ≡ row
+    go true e more only has =
+        let parts = and_parts (step.1 == row) (is_only row (targets_of row steps)) only in elim (contains_cons step steps (row, target) has) [
+          | inl same ↦ sym (ap (λ (s : ℕ × ℕ). s.1) same) ∙ eqb-true step.1 row parts.0
+          | inr later ↦ more parts.1 later
+        ]
+    go false e more only has = elim (contains_cons step steps (row, target) has) [
+      | inl same ↦ absurd (eqb-false step.0 row e (ap (λ (s : ℕ × ℕ). s.0) same))
+      | inr later ↦ more only later
     ]
 
--- it is permitted, and shown if it has no step
+-- it is permitted, and shown if it has no step to another row
 pub open_shown : (look : Look) (file : CheckedFile) (project : ProjectRow) (may : Bool) → IsClean file → Some project ≡ project_of (kept_rows file.groups) → MayBeSeen look (project_line project) may → may ≡ true → IsOpen look file (Some project.number)
-open_shown look file project may clean is law permitted = λ none.
+open_shown look file project may clean is law permitted = λ only.
     let line = its_line file clean project is in
     let own : IsPermittedAt look (file_of file) project.number = (line.0, line.1, (law line.0 line.2).0 permitted) in
-    (project.number, (line.0, line.1, sym line.2.group), λ m walk. reach none own m walk.0 walk.1)
+    (project.number, (line.0, line.1, sym line.2.group), λ m walk. reach only own m walk.0 walk.1)
   where
-    reach : targets_of project.number file.graph.steps ≡ [] → IsPermittedAt look (file_of file) project.number → (m : ℕ) (rows : List ℕ) → IsWalk (StepAt (file_of file)) project.number rows m → IsPermittedAt look (file_of file) m
-    reach none own m [] same = subst (IsPermittedAt look (file_of file)) same own
-    reach none own m (t ∷ rows) walk = absurd (no_target project.number t file.graph.steps none ((clean.graph.steps.exact project.number t).1 walk.0))
+    reach : is_only project.number (targets_of project.number file.graph.steps) ≡ true → IsPermittedAt look (file_of file) project.number → (m : ℕ) (rows : List ℕ) → IsWalk (StepAt (file_of file)) project.number rows m → IsPermittedAt look (file_of file) m
+    reach only own m [] same = subst (IsPermittedAt look (file_of file)) same own
+    reach only own m (t ∷ rows) walk =
+        let itself : t ≡ project.number = only_target project.number t file.graph.steps only ((clean.graph.steps.exact project.number t).1 walk.0) in
+        reach only own m rows (subst (λ (k : ℕ). IsWalk (StepAt (file_of file)) k rows m) itself walk.1)
 
 -- a row of PROJ that is kept of a file can be read
 pub project_reads : (file : CheckedFile) (project : ProjectRow) → IsClean file → Some project ≡ project_of (kept_rows file.groups) → IsUnreadable (project_line project) → ⊥
@@ -194,9 +201,5 @@ within_after keep old new number reads within s = subst (λ (l : List Deposit). 
 pub sees_hidden : (look : Look) (file : CheckedFile) → IsOpen look file None → Sees look file false
 sees_hidden look file hidden = (λ e. absurd cc, λ shows. absurd (hidden shows))
 
-pub sees_shown : (look : Look) (file : CheckedFile) (row : ℕ) → IsOpen look file (Some row) → targets_of row file.graph.steps ≡ [] → Sees look file true
-sees_shown look file row opens none = (λ _. opens none, λ _. refl)
-
-pub no_rows : (n : ℕ) (rows : List ℕ) → n ≡ length rows → (n == 0) ≡ true → rows ≡ []
-no_rows n [] long none = refl
-no_rows n (row ∷ rows) long none = absurd (omega (arith, long, eqb-true n 0 none))
+pub sees_shown : (look : Look) (file : CheckedFile) (row : ℕ) → IsOpen look file (Some row) → is_only row (targets_of row file.graph.steps) ≡ true → Sees look file true
+sees_shown look file row opens only = (λ _. opens only, λ _. refl)

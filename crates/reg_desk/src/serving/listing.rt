@@ -6,7 +6,7 @@ ghost use Rattle.reg_store.specs.Deposit.{Deposit};
 ghost use Rattle.reg_desk.specs.Asked.{listing as asks_listing};
 ghost use Rattle.reg_desk.specs.Machine.{IsListing, held};
 ghost use Rattle.reg_desk.specs.Serving.{IsLineFor, OfFile, OnlyReads, Serves, register_at};
-ghost use Rattle.reg_desk.specs.View.{IsOpen, Sees, look_of};
+ghost use Rattle.reg_desk.specs.View.{IsOpen, Sees, is_only, look_of};
 
 use crate::answer::{Answer, Listed};
 use crate::serving::drawing::{looking_at, read_view};
@@ -17,7 +17,7 @@ use reg_policy::{Caller, Day, Decision, Name, Policy, Verb};
 use reg_store::{Keep, KeepError};
 use std::alloc::Global;
 
-/// The number of the deposit's row of PROJ, if it may be seen: where it has no step it is shown.
+/// The number of the deposit's row of PROJ, if it may be seen: where it has no step to another row it is shown.
 fn open_project<K: Keep>(
     alloc: Global,
     keep: &mut K,
@@ -51,7 +51,14 @@ fn seen_among_all<K: Keep>(
     sees(alloc, looking, &rows, &graph)
 }
 
-/// Whether the deposit's row of PROJ, which may be seen, is shown: where it has no step it decides alone.
+/// Whether each of these rows is this one.
+fn are_only(targets: &[u32], row: u32) -> bool
+    ensures { result ≡ is_only row targets.now }
+{
+    targets.iter().all(|target| *target == row)
+}
+
+/// Whether the deposit's row of PROJ, which may be seen, is shown: where it has no step to another row it decides alone.
 fn seen_from<K: Keep>(
     alloc: Global,
     keep: &mut K,
@@ -67,7 +74,7 @@ fn seen_from<K: Keep>(
     ensures named { result ≢ Err KeepError.Full }
 {
     let targets = keep.targets(number, row)?;
-    if targets.is_empty() {
+    if are_only(&targets, row) {
         return Ok(true);
     }
     seen_among_all(alloc, keep, looking, number)

@@ -211,6 +211,24 @@ const B_LINKED: Body = Body {
     spaces: 0,
 };
 
+/// It linked to itself.
+const B_LINKED_TO_ITSELF: Body = Body {
+    front: b"",
+    file: File::B,
+    edits: &[
+        Edit {
+            first: 2,
+            last: 5,
+            lines: "\"HEADING\",\"PROJ_ID\",\"PROJ_NAME\",\"PROJ_LINK\"\r\n\
+\"UNIT\",\"\",\"\",\"\"\r\n\
+\"TYPE\",\"ID\",\"X\",\"RL\"\r\n\
+\"DATA\",\"P7\",\"North bank\",\"PROJ|P7\"\r\n",
+        },
+        LINKING,
+    ],
+    spaces: 0,
+};
+
 /// The second file, where the row of PROJ has a file set of one file.
 const B_FILED: Body = Body {
     front: b"",
@@ -465,6 +483,12 @@ pub const EXAMPLES: [Example; 9] = [
                 Want::Receipt(4, UNTIL),
             ),
             Step(
+                "t-delta",
+                SENT,
+                Ask::Deposit(B_LINKED_TO_ITSELF, UNTIL),
+                Want::Receipt(5, UNTIL),
+            ),
+            Step(
                 "t-echo",
                 UNTIL,
                 Ask::List,
@@ -472,6 +496,7 @@ pub const EXAMPLES: [Example; 9] = [
                     Line(2, "Delta", UNTIL),
                     Line(3, "Delta", UNTIL),
                     Line(4, "Delta", UNTIL),
+                    Line(5, "Delta", UNTIL),
                 ]),
             ),
             Step("t-echo", SENT, Ask::List, Want::Lists(&[])),
@@ -484,6 +509,7 @@ pub const EXAMPLES: [Example; 9] = [
                     Line(2, "Delta", UNTIL),
                     Line(3, "Delta", UNTIL),
                     Line(4, "Delta", UNTIL),
+                    Line(5, "Delta", UNTIL),
                 ]),
             ),
         ],
