@@ -705,6 +705,30 @@ def without(data, *numbers):
     return b"".join(line for n, line in enumerate(lines(data), 1) if n not in numbers)
 
 
+def with_cell(heading, kind, cell, behind):
+    """The second file with one more cell in the row of PROJ, and a group behind it."""
+    rows = lines(FILE_B)
+    rows[1:5] = [row[:-2] + b',"%s"\r\n' % more for row, more in zip(rows[1:5], (heading, b"", kind, cell))]
+    return b"".join(rows) + b"\r\n" + behind
+
+
+# its dictionary, with a heading of record links for PROJ
+LINKING = b"""\
+"GROUP","DICT"\r
+"HEADING","DICT_TYPE","DICT_GRP","DICT_HDNG","DICT_STAT","DICT_PGRP"\r
+"UNIT","","","","",""\r
+"TYPE","X","X","X","X","X"\r
+"DATA","HEADING","PROJ","PROJ_LINK","OTHER",""\r
+"""
+
+FILES = b"""\
+"GROUP","FILE"\r
+"HEADING","FILE_FSET","FILE_NAME"\r
+"UNIT","",""\r
+"TYPE","X","X"\r
+"DATA","FS1","plan.pdf"\r
+"""
+
 POLICY = """
 [[rule]]
 number = 5
@@ -814,6 +838,14 @@ def examples():
     register.deposit(rules, delta, "N1", june, c)
     yield "extract of C by Echo", register.extract(rules, echo, "N1", 1, [], june), ("text", without(c, 39, 41, 42, 48))
     yield "extract of C by Delta", register.extract(rules, delta, "N1", 1, [], june), ("text", c)
+
+    register = Register()
+    hidden, shown, itself = (with_cell(b"PROJ_LINK", b"RL", cell, LINKING) for cell in (b"LOCA|BH2", b"LOCA|BH1", b"PROJ|P7"))
+    last = b"".join(lines(FILE_A)[6:]) + b"\r\n" + b"".join(lines(FILE_A)[:5])
+    bodies = [hidden, shown, with_cell(b"FILE_FSET", b"X", b"FS1", FILES), last, itself]
+    yield "what the row of PROJ reaches", [register.deposit(rules, delta, "N1", june, body)[:2] for body in bodies], [("receipt", n) for n in range(1, 6)]
+    for name, caller, day, want in [("by Echo", echo, june, [2, 3, 4, 5]), ("by Echo the day before", echo, may, []), ("by Delta", delta, may, [1, 2, 3, 4, 5])]:
+        yield f"its listing {name}", register.list(rules, caller, "N1", day), ("listing", [(n, "Delta", june) for n in want])
 
     spaced = b"\xef\xbb\xbf" + FILE_A.replace(b'"DATA","P7","North bank"', b'"DATA" , "P7","North ""bank"""')[:-2]
     register = Register()

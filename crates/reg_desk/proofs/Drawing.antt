@@ -28,8 +28,8 @@ use Rattle.reg_desk.specs.Shown.{Look, IsProjectShown}
 use Rattle.ags_check.specs.Findings.{IsCleanFile}
 use Rattle.reg_desk.specs.Machine.{Register, decided, look_at, IsSeen, IsTextOf, Where, IsDrawnFrom, held}
 use Rattle.ags_check.specs.Findings.{file_of}
-use Rattle.reg_desk.specs.View.{IsViewOf, IsExtractOf}
-use Rattle.reg_desk.specs.Serving.{IsQuiet, AsksStore, IsLineFor, text_answer, register_at, OnlyReads, Serves, look_on, answer_of}
+use Rattle.reg_desk.specs.View.{IsViewOf, IsExtractOf, Sees}
+use Rattle.reg_desk.specs.Serving.{OfFile, IsQuiet, AsksStore, IsLineFor, text_answer, register_at, OnlyReads, Serves, look_on, answer_of}
 use Rattle.reg_desk.proofs.Replies.{one_file}
 use Rattle.reg_desk.proofs.Bodies.{where_true, where_false}
 use Rattle.reg_desk.proofs.Serves.{is_told, replies_at_once, refused_serves, replies_serves, permitted_reply, denied_reply, permit_stands}
@@ -213,23 +213,59 @@ extract_replies keep rules caller project number groups day old new k answer per
 same_kept : (o : Option Deposit) (d e : Deposit) → o ≡ Some d → o ≡ Some e → d ≡ e
 same_kept o d e a b = cc
 
-pub view_listed : (register : Register) (state : List Deposit) (caller : Caller) (number : ℕ) (day : ℤ) (head : KeptHead) (rows : List KeptRow) (graph : Wiring) (seen : Bool) → IsViewed register.given state number head rows graph
-    → ((file : CheckedFile) → IsViewOf rows graph file → (seen ≡ true) ↔ IsProjectShown (look_on register.rules caller head day) (file_of file)) → seen ≡ true
-    → (d : Deposit) → held number state ≡ Some d → ∥ IsLineFor register caller day number d (Some (record { number = number; firm = head.firm; embargo = head.embargo })) ∥₁
-view_listed register state caller number day head rows graph seen v shows is d holds =
-    subst (λ (k : Deposit). ∥ IsLineFor register caller day number k (Some (record { number = number; firm = head.firm; embargo = head.embargo })) ∥₁) (same_kept (held number state) v.kept d v.holds holds)
-    (∥∥₁_map v.fit (λ (f : (file : CheckedFile) × IsFileOf register.given v.kept file).
-    let shown = (shows f.0 (v.view f.0 f.1)).0 is in (
-      (file_of f.0, clean_of register.given v.kept f.0 f.1, subst (λ (look : Look). IsProjectShown look (file_of f.0)) (look_same register caller day v.kept head v.of_head) shown),
-      ap (λ (firm : List ℕ). record { number = number; firm = firm; embargo = head.embargo }) v.of_head.firm ∙ ap (λ (e : ℤ). record { number = number; firm = v.kept.firm; embargo = e }) v.of_head.embargo,
+-- what a keep tells of the deposit of a number by its head
+pub record IsHeaded (given : Entries) (state : List Deposit) (number : ℕ) (head : KeptHead) : Type 0 where
+  pub kept : Deposit
+  pub place : slice_get state (number - 1) ≡ Some kept
+  pub holds : held number state ≡ Some kept
+  pub of_head : IsHeadOf kept head
+  pub fit : IsFit given kept
+
+pub headed : {K : Type 0} (keep : Ghosts K) (old mid : K) (number : ℕ) (head : KeptHead) → (keep.is_sound old → (0 < number) × (number ≤ length (keep.deposits old))) → (keep.is_sound old → All (IsFit (keep.dictionary old)) (keep.deposits old))
+    → OnlyReads keep old mid false → (keep.is_sound mid → (d : Deposit) → slice_get (keep.deposits old) (number - 1) ≡ Some d → IsHeadOf d head) → keep.is_sound mid
+    → IsHeaded (keep.dictionary old) (keep.deposits old) number head
+headed keep old mid number head within fit first read s =
+    let s0 = first.sound s in
+    let place = within s0 in
+    let d = held_at (keep.deposits old) number place.0 place.1 in
+    record { kept = d.0; place = d.1; holds = d.2; of_head = read s d.0 d.1; fit = fit_at (keep.dictionary old) (keep.deposits old) (number - 1) d.0 (fit s0) d.1 }
+
+-- a reading of what is kept of a deposit does not fail the store
+pub kept_lives : {K X : Type 0} (keep : Ghosts K) (old : K) (number : ℕ) (r : Result X KeepError) → (0 < number) × (number ≤ length (keep.deposits old)) → All (IsFit (keep.dictionary old)) (keep.deposits old)
+    → (r ≡ Err errors.Store → OfFile keep old number (λ file. ⊥)) → fails r ≡ false
+kept_lives keep old number (Ok x) within fit broken = refl
+kept_lives keep old number (Err errors.Full) within fit broken = refl
+kept_lives keep old number (Err errors.NoMemory) within fit broken = refl
+kept_lives keep old number (Err errors.Store) within fit broken =
+    let d = held_at (keep.deposits old) number within.0 within.1 in
+    absurd (∥∥₁_elim (fit_at (keep.dictionary old) (keep.deposits old) (number - 1) d.0 fit d.1) (Prim.hlevel props) (λ (f : (file : CheckedFile) × IsFileOf (keep.dictionary old) d.0 file). broken refl d.0 f.0 d.1 f.1))
+
+-- whether its row of PROJ is shown, where that was read after its head
+seen_file : {K : Type 0} (keep : Ghosts K) (register : Register) (old mid : K) (caller : Caller) (number : ℕ) (day : ℤ) (head : KeptHead) (look : Look) (seen : Bool) → look ≡ look_on register.rules caller head day → OnlyReads keep old mid false → keep.is_sound mid
+    → (h : IsHeaded (keep.dictionary old) (keep.deposits old) number head) → OfFile keep mid number (λ file. Sees look file seen)
+    → (file : CheckedFile) → IsFileOf (keep.dictionary old) h.kept file → (seen ≡ true) ↔ IsProjectShown (look_at register caller day h.kept) (file_of file)
+seen_file keep register old mid caller number day head look seen same reads s h sees file is =
+    subst (λ (l : Look). (seen ≡ true) ↔ IsProjectShown l (file_of file)) (same ∙ look_same register caller day h.kept head h.of_head)
+    (sees h.kept file (ap (λ (l : List Deposit). slice_get l (number - 1)) (reads.same s refl) ∙ h.place) (subst (λ (e : Entries). IsFileOf e h.kept file) (sym reads.same_dictionary) is))
+
+pub seen_listed : {K : Type 0} (keep : Ghosts K) (rules : List Rule) (old mid : K) (caller : Caller) (number : ℕ) (day : ℤ) (head : KeptHead) (look : Look) (seen : Bool) → look ≡ look_on rules caller head day → OnlyReads keep old mid false → keep.is_sound mid
+    → IsHeaded (keep.dictionary old) (keep.deposits old) number head → OfFile keep mid number (λ file. Sees look file seen) → seen ≡ true
+    → (d : Deposit) → held number (keep.deposits old) ≡ Some d → ∥ IsLineFor (register_at keep rules old) caller day number d (Some (record { number = number; firm = head.firm; embargo = head.embargo })) ∥₁
+seen_listed keep rules old mid caller number day head look seen same reads s h sees is d holds =
+    let register = register_at keep rules old in
+    subst (λ (k : Deposit). ∥ IsLineFor register caller day number k (Some (record { number = number; firm = head.firm; embargo = head.embargo })) ∥₁) (same_kept (held number (keep.deposits old)) h.kept d h.holds holds)
+    (∥∥₁_map h.fit (λ (f : (file : CheckedFile) × IsFileOf register.given h.kept file). (
+      (file_of f.0, clean_of register.given h.kept f.0 f.1, (seen_file keep register old mid caller number day head look seen same reads s h sees f.0 f.1).0 is),
+      ap (λ (firm : List ℕ). record { number = number; firm = firm; embargo = head.embargo }) h.of_head.firm ∙ ap (λ (e : ℤ). record { number = number; firm = h.kept.firm; embargo = e }) h.of_head.embargo,
     )))
 
-pub view_unlisted : (register : Register) (state : List Deposit) (caller : Caller) (number : ℕ) (day : ℤ) (head : KeptHead) (rows : List KeptRow) (graph : Wiring) (seen : Bool) → IsViewed register.given state number head rows graph
-    → ((file : CheckedFile) → IsViewOf rows graph file → (seen ≡ true) ↔ IsProjectShown (look_on register.rules caller head day) (file_of file)) → seen ≡ false
-    → (d : Deposit) → held number state ≡ Some d → ∥ IsLineFor register caller day number d None ∥₁
-view_unlisted register state caller number day head rows graph seen v shows is d holds =
-    subst (λ (k : Deposit). ∥ IsLineFor register caller day number k None ∥₁) (same_kept (held number state) v.kept d v.holds holds)
-    (∥∥₁_map v.fit (λ (f : (file : CheckedFile) × IsFileOf register.given v.kept file) (was : IsSeen register caller day v.kept).
-    let clean = clean_of register.given v.kept f.0 f.1 in
-    let shown = subst (IsProjectShown (look_at register caller day v.kept)) (one_file register.given v.kept.bytes was.0 (file_of f.0) was.1 clean) was.2 in
-    true≢false (sym ((shows f.0 (v.view f.0 f.1)).1 (subst (λ (look : Look). IsProjectShown look (file_of f.0)) (sym (look_same register caller day v.kept head v.of_head)) shown)) ∙ is)))
+pub seen_unlisted : {K : Type 0} (keep : Ghosts K) (rules : List Rule) (old mid : K) (caller : Caller) (number : ℕ) (day : ℤ) (head : KeptHead) (look : Look) (seen : Bool) → look ≡ look_on rules caller head day → OnlyReads keep old mid false → keep.is_sound mid
+    → IsHeaded (keep.dictionary old) (keep.deposits old) number head → OfFile keep mid number (λ file. Sees look file seen) → seen ≡ false
+    → (d : Deposit) → held number (keep.deposits old) ≡ Some d → ∥ IsLineFor (register_at keep rules old) caller day number d None ∥₁
+seen_unlisted keep rules old mid caller number day head look seen same reads s h sees is d holds =
+    let register = register_at keep rules old in
+    subst (λ (k : Deposit). ∥ IsLineFor register caller day number k None ∥₁) (same_kept (held number (keep.deposits old)) h.kept d h.holds holds)
+    (∥∥₁_map h.fit (λ (f : (file : CheckedFile) × IsFileOf register.given h.kept file) (was : IsSeen register caller day h.kept).
+    let clean = clean_of register.given h.kept f.0 f.1 in
+    let shown = subst (IsProjectShown (look_at register caller day h.kept)) (one_file register.given h.kept.bytes was.0 (file_of f.0) was.1 clean) was.2 in
+    true≢false (sym ((seen_file keep register old mid caller number day head look seen same reads s h sees f.0 f.1).1 shown) ∙ is)))

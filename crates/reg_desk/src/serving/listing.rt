@@ -5,16 +5,99 @@ ghost use Rattle.reg_store.specs.Keep.{fails};
 ghost use Rattle.reg_store.specs.Deposit.{Deposit};
 ghost use Rattle.reg_desk.specs.Asked.{listing as asks_listing};
 ghost use Rattle.reg_desk.specs.Machine.{IsListing, held};
-ghost use Rattle.reg_desk.specs.Serving.{IsLineFor, OnlyReads, Serves, register_at};
+ghost use Rattle.reg_desk.specs.Serving.{IsLineFor, OfFile, OnlyReads, Serves, register_at};
+ghost use Rattle.reg_desk.specs.View.{IsOpen, Sees, is_only, look_of};
 
 use crate::answer::{Answer, Listed};
 use crate::serving::drawing::{looking_at, read_view};
 use crate::serving::{decide_request, refused};
-use crate::view::sees;
+use crate::view::{Looking, opens, sees};
 use ags_rows::Sequence;
 use reg_policy::{Caller, Day, Decision, Name, Policy, Verb};
 use reg_store::{Keep, KeepError};
 use std::alloc::Global;
+
+/// The number of the deposit's row of PROJ, if it may be seen: where it has no step to another row it is shown.
+fn open_project<K: Keep>(
+    alloc: Global,
+    keep: &mut K,
+    looking: &Looking,
+    number: u32,
+) -> Result<Option<u32>, KeepError>
+    requires working { K.has_failed keep.old ≡ false }
+    requires number { K.is_sound keep.old → (0 < number) × (number ≤ length (K.deposits keep.old)) }
+    ensures reads { OnlyReads K.Keep keep.old keep.new (fails result) }
+    ensures read { K.is_sound keep.new → IfOk result (λ row. OfFile K.Keep keep.old number (λ file. IsOpen (look_of looking.now) file row)) }
+    ensures named { result ≢ Err KeepError.Full }
+{
+    let project = keep.project_row(number)?;
+    opens(alloc, looking, project)
+}
+
+/// Whether the deposit's row of PROJ is shown, from all its rows and steps.
+fn seen_among_all<K: Keep>(
+    alloc: Global,
+    keep: &mut K,
+    looking: &Looking,
+    number: u32,
+) -> Result<bool, KeepError>
+    requires working { K.has_failed keep.old ≡ false }
+    requires number { K.is_sound keep.old → (0 < number) × (number ≤ length (K.deposits keep.old)) }
+    ensures reads { OnlyReads K.Keep keep.old keep.new (fails result) }
+    ensures seen { K.is_sound keep.new → IfOk result (λ seen. OfFile K.Keep keep.old number (λ file. Sees (look_of looking.now) file seen)) }
+    ensures named { result ≢ Err KeepError.Full }
+{
+    let (rows, graph) = read_view(keep, number)?;
+    sees(alloc, looking, &rows, &graph)
+}
+
+/// Whether each of these rows is this one.
+fn are_only(targets: &[u32], row: u32) -> bool
+    ensures { result ≡ is_only row targets.now }
+{
+    targets.iter().all(|target| *target == row)
+}
+
+/// Whether the deposit's row of PROJ, which may be seen, is shown: where it has no step to another row it decides alone.
+fn seen_from<K: Keep>(
+    alloc: Global,
+    keep: &mut K,
+    looking: &Looking,
+    number: u32,
+    row: u32,
+) -> Result<bool, KeepError>
+    requires working { K.has_failed keep.old ≡ false }
+    requires number { K.is_sound keep.old → (0 < number) × (number ≤ length (K.deposits keep.old)) }
+    requires permitted { K.is_sound keep.old → OfFile K.Keep keep.old number (λ file. IsOpen (look_of looking.now) file (Some row)) }
+    ensures reads { OnlyReads K.Keep keep.old keep.new (fails result) }
+    ensures seen { K.is_sound keep.new → IfOk result (λ seen. OfFile K.Keep keep.old number (λ file. Sees (look_of looking.now) file seen)) }
+    ensures named { result ≢ Err KeepError.Full }
+{
+    let targets = keep.targets(number, row)?;
+    if are_only(&targets, row) {
+        return Ok(true);
+    }
+    seen_among_all(alloc, keep, looking, number)
+}
+
+/// Whether the deposit's row of PROJ is shown.
+fn sees_project<K: Keep>(
+    alloc: Global,
+    keep: &mut K,
+    looking: &Looking,
+    number: u32,
+) -> Result<bool, KeepError>
+    requires working { K.has_failed keep.old ≡ false }
+    requires number { K.is_sound keep.old → (0 < number) × (number ≤ length (K.deposits keep.old)) }
+    ensures reads { OnlyReads K.Keep keep.old keep.new (fails result) }
+    ensures seen { K.is_sound keep.new → IfOk result (λ seen. OfFile K.Keep keep.old number (λ file. Sees (look_of looking.now) file seen)) }
+    ensures named { result ≢ Err KeepError.Full }
+{
+    match open_project(alloc, keep, looking, number)? {
+        Some(row) => seen_from(alloc, keep, looking, number, row),
+        None => Ok(false),
+    }
+}
 
 /// The deposit's line in a listing, if its row of PROJ is shown.
 fn listed<K: Keep>(
@@ -32,9 +115,8 @@ fn listed<K: Keep>(
     ensures named { result ≢ Err KeepError.Full }
 {
     let head = keep.head(number)?;
-    let (rows, graph) = read_view(keep, number)?;
     let looking = looking_at(policy, caller, &head, day);
-    if !sees(alloc, &looking, &rows, &graph)? {
+    if !sees_project(alloc, keep, &looking, number)? {
         return Ok(None);
     }
     Ok(Some(Listed {

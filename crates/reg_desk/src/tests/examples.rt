@@ -163,6 +163,123 @@ pub const B_TESTED: Body = Body {
     spaces: 0,
 };
 
+/// A dictionary of its own, behind the second file: PROJ has a heading of record links.
+const LINKING: Edit = Edit {
+    first: 48,
+    last: 47,
+    lines: "\r\n\
+\"GROUP\",\"DICT\"\r\n\
+\"HEADING\",\"DICT_TYPE\",\"DICT_GRP\",\"DICT_HDNG\",\"DICT_STAT\",\"DICT_PGRP\"\r\n\
+\"UNIT\",\"\",\"\",\"\",\"\",\"\"\r\n\
+\"TYPE\",\"X\",\"X\",\"X\",\"X\",\"X\"\r\n\
+\"DATA\",\"HEADING\",\"PROJ\",\"PROJ_LINK\",\"OTHER\",\"\"\r\n",
+};
+
+/// The second file, where the row of PROJ is linked to the second borehole, which Echo may not see.
+const B_LINKED_HIDDEN: Body = Body {
+    front: b"",
+    file: File::B,
+    edits: &[
+        Edit {
+            first: 2,
+            last: 5,
+            lines: "\"HEADING\",\"PROJ_ID\",\"PROJ_NAME\",\"PROJ_LINK\"\r\n\
+\"UNIT\",\"\",\"\",\"\"\r\n\
+\"TYPE\",\"ID\",\"X\",\"RL\"\r\n\
+\"DATA\",\"P7\",\"North bank\",\"LOCA|BH2\"\r\n",
+        },
+        LINKING,
+    ],
+    spaces: 0,
+};
+
+/// It linked to the first borehole, which Echo may see.
+const B_LINKED: Body = Body {
+    front: b"",
+    file: File::B,
+    edits: &[
+        Edit {
+            first: 2,
+            last: 5,
+            lines: "\"HEADING\",\"PROJ_ID\",\"PROJ_NAME\",\"PROJ_LINK\"\r\n\
+\"UNIT\",\"\",\"\",\"\"\r\n\
+\"TYPE\",\"ID\",\"X\",\"RL\"\r\n\
+\"DATA\",\"P7\",\"North bank\",\"LOCA|BH1\"\r\n",
+        },
+        LINKING,
+    ],
+    spaces: 0,
+};
+
+/// It linked to itself.
+const B_LINKED_TO_ITSELF: Body = Body {
+    front: b"",
+    file: File::B,
+    edits: &[
+        Edit {
+            first: 2,
+            last: 5,
+            lines: "\"HEADING\",\"PROJ_ID\",\"PROJ_NAME\",\"PROJ_LINK\"\r\n\
+\"UNIT\",\"\",\"\",\"\"\r\n\
+\"TYPE\",\"ID\",\"X\",\"RL\"\r\n\
+\"DATA\",\"P7\",\"North bank\",\"PROJ|P7\"\r\n",
+        },
+        LINKING,
+    ],
+    spaces: 0,
+};
+
+/// The second file, where the row of PROJ has a file set of one file.
+const B_FILED: Body = Body {
+    front: b"",
+    file: File::B,
+    edits: &[
+        Edit {
+            first: 2,
+            last: 5,
+            lines: "\"HEADING\",\"PROJ_ID\",\"PROJ_NAME\",\"FILE_FSET\"\r\n\
+\"UNIT\",\"\",\"\",\"\"\r\n\
+\"TYPE\",\"ID\",\"X\",\"X\"\r\n\
+\"DATA\",\"P7\",\"North bank\",\"FS1\"\r\n",
+        },
+        Edit {
+            first: 48,
+            last: 47,
+            lines: "\r\n\
+\"GROUP\",\"FILE\"\r\n\
+\"HEADING\",\"FILE_FSET\",\"FILE_NAME\"\r\n\
+\"UNIT\",\"\",\"\"\r\n\
+\"TYPE\",\"X\",\"X\"\r\n\
+\"DATA\",\"FS1\",\"plan.pdf\"\r\n",
+        },
+    ],
+    spaces: 0,
+};
+
+/// The first file with PROJ as its last group.
+const A_PROJECT_LAST: Body = Body {
+    front: b"",
+    file: File::A,
+    edits: &[
+        Edit {
+            first: 1,
+            last: 6,
+            lines: "",
+        },
+        Edit {
+            first: 31,
+            last: 30,
+            lines: "\r\n\
+\"GROUP\",\"PROJ\"\r\n\
+\"HEADING\",\"PROJ_ID\",\"PROJ_NAME\"\r\n\
+\"UNIT\",\"\",\"\"\r\n\
+\"TYPE\",\"ID\",\"X\"\r\n\
+\"DATA\",\"P7\",\"North bank\"\r\n",
+        },
+    ],
+    spaces: 0,
+};
+
 /// The third file, with a ring of record links.
 const C: Body = Body {
     front: b"",
@@ -209,7 +326,7 @@ pub const LENGTHS: [Length; 5] = [
     Length("its first borehole", B_BOREHOLE, 626),
 ];
 
-pub const EXAMPLES: [Example; 8] = [
+pub const EXAMPLES: [Example; 9] = [
     Example {
         name: "a deposit that the policy denies",
         limit: MOST,
@@ -345,6 +462,56 @@ pub const EXAMPLES: [Example; 8] = [
         steps: &[
             Step("t-delta", SENT, Ask::Deposit(A_SPACED, UNTIL), FIRST),
             Step("t-echo", UNTIL, Ask::Extract(1, &[]), Want::Gives(A_PLAIN)),
+        ],
+    },
+    Example {
+        name: "what the row of PROJ reaches, and PROJ as the last group",
+        limit: MOST,
+        steps: &[
+            Step("t-delta", SENT, Ask::Deposit(B_LINKED_HIDDEN, UNTIL), FIRST),
+            Step("t-delta", SENT, Ask::Deposit(B_LINKED, UNTIL), SECOND),
+            Step(
+                "t-delta",
+                SENT,
+                Ask::Deposit(B_FILED, UNTIL),
+                Want::Receipt(3, UNTIL),
+            ),
+            Step(
+                "t-delta",
+                SENT,
+                Ask::Deposit(A_PROJECT_LAST, UNTIL),
+                Want::Receipt(4, UNTIL),
+            ),
+            Step(
+                "t-delta",
+                SENT,
+                Ask::Deposit(B_LINKED_TO_ITSELF, UNTIL),
+                Want::Receipt(5, UNTIL),
+            ),
+            Step(
+                "t-echo",
+                UNTIL,
+                Ask::List,
+                Want::Lists(&[
+                    Line(2, "Delta", UNTIL),
+                    Line(3, "Delta", UNTIL),
+                    Line(4, "Delta", UNTIL),
+                    Line(5, "Delta", UNTIL),
+                ]),
+            ),
+            Step("t-echo", SENT, Ask::List, Want::Lists(&[])),
+            Step(
+                "t-delta",
+                SENT,
+                Ask::List,
+                Want::Lists(&[
+                    Line(1, "Delta", UNTIL),
+                    Line(2, "Delta", UNTIL),
+                    Line(3, "Delta", UNTIL),
+                    Line(4, "Delta", UNTIL),
+                    Line(5, "Delta", UNTIL),
+                ]),
+            ),
         ],
     },
 ];

@@ -4,7 +4,7 @@
 ghost use Rattle.std.specs.Prelude.{◌≡◌, ◌≤◌, false};
 
 use super::examples::UNTIL;
-use super::{deposit_of, desk_over, extract_of, is_receipt, name_of};
+use super::{Line, deposit_of, desk_over, extract_of, is_listing, is_receipt, list_of, name_of};
 use crate::{Answer, Desk, Request};
 use ags_check::{CheckError, check};
 use ags_dict::{DictError, Dictionary};
@@ -227,30 +227,42 @@ fn is_refused(answer: &Answer) -> bool {
     name_of(answer) == "out of memory"
 }
 
-/// How many of the answers to a deposit and its extract are want of memory; none where another is not the machine's.
-fn wants_of(deposit: &Answer, extract: &Answer, held: bool) -> Option<u32> {
-    if is_refused(deposit) {
-        return if is_extract(extract, held) {
-            Some(1)
-        } else {
-            None
-        };
+/// The first file's deposit in a listing.
+const ONE: &[Line] = &[Line(1, "Delta", UNTIL)];
+
+/// Whether it lists that, where it is held, and else none.
+fn is_listed(answer: &Answer, held: bool) -> bool {
+    if held {
+        is_listing(answer, ONE)
+    } else {
+        is_listing(answer, &[])
     }
-    if !is_receipt(deposit, 1, UNTIL) {
-        None
-    } else if is_refused(extract) {
+}
+
+/// 1 where it is want of memory, 0 where it is the machine's, and else none.
+fn want_of(answer: &Answer, right: bool) -> Option<u32> {
+    if is_refused(answer) {
         Some(1)
-    } else if is_extract(extract, true) {
+    } else if right {
         Some(0)
     } else {
         None
     }
 }
 
+/// How many of the answers to a deposit, a list and an extract are want of memory; none where another is not the machine's.
+fn wants_of(deposit: &Answer, listing: &Answer, extract: &Answer, held: bool) -> Option<u32> {
+    let taken = want_of(deposit, is_receipt(deposit, 1, UNTIL))?;
+    let held = held || taken == 0;
+    let listed = want_of(listing, is_listed(listing, held))?;
+    let drawn = want_of(extract, is_extract(extract, held))?;
+    Some(taken.saturating_add(listed).saturating_add(drawn))
+}
+
 /// The same of a run.
 fn wants(answers: &[Answer], held: bool) -> Option<u32> {
     match answers {
-        [deposit, extract] => wants_of(deposit, extract, held),
+        [deposit, listing, extract] => wants_of(deposit, listing, extract, held),
         _ => None,
     }
 }
@@ -265,7 +277,7 @@ fn asks<K: Keep>(alloc: Global, desk: &mut Desk<K>, requests: &[Request]) -> Opt
     }
 }
 
-/// The same of three such runs: Delta deposits the first file and Echo draws it.
+/// The same of three such runs: Delta deposits the first file, and Echo lists and draws it.
 fn asks_thrice<K: Keep>(
     alloc: Global,
     desk: &mut Desk<K>,
@@ -277,6 +289,7 @@ fn asks_thrice<K: Keep>(
     let day = Day::read(UNTIL)?;
     let requests = [
         deposit_of(delta, project, day, FILE_A, day),
+        list_of(echo, project, day),
         extract_of(echo, project, 1, &[], day),
     ];
     let mut refused = 0u32;

@@ -6,7 +6,7 @@ use ags_check::Checked;
 use ags_dict::Dictionary;
 use ags_links::Graph;
 use reg_policy::{Day, Name};
-use reg_store::{Keep, KeepError, Kept, KeptHead, KeptRow, PlainKeep};
+use reg_store::{Keep, KeepError, Kept, KeptHead, KeptRow, PlainKeep, ProjectRow};
 
 /// A keep in memory that answers `Store` where its body is asked for, and at the call after so many other calls.
 #[derive(Drop)]
@@ -113,6 +113,20 @@ impl Keep for Refusing {
             return Err(KeepError::Store);
         }
         self.keep.steps(n)
+    }
+
+    fn project_row(&mut self, n: u32) -> Result<Option<ProjectRow>, KeepError> {
+        if self.fails() {
+            return Err(KeepError::Store);
+        }
+        self.keep.project_row(n)
+    }
+
+    fn targets(&mut self, n: u32, row: u32) -> Result<Vec<u32>, KeepError> {
+        if self.fails() {
+            return Err(KeepError::Store);
+        }
+        self.keep.targets(n, row)
     }
 
     fn count(&self) -> u32 {
