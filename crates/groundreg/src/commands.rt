@@ -26,7 +26,7 @@ use reg_desk::{Desk, Request};
 use reg_http::{groups_listed, number_of_deposit};
 use reg_policy::{Caller, Callers, Day, Name, NameError, Policy};
 use reg_store::{CreateError, Keep, SqlKeep};
-use sqlite::{File, FileStore};
+use sqlite::{Alter, File, FileStore};
 use std::alloc::Global;
 use std::convert::AsStr;
 use std::fs;
@@ -342,10 +342,24 @@ fn ask_store<'w, W: Write>(
     out: &mut Watched<W>,
 ) -> Result<u8, Refusal<'w>> {
     let keep = open_store(rt, alloc, store)?;
+    ask_tables(alloc, keep, policy, session, task, out)
+}
+
+/// Asks the desk of a keep in tables, of any store: named over the one of a file, `SqlKeep` would have to be shown to be a keep at length.
+fn ask_tables<'w, S: Alter + Drop, W: Write>(
+    alloc: Global,
+    keep: SqlKeep<S>,
+    policy: Policy,
+    session: &Session<'_>,
+    task: &Task<'_>,
+    out: &mut Watched<W>,
+) -> Result<u8, Refusal<'w>>
+    requires { keep.has_failed ≡ false }
+{
     ask_keep(alloc, keep, policy, session, task, out)
 }
 
-/// Asks the desk of a keep. What speaks of the keep stands here, for any keep: over the one of a file it would be proved at each place anew, at length.
+/// Asks the desk of a keep. What speaks of the keep stands here, for any keep: over one in tables it would be proved at each place anew.
 fn ask_keep<'w, K: Keep + Drop, W: Write>(
     alloc: Global,
     keep: K,

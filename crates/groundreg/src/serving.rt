@@ -12,7 +12,8 @@ use itoa::Buffer;
 use reg_desk::Desk;
 use reg_http::{Tally, serve_one};
 use reg_policy::{Callers, Day, Policy};
-use reg_store::Keep;
+use reg_store::{Keep, SqlKeep};
+use sqlite::Alter;
 use std::alloc::Global;
 use std::io::Write;
 use std::net::{Shutdown, TcpListener, TcpStream};
@@ -90,7 +91,23 @@ pub(crate) fn serve<'w, W: Write>(
     let callers = read_callers(rt, alloc, service.callers)?;
     let day = day_or(service.day, today)?;
     let keep = open_store(rt, alloc, service.store)?;
-    serve_keep(rt, alloc, keep, policy, &callers, day, service, out)
+    serve_tables(rt, alloc, keep, policy, &callers, day, service, out)
+}
+
+/// Serves from a keep in tables, of any store: named over the one of a file, `SqlKeep` would have to be shown to be a keep at length.
+fn serve_tables<'w, S: Alter + Drop, W: Write>(
+    rt: &HostRuntime,
+    alloc: Global,
+    keep: SqlKeep<S>,
+    policy: Policy,
+    callers: &Callers,
+    day: Day,
+    service: &Service<'w>,
+    out: &mut Watched<W>,
+) -> Result<u8, Refusal<'w>>
+    requires { keep.has_failed ≡ false }
+{
+    serve_keep(rt, alloc, keep, policy, callers, day, service, out)
 }
 
 /// Listens, and serves from a keep.
