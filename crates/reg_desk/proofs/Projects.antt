@@ -1,5 +1,5 @@
 -- What the row of PROJ says by itself of whether it is shown.
-use Rattle.std.proofs.Common.{◌≡◌, ℕ, zero, suc, ◌+◌, ◌<◌, Bool, true, false, if◌then◌else◌, Option, Some, None, List, [], ◌∷◌, map, filter, Contains, inl, inr, ◌↔◌, refl, sym, ap, subst, ◌∙◌, arith}
+use Rattle.std.proofs.Common.{◌≡◌, ℕ, zero, suc, ◌+◌, ◌<◌, Bool, true, false, if◌then◌else◌, Option, Some, None, List, [], ◌∷◌, map, filter, Contains, inl, inr, refl, sym, ap, subst, ◌∙◌, arith}
 use Rattle.std.specs.Prelude.{codes, ◌==◌, ◌-◌, ◌≤◌, slice_get, length}
 use Rattle.std.specs.List.{AllZip}
 use Rattle.std.specs.Str.{bytes_eq}
@@ -14,7 +14,6 @@ use Rattle.ags_links.specs.Steps.{StepAt}
 use Rattle.ags_links.specs.Walks.{IsWalk}
 use Rattle.ags_links.proofs.Lemmas.{one_at, at_map, row_of_group, reach_itself, contains_cons}
 use Rattle.ags_check.specs.Findings.{CheckedFile, IsClean, file_of}
-use Rattle.ags_check.specs.Keeping.{KeepsHeaders}
 use Rattle.reg_store.specs.Deposit.{Deposit}
 use Rattle.reg_store.specs.Fit.{IsFileOf, kept_rows}
 use Rattle.reg_store.specs.Project.{project_from, project_of, targets_of}
@@ -22,7 +21,7 @@ use Rattle.reg_store.specs.declared.keep.Keep.{Ghosts}
 use Rattle.reg_store.specs.declared.keep.KeptRow.{KeptRow}
 use Rattle.reg_store.specs.declared.keep.ProjectRow.{ProjectRow}
 use Rattle.reg_desk.specs.Serving.{OfFile, OnlyReads}
-use Rattle.reg_desk.specs.Shown.{Look, IsPermitted, IsPermittedAt, IsProjectShown}
+use Rattle.reg_desk.specs.Shown.{Look, IsPermitted, IsPermittedAt}
 use Rattle.reg_desk.specs.View.{IsLineOf, IsOpen, IsUnreadable, MayBeSeen, Sees, is_only, plain_lines, plain_row, project_line}
 use Rattle.reg_desk.proofs.Bridges.{HasAt, IsOfProject, at_first, at_later, of_first, of_later, lines_spelled}
 use Rattle.reg_desk.proofs.Clean.{clean_formed, clean_keeps}

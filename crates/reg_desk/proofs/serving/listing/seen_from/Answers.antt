@@ -1,6 +1,5 @@
-use Rattle.std.proofs.Common.{◌≡◌, ◌∙◌, Bool, List, ℕ, ap, subst, sym, true}
+use Rattle.std.proofs.Common.{◌≡◌, ◌∙◌, Bool, List, ℕ, subst, sym, true}
 use Rattle.std.proofs.lemmas.Result.{IfOk-weaker}
-use Rattle.reg_desk.specs.Serving.{OfFile}
 use Rattle.reg_desk.specs.View.{Sees, is_only, look_of}
 use Rattle.reg_desk.proofs.Serves.{reads_once}
 use Rattle.reg_desk.proofs.Projects.{of_file_before, sees_shown}

@@ -1,4 +1,4 @@
-use Rattle.std.proofs.Common.{Bool, Some, None, Option, ℕ, subst}
+use Rattle.std.proofs.Common.{Bool, Some, Option, ℕ, subst}
 use Rattle.std.proofs.lemmas.Result.{IfOk-weaker}
 use Rattle.reg_desk.specs.View.{IsOpen, Sees, look_of}
 use Rattle.reg_desk.proofs.Projects.{of_file_before, of_file_after, sees_hidden}
