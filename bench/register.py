@@ -16,6 +16,7 @@ WORDS = ["--store", "register", "--policy", f"{SAMPLES}/policy.toml", "--callers
 ASKING = [*WORDS, "--token", "t-delta", "--project", "N1", "--day", "2024-06-01"]
 FIELDS = "HTTP/1.1\r\nAuthorization: Bearer t-delta\r\n"
 REQUESTS = 300
+MANY = 10000
 
 
 class Place:
@@ -118,6 +119,33 @@ def small(number):
         return file.read().replace(b"North bank", b"Site %d" % number)
 
 
+def hundred(length):
+    """A hundred deposits of about so many bytes."""
+    text = files.deep(length)
+    return [post(text.replace(b"North bank", b"Site %02d" % n)) for n in range(100)]
+
+
+def grown(program, folder, limit, size):
+    """What a deposit of 1 kB and a listing take in registers of many deposits and of large ones: each served from the empty register, in one run of the program."""
+    asked = f"GET /v1/projects/N1/deposits {FIELDS}\r\n".encode()
+    print("\n| A register of | the last 100 deposits, ms each | 10 listings, ms each |\n|---|---|---|")
+    for name, requests in (("100 of 1 kB", [post(small(n)) for n in range(100)]), (f"{MANY} of 1 kB", [post(small(n)) for n in range(MANY)]),
+                           (f"100 of {size // 400} bytes", hundred(size // 400)), (f"100 of {size // 4} bytes", hundred(size // 4))):
+        place = Place(program, folder, limit)
+        port = bodies.free_port()
+        serving = subprocess.Popen([program, "serve", *WORDS, "--port", str(port), "--connections", str(len(requests) + 10), "--day", "2024-06-01"], cwd=folder,
+                                   stdout=subprocess.PIPE, preexec_fn=limit)
+        serving.stdout.readline()
+        if requests[100:]:
+            ask(port, requests[:-100])
+        added, _ = ask(port, requests[-100:])
+        listed, reply = ask(port, [asked] * 10)
+        serving.communicate()
+        if reply.count(b'"number"') != len(requests):
+            sys.exit(f"a listing has {reply.count(b'number')} lines, and not {len(requests)}")
+        print(f"| {name} | {1000 * added / 100:.1f} | {1000 * listed / 10:.1f} |", flush=True)
+
+
 def measure(program, size, limit):
     folder = tempfile.mkdtemp(prefix="bench")
     print("\n| File | Bytes | deposit | list | extract | Register, bytes | SQLite writes the rows | reads them | its bytes |\n|---|---|---|---|---|---|---|---|---|")
@@ -144,6 +172,7 @@ def measure(program, size, limit):
         beside = f"{len(requests) / answered_plainly(plain, tools, requests, reply):.1f}" if plain else "-"
         print(f"| {name} | {len(requests) / taken:.1f} | {beside} |", flush=True)
     shutil.rmtree(tools)
+    grown(program, folder, limit, size)
     place = Place(program, folder, limit)
     text = files.deep(size // 4)
     taken, _ = place.serve([post(text.replace(b"North bank", b"Site %02d" % n)) for n in range(100)])
