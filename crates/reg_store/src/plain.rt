@@ -3,13 +3,14 @@
 ghost use Rattle.std.specs.Prelude.{◌≡◌, ◌<◌, ◌≤◌, ℤ, List, [], IfOk, All, false, ⊤, length, map, refl};
 ghost use Rattle.ags_check.specs.Findings.{CheckedFile};
 ghost use Rattle.reg_store.specs.Keep.{deposit_of, IsHeadOf};
-ghost use Rattle.reg_store.specs.Deposit.{is_repeat, number_of, numbers_from};
+ghost use Rattle.reg_store.specs.Deposit.{number_of, numbers_from};
 ghost use Rattle.reg_store.specs.Fit.{IsFit, IsFileOf, kept_rows as rows_in};
 ghost use Rattle.reg_store.specs.Project.{project_of, targets_of};
 ghost use Rattle.reg_store.specs.PlainLaws.{few_of, fit_of};
 
 use crate::keep::{Keep, KeepError, Kept, KeptHead, KeptRow, ProjectRow};
 use crate::project::{project_in, targets_in};
+use crate::repeats::is_equal;
 use crate::rows::kept_rows;
 use crate::sql::MOST;
 use ags_check::{CheckError, Checked, check};
@@ -98,13 +99,6 @@ fn copy_graph(alloc: Global, graph: &Graph) -> Result<Graph, AllocError>
         Some(copied) => Ok(copied),
         None => unreachable!(),
     }
-}
-
-/// Whether a deposit is equal in firm, project and bytes.
-fn is_equal(kept: &Kept, firm: &Name, project: &Name, bytes: &[u8]) -> bool
-    ensures { result ≡ is_repeat firm.now project.now bytes.now (deposit_of kept.now) }
-{
-    kept.firm == *firm && kept.project == *project && kept.bytes.as_slice() == bytes
 }
 
 /// The number of the first equal deposit, from 1.

@@ -102,7 +102,7 @@ pub(crate) fn digest_of(firm: &Name, project: &Name, bytes: &[u8]) -> [u8; 32]
 }
 
 /// Whether a deposit is equal in firm, project and bytes.
-fn is_equal(kept: &Kept, firm: &Name, project: &Name, bytes: &[u8]) -> bool
+pub(crate) fn is_equal(kept: &Kept, firm: &Name, project: &Name, bytes: &[u8]) -> bool
     ensures { result ≡ is_repeat firm.now project.now bytes.now (deposit_of kept.now) }
 {
     kept.firm == *firm && kept.project == *project && kept.bytes.as_slice() == bytes
