@@ -23,11 +23,14 @@ use Rattle.ags_links.proofs.RowLemmas.{at_map, one_at}
 use Rattle.ags_links.proofs.Spelled.{key_text_same}
 
 -- what is made of two lists alike is so at each place
-pub same_at : {X Y : Type 0} (f g : X → Y) (xs ys : List X) (i : ℕ) (x y : X) → map f xs ≡ map g ys → IsAt xs i x → IsAt ys i y → f x ≡ g y
+pub same_at : {X Y Z : Type 0} (f : X → Z) (g : Y → Z) (xs : List X) (ys : List Y) (i : ℕ) (x : X) (y : Y) → map f xs ≡ map g ys → IsAt xs i x → IsAt ys i y → f x ≡ g y
 same_at f g xs ys i x y same at also = one_at (map g ys) i (f x) (g y) (subst (λ l. IsAt l i (f x)) same (at_map f xs i x at)) (at_map g ys i y also)
 
 pub unequal : (x y : List ℕ) (t : Bool) → t ≡ not (bytes_eq x y) → t ≡ true → x ≡ y → ⊥
 unequal x y t e is same = true≢false (sym is ∙ e ∙ ap not ((bytes_eq-Decides x y).1 same))
+
+pub apart : (x y : List ℕ) (t : Bool) → t ≡ bytes_eq x y → t ≡ false → x ≡ y → ⊥
+apart x y t e is same = true≢false (sym ((bytes_eq-Decides x y).1 same) ∙ sym e ∙ is)
 
 -- a row whose entries do not agree does not have the text
 pub has_no_text : (entries : Entries) (families : List Family) (rows : List PlacedRow) (n place : ℕ) (x y : PlacedRow) (family : Family) (places stood : List (Option ℕ)) (names : List (List ℕ)) (t : Bool) → All (HasFamily entries families) rows → IsAt rows n x
@@ -43,7 +46,21 @@ has_no_text entries families rows n place x y family places stood names t have a
       true≢false (sym (agree (sym alike ∙ sym entries_of)) ∙ fails)
 ]
 
+-- a row that has the text has its first entry
+pub first_entry : (names : List (List ℕ)) (places : List (Option ℕ)) (x y : PlacedRow) (name : List ℕ) (place : Option ℕ) → IsAt names 0 name → IsAt places 0 place → HasEntries names (row_of x) (text_at places y)
+    → entry_of (row_of x) name ≡ field_at (row_of y).fields place
+first_entry names places x y name place named placed has =
+    same_at (entry_of (row_of x)) (field_at (row_of y).fields) names places 0 name place (key_text_same (map (entry_of (row_of x)) names) (map (field_at (row_of y).fields) places) has) named placed
+
 module _ (rows : List DataRow) (numbers : List ℕ) (headings : List (List ℕ)) (text : List ℕ) where
+  -- all are chosen
+  pub chosen_whole : (chosen : List ℕ) → chosen ≡ numbers → IsStrictlyIncreasing numbers → AreCandidates rows numbers headings text chosen
+  chosen_whole chosen e rises = subst (AreCandidates rows numbers headings text) (sym e) (record {
+    rising = rises;
+    among = λ n h. h;
+    all = λ n s h row has. h;
+  })
+
   pub none_chosen : (chosen : List ℕ) → chosen ≡ [] → AreCandidates rows [] headings text chosen
   none_chosen chosen e = record {
     rising = subst IsStrictlyIncreasing (sym e) rising_nil;

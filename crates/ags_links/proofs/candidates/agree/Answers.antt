@@ -3,7 +3,7 @@ use Rattle.ags_rows.specs.Contents.{field_at}
 use Rattle.ags_links.specs.Placing.{row_of}
 use Rattle.ags_links.proofs.Choosing.{same_at, unequal}
 use Rattle.ags_links.proofs.RowLemmas.{read_at}
-use Rattle.ags_links.proofs.parents.agree.Goals as goal
+use Rattle.ags_links.proofs.candidates.agree.Goals as goal
 
 -- they differ at a place
 pub returns-then-ne : goal.returns-then-ne

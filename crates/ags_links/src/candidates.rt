@@ -1,0 +1,115 @@
+//! Those of the rows of a parent group that may be parent rows of one row.
+
+ghost use Rattle.std.specs.Prelude.{◌≡◌, ◌<◌, All, IfOk, IsTrue, length, map};
+ghost use Rattle.ags_rows.specs.Contents.{field_at};
+ghost use Rattle.ags_links.specs.EntryLists.{IsEntryList, AreFirstEntries};
+ghost use Rattle.ags_links.specs.Families.{HasFamily};
+ghost use Rattle.ags_links.specs.ParentRows.{link_names, text_at, AreNumbers, AreCandidates};
+ghost use Rattle.ags_links.specs.Placing.{row_of};
+
+use crate::entry_lists::{EntryLists, first_entries};
+use crate::families::{Family, places_of};
+use crate::parents::ParentLinks;
+use crate::placed::{PlacedRow, field};
+use ags_dict::Dictionary;
+use std::alloc::{AllocError, Global};
+
+/// Whether two rows have equal entries at these places.
+fn agree(
+    row: &PlacedRow<'_, '_>,
+    places: &[Option<usize>],
+    other: &PlacedRow<'_, '_>,
+    other_places: &[Option<usize>],
+) -> bool
+    ensures { map (field_at (row_of row.now).fields) places.now ≡ map (field_at (row_of other.now).fields) other_places.now → IsTrue result }
+{
+    let count = places.len().min(other_places.len());
+    for index in 0..count {
+        let here = places[index];
+        let there = other_places[index];
+        let entry = field(row, here);
+        let other_entry = field(other, there);
+        if entry != other_entry {
+            return false;
+        }
+    }
+    true
+}
+
+/// Whether the other row is not of the group at this place, or agrees with the row.
+fn may_be_parent(
+    row: &PlacedRow<'_, '_>,
+    places: &[Option<usize>],
+    other: &PlacedRow<'_, '_>,
+    place: usize,
+    other_places: &[Option<usize>],
+) -> bool
+    ensures apart { (other.now.place ≡ place → ⊥) → IsTrue result }
+    ensures agree { map (field_at (row_of row.now).fields) places.now ≡ map (field_at (row_of other.now).fields) other_places.now → IsTrue result }
+{
+    other.place != place || agree(row, places, other, other_places)
+}
+
+/// Those of the rows of the parent group that may be parent rows of this row: of those that have its first entry, those
+/// that agree with it, and those of other groups of that name.
+fn candidates_among(
+    alloc: Global,
+    dictionary: &Dictionary,
+    rows: &[PlacedRow<'_, '_>],
+    families: &[Family<'_, '_>],
+    links: &ParentLinks<'_, '_>,
+    entries: &[&[u8]],
+    row: &PlacedRow<'_, '_>,
+    places: &[Option<usize>],
+) -> Result<Vec<u32>, AllocError>
+    requires kept { All (HasFamily dictionary.now families.now) rows.now }
+    requires numbers { AreNumbers (length rows.now) links.now }
+    requires entries { AreFirstEntries rows.now links.now entries.now }
+    requires places { 0 < length places.now }
+    ensures { IfOk result (λ chosen. AreCandidates (map row_of rows.now) links.now.rows.now (link_names links.now) (text_at places.now row.now) chosen.items) }
+{
+    let numbers = links.rows;
+    let start = numbers[0] as usize;
+    let first = &rows[start];
+    let stood = places_of(alloc, &families[first.place].headings, &links.headings)?;
+    let asked = field(row, places[0]);
+    let mut chosen = Vec::new(alloc);
+    for (place, number) in numbers.iter().enumerate() {
+        let other = &rows[*number as usize];
+        if entries[place] == asked && may_be_parent(row, places, other, first.place, &stood) {
+            chosen.push(*number)?;
+        }
+    }
+    Ok(chosen)
+}
+
+/// Those of the rows of the parent group that may be parent rows of this row: all where there is no list of their
+/// entries, as where there is no link heading.
+pub(crate) fn candidates<'s>(
+    alloc: Global,
+    dictionary: &Dictionary,
+    rows: &[PlacedRow<'_, '_>],
+    families: &[Family<'_, '_>],
+    links: &ParentLinks<'_, 's>,
+    lists: &EntryLists<'_, 's>,
+    row: &PlacedRow<'_, '_>,
+    places: &[Option<usize>],
+) -> Result<Vec<u32>, AllocError>
+    requires kept { All (HasFamily dictionary.now families.now) rows.now }
+    requires numbers { AreNumbers (length rows.now) links.now }
+    requires lists { All (IsEntryList rows.now) lists.now.lists.items }
+    ensures { IfOk result (λ chosen. AreCandidates (map row_of rows.now) links.now.rows.now (link_names links.now) (text_at places.now row.now) chosen.items) }
+{
+    if places.is_empty() {
+        return Vec::from_slice(alloc, links.rows);
+    }
+    match first_entries(rows, lists, links) {
+        Some(entries) => {
+            let some = candidates_among(
+                alloc, dictionary, rows, families, links, entries, row, places,
+            )?;
+            Ok(some)
+        }
+        None => Vec::from_slice(alloc, links.rows),
+    }
+}
