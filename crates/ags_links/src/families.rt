@@ -100,7 +100,7 @@ pub(crate) fn rows_by_group(alloc: Global, rows: &[PlacedRow<'_, '_>]) -> Result
     requires { length rows.now < 2 ^ 32 }
     ensures { IfOk result (λ lookup. Finds lookup (HasText (map row_of rows.now) HasGroupName)) }
 {
-    let mut pairs = Vec::new(alloc);
+    let mut pairs = Vec::with_capacity(alloc, rows.len())?;
     for (number, row) in rows.iter().enumerate() {
         let group = row.group;
         let name = Vec::from_slice(alloc, group.name.as_slice())?;
@@ -120,7 +120,7 @@ pub(crate) fn rows_by_key(
     requires kept { All (HasFamily dictionary.now families.now) rows.now }
     ensures { IfOk result (λ lookup. Finds lookup (HasText (map row_of rows.now) (HasKeyText dictionary.now))) }
 {
-    let mut pairs = Vec::new(alloc);
+    let mut pairs = Vec::with_capacity(alloc, rows.len())?;
     let mut entries = Vec::new(alloc);
     for (number, row) in rows.iter().enumerate() {
         entries.clear();

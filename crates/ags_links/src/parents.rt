@@ -196,7 +196,7 @@ fn rows_by_entries(
     requires rising { IsStrictlyIncreasing numbers.now }
     ensures { IfOk result (λ lookup. Finds lookup (HasAmong numbers.now (map row_of rows.now) (HasEntries (map (λ h. h.now) headings.now)))) }
 {
-    let mut pairs = Vec::new(alloc);
+    let mut pairs = Vec::with_capacity(alloc, numbers.len())?;
     let mut entries = Vec::new(alloc);
     for number in numbers {
         let row = &rows[*number as usize];
@@ -414,7 +414,7 @@ pub(crate) fn parent_spans(
     requires { All (HasLookup parents.now) rows.now }
     ensures { IfOk result (λ spans. AreParentSpans rows.now parents.now spans.items) }
 {
-    let mut spans = Vec::new(alloc);
+    let mut spans = Vec::with_capacity(alloc, rows.len())?;
     let mut text = Vec::new(alloc);
     let mut near = 0;
     for row in rows {

@@ -53,9 +53,9 @@ pub(crate) fn place_rows<'s, 'f>(
     ensures few { IfOk result (λ rows. length rows.items < 2 ^ 32) }
 {
     // the scan counts them with a number below 2 ^ 32
-    scan.row_count();
+    let count = scan.row_count();
     let groups = scan.groups();
-    let mut rows = Vec::new(alloc);
+    let mut rows = Vec::with_capacity(alloc, count as usize)?;
     for place in 0..groups.len() {
         place_group(groups, place, &mut rows)?;
     }
