@@ -1,5 +1,5 @@
 -- Those of the rows of a parent group that may be parent rows of one row.
-use Rattle.std.proofs.Common.{◌≡◌, ℕ, ◌+◌, ◌<◌, ◌≤◌, Bool, true, false, not, Option, List, [], ◌∷◌, ◌++◌, length, take, get_or, map, sym, ap, subst, ◌∙◌, arith, inl, inr, ◌⊎◌, Contains, All}
+use Rattle.std.proofs.Common.{◌≡◌, ℕ, ◌+◌, ◌<◌, ◌≤◌, Bool, true, false, not, Option, List, [], ◌∷◌, ◌++◌, length, take, get_or, map, sym, ap, subst, ◌∙◌, arith, inl, inr, Contains, All}
 use Rattle.std.specs.Str.{bytes_eq}
 use Rattle.std.proofs.lemmas.Bool.{true≢false, cases_eq}
 use Rattle.std.proofs.lemmas.Slice.Eq.{bytes_eq-Decides}
@@ -8,7 +8,7 @@ use Rattle.ags_dict.specs.Entries.{Entries}
 use Rattle.ags_links.specs.declared.families.Family.{Family}
 use Rattle.ags_links.specs.declared.placed.PlacedRow.{PlacedRow}
 use Rattle.std.specs.List.Sorted.{IsStrictlyIncreasing}
-use Rattle.std.proofs.lemmas.List.{take_more, take_all}
+use Rattle.std.proofs.lemmas.List.{take_more, take_all, length-map}
 use Rattle.std.proofs.lemmas.List.Elements.{Contains-get_or, Contains-push, Contains-push_cases, Contains-append_left}
 use Rattle.ags_links.specs.DataRows.{DataRow, IsAt, IsDataRow, entry_of}
 use Rattle.ags_links.specs.Families.{HasAmong, HasEntries, HasFamily}
@@ -19,7 +19,7 @@ use Rattle.ags_links.proofs.Finding.{before_next, finds_asked}
 use Rattle.ags_links.proofs.Rising.{rising_nil, rising_push}
 use Rattle.ags_links.proofs.Heading.{entries_at}
 use Rattle.ags_links.proofs.Kept.{kept_family}
-use Rattle.ags_links.proofs.RowLemmas.{at_map, one_at}
+use Rattle.ags_links.proofs.RowLemmas.{at_map, one_at, some_at}
 use Rattle.ags_links.proofs.Spelled.{key_text_same}
 
 -- what is made of two lists alike is so at each place
@@ -28,9 +28,6 @@ same_at f g xs ys i x y same at also = one_at (map g ys) i (f x) (g y) (subst (�
 
 pub unequal : (x y : List ℕ) (t : Bool) → t ≡ not (bytes_eq x y) → t ≡ true → x ≡ y → ⊥
 unequal x y t e is same = true≢false (sym is ∙ e ∙ ap not ((bytes_eq-Decides x y).1 same))
-
-pub apart : (x y : List ℕ) (t : Bool) → t ≡ bytes_eq x y → t ≡ false → x ≡ y → ⊥
-apart x y t e is same = true≢false (sym ((bytes_eq-Decides x y).1 same) ∙ sym e ∙ is)
 
 -- a row whose entries do not agree does not have the text
 pub has_no_text : (entries : Entries) (families : List Family) (rows : List PlacedRow) (n place : ℕ) (x y : PlacedRow) (family : Family) (places stood : List (Option ℕ)) (names : List (List ℕ)) (t : Bool) → All (HasFamily entries families) rows → IsAt rows n x
@@ -47,10 +44,12 @@ has_no_text entries families rows n place x y family places stood names t have a
 ]
 
 -- a row that has the text has its first entry
-pub first_entry : (names : List (List ℕ)) (places : List (Option ℕ)) (x y : PlacedRow) (name : List ℕ) (place : Option ℕ) → IsAt names 0 name → IsAt places 0 place → HasEntries names (row_of x) (text_at places y)
-    → entry_of (row_of x) name ≡ field_at (row_of y).fields place
-first_entry names places x y name place named placed has =
-    same_at (entry_of (row_of x)) (field_at (row_of y).fields) names places 0 name place (key_text_same (map (entry_of (row_of x)) names) (map (field_at (row_of y).fields) places) has) named placed
+pub first_entry : (names : List (List ℕ)) (places : List (Option ℕ)) (x y : PlacedRow) (place : Option ℕ) → IsAt places 0 place → HasEntries names (row_of x) (text_at places y)
+    → (name : List ℕ) × IsAt names 0 name × (entry_of (row_of x) name ≡ field_at (row_of y).fields place)
+first_entry names places x y place placed has =
+    let same = key_text_same (map (entry_of (row_of x)) names) (map (field_at (row_of y).fields) places) has in
+    let name = some_at names 0 (omega (arith, placed.0, ap length same, length-map names (entry_of (row_of x)), length-map places (field_at (row_of y).fields))) in
+    (name.0, name.1, same_at (entry_of (row_of x)) (field_at (row_of y).fields) names places 0 name.0 place same name.1 placed)
 
 module _ (rows : List DataRow) (numbers : List ℕ) (headings : List (List ℕ)) (text : List ℕ) where
   -- all are chosen

@@ -1,5 +1,5 @@
 -- The entries of the rows of a parent group under its first link heading, for the look-ups that one row uses.
-use Rattle.std.specs.Prelude.{◌≡◌, ◌<◌, ℕ, List, length}
+use Rattle.std.specs.Prelude.{◌≡◌, ℕ, List}
 use Rattle.std.specs.Borrow.{Bor}
 use Rattle.ags_links.specs.declared.entry_lists.EntryList.{EntryList}
 use Rattle.ags_links.specs.declared.parents.ParentLinks.{ParentLinks}
@@ -20,9 +20,7 @@ AreEntries rows numbers heading entries = AreKept numbers entries (λ place. IsE
 abbrev pub IsEntryList : List PlacedRow → EntryList → Type 0
 IsEntryList rows list = AreEntries rows list.rows.now list.heading.now list.entries.items
 
--- there are rows of the parent group and link headings, and these are the entries of the rows under the first of the headings
-pub record AreFirstEntries (rows : List PlacedRow) (links : ParentLinks) (entries : List (Bor (List ℕ))) : Type 0 where
-  pub heading : List ℕ
-  pub some : 0 < length links.rows.now
-  pub first : IsAt (link_names links) 0 heading
-  pub are : AreEntries rows links.rows.now heading entries
+-- what stands in the list at the place of a row of the parent group is what stands in that row under the first link heading
+abbrev pub AreFirstEntries : List PlacedRow → ParentLinks → List (Bor (List ℕ)) → Type 0
+AreFirstEntries rows links entries = (place n : ℕ) (entry : Bor (List ℕ)) (row : PlacedRow) (name : List ℕ) → IsAt entries place entry → IsAt links.rows.now place n → IsAt rows n row → IsAt (link_names links) 0 name
+    → entry.now ≡ entry_of (row_of row) name

@@ -1,7 +1,9 @@
 //! Those of the rows of a parent group that may be parent rows of one row.
 
-ghost use Rattle.std.specs.Prelude.{◌≡◌, ◌<◌, All, IfOk, IsTrue, length, map};
+ghost use Rattle.std.specs.Prelude.{◌≡◌, ℕ, List, All, IfOk, IfSome, IsTrue, length, map};
+ghost use Rattle.std.specs.Borrow.{Bor};
 ghost use Rattle.ags_rows.specs.Contents.{field_at};
+ghost use Rattle.ags_links.specs.DataRows.{IsAt};
 ghost use Rattle.ags_links.specs.EntryLists.{IsEntryList, AreFirstEntries};
 ghost use Rattle.ags_links.specs.Families.{HasFamily};
 ghost use Rattle.ags_links.specs.ParentRows.{link_names, text_at, AreNumbers, AreCandidates};
@@ -50,41 +52,18 @@ fn may_be_parent(
     other.place != place || agree(row, places, other, other_places)
 }
 
-/// Those of the rows of the parent group that may be parent rows of this row: of those that have its first entry, those
-/// that agree with it, and those of other groups of that name.
-fn candidates_among(
-    alloc: Global,
-    dictionary: &Dictionary,
-    rows: &[PlacedRow<'_, '_>],
-    families: &[Family<'_, '_>],
-    links: &ParentLinks<'_, '_>,
-    entries: &[&[u8]],
-    row: &PlacedRow<'_, '_>,
-    places: &[Option<usize>],
-) -> Result<Vec<u32>, AllocError>
-    requires kept { All (HasFamily dictionary.now families.now) rows.now }
-    requires numbers { AreNumbers (length rows.now) links.now }
-    requires entries { AreFirstEntries rows.now links.now entries.now }
-    requires places { 0 < length places.now }
-    ensures { IfOk result (λ chosen. AreCandidates (map row_of rows.now) links.now.rows.now (link_names links.now) (text_at places.now row.now) chosen.items) }
+/// Whether the entry at the place is the one that is asked for, where there is a list.
+fn may_have(entries: Option<&[&[u8]]>, place: usize, asked: &[u8]) -> bool
+    ensures { IfSome entries.entry (λ list. (entry : Bor (List ℕ)) → IsAt list.now place entry → entry.now ≡ asked.now) → IsTrue result }
 {
-    let numbers = links.rows;
-    let start = numbers[0] as usize;
-    let first = &rows[start];
-    let stood = places_of(alloc, &families[first.place].headings, &links.headings)?;
-    let asked = field(row, places[0]);
-    let mut chosen = Vec::new(alloc);
-    for (place, number) in numbers.iter().enumerate() {
-        let other = &rows[*number as usize];
-        if entries[place] == asked && may_be_parent(row, places, other, first.place, &stood) {
-            chosen.push(*number)?;
-        }
+    match entries {
+        Some(list) => place >= list.len() || list[place] == asked,
+        None => true,
     }
-    Ok(chosen)
 }
 
-/// Those of the rows of the parent group that may be parent rows of this row: all where there is no list of their
-/// entries, as where there is no link heading.
+/// Those of the rows of the parent group that may be parent rows of this row: those that agree with it, and those of
+/// other groups of that name. Where there is a list of first entries, rows with another one are not looked at.
 pub(crate) fn candidates<'s>(
     alloc: Global,
     dictionary: &Dictionary,
@@ -100,16 +79,23 @@ pub(crate) fn candidates<'s>(
     requires lists { All (IsEntryList rows.now) lists.now.lists.items }
     ensures { IfOk result (λ chosen. AreCandidates (map row_of rows.now) links.now.rows.now (link_names links.now) (text_at places.now row.now) chosen.items) }
 {
-    if places.is_empty() {
-        return Vec::from_slice(alloc, links.rows);
+    let numbers = links.rows;
+    if numbers.is_empty() || places.is_empty() {
+        return Vec::from_slice(alloc, numbers);
     }
-    match first_entries(rows, lists, links) {
-        Some(entries) => {
-            let some = candidates_among(
-                alloc, dictionary, rows, families, links, entries, row, places,
-            )?;
-            Ok(some)
+    let start = numbers[0] as usize;
+    let first = &rows[start];
+    let stood = places_of(alloc, &families[first.place].headings, &links.headings)?;
+    let entries = first_entries(rows, lists, links);
+    let asked = field(row, places[0]);
+    let mut chosen = Vec::new(alloc);
+    for (place, number) in numbers.iter().enumerate() {
+        let other = &rows[*number as usize];
+        if may_have(entries, place, asked)
+            && may_be_parent(row, places, other, first.place, &stood)
+        {
+            chosen.push(*number)?;
         }
-        None => Vec::from_slice(alloc, links.rows),
     }
+    Ok(chosen)
 }

@@ -1,6 +1,6 @@
-//! The entries of the rows of a parent group under its first link heading, side by side. A look-up that one row uses goes over
-//! all rows of the parent group, and passes over most of them by such a list, without a look at the rows. Look-ups that
-//! go over the same rows and begin with the same heading share a list.
+//! The entries of the rows of a parent group under its first link heading, side by side. A look-up that one row uses goes
+//! over all rows of the parent group, and by such a list it passes over most of them without a look at the rows.
+//! Look-ups that go over the same rows and begin with the same heading share a list.
 
 ghost use Rattle.std.specs.Prelude.{◌≡◌, ◌<◌, All, IfOk, OnOk, IfSome, IsTrue, length};
 ghost use Rattle.ags_links.specs.EntryLists.{IsEntryList, AreFirstEntries};
@@ -22,12 +22,17 @@ pub(crate) struct EntryList<'l, 's> {
     pub(crate) entries: Vec<&'s [u8]>,
 }
 
-/// Lists of entries, and the place of each by its first row and its heading.
+/// Lists of entries, the place of each by its first row and its heading, and how many more entries there may be.
 #[derive(Drop)]
 pub(crate) struct EntryLists<'l, 's> {
     pub(crate) lists: Vec<EntryList<'l, 's>>,
     pub(crate) places: BTreeMap<(u32, &'s [u8]), usize>,
+    pub(crate) room: usize,
 }
+
+/// How many entries the lists of a file have room for, for each of its rows. A look-up without a list compares the rows
+/// themselves, which takes longer and no memory.
+const ENTRIES_A_ROW: usize = 4;
 
 /// The entries of these rows under the heading.
 fn entry_list<'l, 's>(
@@ -55,7 +60,7 @@ fn entry_list<'l, 's>(
     })
 }
 
-/// Adds the list for these links, unless there is one or they have no rows or no heading.
+/// Adds the list for these links, unless there is one, it has no room, or they have no rows or no heading.
 fn add_list<'l, 's>(
     alloc: Global,
     dictionary: &Dictionary,
@@ -75,12 +80,13 @@ fn add_list<'l, 's>(
     }
     let heading = links.headings[0];
     let key = (numbers[0], heading);
-    if lists.places.contains_key(&key) {
+    if lists.room < numbers.len() || lists.places.contains_key(&key) {
         return Ok(());
     }
     let list = entry_list(alloc, dictionary, rows, families, numbers, heading)?;
     lists.places.insert(key, lists.lists.len())?;
     lists.lists.push(list)?;
+    lists.room -= numbers.len();
     Ok(())
 }
 
@@ -101,6 +107,7 @@ pub(crate) fn entry_lists<'l, 's>(
     let mut lists = EntryLists {
         lists: Vec::new(alloc),
         places: BTreeMap::new(alloc),
+        room: rows.len().saturating_mul(ENTRIES_A_ROW),
     };
     for (place, of_group) in links.iter().enumerate() {
         if let Users::One(_) = users[place] {
@@ -117,8 +124,8 @@ fn is_list_of(list: &EntryList<'_, '_>, numbers: &[u32], heading: &[u8]) -> bool
     list.rows == numbers && list.heading == heading
 }
 
-/// The entries of the rows of the parent group under the first link heading, if there is such a list. The list that is found
-/// has these rows: that it has is looked at, in the time of one walk over it.
+/// The entries of the rows of the parent group under the first link heading, if such a list was made. The list that is
+/// found has these rows: that it has is looked at, in the time of one walk over it.
 pub(crate) fn first_entries<'e, 's>(
     rows: &[PlacedRow<'_, '_>],
     lists: &'e EntryLists<'_, 's>,

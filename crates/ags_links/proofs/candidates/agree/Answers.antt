@@ -1,4 +1,4 @@
-use Rattle.std.proofs.Common.{◌≡◌, ◌∙◌, sym, map, arith}
+use Rattle.std.proofs.Common.{◌∙◌, sym, arith}
 use Rattle.ags_rows.specs.Contents.{field_at}
 use Rattle.ags_links.specs.Placing.{row_of}
 use Rattle.ags_links.proofs.Choosing.{same_at, unequal}

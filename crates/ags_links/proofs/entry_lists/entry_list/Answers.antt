@@ -1,11 +1,11 @@
-use Rattle.std.proofs.Common.{◌≡◌, ◌∙◌, ap, get_or, subst, sym}
+use Rattle.std.proofs.Common.{◌≡◌, ◌∙◌, ap, get_or, sym}
 use Rattle.ags_rows.specs.Contents.{field_at, place_in}
 use Rattle.ags_links.specs.DataRows.{IsAt, entry_of}
 use Rattle.ags_links.specs.declared.families.Family.{Family}
 use Rattle.ags_links.specs.declared.placed.PlacedRow.{PlacedRow}
 use Rattle.ags_links.specs.EntryLists.{IsEntryUnder}
 use Rattle.ags_links.specs.Placing.{row_of}
-use Rattle.ags_links.proofs.Kept.{kept_all, kept_family, kept_next, kept_none}
+use Rattle.ags_links.proofs.Kept.{kept_family, kept_next}
 use Rattle.ags_links.proofs.RowLemmas.{one_at, read_at}
 use Rattle.ags_links.proofs.entry_lists.entry_list.Goals as goal
 

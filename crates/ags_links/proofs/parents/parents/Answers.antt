@@ -1,4 +1,4 @@
-use Rattle.std.proofs.Common.{◌≡◌, sym, subst, map, ap, ◌∙◌, arith, All, List, length}
+use Rattle.std.proofs.Common.{sym, subst, map, ap, ◌∙◌, arith, All, length}
 use Rattle.std.proofs.lemmas.List.{length-map}
 use Rattle.ags_links.specs.Families.{AreKept}
 use Rattle.ags_links.specs.ParentRows.{AreLookups, AreNumbers, AreUsersBelow, HasPlaces, HaveUsers, IsPlacedAt, texts_in}
