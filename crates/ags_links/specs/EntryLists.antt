@@ -21,6 +21,6 @@ abbrev pub IsEntryList : List PlacedRow → EntryList → Type 0
 IsEntryList rows list = AreEntries rows list.rows.now list.heading.now list.entries.items
 
 -- what stands in the list at the place of a row of the parent group is what stands in that row under the first link heading
-abbrev pub AreFirstEntries : List PlacedRow → ParentLinks → List (Bor (List ℕ)) → Type 0
-AreFirstEntries rows links entries = (place n : ℕ) (entry : Bor (List ℕ)) (row : PlacedRow) (name : List ℕ) → IsAt entries place entry → IsAt links.rows.now place n → IsAt rows n row → IsAt (link_names links) 0 name
+abbrev pub AreLeadingEntries : List PlacedRow → ParentLinks → List (Bor (List ℕ)) → Type 0
+AreLeadingEntries rows links entries = (place n : ℕ) (entry : Bor (List ℕ)) (row : PlacedRow) (name : List ℕ) → IsAt entries place entry → IsAt links.rows.now place n → IsAt rows n row → IsAt (link_names links) 0 name
     → entry.now ≡ entry_of (row_of row) name

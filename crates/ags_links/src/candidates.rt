@@ -4,12 +4,12 @@ ghost use Rattle.std.specs.Prelude.{◌≡◌, ℕ, List, All, IfOk, IfSome, IsT
 ghost use Rattle.std.specs.Borrow.{Bor};
 ghost use Rattle.ags_rows.specs.Contents.{field_at};
 ghost use Rattle.ags_links.specs.DataRows.{IsAt};
-ghost use Rattle.ags_links.specs.EntryLists.{IsEntryList, AreFirstEntries};
+ghost use Rattle.ags_links.specs.EntryLists.{IsEntryList, AreLeadingEntries};
 ghost use Rattle.ags_links.specs.Families.{HasFamily};
 ghost use Rattle.ags_links.specs.ParentRows.{link_names, text_at, AreNumbers, AreCandidates};
 ghost use Rattle.ags_links.specs.Placing.{row_of};
 
-use crate::entry_lists::{EntryLists, first_entries};
+use crate::entry_lists::{EntryLists, leading_entries};
 use crate::families::{Family, places_of};
 use crate::parents::ParentLinks;
 use crate::placed::{PlacedRow, field};
@@ -86,7 +86,7 @@ pub(crate) fn candidates<'s>(
     let start = numbers[0] as usize;
     let first = &rows[start];
     let stood = places_of(alloc, &families[first.place].headings, &links.headings)?;
-    let entries = first_entries(rows, lists, links);
+    let entries = leading_entries(rows, lists, links);
     let asked = field(row, places[0]);
     let mut chosen = Vec::new(alloc);
     for (place, number) in numbers.iter().enumerate() {

@@ -3,7 +3,7 @@
 //! Look-ups that go over the same rows and begin with the same heading share a list.
 
 ghost use Rattle.std.specs.Prelude.{◌≡◌, ◌<◌, All, IfOk, OnOk, IfSome, IsTrue, length};
-ghost use Rattle.ags_links.specs.EntryLists.{IsEntryList, AreFirstEntries};
+ghost use Rattle.ags_links.specs.EntryLists.{IsEntryList, AreLeadingEntries};
 ghost use Rattle.ags_links.specs.Families.{HasFamily};
 ghost use Rattle.ags_links.specs.ParentRows.{AreNumbers};
 
@@ -126,13 +126,13 @@ fn is_list_of(list: &EntryList<'_, '_>, numbers: &[u32], heading: &[u8]) -> bool
 
 /// The entries of the rows of the parent group under the first link heading, if such a list was made. The list that is
 /// found has these rows: that it has is looked at, in the time of one walk over it.
-pub(crate) fn first_entries<'e, 's>(
+pub(crate) fn leading_entries<'e, 's>(
     rows: &[PlacedRow<'_, '_>],
     lists: &'e EntryLists<'_, 's>,
     links: &ParentLinks<'_, 's>,
 ) -> Option<&'e [&'s [u8]]>
     requires { All (IsEntryList rows.now) lists.now.lists.items }
-    ensures { IfSome result (λ entries. AreFirstEntries rows.now links.now entries.now) }
+    ensures { IfSome result (λ entries. AreLeadingEntries rows.now links.now entries.now) }
 {
     let numbers = links.rows;
     if numbers.is_empty() || links.headings.is_empty() {

@@ -40,7 +40,7 @@ loop-place-preserved c =
             (sym c.index-families-first.is) stood v.may_be_parent.ensures.apart v.may_be_parent.ensures.agree v.if-may_be_parent.false)
         | else-may_have-via-else-may_have v ↦ over (λ has.
             let h = first_entry names places other y _ (read_at places 0 _ (some_items places c.is_empty-else-is_empty.result c.is_empty-else-is_empty.ensures c.if-is_empty-2.false)) has in
-            true≢false (sym (c.may_have.ensures (IfSome_then c.first_entries-entries.result c.first_entries-entries.ensures
+            true≢false (sym (c.may_have.ensures (IfSome_then c.leading_entries-entries.result c.leading_entries-entries.ensures
             (λ list first entry at_entry. first i n entry other h.0 at_entry (read_at numbers i 0 c.loop-place-test.true) stands h.1 ∙ h.2 ∙ sym c.field-asked.ensures))) ∙ v.if-may_have.false))
       ])
     ]
