@@ -1,10 +1,8 @@
-use Rattle.std.proofs.Common.{◌≡◌, ◌≢◌, ◌++◌, ◌∷◌, [], ℕ, List, length, sym, subst, ◌∙◌}
+use Rattle.std.proofs.Common.{◌≡◌, ◌≢◌, [], length, sym, ◌∙◌}
 use Rattle.std.proofs.lemmas.Result.{IfOk-weaker}
-use Rattle.ags_rows.specs.declared.code.Code.{Code}
 use Rattle.ags_rows.specs.declared.code.Code.TheVariants.{Rule2, Rule4}
-use Rattle.ags_rows.specs.declared.finding.Finding.{Finding}
 use Rattle.ags_rows.specs.Collecting.{Adds, Notes}
-use Rattle.ags_rows.proofs.Collecting.{found_at, adds_found, adds_clear, five_rules}
+use Rattle.ags_rows.proofs.Collecting.{adds_found, adds_clear, five_rules}
 use Rattle.ags_rows.proofs.Repeats.{empties, empty}
 use Rattle.ags_rows.proofs.checking.note_shape.Goals as goal
 use Rattle.ags_rows.proofs.checking.note_shape.Goals.{then-is_empty+in_ok-note, else-is_empty, then-is_empty-2+in_ok-note-2, else-is_empty-2, then-len-width+in_ok-note-3, else-len-width, then-len-width-2+in_ok-note-4, else-len-width-2}
