@@ -2,12 +2,11 @@
 
 ghost use Rattle.std.specs.Prelude.{◌≡◌, ℕ, List, All, IfOk, IfSome, IsTrue, length, map};
 ghost use Rattle.std.specs.Borrow.{Bor};
-ghost use Rattle.ags_rows.specs.Contents.{field_at};
 ghost use Rattle.ags_links.specs.DataRows.{IsAt};
 ghost use Rattle.ags_links.specs.EntryLists.{IsEntryList, AreLeadingEntries};
 ghost use Rattle.ags_links.specs.Families.{HasFamily};
 ghost use Rattle.ags_links.specs.ParentRows.{link_names, text_at, AreNumbers, AreCandidates};
-ghost use Rattle.ags_links.specs.Placing.{row_of};
+ghost use Rattle.ags_links.specs.Placing.{row_of, HaveEqualEntries};
 
 use crate::entry_lists::{EntryLists, leading_entries};
 use crate::families::{Family, places_of};
@@ -23,7 +22,7 @@ fn agree(
     other: &PlacedRow<'_, '_>,
     other_places: &[Option<usize>],
 ) -> bool
-    ensures { map (field_at (row_of row.now).fields) places.now ≡ map (field_at (row_of other.now).fields) other_places.now → IsTrue result }
+    ensures { HaveEqualEntries row.now places.now other.now other_places.now → IsTrue result }
 {
     let count = places.len().min(other_places.len());
     for index in 0..count {
@@ -47,14 +46,15 @@ fn may_be_parent(
     other_places: &[Option<usize>],
 ) -> bool
     ensures apart { (other.now.place ≡ place → ⊥) → IsTrue result }
-    ensures agree { map (field_at (row_of row.now).fields) places.now ≡ map (field_at (row_of other.now).fields) other_places.now → IsTrue result }
+    ensures agree { HaveEqualEntries row.now places.now other.now other_places.now → IsTrue result }
 {
     other.place != place || agree(row, places, other, other_places)
 }
 
 /// Whether the entry at the place is the one that is asked for, where there is a list.
 fn may_have(entries: Option<&[&[u8]]>, place: usize, asked: &[u8]) -> bool
-    ensures { IfSome entries.entry (λ list. (entry : Bor (List ℕ)) → IsAt list.now place entry → entry.now ≡ asked.now) → IsTrue result }
+    ensures { IfSome entries.entry (λ list. (entry : Bor (List ℕ)) → IsAt list.now place entry → entry.now ≡ asked.now)
+        → IsTrue result }
 {
     match entries {
         Some(list) => place >= list.len() || list[place] == asked,
@@ -77,7 +77,8 @@ pub(crate) fn candidates<'s>(
     requires kept { All (HasFamily dictionary.now families.now) rows.now }
     requires numbers { AreNumbers (length rows.now) links.now }
     requires lists { All (IsEntryList rows.now) lists.now.lists.items }
-    ensures { IfOk result (λ chosen. AreCandidates (map row_of rows.now) links.now.rows.now (link_names links.now) (text_at places.now row.now) chosen.items) }
+    ensures { IfOk result (λ chosen. AreCandidates (map row_of rows.now) links.now.rows.now (link_names links.now)
+        (text_at places.now row.now) chosen.items) }
 {
     let numbers = links.rows;
     if numbers.is_empty() || places.is_empty() {

@@ -42,7 +42,8 @@ fn record_links(
     headings: &Places<'_>,
     group: &Group<'_>,
 ) -> Result<Vec<Option<usize>>, AllocError>
-    ensures { IfOk result (λ places. places.items ≡ map (place_in headings.now) (record_links headings.now group.now.types)) }
+    ensures { IfOk result (λ places.
+        places.items ≡ map (place_in headings.now) (record_links headings.now group.now.types)) }
 {
     let mut places = Vec::new(alloc);
     for heading in headings.names() {

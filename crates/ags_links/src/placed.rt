@@ -34,7 +34,8 @@ fn place_group<'s, 'f>(
     requires place { place < length groups.now }
     requires placed { All (IsPlaced groups.now) rows.old.items }
     ensures placed { OnOk result (All (IsPlaced groups.now) rows.new.items) }
-    ensures rows { OnOk result ((d : Group) → map row_of rows.new.items ≡ map row_of rows.old.items ++ group_rows (group_contents (slice_index_or groups.now place d))) }
+    ensures rows { OnOk result ((d : Group) → map row_of rows.new.items
+        ≡ map row_of rows.old.items ++ group_rows (group_contents (slice_index_or groups.now place d))) }
 {
     let group = &groups[place];
     for row in group.rows.as_slice() {
