@@ -3,12 +3,13 @@ use Rattle.std.specs.Prelude.{◌≡◌, ◌≢◌, ◌↔◌, ◌+◌, ℕ, Lis
 use Rattle.ags_rows.specs.declared.rows.Group.{Group}
 use Rattle.ags_rows.specs.declared.rows.Row.{Row}
 use Rattle.ags_rows.specs.Collecting.{At}
-use Rattle.ags_rows.specs.Contents.{Contents, group_contents, fields_of, place_in, field_at}
+use Rattle.ags_rows.specs.Contents.{Contents, group_contents, place_in, field_at}
 use Rattle.ags_rows.specs.Names.{is_definition}
 use Rattle.ags_cells.specs.CellTypes.{IsTypeCodeOf}
 use Rattle.ags_dict.specs.Entries.{Entries, keys_of, required_of, parent_of}
-use Rattle.ags_links.specs.DataRows.{DataRow, IsDataRow, row_in}
+use Rattle.ags_links.specs.DataRows.{DataRow, IsDataRow}
 use Rattle.ags_check.specs.RowRules.{DataEntry, unit_over, type_over}
+use Rattle.ags_check.specs.RowPhase.{headed_row}
 use Rattle.ags_check.specs.declared.rows.columns.Column.{Column}
 
 -- the type is that of the code
@@ -51,4 +52,4 @@ pub record IsOutline (group : Group) (entries : Entries) (own_columns required_c
 
 -- the DATA rows of the group stand among these from number `first` on
 abbrev pub RowsStand : List DataRow → ℕ → Group → Type 0
-RowsStand rows first group = (place : ℕ) (row : Row) → At group.rows place row → IsDataRow rows (first + place) (row_in (group_contents group) (fields_of row))
+RowsStand rows first group = (place : ℕ) (row : Row) → At group.rows place row → IsDataRow rows (first + place) (headed_row group row)

@@ -30,7 +30,8 @@ fn note_heading_row(
     group: &Group,
     findings: &mut NotedFindings,
 ) -> Result<(), AllocError>
-    ensures { OnOk result (Adds (OneOf (heading_row_rules given.now extended.now code group.now)) findings.old findings.new) }
+    ensures { OnOk result (Adds (OneOf (heading_row_rules given.now extended.now code group.now))
+        findings.old findings.new) }
 {
     let name = group.name.as_slice();
     let line = group.heading_line;
@@ -55,7 +56,9 @@ fn note_known_heading_row(
     group: &Group,
     findings: &mut NotedFindings,
 ) -> Result<(), AllocError>
-    ensures { OnOk result (Adds (OfKnown extended.now group.now (heading_row_rules given.now extended.now code group.now)) findings.old findings.new) }
+    ensures { OnOk result (Adds
+        (OfKnown extended.now group.now (heading_row_rules given.now extended.now code group.now))
+        findings.old findings.new) }
 {
     if !extended.has_group(group.name.as_slice()) {
         return Ok(());
@@ -85,7 +88,9 @@ fn note_header_rows(
     group: &Group,
     findings: &mut NotedFindings,
 ) -> Result<(), AllocError>
-    ensures { OnOk result (Adds (OneOf (group_header_rules given.now extended.now (contents_of file.now) code group.now)) findings.old findings.new) }
+    ensures { OnOk result (Adds
+        (OneOf (group_header_rules given.now extended.now (contents_of file.now) code group.now))
+        findings.old findings.new) }
 {
     note_unknown_group(extended, code, group, findings)?;
     note_lacking_parent(extended, file, group, findings)?;
@@ -103,7 +108,9 @@ fn note_all_header_rows(
     code: Code,
     findings: &mut NotedFindings,
 ) -> Result<(), AllocError>
-    ensures { OnOk result (Adds (InGroups file.now (group_header_rules given.now extended.now (contents_of file.now) code)) findings.old findings.new) }
+    ensures { OnOk result (Adds
+        (InGroups file.now (group_header_rules given.now extended.now (contents_of file.now) code))
+        findings.old findings.new) }
 {
     let groups = file.groups();
     for group in groups {

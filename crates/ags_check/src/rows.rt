@@ -5,12 +5,12 @@ ghost use Rattle.ags_rows.specs.Findings.{AreExactly};
 ghost use Rattle.ags_rows.specs.declared.code.Code.TheVariants.{Rule20};
 ghost use Rattle.ags_rows.specs.Collecting.{Adds, Notes, OneOf, Among};
 ghost use Rattle.ags_rows.specs.Contents.{group_contents, contents_of, fields_of};
-ghost use Rattle.ags_links.specs.DataRows.{row_in, IsDataRow};
+ghost use Rattle.ags_links.specs.DataRows.{IsDataRow};
 ghost use Rattle.ags_links.specs.Indexing.{rows_in};
 ghost use Rattle.ags_check.specs.Columns.{RowsStand};
 ghost use Rattle.ags_check.specs.RowRules.{entry_in, IsUnlistedFileSet};
 ghost use Rattle.ags_dict.specs.Entries.{required_of};
-ghost use Rattle.ags_check.specs.RowPhase.{InHeadings, unit_and_type_rules, data_entry_rules, link_rules, required_rules, data_row_rules, entry_rules_of, entry_rules};
+ghost use Rattle.ags_check.specs.RowPhase.{headed_row, InHeadings, unit_and_type_rules, data_entry_rules, link_rules, required_rules, data_row_rules, entry_rules_of, entry_rules};
 
 pub(crate) mod abbreviations;
 pub(crate) mod code_lists;
@@ -36,9 +36,9 @@ fn note_row_links(
     number: u32,
     findings: &mut NotedFindings,
 ) -> Result<(), AllocError>
-    requires { IsDataRow (rows_in index.now) number (row_in (group_contents outline.now.group) (fields_of row.now)) }
+    requires { IsDataRow (rows_in index.now) number (headed_row outline.now.group row.now) }
     ensures { OnOk result (Adds (InHeadings outline.now.group.headings
-        (link_rules index.now.entries index.now.contents row.now.line (row_in (group_contents outline.now.group) (fields_of row.now))))
+        (link_rules index.now.entries index.now.contents row.now.line (headed_row outline.now.group row.now)))
         findings.old findings.new) }
 {
     if !outline.is_data {
@@ -64,7 +64,8 @@ fn note_row_entries<'a>(
     findings: &mut NotedFindings,
 ) -> Result<(), AllocError>
     ensures { OnOk result (Adds (InHeadings outline.now.group.headings
-        (λ heading. data_entry_rules listed.now row.now.line (entry_in (group_contents outline.now.group) (fields_of row.now) heading)))
+        (λ heading. data_entry_rules listed.now row.now.line
+        (entry_in (group_contents outline.now.group) (fields_of row.now) heading)))
         findings.old findings.new) }
 {
     let columns = outline.columns.as_slice();
@@ -79,7 +80,7 @@ fn note_row_lacking(
     findings: &mut NotedFindings,
 ) -> Result<(), AllocError>
     ensures { OnOk result (Adds (InHeadings (required_of outline.now.entries outline.now.group.name)
-        (required_rules row.now.line (row_in (group_contents outline.now.group) (fields_of row.now))))
+        (required_rules row.now.line (headed_row outline.now.group row.now)))
         findings.old findings.new) }
 {
     let required = outline.required.as_slice();
@@ -95,9 +96,9 @@ fn note_unlisted_file_set(
     number: u32,
     findings: &mut NotedFindings,
 ) -> Result<(), AllocError>
-    requires { IsDataRow (rows_in index.now) number (row_in (group_contents outline.now.group) (fields_of row.now)) }
+    requires { IsDataRow (rows_in index.now) number (headed_row outline.now.group row.now) }
     ensures { OnOk result (Adds (Notes row.now.line Rule20 (codes "FILE_FSET")
-        (IsUnlistedFileSet index.now.contents (row_in (group_contents outline.now.group) (fields_of row.now))))
+        (IsUnlistedFileSet index.now.contents (headed_row outline.now.group row.now)))
         findings.old findings.new) }
 {
     let has_file = index.has_file(number);
@@ -116,10 +117,12 @@ fn note_data_row<'a>(
     number: u32,
     findings: &mut NotedFindings,
 ) -> Result<(), AllocError>
-    requires row { IsDataRow (rows_in index.now) number (row_in (group_contents outline.now.group) (fields_of row.now)) }
+    requires row { IsDataRow (rows_in index.now) number (headed_row outline.now.group row.now) }
     requires listed { listed.now ≡ index.now.contents }
     requires entries { outline.now.entries ≡ index.now.entries }
-    ensures { OnOk result (Adds (OneOf (data_row_rules index.now.entries index.now.contents outline.now.group number row.now)) findings.old findings.new) }
+    ensures { OnOk result (Adds
+        (OneOf (data_row_rules index.now.entries index.now.contents outline.now.group number row.now))
+        findings.old findings.new) }
 {
     let name = outline.name();
     note_row_entries(listed, outline, row, findings)?;
@@ -147,7 +150,8 @@ fn note_data_rows<'a>(
     requires listed { listed.now ≡ index.now.contents }
     requires entries { outline.now.entries ≡ index.now.entries }
     ensures { OnOk result (Adds
-        (Among outline.now.group.rows (λ place row f. OneOf (data_row_rules index.now.entries index.now.contents outline.now.group (first + place) row) f))
+        (Among outline.now.group.rows (λ place row f.
+        OneOf (data_row_rules index.now.entries index.now.contents outline.now.group (first + place) row) f))
         findings.old findings.new) }
 {
     let rows = outline.rows();
@@ -171,7 +175,8 @@ fn note_group_entries<'a>(
     requires few { first + length group.now.rows < 2 ^ 32 }
     requires listed { listed.now ≡ index.now.contents }
     requires entries { dictionary.now ≡ index.now.entries }
-    ensures { OnOk result (Adds (OneOf (entry_rules_of index.now.entries index.now.contents first group.now)) findings.old findings.new) }
+    ensures { OnOk result (Adds (OneOf (entry_rules_of index.now.entries index.now.contents first group.now))
+        findings.old findings.new) }
 {
     let outline = Outline::of(alloc, dictionary, group)?;
     note_units_and_types(&outline, listed, findings)?;
@@ -185,7 +190,9 @@ fn note_units_and_types(
     listed: &CodeLists,
     findings: &mut NotedFindings,
 ) -> Result<(), AllocError>
-    ensures { OnOk result (Adds (InHeadings outline.now.group.headings (unit_and_type_rules listed.now outline.now.group)) findings.old findings.new) }
+    ensures { OnOk result (Adds
+        (InHeadings outline.now.group.headings (unit_and_type_rules listed.now outline.now.group))
+        findings.old findings.new) }
 {
     let columns = outline.columns.as_slice();
     note_columns(outline.group, columns, listed, findings)?;

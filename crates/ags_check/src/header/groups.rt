@@ -31,7 +31,8 @@ pub(crate) fn note_unknown_group(
     group: &Group,
     findings: &mut NotedFindings,
 ) -> Result<(), AllocError>
-    ensures { OnOk result (Adds (AtGroup code (IsUnknownGroup dictionary.now (group_contents group.now)) group.now) findings.old findings.new) }
+    ensures { OnOk result (Adds (AtGroup code (IsUnknownGroup dictionary.now (group_contents group.now)) group.now)
+        findings.old findings.new) }
 {
     let name = group.name.as_slice();
     if !dictionary.has_group(name) {
@@ -57,7 +58,9 @@ pub(crate) fn note_lacking_parent(
     group: &Group,
     findings: &mut NotedFindings,
 ) -> Result<(), AllocError>
-    ensures { OnOk result (Adds (AtGroup Rule10c (LacksParentGroup dictionary.now (contents_of file.now) (group_contents group.now)) group.now) findings.old findings.new) }
+    ensures { OnOk result (Adds
+        (AtGroup Rule10c (LacksParentGroup dictionary.now (contents_of file.now) (group_contents group.now)) group.now)
+        findings.old findings.new) }
 {
     if lacks_parent(dictionary, file, group) {
         findings.note(group.line, Code::Rule10c, group.name.as_slice())?;
@@ -72,7 +75,8 @@ pub(crate) fn note_absent_group(
     name: &[u8],
     findings: &mut NotedFindings,
 ) -> Result<(), AllocError>
-    ensures { OnOk result (Adds (OfFile code name.now (LacksGroup (contents_of file.now) name.now)) findings.old findings.new) }
+    ensures { OnOk result (Adds (OfFile code name.now (LacksGroup (contents_of file.now) name.now))
+        findings.old findings.new) }
 {
     if !file.has(name) {
         findings.note(0, code, name)?;

@@ -22,7 +22,9 @@ pub(crate) fn note_unknown(
     code: Code,
     findings: &mut NotedFindings,
 ) -> Result<(), AllocError>
-    ensures { OnOk result (Adds (AtNames line code (map (λ name. name.now) headings.now) (λ _ name. place_in (order_of dictionary.now group.now) name ≡ None)) findings.old findings.new) }
+    ensures { OnOk result (Adds (AtNames line code (map (λ name. name.now) headings.now)
+        (λ _ name. place_in (order_of dictionary.now group.now) name ≡ None))
+        findings.old findings.new) }
 {
     for heading in headings {
         if dictionary.place_in_order(group, heading).is_none() {
@@ -40,7 +42,9 @@ pub(crate) fn note_absent(
     code: Code,
     findings: &mut NotedFindings,
 ) -> Result<(), AllocError>
-    ensures { OnOk result (Adds (AtNames line code (map (λ name. name.now) listed.now) (λ _ name. place_in row.now name ≡ None)) findings.old findings.new) }
+    ensures { OnOk result (Adds (AtNames line code (map (λ name. name.now) listed.now)
+        (λ _ name. place_in row.now name ≡ None))
+        findings.old findings.new) }
 {
     for heading in listed {
         if row.find(heading).is_none() {
@@ -79,7 +83,9 @@ pub(crate) fn note_misplaced(
     line: u32,
     findings: &mut NotedFindings,
 ) -> Result<(), AllocError>
-    ensures { OnOk result (Adds (AtNames line Rule7 (map (λ name. name.now) headings.now) (IsOvertaken (place_in (order_of dictionary.now group.now)) (map (λ name. name.now) headings.now))) findings.old findings.new) }
+    ensures { OnOk result (Adds (AtNames line Rule7 (map (λ name. name.now) headings.now)
+        (IsOvertaken (place_in (order_of dictionary.now group.now)) (map (λ name. name.now) headings.now)))
+        findings.old findings.new) }
 {
     let mut latest = None;
     for heading in headings {
@@ -94,7 +100,8 @@ pub(crate) fn note_misplaced(
 
 /// What stands behind the front of a text, if the text begins with it.
 fn behind<'t>(text: &'t [u8], front: &[u8]) -> Option<&'t [u8]>
-    ensures { MatchOption result ((rest : List ℕ) → text.now ≡ front.now ++ rest → ⊥) (λ rest. text.now ≡ front.now ++ rest.now) }
+    ensures { MatchOption result ((rest : List ℕ) → text.now ≡ front.now ++ rest → ⊥)
+        (λ rest. text.now ≡ front.now ++ rest.now) }
 {
     text.strip_prefix(front)
 }
@@ -128,7 +135,9 @@ pub(crate) fn note_misnamed(
     line: u32,
     findings: &mut NotedFindings,
 ) -> Result<(), AllocError>
-    ensures { OnOk result (Adds (AtNames line Rule19b (map (λ name. name.now) headings.now) (λ _ name. IsMisnamedBy given.now extended.now group.now name)) findings.old findings.new) }
+    ensures { OnOk result (Adds (AtNames line Rule19b (map (λ name. name.now) headings.now)
+        (λ _ name. IsMisnamedBy given.now extended.now group.now name))
+        findings.old findings.new) }
 {
     for heading in headings {
         if is_misnamed(given, extended, group, heading) {

@@ -16,7 +16,8 @@ pub(crate) fn note_long_sign(
     heading: &[u8],
     findings: &mut NotedFindings,
 ) -> Result<(), AllocError>
-    ensures { OnOk result (Adds (AtRow code heading.now (IsLongSign heading.now (group_contents group.now)) group.now) findings.old findings.new) }
+    ensures { OnOk result (Adds (AtRow code heading.now (IsLongSign heading.now (group_contents group.now)) group.now)
+        findings.old findings.new) }
 {
     if group.name.as_slice() != b"TRAN".as_slice() {
         return Ok(());
@@ -37,7 +38,8 @@ pub(crate) fn note_further_rows(
     name: &[u8],
     findings: &mut NotedFindings,
 ) -> Result<(), AllocError>
-    ensures { OnOk result (Adds (AtRow code name.now (IsFurtherRow name.now (group_contents group.now)) group.now) findings.old findings.new) }
+    ensures { OnOk result (Adds (AtRow code name.now (IsFurtherRow name.now (group_contents group.now)) group.now)
+        findings.old findings.new) }
 {
     if group.name.as_slice() != name {
         return Ok(());

@@ -55,7 +55,8 @@ pub(crate) fn note_entries<'a>(
 ) -> Result<(), AllocError>
     requires { All IsTyped columns.now }
     ensures { OnOk result ((group : Contents) (headings : List (List ℕ)) → AreColumns group headings columns.now
-        → Adds (InHeadings headings (λ heading. data_entry_rules listed.now line (entry_in group cells.now heading))) findings.old findings.new) }
+        → Adds (InHeadings headings (λ heading. data_entry_rules listed.now line (entry_in group cells.now heading)))
+        findings.old findings.new) }
 {
     for column in columns {
         let text = cell_at(cells, column.place);

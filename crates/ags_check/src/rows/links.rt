@@ -25,7 +25,8 @@ fn is_broken_link(
     requires { number < length (rows_in index.now) }
     ensures { IfOk result (λ broken. (row : DataRow) → IsDataRow (rows_in index.now) number row
         → IsTrue broken ↔ (column.now.code.now ≡ codes "RL") × (text.now ≢ [])
-        × IsBroken index.now.entries (separators_of index.now.contents) (rows_in index.now) row column.now.heading.now) }
+        × IsBroken index.now.entries (separators_of index.now.contents) (rows_in index.now)
+        row column.now.heading.now) }
 {
     if !is_of_type(column, b"RL") {
         return Ok(false);
@@ -46,9 +47,11 @@ pub(crate) fn note_links(
     findings: &mut NotedFindings,
 ) -> Result<(), AllocError>
     requires { number < length (rows_in index.now) }
-    ensures { OnOk result ((group : Contents) → AreColumns group group.headings columns.now → is_definition group.name ≡ false
-        → IsDataRow (rows_in index.now) number (row_in group cells.now)
-        → Adds (InHeadings group.headings (link_rules index.now.entries index.now.contents line (row_in group cells.now))) findings.old findings.new) }
+    ensures { OnOk result ((group : Contents) → AreColumns group group.headings columns.now
+        → is_definition group.name ≡ false → IsDataRow (rows_in index.now) number (row_in group cells.now)
+        → Adds (InHeadings group.headings
+        (link_rules index.now.entries index.now.contents line (row_in group cells.now)))
+        findings.old findings.new) }
 {
     for column in columns {
         let text = cell_at(cells, column.place);
