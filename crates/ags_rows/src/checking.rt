@@ -1,12 +1,12 @@
 //! What stands against the groups of a file.
 
-ghost use Rattle.std.specs.Prelude.{◌≡◌, ◌↔◌, ◌⊎◌, List, ℕ, ◌∷◌, [], OnOk, IfOk};
+ghost use Rattle.std.specs.Prelude.{◌∷◌, [], OnOk, IfOk};
 ghost use Rattle.ags_rows.specs.declared.code.Code.TheVariants.{Rule19, Rule19a, P1, P2};
 ghost use Rattle.ags_rows.specs.Names.{is_group_name, is_heading_name};
 ghost use Rattle.ags_rows.specs.Collecting.{OneOf, Notes, Adds};
 ghost use Rattle.ags_rows.specs.Stands.{shape_rules, StandsInRows, StandsInHeadings, StandsInGroups};
 ghost use Rattle.ags_rows.specs.Findings.{AreExactly};
-ghost use Rattle.ags_rows.specs.Parsing.{IsMet, met_rules};
+ghost use Rattle.ags_rows.specs.Parsing.{IsMet, MeetsAlso, met_rules};
 
 use crate::code::Code;
 use crate::finding::{Finding, NotedFindings};
@@ -25,7 +25,7 @@ fn note_repeat<'g>(
     findings: &mut NotedFindings,
 ) -> Result<(), AllocError>
     ensures noted { OnOk result (Adds (Notes line code name.now (IsMet met.old name.now)) findings.old findings.new) }
-    ensures met { OnOk result ((other : List ℕ) → IsMet met.new other ↔ ((name.now ≡ other) ⊎ IsMet met.old other)) }
+    ensures met { OnOk result (MeetsAlso met.old met.new name.now) }
 {
     let before = met.insert(name, ())?;
     if before.is_some() {
@@ -76,8 +76,10 @@ fn note_name<'g>(
     met: &mut BTreeMap<&'g [u8], ()>,
     findings: &mut NotedFindings,
 ) -> Result<(), AllocError>
-    ensures noted { OnOk result (Adds (OneOf (met_rules line Rule19 P1 name.now (is_group_name name.now) (IsMet met.old name.now))) findings.old findings.new) }
-    ensures met { OnOk result ((other : List ℕ) → IsMet met.new other ↔ ((name.now ≡ other) ⊎ IsMet met.old other)) }
+    ensures noted { OnOk result (Adds
+        (OneOf (met_rules line Rule19 P1 name.now (is_group_name name.now) (IsMet met.old name.now)))
+        findings.old findings.new) }
+    ensures met { OnOk result (MeetsAlso met.old met.new name.now) }
 {
     if !is_group_name(name) {
         findings.note(line, Code::Rule19, name)?;
@@ -92,8 +94,10 @@ fn note_heading<'g>(
     met: &mut BTreeMap<&'g [u8], ()>,
     findings: &mut NotedFindings,
 ) -> Result<(), AllocError>
-    ensures noted { OnOk result (Adds (OneOf (met_rules line Rule19a P2 heading.now (is_heading_name heading.now) (IsMet met.old heading.now))) findings.old findings.new) }
-    ensures met { OnOk result ((other : List ℕ) → IsMet met.new other ↔ ((heading.now ≡ other) ⊎ IsMet met.old other)) }
+    ensures noted { OnOk result (Adds
+        (OneOf (met_rules line Rule19a P2 heading.now (is_heading_name heading.now) (IsMet met.old heading.now)))
+        findings.old findings.new) }
+    ensures met { OnOk result (MeetsAlso met.old met.new heading.now) }
 {
     if !is_heading_name(heading) {
         findings.note(line, Code::Rule19a, heading)?;
@@ -125,10 +129,11 @@ fn note_group<'g>(
 ) -> Result<(), AllocError>
     ensures noted { OnOk result (Adds
         (OneOf (OneOf (shape_rules group.now)
-        ∷ OneOf (met_rules group.now.line Rule19 P1 group.now.name (is_group_name group.now.name) (IsMet met.old group.now.name))
+        ∷ OneOf (met_rules group.now.line Rule19 P1 group.now.name (is_group_name group.now.name)
+        (IsMet met.old group.now.name))
         ∷ StandsInHeadings group.now ∷ []))
         findings.old findings.new) }
-    ensures met { OnOk result ((other : List ℕ) → IsMet met.new other ↔ ((group.now.name ≡ other) ⊎ IsMet met.old other)) }
+    ensures met { OnOk result (MeetsAlso met.old met.new group.now.name) }
 {
     note_shape(group, findings)?;
     note_name(group.line, group.name.as_slice(), met, findings)?;
