@@ -1,0 +1,24 @@
+-- What stands in memory of the deposit that was read last, as calls leave it.
+use Rattle.std.proofs.Common.{◌≡◌, ℕ, Bool, false, Result, Ok, Err, IfOk, sym, subst}
+use Rattle.sqlite.specs.Effect.{Database}
+use Rattle.sqlite.specs.State.{State, HasCleanDisk}
+use Rattle.ags_links.specs.Walks.{Wiring}
+use Rattle.reg_store.specs.declared.keep.KeepError.{KeepError}
+use Rattle.reg_store.specs.declared.recent.Recent.{Recent}
+use Rattle.reg_store.specs.Methods.{HasRows, HasSteps}
+use Rattle.reg_store.specs.Quiet.{IsStill, clean_before}
+use Rattle.reg_store.specs.Recent.{HoldsRecent, IsGraphAt}
+use Rattle.reg_store.specs.Rows.{line_table, step_table}
+
+-- where the connection is still, it stays what the tables hold
+pub recent_quiet : (old new : State) {failed : Bool} (recent : Recent) → (HasCleanDisk old → HoldsRecent old.now recent) → IsStill old new failed → HasCleanDisk new → failed ≡ false → HoldsRecent new.now recent
+recent_quiet old new recent held quiet clean well =
+    subst (λ (db : Database). HoldsRecent db recent) (sym (quiet.same clean well).0) (held (clean_before old new quiet.survives clean))
+
+pub graph_rows : (db : Database) (n : ℕ) (r : Result Wiring KeepError) → IfOk r (IsGraphAt db n) → IfOk r (λ graph. HasRows n (line_table db.trees) graph.rows)
+graph_rows db n (Ok graph) is = is.rows
+graph_rows db n (Err e) is = tt
+
+pub graph_steps : (db : Database) (n : ℕ) (r : Result Wiring KeepError) → IfOk r (IsGraphAt db n) → IfOk r (λ graph. HasSteps n (step_table db.trees) graph.steps)
+graph_steps db n (Ok graph) is = is.steps
+graph_steps db n (Err e) is = tt
