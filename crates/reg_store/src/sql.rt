@@ -46,17 +46,22 @@ pub struct SqlKeep<S: Alter> {
     ghost few: { count ≤ 999999 },
     ghost long: { length heads.items ≡ count },
     ghost below: { AreBelow digests (count + 1) },
-    ghost kept: { has_failed ≡ false → HasCleanDisk (state S.Store connection) → ∥ KeepsRegister (state S.Store connection) dictionary count ∥₁ },
-    ghost headed: { has_failed ≡ false → HasCleanDisk (state S.Store connection) → AreHeads heads.items (deposits_in (state S.Store connection).committed.trees) },
-    ghost digested: { has_failed ≡ false → HasCleanDisk (state S.Store connection) → AreDigested digests (deposits_in (state S.Store connection).committed.trees) },
-    ghost held: { has_failed ≡ false → HasCleanDisk (state S.Store connection) → HoldsRecent (state S.Store connection).now recent } by { Prim.hlevel props },
+    ghost kept: { has_failed ≡ false → HasCleanDisk (state S.Store connection)
+        → ∥ KeepsRegister (state S.Store connection) dictionary count ∥₁ },
+    ghost headed: { has_failed ≡ false → HasCleanDisk (state S.Store connection)
+        → AreHeads heads.items (deposits_in (state S.Store connection).committed.trees) },
+    ghost digested: { has_failed ≡ false → HasCleanDisk (state S.Store connection)
+        → AreDigested digests (deposits_in (state S.Store connection).committed.trees) },
+    ghost held: { has_failed ≡ false → HasCleanDisk (state S.Store connection)
+        → HoldsRecent (state S.Store connection).now recent } by { Prim.hlevel props },
 }
 
 impl<S: Alter> SqlKeep<S> {
     /// The connection, whose tables are the register of this list where the keep has not failed.
     pub fn into_connection(self) -> Connection<S>
         ensures connection { result ≡ self.connection }
-        ensures kept { self.has_failed ≡ false → HasCleanDisk (state S.Store result) → ∥ KeepsRegister (state S.Store result) self.dictionary self.count ∥₁ }
+        ensures kept { self.has_failed ≡ false → HasCleanDisk (state S.Store result)
+            → ∥ KeepsRegister (state S.Store result) self.dictionary self.count ∥₁ }
     {
         let SqlKeep {
             connection,
@@ -215,11 +220,13 @@ impl<S: Alter> Keep for SqlKeep<S> {
         &self.dictionary
     }
 
-    ghost settled = { λ k list clean works left. settled_at (k.kept works clean) (S.Store.settled k.connection.store) list left };
+    ghost settled = { λ k list clean works left.
+        settled_at (k.kept works clean) (S.Store.settled k.connection.store) list left };
 
     ghost stays = { λ k clean works. stays_at (k.kept works clean) (S.Store.stays k.connection.store) };
 
-    ghost unbroken = { λ k clean works left. unbroken_at (k.kept works clean) (S.Store.settled k.connection.store) left };
+    ghost unbroken = { λ k clean works left.
+        unbroken_at (k.kept works clean) (S.Store.settled k.connection.store) left };
 
     ghost remains = { λ k clean whole none. remains_at _ _ (S.Store.survives k.connection.store clean) whole none };
 
