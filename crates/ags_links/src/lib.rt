@@ -5,8 +5,6 @@ mod candidates;
 mod closure;
 mod entry_lists;
 mod families;
-#[cfg(test)]
-mod file_tests;
 mod graph;
 mod index;
 pub mod laws;

@@ -9,9 +9,6 @@ ghost use Rattle.reg_desk.specs.Desks.{AnsweredBy};
 ghost use Rattle.groundreg.specs.Answers.{AnswersOn};
 ghost use Rattle.groundreg.specs.Asking.{AsksDesk, ChecksUnder};
 
-#[cfg(test)]
-mod tests;
-
 use crate::answers::answer_report;
 use crate::check::{check_stream, run_without_words};
 use crate::fault::{Fault, tell};
@@ -35,7 +32,7 @@ use std::path::Path;
 
 /// Who asks, for which project, and on which day.
 #[derive(Drop)]
-struct Session<'c> {
+pub(crate) struct Session<'c> {
     caller: &'c Caller,
     project: Name,
     day: Day,
@@ -145,7 +142,7 @@ fn project_of(alloc: Global, text: &str) -> Result<Name, Fault>
 }
 
 /// Who asks by this token, for the project and on the day that the words give.
-fn session_of<'c>(
+pub(crate) fn session_of<'c>(
     alloc: Global,
     callers: &'c Callers,
     asker: &Asker<'_>,
@@ -236,7 +233,7 @@ fn deposit<'w, W: Write>(
 }
 
 /// Asks the desk to keep a file, as the one who asks.
-fn ask_deposit<'w, K: Keep, W: Write>(
+pub(crate) fn ask_deposit<'w, K: Keep, W: Write>(
     alloc: Global,
     desk: &mut Desk<K>,
     session: &Session<'_>,

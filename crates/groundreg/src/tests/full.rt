@@ -2,7 +2,7 @@
 
 ghost use Rattle.std.specs.Prelude.{◌≡◌, false};
 
-use super::{Session, ask_deposit, session_of};
+use crate::commands::{Session, ask_deposit, session_of};
 use crate::watched::Watched;
 use crate::words::Asker;
 use ags_dict::Dictionary;

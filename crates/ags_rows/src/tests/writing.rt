@@ -1,4 +1,3 @@
-use super::{quote, write_group, write_line, write_row};
 use crate::READABLE;
 use crate::cell::Cell;
 use crate::rows::{Descriptor, Group, Row};
@@ -6,6 +5,7 @@ use crate::scanning::Scan;
 use crate::sequence::Sequence;
 use crate::spelling::cells;
 use crate::vectors::{FILE_A, FILE_B, FILE_C, MINI};
+use crate::writing::{quote, write_group, write_line, write_row};
 use std::alloc::{AllocError, Global};
 use std::slice;
 use std::test::Fail;
