@@ -1,6 +1,7 @@
 -- The rows and the steps of the deposit that was read last, which stand in memory.
-use Rattle.std.specs.Prelude.{◌≡◌, ℕ, List, IfSome}
+use Rattle.std.specs.Prelude.{◌≡◌, ℕ, List}
 use Rattle.std.specs.List.Sorted.{IsPermutation}
+use Rattle.std.specs.Option.{ForSome}
 use Rattle.sqlite.specs.Effect.{Database}
 use Rattle.ags_links.specs.Walks.{Wiring}
 use Rattle.reg_store.specs.declared.keep.KeptRow.{KeptRow}
@@ -21,5 +22,5 @@ pub record IsGraphAt (db : Database) (n : ℕ) (graph : Wiring) : Type 0 where
 
 -- What stands in memory is what the tables hold under its number.
 pub record HoldsRecent (db : Database) (recent : Recent) : Type 0 where
-  pub rows : IfSome recent.rows (λ held. AreRowsAt db held.number held.rows.items)
-  pub graph : IfSome recent.graph (λ held. IsGraphAt db held.number held.graph)
+  pub rows : ForSome recent.rows (λ (held : RecentRows). AreRowsAt db held.number held.rows.items)
+  pub graph : ForSome recent.graph (λ (held : RecentGraph). IsGraphAt db held.number held.graph)

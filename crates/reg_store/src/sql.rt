@@ -1,7 +1,6 @@
 //! A keep over a database.
 
 ghost use Rattle.std.specs.Prelude.{◌≡◌, ◌≤◌, ◌+◌, length, pos, false, IsTrue};
-ghost use Rattle.std.proofs.Props.{props};
 ghost use Rattle.reg_policy.specs.Days.{is_day_number};
 ghost use Rattle.reg_store.specs.Keep.{fails, is_store as store_error};
 ghost use Rattle.reg_store.specs.KeepLaws.{few_at, fit_at, remains_at, settled_at, stays_at, unbroken_at};
@@ -53,7 +52,7 @@ pub struct SqlKeep<S: Alter> {
     ghost digested: { has_failed ≡ false → HasCleanDisk (state S.Store connection)
         → AreDigested digests (deposits_in (state S.Store connection).committed.trees) },
     ghost held: { has_failed ≡ false → HasCleanDisk (state S.Store connection)
-        → HoldsRecent (state S.Store connection).now recent } by { Prim.hlevel props },
+        → HoldsRecent (state S.Store connection).now recent },
 }
 
 impl<S: Alter> SqlKeep<S> {
