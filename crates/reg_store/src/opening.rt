@@ -21,6 +21,7 @@ use crate::creating::make_register;
 use crate::examining::examine;
 use crate::keep::KeepError;
 use crate::queries::is_memory;
+use crate::recent::Recent;
 use crate::repeats::Digests;
 use crate::schema::{is_register, is_vacant};
 use crate::sql::SqlKeep;
@@ -106,6 +107,7 @@ impl<S: Alter> SqlKeep<S> {
                 count: 0,
                 heads: Vec::new(alloc),
                 digests: Digests::new(alloc),
+                recent: Recent::none(),
                 has_failed: false,
                 alloc,
             }),
@@ -190,6 +192,7 @@ impl<S: Alter> SqlKeep<S> {
                 count,
                 heads,
                 digests,
+                recent: Recent::none(),
                 has_failed: false,
                 alloc,
             }),

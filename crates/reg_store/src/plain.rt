@@ -92,7 +92,7 @@ fn head_of(kept: &Kept) -> Result<KeptHead, AllocError>
 }
 
 /// The graph, once more.
-fn copy_graph(alloc: Global, graph: &Graph) -> Result<Graph, AllocError>
+pub(crate) fn copy_graph(alloc: Global, graph: &Graph) -> Result<Graph, AllocError>
     ensures { IfOk result (λ copied. copied ≡ graph.now) }
 {
     let steps = Vec::from_slice(alloc, graph.steps())?;

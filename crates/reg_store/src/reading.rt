@@ -154,7 +154,8 @@ pub(crate) fn find_steps<S: Alter>(
     }
 }
 
-fn graph_of(rows: u32, steps: Vec<(u32, u32)>) -> Result<Graph, KeepError>
+/// A graph of so many rows with these steps, where each lies between two of them.
+pub(crate) fn graph_of(rows: u32, steps: Vec<(u32, u32)>) -> Result<Graph, KeepError>
     ensures named { IfErr result (λ e. e ≢ KeepError.Full) }
     ensures rows { IfOk result (λ graph. graph.rows ≡ rows) }
     ensures steps { IfOk result (λ graph. graph.steps ≡ steps.items) }
@@ -166,7 +167,7 @@ fn graph_of(rows: u32, steps: Vec<(u32, u32)>) -> Result<Graph, KeepError>
 }
 
 /// How many DATA rows are kept of a deposit.
-fn find_data<S: Alter>(conn: &mut Connection<S>, number: u32) -> Result<u32, KeepError>
+pub(crate) fn find_data<S: Alter>(conn: &mut Connection<S>, number: u32) -> Result<u32, KeepError>
     requires idle { IsIdle (state S.Store conn.old) }
     ensures found { HasCleanDisk (state S.Store conn.new) → IfOk result (λ n. HasRows number (line_table (state S.Store conn.old).now.trees) n) }
     ensures named { IfErr result (λ e. e ≢ KeepError.Full) }
@@ -180,26 +181,6 @@ fn find_data<S: Alter>(conn: &mut Connection<S>, number: u32) -> Result<u32, Kee
         &mut data,
     ) {
         Ok(()) => Ok(data.count),
-        Err(error) => Err(error),
-    }
-}
-
-/// The steps that are kept of a deposit, between its DATA rows.
-#[tactic(auto, using(crate::specs::Quiet::quiet_then, crate::specs::Quiet::quiet_read, crate::specs::Quiet::idle_then))]
-pub(crate) fn find_graph<S: Alter>(
-    conn: &mut Connection<S>,
-    alloc: Global,
-    number: u32,
-) -> Result<Graph, KeepError>
-    requires idle { IsIdle (state S.Store conn.old) }
-    ensures rows { HasCleanDisk (state S.Store conn.new) → IfOk result (λ graph. HasRows number (line_table (state S.Store conn.old).now.trees) graph.rows) }
-    ensures steps { HasCleanDisk (state S.Store conn.new) → IfOk result (λ graph. HasSteps number (step_table (state S.Store conn.old).now.trees) graph.steps) }
-    ensures named { IfErr result (λ e. e ≢ KeepError.Full) }
-    ensures quiet { IsStill (state S.Store conn.old) (state S.Store conn.new) (fails result) }
-{
-    let rows = find_data(conn, number)?;
-    match find_steps(conn, alloc, number) {
-        Ok(steps) => graph_of(rows, steps),
         Err(error) => Err(error),
     }
 }

@@ -544,6 +544,81 @@ const FULL: [Case; 4] = [
     },
 ];
 
+/// The rows of B and the steps between them, and those of A.
+const ROWS_OF_B: &str =
+    "41 rows, 13 of kind 4, last LNMC 4 \"DATA\",\"BH2\",\"2.00\",\"S2\",\"2.05\",\"18.4\"";
+
+const STEPS_OF_B: &str = "13 rows 7-0 8-0 9-7 10-8 11-9 12-10";
+
+const ROWS_OF_A: &str = "26 rows, 6 of kind 4, last LOCA 4 \"DATA\",\"BH1\"";
+
+const STEPS_OF_A: &str = "6 rows 5-0";
+
+/// Rows and steps that are asked twice, of another deposit, and behind one that was added.
+const AGAIN: [Case; 15] = [
+    Case {
+        call: Call::Take("Delta", "N1", File::B),
+        want: "1",
+    },
+    Case {
+        call: Call::Take("Delta", "N2", File::A),
+        want: "2",
+    },
+    Case {
+        call: Call::Rows(1),
+        want: ROWS_OF_B,
+    },
+    Case {
+        call: Call::Rows(1),
+        want: ROWS_OF_B,
+    },
+    Case {
+        call: Call::Steps(1),
+        want: STEPS_OF_B,
+    },
+    Case {
+        call: Call::Steps(1),
+        want: STEPS_OF_B,
+    },
+    Case {
+        call: Call::Rows(2),
+        want: ROWS_OF_A,
+    },
+    // The steps of one deposit stand in memory beside the rows of another.
+    Case {
+        call: Call::Steps(1),
+        want: STEPS_OF_B,
+    },
+    Case {
+        call: Call::Steps(2),
+        want: STEPS_OF_A,
+    },
+    Case {
+        call: Call::Rows(1),
+        want: ROWS_OF_B,
+    },
+    Case {
+        call: Call::Take("Gamma", "N1", File::A),
+        want: "3",
+    },
+    Case {
+        call: Call::Steps(3),
+        want: STEPS_OF_A,
+    },
+    Case {
+        call: Call::Rows(1),
+        want: ROWS_OF_B,
+    },
+    Case {
+        call: Call::Steps(1),
+        want: STEPS_OF_B,
+    },
+    Case {
+        call: Call::Rows(3),
+        want: ROWS_OF_A,
+    },
+];
+
 /// The calls over a keep in memory.
 fn in_memory(alloc: Global, limit: u32, cases: &[Case]) -> Result<&'static str, KeepError>
     requires least { 0 < limit }
@@ -578,6 +653,15 @@ fn calls_in_memory(rt: HostRuntime) -> Result<(), Fail> {
 #[test]
 fn calls_in_tables(rt: HostRuntime) -> Result<(), Fail> {
     let found = in_tables(rt.alloc(), &CASES)?;
+    assert!(rt; found == SAME, "{found}");
+    Ok(())
+}
+
+#[test]
+fn calls_again(rt: HostRuntime) -> Result<(), Fail> {
+    let plain = in_memory(rt.alloc(), 999_999, &AGAIN)?;
+    assert!(rt; plain == SAME, "{plain}");
+    let found = in_tables(rt.alloc(), &AGAIN)?;
     assert!(rt; found == SAME, "{found}");
     Ok(())
 }
