@@ -28,8 +28,10 @@ pub(crate) fn find_rows<S: Alter>(
 ) -> Result<Vec<KeptRow>, KeepError>
     requires idle { IsIdle (state S.Store conn.old) }
     requires held { HasCleanDisk (state S.Store conn.old) → HoldsRecent (state S.Store conn.old).now recent.old }
-    ensures found { HasCleanDisk (state S.Store conn.new) → IfOk result (λ rows. AreRowsAt (state S.Store conn.old).now number rows.items) }
-    ensures held { HasCleanDisk (state S.Store conn.new) → fails result ≡ false → HoldsRecent (state S.Store conn.new).now recent.new }
+    ensures found { HasCleanDisk (state S.Store conn.new)
+        → IfOk result (λ rows. AreRowsAt (state S.Store conn.old).now number rows.items) }
+    ensures held { HasCleanDisk (state S.Store conn.new) → fails result ≡ false
+        → HoldsRecent (state S.Store conn.new).now recent.new }
     ensures named { IfErr result (λ e. e ≢ KeepError.Full) }
     ensures quiet { IsStill (state S.Store conn.old) (state S.Store conn.new) (fails result) }
 {
@@ -64,7 +66,8 @@ fn count_data<S: Alter>(
 ) -> Result<u32, KeepError>
     requires idle { IsIdle (state S.Store conn.old) }
     requires held { HasCleanDisk (state S.Store conn.old) → HoldsRecent (state S.Store conn.old).now recent.now }
-    ensures found { HasCleanDisk (state S.Store conn.new) → IfOk result (λ n. HasRows number (line_table (state S.Store conn.old).now.trees) n) }
+    ensures found { HasCleanDisk (state S.Store conn.new)
+        → IfOk result (λ n. HasRows number (line_table (state S.Store conn.old).now.trees) n) }
     ensures named { IfErr result (λ e. e ≢ KeepError.Full) }
     ensures quiet { IsStill (state S.Store conn.old) (state S.Store conn.new) (fails result) }
 {
@@ -84,7 +87,8 @@ fn read_graph<S: Alter>(
 ) -> Result<Graph, KeepError>
     requires idle { IsIdle (state S.Store conn.old) }
     requires held { HasCleanDisk (state S.Store conn.old) → HoldsRecent (state S.Store conn.old).now recent.now }
-    ensures found { HasCleanDisk (state S.Store conn.new) → IfOk result (IsGraphAt (state S.Store conn.old).now number) }
+    ensures found { HasCleanDisk (state S.Store conn.new)
+        → IfOk result (IsGraphAt (state S.Store conn.old).now number) }
     ensures named { IfErr result (λ e. e ≢ KeepError.Full) }
     ensures quiet { IsStill (state S.Store conn.old) (state S.Store conn.new) (fails result) }
 {
@@ -105,8 +109,10 @@ pub(crate) fn find_graph<S: Alter>(
 ) -> Result<Graph, KeepError>
     requires idle { IsIdle (state S.Store conn.old) }
     requires held { HasCleanDisk (state S.Store conn.old) → HoldsRecent (state S.Store conn.old).now recent.old }
-    ensures found { HasCleanDisk (state S.Store conn.new) → IfOk result (IsGraphAt (state S.Store conn.old).now number) }
-    ensures held { HasCleanDisk (state S.Store conn.new) → fails result ≡ false → HoldsRecent (state S.Store conn.new).now recent.new }
+    ensures found { HasCleanDisk (state S.Store conn.new)
+        → IfOk result (IsGraphAt (state S.Store conn.old).now number) }
+    ensures held { HasCleanDisk (state S.Store conn.new) → fails result ≡ false
+        → HoldsRecent (state S.Store conn.new).now recent.new }
     ensures named { IfErr result (λ e. e ≢ KeepError.Full) }
     ensures quiet { IsStill (state S.Store conn.old) (state S.Store conn.new) (fails result) }
 {

@@ -54,7 +54,8 @@ impl Recent {
 
     /// The rows of a deposit, if they stand here.
     pub(crate) fn rows_of(&self, number: u32) -> Option<&[KeptRow]>
-        ensures held { (db : Database) → HoldsRecent db self.now → IfSome result (λ rows. AreRowsAt db number rows.now) }
+        ensures held { (db : Database) → HoldsRecent db self.now
+            → IfSome result (λ rows. AreRowsAt db number rows.now) }
         ensures small { IfSome result (λ rows. AreSmall rows.now) }
     {
         match &self.rows {

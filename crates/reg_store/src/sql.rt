@@ -55,7 +55,8 @@ impl<S: Alter> SqlKeep<S> {
     /// The connection, whose tables are the register of this list where the keep has not failed.
     pub fn into_connection(self) -> Connection<S>
         ensures connection { result ≡ self.connection }
-        ensures kept { self.has_failed ≡ false → HasCleanDisk (state S.Store result) → ∥ KeepsRegister (state S.Store result) self.dictionary self.count ∥₁ }
+        ensures kept { self.has_failed ≡ false → HasCleanDisk (state S.Store result)
+            → ∥ KeepsRegister (state S.Store result) self.dictionary self.count ∥₁ }
     {
         let SqlKeep {
             connection,
@@ -214,11 +215,13 @@ impl<S: Alter> Keep for SqlKeep<S> {
         &self.dictionary
     }
 
-    ghost settled = { λ k list clean works left. settled_at (k.kept works clean) (S.Store.settled k.connection.store) list left };
+    ghost settled = { λ k list clean works left. settled_at (k.kept works clean)
+        (S.Store.settled k.connection.store) list left };
 
     ghost stays = { λ k clean works. stays_at (k.kept works clean) (S.Store.stays k.connection.store) };
 
-    ghost unbroken = { λ k clean works left. unbroken_at (k.kept works clean) (S.Store.settled k.connection.store) left };
+    ghost unbroken = { λ k clean works left. unbroken_at (k.kept works clean)
+        (S.Store.settled k.connection.store) left };
 
     ghost remains = { λ k clean whole none. remains_at _ _ (S.Store.survives k.connection.store clean) whole none };
 
