@@ -10,8 +10,7 @@ ghost use Rattle.reg_store.specs.Rows.{deposit_table, given_deposit, line_table,
 ghost use Rattle.reg_store.specs.declared.keep.KeptRow.{KeptRow};
 ghost use Rattle.sqlite.specs.Tree.{IsAscending};
 ghost use Rattle.ags_links.specs.Steps.{IsBefore};
-ghost use Rattle.reg_store.specs.Methods.{HasRows, HasSteps};
-ghost use Rattle.reg_store.specs.Recent.{AreRowsAt};
+ghost use Rattle.reg_store.specs.Methods.{HasRows, HasSteps, HoldsLines, HoldsSteps};
 ghost use Rattle.reg_store.specs.Fit.{IsNamed};
 ghost use Rattle.reg_store.specs.Register.{has_number, meta_columns};
 
@@ -78,8 +77,7 @@ pub(crate) fn line_rows<S: Alter>(
 ) -> Result<Vec<Row>, KeepError>
     requires idle { IsIdle (state S.Store conn.old) }
     ensures found { HasCleanDisk (state S.Store conn.new) → IfOk result (λ rows. (file : List KeptRow)
-        → IsPermutation (placed_rows 0 file) (rows_under number (line_table (state S.Store conn.old).now.trees))
-        → rows.items ≡ placed_rows 0 file) }
+        → HoldsLines (state S.Store conn.old).now number file → rows.items ≡ placed_rows 0 file) }
     ensures all { HasCleanDisk (state S.Store conn.new) → IfOk result (λ rows.
         IsPermutation rows.items (rows_under number (line_table (state S.Store conn.old).now.trees))) }
     ensures named { IfErr result (λ e. e ≢ KeepError.Full) }
@@ -99,10 +97,10 @@ pub(crate) fn find_lines<S: Alter>(
     number: u32,
 ) -> Result<Vec<KeptRow>, KeepError>
     requires idle { IsIdle (state S.Store conn.old) }
-    ensures found { HasCleanDisk (state S.Store conn.new) → IfOk result (λ lines.
-        AreRowsAt (state S.Store conn.old).now number lines.items) }
-    ensures held { HasCleanDisk (state S.Store conn.new) → IfOk result (λ lines.
-        IsPermutation (placed_rows 0 lines.items) (rows_under number (line_table (state S.Store conn.old).now.trees))) }
+    ensures found { HasCleanDisk (state S.Store conn.new) → IfOk result (λ lines. (file : List KeptRow)
+        → HoldsLines (state S.Store conn.old).now number file → lines.items ≡ file) }
+    ensures held { HasCleanDisk (state S.Store conn.new)
+        → IfOk result (λ lines. HoldsLines (state S.Store conn.old).now number lines.items) }
     ensures named { IfErr result (λ e. e ≢ KeepError.Full) }
     ensures quiet { IsStill (state S.Store conn.old) (state S.Store conn.new) (fails result) }
 {
@@ -126,8 +124,7 @@ pub(crate) fn step_rows<S: Alter>(
 ) -> Result<Vec<Row>, KeepError>
     requires idle { IsIdle (state S.Store conn.old) }
     ensures found { HasCleanDisk (state S.Store conn.new) → IfOk result (λ rows. (steps : List (ℕ × ℕ))
-        → IsAscending IsBefore steps
-        → IsPermutation (map step_pair steps) (rows_under number (step_table (state S.Store conn.old).now.trees))
+        → IsAscending IsBefore steps → HoldsSteps (state S.Store conn.old).now number steps
         → rows.items ≡ map step_pair steps) }
     ensures all { HasCleanDisk (state S.Store conn.new) → IfOk result (λ rows.
         IsPermutation rows.items (rows_under number (step_table (state S.Store conn.old).now.trees))) }
@@ -148,10 +145,11 @@ pub(crate) fn find_steps<S: Alter>(
     number: u32,
 ) -> Result<Vec<(u32, u32)>, KeepError>
     requires idle { IsIdle (state S.Store conn.old) }
-    ensures found { HasCleanDisk (state S.Store conn.new) → IfOk result (λ read.
-        HasSteps number (step_table (state S.Store conn.old).now.trees) read.items) }
-    ensures held { HasCleanDisk (state S.Store conn.new) → IfOk result (λ read.
-        IsPermutation (map step_pair read.items) (rows_under number (step_table (state S.Store conn.old).now.trees))) }
+    ensures found { HasCleanDisk (state S.Store conn.new) → IfOk result (λ read. (steps : List (ℕ × ℕ))
+        → IsAscending IsBefore steps → HoldsSteps (state S.Store conn.old).now number steps
+        → read.items ≡ steps) }
+    ensures held { HasCleanDisk (state S.Store conn.new)
+        → IfOk result (λ read. HoldsSteps (state S.Store conn.old).now number read.items) }
     ensures named { IfErr result (λ e. e ≢ KeepError.Full) }
     ensures quiet { IsStill (state S.Store conn.old) (state S.Store conn.new) (fails result) }
 {
@@ -184,8 +182,8 @@ pub(crate) fn graph_of(rows: u32, steps: Vec<(u32, u32)>) -> Result<Graph, KeepE
 /// How many DATA rows are kept of a deposit.
 pub(crate) fn find_data<S: Alter>(conn: &mut Connection<S>, number: u32) -> Result<u32, KeepError>
     requires idle { IsIdle (state S.Store conn.old) }
-    ensures found { HasCleanDisk (state S.Store conn.new) → IfOk result (λ n.
-        HasRows number (line_table (state S.Store conn.old).now.trees) n) }
+    ensures found { HasCleanDisk (state S.Store conn.new)
+        → IfOk result (λ n. HasRows number (line_table (state S.Store conn.old).now.trees) n) }
     ensures named { IfErr result (λ e. e ≢ KeepError.Full) }
     ensures quiet { IsStill (state S.Store conn.old) (state S.Store conn.new) (fails result) }
 {
@@ -203,8 +201,8 @@ pub(crate) fn find_data<S: Alter>(conn: &mut Connection<S>, number: u32) -> Resu
 
 pub(crate) fn meta_rows<S: Alter>(conn: &mut Connection<S>) -> Result<Vec<Row>, KeepError>
     requires idle { IsIdle (state S.Store conn.old) }
-    ensures all { HasCleanDisk (state S.Store conn.new) → IfOk result (λ rows.
-        IsPermutation rows.items (map columns_3 ((state S.Store conn.old).now.trees 0))) }
+    ensures all { HasCleanDisk (state S.Store conn.new)
+        → IfOk result (λ rows. IsPermutation rows.items (map columns_3 ((state S.Store conn.old).now.trees 0))) }
     ensures found { HasCleanDisk (state S.Store conn.new) → IfOk result (λ rows. (text : List ℕ)
         → IsPermutation (meta_columns text) (map columns_3 ((state S.Store conn.old).now.trees 0))
         → rows.items ≡ meta_columns text) }

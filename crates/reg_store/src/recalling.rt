@@ -28,8 +28,8 @@ pub(crate) fn find_rows<S: Alter>(
 ) -> Result<Vec<KeptRow>, KeepError>
     requires idle { IsIdle (state S.Store conn.old) }
     requires held { HasCleanDisk (state S.Store conn.old) → HoldsRecent (state S.Store conn.old).now recent.old }
-    ensures found { HasCleanDisk (state S.Store conn.new) → IfOk result (λ rows.
-        AreRowsAt (state S.Store conn.old).now number rows.items) }
+    ensures found { HasCleanDisk (state S.Store conn.new)
+        → IfOk result (λ rows. AreRowsAt (state S.Store conn.old).now number rows.items) }
     ensures held { HasCleanDisk (state S.Store conn.new) → fails result ≡ false
         → HoldsRecent (state S.Store conn.new).now recent.new }
     ensures named { IfErr result (λ e. e ≢ KeepError.Full) }
@@ -66,8 +66,8 @@ fn count_data<S: Alter>(
 ) -> Result<u32, KeepError>
     requires idle { IsIdle (state S.Store conn.old) }
     requires held { HasCleanDisk (state S.Store conn.old) → HoldsRecent (state S.Store conn.old).now recent.now }
-    ensures found { HasCleanDisk (state S.Store conn.new) → IfOk result (λ n.
-        HasRows number (line_table (state S.Store conn.old).now.trees) n) }
+    ensures found { HasCleanDisk (state S.Store conn.new)
+        → IfOk result (λ n. HasRows number (line_table (state S.Store conn.old).now.trees) n) }
     ensures named { IfErr result (λ e. e ≢ KeepError.Full) }
     ensures quiet { IsStill (state S.Store conn.old) (state S.Store conn.new) (fails result) }
 {

@@ -45,14 +45,10 @@ pub struct SqlKeep<S: Alter> {
     ghost few: { count ≤ 999999 },
     ghost long: { length heads.items ≡ count },
     ghost below: { AreBelow digests (count + 1) },
-    ghost kept: { has_failed ≡ false → HasCleanDisk (state S.Store connection)
-        → ∥ KeepsRegister (state S.Store connection) dictionary count ∥₁ },
-    ghost headed: { has_failed ≡ false → HasCleanDisk (state S.Store connection)
-        → AreHeads heads.items (deposits_in (state S.Store connection).committed.trees) },
-    ghost digested: { has_failed ≡ false → HasCleanDisk (state S.Store connection)
-        → AreDigested digests (deposits_in (state S.Store connection).committed.trees) },
-    ghost held: { has_failed ≡ false → HasCleanDisk (state S.Store connection)
-        → HoldsRecent (state S.Store connection).now recent },
+    ghost kept: { has_failed ≡ false → HasCleanDisk (state S.Store connection) → ∥ KeepsRegister (state S.Store connection) dictionary count ∥₁ },
+    ghost headed: { has_failed ≡ false → HasCleanDisk (state S.Store connection) → AreHeads heads.items (deposits_in (state S.Store connection).committed.trees) },
+    ghost digested: { has_failed ≡ false → HasCleanDisk (state S.Store connection) → AreDigested digests (deposits_in (state S.Store connection).committed.trees) },
+    ghost held: { has_failed ≡ false → HasCleanDisk (state S.Store connection) → HoldsRecent (state S.Store connection).now recent },
 }
 
 impl<S: Alter> SqlKeep<S> {
@@ -219,13 +215,13 @@ impl<S: Alter> Keep for SqlKeep<S> {
         &self.dictionary
     }
 
-    ghost settled = { λ k list clean works left.
-        settled_at (k.kept works clean) (S.Store.settled k.connection.store) list left };
+    ghost settled = { λ k list clean works left. settled_at (k.kept works clean)
+        (S.Store.settled k.connection.store) list left };
 
     ghost stays = { λ k clean works. stays_at (k.kept works clean) (S.Store.stays k.connection.store) };
 
-    ghost unbroken = { λ k clean works left.
-        unbroken_at (k.kept works clean) (S.Store.settled k.connection.store) left };
+    ghost unbroken = { λ k clean works left. unbroken_at (k.kept works clean)
+        (S.Store.settled k.connection.store) left };
 
     ghost remains = { λ k clean whole none. remains_at _ _ (S.Store.survives k.connection.store clean) whole none };
 
