@@ -45,10 +45,14 @@ pub struct SqlKeep<S: Alter> {
     ghost few: { count ≤ 999999 },
     ghost long: { length heads.items ≡ count },
     ghost below: { AreBelow digests (count + 1) },
-    ghost kept: { has_failed ≡ false → HasCleanDisk (state S.Store connection) → ∥ KeepsRegister (state S.Store connection) dictionary count ∥₁ },
-    ghost headed: { has_failed ≡ false → HasCleanDisk (state S.Store connection) → AreHeads heads.items (deposits_in (state S.Store connection).committed.trees) },
-    ghost digested: { has_failed ≡ false → HasCleanDisk (state S.Store connection) → AreDigested digests (deposits_in (state S.Store connection).committed.trees) },
-    ghost held: { has_failed ≡ false → HasCleanDisk (state S.Store connection) → HoldsRecent (state S.Store connection).now recent },
+    ghost kept: { has_failed ≡ false → HasCleanDisk (state S.Store connection)
+        → ∥ KeepsRegister (state S.Store connection) dictionary count ∥₁ },
+    ghost headed: { has_failed ≡ false → HasCleanDisk (state S.Store connection)
+        → AreHeads heads.items (deposits_in (state S.Store connection).committed.trees) },
+    ghost digested: { has_failed ≡ false → HasCleanDisk (state S.Store connection)
+        → AreDigested digests (deposits_in (state S.Store connection).committed.trees) },
+    ghost held: { has_failed ≡ false → HasCleanDisk (state S.Store connection)
+        → HoldsRecent (state S.Store connection).now recent },
 }
 
 impl<S: Alter> SqlKeep<S> {
