@@ -10,7 +10,7 @@ ghost use Rattle.reg_store.specs.Rows.{deposit_table, given_deposit, line_table,
 ghost use Rattle.reg_store.specs.declared.keep.KeptRow.{KeptRow};
 ghost use Rattle.sqlite.specs.Tree.{IsAscending};
 ghost use Rattle.ags_links.specs.Steps.{IsBefore};
-ghost use Rattle.reg_store.specs.Methods.{HasRows, HasSteps, HoldsLines, HoldsSteps};
+ghost use Rattle.reg_store.specs.Methods.{HasRows, HoldsLines, HoldsSteps};
 ghost use Rattle.reg_store.specs.Fit.{IsNamed};
 ghost use Rattle.reg_store.specs.Register.{has_number, meta_columns};
 
