@@ -65,17 +65,26 @@ def is_comment(line):
     return line.strip().startswith(("--", "//"))
 
 
+def ghost_members(lines):
+    """The ghost members `ghost name: { .. }` among the lines of a type or a trait: of each the place of its first line, and its lines."""
+    place = 0
+    while place < len(lines):
+        last = place
+        if re.match(r"\s+ghost \w+:", lines[place]):
+            while sum(line.count("{") - line.count("}") for line in lines[place:last + 1]) > 0:
+                last += 1
+            yield place, lines[place:last + 1]
+        place = last + 1
+
+
 def trait_lines(lines):
     """Of a trait its head, its ghost members with the comments above them, and its end."""
-    kept, comment = [lines[0]], []
-    for line in lines[1:-1]:
-        if is_comment(line):
-            comment.append(line)
-        elif re.match(r"\s+ghost ", line):
-            kept += comment + [line]
-            comment = []
-        else:
-            comment = []
+    kept = [lines[0]]
+    for place, member in ghost_members(lines):
+        first = place
+        while is_comment(lines[first - 1]):
+            first -= 1
+        kept += lines[first:place] + member
     return kept + [lines[-1]]
 
 
@@ -654,20 +663,21 @@ class Namer:
 
     def trait_members(self):
         """The ghost members and the laws of a trait; what its calls promise is each call's own contract."""
-        members = [line for line in self.item.lines if re.match(r"\s+ghost \w+:", line)]
-        self.bound |= {re.match(r"\s+ghost (\w+):", line)[1] for line in members}
-        for number, line in enumerate(self.item.lines, self.item.first):
-            if re.match(r"\s+ghost \w+:", line):
-                self.ghost_text([line], number)
+        members = list(ghost_members(self.item.lines))
+        self.bound |= {re.match(r"\s+ghost (\w+):", lines[0])[1] for _, lines in members}
+        for place, lines in members:
+            self.ghost_text(lines, self.item.first + place)
 
     def type_lines(self, lines, first):
         """The fields of a type that contracts see as it is declared; what always holds of them; the types of its fields."""
         self.bound |= self.generics(lines[:1])
         self.bound |= {m[1] for line in lines if (m := re.match(r"\s+(?:pub(?:\(crate\))? )?(\w+):", line))}
-        for number, line in enumerate(lines, first):
-            if re.match(r"\s+ghost ", line):
-                self.ghost_text([line], number)
-            elif not is_comment(line):
+        ghosts = dict(ghost_members(lines))
+        inside = {place + more for place, member in ghosts.items() for more in range(len(member))}
+        for place, line in enumerate(lines):
+            if place in ghosts:
+                self.ghost_text(ghosts[place], first + place)
+            elif place not in inside and not is_comment(line):
                 self.rust_types(line)
 
     def rust_types(self, line):

@@ -131,7 +131,31 @@ def proofs():
         return [item.name for item in house.needs(house.specs["low", "Base"].items["never"])[0]]
 
 
+TRAIT = """
+/// A keeper of a form.
+pub trait Keeper {
+    // its form
+    ghost form: { Self → Shape };
+
+    // its form has this size
+    ghost sized: { (keeper : Self)
+        → HasSize (form keeper) size };
+}
+"""
+
+
+def laws():
+    """A law of a trait that goes over two lines is read and shown to its end."""
+    with tempfile.TemporaryDirectory() as folder:
+        path = "crates/top/src/lib.rt"
+        text = FILES[path].replace("Words.{Shape}", "Words.{Shape, size}") + TRAIT
+        house = house_with(folder, {path: text})
+        trait = house.rust["top", "lib"].items["Keeper"]
+        return sorted(item.name for item in house.needs(trait)[0]), trait.shown()
+
+
 CASES += [
+    ("a law over two lines", laws(), (["HasSize", "Shape", "size"], [line for line in TRAIT.split("\n")[2:-1] if line])),
     ("a variant that there is not", variants(), "crates/low/specs/Base.antt:11: Rattle.low.specs.declared.colour.Colour.TheVariants.Blue is not found"),
     ("a proof", proofs(), ["number"]),
 ]

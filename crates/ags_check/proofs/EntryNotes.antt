@@ -1,38 +1,30 @@
 -- Going over the columns of a group, and what is noted of each.
-use Rattle.std.proofs.Common.{◌≡◌, ℕ, ◌+◌, ◌<◌, ◌≤◌, Bool, List, [], ◌∷◌, ◌++◌, length, get_or, map, sym, ap, subst, ◌∙◌, arith}
-use Rattle.std.specs.Prelude.{◌↔◌, IsTrue, option_map}
+use Rattle.std.proofs.Common.{◌≡◌, ℕ, ◌+◌, ◌<◌, ◌≤◌, List, [], ◌∷◌, length, get_or, map, sym, ap, subst, ◌∙◌, arith}
+use Rattle.std.specs.Prelude.{option_map}
 use Rattle.std.proofs.lemmas.List.{length-map}
 use Rattle.std.proofs.lemmas.Option.{slice_get-map, slice_get-get_or}
-use Rattle.ags_rows.specs.declared.code.Code.{Code}
 use Rattle.ags_rows.specs.declared.code.Code.TheVariants.{Rule8, Rule15, Rule16, Rule17}
 use Rattle.ags_rows.specs.declared.finding.Finding.{Finding}
 use Rattle.ags_rows.specs.Collecting.{At, Adds, Notes, AmongBefore, OneOf}
 use Rattle.ags_rows.specs.Contents.{Contents, group_contents, field_at, place_in}
 use Rattle.ags_rows.specs.declared.rows.Group.{Group}
-use Rattle.ags_rows.proofs.Lemmas.{found_if, adds_note, among_more, among_all, one_more, one_none}
+use Rattle.ags_rows.proofs.Lemmas.{among_more, among_all, one_more, two_rules}
 use Rattle.ags_check.specs.declared.rows.columns.Column.{Column}
-use Rattle.ags_check.specs.Columns.{IsColumn, AreColumns, entry_under, column_text, column_rules}
+use Rattle.ags_check.specs.Columns.{IsColumn, AreColumns, entry_under, column_text}
 use Rattle.ags_check.specs.RowRules.{DataEntry, entry_in, unit_over, IsUnfit, IsUnlistedUnit, IsUnlistedType, IsUnlistedUnitEntry, IsUnlistedAbbreviationEntry, IsUnlistedTypeEntry}
 use Rattle.ags_check.specs.RowPhase.{InHeadings, unit_and_type_rules, data_entry_rules}
 
--- one note before those of the other rules
-pub note_more : {Fact : Type 0} (line : ℕ) (code : Code) (subject : List ℕ) (b : Bool) (others : List (Finding → Type 0)) (old mid new : List Finding) → IsTrue b ↔ Fact
-    → mid ≡ old ++ found_if line code subject b → Adds (OneOf others) mid new → Adds (OneOf (Notes line code subject Fact ∷ others)) old new
-note_more {Fact} line code subject b others old mid new means joined rest =
-    one_more (Notes line code subject Fact) others old mid new (adds_note line code subject b Fact old mid means.0 means.1 joined) rest
-
 -- the notes on an entry
-pub entry_noted : (file : List Contents) (line : ℕ) (entry : DataEntry) (a b c d : Bool) (f0 f1 f2 f3 f4 : List Finding)
-    → IsTrue a ↔ IsUnfit entry → IsTrue b ↔ IsUnlistedUnitEntry file entry → IsTrue c ↔ IsUnlistedAbbreviationEntry file entry → IsTrue d ↔ IsUnlistedTypeEntry file entry
-    → f1 ≡ f0 ++ found_if line Rule8 entry.heading a → f2 ≡ f1 ++ found_if line Rule15 entry.heading b
-    → f3 ≡ f2 ++ found_if line Rule16 entry.heading c → f4 ≡ f3 ++ found_if line Rule17 entry.heading d → Adds (OneOf (data_entry_rules file line entry)) f0 f4
-entry_noted file line entry a b c d f0 f1 f2 f3 f4 ma mb mc md ja jb jc jd =
+pub entry_noted : (file : List Contents) (line : ℕ) (entry : DataEntry) (f0 f1 f2 f3 f4 : List Finding)
+    → Adds (Notes line Rule8 entry.heading (IsUnfit entry)) f0 f1 → Adds (Notes line Rule15 entry.heading (IsUnlistedUnitEntry file entry)) f1 f2
+    → Adds (Notes line Rule16 entry.heading (IsUnlistedAbbreviationEntry file entry)) f2 f3 → Adds (Notes line Rule17 entry.heading (IsUnlistedTypeEntry file entry)) f3 f4
+    → Adds (OneOf (data_entry_rules file line entry)) f0 f4
+entry_noted file line entry f0 f1 f2 f3 f4 unfit unit abbreviation type =
     let h = entry.heading in
     let types : List (Finding → Type 0) = Notes line Rule17 h (IsUnlistedTypeEntry file entry) ∷ [] in
     let abbreviations : List (Finding → Type 0) = Notes line Rule16 h (IsUnlistedAbbreviationEntry file entry) ∷ types in
-    let units : List (Finding → Type 0) = Notes line Rule15 h (IsUnlistedUnitEntry file entry) ∷ abbreviations in
-    note_more line Rule8 h a units f0 f1 f4 ma ja
-    (note_more line Rule15 h b abbreviations f1 f2 f4 mb jb (note_more line Rule16 h c types f2 f3 f4 mc jc (note_more line Rule17 h d [] f3 f4 f4 md jd (one_none f4))))
+    one_more (Notes line Rule8 h (IsUnfit entry)) (Notes line Rule15 h (IsUnlistedUnitEntry file entry) ∷ abbreviations) f0 f1 f4 unfit
+    (one_more (Notes line Rule15 h (IsUnlistedUnitEntry file entry)) abbreviations f1 f2 f4 unit (two_rules f2 f3 f4 abbreviation type))
 
 -- ---- columns and headings
 
@@ -78,16 +70,17 @@ entries_more file line group headings fields columns i d text old mid new are lt
     (subst (λ (entry : DataEntry). Adds (OneOf (data_entry_rules file line entry)) mid new) (entry_same group (get_or columns i d) fields text (are.each i d lt) is) here)
 
 -- what is listed of a column's unit and type is what is listed of the group's
-pub header_more : (file : List Contents) (group : Group) (columns : List Column) (i : ℕ) (d : Column) (old mid new : List Finding)
+pub header_more : (file : List Contents) (group : Group) (columns : List Column) (i : ℕ) (d : Column) (old mid half new : List Finding)
     → AreColumns (group_contents group) group.headings columns → i < length columns
     → Adds (AmongBefore group.headings (λ _ heading f. OneOf (unit_and_type_rules file group heading) f) i) old mid
-    → Adds (OneOf (column_rules file group (get_or columns i d))) mid new
+    → Adds (Notes group.unit_line Rule15 (heading_of (get_or columns i d)) (IsUnlistedUnit file (get_or columns i d).unit.now)) mid half
+    → Adds (Notes group.type_line Rule17 (heading_of (get_or columns i d)) (IsUnlistedType file (get_or columns i d).code.now)) half new
     → Adds (AmongBefore group.headings (λ _ heading f. OneOf (unit_and_type_rules file group heading) f) (i + 1)) old new
-header_more file group columns i d old mid new are lt before here =
+header_more file group columns i d old mid half new are lt before unit type =
     let column = get_or columns i d in
     let is : IsColumn (group_contents group) column = are.each i d lt in
     let h = column.heading.now in
     columns_more (unit_and_type_rules file group) group.headings columns i d old mid new are.heads lt before
-    (subst (λ (code : List ℕ).
-    Adds (OneOf (Notes group.unit_line Rule15 h (IsUnlistedUnit file (unit_over (group_contents group) h)) ∷ Notes group.type_line Rule17 h (IsUnlistedType file code) ∷ [])) mid new) is.code
-    (subst (λ (unit : List ℕ). Adds (OneOf (Notes group.unit_line Rule15 h (IsUnlistedUnit file unit) ∷ Notes group.type_line Rule17 h (IsUnlistedType file column.code.now) ∷ [])) mid new) is.unit here))
+    (two_rules mid half new
+    (subst (λ (u : List ℕ). Adds (Notes group.unit_line Rule15 h (IsUnlistedUnit file u)) mid half) is.unit unit)
+    (subst (λ (code : List ℕ). Adds (Notes group.type_line Rule17 h (IsUnlistedType file code)) half new) is.code type))

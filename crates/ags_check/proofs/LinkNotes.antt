@@ -1,27 +1,26 @@
 -- Record links, and entries that are null.
-use Rattle.std.proofs.Common.{◌≡◌, ◌≢◌, ℕ, ◌+◌, ◌<◌, Bool, true, false, eqb, List, [], ◌∷◌, ◌++◌, length, get_or, refl, sym, ap, subst, ◌∙◌, arith, inl, inr}
+use Rattle.std.proofs.Common.{◌≡◌, ◌≢◌, ℕ, ◌<◌, Bool, true, false, eqb, List, [], ◌∷◌, length, get_or, refl, sym, ap, subst, ◌∙◌, arith, inl, inr}
 use Rattle.std.specs.Prelude.{◌↔◌, IsTrue, Contains, codes}
 use Rattle.std.proofs.lemmas.Bool.{true≢false, eqb-true}
-use Rattle.ags_rows.specs.declared.code.Code.TheVariants.{Rule10b, Rule11c}
 use Rattle.ags_rows.specs.declared.finding.Finding.{Finding}
-use Rattle.ags_rows.specs.Collecting.{Adds, AmongBefore, OneOf}
+use Rattle.ags_rows.specs.Collecting.{Adds}
 use Rattle.ags_rows.specs.Contents.{Contents, under, field_at}
 use Rattle.ags_rows.specs.Names.{is_definition}
-use Rattle.ags_rows.proofs.Lemmas.{found_if, one_none, adds_none, contains_at}
+use Rattle.ags_rows.proofs.Lemmas.{adds_none, contains_at}
 use Rattle.ags_dict.specs.Entries.{Entries}
 use Rattle.ags_links.specs.DataRows.{row_in, entry_of, data_rows}
 use Rattle.ags_links.specs.RecordLinks.{separators_of, IsBroken}
 use Rattle.ags_check.specs.declared.rows.columns.Column.{Column}
 use Rattle.ags_check.specs.Columns.{IsColumn, AreColumns, column_text}
 use Rattle.ags_check.specs.RowRules.{IsBrokenLink}
-use Rattle.ags_check.specs.RowPhase.{InHeadings, link_rules, required_rules}
-use Rattle.ags_check.proofs.EntryNotes.{note_more, columns_more, heading_at, heading_of}
+use Rattle.ags_check.specs.RowPhase.{InHeadings, link_rules}
+use Rattle.ags_check.proofs.EntryNotes.{heading_at, heading_of}
 
 -- what stands in the row at a column's place stands under its heading
 pub text_same : (group : Contents) (column : Column) (fields : List (List ℕ)) (text : List ℕ) → IsColumn group column → text ≡ column_text column fields → text ≡ under group.headings fields column.heading.now
 text_same group column fields text is same = same ∙ ap (field_at fields) is.place
 
-pub link_means : (entries : Entries) (file : List Contents) (group : Contents) (column : Column) (fields : List (List ℕ)) (text : List ℕ) (b : Bool)
+link_means : (entries : Entries) (file : List Contents) (group : Contents) (column : Column) (fields : List (List ℕ)) (text : List ℕ) (b : Bool)
     → IsColumn group column → text ≡ column_text column fields → Contains group.headings column.heading.now → is_definition group.name ≡ false
     → IsTrue b ↔ (column.code.now ≡ codes "RL") × (text ≢ []) × IsBroken entries (separators_of file) (data_rows file) (row_in group fields) column.heading.now
     → IsTrue b ↔ IsBrokenLink entries file (row_in group fields) column.heading.now
@@ -34,18 +33,13 @@ link_means entries file group column fields text b is same stands data_group mea
       λ link. means.1 (is.code ∙ link.link.1, λ n. link.link.2 (sym there ∙ n), link.broken),
     )
 
--- the link of one column more
-pub links_more : (entries : Entries) (file : List Contents) (line : ℕ) (group : Contents) (fields : List (List ℕ)) (columns : List Column) (i : ℕ) (d : Column) (text : List ℕ) (b : Bool) (old mid new : List Finding)
+pub link_at : (entries : Entries) (file : List Contents) (group : Contents) (fields : List (List ℕ)) (columns : List Column) (i : ℕ) (d : Column) (text : List ℕ) (b : Bool)
     → AreColumns group group.headings columns → is_definition group.name ≡ false → i < length columns → text ≡ column_text (get_or columns i d) fields
     → IsTrue b ↔ ((get_or columns i d).code.now ≡ codes "RL") × (text ≢ []) × IsBroken entries (separators_of file) (data_rows file) (row_in group fields) (heading_of (get_or columns i d))
-    → new ≡ mid ++ found_if line Rule11c (heading_of (get_or columns i d)) b
-    → Adds (AmongBefore group.headings (λ _ heading f. OneOf (link_rules entries file line (row_in group fields) heading) f) i) old mid
-    → Adds (AmongBefore group.headings (λ _ heading f. OneOf (link_rules entries file line (row_in group fields) heading) f) (i + 1)) old new
-links_more entries file line group fields columns i d text b old mid new are data_group lt same means joined before =
-    let column = get_or columns i d in
-    let stands = contains_at group.headings i column.heading.now (heading_at group.headings columns i d are.heads lt) in
-    columns_more (link_rules entries file line (row_in group fields)) group.headings columns i d old mid new are.heads lt before
-    (note_more line Rule11c column.heading.now b [] mid new new (link_means entries file group column fields text b (are.each i d lt) same stands data_group means) joined (one_none new))
+    → IsTrue b ↔ IsBrokenLink entries file (row_in group fields) (heading_of (get_or columns i d))
+link_at entries file group fields columns i d text b are data_group lt same means =
+    let stands = contains_at group.headings i (heading_of (get_or columns i d)) (heading_at group.headings columns i d are.heads lt) in
+    link_means entries file group (get_or columns i d) fields text b (are.each i d lt) same stands data_group means
 
 -- a row of a definition group has no link that is broken
 pub no_links : (entries : Entries) (file : List Contents) (line : ℕ) (group : Contents) (fields headings : List (List ℕ)) (old : List Finding)
@@ -59,14 +53,6 @@ empty_means : (text : List ℕ) (b : Bool) → b ≡ eqb (length text) 0 → IsT
 empty_means [] b is = (λ e. refl, λ e. is)
 empty_means (x ∷ text) b is = (λ e. absurd (let none : length (x ∷ text) ≡ 0 = eqb-true (length (x ∷ text)) 0 (sym is ∙ e) in omega (arith, none)), λ e. absurd cc)
 
--- the REQUIRED entry of one column more
-pub lacking_more : (line : ℕ) (group : Contents) (headings fields : List (List ℕ)) (columns : List Column) (i : ℕ) (d : Column) (text : List ℕ) (b : Bool) (old mid new : List Finding)
-    → AreColumns group headings columns → i < length columns → text ≡ column_text (get_or columns i d) fields → b ≡ eqb (length text) 0
-    → new ≡ mid ++ found_if line Rule10b (heading_of (get_or columns i d)) b
-    → Adds (AmongBefore headings (λ _ heading f. OneOf (required_rules line (row_in group fields) heading) f) i) old mid
-    → Adds (AmongBefore headings (λ _ heading f. OneOf (required_rules line (row_in group fields) heading) f) (i + 1)) old new
-lacking_more line group headings fields columns i d text b old mid new are lt same is joined before =
-    let column = get_or columns i d in
-    let there : text ≡ entry_of (row_in group fields) column.heading.now = text_same group column fields text (are.each i d lt) same in
-    columns_more (required_rules line (row_in group fields)) headings columns i d old mid new are.heads lt before
-    (note_more line Rule10b column.heading.now b [] mid new new (subst (λ (t : List ℕ). IsTrue b ↔ (t ≡ [])) there (empty_means text b is)) joined (one_none new))
+pub lacking_means : (group : Contents) (column : Column) (fields : List (List ℕ)) (text : List ℕ) (b : Bool)
+    → IsColumn group column → text ≡ column_text column fields → b ≡ eqb (length text) 0 → IsTrue b ↔ (entry_of (row_in group fields) column.heading.now ≡ [])
+lacking_means group column fields text b is same empty = subst (λ (t : List ℕ). IsTrue b ↔ (t ≡ [])) (text_same group column fields text is same) (empty_means text b empty)

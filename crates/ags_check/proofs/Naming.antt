@@ -1,5 +1,5 @@
 -- Going over a list of names, and what is noted of each.
-use Rattle.std.proofs.Common.{◌≡◌, ℕ, ◌+◌, ◌<◌, ◌≤◌, Bool, true, false, not, cond, Option, Some, None, List, [], ◌∷◌, ◌++◌, length, get_or, map, refl, sym, ap, subst, ◌∙◌, arith}
+use Rattle.std.proofs.Common.{◌≡◌, ℕ, ◌+◌, ◌<◌, ◌≤◌, Bool, true, false, not, Option, Some, None, List, length, get_or, map, refl, sym, ap, subst, ◌∙◌, arith}
 use Rattle.std.specs.Prelude.{option_map, is_some}
 use Rattle.std.specs.Borrow.{Bor}
 use Rattle.std.proofs.lemmas.Bool.{true≢false}
@@ -10,7 +10,7 @@ use Rattle.ags_rows.specs.declared.finding.Finding.{Finding}
 use Rattle.ags_rows.specs.declared.rows.Group.{Group}
 use Rattle.ags_rows.specs.Collecting.{At, Adds}
 use Rattle.ags_rows.specs.Collecting.{Notes, AmongBefore}
-use Rattle.ags_rows.proofs.Lemmas.{at_within, at_read, at_from_read, adds_note, adds_same, among_more, among_all}
+use Rattle.ags_rows.proofs.Lemmas.{at_within, at_read, at_from_read, adds_same, among_more, among_all}
 use Rattle.ags_links.specs.DataRows.{IsAt}
 use Rattle.ags_check.specs.Placing.{AtNames, AtHeading}
 
@@ -25,14 +25,11 @@ pub name_at : (names : List (Bor (List ℕ))) (i : ℕ) (d : Bor (List ℕ)) →
 name_at names i d lt = slice_get-map (λ (k : Bor (List ℕ)). k.now) names i ∙ ap (option_map (λ (k : Bor (List ℕ)). k.now)) (slice_get-get_or names i d lt)
 
 -- one name more
-pub names_more : (names : List (Bor (List ℕ))) (line : ℕ) (code : Code) (Breaks : ℕ → List ℕ → Type 0) (i : ℕ) (d : Bor (List ℕ)) (b : Bool) (old mid new : List Finding)
-    → i < length names → (b ≡ true → Breaks i (get_or names i d).now) → (Breaks i (get_or names i d).now → b ≡ true)
-    → new ≡ mid ++ cond b (record { line = line; code = code; subject = (get_or names i d).now } ∷ []) []
-    → Adds (AmongBefore (texts names) (NotesName line code Breaks) i) old mid → Adds (AmongBefore (texts names) (NotesName line code Breaks) (i + 1)) old new
-names_more names line code Breaks i d b old mid new lt to from joined before =
-    let name = (get_or names i d).now in
-    among_more (texts names) (NotesName line code Breaks) i name old mid new (name_at names i d lt) before
-    (adds_note line code name b (Breaks i name) mid new to from joined)
+pub names_more : (names : List (Bor (List ℕ))) (line : ℕ) (code : Code) (Breaks : ℕ → List ℕ → Type 0) (i : ℕ) (d : Bor (List ℕ)) (old mid new : List Finding)
+    → i < length names → Adds (AmongBefore (texts names) (NotesName line code Breaks) i) old mid
+    → Adds (NotesName line code Breaks i (get_or names i d).now) mid new → Adds (AmongBefore (texts names) (NotesName line code Breaks) (i + 1)) old new
+names_more names line code Breaks i d old mid new lt before here =
+    among_more (texts names) (NotesName line code Breaks) i (get_or names i d).now old mid new (name_at names i d lt) before here
 
 -- all names
 pub names_all : (names : List (Bor (List ℕ))) (line : ℕ) (code : Code) (Breaks : ℕ → List ℕ → Type 0) (i : ℕ) (old new : List Finding)

@@ -1,5 +1,5 @@
 -- What is noted of a DATA row as a whole.
-use Rattle.std.proofs.Common.{◌≡◌, ◌≢◌, ℕ, Bool, true, not, ltb, Option, Some, None, List, [], ◌∷◌, ◌++◌, refl, sym, subst, ◌∙◌, arith}
+use Rattle.std.proofs.Common.{◌≡◌, ◌≢◌, ℕ, Bool, true, not, ltb, Option, Some, None, List, [], ◌∷◌, refl, sym, subst, ◌∙◌, arith}
 use Rattle.std.specs.Prelude.{◌↔◌, IsTrue, is_some, codes}
 use Rattle.std.proofs.lemmas.Bool.{true≢false, lt-ltb, ltb-true}
 use Rattle.std.proofs.lemmas.List.{get_or_default}
@@ -9,7 +9,7 @@ use Rattle.ags_rows.specs.declared.rows.Group.{Group}
 use Rattle.ags_rows.specs.declared.rows.Row.{Row}
 use Rattle.ags_rows.specs.Collecting.{Adds, Notes, OneOf}
 use Rattle.ags_rows.specs.Contents.{Contents, group_contents, fields_of}
-use Rattle.ags_rows.proofs.Lemmas.{found_if, one_more, one_none}
+use Rattle.ags_rows.proofs.Lemmas.{one_more, three_rules}
 use Rattle.ags_dict.specs.Entries.{Entries, keys_of, parent_of, required_of}
 use Rattle.ags_links.specs.DataRows.{DataRow, IsDataRow, Between, row_in, data_rows}
 use Rattle.ags_links.specs.Keys.{IsFirstOfKey, HasKeyOf}
@@ -17,7 +17,6 @@ use Rattle.ags_links.specs.Parents.{IsParentRow}
 use Rattle.ags_check.specs.RowRules.{entry_in, RepeatsKey, LacksParentRow, IsUnlistedFileSet}
 use Rattle.ags_check.specs.RowPhase.{InHeadings, data_entry_rules, link_rules, required_rules, data_row_rules}
 use Rattle.ags_check.proofs.Listings.{not_true, true_not}
-use Rattle.ags_check.proofs.EntryNotes.{note_more}
 
 -- one row has one number
 same_row : (rows : List DataRow) (n : ℕ) (r s : DataRow) → IsDataRow rows n r → IsDataRow rows n s → r ≡ s
@@ -63,23 +62,20 @@ parent_means entries file number row has parented at means = (
 )
 
 -- all that is noted of a row
-pub row_noted : (entries : Entries) (file : List Contents) (group : Group) (number : ℕ) (row : Row) (a b c : Bool) (f0 f1 f2 f3 f4 f5 f6 : List Finding)
+pub row_noted : (entries : Entries) (file : List Contents) (group : Group) (number : ℕ) (row : Row) (f0 f1 f2 f3 f4 f5 f6 : List Finding)
     → Adds (InHeadings group.headings (λ heading. data_entry_rules file row.line (entry_in (group_contents group) (fields_of row) heading))) f0 f1
     → Adds (InHeadings group.headings (link_rules entries file row.line (row_in (group_contents group) (fields_of row)))) f1 f2
     → Adds (InHeadings (required_of entries group.name) (required_rules row.line (row_in (group_contents group) (fields_of row)))) f2 f3
-    → IsTrue a ↔ RepeatsKey entries file number (row_in (group_contents group) (fields_of row)) → f4 ≡ f3 ++ found_if row.line Rule10a group.name a
-    → IsTrue b ↔ LacksParentRow entries file (row_in (group_contents group) (fields_of row)) → f5 ≡ f4 ++ found_if row.line Rule10c group.name b
-    → IsTrue c ↔ IsUnlistedFileSet file (row_in (group_contents group) (fields_of row)) → f6 ≡ f5 ++ found_if row.line Rule20 (codes "FILE_FSET") c
+    → Adds (Notes row.line Rule10a group.name (RepeatsKey entries file number (row_in (group_contents group) (fields_of row)))) f3 f4
+    → Adds (Notes row.line Rule10c group.name (LacksParentRow entries file (row_in (group_contents group) (fields_of row)))) f4 f5
+    → Adds (Notes row.line Rule20 (codes "FILE_FSET") (IsUnlistedFileSet file (row_in (group_contents group) (fields_of row)))) f5 f6
     → Adds (OneOf (data_row_rules entries file group number row)) f0 f6
-row_noted entries file group number row a b c f0 f1 f2 f3 f4 f5 f6 x y z ma ja mb jb mc jc =
+row_noted entries file group number row f0 f1 f2 f3 f4 f5 f6 entry link need key parent set =
     let r : DataRow = row_in (group_contents group) (fields_of row) in
     let sets : List (Finding → Type 0) = Notes row.line Rule20 (codes "FILE_FSET") (IsUnlistedFileSet file r) ∷ [] in
-    let parents : List (Finding → Type 0) = Notes row.line Rule10c group.name (LacksParentRow entries file r) ∷ sets in
-    let keys : List (Finding → Type 0) = Notes row.line Rule10a group.name (RepeatsKey entries file number r) ∷ parents in
+    let keys : List (Finding → Type 0) = Notes row.line Rule10a group.name (RepeatsKey entries file number r) ∷ Notes row.line Rule10c group.name (LacksParentRow entries file r) ∷ sets in
     let required : List (Finding → Type 0) = InHeadings (required_of entries group.name) (required_rules row.line r) ∷ keys in
     let links : List (Finding → Type 0) = InHeadings group.headings (link_rules entries file row.line r) ∷ required in
-    one_more (InHeadings group.headings (λ heading. data_entry_rules file row.line (entry_in (group_contents group) (fields_of row) heading))) links f0 f1 f6 x
-    (one_more (InHeadings group.headings (link_rules entries file row.line r)) required f1 f2 f6 y
-    (one_more (InHeadings (required_of entries group.name) (required_rules row.line r)) keys f2 f3 f6 z
-    (note_more row.line Rule10a group.name a parents f3 f4 f6 ma ja
-    (note_more row.line Rule10c group.name b sets f4 f5 f6 mb jb (note_more row.line Rule20 (codes "FILE_FSET") c [] f5 f6 f6 mc jc (one_none f6))))))
+    one_more (InHeadings group.headings (λ heading. data_entry_rules file row.line (entry_in (group_contents group) (fields_of row) heading))) links f0 f1 f6 entry
+    (one_more (InHeadings group.headings (link_rules entries file row.line r)) required f1 f2 f6 link
+    (one_more (InHeadings (required_of entries group.name) (required_rules row.line r)) keys f2 f3 f6 need (three_rules f3 f4 f5 f6 key parent set)))

@@ -1,16 +1,15 @@
 -- What a group says of its headings, and what the dictionary says of the group: looked up once a group.
-use Rattle.std.specs.Prelude.{◌≡◌, ◌≢◌, ◌↔◌, ◌+◌, ℕ, List, [], ◌∷◌, Bool, not, All, Option, map, codes, is_some, IsTrue}
-use Rattle.ags_rows.specs.declared.code.Code.TheVariants.{Rule15, Rule17}
-use Rattle.ags_rows.specs.declared.finding.Finding.{Finding}
+use Rattle.std.specs.Prelude.{◌≡◌, ◌≢◌, ◌↔◌, ◌+◌, ℕ, List, [], Bool, not, All, Option, map, codes, is_some, IsTrue}
 use Rattle.ags_rows.specs.declared.rows.Group.{Group}
 use Rattle.ags_rows.specs.declared.rows.Row.{Row}
-use Rattle.ags_rows.specs.Collecting.{At, Notes}
-use Rattle.ags_rows.specs.Contents.{Contents, group_contents, fields_of, place_in, field_at}
+use Rattle.ags_rows.specs.Collecting.{At}
+use Rattle.ags_rows.specs.Contents.{Contents, group_contents, place_in, field_at}
 use Rattle.ags_rows.specs.Names.{is_definition}
 use Rattle.ags_cells.specs.CellTypes.{IsTypeCodeOf}
 use Rattle.ags_dict.specs.Entries.{Entries, keys_of, required_of, parent_of}
-use Rattle.ags_links.specs.DataRows.{DataRow, IsDataRow, row_in}
-use Rattle.ags_check.specs.RowRules.{DataEntry, unit_over, type_over, IsUnlistedUnit, IsUnlistedType}
+use Rattle.ags_links.specs.DataRows.{DataRow, IsDataRow}
+use Rattle.ags_check.specs.RowRules.{DataEntry, unit_over, type_over}
+use Rattle.ags_check.specs.RowPhase.{headed_row}
 use Rattle.ags_check.specs.declared.rows.columns.Column.{Column}
 
 -- the type is that of the code
@@ -37,13 +36,6 @@ entry_under column text = record { heading = column.heading.now; unit = column.u
 abbrev pub column_text : Column → List (List ℕ) → List ℕ
 column_text column fields = field_at fields column.place
 
--- the rules on the unit and the type of a column
-abbrev pub column_rules : List Contents → Group → Column → List (Finding → Type 0)
-column_rules file group column =
-    Notes group.unit_line Rule15 column.heading.now (IsUnlistedUnit file column.unit.now)
-    ∷ Notes group.type_line Rule17 column.heading.now (IsUnlistedType file column.code.now)
-    ∷ []
-
 -- A group and the entries that it stands under.
 pub record Outlined : Type 0 where
   pub group : Group
@@ -60,4 +52,4 @@ pub record IsOutline (group : Group) (entries : Entries) (own_columns required_c
 
 -- the DATA rows of the group stand among these from number `first` on
 abbrev pub RowsStand : List DataRow → ℕ → Group → Type 0
-RowsStand rows first group = (place : ℕ) (row : Row) → At group.rows place row → IsDataRow rows (first + place) (row_in (group_contents group) (fields_of row))
+RowsStand rows first group = (place : ℕ) (row : Row) → At group.rows place row → IsDataRow rows (first + place) (headed_row group row)

@@ -1,5 +1,5 @@
 -- The findings of a file under a dictionary, and a file without any.
-use Rattle.std.specs.Prelude.{◌≡◌, ℕ, List, [], ◌∷◌, ◌++◌, take}
+use Rattle.std.specs.Prelude.{◌≡◌, ◌≢◌, ℕ, List, [], ◌∷◌, ◌++◌, take, Result, IsErrOf}
 use Rattle.ags_rows.specs.declared.finding.Finding.{Finding}
 use Rattle.ags_rows.specs.declared.rows.Group.{Group}
 use Rattle.ags_rows.specs.Contents.{Contents, contents_of}
@@ -9,6 +9,8 @@ use Rattle.ags_dict.specs.Entries.{Entries, extended}
 use Rattle.ags_links.specs.DataRows.{DataFile}
 use Rattle.ags_links.specs.Steps.{IsGraphOf}
 use Rattle.ags_links.specs.Walks.{Wiring}
+use Rattle.ags_check.specs.declared.checking.CheckError.{CheckError}
+use Rattle.ags_check.specs.declared.checking.CheckError.TheVariants as errors
 use Rattle.ags_check.specs.HeaderPhase.{header_rules}
 use Rattle.ags_check.specs.RowPhase.{entry_rules}
 
@@ -27,6 +29,11 @@ all_phases given file = phases file ++ dictionary_phases given (extended given (
 -- The findings of a file under a dictionary.
 abbrev pub Findings : Entries → List ℕ → List Finding → Type 0
 Findings given bytes found = (file : FileParts) × ArePartsOf bytes file × FirstFound (all_phases given file) found
+
+-- Where findings are the error, they are these, and there is one.
+abbrev pub HasFindings : {A : Type 0} → Result A CheckError → (List Finding → Type 0) → Type 0
+HasFindings result AreThese =
+    (found : List Finding) → IsErrOf result (errors.Findings found) → AreThese found × (found ≢ [])
 
 -- contents, read under the entries given and those of their own DICT
 abbrev pub read_under : Entries → List Contents → DataFile

@@ -10,6 +10,10 @@ use Rattle.ags_dict.specs.Entries.{Entries, required_of}
 use Rattle.ags_links.specs.DataRows.{DataRow, row_in, entry_of, rows_before}
 use Rattle.ags_check.specs.RowRules.{DataEntry, entry_in, unit_over, type_over, IsUnfit, IsUnlistedUnit, IsUnlistedType, IsUnlistedUnitEntry, IsUnlistedAbbreviationEntry, IsUnlistedTypeEntry, IsBrokenLink, RepeatsKey, LacksParentRow, IsUnlistedFileSet}
 
+-- a DATA row of a group, with what its group says of it
+abbrev pub headed_row : Group → Row → DataRow
+headed_row group row = row_in (group_contents group) (fields_of row)
+
 -- some heading of the list breaks one of the rules on headings
 abbrev pub InHeadings : List (List ℕ) → (List ℕ → List (Finding → Type 0)) → Finding → Type 0
 InHeadings headings rules found = Among headings (λ _ heading f. OneOf (rules heading) f) found
@@ -42,11 +46,11 @@ required_rules line row heading = Notes line Rule10b heading (entry_of row headi
 abbrev pub data_row_rules : Entries → List Contents → Group → ℕ → Row → List (Finding → Type 0)
 data_row_rules entries file group number row =
     InHeadings group.headings (λ heading. data_entry_rules file row.line (entry_in (group_contents group) (fields_of row) heading))
-    ∷ InHeadings group.headings (link_rules entries file row.line (row_in (group_contents group) (fields_of row)))
-    ∷ InHeadings (required_of entries group.name) (required_rules row.line (row_in (group_contents group) (fields_of row)))
-    ∷ Notes row.line Rule10a group.name (RepeatsKey entries file number (row_in (group_contents group) (fields_of row)))
-    ∷ Notes row.line Rule10c group.name (LacksParentRow entries file (row_in (group_contents group) (fields_of row)))
-    ∷ Notes row.line Rule20 (codes "FILE_FSET") (IsUnlistedFileSet file (row_in (group_contents group) (fields_of row)))
+    ∷ InHeadings group.headings (link_rules entries file row.line (headed_row group row))
+    ∷ InHeadings (required_of entries group.name) (required_rules row.line (headed_row group row))
+    ∷ Notes row.line Rule10a group.name (RepeatsKey entries file number (headed_row group row))
+    ∷ Notes row.line Rule10c group.name (LacksParentRow entries file (headed_row group row))
+    ∷ Notes row.line Rule20 (codes "FILE_FSET") (IsUnlistedFileSet file (headed_row group row))
     ∷ []
 
 -- the rules on one group, whose DATA rows are numbered from `first`

@@ -52,8 +52,20 @@ impl<'a> Checked<'a> {
         dictionary: Dictionary,
         graph: Graph,
     ) -> Self
-        requires { IsClean (record { given = given.now; bytes = bytes.now; groups = scan; entries = dictionary; graph = graph }) }
-        ensures { result ≡ record { given = given.now; bytes = bytes.entry.now; groups = scan.entry; entries = dictionary; graph = graph } }
+        requires { IsClean (record {
+          given = given.now;
+          bytes = bytes.now;
+          groups = scan;
+          entries = dictionary;
+          graph = graph;
+        }) }
+        ensures { result ≡ record {
+          given = given.now;
+          bytes = bytes.entry.now;
+          groups = scan.entry;
+          entries = dictionary;
+          graph = graph;
+        } }
     {
         let given_groups = given.group_count();
         let given_headings = given.heading_count();

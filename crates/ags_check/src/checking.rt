@@ -1,13 +1,12 @@
 //! Checking a file.
 
-ghost use Rattle.std.specs.Prelude.{◌≡◌, ◌≢◌, ◌≤◌, List, [], length, IfOk, OnOk, IsErrOf};
-ghost use Rattle.ags_rows.specs.declared.finding.Finding.{Finding};
+ghost use Rattle.std.specs.Prelude.{◌≡◌, ◌≤◌, length, IfOk, OnOk};
 ghost use Rattle.ags_rows.specs.Collecting.{OneOf};
 ghost use Rattle.ags_rows.specs.Contents.{contents_of};
 ghost use Rattle.ags_rows.specs.Findings.{AreExactly, RowFindings, FileGroups};
 ghost use Rattle.ags_check.specs.declared.checking.CheckError.TheVariants.{NoMemory};
 ghost use Rattle.ags_links.specs.Steps.{IsGraphOf};
-ghost use Rattle.ags_check.specs.Findings.{IsClear, Findings, IsClean};
+ghost use Rattle.ags_check.specs.Findings.{IsClear, Findings, HasFindings, IsClean};
 ghost use Rattle.ags_check.specs.HeaderPhase.{header_rules};
 ghost use Rattle.ags_check.specs.RowPhase.{entry_rules};
 
@@ -54,7 +53,7 @@ impl Debug for CheckError {
 fn read<'a>(alloc: Global, bytes: &'a [u8]) -> Result<Scan<'a>, CheckError>
     requires { length bytes.now ≤ READABLE }
     ensures groups { IfOk result (λ scan. FileGroups bytes.now scan) }
-    ensures findings { (found : List Finding) → IsErrOf result (CheckError.Findings found) → RowFindings bytes.now found × (found ≢ []) }
+    ensures findings { HasFindings result (RowFindings bytes.now) }
 {
     match Scan::read(alloc, bytes) {
         Ok(scan) => Ok(scan),
@@ -71,7 +70,7 @@ fn check_headers(
     scan: &Scan,
 ) -> Result<(), CheckError>
     ensures clear { OnOk result (IsClear (header_rules given.now extended.now scan.now)) }
-    ensures findings { (found : List Finding) → IsErrOf result (CheckError.Findings found) → AreExactly (OneOf (header_rules given.now extended.now scan.now)) found × (found ≢ []) }
+    ensures findings { HasFindings result (AreExactly (OneOf (header_rules given.now extended.now scan.now))) }
 {
     let file = NamedGroups::of(alloc, scan.groups())?;
     let found = header_findings(alloc, given, extended, &file)?;
@@ -92,7 +91,7 @@ fn check_indexed(
     requires entries { index.now.entries ≡ dictionary.now }
     ensures graph { IfOk result (IsGraphOf index.now) }
     ensures clear { OnOk result (IsClear (entry_rules dictionary.now scan.now)) }
-    ensures findings { (found : List Finding) → IsErrOf result (CheckError.Findings found) → AreExactly (OneOf (entry_rules dictionary.now scan.now)) found × (found ≢ []) }
+    ensures findings { HasFindings result (AreExactly (OneOf (entry_rules dictionary.now scan.now))) }
 {
     let of_rows = entry_findings(alloc, dictionary, index, scan.groups())?;
     if !of_rows.is_empty() {
@@ -107,7 +106,7 @@ fn check_indexed(
 fn check_rows(alloc: Global, dictionary: &Dictionary, scan: &Scan) -> Result<Graph, CheckError>
     ensures graph { IfOk result (IsGraphOf (record { contents = contents_of scan.now; entries = dictionary.now })) }
     ensures clear { OnOk result (IsClear (entry_rules dictionary.now scan.now)) }
-    ensures findings { (found : List Finding) → IsErrOf result (CheckError.Findings found) → AreExactly (OneOf (entry_rules dictionary.now scan.now)) found × (found ≢ []) }
+    ensures findings { HasFindings result (AreExactly (OneOf (entry_rules dictionary.now scan.now))) }
 {
     let index = Index::build(alloc, scan, dictionary)?;
     check_indexed(alloc, dictionary, scan, &index)
@@ -123,7 +122,7 @@ pub fn check<'a>(
     ensures bytes { IfOk result (λ checked. checked.bytes ≡ bytes.now) }
     ensures given { IfOk result (λ checked. checked.given ≡ dictionary.now) }
     ensures clean { IfOk result IsClean }
-    ensures findings { (found : List Finding) → IsErrOf result (CheckError.Findings found) → Findings dictionary.now bytes.now found × (found ≢ []) }
+    ensures findings { HasFindings result (Findings dictionary.now bytes.now) }
 {
     let scan = read(alloc, bytes)?;
     let extended = dictionary.extend(alloc, &scan)?;

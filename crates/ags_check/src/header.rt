@@ -18,7 +18,7 @@ use crate::header::headings::{note_absent, note_misnamed, note_misplaced, note_u
 use crate::header::only_rows::{note_further_rows, note_long_sign};
 use crate::named_groups::NamedGroups;
 use ags_dict::Dictionary;
-use ags_rows::{Code, Finding, Group, Places, Sequence, in_order};
+use ags_rows::{Code, Finding, Group, NotedFindings, Places, Sequence};
 use std::alloc::{AllocError, Global};
 
 /// What the HEADING row of a group breaks, where the dictionary knows the group.
@@ -28,9 +28,10 @@ fn note_heading_row(
     extended: &Dictionary,
     code: Code,
     group: &Group,
-    findings: &mut Vec<Finding>,
+    findings: &mut NotedFindings,
 ) -> Result<(), AllocError>
-    ensures { OnOk result (Adds (OneOf (heading_row_rules given.now extended.now code group.now)) findings.old.items findings.new.items) }
+    ensures { OnOk result (Adds (OneOf (heading_row_rules given.now extended.now code group.now))
+        findings.old findings.new) }
 {
     let name = group.name.as_slice();
     let line = group.heading_line;
@@ -38,18 +39,11 @@ fn note_heading_row(
     let headings = row.names();
     let keys = extended.keys(alloc, name)?;
     let required = extended.required(alloc, name)?;
-    note_unknown(alloc, extended, name, headings, line, code, findings)?;
-    note_misplaced(alloc, extended, name, headings, line, findings)?;
-    note_absent(alloc, keys.as_slice(), &row, line, Code::Rule10a, findings)?;
-    note_absent(
-        alloc,
-        required.as_slice(),
-        &row,
-        line,
-        Code::Rule10b,
-        findings,
-    )?;
-    note_misnamed(alloc, given, extended, name, headings, line, findings)?;
+    note_unknown(extended, name, headings, line, code, findings)?;
+    note_misplaced(extended, name, headings, line, findings)?;
+    note_absent(keys.as_slice(), &row, line, Code::Rule10a, findings)?;
+    note_absent(required.as_slice(), &row, line, Code::Rule10b, findings)?;
+    note_misnamed(given, extended, name, headings, line, findings)?;
     Ok(())
 }
 
@@ -60,9 +54,11 @@ fn note_known_heading_row(
     extended: &Dictionary,
     code: Code,
     group: &Group,
-    findings: &mut Vec<Finding>,
+    findings: &mut NotedFindings,
 ) -> Result<(), AllocError>
-    ensures { OnOk result (Adds (OfKnown extended.now group.now (heading_row_rules given.now extended.now code group.now)) findings.old.items findings.new.items) }
+    ensures { OnOk result (Adds
+        (OfKnown extended.now group.now (heading_row_rules given.now extended.now code group.now))
+        findings.old findings.new) }
 {
     if !extended.has_group(group.name.as_slice()) {
         return Ok(());
@@ -72,17 +68,13 @@ fn note_known_heading_row(
 }
 
 /// What the DATA rows of PROJ and TRAN break.
-fn note_only_rows(
-    alloc: Global,
-    group: &Group,
-    findings: &mut Vec<Finding>,
-) -> Result<(), AllocError>
-    ensures { OnOk result (Adds (OneOf (only_row_rules group.now)) findings.old.items findings.new.items) }
+fn note_only_rows(group: &Group, findings: &mut NotedFindings) -> Result<(), AllocError>
+    ensures { OnOk result (Adds (OneOf (only_row_rules group.now)) findings.old findings.new) }
 {
-    note_long_sign(alloc, group, Code::Rule11a, b"TRAN_DLIM", findings)?;
-    note_long_sign(alloc, group, Code::Rule11b, b"TRAN_RCON", findings)?;
-    note_further_rows(alloc, group, Code::Rule13, b"PROJ", findings)?;
-    note_further_rows(alloc, group, Code::Rule14, b"TRAN", findings)?;
+    note_long_sign(group, Code::Rule11a, b"TRAN_DLIM", findings)?;
+    note_long_sign(group, Code::Rule11b, b"TRAN_RCON", findings)?;
+    note_further_rows(group, Code::Rule13, b"PROJ", findings)?;
+    note_further_rows(group, Code::Rule14, b"TRAN", findings)?;
     Ok(())
 }
 
@@ -94,14 +86,16 @@ fn note_header_rows(
     file: &NamedGroups,
     code: Code,
     group: &Group,
-    findings: &mut Vec<Finding>,
+    findings: &mut NotedFindings,
 ) -> Result<(), AllocError>
-    ensures { OnOk result (Adds (OneOf (group_header_rules given.now extended.now (contents_of file.now) code group.now)) findings.old.items findings.new.items) }
+    ensures { OnOk result (Adds
+        (OneOf (group_header_rules given.now extended.now (contents_of file.now) code group.now))
+        findings.old findings.new) }
 {
-    note_unknown_group(alloc, extended, code, group, findings)?;
-    note_lacking_parent(alloc, extended, file, group, findings)?;
+    note_unknown_group(extended, code, group, findings)?;
+    note_lacking_parent(extended, file, group, findings)?;
     note_known_heading_row(alloc, given, extended, code, group, findings)?;
-    note_only_rows(alloc, group, findings)?;
+    note_only_rows(group, findings)?;
     Ok(())
 }
 
@@ -112,9 +106,11 @@ fn note_all_header_rows(
     extended: &Dictionary,
     file: &NamedGroups,
     code: Code,
-    findings: &mut Vec<Finding>,
+    findings: &mut NotedFindings,
 ) -> Result<(), AllocError>
-    ensures { OnOk result (Adds (InGroups file.now (group_header_rules given.now extended.now (contents_of file.now) code)) findings.old.items findings.new.items) }
+    ensures { OnOk result (Adds
+        (InGroups file.now (group_header_rules given.now extended.now (contents_of file.now) code))
+        findings.old findings.new) }
 {
     let groups = file.groups();
     for group in groups {
@@ -124,17 +120,13 @@ fn note_all_header_rows(
 }
 
 /// What the file lacks.
-fn note_absent_groups(
-    alloc: Global,
-    file: &NamedGroups,
-    findings: &mut Vec<Finding>,
-) -> Result<(), AllocError>
-    ensures { OnOk result (Adds (OneOf (file_rules (contents_of file.now))) findings.old.items findings.new.items) }
+fn note_absent_groups(file: &NamedGroups, findings: &mut NotedFindings) -> Result<(), AllocError>
+    ensures { OnOk result (Adds (OneOf (file_rules (contents_of file.now))) findings.old findings.new) }
 {
-    note_absent_group(alloc, file, Code::Rule13, b"PROJ", findings)?;
-    note_absent_group(alloc, file, Code::Rule14, b"TRAN", findings)?;
-    note_absent_group(alloc, file, Code::Rule15, b"UNIT", findings)?;
-    note_absent_group(alloc, file, Code::Rule17, b"TYPE", findings)?;
+    note_absent_group(file, Code::Rule13, b"PROJ", findings)?;
+    note_absent_group(file, Code::Rule14, b"TRAN", findings)?;
+    note_absent_group(file, Code::Rule15, b"UNIT", findings)?;
+    note_absent_group(file, Code::Rule17, b"TYPE", findings)?;
     Ok(())
 }
 
@@ -147,9 +139,9 @@ pub(crate) fn header_findings(
 ) -> Result<Sequence<Finding>, AllocError>
     ensures { IfOk result (AreExactly (OneOf (header_rules given.now extended.now file.now))) }
 {
-    let mut findings = Vec::new(alloc);
+    let mut findings = NotedFindings::new(alloc);
     let code = unknown_code(file.groups());
     note_all_header_rows(alloc, given, extended, file, code, &mut findings)?;
-    note_absent_groups(alloc, file, &mut findings)?;
-    Ok(in_order(findings))
+    note_absent_groups(file, &mut findings)?;
+    Ok(findings.in_order())
 }

@@ -1,15 +1,16 @@
 //! The fifth phase: the UNIT, TYPE and DATA rows.
 
-ghost use Rattle.std.specs.Prelude.{◌≡◌, ◌<◌, ◌+◌, ◌^◌, IfOk, OnOk, length};
+ghost use Rattle.std.specs.Prelude.{◌≡◌, ◌<◌, ◌+◌, ◌^◌, IfOk, OnOk, codes, length};
 ghost use Rattle.ags_rows.specs.Findings.{AreExactly};
-ghost use Rattle.ags_rows.specs.Collecting.{Adds, OneOf, Among};
+ghost use Rattle.ags_rows.specs.declared.code.Code.TheVariants.{Rule20};
+ghost use Rattle.ags_rows.specs.Collecting.{Adds, Notes, OneOf, Among};
 ghost use Rattle.ags_rows.specs.Contents.{group_contents, contents_of, fields_of};
-ghost use Rattle.ags_links.specs.DataRows.{row_in, IsDataRow};
+ghost use Rattle.ags_links.specs.DataRows.{IsDataRow};
 ghost use Rattle.ags_links.specs.Indexing.{rows_in};
 ghost use Rattle.ags_check.specs.Columns.{RowsStand};
-ghost use Rattle.ags_check.specs.RowRules.{entry_in};
+ghost use Rattle.ags_check.specs.RowRules.{entry_in, IsUnlistedFileSet};
 ghost use Rattle.ags_dict.specs.Entries.{required_of};
-ghost use Rattle.ags_check.specs.RowPhase.{InHeadings, unit_and_type_rules, data_entry_rules, link_rules, required_rules, data_row_rules, entry_rules_of, entry_rules};
+ghost use Rattle.ags_check.specs.RowPhase.{headed_row, InHeadings, unit_and_type_rules, data_entry_rules, link_rules, required_rules, data_row_rules, entry_rules_of, entry_rules};
 
 pub(crate) mod abbreviations;
 pub(crate) mod code_lists;
@@ -24,29 +25,27 @@ use crate::rows::links::note_links;
 use crate::rows::outline::Outline;
 use ags_dict::Dictionary;
 use ags_links::Index;
-use ags_rows::{Code, Finding, Group, Row, Sequence, in_order, note};
+use ags_rows::{Code, Finding, Group, NotedFindings, Row, Sequence};
 use std::alloc::{AllocError, Global};
 
 /// Rule 11c: what the record links of a row break.
 fn note_row_links(
-    alloc: Global,
     index: &Index,
     outline: &Outline,
     row: &Row,
     number: u32,
-    findings: &mut Vec<Finding>,
+    findings: &mut NotedFindings,
 ) -> Result<(), AllocError>
-    requires { IsDataRow (rows_in index.now) number (row_in (group_contents outline.now.group) (fields_of row.now)) }
+    requires { IsDataRow (rows_in index.now) number (headed_row outline.now.group row.now) }
     ensures { OnOk result (Adds (InHeadings outline.now.group.headings
-        (link_rules index.now.entries index.now.contents row.now.line (row_in (group_contents outline.now.group) (fields_of row.now))))
-        findings.old.items findings.new.items) }
+        (link_rules index.now.entries index.now.contents row.now.line (headed_row outline.now.group row.now)))
+        findings.old findings.new) }
 {
     if !outline.is_data {
         return Ok(());
     }
     let columns = outline.columns.as_slice();
     note_links(
-        alloc,
         row.line,
         columns,
         row.cells.as_slice(),
@@ -59,109 +58,105 @@ fn note_row_links(
 
 /// What the entries of a row break.
 fn note_row_entries<'a>(
-    alloc: Global,
     listed: &CodeLists<'a>,
     outline: &Outline<'a>,
     row: &'a Row,
-    findings: &mut Vec<Finding>,
+    findings: &mut NotedFindings,
 ) -> Result<(), AllocError>
     ensures { OnOk result (Adds (InHeadings outline.now.group.headings
-        (λ heading. data_entry_rules listed.now row.now.line (entry_in (group_contents outline.now.group) (fields_of row.now) heading)))
-        findings.old.items findings.new.items) }
+        (λ heading. data_entry_rules listed.now row.now.line
+        (entry_in (group_contents outline.now.group) (fields_of row.now) heading)))
+        findings.old findings.new) }
 {
     let columns = outline.columns.as_slice();
-    note_entries(
-        alloc,
-        row.line,
-        columns,
-        row.cells.as_slice(),
-        listed,
-        findings,
-    )?;
+    note_entries(row.line, columns, row.cells.as_slice(), listed, findings)?;
     Ok(())
 }
 
 /// Rule 10b: which REQUIRED entries of a row are null.
 fn note_row_lacking(
-    alloc: Global,
     outline: &Outline,
     row: &Row,
-    findings: &mut Vec<Finding>,
+    findings: &mut NotedFindings,
 ) -> Result<(), AllocError>
     ensures { OnOk result (Adds (InHeadings (required_of outline.now.entries outline.now.group.name)
-        (required_rules row.now.line (row_in (group_contents outline.now.group) (fields_of row.now))))
-        findings.old.items findings.new.items) }
+        (required_rules row.now.line (headed_row outline.now.group row.now)))
+        findings.old findings.new) }
 {
     let required = outline.required.as_slice();
-    note_lacking(alloc, row.line, required, row.cells.as_slice(), findings)?;
+    note_lacking(row.line, required, row.cells.as_slice(), findings)?;
+    Ok(())
+}
+
+/// Rule 20: notes the file set of a row that no row of FILE has.
+fn note_unlisted_file_set(
+    index: &Index,
+    outline: &Outline,
+    row: &Row,
+    number: u32,
+    findings: &mut NotedFindings,
+) -> Result<(), AllocError>
+    requires { IsDataRow (rows_in index.now) number (headed_row outline.now.group row.now) }
+    ensures { OnOk result (Adds (Notes row.now.line Rule20 (codes "FILE_FSET")
+        (IsUnlistedFileSet index.now.contents (headed_row outline.now.group row.now)))
+        findings.old findings.new) }
+{
+    let has_file = index.has_file(number);
+    if outline.is_unlisted_file_set(row.cells.as_slice(), has_file) {
+        findings.note(row.line, Code::Rule20, b"FILE_FSET")?;
+    }
     Ok(())
 }
 
 /// What a DATA row breaks.
 fn note_data_row<'a>(
-    alloc: Global,
     index: &Index,
     listed: &CodeLists<'a>,
     outline: &Outline<'a>,
     row: &'a Row,
     number: u32,
-    findings: &mut Vec<Finding>,
+    findings: &mut NotedFindings,
 ) -> Result<(), AllocError>
-    requires row { IsDataRow (rows_in index.now) number (row_in (group_contents outline.now.group) (fields_of row.now)) }
+    requires row { IsDataRow (rows_in index.now) number (headed_row outline.now.group row.now) }
     requires listed { listed.now ≡ index.now.contents }
     requires entries { outline.now.entries ≡ index.now.entries }
-    ensures { OnOk result (Adds (OneOf (data_row_rules index.now.entries index.now.contents outline.now.group number row.now)) findings.old.items findings.new.items) }
+    ensures { OnOk result (Adds
+        (OneOf (data_row_rules index.now.entries index.now.contents outline.now.group number row.now))
+        findings.old findings.new) }
 {
-    let line = row.line;
     let name = outline.name();
-    let repeats = outline.repeats_key(index, number)?;
-    let is_orphan = outline.lacks_parent(index, number)?;
-    let has_file = index.has_file(number);
-    let is_unlisted = outline.is_unlisted_file_set(row.cells.as_slice(), has_file);
-    note_row_entries(alloc, listed, outline, row, findings)?;
-    note_row_links(alloc, index, outline, row, number, findings)?;
-    note_row_lacking(alloc, outline, row, findings)?;
-    note(alloc, findings, line, Code::Rule10a, name, repeats)?;
-    note(alloc, findings, line, Code::Rule10c, name, is_orphan)?;
-    note(
-        alloc,
-        findings,
-        line,
-        Code::Rule20,
-        b"FILE_FSET",
-        is_unlisted,
-    )?;
-    Ok(())
+    note_row_entries(listed, outline, row, findings)?;
+    note_row_links(index, outline, row, number, findings)?;
+    note_row_lacking(outline, row, findings)?;
+    if outline.repeats_key(index, number)? {
+        findings.note(row.line, Code::Rule10a, name)?;
+    }
+    if outline.lacks_parent(index, number)? {
+        findings.note(row.line, Code::Rule10c, name)?;
+    }
+    note_unlisted_file_set(index, outline, row, number, findings)
 }
 
 /// What the DATA rows of a group break.
 fn note_data_rows<'a>(
-    alloc: Global,
     index: &Index,
     listed: &CodeLists<'a>,
     outline: &Outline<'a>,
     first: u32,
-    findings: &mut Vec<Finding>,
+    findings: &mut NotedFindings,
 ) -> Result<(), AllocError>
     requires rows { RowsStand (rows_in index.now) first outline.now.group }
     requires few { first + length outline.now.group.rows < 2 ^ 32 }
     requires listed { listed.now ≡ index.now.contents }
     requires entries { outline.now.entries ≡ index.now.entries }
     ensures { OnOk result (Adds
-        (Among outline.now.group.rows (λ place row f. OneOf (data_row_rules index.now.entries index.now.contents outline.now.group (first + place) row) f))
-        findings.old.items findings.new.items) }
+        (Among outline.now.group.rows (λ place row f.
+        OneOf (data_row_rules index.now.entries index.now.contents outline.now.group (first + place) row) f))
+        findings.old findings.new) }
 {
     let rows = outline.rows();
     for (i, row) in rows.iter().enumerate() {
-        note_data_row(
-            alloc,
-            index,
-            listed,
-            outline,
-            row,
-            first + i as u32,
-            findings,
-        )?;
+        note_data_row(index, listed, outline, row, first + i as u32, findings)?;
     }
     Ok(())
 }
@@ -174,31 +169,33 @@ fn note_group_entries<'a>(
     listed: &CodeLists<'a>,
     group: &'a Group<'a>,
     first: u32,
-    findings: &mut Vec<Finding>,
+    findings: &mut NotedFindings,
 ) -> Result<(), AllocError>
     requires rows { RowsStand (rows_in index.now) first group.now }
     requires few { first + length group.now.rows < 2 ^ 32 }
     requires listed { listed.now ≡ index.now.contents }
     requires entries { dictionary.now ≡ index.now.entries }
-    ensures { OnOk result (Adds (OneOf (entry_rules_of index.now.entries index.now.contents first group.now)) findings.old.items findings.new.items) }
+    ensures { OnOk result (Adds (OneOf (entry_rules_of index.now.entries index.now.contents first group.now))
+        findings.old findings.new) }
 {
     let outline = Outline::of(alloc, dictionary, group)?;
-    note_units_and_types(alloc, &outline, listed, findings)?;
-    note_data_rows(alloc, index, listed, &outline, first, findings)?;
+    note_units_and_types(&outline, listed, findings)?;
+    note_data_rows(index, listed, &outline, first, findings)?;
     Ok(())
 }
 
 /// What the UNIT and TYPE row of a group break.
 fn note_units_and_types(
-    alloc: Global,
     outline: &Outline,
     listed: &CodeLists,
-    findings: &mut Vec<Finding>,
+    findings: &mut NotedFindings,
 ) -> Result<(), AllocError>
-    ensures { OnOk result (Adds (InHeadings outline.now.group.headings (unit_and_type_rules listed.now outline.now.group)) findings.old.items findings.new.items) }
+    ensures { OnOk result (Adds
+        (InHeadings outline.now.group.headings (unit_and_type_rules listed.now outline.now.group))
+        findings.old findings.new) }
 {
     let columns = outline.columns.as_slice();
-    note_columns(alloc, outline.group, columns, listed, findings)?;
+    note_columns(outline.group, columns, listed, findings)?;
     Ok(())
 }
 
@@ -208,12 +205,12 @@ fn note_all_entries<'a>(
     dictionary: &'a Dictionary,
     index: &Index,
     groups: &'a [Group<'a>],
-    findings: &mut Vec<Finding>,
+    findings: &mut NotedFindings,
 ) -> Result<(), AllocError>
     requires contents { index.now.contents ≡ contents_of groups.now }
     requires entries { dictionary.now ≡ index.now.entries }
     requires few { length (rows_in index.now) < 2 ^ 32 }
-    ensures { OnOk result (Adds (OneOf (entry_rules dictionary.now groups.now)) findings.old.items findings.new.items) }
+    ensures { OnOk result (Adds (OneOf (entry_rules dictionary.now groups.now)) findings.old findings.new) }
 {
     let listed = CodeLists::of(alloc, groups)?;
     let mut first = 0;
@@ -236,9 +233,9 @@ pub(crate) fn entry_findings<'a>(
     requires entries { dictionary.now ≡ index.now.entries }
     ensures { IfOk result (AreExactly (OneOf (entry_rules dictionary.now groups.now))) }
 {
-    let mut findings = Vec::new(alloc);
+    let mut findings = NotedFindings::new(alloc);
     // the index counts its rows with a number below 2^32, so each has its own
     index.row_count();
     note_all_entries(alloc, dictionary, index, groups, &mut findings)?;
-    Ok(in_order(findings))
+    Ok(findings.in_order())
 }

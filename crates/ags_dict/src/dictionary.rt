@@ -87,7 +87,8 @@ impl Dictionary {
 
     /// The group's headings whose status has a word, in the order of the dictionary.
     fn of_status(&self, alloc: Global, group: &[u8], word: &[u8]) -> Result<Vec<&[u8]>, AllocError>
-        ensures { IfOk result (λ found. map (λ h. h.now) found.items ≡ map heading_of (filter (of_status group.now word.now) self.now.headings)) }
+        ensures { IfOk result (λ found. map (λ h. h.now) found.items
+            ≡ map heading_of (filter (of_status group.now word.now) self.now.headings)) }
     {
         let entries = self.headings.of_group(alloc, group)?;
         let mut found = Vec::new(alloc);

@@ -37,7 +37,8 @@ fn take_heading_row(
     cells: &[Cell],
     entries: HeadingEntries,
 ) -> Result<HeadingEntries, AllocError>
-    ensures { IfOk result (λ taken. taken ≡ with_unstated same_heading entries (heading_entries headings.now cells.now)) }
+    ensures { IfOk result (λ taken.
+        taken ≡ with_unstated same_heading entries (heading_entries headings.now cells.now)) }
 {
     if under(headings, cells, b"DICT_TYPE") != b"HEADING".as_slice() {
         return Ok(entries);
@@ -52,8 +53,10 @@ fn take_heading_row(
 
 /// The entries with the new ones of a group's rows.
 fn take_rows(alloc: Global, group: &Group, dictionary: Dictionary) -> Result<Dictionary, AllocError>
-    ensures groups { IfOk result (λ taken. taken.groups ≡ with_unstated same_group dictionary.groups (flat_map (group_entries group.now.headings) (group_contents group.now).rows)) }
-    ensures headings { IfOk result (λ taken. taken.headings ≡ with_unstated same_heading dictionary.headings (flat_map (heading_entries group.now.headings) (group_contents group.now).rows)) }
+    ensures groups { IfOk result (λ taken. taken.groups ≡ with_unstated same_group dictionary.groups
+        (flat_map (group_entries group.now.headings) (group_contents group.now).rows)) }
+    ensures headings { IfOk result (λ taken. taken.headings ≡ with_unstated same_heading dictionary.headings
+        (flat_map (heading_entries group.now.headings) (group_contents group.now).rows)) }
 {
     let Dictionary {
         mut groups,
@@ -77,8 +80,10 @@ pub(crate) fn is_dict(group: &Group) -> bool
 
 /// The entries with the new ones of a group, if it is DICT.
 fn take_dict(alloc: Global, group: &Group, dictionary: Dictionary) -> Result<Dictionary, AllocError>
-    ensures groups { IfOk result (λ taken. taken.groups ≡ with_unstated same_group dictionary.groups (group_entries_in (group_contents group.now))) }
-    ensures headings { IfOk result (λ taken. taken.headings ≡ with_unstated same_heading dictionary.headings (heading_entries_in (group_contents group.now))) }
+    ensures groups { IfOk result (λ taken. taken.groups
+        ≡ with_unstated same_group dictionary.groups (group_entries_in (group_contents group.now))) }
+    ensures headings { IfOk result (λ taken. taken.headings
+        ≡ with_unstated same_heading dictionary.headings (heading_entries_in (group_contents group.now))) }
 {
     if !is_dict(group) {
         return Ok(dictionary);

@@ -94,7 +94,8 @@ impl Ranks {
         rank: usize,
     ) -> Result<(), AllocError>
         ensures { OnOk result ((g h : List ℕ) → rank_at self.new g h
-            ≡ option_or (rank_at self.old g h) (if bytes_eq group.now g && bytes_eq heading.now h then Some rank else None)) }
+            ≡ option_or (rank_at self.old g h)
+            (if bytes_eq group.now g && bytes_eq heading.now h then Some rank else None)) }
     {
         if self.of(group, heading).is_none() {
             self.put(alloc, group, heading, rank)?;

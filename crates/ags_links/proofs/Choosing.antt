@@ -1,5 +1,5 @@
 -- Those of the rows of a parent group that may be parent rows of one row.
-use Rattle.std.proofs.Common.{◌≡◌, ℕ, ◌+◌, ◌<◌, ◌≤◌, Bool, true, false, not, Option, List, [], ◌∷◌, ◌++◌, length, take, get_or, map, sym, ap, subst, ◌∙◌, arith, inl, inr, ◌⊎◌, Contains, All}
+use Rattle.std.proofs.Common.{◌≡◌, ℕ, ◌+◌, ◌<◌, ◌≤◌, Bool, true, false, not, Option, List, [], ◌∷◌, ◌++◌, length, take, get_or, map, sym, ap, subst, ◌∙◌, arith, inl, inr, Contains, All}
 use Rattle.std.specs.Str.{bytes_eq}
 use Rattle.std.proofs.lemmas.Bool.{true≢false, cases_eq}
 use Rattle.std.proofs.lemmas.Slice.Eq.{bytes_eq-Decides}
@@ -8,7 +8,7 @@ use Rattle.ags_dict.specs.Entries.{Entries}
 use Rattle.ags_links.specs.declared.families.Family.{Family}
 use Rattle.ags_links.specs.declared.placed.PlacedRow.{PlacedRow}
 use Rattle.std.specs.List.Sorted.{IsStrictlyIncreasing}
-use Rattle.std.proofs.lemmas.List.{take_more, take_all}
+use Rattle.std.proofs.lemmas.List.{take_more, take_all, length-map}
 use Rattle.std.proofs.lemmas.List.Elements.{Contains-get_or, Contains-push, Contains-push_cases, Contains-append_left}
 use Rattle.ags_links.specs.DataRows.{DataRow, IsAt, IsDataRow, entry_of}
 use Rattle.ags_links.specs.Families.{HasAmong, HasEntries, HasFamily}
@@ -19,11 +19,11 @@ use Rattle.ags_links.proofs.Finding.{before_next, finds_asked}
 use Rattle.ags_links.proofs.Rising.{rising_nil, rising_push}
 use Rattle.ags_links.proofs.Heading.{entries_at}
 use Rattle.ags_links.proofs.Kept.{kept_family}
-use Rattle.ags_links.proofs.RowLemmas.{at_map, one_at}
+use Rattle.ags_links.proofs.RowLemmas.{at_map, one_at, some_at}
 use Rattle.ags_links.proofs.Spelled.{key_text_same}
 
 -- what is made of two lists alike is so at each place
-pub same_at : {X Y : Type 0} (f g : X → Y) (xs ys : List X) (i : ℕ) (x y : X) → map f xs ≡ map g ys → IsAt xs i x → IsAt ys i y → f x ≡ g y
+pub same_at : {X Y Z : Type 0} (f : X → Z) (g : Y → Z) (xs : List X) (ys : List Y) (i : ℕ) (x : X) (y : Y) → map f xs ≡ map g ys → IsAt xs i x → IsAt ys i y → f x ≡ g y
 same_at f g xs ys i x y same at also = one_at (map g ys) i (f x) (g y) (subst (λ l. IsAt l i (f x)) same (at_map f xs i x at)) (at_map g ys i y also)
 
 pub unequal : (x y : List ℕ) (t : Bool) → t ≡ not (bytes_eq x y) → t ≡ true → x ≡ y → ⊥
@@ -43,7 +43,23 @@ has_no_text entries families rows n place x y family places stood names t have a
       true≢false (sym (agree (sym alike ∙ sym entries_of)) ∙ fails)
 ]
 
+-- a row that has the text has its first entry
+pub first_entry : (names : List (List ℕ)) (places : List (Option ℕ)) (x y : PlacedRow) (place : Option ℕ) → IsAt places 0 place → HasEntries names (row_of x) (text_at places y)
+    → (name : List ℕ) × IsAt names 0 name × (entry_of (row_of x) name ≡ field_at (row_of y).fields place)
+first_entry names places x y place placed has =
+    let same = key_text_same (map (entry_of (row_of x)) names) (map (field_at (row_of y).fields) places) has in
+    let name = some_at names 0 (omega (arith, placed.0, ap length same, length-map names (entry_of (row_of x)), length-map places (field_at (row_of y).fields))) in
+    (name.0, name.1, same_at (entry_of (row_of x)) (field_at (row_of y).fields) names places 0 name.0 place same name.1 placed)
+
 module _ (rows : List DataRow) (numbers : List ℕ) (headings : List (List ℕ)) (text : List ℕ) where
+  -- all are chosen
+  pub chosen_whole : (chosen : List ℕ) → chosen ≡ numbers → IsStrictlyIncreasing numbers → AreCandidates rows numbers headings text chosen
+  chosen_whole chosen e rises = subst (AreCandidates rows numbers headings text) (sym e) (record {
+    rising = rises;
+    among = λ n h. h;
+    all = λ n s h row has. h;
+  })
+
   pub none_chosen : (chosen : List ℕ) → chosen ≡ [] → AreCandidates rows [] headings text chosen
   none_chosen chosen e = record {
     rising = subst IsStrictlyIncreasing (sym e) rising_nil;

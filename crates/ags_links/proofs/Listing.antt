@@ -1,5 +1,5 @@
 -- The parent rows of each row, once the texts that they were found by are let go.
-use Rattle.std.proofs.Common.{◌≡◌, ℕ, ◌-◌, ◌<◌, List, length, take, drop, map, refl, sym, ap, subst, ◌∙◌, arith, All, Vec}
+use Rattle.std.proofs.Common.{◌≡◌, ℕ, ◌-◌, List, length, take, drop, map, refl, sym, ap, subst, ◌∙◌, arith, All, Vec}
 use Rattle.std.specs.declared.alloc.Global.{Global}
 use Rattle.std.proofs.lemmas.List.{length-map, take-map, drop-map}
 use Rattle.ags_rows.specs.declared.rows.Group.{Group}

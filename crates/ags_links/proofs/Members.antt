@@ -65,7 +65,7 @@ pub no_items : (xs : List ℕ) (t : Bool) → t ≡ eqb (length xs) 0 → t ≡ 
 no_items [] t e is = refl
 no_items (x ∷ xs) t e is = let z : length (x ∷ xs) ≡ 0 = eqb-true (length (x ∷ xs)) 0 (sym e ∙ is) in absurd (omega arith)
 
-pub some_items : (xs : List ℕ) (t : Bool) → t ≡ eqb (length xs) 0 → t ≡ false → 0 < length xs
+pub some_items : {X : Type 0} (xs : List X) (t : Bool) → t ≡ eqb (length xs) 0 → t ≡ false → 0 < length xs
 some_items [] t e is = absurd (true≢false (sym e ∙ is))
 some_items (x ∷ xs) t e is = omega arith
 

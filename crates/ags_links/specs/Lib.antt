@@ -11,6 +11,7 @@ pub mod Lookups
 pub mod Placing
 pub mod Families
 pub mod ParentRows
+pub mod EntryLists
 pub mod Targets
 pub mod Indexing
 pub mod Adding

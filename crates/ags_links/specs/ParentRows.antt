@@ -3,7 +3,7 @@
 use Rattle.std.specs.Prelude.{◌≡◌, ◌≢◌, ◌<◌, ◌≤◌, ◌-◌, ◌↔◌, ℕ, List, Vec, [], ◌∷◌, Option, Some, None, All, Contains, map, length, take, drop, slice_index_or}
 use Rattle.std.specs.List.Sorted.{IsStrictlyIncreasing}
 use Rattle.std.specs.declared.alloc.Global.{Global}
-use Rattle.ags_rows.specs.Contents.{place_in, field_at}
+use Rattle.ags_rows.specs.Contents.{place_in}
 use Rattle.ags_rows.specs.declared.rows.Group.{Group}
 use Rattle.ags_dict.specs.Entries.{Entries, keys_of, parent_of}
 use Rattle.ags_links.specs.declared.families.Family.{Family}
@@ -21,7 +21,7 @@ use Rattle.ags_links.specs.Families.{AreKept, HasText, HasEntries, HasAmong}
 use Rattle.ags_links.specs.KeyTexts.{key_text}
 use Rattle.ags_links.specs.Lookups.{FindsAsked, found, IsSpanOf}
 use Rattle.ags_links.specs.Parents.{IsParentRow}
-use Rattle.ags_links.specs.Placing.{row_of}
+use Rattle.ags_links.specs.Placing.{row_of, fields_at}
 
 -- these are the link headings of a group: those of its headings that are KEY headings of its parent group
 abbrev pub AreLinkHeadings : Entries → List ℕ → List (List ℕ) → List (List ℕ) → Type 0
@@ -55,7 +55,7 @@ AreNumbers count links = All (λ n. n < count) links.rows.now × IsStrictlyIncre
 
 -- the row's entries at the places, as one text
 abbrev pub text_at : List (Option ℕ) → PlacedRow → List ℕ
-text_at places row = key_text (map (field_at (row_of row).fields) places)
+text_at places row = key_text (fields_at places row)
 
 -- row n has its parent rows in this look-up
 pub record IsUserOf (rows : List PlacedRow) (of_groups : List LinkPlaces) (lookup n : ℕ) (row : PlacedRow) (links : LinkPlaces) : Type 0 where
@@ -132,7 +132,7 @@ HasLookup parents row = (row.place < length parents.of_groups.items)
 -- the span is where the look-up of the row's group has the row's entries under its link headings
 abbrev pub IsParentSpan : ParentLookups → PlacedRow → Span → Type 0
 IsParentSpan parents row span = (links : LinkPlaces) (lookup : Lookup) → IsAt parents.of_groups.items row.place links → IsAt parents.lookups.items links.lookup lookup
-    → IsSpanOf lookup (key_text (map (field_at (row_of row).fields) links.places.items)) span
+    → IsSpanOf lookup (text_at links.places.items row) span
 
 abbrev pub AreParentSpans : List PlacedRow → ParentLookups → List Span → Type 0
 AreParentSpans rows parents spans = AreKept rows spans (λ n. IsParentSpan parents)

@@ -1,6 +1,6 @@
 -- Walks over numbered rows: what a row reaches, and which rows lead to permitted rows alone.
 -- What is said here holds of any steps, rings included.
-use Rattle.std.specs.Prelude.{◌≡◌, ℕ, ◌<◌, List, [], ◌∷◌, Bool, true, false, Contains, slice_index_or, All}
+use Rattle.std.specs.Prelude.{◌≡◌, ◌↔◌, ℕ, ◌<◌, List, [], ◌∷◌, Bool, true, false, Contains, slice_index_or, All}
 
 -- a graph as contracts see it: how many rows there are, and the steps as they were given
 pub record Wiring : Type 0 where
@@ -35,3 +35,12 @@ IsShown Step IsPermitted r = (s : ℕ) → Reaches Step r s → IsPermitted s
 -- some row of those that the walks start from reaches s
 abbrev pub IsReached : (ℕ → ℕ → Type 0) → (ℕ → Type 0) → ℕ → Type 0
 IsReached Step IsFrom s = (r : ℕ) × IsFrom r × Reaches Step r s
+
+-- the marked rows are exactly those that some row of those marked in from reaches
+abbrev pub AreReachedFrom : List (ℕ × ℕ) → List Bool → List Bool → Type 0
+AreReachedFrom steps from marks = (s : ℕ) → IsMarked marks s ↔ IsReached (HasStep steps) (IsMarked from) s
+
+-- of the rows of the graph exactly those are marked from which only permitted rows are reached
+abbrev pub AreShownUnder : Wiring → List Bool → List Bool → Type 0
+AreShownUnder graph permitted marks =
+    (r : ℕ) → r < graph.rows → IsMarked marks r ↔ IsShown (HasStep graph.steps) (IsMarked permitted) r

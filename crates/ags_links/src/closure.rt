@@ -1,7 +1,7 @@
 //! The closure of a graph: which rows are reached, and which rows are shown.
 
-ghost use Rattle.std.specs.Prelude.{◌≡◌, ◌<◌, ◌≤◌, ◌↔◌, ◌+◌, ℕ, ◌^◌, length, not, map, sum_by, IfOk, OnOk, All, Contains};
-ghost use Rattle.ags_links.specs.Walks.{InRange, HasStep, IsMarked, IsShown, IsReached};
+ghost use Rattle.std.specs.Prelude.{◌≡◌, ◌<◌, ◌≤◌, ◌+◌, ℕ, ◌^◌, length, not, map, sum_by, IfOk, OnOk, All, Contains};
+ghost use Rattle.ags_links.specs.Walks.{InRange, IsMarked, AreReachedFrom, AreShownUnder};
 ghost use Rattle.ags_links.specs.Turns.{turns_of, hidden_turns};
 ghost use Rattle.ags_links.specs.Work.{IsAdjacency, weigh, Looked, swapped};
 
@@ -12,7 +12,7 @@ use std::alloc::{AllocError, Global};
 pub fn reached(alloc: Global, graph: &Graph, from: &[bool]) -> Result<(Vec<bool>, u128), AllocError>
     requires { length from.now ≡ graph.now.rows }
     ensures rows { IfOk result (λ out. length out.0.items ≡ graph.now.rows) }
-    ensures marks { IfOk result (λ out. (s : ℕ) → IsMarked out.0.items s ↔ IsReached (HasStep graph.now.steps) (IsMarked from.now) s) }
+    ensures marks { IfOk result (λ out. AreReachedFrom graph.now.steps from.now out.0.items) }
     // a turn for each reached row, and one for each step that starts at one
     ensures turns { IfOk result (λ out. out.1 ≡ turns_of out.0.items graph.now.steps) }
     ensures few_turns { IfOk result (λ out. out.1 ≤ graph.now.rows + length graph.now.steps) }
@@ -29,7 +29,7 @@ pub fn shown(
 ) -> Result<(Vec<bool>, u128), AllocError>
     requires { length permitted.now ≡ graph.now.rows }
     ensures rows { IfOk result (λ out. length out.0.items ≡ graph.now.rows) }
-    ensures marks { IfOk result (λ out. (r : ℕ) → r < graph.now.rows → IsMarked out.0.items r ↔ IsShown (HasStep graph.now.steps) (IsMarked permitted.now) r) }
+    ensures marks { IfOk result (λ out. AreShownUnder graph.now permitted.now out.0.items) }
     // a turn for each row that is not shown, and one for each step that ends at one
     ensures turns { IfOk result (λ out. out.1 ≡ hidden_turns out.0.items graph.now.steps) }
     ensures few_turns { IfOk result (λ out. out.1 ≤ graph.now.rows + length graph.now.steps) }
@@ -67,7 +67,7 @@ fn spread(
     requires range { InRange (length from.now) steps.now }
     requires rows { length from.now < 2 ^ 32 }
     ensures rows { IfOk result (λ out. length out.0.items ≡ length from.now) }
-    ensures marks { IfOk result (λ out. (s : ℕ) → IsMarked out.0.items s ↔ IsReached (HasStep steps.now) (IsMarked from.now) s) }
+    ensures marks { IfOk result (λ out. AreReachedFrom steps.now from.now out.0.items) }
     ensures turns { IfOk result (λ out. out.1 ≡ turns_of out.0.items steps.now) }
 {
     let beside = adjacent(alloc, from.len(), steps)?;
@@ -145,7 +145,7 @@ fn follow(
     requires marked { (r : ℕ) → Contains work.old.items r → IsMarked marks.old r }
     requires all { (r : ℕ) → IsMarked marks.old r → Contains work.old.items r }
     requires weight { (w : ℕ → ℕ) → sum_by w work.old.items ≡ weigh w marks.old }
-    ensures marks { OnOk result ((s : ℕ) → IsMarked marks.new s ↔ IsReached (HasStep steps.now) (IsMarked marks.old) s) }
+    ensures marks { OnOk result (AreReachedFrom steps.now marks.old marks.new) }
     ensures turns { IfOk result (λ turns. turns ≡ turns_of marks.new steps.now) }
 {
     let mut turns: u128 = 0;

@@ -42,7 +42,8 @@ fn record_links(
     headings: &Places<'_>,
     group: &Group<'_>,
 ) -> Result<Vec<Option<usize>>, AllocError>
-    ensures { IfOk result (λ places. places.items ≡ map (place_in headings.now) (record_links headings.now group.now.types)) }
+    ensures { IfOk result (λ places.
+        places.items ≡ map (place_in headings.now) (record_links headings.now group.now.types)) }
 {
     let mut places = Vec::new(alloc);
     for heading in headings.names() {
@@ -100,7 +101,7 @@ pub(crate) fn rows_by_group(alloc: Global, rows: &[PlacedRow<'_, '_>]) -> Result
     requires { length rows.now < 2 ^ 32 }
     ensures { IfOk result (λ lookup. Finds lookup (HasText (map row_of rows.now) HasGroupName)) }
 {
-    let mut pairs = Vec::new(alloc);
+    let mut pairs = Vec::with_capacity(alloc, rows.len())?;
     for (number, row) in rows.iter().enumerate() {
         let group = row.group;
         let name = Vec::from_slice(alloc, group.name.as_slice())?;
@@ -120,7 +121,7 @@ pub(crate) fn rows_by_key(
     requires kept { All (HasFamily dictionary.now families.now) rows.now }
     ensures { IfOk result (λ lookup. Finds lookup (HasText (map row_of rows.now) (HasKeyText dictionary.now))) }
 {
-    let mut pairs = Vec::new(alloc);
+    let mut pairs = Vec::with_capacity(alloc, rows.len())?;
     let mut entries = Vec::new(alloc);
     for (number, row) in rows.iter().enumerate() {
         entries.clear();

@@ -1,6 +1,6 @@
 //! The index of a file: keys, parents, record links and file sets.
 
-ghost use Rattle.std.specs.Prelude.{◌≡◌, ◌<◌, ◌↔◌, ℕ, List, IfOk, IsTrue, Contains, length, map};
+ghost use Rattle.std.specs.Prelude.{◌≡◌, ◌<◌, ◌↔◌, ℕ, IfOk, IsTrue, Contains, length};
 ghost use Rattle.std.specs.List.Sorted.{IsStrictlyIncreasing};
 ghost use Rattle.ags_rows.specs.Contents.{contents_of};
 
@@ -53,7 +53,8 @@ impl<'s, 'f, 'd> Model for Index<'s, 'f, 'd> {
 
     ghost view = { λ i. record { contents = contents_of i.groups.now; entries = i.dictionary.now } };
 
-    ghost invariant = { λ i. Indexes i.groups.now i.dictionary.now i.rows.items i.families.items i.parents i.spans.items i.firsts.items i.by_key i.by_file_set i.separators };
+    ghost invariant = { λ i. Indexes i.groups.now i.dictionary.now i.rows.items i.families.items i.parents
+        i.spans.items i.firsts.items i.by_key i.by_file_set i.separators };
 }
 
 /// The numbers rising, each once.
@@ -72,7 +73,7 @@ impl<'s, 'f, 'd> Index<'s, 'f, 'd> {
     ghost use Rattle.ags_links.specs.RecordLinks.{separators_of, IsPartOf, IsBroken};
     ghost use Rattle.ags_links.specs.Steps.{IsLinkedPart};
     ghost use Rattle.ags_links.specs.Families.{IsFamily};
-    ghost use Rattle.ags_links.specs.Placing.{row_of};
+    ghost use Rattle.ags_links.specs.Placing.{row_of, ListsTexts};
     ghost use Rattle.ags_links.specs.Indexing.{rows_in, IsParentAt, IsFirstOfKeyAt, IsFileRowAt, IsNamedBy, AreTargetsAt};
 
     /// The index of a file under its dictionary.
@@ -205,7 +206,7 @@ impl<'s, 'f, 'd> Index<'s, 'f, 'd> {
     fn parts_under(&self, row: u32, heading: &[u8]) -> Result<Vec<&'s [u8]>, AllocError>
         requires { row < length (rows_in self.now) }
         ensures { IfOk result (λ parts. (r : DataRow) → IsDataRow (rows_in self.now) row r
-            → (part : List ℕ) → Contains (map (λ p. p.now) parts.items) part ↔ IsPartOf (separators_of self.now.contents) r heading.now part) }
+            → ListsTexts parts.items (IsPartOf (separators_of self.now.contents) r heading.now)) }
     {
         let (kept, family) = self.kept(row);
         let mut parts = Vec::new(self.alloc);
@@ -223,7 +224,7 @@ impl<'s, 'f, 'd> Index<'s, 'f, 'd> {
     pub(crate) fn linked_parts(&self, row: u32) -> Result<Vec<&'s [u8]>, AllocError>
         requires { row < length (rows_in self.now) }
         ensures { IfOk result (λ parts. (r : DataRow) → IsDataRow (rows_in self.now) row r
-            → (part : List ℕ) → Contains (map (λ p. p.now) parts.items) part ↔ IsLinkedPart (separators_of self.now.contents) r part) }
+            → ListsTexts parts.items (IsLinkedPart (separators_of self.now.contents) r)) }
     {
         let (kept, family) = self.kept(row);
         let parts = link_parts(
@@ -241,7 +242,8 @@ impl<'s, 'f, 'd> Index<'s, 'f, 'd> {
     /// A heading that the group does not have reads as null.
     pub fn has_broken_part(&self, row: u32, heading: &[u8]) -> Result<bool, AllocError>
         requires { row < length (rows_in self.now) }
-        ensures { IfOk result (λ broken. (r : DataRow) → IsDataRow (rows_in self.now) row r → IsTrue broken ↔ IsBroken self.now.entries (separators_of self.now.contents) (rows_in self.now) r heading.now) }
+        ensures { IfOk result (λ broken. (r : DataRow) → IsDataRow (rows_in self.now) row r → IsTrue broken
+            ↔ IsBroken self.now.entries (separators_of self.now.contents) (rows_in self.now) r heading.now) }
     {
         let parts = self.parts_under(row, heading)?;
         for part in &parts {

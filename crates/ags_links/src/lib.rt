@@ -1,10 +1,10 @@
 //! Keys, parents and record links of the rows of an AGS4 file, the graph that they make, and its closure.
 #![tactic(auto)]
 
+mod candidates;
 mod closure;
+mod entry_lists;
 mod families;
-#[cfg(test)]
-mod file_tests;
 mod graph;
 mod index;
 pub mod laws;

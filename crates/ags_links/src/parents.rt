@@ -1,18 +1,21 @@
 //! The rows of the parent groups by their entries under link headings. Groups with one parent group and the same
 //! link headings share one look-up, so that the rows of a parent group are not read again for each of them.
 
-ghost use Rattle.std.specs.Prelude.{◌≡◌, ◌≢◌, ◌<◌, ◌^◌, ◌↔◌, [], ℕ, List, Contains, IfOk, IsTrue, All, Some, length, map, filter};
+ghost use Rattle.std.specs.Prelude.{◌≡◌, ◌≢◌, ◌<◌, ◌^◌, [], ℕ, Contains, IfOk, All, Some, length, map, filter};
 ghost use Rattle.std.specs.List.Sorted.{IsStrictlyIncreasing};
-ghost use Rattle.ags_rows.specs.Contents.{field_at, place_in};
+ghost use Rattle.ags_rows.specs.Contents.{place_in};
+ghost use Rattle.ags_links.specs.EntryLists.{IsEntryList};
 ghost use Rattle.ags_links.specs.Families.{HasText, HasGroupName, HasEntries, HasAmong, HasFamily, IsFamily, AreFamilies, AreKept, is_one_of};
 ghost use Rattle.ags_links.specs.Lookups.{Finds, FindsAsked, found};
-ghost use Rattle.ags_links.specs.ParentRows.{AreLinkHeadings, link_names, text_at, IsParentLinks, AreParentLinks, texts_in, AreNumbers, AreCandidates, IsAmongUsers, AreUsersBelow, HasUsers, HaveUsers, HasPlaces, IsLookupAt, AreLookups, IsPlacedAt, AreParents, HasLookup, AreParentSpans, AreRowsOf, IsInside, part_of};
-ghost use Rattle.ags_links.specs.Placing.{row_of};
+ghost use Rattle.ags_links.specs.ParentRows.{AreLinkHeadings, link_names, text_at, IsParentLinks, AreParentLinks, texts_in, AreNumbers, IsAmongUsers, AreUsersBelow, HasUsers, HaveUsers, HasPlaces, IsLookupAt, AreLookups, IsPlacedAt, AreParents, HasLookup, AreParentSpans, AreRowsOf, IsInside, part_of};
+ghost use Rattle.ags_links.specs.Placing.{row_of, ListsTexts};
 
+use crate::candidates::candidates;
+use crate::entry_lists::{EntryLists, entry_lists};
 use crate::families::{Family, family_at, places_of};
 use crate::lookup::{Lookup, Span, all_rows, rows_by_text, rows_with, span_of};
-use crate::placed::{PlacedRow, field};
-use crate::texts::{is_first, names_text, push_entries};
+use crate::placed::PlacedRow;
+use crate::texts::{names_text, push_entries};
 use ags_dict::Dictionary;
 use ags_rows::{Group, Places};
 use std::alloc::{AllocError, Global};
@@ -75,7 +78,7 @@ fn common_headings<'s>(
 
 /// The names in the order of their bytes.
 fn in_byte_order(names: Vec<&[u8]>) -> Vec<&[u8]>
-    ensures { (name : List ℕ) → Contains (map (λ n. n.now) result.items) name ↔ Contains (map (λ n. n.now) names.entry.items) name }
+    ensures { ListsTexts result.items (Contains (map (λ n. n.now) names.entry.items)) }
 {
     let mut sorted = names;
     sorted.sort_unstable();
@@ -95,7 +98,8 @@ fn link_headings<'s>(
 ) -> Result<Vec<&'s [u8]>, AllocError>
     requires kept { All (HasFamily dictionary.now families.now) rows.now }
     requires by_group { Finds by_group.now (HasText (map row_of rows.now) HasGroupName) }
-    ensures { IfOk result (λ names. found by_group.now parent.now ≢ [] → AreLinkHeadings dictionary.now parent.now family.now.headings (map (λ n. n.now) names.items)) }
+    ensures { IfOk result (λ names. found by_group.now parent.now ≢ []
+        → AreLinkHeadings dictionary.now parent.now family.now.headings (map (λ n. n.now) names.items)) }
 {
     let numbers = rows_with(by_group, parent);
     if numbers.is_empty() {
@@ -191,9 +195,10 @@ fn rows_by_entries(
     requires kept { All (HasFamily dictionary.now families.now) rows.now }
     requires below { All (λ n. n < length rows.now) numbers.now }
     requires rising { IsStrictlyIncreasing numbers.now }
-    ensures { IfOk result (λ lookup. Finds lookup (HasAmong numbers.now (map row_of rows.now) (HasEntries (map (λ h. h.now) headings.now)))) }
+    ensures { IfOk result (λ lookup. Finds lookup
+        (HasAmong numbers.now (map row_of rows.now) (HasEntries (map (λ h. h.now) headings.now)))) }
 {
-    let mut pairs = Vec::new(alloc);
+    let mut pairs = Vec::with_capacity(alloc, numbers.len())?;
     let mut entries = Vec::new(alloc);
     for number in numbers {
         let row = &rows[*number as usize];
@@ -206,101 +211,37 @@ fn rows_by_entries(
     rows_by_text(alloc, pairs)
 }
 
-/// Whether two rows have equal entries at these places.
-fn agree(
-    row: &PlacedRow<'_, '_>,
-    places: &[Option<usize>],
-    other: &PlacedRow<'_, '_>,
-    other_places: &[Option<usize>],
-) -> bool
-    ensures { map (field_at (row_of row.now).fields) places.now ≡ map (field_at (row_of other.now).fields) other_places.now → IsTrue result }
-{
-    let count = places.len().min(other_places.len());
-    for index in 0..count {
-        let here = places[index];
-        let there = other_places[index];
-        let entry = field(row, here);
-        let other_entry = field(other, there);
-        if entry != other_entry {
-            return false;
-        }
-    }
-    true
-}
-
-/// Whether the other row is not of the group at this place, or agrees with the row.
-fn may_be_parent(
-    row: &PlacedRow<'_, '_>,
-    places: &[Option<usize>],
-    other: &PlacedRow<'_, '_>,
-    place: usize,
-    other_places: &[Option<usize>],
-) -> bool
-    ensures apart { (other.now.place ≡ place → ⊥) → IsTrue result }
-    ensures agree { map (field_at (row_of row.now).fields) places.now ≡ map (field_at (row_of other.now).fields) other_places.now → IsTrue result }
-{
-    other.place != place || agree(row, places, other, other_places)
-}
-
-/// Those of the rows of the parent group that may be parent rows of this row: those that agree with it, and those of
-/// other groups of that name.
-fn candidates(
-    alloc: Global,
-    dictionary: &Dictionary,
-    rows: &[PlacedRow<'_, '_>],
-    families: &[Family<'_, '_>],
-    links: &ParentLinks<'_, '_>,
-    row: &PlacedRow<'_, '_>,
-    places: &[Option<usize>],
-) -> Result<Vec<u32>, AllocError>
-    requires kept { All (HasFamily dictionary.now families.now) rows.now }
-    requires numbers { AreNumbers (length rows.now) links.now }
-    ensures { IfOk result (λ chosen. AreCandidates (map row_of rows.now) links.now.rows.now (link_names links.now) (text_at places.now row.now) chosen.items) }
-{
-    let mut chosen = Vec::new(alloc);
-    let numbers = links.rows;
-    if numbers.is_empty() {
-        return Ok(chosen);
-    }
-    let start = numbers[0] as usize;
-    let first = &rows[start];
-    let stood = places_of(alloc, &families[first.place].headings, &links.headings)?;
-    for number in numbers {
-        let other = &rows[*number as usize];
-        if may_be_parent(row, places, other, first.place, &stood) {
-            chosen.push(*number)?;
-        }
-    }
-    Ok(chosen)
-}
-
 /// The look-up for one row: by its entries, of the rows of the parent group that may be its parent rows.
-fn lookup_for(
+fn lookup_for<'s>(
     alloc: Global,
     dictionary: &Dictionary,
     rows: &[PlacedRow<'_, '_>],
     families: &[Family<'_, '_>],
-    links: &ParentLinks<'_, '_>,
+    links: &ParentLinks<'_, 's>,
+    lists: &EntryLists<'_, 's>,
     row: &PlacedRow<'_, '_>,
     places: &[Option<usize>],
 ) -> Result<Lookup, AllocError>
     requires few { length rows.now < 2 ^ 32 }
     requires kept { All (HasFamily dictionary.now families.now) rows.now }
     requires numbers { AreNumbers (length rows.now) links.now }
-    ensures { IfOk result (λ lookup. FindsAsked lookup (λ text. text_at places.now row.now ≡ text) (HasAmong links.now.rows.now (map row_of rows.now) (HasEntries (link_names links.now)))) }
+    requires lists { All (IsEntryList rows.now) lists.now.lists.items }
+    ensures { IfOk result (λ lookup. FindsAsked lookup (λ text. text_at places.now row.now ≡ text)
+        (HasAmong links.now.rows.now (map row_of rows.now) (HasEntries (link_names links.now)))) }
 {
-    let numbers = candidates(alloc, dictionary, rows, families, links, row, places)?;
+    let numbers = candidates(alloc, dictionary, rows, families, links, lists, row, places)?;
     let lookup = rows_by_entries(alloc, dictionary, rows, families, &links.headings, &numbers)?;
     Ok(lookup)
 }
 
 /// The look-up at this place: by the entries that its users ask for, so that for one row it has no more than that needs.
-fn lookup_at(
+fn lookup_at<'s>(
     alloc: Global,
     dictionary: &Dictionary,
     rows: &[PlacedRow<'_, '_>],
     families: &[Family<'_, '_>],
-    links: &ParentLinks<'_, '_>,
+    links: &ParentLinks<'_, 's>,
+    lists: &EntryLists<'_, 's>,
     of_groups: &[LinkPlaces],
     place: usize,
     users: Users,
@@ -309,6 +250,7 @@ fn lookup_at(
     requires kept { All (HasFamily dictionary.now families.now) rows.now }
     requires grouped { All (HasPlaces of_groups.now) rows.now }
     requires numbers { AreNumbers (length rows.now) links.now }
+    requires lists { All (IsEntryList rows.now) lists.now.lists.items }
     requires users { HasUsers rows.now of_groups.now place users }
     requires below { AreUsersBelow (length rows.now) users }
     ensures { IfOk result (IsLookupAt rows.now of_groups.now place links.now) }
@@ -321,7 +263,7 @@ fn lookup_at(
         Users::One(number) => {
             let row = &rows[number as usize];
             let places = &of_groups[row.place].places;
-            let own = lookup_for(alloc, dictionary, rows, families, links, row, places)?;
+            let own = lookup_for(alloc, dictionary, rows, families, links, lists, row, places)?;
             Ok(own)
         }
         Users::Many => {
@@ -372,12 +314,13 @@ fn users_of(
 }
 
 /// The look-ups, one for each group, of which those that rows use are filled.
-fn lookups(
+fn lookups<'s>(
     alloc: Global,
     dictionary: &Dictionary,
     rows: &[PlacedRow<'_, '_>],
     families: &[Family<'_, '_>],
-    links: &[ParentLinks<'_, '_>],
+    links: &[ParentLinks<'_, 's>],
+    lists: &EntryLists<'_, 's>,
     of_groups: &[LinkPlaces],
     users: &[Users],
 ) -> Result<Vec<Lookup>, AllocError>
@@ -385,6 +328,7 @@ fn lookups(
     requires kept { All (HasFamily dictionary.now families.now) rows.now }
     requires grouped { All (HasPlaces of_groups.now) rows.now }
     requires numbers { All (AreNumbers (length rows.now)) links.now }
+    requires lists { All (IsEntryList rows.now) lists.now.lists.items }
     requires size { length users.now ≡ length links.now }
     requires users { HaveUsers rows.now of_groups.now users.now }
     requires below { All (AreUsersBelow (length rows.now)) users.now }
@@ -398,6 +342,7 @@ fn lookups(
             rows,
             families,
             of_group,
+            lists,
             of_groups,
             place,
             users[place],
@@ -455,8 +400,9 @@ pub(crate) fn parents(
     let texts = texts_of(alloc, &links)?;
     let of_groups = link_places(alloc, families, &links, &texts)?;
     let users = users_of(alloc, rows, &of_groups)?;
+    let lists = entry_lists(alloc, dictionary, rows, families, &links, &users)?;
     let lookups = lookups(
-        alloc, dictionary, rows, families, &links, &of_groups, &users,
+        alloc, dictionary, rows, families, &links, &lists, &of_groups, &users,
     )?;
     Ok(ParentLookups { of_groups, lookups })
 }
@@ -471,7 +417,7 @@ pub(crate) fn parent_spans(
     requires { All (HasLookup parents.now) rows.now }
     ensures { IfOk result (λ spans. AreParentSpans rows.now parents.now spans.items) }
 {
-    let mut spans = Vec::new(alloc);
+    let mut spans = Vec::with_capacity(alloc, rows.len())?;
     let mut text = Vec::new(alloc);
     let mut near = 0;
     for row in rows {

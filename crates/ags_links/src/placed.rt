@@ -34,7 +34,8 @@ fn place_group<'s, 'f>(
     requires place { place < length groups.now }
     requires placed { All (IsPlaced groups.now) rows.old.items }
     ensures placed { OnOk result (All (IsPlaced groups.now) rows.new.items) }
-    ensures rows { OnOk result ((d : Group) → map row_of rows.new.items ≡ map row_of rows.old.items ++ group_rows (group_contents (slice_index_or groups.now place d))) }
+    ensures rows { OnOk result ((d : Group) → map row_of rows.new.items
+        ≡ map row_of rows.old.items ++ group_rows (group_contents (slice_index_or groups.now place d))) }
 {
     let group = &groups[place];
     for row in group.rows.as_slice() {
@@ -53,9 +54,9 @@ pub(crate) fn place_rows<'s, 'f>(
     ensures few { IfOk result (λ rows. length rows.items < 2 ^ 32) }
 {
     // the scan counts them with a number below 2 ^ 32
-    scan.row_count();
+    let count = scan.row_count();
     let groups = scan.groups();
-    let mut rows = Vec::new(alloc);
+    let mut rows = Vec::with_capacity(alloc, count as usize)?;
     for place in 0..groups.len() {
         place_group(groups, place, &mut rows)?;
     }

@@ -19,7 +19,8 @@ fn add_named(
     parts: &[&[u8]],
     found: &mut Vec<u32>,
 ) -> Result<(), AllocError>
-    ensures { OnOk result (AddsRows found.old.items found.new.items (IsNamedAmong index.now (map (λ p. p.now) parts.now))) }
+    ensures { OnOk result (AddsRows found.old.items found.new.items
+        (IsNamedAmong index.now (map (λ p. p.now) parts.now))) }
 {
     for part in parts {
         let rows = index.named(part)?;

@@ -1,4 +1,6 @@
 //! The worked examples of graphs. Where memory wants, no answer is the wanted one.
+mod files;
+
 use crate::{Graph, reached, shown};
 use std::alloc::{AllocError, Global};
 

@@ -1,10 +1,11 @@
 //! Lists of entries as one text, for the index.
 
-ghost use Rattle.std.specs.Prelude.{◌≡◌, ◌==◌, ◌<◌, ◌+◌, ◌^◌, ◌++◌, ◌∷◌, ◌↔◌, ℕ, List, Contains, All, IfOk, OnOk, IfSome, IsTrue, Some, flat_map, map, length, position};
-ghost use Rattle.ags_rows.specs.Contents.{field_at, place_in};
+ghost use Rattle.std.specs.Prelude.{◌≡◌, ◌==◌, ◌<◌, ◌+◌, ◌^◌, ◌++◌, ◌∷◌, ◌↔◌, Contains, All, IfOk, OnOk, IfSome, IsTrue, Some, flat_map, map, length, position};
+ghost use Rattle.ags_rows.specs.Contents.{place_in};
 ghost use Rattle.ags_rows.specs.Parts.{parts_at};
 ghost use Rattle.ags_links.specs.KeyTexts.{byte_text, ended_text, key_text};
-ghost use Rattle.ags_links.specs.Placing.{row_of, IsPartAmong};
+ghost use Rattle.ags_links.specs.ParentRows.{text_at};
+ghost use Rattle.ags_links.specs.Placing.{row_of, fields_at, ListsTexts, IsPartAmong};
 
 use crate::placed::{PlacedRow, field};
 use ags_rows::Places;
@@ -66,7 +67,7 @@ pub(crate) fn push_entries(
     row: &PlacedRow<'_, '_>,
     places: &[Option<usize>],
 ) -> Result<(), AllocError>
-    ensures { OnOk result (out.new.items ≡ out.old.items ++ key_text (map (field_at (row_of row.now).fields) places.now)) }
+    ensures { OnOk result (out.new.items ≡ out.old.items ++ text_at places.now row.now) }
 {
     for place in places {
         push_text(out, field(row, *place))?;
@@ -80,7 +81,8 @@ pub(crate) fn push_group_entries(
     row: &PlacedRow<'_, '_>,
     keys: &[Option<usize>],
 ) -> Result<(), AllocError>
-    ensures { OnOk result (out.new.items ≡ out.old.items ++ key_text ((row_of row.now).group ∷ map (field_at (row_of row.now).fields) keys.now)) }
+    ensures { OnOk result (out.new.items
+        ≡ out.old.items ++ key_text ((row_of row.now).group ∷ fields_at keys.now row.now)) }
 {
     let group = row.group;
     push_text(out, group.name.as_slice())?;
@@ -135,7 +137,8 @@ pub(crate) fn push_parts<'t>(
     separator: u8,
     text: &'t [u8],
 ) -> Result<(), AllocError>
-    ensures { OnOk result (map (λ p. p.now) out.new.items ≡ map (λ p. p.now) out.old.items ++ parts_at separator text.now) }
+    ensures { OnOk result (map (λ p. p.now) out.new.items
+        ≡ map (λ p. p.now) out.old.items ++ parts_at separator text.now) }
 {
     let mut rest = text;
     // the label is the loop's name in its proof
@@ -154,7 +157,7 @@ pub(crate) fn link_parts<'s>(
     row: &PlacedRow<'s, '_>,
     places: &[Option<usize>],
 ) -> Result<Vec<&'s [u8]>, AllocError>
-    ensures { IfOk result (λ parts. (part : List ℕ) → Contains (map (λ p. p.now) parts.items) part ↔ IsPartAmong separator (row_of row.now) places.now part) }
+    ensures { IfOk result (λ parts. ListsTexts parts.items (IsPartAmong separator (row_of row.now) places.now)) }
 {
     let mut parts = Vec::new(alloc);
     for place in places {
@@ -178,7 +181,7 @@ pub(crate) fn is_first(names: &Places<'_>, name: &[u8], place: usize) -> bool
 
 /// The texts, each once.
 pub(crate) fn distinct<'t>(alloc: Global, texts: Vec<&'t [u8]>) -> Result<Vec<&'t [u8]>, AllocError>
-    ensures { IfOk result (λ once. (text : List ℕ) → Contains (map (λ t. t.now) once.items) text ↔ Contains (map (λ t. t.now) texts.entry.items) text) }
+    ensures { IfOk result (λ once. ListsTexts once.items (Contains (map (λ t. t.now) texts.entry.items))) }
 {
     if texts.len() < 2 {
         return Ok(texts);

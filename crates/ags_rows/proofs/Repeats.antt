@@ -1,14 +1,15 @@
 -- Names that were met and names that stand earlier in their list.
-use Rattle.std.proofs.Common.{◌≡◌, ◌≢◌, ℕ, ◌+◌, Bool, true, false, cond, eqb, nat_cmp, List, [], ◌∷◌, length, Option, Some, refl, sym, ap, subst, ◌∙◌, arith, inl, inr}
-use Rattle.std.specs.Prelude.{◌⊎◌, ◌↔◌, is_some, slice_get, not, OnOk, Result, Ok, Err}
+use Rattle.std.proofs.Common.{◌≡◌, ℕ, ◌+◌, Bool, true, false, cond, eqb, nat_cmp, List, [], ◌∷◌, length, Option, Some, refl, sym, ap, subst, ◌∙◌, arith, inl, inr}
+use Rattle.std.specs.Prelude.{◌⊎◌, ◌↔◌, is_some, slice_get, not}
 use Rattle.std.specs.Str.{bytes_eq}
 use Rattle.std.specs.Borrow.{Bor}
-use Rattle.std.specs.BTreeMap.{BTreeMap, is_at}
+use Rattle.std.specs.BTreeMap.{BTreeMap, UpdatesBy, is_at}
 use Rattle.std.specs.Map.{lookup}
 use Rattle.std.specs.Cmp.Lexicographic.{slice_cmp}
-use Rattle.std.proofs.lemmas.Bool.{eqb-true, eqb-false, eq-eqb, ne_eqb}
+use Rattle.std.proofs.lemmas.Bool.{eqb-true, eq-eqb}
 use Rattle.std.proofs.lemmas.List.{nil_from_length}
 use Rattle.std.proofs.lemmas.Slice.Eq.{bytes_eq-Decides}
+use Rattle.std.proofs.lemmas.Map.Text.{btree_map_updates_str}
 use Rattle.ags_rows.specs.declared.code.Code.{Code}
 use Rattle.ags_rows.specs.declared.code.Code.TheVariants.{Rule19, Rule19a, P1, P2}
 use Rattle.ags_rows.specs.declared.finding.Finding.{Finding}
@@ -25,25 +26,11 @@ pub not_is : (b : Bool) → not b ≡ true → b ≡ false
 not_is true e = absurd cc
 not_is false e = refl
 
-pub is_not : (b : Bool) → b ≡ false → not b ≡ true
-is_not b e = rw e refl
-
--- two numbers that are counts differ where the counts do
-pub differs : (n m k j : ℕ) → n ≡ k → m ≡ j → not (eqb n m) ≡ true → k ≢ j
-differs n m k j a b e q = eqb-false n m (not_is (eqb n m) e) (a ∙ q ∙ sym b)
-
-pub differ : (n m k j : ℕ) → n ≡ k → m ≡ j → k ≢ j → not (eqb n m) ≡ true
-differ n m k j a b ne = is_not (eqb n m) (ne_eqb n m (λ q. ne (sym a ∙ q ∙ b)))
-
 pub empties : {X : Type 0} (xs : List X) (b : Bool) → b ≡ eqb (length xs) 0 → b ≡ true → xs ≡ []
 empties xs b is e = nil_from_length xs (eqb-true (length xs) 0 (sym is ∙ e))
 
 pub empty : {X : Type 0} (xs : List X) (b : Bool) → b ≡ eqb (length xs) 0 → xs ≡ [] → b ≡ true
 empty xs b is e = is ∙ eq-eqb (length xs) 0 (ap length e)
-
-pub always : {T E : Type 0} (r : Result T E) (P : Type 0) → P → OnOk r P
-always (Ok x) P h = h
-always (Err e) P h = tt
 
 -- ---- one name more
 
@@ -53,6 +40,12 @@ put_in {X} name other x there = by_test (bytes_eq name other) (bytes_eq-Decides 
   by_test : (b : Bool) → (b ≡ true → name ≡ other) × (name ≡ other → b ≡ true) → (is_some (cond b (Some x) there) ≡ true) ↔ ((name ≡ other) ⊎ (is_some there ≡ true))
   by_test true d = (λ h. inl (d.0 refl), λ h. refl)
   by_test false d = (λ h. inr h, λ h. elim h [ inl e ↦ absurd (let z : false ≡ true = d.1 e in cc) | inr k ↦ k ])
+
+-- a name that is put in is met from then on
+pub met_after : (name : List ℕ) (met new : BTreeMap (Bor (List ℕ)) (Unit {0})) → UpdatesBy (λ x y. slice_cmp nat_cmp x.now y.now) (λ key. slice_cmp nat_cmp name key.now) met new (Some tt)
+    → (other : List ℕ) → IsMet new other ↔ ((name ≡ other) ⊎ IsMet met other)
+met_after name met new updates other =
+    subst (λ o. (is_some o ≡ true) ↔ ((name ≡ other) ⊎ IsMet met other)) (sym (btree_map_updates_str name met new _ updates other)) (put_in name other tt _)
 
 -- there is no key in a map without entries
 none_in : (entries : List (Bor (List ℕ) × Unit {0})) (q : List ℕ) → entries ≡ [] → is_some (lookup (is_at (λ (key : Bor (List ℕ)). slice_cmp nat_cmp q key.now)) entries) ≡ true → ⊥

@@ -1,15 +1,15 @@
 //! What stands against the groups of a file.
 
-ghost use Rattle.std.specs.Prelude.{◌≡◌, ◌↔◌, ◌⊎◌, List, ℕ, ◌∷◌, [], OnOk, IfOk};
+ghost use Rattle.std.specs.Prelude.{◌∷◌, [], OnOk, IfOk};
 ghost use Rattle.ags_rows.specs.declared.code.Code.TheVariants.{Rule19, Rule19a, P1, P2};
 ghost use Rattle.ags_rows.specs.Names.{is_group_name, is_heading_name};
 ghost use Rattle.ags_rows.specs.Collecting.{OneOf, Notes, Adds};
 ghost use Rattle.ags_rows.specs.Stands.{shape_rules, StandsInRows, StandsInHeadings, StandsInGroups};
 ghost use Rattle.ags_rows.specs.Findings.{AreExactly};
-ghost use Rattle.ags_rows.specs.Parsing.{IsMet, met_rules};
+ghost use Rattle.ags_rows.specs.Parsing.{IsMet, MeetsAlso, met_rules};
 
 use crate::code::Code;
-use crate::finding::{Finding, in_order, note};
+use crate::finding::{Finding, NotedFindings};
 use crate::names::{is_group_name, is_heading_name};
 use crate::rows::Group;
 use crate::sequence::Sequence;
@@ -18,120 +18,104 @@ use std::collections::BTreeMap;
 
 /// Notes a name that was met before. From now on it was.
 fn note_repeat<'g>(
-    alloc: Global,
     line: u32,
     code: Code,
     name: &'g [u8],
     met: &mut BTreeMap<&'g [u8], ()>,
-    findings: &mut Vec<Finding>,
+    findings: &mut NotedFindings,
 ) -> Result<(), AllocError>
-    ensures noted { OnOk result (Adds (Notes line code name.now (IsMet met.old name.now)) findings.old.items findings.new.items) }
-    ensures met { OnOk result ((other : List ℕ) → IsMet met.new other ↔ ((name.now ≡ other) ⊎ IsMet met.old other)) }
+    ensures noted { OnOk result (Adds (Notes line code name.now (IsMet met.old name.now)) findings.old findings.new) }
+    ensures met { OnOk result (MeetsAlso met.old met.new name.now) }
 {
     let before = met.insert(name, ())?;
-    note(alloc, findings, line, code, name, before.is_some())
+    if before.is_some() {
+        findings.note(line, code, name)?;
+    }
+    Ok(())
 }
 
 /// Notes rows of a group with another number of items than its HEADING row (Rule 4).
-fn note_widths(alloc: Global, group: &Group, findings: &mut Vec<Finding>) -> Result<(), AllocError>
-    ensures { OnOk result (Adds (StandsInRows group.now) findings.old.items findings.new.items) }
+fn note_widths(group: &Group, findings: &mut NotedFindings) -> Result<(), AllocError>
+    ensures { OnOk result (Adds (StandsInRows group.now) findings.old findings.new) }
 {
     let width = group.headings.len();
     let name = group.name.as_slice();
     for row in group.rows.as_slice() {
-        let differs = row.cells.len() != width;
-        note(alloc, findings, row.line, Code::Rule4, name, differs)?;
+        if row.cells.len() != width {
+            findings.note(row.line, Code::Rule4, name)?;
+        }
     }
     Ok(())
 }
 
 /// Notes a group without DATA rows, and rows with a wrong number of items (Rules 2 and 4).
-fn note_shape(alloc: Global, group: &Group, findings: &mut Vec<Finding>) -> Result<(), AllocError>
-    ensures { OnOk result (Adds (OneOf (shape_rules group.now)) findings.old.items findings.new.items) }
+fn note_shape(group: &Group, findings: &mut NotedFindings) -> Result<(), AllocError>
+    ensures { OnOk result (Adds (OneOf (shape_rules group.now)) findings.old findings.new) }
 {
     let width = group.headings.len();
     let name = group.name.as_slice();
-    let is_bare = group.rows.is_empty();
-    let lacks_headings = group.headings.is_empty();
-    let units_differ = group.units.len() != width;
-    let types_differ = group.types.len() != width;
-    note(alloc, findings, group.line, Code::Rule2, name, is_bare)?;
-    note(
-        alloc,
-        findings,
-        group.heading_line,
-        Code::Rule4,
-        name,
-        lacks_headings,
-    )?;
-    note(
-        alloc,
-        findings,
-        group.unit_line,
-        Code::Rule4,
-        name,
-        units_differ,
-    )?;
-    note(
-        alloc,
-        findings,
-        group.type_line,
-        Code::Rule4,
-        name,
-        types_differ,
-    )?;
-    note_widths(alloc, group, findings)
+    if group.rows.is_empty() {
+        findings.note(group.line, Code::Rule2, name)?;
+    }
+    if group.headings.is_empty() {
+        findings.note(group.heading_line, Code::Rule4, name)?;
+    }
+    if group.units.len() != width {
+        findings.note(group.unit_line, Code::Rule4, name)?;
+    }
+    if group.types.len() != width {
+        findings.note(group.type_line, Code::Rule4, name)?;
+    }
+    note_widths(group, findings)
 }
 
 /// Notes a name that no group may have, and one that an earlier group has (Rule 19, P1).
 fn note_name<'g>(
-    alloc: Global,
     line: u32,
     name: &'g [u8],
     met: &mut BTreeMap<&'g [u8], ()>,
-    findings: &mut Vec<Finding>,
+    findings: &mut NotedFindings,
 ) -> Result<(), AllocError>
-    ensures noted { OnOk result (Adds (OneOf (met_rules line Rule19 P1 name.now (is_group_name name.now) (IsMet met.old name.now))) findings.old.items findings.new.items) }
-    ensures met { OnOk result ((other : List ℕ) → IsMet met.new other ↔ ((name.now ≡ other) ⊎ IsMet met.old other)) }
+    ensures noted { OnOk result (Adds
+        (OneOf (met_rules line Rule19 P1 name.now (is_group_name name.now) (IsMet met.old name.now)))
+        findings.old findings.new) }
+    ensures met { OnOk result (MeetsAlso met.old met.new name.now) }
 {
-    let is_wrong = !is_group_name(name);
-    note(alloc, findings, line, Code::Rule19, name, is_wrong)?;
-    note_repeat(alloc, line, Code::P1, name, met, findings)
+    if !is_group_name(name) {
+        findings.note(line, Code::Rule19, name)?;
+    }
+    note_repeat(line, Code::P1, name, met, findings)
 }
 
 /// Notes a name that no heading may have, and one that stands before in its row (Rule 19a, P2).
 fn note_heading<'g>(
-    alloc: Global,
     line: u32,
     heading: &'g [u8],
     met: &mut BTreeMap<&'g [u8], ()>,
-    findings: &mut Vec<Finding>,
+    findings: &mut NotedFindings,
 ) -> Result<(), AllocError>
-    ensures noted { OnOk result (Adds (OneOf (met_rules line Rule19a P2 heading.now (is_heading_name heading.now) (IsMet met.old heading.now))) findings.old.items findings.new.items) }
-    ensures met { OnOk result ((other : List ℕ) → IsMet met.new other ↔ ((heading.now ≡ other) ⊎ IsMet met.old other)) }
+    ensures noted { OnOk result (Adds
+        (OneOf (met_rules line Rule19a P2 heading.now (is_heading_name heading.now) (IsMet met.old heading.now)))
+        findings.old findings.new) }
+    ensures met { OnOk result (MeetsAlso met.old met.new heading.now) }
 {
-    let is_wrong = !is_heading_name(heading);
-    note(alloc, findings, line, Code::Rule19a, heading, is_wrong)?;
-    note_repeat(alloc, line, Code::P2, heading, met, findings)
+    if !is_heading_name(heading) {
+        findings.note(line, Code::Rule19a, heading)?;
+    }
+    note_repeat(line, Code::P2, heading, met, findings)
 }
 
 /// Notes what stands in the headings of a group (Rule 19a, P2).
 fn note_headings(
     alloc: Global,
     group: &Group,
-    findings: &mut Vec<Finding>,
+    findings: &mut NotedFindings,
 ) -> Result<(), AllocError>
-    ensures { OnOk result (Adds (StandsInHeadings group.now) findings.old.items findings.new.items) }
+    ensures { OnOk result (Adds (StandsInHeadings group.now) findings.old findings.new) }
 {
     let mut met = BTreeMap::new(alloc);
     for heading in group.headings.as_slice() {
-        note_heading(
-            alloc,
-            group.heading_line,
-            heading.as_slice(),
-            &mut met,
-            findings,
-        )?;
+        note_heading(group.heading_line, heading.as_slice(), &mut met, findings)?;
     }
     Ok(())
 }
@@ -141,17 +125,18 @@ fn note_group<'g>(
     alloc: Global,
     group: &'g Group,
     met: &mut BTreeMap<&'g [u8], ()>,
-    findings: &mut Vec<Finding>,
+    findings: &mut NotedFindings,
 ) -> Result<(), AllocError>
     ensures noted { OnOk result (Adds
         (OneOf (OneOf (shape_rules group.now)
-        ∷ OneOf (met_rules group.now.line Rule19 P1 group.now.name (is_group_name group.now.name) (IsMet met.old group.now.name))
+        ∷ OneOf (met_rules group.now.line Rule19 P1 group.now.name (is_group_name group.now.name)
+        (IsMet met.old group.now.name))
         ∷ StandsInHeadings group.now ∷ []))
-        findings.old.items findings.new.items) }
-    ensures met { OnOk result ((other : List ℕ) → IsMet met.new other ↔ ((group.now.name ≡ other) ⊎ IsMet met.old other)) }
+        findings.old findings.new) }
+    ensures met { OnOk result (MeetsAlso met.old met.new group.now.name) }
 {
-    note_shape(alloc, group, findings)?;
-    note_name(alloc, group.line, group.name.as_slice(), met, findings)?;
+    note_shape(group, findings)?;
+    note_name(group.line, group.name.as_slice(), met, findings)?;
     note_headings(alloc, group, findings)
 }
 
@@ -159,9 +144,9 @@ fn note_group<'g>(
 fn note_groups(
     alloc: Global,
     groups: &[Group],
-    findings: &mut Vec<Finding>,
+    findings: &mut NotedFindings,
 ) -> Result<(), AllocError>
-    ensures { OnOk result (Adds (StandsInGroups groups.now) findings.old.items findings.new.items) }
+    ensures { OnOk result (Adds (StandsInGroups groups.now) findings.old findings.new) }
 {
     let mut met = BTreeMap::new(alloc);
     for group in groups {
@@ -177,7 +162,7 @@ pub(crate) fn group_findings(
 ) -> Result<Sequence<Finding>, AllocError>
     ensures { IfOk result (λ found. AreExactly (StandsInGroups groups.now) found) }
 {
-    let mut findings = Vec::new(alloc);
+    let mut findings = NotedFindings::new(alloc);
     note_groups(alloc, groups, &mut findings)?;
-    Ok(in_order(findings))
+    Ok(findings.in_order())
 }

@@ -33,7 +33,8 @@ fn add_name<'n>(
     name: &'n [u8],
     place: usize,
 ) -> Result<(), AllocError>
-    ensures { OnOk result ((other : List ℕ) → place_at first.new other ≡ first_of (place_at first.old other) (place_if name.entry.now other place)) }
+    ensures { OnOk result ((other : List ℕ) → place_at first.new other
+        ≡ first_of (place_at first.old other) (place_if name.entry.now other place)) }
 {
     if !first.contains_key(name) {
         first.insert(name, place)?;

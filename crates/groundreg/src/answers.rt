@@ -22,7 +22,8 @@ fn said(alloc: Global, text: &[u8], status: u8) -> Result<Report, AllocError>
 
 /// A receipt with the text of its embargo day.
 fn dated_receipt(alloc: Global, number: u32, embargo: &[u8]) -> Result<Vec<u8>, AllocError>
-    ensures { IfOk result (λ text. text.items ≡ codes "receipt " ++ decimal number ++ codes " " ++ embargo.now ++ codes "\n") }
+    ensures { IfOk result (λ text.
+        text.items ≡ codes "receipt " ++ decimal number ++ codes " " ++ embargo.now ++ codes "\n") }
 {
     let mut text = Vec::new(alloc);
     write!(text, "receipt {number} ").map_err(|_| AllocError)?;
@@ -43,7 +44,8 @@ fn receipt_report(alloc: Global, number: u32, embargo: Day) -> Result<Report, Al
 }
 
 fn denied_report(alloc: Global, number: u32) -> Result<Report, AllocError>
-    ensures { IfOk result (λ report. (report.text ≡ codes "denied " ++ decimal number ++ codes "\n") × (report.status ≡ 2)) }
+    ensures { IfOk result (λ report.
+        (report.text ≡ codes "denied " ++ decimal number ++ codes "\n") × (report.status ≡ 2)) }
 {
     let mut text = Vec::new(alloc);
     writeln!(text, "denied {number}").map_err(|_| AllocError)?;
@@ -55,7 +57,8 @@ fn denied_report(alloc: Global, number: u32) -> Result<Report, AllocError>
 
 /// The line of a deposit, with the text of its embargo day.
 fn dated_line(alloc: Global, listed: &Listed, embargo: &[u8]) -> Result<Vec<u8>, AllocError>
-    ensures { IfOk result (λ line. line.items ≡ decimal listed.now.number ++ codes " " ++ listed.now.firm ++ codes " " ++ embargo.now ++ codes "\n") }
+    ensures { IfOk result (λ line. line.items
+        ≡ decimal listed.now.number ++ codes " " ++ listed.now.firm ++ codes " " ++ embargo.now ++ codes "\n") }
 {
     let mut line = Vec::new(alloc);
     write!(line, "{} ", listed.number).map_err(|_| AllocError)?;

@@ -83,7 +83,9 @@ pub(crate) fn check_stream<R: Read, W: Write, E: Write>(
     ensures failed { (result ≡ fault_status Stream) ↔ IsTrue (input.new.failed || (out.new.failed || err.new.failed)) }
     ensures taken { TakesAtMost (longest_file + 1) (R.remaining input.old.inner) (R.remaining input.new.inner) }
     ensures answers { IfSome (R.remaining input.old.inner) (λ bytes.
-        AnswersOn dictionary.now bytes (W.contents out.old.inner) (W.contents out.new.inner) (E.contents err.old.inner) (E.contents err.new.inner) input.new.failed out.new.failed err.new.failed result) }
+        AnswersOn dictionary.now bytes
+        (W.contents out.old.inner) (W.contents out.new.inner) (E.contents err.old.inner) (E.contents err.new.inner)
+        input.new.failed out.new.failed err.new.failed result) }
 {
     match report_on(alloc, dictionary, input) {
         Ok(report) => report.print(out),
@@ -104,7 +106,9 @@ pub(crate) fn run_without_words<R: Read, W: Write, E: Write>(
     ensures failed { (result ≡ fault_status Stream) ↔ IsTrue (input.new.failed || (out.new.failed || err.new.failed)) }
     ensures taken { TakesAtMost (longest_file + 1) (R.remaining input.old.inner) (R.remaining input.new.inner) }
     ensures answers { IfSome (R.remaining input.old.inner) (λ bytes.
-        AnswersOn mini_entries bytes (W.contents out.old.inner) (W.contents out.new.inner) (E.contents err.old.inner) (E.contents err.new.inner) input.new.failed out.new.failed err.new.failed result) }
+        AnswersOn mini_entries bytes
+        (W.contents out.old.inner) (W.contents out.new.inner) (E.contents err.old.inner) (E.contents err.new.inner)
+        input.new.failed out.new.failed err.new.failed result) }
 {
     match built_in(alloc) {
         Ok(dictionary) => check_stream(alloc, &dictionary, input, out, err),

@@ -9,9 +9,6 @@ ghost use Rattle.reg_desk.specs.Desks.{AnsweredBy};
 ghost use Rattle.groundreg.specs.Answers.{AnswersOn};
 ghost use Rattle.groundreg.specs.Asking.{AsksDesk, ChecksUnder};
 
-#[cfg(test)]
-mod tests;
-
 use crate::answers::answer_report;
 use crate::check::{check_stream, run_without_words};
 use crate::fault::{Fault, tell};
@@ -35,7 +32,7 @@ use std::path::Path;
 
 /// Who asks, for which project, and on which day.
 #[derive(Drop)]
-struct Session<'c> {
+pub(crate) struct Session<'c> {
     caller: &'c Caller,
     project: Name,
     day: Day,
@@ -96,7 +93,9 @@ fn check_given<'w, W: Write, E: Write>(
 ) -> Result<u8, Refusal<'w>>
     requires out { out.old.failed ≡ false }
     requires err { err.old.failed ≡ false }
-    ensures { IfOk result (λ status. ChecksUnder dictionary.now file.entry (W.contents out.old.inner) (W.contents out.new.inner) (E.contents err.old.inner) (E.contents err.new.inner) out.new.failed err.new.failed status) }
+    ensures { IfOk result (λ status. ChecksUnder dictionary.now file.entry
+        (W.contents out.old.inner) (W.contents out.new.inner) (E.contents err.old.inner) (E.contents err.new.inner)
+        out.new.failed err.new.failed status) }
 {
     let dictionary = dictionary_in(alloc, dictionary)?;
     let bytes = file?;
@@ -113,7 +112,9 @@ fn check_bytes<W: Write, E: Write>(
 ) -> u8
     requires out { out.old.failed ≡ false }
     requires err { err.old.failed ≡ false }
-    ensures { (in_failed : Bool) × AnswersOn dictionary.now bytes.now (W.contents out.old.inner) (W.contents out.new.inner) (E.contents err.old.inner) (E.contents err.new.inner) in_failed out.new.failed err.new.failed result }
+    ensures { (in_failed : Bool) × AnswersOn dictionary.now bytes.now
+        (W.contents out.old.inner) (W.contents out.new.inner) (E.contents err.old.inner) (E.contents err.new.inner)
+        in_failed out.new.failed err.new.failed result }
 {
     let mut input = Watched::new(bytes);
     check_stream(alloc, dictionary, &mut input, out, err)
@@ -141,7 +142,7 @@ fn project_of(alloc: Global, text: &str) -> Result<Name, Fault>
 }
 
 /// Who asks by this token, for the project and on the day that the words give.
-fn session_of<'c>(
+pub(crate) fn session_of<'c>(
     alloc: Global,
     callers: &'c Callers,
     asker: &Asker<'_>,
@@ -149,7 +150,8 @@ fn session_of<'c>(
 ) -> Result<Session<'c>, Fault>
     ensures caller { IfOk result (λ session. caller_of asker.now.token.now callers.now ≡ Some session.caller.now) }
     ensures project { IfOk result (λ session. session.project ≡ asker.now.project.now) }
-    ensures day { IfOk result (λ session. MatchOption asker.now.day (today ≡ Some session.day) (λ given. day_of given.now ≡ Some session.day)) }
+    ensures day { IfOk result (λ session. MatchOption asker.now.day (today ≡ Some session.day)
+        (λ given. day_of given.now ≡ Some session.day)) }
 {
     let Some(caller) = callers.find(asker.token.as_bytes()) else {
         return Err(Fault::TokenRefused);
@@ -201,7 +203,8 @@ fn ask_desk<'w, K: Keep, W: Write>(
     request: &Request<'_>,
     out: &mut Watched<W>,
 ) -> Result<u8, Refusal<'w>>
-    ensures { AsksDesk (AnsweredBy K.Keep) (asked request.entry.now) desk.old desk.new (W.contents out.old.inner) (W.contents out.new.inner) out.old.failed out.new.failed result }
+    ensures { AsksDesk (AnsweredBy K.Keep) (asked request.entry.now) desk.old desk.new
+        (W.contents out.old.inner) (W.contents out.new.inner) out.old.failed out.new.failed result }
 {
     let answer = desk.answer(alloc, request);
     let report = answer_report(alloc, answer)?;
@@ -230,7 +233,7 @@ fn deposit<'w, W: Write>(
 }
 
 /// Asks the desk to keep a file, as the one who asks.
-fn ask_deposit<'w, K: Keep, W: Write>(
+pub(crate) fn ask_deposit<'w, K: Keep, W: Write>(
     alloc: Global,
     desk: &mut Desk<K>,
     session: &Session<'_>,
@@ -238,7 +241,9 @@ fn ask_deposit<'w, K: Keep, W: Write>(
     bytes: &[u8],
     out: &mut Watched<W>,
 ) -> Result<u8, Refusal<'w>>
-    ensures { AsksDesk (AnsweredBy K.Keep) (deposit session.now.caller.now session.now.project embargo bytes.now session.now.day) desk.old desk.new (W.contents out.old.inner) (W.contents out.new.inner) out.old.failed out.new.failed result }
+    ensures { AsksDesk (AnsweredBy K.Keep)
+        (deposit session.now.caller.now session.now.project embargo bytes.now session.now.day) desk.old desk.new
+        (W.contents out.old.inner) (W.contents out.new.inner) out.old.failed out.new.failed result }
 {
     let request = Request::Deposit {
         caller: session.caller,
@@ -270,7 +275,9 @@ fn ask_list<'w, K: Keep, W: Write>(
     session: &Session<'_>,
     out: &mut Watched<W>,
 ) -> Result<u8, Refusal<'w>>
-    ensures { AsksDesk (AnsweredBy K.Keep) (listing session.now.caller.now session.now.project session.now.day) desk.old desk.new (W.contents out.old.inner) (W.contents out.new.inner) out.old.failed out.new.failed result }
+    ensures { AsksDesk (AnsweredBy K.Keep)
+        (listing session.now.caller.now session.now.project session.now.day) desk.old desk.new
+        (W.contents out.old.inner) (W.contents out.new.inner) out.old.failed out.new.failed result }
 {
     let request = Request::List {
         caller: session.caller,
@@ -319,7 +326,9 @@ fn ask_extract<'w, K: Keep, W: Write>(
     groups: &[&[u8]],
     out: &mut Watched<W>,
 ) -> Result<u8, Refusal<'w>>
-    ensures { AsksDesk (AnsweredBy K.Keep) (extract session.now.caller.now session.now.project number (names_in groups.now) session.now.day) desk.old desk.new (W.contents out.old.inner) (W.contents out.new.inner) out.old.failed out.new.failed result }
+    ensures { AsksDesk (AnsweredBy K.Keep)
+        (extract session.now.caller.now session.now.project number (names_in groups.now) session.now.day)
+        desk.old desk.new (W.contents out.old.inner) (W.contents out.new.inner) out.old.failed out.new.failed result }
 {
     let request = Request::Extract {
         caller: session.caller,
@@ -426,7 +435,9 @@ pub(crate) fn run_words<S: AsStr, R: Read, W: Write, E: Write>(
     requires out { out.old.failed ≡ false }
     requires err { err.old.failed ≡ false }
     ensures wordless { length words.now ≤ 1 → IfSome (R.remaining input.old.inner) (λ bytes.
-        AnswersOn mini_entries bytes (W.contents out.old.inner) (W.contents out.new.inner) (E.contents err.old.inner) (E.contents err.new.inner) input.new.failed out.new.failed err.new.failed result) }
+        AnswersOn mini_entries bytes
+        (W.contents out.old.inner) (W.contents out.new.inner) (E.contents err.old.inner) (E.contents err.new.inner)
+        input.new.failed out.new.failed err.new.failed result) }
 {
     let alloc = rt.alloc();
     if words.len() <= 1 {

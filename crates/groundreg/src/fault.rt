@@ -96,7 +96,8 @@ impl Fault {
 
     /// Says the fault, and gives the status that the run ends with.
     pub(crate) fn tell<E: Write>(&self, err: &mut Watched<E>) -> u8
-        ensures { Tells (E.contents err.old.inner) (E.contents err.new.inner) (fault_text self.now) err.old.failed err.new.failed (fault_status self.now) result }
+        ensures { Tells (E.contents err.old.inner) (E.contents err.new.inner) (fault_text self.now)
+            err.old.failed err.new.failed (fault_status self.now) result }
     {
         tell(err, self.text(), self.status())
     }
@@ -104,7 +105,8 @@ impl Fault {
 
 /// Writes a text: the status, or that of a stream that failed.
 pub(crate) fn tell<W: Write>(out: &mut Watched<W>, text: &[u8], status: u8) -> u8
-    ensures { Tells (W.contents out.old.inner) (W.contents out.new.inner) text.now out.old.failed out.new.failed status result }
+    ensures { Tells (W.contents out.old.inner) (W.contents out.new.inner) text.now
+        out.old.failed out.new.failed status result }
 {
     ended(out.write_text(text), status)
 }
@@ -116,7 +118,8 @@ pub(crate) fn tell_line<W: Write>(
     second: &[u8],
     status: u8,
 ) -> u8
-    ensures { Tells (W.contents out.old.inner) (W.contents out.new.inner) (first.now ++ (second.now ++ codes "\n")) out.old.failed out.new.failed status result }
+    ensures { Tells (W.contents out.old.inner) (W.contents out.new.inner) (first.now ++ (second.now ++ codes "\n"))
+        out.old.failed out.new.failed status result }
 {
     ended(out.write_line(first, second), status)
 }

@@ -24,7 +24,8 @@ fn read_piece<R: Read>(
     requires some { 0 < room }
     requires wide { room ≤ length piece.old }
     ensures taken { TakesAtMost room (R.remaining input.old.inner) (R.remaining input.new.inner) }
-    ensures appended { IfOk result (λ count. Appended count (R.remaining input.old.inner) (R.remaining input.new.inner) bytes.old.items bytes.new.items) }
+    ensures appended { IfOk result (λ count. Appended count
+        (R.remaining input.old.inner) (R.remaining input.new.inner) bytes.old.items bytes.new.items) }
     ensures few { IfOk result (λ count. count ≤ room) }
     ensures fault { IfErr result IsOfReading }
     ensures noted { input.new.failed ≡ (input.old.failed || is_stream_fault result) }

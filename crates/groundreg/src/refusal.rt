@@ -58,7 +58,8 @@ impl<'w> From<AdoptError> for Refusal<'w> {
 impl<'w> Refusal<'w> {
     /// Says it on standard error, and gives the status that the run ends with.
     pub(crate) fn tell<E: Write>(&self, err: &mut Watched<E>) -> u8
-        ensures { TellsRefusal self.now (E.contents err.old.inner) (E.contents err.new.inner) err.old.failed err.new.failed result }
+        ensures { TellsRefusal self.now (E.contents err.old.inner) (E.contents err.new.inner)
+            err.old.failed err.new.failed result }
     {
         match self {
             Refusal::Plain(fault) => fault.tell(err),
@@ -71,14 +72,16 @@ impl<'w> Refusal<'w> {
 
 /// Says that the file at a path can not be read.
 fn tell_unread<E: Write>(err: &mut Watched<E>, path: &str) -> u8
-    ensures { Tells (E.contents err.old.inner) (E.contents err.new.inner) (unread_text path.now) err.old.failed err.new.failed 6 result }
+    ensures { Tells (E.contents err.old.inner) (E.contents err.new.inner) (unread_text path.now)
+        err.old.failed err.new.failed 6 result }
 {
     tell_line(err, b"groundreg: cannot read ", path.as_bytes(), 6)
 }
 
 /// Says that the register has a format of this number.
 fn tell_version<E: Write>(err: &mut Watched<E>, number: i64) -> u8
-    ensures { Tells (E.contents err.old.inner) (E.contents err.new.inner) (version_text number) err.old.failed err.new.failed 4 result }
+    ensures { Tells (E.contents err.old.inner) (E.contents err.new.inner) (version_text number)
+        err.old.failed err.new.failed 4 result }
 {
     let mut buffer = Buffer::new();
     let digits = buffer.format(number).as_bytes();

@@ -20,7 +20,8 @@ pub(crate) struct Report {
 impl Report {
     /// Prints it, and gives the status.
     pub(crate) fn print<W: Write>(&self, out: &mut Watched<W>) -> u8
-        ensures { Tells (W.contents out.old.inner) (W.contents out.new.inner) self.now.text out.old.failed out.new.failed self.now.status result }
+        ensures { Tells (W.contents out.old.inner) (W.contents out.new.inner) self.now.text
+            out.old.failed out.new.failed self.now.status result }
     {
         tell(out, self.text.as_slice(), self.status)
     }

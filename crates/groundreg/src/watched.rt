@@ -95,7 +95,8 @@ impl<W: Write> Watched<W> {
 
     /// Writes a line that begins with `first` and goes on with `second`. It ends with LF.
     pub(crate) fn write_line(&mut self, first: &[u8], second: &[u8]) -> Result<(), StreamFailed>
-        ensures bytes { WritesText (W.contents self.old.inner) (W.contents self.new.inner) result (first.now ++ (second.now ++ codes "\n")) }
+        ensures bytes { WritesText (W.contents self.old.inner) (W.contents self.new.inner) result
+            (first.now ++ (second.now ++ codes "\n")) }
         ensures noted { self.new.failed ≡ (self.old.failed || is_err result) }
     {
         self.write_text(first)?;

@@ -69,7 +69,8 @@ fn decide_request<'x>(
     project: &'x Name,
     verb: Verb,
 ) -> Decision
-    ensures { (given : Entries) (limit : ℕ) → result ≡ decided (record { rules = policy.now; given = given; limit = limit }) caller.now project.now verb }
+    ensures { (given : Entries) (limit : ℕ) → result ≡ decided
+        (record { rules = policy.now; given = given; limit = limit }) caller.now project.now verb }
 {
     policy.decide(&Subject::of_request(caller, project, verb))
 }

@@ -136,7 +136,8 @@ fn ask_kind<'b>(
     kind: Kind,
 ) -> Result<Ask<'b>, Refusal>
     ensures limit { IfOk result (λ a. a.length ≤ LIMIT) }
-    ensures agrees { Agrees asking_at (ask_kind callers.now day (parts_seen parts.now) (found_page found.now) kind) result }
+    ensures agrees { Agrees asking_at
+        (ask_kind callers.now day (parts_seen parts.now) (found_page found.now) kind) result }
 {
     let caller = caller_in(callers, values(parts, b"authorization"))?;
     let length = body_length(kind, parts)?;

@@ -71,7 +71,8 @@ pub(crate) fn deposit_number(text: &[u8]) -> Result<u32, Refusal>
 
 /// The number of a deposit that a text writes: 1 to 6 digits, the first of them no zero.
 pub fn number_of_deposit(text: &[u8]) -> Option<u32>
-    ensures { MatchOption result (deposit_number text.now ≡ Err Refusal.BadParameter) (λ number. deposit_number text.now ≡ Ok number) }
+    ensures { MatchOption result (deposit_number text.now ≡ Err Refusal.BadParameter)
+        (λ number. deposit_number text.now ≡ Ok number) }
 {
     match deposit_number(text) {
         Ok(number) => Some(number),

@@ -104,7 +104,8 @@ pub(crate) fn groups_of<'t>(alloc: Global, text: &'t [u8]) -> Result<Vec<&'t [u8
 /// The groups that a text lists with commas between them, if each of them is the name of a group. An empty text lists none.
 pub fn groups_listed<'t>(alloc: Global, text: &'t [u8]) -> Result<Option<Vec<&'t [u8]>>, AllocError>
     ensures { IfOk result (λ listed. MatchOption listed (list_all is_group_name (groups_in text.now) ≡ false)
-        (λ groups. (names_in groups.items ≡ groups_in text.now) × (list_all is_group_name (groups_in text.now) ≡ true))) }
+        (λ groups. (names_in groups.items ≡ groups_in text.now)
+        × (list_all is_group_name (groups_in text.now) ≡ true))) }
 {
     let groups = groups_of(alloc, text)?;
     if are_group_names(&groups) {
@@ -164,7 +165,8 @@ fn seeks_deposit<'b>(alloc: Global, query: &'b [u8], day: Day) -> Result<Seeks<'
 }
 
 fn seeks_extract<'b>(alloc: Global, number: &str, query: &'b [u8]) -> Result<Seeks<'b>, Refusal>
-    ensures { Agrees sought_at (and_then (deposit_number number.now) (λ n. and_then (value_of (codes "groups") (raw_pairs query.now)) (extract_in n))) result }
+    ensures { Agrees sought_at (and_then (deposit_number number.now)
+        (λ n. and_then (value_of (codes "groups") (raw_pairs query.now)) (extract_in n))) result }
 {
     let number = deposit_number(number.as_bytes())?;
     let text = value_of(alloc, query, "groups")?;

@@ -85,7 +85,8 @@ fn serve_built<W: Write>(
 ) -> Result<Served, IoFault>
     requires sound { has_failed writer.old ≡ false }
     requires built { is_fixed answer.now ≡ false }
-    ensures served { ServesAnswer answer.now (W.contents (inner_of writer.old)) (W.contents (inner_of writer.new)) result }
+    ensures served { ServesAnswer answer.now
+        (W.contents (inner_of writer.old)) (W.contents (inner_of writer.new)) result }
     ensures write_fault { has_failed writer.new ≡ is_write result }
     ensures no_read { is_read result ≡ false }
 {
@@ -102,7 +103,8 @@ fn serve_answer<W: Write>(
     writer: &mut Tally<W>,
 ) -> Result<Served, IoFault>
     requires { has_failed writer.old ≡ false }
-    ensures served { ServesAnswer answer.now (W.contents (inner_of writer.old)) (W.contents (inner_of writer.new)) result }
+    ensures served { ServesAnswer answer.now
+        (W.contents (inner_of writer.old)) (W.contents (inner_of writer.new)) result }
     ensures write_fault { has_failed writer.new ≡ is_write result }
     ensures no_read { is_read result ≡ false }
 {
@@ -190,7 +192,8 @@ fn serve_head<K: Keep, R: Read, W: Write>(
     ensures write_fault { has_failed writer.new ≡ is_write result }
     ensures unread { IsTrue (is_read result) → (desk.new ≡ desk.old) × (writer.new ≡ writer.old) }
     ensures calls { calls_of reader.new ≤ calls_of reader.old + LIMIT + 1 }
-    ensures waits { calls_of reader.new ≤ calls_of reader.old + body_reads (ask_of callers.now day (parts_seen parts.now)) }
+    ensures waits { calls_of reader.new
+        ≤ calls_of reader.old + body_reads (ask_of callers.now day (parts_seen parts.now)) }
 {
     match read_ask(alloc, callers, day, parts) {
         Ok(ask) => serve_asked(alloc, desk, day, &ask, early, reader, writer),
@@ -226,7 +229,8 @@ pub fn serve_one<K: Keep, R: Read, W: Write>(
     ensures unread { IsTrue (is_read result) → (desk.new ≡ desk.old) × (writer.new ≡ writer.old) }
     ensures silent { IfSome (R.remaining (inner_of reader.old)) (λ bytes. bytes ≡ [] → writer.new ≡ writer.old) }
     ensures calls { calls_of reader.new ≤ most_calls }
-    ensures waits { IfSome (R.remaining (inner_of reader.old)) (λ bytes. WaitsFor callers.now day bytes (calls_of reader.new)) }
+    ensures waits { IfSome (R.remaining (inner_of reader.old)) (λ bytes.
+        WaitsFor callers.now day bytes (calls_of reader.new)) }
 {
     let mut buf = [0u8; LONGEST_HEAD];
     let mut headers = [EMPTY_HEADER_SPAN; MOST_FIELDS];

@@ -22,7 +22,8 @@ pub fn one_policy(text: &str)
 
 /// A text is one list of callers at most.
 pub fn one_list_of_callers(text: &str)
-    ensures { (callers others : List Credential) → HasCallers text.now callers → HasCallers text.now others → callers ≡ others }
+    ensures { (callers others : List Credential) → HasCallers text.now callers
+        → HasCallers text.now others → callers ≡ others }
 {}
 
 /// A day has one text.

@@ -179,7 +179,8 @@ fn either_at(table: &Table, key: &str, word: &str, other: &str) -> Result<Option
 
 /// `heading` and `value`: both or neither.
 fn entry_at(alloc: Global, table: &Table) -> Result<Option<WantedEntry>, ReadError>
-    ensures { Gives (IsEntry (get_member (codes "heading") (table_view table.now)) (get_member (codes "value") (table_view table.now))) result }
+    ensures { Gives (IsEntry (get_member (codes "heading") (table_view table.now))
+        (get_member (codes "value") (table_view table.now))) result }
 {
     match (string_at(table, "heading")?, string_at(table, "value")?) {
         (None, None) => Ok(None),

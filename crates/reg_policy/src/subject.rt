@@ -45,7 +45,13 @@ impl<'a> Model for Subject<'a> {
 
     ghost Value = { Question };
 
-    ghost view = { λ s. record { firm = s.caller.now.firm; role = s.caller.now.role; project = s.project.now; verb = s.verb; row = option_map facts_of s.row } };
+    ghost view = { λ s. record {
+      firm = s.caller.now.firm;
+      role = s.caller.now.role;
+      project = s.project.now;
+      verb = s.verb;
+      row = option_map facts_of s.row;
+    } };
 }
 
 impl<'a> Subject<'a> {

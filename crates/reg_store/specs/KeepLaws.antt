@@ -138,6 +138,7 @@ adds_at {old} {new} {dictionary} {count} d file h low put sound settled is_open 
       list = ∥∥₁_elim more (list_set _ _) (λ (p : Pushed dictionary old new count d). p.list);
     }
 
+-- what a crash within the adding may leave beside what was there: the database with the deposit
 abbrev pub PutsOf : State → ℕ → Deposit → List KeptRow → List (ℕ × ℕ) → Trees → Type 0
 PutsOf old n d rows steps trees = (db : Database) × AddsFile n d rows steps old.now db × IsDatabase db × (trees ≡ db.trees)
 

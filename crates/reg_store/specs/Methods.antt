@@ -7,6 +7,7 @@ use Rattle.std.specs.List.{AllZip}
 use Rattle.std.specs.List.Sorted.{IsPermutation}
 use Rattle.sqlite.specs.Tree.{IsAscending}
 use Rattle.sqlite.specs.Order.{Row, bytes, column}
+use Rattle.sqlite.specs.Effect.{Database}
 use Rattle.sqlite.specs.State.{State}
 use Rattle.ags_dict.specs.Entries.{Entries}
 use Rattle.ags_links.specs.Steps.{IsBefore, AreAscending, IsGraphOf, StepAt}
@@ -51,6 +52,14 @@ deposit_read_at {s} {dictionary} {count} n (Ok kept) low high h ok =
 deposit_read_at n (Err e) low high h ok = tt
 
 -- ---- the rows of a deposit
+
+-- the rows of the number are these, in whatever order the table has them
+abbrev pub HoldsLines : Database → ℕ → List KeptRow → Type 0
+HoldsLines db n rows = IsPermutation (placed_rows 0 rows) (rows_under n (line_table db.trees))
+
+-- the steps of the number are these, in whatever order the table has them
+abbrev pub HoldsSteps : Database → ℕ → List (ℕ × ℕ) → Type 0
+HoldsSteps db n steps = IsPermutation (map step_pair steps) (rows_under n (step_table db.trees))
 
 rows_set : (a b : List KeptRow) → IsProp (a ≡ b)
 rows_set a b = Prim.hlevel props

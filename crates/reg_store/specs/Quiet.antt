@@ -13,6 +13,18 @@ pub record IsIdle (s : State) : Type 0 where
   pub schema : HasCleanDisk s → s.now.schema ≡ register_schema
   pub settled : HasCleanDisk s → IsTrue s.is_open → s.committed ≡ s.now
 
+-- While the connection is open, it shows what was committed.
+abbrev pub IsSettled : State → Type 0
+IsSettled s = IsTrue s.is_open → s.committed ≡ s.now
+
+-- It shows what was committed before, and no more is committed.
+abbrev pub IsUndone : State → State → Type 0
+IsUndone old new = (new.now ≡ old.committed) × (new.committed ≡ old.committed)
+
+-- It shows what it showed, and what is committed is what was.
+abbrev pub ShowsTheSame : State → State → Type 0
+ShowsTheSame old new = (new.now ≡ old.now) × (new.committed ≡ old.committed)
+
 -- The connection was open, and it shows what it showed.
 abbrev pub IsAsBefore : State → State → Type 0
 IsAsBefore old new = IsTrue old.is_open × (new.now ≡ old.now) × (new.committed ≡ old.committed)

@@ -121,7 +121,8 @@ pub(crate) fn meta_text<'a>(rows: &'a [Row]) -> Option<&'a [u8]>
 /// The dictionary that the bytes are.
 fn read_kept_dictionary(alloc: Global, text: &[u8]) -> Result<Dictionary, AdoptError>
     ensures read { IfOk result (λ dictionary. (length text.now ≤ READABLE) × IsDictionary text.now dictionary) }
-    ensures refused { result ≡ Err AdoptError.NotRegister → (dictionary : Entries) → length text.now ≤ READABLE → IsDictionary text.now dictionary → ⊥ }
+    ensures refused { result ≡ Err AdoptError.NotRegister → (dictionary : Entries) → length text.now ≤ READABLE
+        → IsDictionary text.now dictionary → ⊥ }
     ensures named { IfErr result (λ e. (e ≡ AdoptError.NotRegister) ⊎ (e ≡ AdoptError.NoMemory)) }
 {
     if text.len() > READABLE {

@@ -11,13 +11,14 @@ ghost use Rattle.reg_store.specs.Deposit.{Deposit};
 ghost use Rattle.reg_store.specs.Keep.{fails, deposit_of};
 ghost use Rattle.reg_store.specs.Fit.{IsFileOf};
 ghost use Rattle.reg_store.specs.Quiet.{IsIdle, IsStill};
-ghost use Rattle.reg_store.specs.Rows.{line_table, step_table, deposit_table, placed_rows, step_pair, rows_under};
+ghost use Rattle.reg_store.specs.Rows.{deposit_table};
 ghost use Rattle.reg_store.specs.Register.{deposit_rows};
 ghost use Rattle.reg_store.specs.Heads.{HoldsHeads, IsDigestedAt};
 ghost use Rattle.reg_store.specs.Digests.{AreBelow, HoldsDigests, IsNew, numbers_under};
 ghost use Rattle.reg_store.specs.Adopts.{id_of, number_rows as numbered};
 ghost use Rattle.reg_store.specs.Whole.{AreWhole, Counts, HasMeta, HoldsBody, IsWhole, Tests};
 ghost use Rattle.reg_store.specs.Adoption.{Adopts, CountsDeposits, MetaOf, gives_up};
+ghost use Rattle.reg_store.specs.Methods.{HoldsLines, HoldsSteps};
 ghost use Rattle.sqlite.specs.Effect.{IsDatabase};
 
 use crate::adopting::{AdoptError, are_lines, are_steps, count_numbers, read_meta};
@@ -36,8 +37,11 @@ use std::alloc::Global;
 
 fn number_rows<S: Alter>(conn: &mut Connection<S>) -> Result<Vec<Row>, KeepError>
     requires idle { IsIdle (state S.Store conn.old) }
-    ensures all { HasCleanDisk (state S.Store conn.new) → IfOk result (λ rows. IsPermutation rows.items (map id_of (deposit_table (state S.Store conn.old).now.trees))) }
-    ensures found { HasCleanDisk (state S.Store conn.new) → IfOk result (λ rows. (list : List Deposit) → IsPermutation (deposit_rows 1 list) (deposit_table (state S.Store conn.old).now.trees) → rows.items ≡ numbered 1 (length list)) }
+    ensures all { HasCleanDisk (state S.Store conn.new) → IfOk result (λ rows.
+        IsPermutation rows.items (map id_of (deposit_table (state S.Store conn.old).now.trees))) }
+    ensures found { HasCleanDisk (state S.Store conn.new) → IfOk result (λ rows. (list : List Deposit)
+        → IsPermutation (deposit_rows 1 list) (deposit_table (state S.Store conn.old).now.trees)
+        → rows.items ≡ numbered 1 (length list)) }
     ensures named { IfErr result (λ e. e ≢ KeepError.Full) }
     ensures quiet { IsStill (state S.Store conn.old) (state S.Store conn.new) (fails result) }
 {
@@ -66,7 +70,8 @@ fn holds_lines<S: Alter>(
 ) -> Result<bool, KeepError>
     requires idle { IsIdle (state S.Store conn.old) }
     requires few { length lines.now ≤ 4294967295 }
-    ensures tested { HasCleanDisk (state S.Store conn.new) → IfOk result (λ is. Tests is (IsPermutation (placed_rows 0 lines.now) (rows_under number (line_table (state S.Store conn.old).now.trees)))) }
+    ensures tested { HasCleanDisk (state S.Store conn.new)
+        → IfOk result (λ is. Tests is (HoldsLines (state S.Store conn.old).now number lines.now)) }
     ensures named { IfErr result (λ e. e ≢ KeepError.Full) }
     ensures quiet { IsStill (state S.Store conn.old) (state S.Store conn.new) (fails result) }
 {
@@ -84,7 +89,8 @@ fn holds_steps<S: Alter>(
 ) -> Result<bool, KeepError>
     requires idle { IsIdle (state S.Store conn.old) }
     requires rising { IsAscending IsBefore steps.now }
-    ensures tested { HasCleanDisk (state S.Store conn.new) → IfOk result (λ is. Tests is (IsPermutation (map step_pair steps.now) (rows_under number (step_table (state S.Store conn.old).now.trees)))) }
+    ensures tested { HasCleanDisk (state S.Store conn.new)
+        → IfOk result (λ is. Tests is (HoldsSteps (state S.Store conn.old).now number steps.now)) }
     ensures named { IfErr result (λ e. e ≢ KeepError.Full) }
     ensures quiet { IsStill (state S.Store conn.old) (state S.Store conn.new) (fails result) }
 {
@@ -105,7 +111,9 @@ fn holds_file<S: Alter>(
     requires idle { IsIdle (state S.Store conn.old) }
     requires few { length lines.now ≤ 4294967295 }
     requires rising { IsAscending IsBefore steps.now }
-    ensures tested { HasCleanDisk (state S.Store conn.new) → IfOk result (λ is. Tests is (IsPermutation (placed_rows 0 lines.now) (rows_under number (line_table (state S.Store conn.old).now.trees)) × IsPermutation (map step_pair steps.now) (rows_under number (step_table (state S.Store conn.old).now.trees)))) }
+    ensures tested { HasCleanDisk (state S.Store conn.new) → IfOk result (λ is.
+        Tests is (HoldsLines (state S.Store conn.old).now number lines.now
+        × HoldsSteps (state S.Store conn.old).now number steps.now)) }
     ensures named { IfErr result (λ e. e ≢ KeepError.Full) }
     ensures quiet { IsStill (state S.Store conn.old) (state S.Store conn.new) (fails result) }
 {
@@ -121,8 +129,10 @@ fn checked_file<'a>(
     dictionary: &Dictionary,
     kept: &'a Kept,
 ) -> Result<Option<Checked<'a>>, KeepError>
-    ensures file { IfOk result (λ found. (file : CheckedFile) → found ≡ Some file → IsFileOf dictionary.now (deposit_of kept.entry.now) file) }
-    ensures none { IfOk result (λ found. found ≡ None → (file : CheckedFile) → IsFileOf dictionary.now (deposit_of kept.entry.now) file → ⊥) }
+    ensures file { IfOk result (λ found. (file : CheckedFile) → found ≡ Some file
+        → IsFileOf dictionary.now (deposit_of kept.entry.now) file) }
+    ensures none { IfOk result (λ found. found ≡ None → (file : CheckedFile)
+        → IsFileOf dictionary.now (deposit_of kept.entry.now) file → ⊥) }
     ensures named { IfErr result (λ e. e ≡ KeepError.NoMemory) }
 {
     let bytes = kept.bytes.as_slice();
@@ -146,7 +156,8 @@ fn holds_body<S: Alter>(
     kept: &Kept,
 ) -> Result<bool, KeepError>
     requires idle { IsIdle (state S.Store conn.old) }
-    ensures tested { HasCleanDisk (state S.Store conn.new) → IfOk result (λ is. Tests is (HoldsBody (state S.Store conn.old).now dictionary.now number (deposit_of kept.now))) }
+    ensures tested { HasCleanDisk (state S.Store conn.new) → IfOk result (λ is.
+        Tests is (HoldsBody (state S.Store conn.old).now dictionary.now number (deposit_of kept.now))) }
     ensures named { IfErr result (λ e. e ≢ KeepError.Full) }
     ensures quiet { IsStill (state S.Store conn.old) (state S.Store conn.new) (fails result) }
 {
@@ -168,7 +179,8 @@ fn is_new<S: Alter>(
     kept: &Kept,
 ) -> Result<bool, KeepError>
     requires idle { IsIdle (state S.Store conn.old) }
-    ensures tested { HasCleanDisk (state S.Store conn.new) → IfOk result (λ is. Tests is (IsNew (state S.Store conn.old).now numbers.now (deposit_of kept.now))) }
+    ensures tested { HasCleanDisk (state S.Store conn.new)
+        → IfOk result (λ is. Tests is (IsNew (state S.Store conn.old).now numbers.now (deposit_of kept.now))) }
     ensures named { IfErr result (λ e. e ≢ KeepError.Full) }
     ensures quiet { IsStill (state S.Store conn.old) (state S.Store conn.new) (fails result) }
 {
@@ -197,7 +209,9 @@ fn holds_kept<S: Alter>(
     numbers: &[u32],
 ) -> Result<bool, KeepError>
     requires idle { IsIdle (state S.Store conn.old) }
-    ensures tested { HasCleanDisk (state S.Store conn.new) → IfOk result (λ is. Tests is (HoldsBody (state S.Store conn.old).now dictionary.now number (deposit_of kept.now) × IsNew (state S.Store conn.old).now numbers.now (deposit_of kept.now))) }
+    ensures tested { HasCleanDisk (state S.Store conn.new) → IfOk result (λ is.
+        Tests is (HoldsBody (state S.Store conn.old).now dictionary.now number (deposit_of kept.now)
+        × IsNew (state S.Store conn.old).now numbers.now (deposit_of kept.now))) }
     ensures named { IfErr result (λ e. e ≢ KeepError.Full) }
     ensures quiet { IsStill (state S.Store conn.old) (state S.Store conn.new) (fails result) }
 {
@@ -218,9 +232,12 @@ fn whole_head<S: Alter>(
 ) -> Result<Option<DigestedHead>, KeepError>
     requires idle { IsIdle (state S.Store conn.old) }
     requires below { AreBelow digests.now number }
-    requires digested { HasCleanDisk (state S.Store conn.old) → HoldsDigests (state S.Store conn.old).now number digests.now }
-    ensures tested { HasCleanDisk (state S.Store conn.new) → IfOk result (λ found. Tests (is_some found) (IsWhole (state S.Store conn.old).now dictionary.now number)) }
-    ensures head { HasCleanDisk (state S.Store conn.new) → IfOk result (λ found. IfSome found (IsDigestedAt (state S.Store conn.old).now number)) }
+    requires digested { HasCleanDisk (state S.Store conn.old)
+        → HoldsDigests (state S.Store conn.old).now number digests.now }
+    ensures tested { HasCleanDisk (state S.Store conn.new)
+        → IfOk result (λ found. Tests (is_some found) (IsWhole (state S.Store conn.old).now dictionary.now number)) }
+    ensures head { HasCleanDisk (state S.Store conn.new)
+        → IfOk result (λ found. IfSome found (IsDigestedAt (state S.Store conn.old).now number)) }
     ensures named { IfErr result (λ e. e ≢ KeepError.Full) }
     ensures quiet { IsStill (state S.Store conn.old) (state S.Store conn.new) (fails result) }
 {
@@ -255,11 +272,14 @@ pub(crate) fn holds_deposits<S: Alter>(
     requires idle { IsIdle (state S.Store conn.old) }
     requires none { heads.old.items ≡ [] }
     requires no_digests { (digest : List ℕ) → numbers_under digests.old digest ≡ [] }
-    ensures tested { HasCleanDisk (state S.Store conn.new) → IfOk result (λ is. Tests is (AreWhole (state S.Store conn.old).now dictionary.now count)) }
+    ensures tested { HasCleanDisk (state S.Store conn.new)
+        → IfOk result (λ is. Tests is (AreWhole (state S.Store conn.old).now dictionary.now count)) }
     ensures long { result ≡ Ok true → length heads.new.items ≡ count }
-    ensures heads { HasCleanDisk (state S.Store conn.new) → result ≡ Ok true → HoldsHeads (state S.Store conn.old).now count heads.new.items }
+    ensures heads { HasCleanDisk (state S.Store conn.new) → result ≡ Ok true
+        → HoldsHeads (state S.Store conn.old).now count heads.new.items }
     ensures below { result ≡ Ok true → AreBelow digests.new (count + 1) }
-    ensures digests { HasCleanDisk (state S.Store conn.new) → result ≡ Ok true → HoldsDigests (state S.Store conn.old).now (count + 1) digests.new }
+    ensures digests { HasCleanDisk (state S.Store conn.new) → result ≡ Ok true
+        → HoldsDigests (state S.Store conn.old).now (count + 1) digests.new }
     ensures named { IfErr result (λ e. e ≢ KeepError.Full) }
     ensures quiet { IsStill (state S.Store conn.old) (state S.Store conn.new) (fails result) }
 {
@@ -288,12 +308,15 @@ fn find_register<S: Alter>(
     requires sound { HasCleanDisk (state S.Store conn.old) → IsDatabase (state S.Store conn.old).now }
     requires none { heads.old.items ≡ [] }
     requires no_digests { (digest : List ℕ) → numbers_under digests.old digest ≡ [] }
-    ensures found { HasCleanDisk (state S.Store conn.new) → IfOk result (CountsDeposits (state S.Store conn.old).now dictionary.now) }
+    ensures found { HasCleanDisk (state S.Store conn.new)
+        → IfOk result (CountsDeposits (state S.Store conn.old).now dictionary.now) }
     ensures few { IfOk result (λ found. IfSome found (λ count. count ≤ 999999)) }
     ensures long { IfOk result (λ found. IfSome found (λ count. length heads.new.items ≡ count)) }
-    ensures heads { HasCleanDisk (state S.Store conn.new) → IfOk result (λ found. IfSome found (λ count. HoldsHeads (state S.Store conn.old).now count heads.new.items)) }
+    ensures heads { HasCleanDisk (state S.Store conn.new)
+        → IfOk result (λ found. IfSome found (λ count. HoldsHeads (state S.Store conn.old).now count heads.new.items)) }
     ensures below { IfOk result (λ found. IfSome found (λ count. AreBelow digests.new (count + 1))) }
-    ensures digests { HasCleanDisk (state S.Store conn.new) → IfOk result (λ found. IfSome found (λ count. HoldsDigests (state S.Store conn.old).now (count + 1) digests.new)) }
+    ensures digests { HasCleanDisk (state S.Store conn.new) → IfOk result (λ found.
+        IfSome found (λ count. HoldsDigests (state S.Store conn.old).now (count + 1) digests.new)) }
     ensures named { IfErr result (λ e. e ≢ KeepError.Full) }
     ensures quiet { IsStill (state S.Store conn.old) (state S.Store conn.new) (fails result) }
 {
@@ -314,7 +337,8 @@ fn find_dictionary<S: Alter>(
 ) -> Result<Dictionary, AdoptError>
     requires idle { IsIdle (state S.Store conn.old) }
     ensures read { HasCleanDisk (state S.Store conn.new) → MetaOf (state S.Store conn.old).now result }
-    ensures open { HasCleanDisk (state S.Store conn.new) → gives_up result ≡ false → IsTrue (state S.Store conn.new).is_open }
+    ensures open { HasCleanDisk (state S.Store conn.new) → gives_up result ≡ false
+        → IsTrue (state S.Store conn.new).is_open }
     ensures quiet { IsStill (state S.Store conn.old) (state S.Store conn.new) (gives_up result) }
 {
     match meta_rows(conn) {
@@ -338,10 +362,13 @@ pub(crate) fn examine<S: Alter>(
     ensures adopts { HasCleanDisk (state S.Store conn.new) → Adopts (state S.Store conn.old).now result }
     ensures few { IfOk result (λ found. found.1 ≤ 999999) }
     ensures long { IfOk result (λ found. length heads.new.items ≡ found.1) }
-    ensures heads { HasCleanDisk (state S.Store conn.new) → IfOk result (λ found. HoldsHeads (state S.Store conn.old).now found.1 heads.new.items) }
+    ensures heads { HasCleanDisk (state S.Store conn.new)
+        → IfOk result (λ found. HoldsHeads (state S.Store conn.old).now found.1 heads.new.items) }
     ensures below { IfOk result (λ found. AreBelow digests.new (found.1 + 1)) }
-    ensures digests { HasCleanDisk (state S.Store conn.new) → IfOk result (λ found. HoldsDigests (state S.Store conn.old).now (found.1 + 1) digests.new) }
-    ensures open { HasCleanDisk (state S.Store conn.new) → gives_up result ≡ false → IsTrue (state S.Store conn.new).is_open }
+    ensures digests { HasCleanDisk (state S.Store conn.new)
+        → IfOk result (λ found. HoldsDigests (state S.Store conn.old).now (found.1 + 1) digests.new) }
+    ensures open { HasCleanDisk (state S.Store conn.new) → gives_up result ≡ false
+        → IsTrue (state S.Store conn.new).is_open }
     ensures quiet { IsStill (state S.Store conn.old) (state S.Store conn.new) (gives_up result) }
 {
     let dictionary = match find_dictionary(conn, alloc) {

@@ -23,7 +23,8 @@ pub(crate) trait Gather {
 
     /// Takes the next row.
     fn take(&mut self, row: &Row) -> Result<(), KeepError>
-        ensures taken { OnOk result ((rows : List Values) → holds self.old rows → holds self.new (rows ++ row.now ∷ [])) }
+        ensures taken { OnOk result ((rows : List Values) → holds self.old rows
+            → holds self.new (rows ++ row.now ∷ [])) }
         ensures named { IfErr result (λ e. e ≢ KeepError.Full) };
 }
 
@@ -39,8 +40,11 @@ fn take_each<S: Alter, G: Gather>(
     requires empty { G.holds into.old [] }
     ensures mode { conn.new.in_transaction ≡ false }
     ensures open { HasCleanDisk (state S.Store conn.new) → OnOk result (IsTrue (state S.Store conn.new).is_open) }
-    ensures same { HasCleanDisk (state S.Store conn.new) → IsTrue (state S.Store conn.new).is_open → IsAsBefore (state S.Store conn.old) (state S.Store conn.new) }
-    ensures shown { HasCleanDisk (state S.Store conn.new) → IfOk result (λ taken. OnOk taken ((rows : List Values) × Shown sql.now (bound params.now) (state S.Store conn.old) (state S.Store conn.new) rows × G.holds into.new rows)) }
+    ensures same { HasCleanDisk (state S.Store conn.new) → IsTrue (state S.Store conn.new).is_open
+        → IsAsBefore (state S.Store conn.old) (state S.Store conn.new) }
+    ensures shown { HasCleanDisk (state S.Store conn.new) → IfOk result (λ taken. OnOk taken ((rows : List Values)
+        × Shown sql.now (bound params.now) (state S.Store conn.old) (state S.Store conn.new) rows
+        × G.holds into.new rows)) }
     ensures named { IfOk result (λ taken. IfErr taken (λ e. e ≢ KeepError.Full)) }
     ensures crash { Survives (state S.Store conn.old) (state S.Store conn.new) (λ _. ⊥) }
 {
@@ -67,7 +71,9 @@ pub(crate) fn take_shown<S: Alter, G: Gather>(
     requires plain { IsPlain (understood register_schema sql.now) }
     requires idle { IsIdle (state S.Store conn.old) }
     requires empty { G.holds into.old [] }
-    ensures shown { HasCleanDisk (state S.Store conn.new) → OnOk result ((rows : List Values) × Shown sql.now (bound params.now) (state S.Store conn.old) (state S.Store conn.new) rows × G.holds into.new rows) }
+    ensures shown { HasCleanDisk (state S.Store conn.new) → OnOk result ((rows : List Values)
+        × Shown sql.now (bound params.now) (state S.Store conn.old) (state S.Store conn.new) rows
+        × G.holds into.new rows) }
     ensures named { IfErr result (λ e. e ≢ KeepError.Full) }
     ensures quiet { IsStill (state S.Store conn.old) (state S.Store conn.new) (fails result) }
 {

@@ -11,7 +11,7 @@ ghost use Rattle.ags_dict.specs.Reading.{IsDictionary, ReadsDictionary};
 ghost use Rattle.reg_store.specs.Tables.{no_schema, register_schema};
 ghost use Rattle.reg_store.specs.Creates.{IsNewRegister, LeavesNew};
 ghost use Rattle.reg_store.specs.Making.{RefusesBytes};
-ghost use Rattle.reg_store.specs.Quiet.{IsAsBefore};
+ghost use Rattle.reg_store.specs.Quiet.{IsAsBefore, ShowsTheSame};
 ghost use Rattle.reg_store.specs.Register.{IsRegister, deposits_in};
 ghost use Rattle.reg_store.specs.Adoption.{Adopts, is_store_failure};
 ghost use Rattle.reg_store.specs.Opened.{FindsSchema, HoldsRegister, RefusesFiles};
@@ -21,6 +21,7 @@ use crate::creating::make_register;
 use crate::examining::examine;
 use crate::keep::KeepError;
 use crate::queries::is_memory;
+use crate::recent::Recent;
 use crate::repeats::Digests;
 use crate::schema::{is_register, is_vacant};
 use crate::sql::SqlKeep;
@@ -71,18 +72,24 @@ impl<S: Alter> SqlKeep<S> {
     ) -> Result<SqlKeep<S>, (CreateError, Connection<S>)>
         requires short { length bytes.now ≤ READABLE }
         requires read { IsDictionary bytes.now dictionary }
-        ensures empty { IfOk result (λ k. HasCleanDisk (state S.Store k.connection) → deposits_in (state S.Store k.connection).committed.trees ≡ []) }
+        ensures empty { IfOk result (λ k. HasCleanDisk (state S.Store k.connection)
+            → deposits_in (state S.Store k.connection).committed.trees ≡ []) }
         ensures dictionary { IfOk result (λ k. k.dictionary ≡ dictionary) }
-        ensures register { IfOk result (λ k. HasCleanDisk (state S.Store k.connection) → IsNewRegister bytes.entry.now (state S.Store k.connection).now) }
+        ensures register { IfOk result (λ k. HasCleanDisk (state S.Store k.connection)
+            → IsNewRegister bytes.entry.now (state S.Store k.connection).now) }
         ensures blank { IfOk result (λ _. (state S.Store connection).now.schema ≡ no_schema) }
         ensures refused { IfErr result (λ e. RefusesBytes bytes.entry.now e.0) }
         ensures working { IfOk result (λ k. k.has_failed ≡ false) }
-        ensures not_empty { IfErr result (λ e. e.0 ≡ CreateError.NotEmpty → (state S.Store connection).now.schema ≢ no_schema) }
-        ensures vacant { IfErr result (λ e. e.0 ≡ CreateError.Store → (state S.Store connection).now.schema ≡ no_schema) }
-        ensures made { IfOk result (λ k. Survives (state S.Store connection) (state S.Store k.connection) (LeavesNew (state S.Store connection) bytes.entry.now)) }
-        ensures left { IfErr result (λ e. Survives (state S.Store connection) (state S.Store e.1) (LeavesNew (state S.Store connection) bytes.entry.now)) }
+        ensures not_empty { IfErr result (λ e. e.0 ≡ CreateError.NotEmpty
+            → (state S.Store connection).now.schema ≢ no_schema) }
+        ensures vacant { IfErr result (λ e. e.0 ≡ CreateError.Store
+            → (state S.Store connection).now.schema ≡ no_schema) }
+        ensures made { IfOk result (λ k. Survives (state S.Store connection) (state S.Store k.connection)
+            (LeavesNew (state S.Store connection) bytes.entry.now)) }
+        ensures left { IfErr result (λ e. Survives (state S.Store connection) (state S.Store e.1)
+            (LeavesNew (state S.Store connection) bytes.entry.now)) }
         ensures same { IfErr result (λ e. e.0 ≢ CreateError.Store → HasCleanDisk (state S.Store e.1)
-            → ((state S.Store e.1).now ≡ (state S.Store connection).now) × ((state S.Store e.1).committed ≡ (state S.Store connection).committed)) }
+            → ShowsTheSame (state S.Store connection) (state S.Store e.1)) }
         ensures still { IfErr result (λ e. HasCleanDisk (state S.Store e.1) → IsTrue (state S.Store e.1).is_open
             → IsAsBefore (state S.Store connection) (state S.Store e.1)) }
     {
@@ -100,6 +107,7 @@ impl<S: Alter> SqlKeep<S> {
                 count: 0,
                 heads: Vec::new(alloc),
                 digests: Digests::new(alloc),
+                recent: Recent::none(),
                 has_failed: false,
                 alloc,
             }),
@@ -118,18 +126,24 @@ impl<S: Alter> SqlKeep<S> {
         bytes: &[u8],
     ) -> Result<SqlKeep<S>, (CreateError, Connection<S>)>
         requires short { length bytes.now ≤ READABLE }
-        ensures empty { IfOk result (λ k. HasCleanDisk (state S.Store k.connection) → deposits_in (state S.Store k.connection).committed.trees ≡ []) }
+        ensures empty { IfOk result (λ k. HasCleanDisk (state S.Store k.connection)
+            → deposits_in (state S.Store k.connection).committed.trees ≡ []) }
         ensures dictionary { IfOk result (λ k. ReadsDictionary bytes.now (Ok k.dictionary)) }
-        ensures register { IfOk result (λ k. HasCleanDisk (state S.Store k.connection) → IsNewRegister bytes.now (state S.Store k.connection).now) }
+        ensures register { IfOk result (λ k. HasCleanDisk (state S.Store k.connection)
+            → IsNewRegister bytes.now (state S.Store k.connection).now) }
         ensures blank { IfOk result (λ _. (state S.Store connection).now.schema ≡ no_schema) }
         ensures refused { IfErr result (λ e. RefusesBytes bytes.now e.0) }
         ensures working { IfOk result (λ k. k.has_failed ≡ false) }
-        ensures not_empty { IfErr result (λ e. e.0 ≡ CreateError.NotEmpty → (state S.Store connection).now.schema ≢ no_schema) }
-        ensures vacant { IfErr result (λ e. e.0 ≡ CreateError.Store → (state S.Store connection).now.schema ≡ no_schema) }
-        ensures made { IfOk result (λ k. Survives (state S.Store connection) (state S.Store k.connection) (LeavesNew (state S.Store connection) bytes.now)) }
-        ensures left { IfErr result (λ e. Survives (state S.Store connection) (state S.Store e.1) (LeavesNew (state S.Store connection) bytes.now)) }
+        ensures not_empty { IfErr result (λ e. e.0 ≡ CreateError.NotEmpty
+            → (state S.Store connection).now.schema ≢ no_schema) }
+        ensures vacant { IfErr result (λ e. e.0 ≡ CreateError.Store
+            → (state S.Store connection).now.schema ≡ no_schema) }
+        ensures made { IfOk result (λ k. Survives (state S.Store connection) (state S.Store k.connection)
+            (LeavesNew (state S.Store connection) bytes.now)) }
+        ensures left { IfErr result (λ e. Survives (state S.Store connection) (state S.Store e.1)
+            (LeavesNew (state S.Store connection) bytes.now)) }
         ensures same { IfErr result (λ e. e.0 ≢ CreateError.Store → HasCleanDisk (state S.Store e.1)
-            → ((state S.Store e.1).now ≡ (state S.Store connection).now) × ((state S.Store e.1).committed ≡ (state S.Store connection).committed)) }
+            → ShowsTheSame (state S.Store connection) (state S.Store e.1)) }
         ensures still { IfErr result (λ e. HasCleanDisk (state S.Store e.1) → IsTrue (state S.Store e.1).is_open
             → IsAsBefore (state S.Store connection) (state S.Store e.1)) }
     {
@@ -146,12 +160,15 @@ impl<S: Alter> SqlKeep<S> {
         alloc: Global,
         mut connection: Connection<S>,
     ) -> Result<SqlKeep<S>, (AdoptError, Connection<S>)>
-        ensures adopted { IfOk result (λ k. HasCleanDisk (state S.Store k.connection) → ∥ IsRegister (state S.Store connection).now k.dictionary (deposits_in (state S.Store k.connection).committed.trees) ∥₁) }
+        ensures adopted { IfOk result (λ k. HasCleanDisk (state S.Store k.connection)
+            → ∥ IsRegister (state S.Store connection).now k.dictionary
+            (deposits_in (state S.Store k.connection).committed.trees) ∥₁) }
         ensures working { IfOk result (λ k. k.has_failed ≡ false) }
         ensures quiet { IfOk result (λ k. Survives (state S.Store connection) (state S.Store k.connection) (λ _. ⊥)) }
-        ensures refused { IfErr result (λ e. HasCleanDisk (state S.Store e.1) → Adopts (state S.Store connection).now (Err e.0)) }
+        ensures refused { IfErr result (λ e. HasCleanDisk (state S.Store e.1)
+            → Adopts (state S.Store connection).now (Err e.0)) }
         ensures same { IfErr result (λ e. HasCleanDisk (state S.Store e.1) → is_store_failure e.0 ≡ false
-            → ((state S.Store e.1).now ≡ (state S.Store connection).now) × ((state S.Store e.1).committed ≡ (state S.Store connection).committed)) }
+            → ShowsTheSame (state S.Store connection) (state S.Store e.1)) }
         ensures still { IfErr result (λ e. HasCleanDisk (state S.Store e.1) → IsTrue (state S.Store e.1).is_open
             → IsAsBefore (state S.Store connection) (state S.Store e.1)) }
         ensures left { IfErr result (λ e. Survives (state S.Store connection) (state S.Store e.1) (λ _. ⊥)) }
@@ -175,6 +192,7 @@ impl<S: Alter> SqlKeep<S> {
                 count,
                 heads,
                 digests,
+                recent: Recent::none(),
                 has_failed: false,
                 alloc,
             }),
@@ -216,9 +234,11 @@ impl SqlKeep<FileStore<File>> {
         bytes: &[u8],
     ) -> Result<SqlKeep<FileStore<File>>, CreateError>
         requires short { length bytes.now ≤ READABLE }
-        ensures empty { IfOk result (λ k. HasCleanDisk (file_state k.connection) → deposits_in (file_state k.connection).committed.trees ≡ []) }
+        ensures empty { IfOk result (λ k. HasCleanDisk (file_state k.connection)
+            → deposits_in (file_state k.connection).committed.trees ≡ []) }
         ensures dictionary { IfOk result (λ k. ReadsDictionary bytes.now (Ok k.dictionary)) }
-        ensures register { IfOk result (λ k. HasCleanDisk (file_state k.connection) → IsNewRegister bytes.now (file_state k.connection).now) }
+        ensures register { IfOk result (λ k. HasCleanDisk (file_state k.connection)
+            → IsNewRegister bytes.now (file_state k.connection).now) }
         ensures refused { IfErr result (RefusesBytes bytes.now) }
         ensures working { IfOk result (λ k. k.has_failed ≡ false) }
     {
@@ -260,10 +280,13 @@ impl<F: Start> SqlKeep<FileStore<FileFrom<F>>> {
         (CreateError, Option<Connection<FileStore<FileFrom<F>>>>),
     >
         requires short { length bytes.now ≤ READABLE }
-        ensures empty { IfOk result (λ k. HasCleanDisk (file_state k.connection) → deposits_in (file_state k.connection).committed.trees ≡ []) }
+        ensures empty { IfOk result (λ k. HasCleanDisk (file_state k.connection)
+            → deposits_in (file_state k.connection).committed.trees ≡ []) }
         ensures dictionary { IfOk result (λ k. ReadsDictionary bytes.now (Ok k.dictionary)) }
-        ensures register { IfOk result (λ k. HasCleanDisk (file_state k.connection) → IsNewRegister bytes.now (file_state k.connection).now) }
-        ensures blank { IfOk result (λ k. HasCleanDisk (file_state k.connection) → FindsSchema (image_at F.Start) (λ schema. schema ≡ no_schema)) }
+        ensures register { IfOk result (λ k. HasCleanDisk (file_state k.connection)
+            → IsNewRegister bytes.now (file_state k.connection).now) }
+        ensures blank { IfOk result (λ k. HasCleanDisk (file_state k.connection)
+            → FindsSchema (image_at F.Start) (λ schema. schema ≡ no_schema)) }
         ensures refused { IfErr result (λ e. RefusesBytes bytes.now e.0) }
         ensures working { IfOk result (λ k. k.has_failed ≡ false) }
         ensures not_empty { IfErr result (λ e. e.0 ≡ CreateError.NotEmpty → IfSome e.1 (λ c. HasCleanDisk (file_state c)
@@ -299,9 +322,12 @@ impl<F: Start> SqlKeep<FileStore<FileFrom<F>>> {
         SqlKeep<FileStore<FileFrom<F>>>,
         (AdoptError, Option<Connection<FileStore<FileFrom<F>>>>),
     >
-        ensures adopted { IfOk result (λ k. HasCleanDisk (file_state k.connection) → ∥ HoldsRegister (image_at F.Start) k.dictionary (deposits_in (file_state k.connection).committed.trees) ∥₁) }
+        ensures adopted { IfOk result (λ k. HasCleanDisk (file_state k.connection)
+            → ∥ HoldsRegister (image_at F.Start) k.dictionary
+            (deposits_in (file_state k.connection).committed.trees) ∥₁) }
         ensures working { IfOk result (λ k. k.has_failed ≡ false) }
-        ensures refused { IfErr result (λ e. IfSome e.1 (λ c. HasCleanDisk (file_state c) → RefusesFiles (image_at F.Start) e.0)) }
+        ensures refused { IfErr result (λ e.
+            IfSome e.1 (λ c. HasCleanDisk (file_state c) → RefusesFiles (image_at F.Start) e.0)) }
         ensures unopened { IfErr result (λ e. e.1 ≡ None → (e.0 ≡ AdoptError.Store) ⊎ (e.0 ≡ AdoptError.NoMemory)) }
     {
         let connection = match Connection::open_from(rt, path, false, start) {

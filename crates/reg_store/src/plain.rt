@@ -69,7 +69,8 @@ fn kept_of(
     embargo: Day,
     bytes: &[u8],
 ) -> Result<Kept, AllocError>
-    ensures { IfOk result (λ kept. deposit_of kept ≡ record { firm = firm.now; project = project.now; embargo = embargo; bytes = bytes.now }) }
+    ensures { IfOk result (λ kept.
+        deposit_of kept ≡ record { firm = firm.now; project = project.now; embargo = embargo; bytes = bytes.now }) }
 {
     Ok(Kept {
         firm: firm.clone()?,
@@ -91,7 +92,7 @@ fn head_of(kept: &Kept) -> Result<KeptHead, AllocError>
 }
 
 /// The graph, once more.
-fn copy_graph(alloc: Global, graph: &Graph) -> Result<Graph, AllocError>
+pub(crate) fn copy_graph(alloc: Global, graph: &Graph) -> Result<Graph, AllocError>
     ensures { IfOk result (λ copied. copied ≡ graph.now) }
 {
     let steps = Vec::from_slice(alloc, graph.steps())?;
@@ -155,7 +156,8 @@ fn checked_rows(
     kept: &Kept,
 ) -> Result<Vec<KeptRow>, AllocError>
     requires { IsFit dictionary.now (deposit_of kept.now) }
-    ensures { IfOk result (λ rows. (file : CheckedFile) → IsFileOf dictionary.now (deposit_of kept.now) file → rows.items ≡ rows_in file.groups) }
+    ensures { IfOk result (λ rows. (file : CheckedFile) → IsFileOf dictionary.now (deposit_of kept.now) file
+        → rows.items ≡ rows_in file.groups) }
 {
     let checked = recheck(alloc, dictionary, kept)?;
     kept_rows(alloc, checked.scan().groups())
@@ -164,7 +166,8 @@ fn checked_rows(
 /// The steps between the DATA rows of a deposit's file.
 fn checked_steps(alloc: Global, dictionary: &Dictionary, kept: &Kept) -> Result<Graph, AllocError>
     requires { IsFit dictionary.now (deposit_of kept.now) }
-    ensures { IfOk result (λ graph. (file : CheckedFile) → IsFileOf dictionary.now (deposit_of kept.now) file → graph ≡ file.graph) }
+    ensures { IfOk result (λ graph. (file : CheckedFile) → IsFileOf dictionary.now (deposit_of kept.now) file
+        → graph ≡ file.graph) }
 {
     let checked = recheck(alloc, dictionary, kept)?;
     copy_graph(alloc, checked.graph())
@@ -177,7 +180,8 @@ fn checked_project(
     kept: &Kept,
 ) -> Result<Option<ProjectRow>, AllocError>
     requires { IsFit dictionary.now (deposit_of kept.now) }
-    ensures { IfOk result (λ found. (file : CheckedFile) → IsFileOf dictionary.now (deposit_of kept.now) file → found ≡ project_of (rows_in file.groups)) }
+    ensures { IfOk result (λ found. (file : CheckedFile) → IsFileOf dictionary.now (deposit_of kept.now) file
+        → found ≡ project_of (rows_in file.groups)) }
 {
     let rows = checked_rows(alloc, dictionary, kept)?;
     project_in(alloc, &rows)
@@ -191,7 +195,8 @@ fn checked_targets(
     row: u32,
 ) -> Result<Vec<u32>, AllocError>
     requires { IsFit dictionary.now (deposit_of kept.now) }
-    ensures { IfOk result (λ targets. (file : CheckedFile) → IsFileOf dictionary.now (deposit_of kept.now) file → targets.items ≡ targets_of row file.graph.steps) }
+    ensures { IfOk result (λ targets. (file : CheckedFile) → IsFileOf dictionary.now (deposit_of kept.now) file
+        → targets.items ≡ targets_of row file.graph.steps) }
 {
     let checked = recheck(alloc, dictionary, kept)?;
     targets_in(alloc, checked.graph().steps(), row)

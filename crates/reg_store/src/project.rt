@@ -1,7 +1,6 @@
 //! The row of PROJ of a deposit, and the rows that a row has steps to.
 
-ghost use Rattle.std.specs.Prelude.{◌≡◌, ◌≢◌, ℕ, false, List, map, take, Ok, IfOk, IfErr};
-ghost use Rattle.std.specs.List.Sorted.{IsPermutation};
+ghost use Rattle.std.specs.Prelude.{◌≡◌, ◌≢◌, ℕ, false, List, take, Ok, IfOk, IfErr};
 ghost use Rattle.sqlite.specs.State.{HasCleanDisk};
 ghost use Rattle.sqlite.specs.Held.{state};
 ghost use Rattle.sqlite.specs.Tree.{IsAscending};
@@ -10,7 +9,7 @@ ghost use Rattle.reg_store.specs.declared.keep.KeptRow.{KeptRow};
 ghost use Rattle.reg_store.specs.Quiet.{IsIdle, IsStill};
 ghost use Rattle.reg_store.specs.Keep.{fails};
 ghost use Rattle.reg_store.specs.Project.{project_of, targets_of};
-ghost use Rattle.reg_store.specs.Rows.{line_table, step_table, placed_rows, step_pair, rows_under};
+ghost use Rattle.reg_store.specs.Methods.{HoldsLines, HoldsSteps};
 
 use crate::gathering::take_shown;
 use crate::keep::{KeepError, KeptRow, ProjectRow};
@@ -83,7 +82,8 @@ fn find_front<S: Alter>(
     number: u32,
 ) -> Result<Vec<KeptRow>, KeepError>
     requires idle { IsIdle (state S.Store conn.old) }
-    ensures found { HasCleanDisk (state S.Store conn.new) → IfOk result (λ lines. (file : List KeptRow) → IsPermutation (placed_rows 0 file) (rows_under number (line_table (state S.Store conn.old).now.trees)) → lines.items ≡ take 5 file) }
+    ensures found { HasCleanDisk (state S.Store conn.new) → IfOk result (λ lines. (file : List KeptRow)
+        → HoldsLines (state S.Store conn.old).now number file → lines.items ≡ take 5 file) }
     ensures named { IfErr result (λ e. e ≢ KeepError.Full) }
     ensures quiet { IsStill (state S.Store conn.old) (state S.Store conn.new) (fails result) }
 {
@@ -108,7 +108,8 @@ fn front_project<S: Alter>(
     number: u32,
 ) -> Result<Option<ProjectRow>, KeepError>
     requires idle { IsIdle (state S.Store conn.old) }
-    ensures found { HasCleanDisk (state S.Store conn.new) → IfOk result (λ found. (file : List KeptRow) → IsPermutation (placed_rows 0 file) (rows_under number (line_table (state S.Store conn.old).now.trees)) → found ≡ project_of (take 5 file)) }
+    ensures found { HasCleanDisk (state S.Store conn.new) → IfOk result (λ found. (file : List KeptRow)
+        → HoldsLines (state S.Store conn.old).now number file → found ≡ project_of (take 5 file)) }
     ensures named { IfErr result (λ e. e ≢ KeepError.Full) }
     ensures quiet { IsStill (state S.Store conn.old) (state S.Store conn.new) (fails result) }
 {
@@ -125,7 +126,8 @@ fn search_project<S: Alter>(
     number: u32,
 ) -> Result<Option<ProjectRow>, KeepError>
     requires idle { IsIdle (state S.Store conn.old) }
-    ensures found { HasCleanDisk (state S.Store conn.new) → IfOk result (λ found. (file : List KeptRow) → IsPermutation (placed_rows 0 file) (rows_under number (line_table (state S.Store conn.old).now.trees)) → found ≡ project_of file) }
+    ensures found { HasCleanDisk (state S.Store conn.new) → IfOk result (λ found. (file : List KeptRow)
+        → HoldsLines (state S.Store conn.old).now number file → found ≡ project_of file) }
     ensures named { IfErr result (λ e. e ≢ KeepError.Full) }
     ensures quiet { IsStill (state S.Store conn.old) (state S.Store conn.new) (fails result) }
 {
@@ -155,7 +157,8 @@ pub(crate) fn find_project<S: Alter>(
     number: u32,
 ) -> Result<Option<ProjectRow>, KeepError>
     requires idle { IsIdle (state S.Store conn.old) }
-    ensures found { HasCleanDisk (state S.Store conn.new) → IfOk result (λ found. (file : List KeptRow) → IsPermutation (placed_rows 0 file) (rows_under number (line_table (state S.Store conn.old).now.trees)) → found ≡ project_of file) }
+    ensures found { HasCleanDisk (state S.Store conn.new) → IfOk result (λ found. (file : List KeptRow)
+        → HoldsLines (state S.Store conn.old).now number file → found ≡ project_of file) }
     ensures named { IfErr result (λ e. e ≢ KeepError.Full) }
     ensures quiet { IsStill (state S.Store conn.old) (state S.Store conn.new) (fails result) }
 {
@@ -173,7 +176,9 @@ pub(crate) fn find_targets<S: Alter>(
     row: u32,
 ) -> Result<Vec<u32>, KeepError>
     requires idle { IsIdle (state S.Store conn.old) }
-    ensures found { HasCleanDisk (state S.Store conn.new) → IfOk result (λ targets. (steps : List (ℕ × ℕ)) → IsAscending IsBefore steps → IsPermutation (map step_pair steps) (rows_under number (step_table (state S.Store conn.old).now.trees)) → targets.items ≡ targets_of row steps) }
+    ensures found { HasCleanDisk (state S.Store conn.new) → IfOk result (λ targets. (steps : List (ℕ × ℕ))
+        → IsAscending IsBefore steps → HoldsSteps (state S.Store conn.old).now number steps
+        → targets.items ≡ targets_of row steps) }
     ensures named { IfErr result (λ e. e ≢ KeepError.Full) }
     ensures quiet { IsStill (state S.Store conn.old) (state S.Store conn.new) (fails result) }
 {

@@ -10,7 +10,7 @@ ghost use Rattle.reg_store.specs.Rows.{deposit_table, given_deposit, line_table,
 ghost use Rattle.reg_store.specs.declared.keep.KeptRow.{KeptRow};
 ghost use Rattle.sqlite.specs.Tree.{IsAscending};
 ghost use Rattle.ags_links.specs.Steps.{IsBefore};
-ghost use Rattle.reg_store.specs.Methods.{HasRows, HasSteps};
+ghost use Rattle.reg_store.specs.Methods.{HasRows, HoldsLines, HoldsSteps};
 ghost use Rattle.reg_store.specs.Fit.{IsNamed};
 ghost use Rattle.reg_store.specs.Register.{has_number, meta_columns};
 
@@ -39,7 +39,8 @@ pub(crate) fn numbered_rows<S: Alter>(
     number: u32,
 ) -> Result<Vec<Row>, KeepError>
     requires idle { IsIdle (state S.Store conn.old) }
-    ensures found { HasCleanDisk (state S.Store conn.new) → IfOk result (λ rows. IsPermutation rows.items (filter (has_number number) (deposit_table (state S.Store conn.old).now.trees))) }
+    ensures found { HasCleanDisk (state S.Store conn.new) → IfOk result (λ rows.
+        IsPermutation rows.items (filter (has_number number) (deposit_table (state S.Store conn.old).now.trees))) }
     ensures named { IfErr result (λ e. e ≢ KeepError.Full) }
     ensures quiet { IsStill (state S.Store conn.old) (state S.Store conn.new) (fails result) }
 {
@@ -57,7 +58,9 @@ pub(crate) fn find_deposit<S: Alter>(
     number: u32,
 ) -> Result<Kept, KeepError>
     requires idle { IsIdle (state S.Store conn.old) }
-    ensures found { HasCleanDisk (state S.Store conn.new) → IfOk result (λ kept. filter (has_number number) (deposit_table (state S.Store conn.old).now.trees) ≡ given_deposit number (deposit_of kept) ∷ []) }
+    ensures found { HasCleanDisk (state S.Store conn.new) → IfOk result (λ kept.
+        filter (has_number number) (deposit_table (state S.Store conn.old).now.trees)
+        ≡ given_deposit number (deposit_of kept) ∷ []) }
     ensures is_named { IfOk result (λ kept. IsNamed (deposit_of kept)) }
     ensures named { IfErr result (λ e. e ≢ KeepError.Full) }
     ensures quiet { IsStill (state S.Store conn.old) (state S.Store conn.new) (fails result) }
@@ -73,8 +76,10 @@ pub(crate) fn line_rows<S: Alter>(
     number: u32,
 ) -> Result<Vec<Row>, KeepError>
     requires idle { IsIdle (state S.Store conn.old) }
-    ensures found { HasCleanDisk (state S.Store conn.new) → IfOk result (λ rows. (file : List KeptRow) → IsPermutation (placed_rows 0 file) (rows_under number (line_table (state S.Store conn.old).now.trees)) → rows.items ≡ placed_rows 0 file) }
-    ensures all { HasCleanDisk (state S.Store conn.new) → IfOk result (λ rows. IsPermutation rows.items (rows_under number (line_table (state S.Store conn.old).now.trees))) }
+    ensures found { HasCleanDisk (state S.Store conn.new) → IfOk result (λ rows. (file : List KeptRow)
+        → HoldsLines (state S.Store conn.old).now number file → rows.items ≡ placed_rows 0 file) }
+    ensures all { HasCleanDisk (state S.Store conn.new) → IfOk result (λ rows.
+        IsPermutation rows.items (rows_under number (line_table (state S.Store conn.old).now.trees))) }
     ensures named { IfErr result (λ e. e ≢ KeepError.Full) }
     ensures quiet { IsStill (state S.Store conn.old) (state S.Store conn.new) (fails result) }
 {
@@ -92,8 +97,10 @@ pub(crate) fn find_lines<S: Alter>(
     number: u32,
 ) -> Result<Vec<KeptRow>, KeepError>
     requires idle { IsIdle (state S.Store conn.old) }
-    ensures found { HasCleanDisk (state S.Store conn.new) → IfOk result (λ lines. (file : List KeptRow) → IsPermutation (placed_rows 0 file) (rows_under number (line_table (state S.Store conn.old).now.trees)) → lines.items ≡ file) }
-    ensures held { HasCleanDisk (state S.Store conn.new) → IfOk result (λ lines. IsPermutation (placed_rows 0 lines.items) (rows_under number (line_table (state S.Store conn.old).now.trees))) }
+    ensures found { HasCleanDisk (state S.Store conn.new) → IfOk result (λ lines. (file : List KeptRow)
+        → HoldsLines (state S.Store conn.old).now number file → lines.items ≡ file) }
+    ensures held { HasCleanDisk (state S.Store conn.new)
+        → IfOk result (λ lines. HoldsLines (state S.Store conn.old).now number lines.items) }
     ensures named { IfErr result (λ e. e ≢ KeepError.Full) }
     ensures quiet { IsStill (state S.Store conn.old) (state S.Store conn.new) (fails result) }
 {
@@ -116,8 +123,11 @@ pub(crate) fn step_rows<S: Alter>(
     number: u32,
 ) -> Result<Vec<Row>, KeepError>
     requires idle { IsIdle (state S.Store conn.old) }
-    ensures found { HasCleanDisk (state S.Store conn.new) → IfOk result (λ rows. (steps : List (ℕ × ℕ)) → IsAscending IsBefore steps → IsPermutation (map step_pair steps) (rows_under number (step_table (state S.Store conn.old).now.trees)) → rows.items ≡ map step_pair steps) }
-    ensures all { HasCleanDisk (state S.Store conn.new) → IfOk result (λ rows. IsPermutation rows.items (rows_under number (step_table (state S.Store conn.old).now.trees))) }
+    ensures found { HasCleanDisk (state S.Store conn.new) → IfOk result (λ rows. (steps : List (ℕ × ℕ))
+        → IsAscending IsBefore steps → HoldsSteps (state S.Store conn.old).now number steps
+        → rows.items ≡ map step_pair steps) }
+    ensures all { HasCleanDisk (state S.Store conn.new) → IfOk result (λ rows.
+        IsPermutation rows.items (rows_under number (step_table (state S.Store conn.old).now.trees))) }
     ensures named { IfErr result (λ e. e ≢ KeepError.Full) }
     ensures quiet { IsStill (state S.Store conn.old) (state S.Store conn.new) (fails result) }
 {
@@ -135,8 +145,11 @@ pub(crate) fn find_steps<S: Alter>(
     number: u32,
 ) -> Result<Vec<(u32, u32)>, KeepError>
     requires idle { IsIdle (state S.Store conn.old) }
-    ensures found { HasCleanDisk (state S.Store conn.new) → IfOk result (λ read. (steps : List (ℕ × ℕ)) → IsAscending IsBefore steps → IsPermutation (map step_pair steps) (rows_under number (step_table (state S.Store conn.old).now.trees)) → read.items ≡ steps) }
-    ensures held { HasCleanDisk (state S.Store conn.new) → IfOk result (λ read. IsPermutation (map step_pair read.items) (rows_under number (step_table (state S.Store conn.old).now.trees))) }
+    ensures found { HasCleanDisk (state S.Store conn.new) → IfOk result (λ read. (steps : List (ℕ × ℕ))
+        → IsAscending IsBefore steps → HoldsSteps (state S.Store conn.old).now number steps
+        → read.items ≡ steps) }
+    ensures held { HasCleanDisk (state S.Store conn.new)
+        → IfOk result (λ read. HoldsSteps (state S.Store conn.old).now number read.items) }
     ensures named { IfErr result (λ e. e ≢ KeepError.Full) }
     ensures quiet { IsStill (state S.Store conn.old) (state S.Store conn.new) (fails result) }
 {
@@ -154,7 +167,8 @@ pub(crate) fn find_steps<S: Alter>(
     }
 }
 
-fn graph_of(rows: u32, steps: Vec<(u32, u32)>) -> Result<Graph, KeepError>
+/// A graph of so many rows with these steps, where each lies between two of them.
+pub(crate) fn graph_of(rows: u32, steps: Vec<(u32, u32)>) -> Result<Graph, KeepError>
     ensures named { IfErr result (λ e. e ≢ KeepError.Full) }
     ensures rows { IfOk result (λ graph. graph.rows ≡ rows) }
     ensures steps { IfOk result (λ graph. graph.steps ≡ steps.items) }
@@ -166,9 +180,10 @@ fn graph_of(rows: u32, steps: Vec<(u32, u32)>) -> Result<Graph, KeepError>
 }
 
 /// How many DATA rows are kept of a deposit.
-fn find_data<S: Alter>(conn: &mut Connection<S>, number: u32) -> Result<u32, KeepError>
+pub(crate) fn find_data<S: Alter>(conn: &mut Connection<S>, number: u32) -> Result<u32, KeepError>
     requires idle { IsIdle (state S.Store conn.old) }
-    ensures found { HasCleanDisk (state S.Store conn.new) → IfOk result (λ n. HasRows number (line_table (state S.Store conn.old).now.trees) n) }
+    ensures found { HasCleanDisk (state S.Store conn.new)
+        → IfOk result (λ n. HasRows number (line_table (state S.Store conn.old).now.trees) n) }
     ensures named { IfErr result (λ e. e ≢ KeepError.Full) }
     ensures quiet { IsStill (state S.Store conn.old) (state S.Store conn.new) (fails result) }
 {
@@ -184,31 +199,15 @@ fn find_data<S: Alter>(conn: &mut Connection<S>, number: u32) -> Result<u32, Kee
     }
 }
 
-/// The steps that are kept of a deposit, between its DATA rows.
-#[tactic(auto, using(crate::specs::Quiet::quiet_then, crate::specs::Quiet::quiet_read, crate::specs::Quiet::idle_then))]
-pub(crate) fn find_graph<S: Alter>(
-    conn: &mut Connection<S>,
-    alloc: Global,
-    number: u32,
-) -> Result<Graph, KeepError>
-    requires idle { IsIdle (state S.Store conn.old) }
-    ensures rows { HasCleanDisk (state S.Store conn.new) → IfOk result (λ graph. HasRows number (line_table (state S.Store conn.old).now.trees) graph.rows) }
-    ensures steps { HasCleanDisk (state S.Store conn.new) → IfOk result (λ graph. HasSteps number (step_table (state S.Store conn.old).now.trees) graph.steps) }
-    ensures named { IfErr result (λ e. e ≢ KeepError.Full) }
-    ensures quiet { IsStill (state S.Store conn.old) (state S.Store conn.new) (fails result) }
-{
-    let rows = find_data(conn, number)?;
-    match find_steps(conn, alloc, number) {
-        Ok(steps) => graph_of(rows, steps),
-        Err(error) => Err(error),
-    }
-}
-
 pub(crate) fn meta_rows<S: Alter>(conn: &mut Connection<S>) -> Result<Vec<Row>, KeepError>
     requires idle { IsIdle (state S.Store conn.old) }
-    ensures all { HasCleanDisk (state S.Store conn.new) → IfOk result (λ rows. IsPermutation rows.items (map columns_3 ((state S.Store conn.old).now.trees 0))) }
-    ensures found { HasCleanDisk (state S.Store conn.new) → IfOk result (λ rows. (text : List ℕ) → IsPermutation (meta_columns text) (map columns_3 ((state S.Store conn.old).now.trees 0)) → rows.items ≡ meta_columns text) }
-    ensures open { HasCleanDisk (state S.Store conn.new) → fails result ≡ false → IsTrue (state S.Store conn.new).is_open }
+    ensures all { HasCleanDisk (state S.Store conn.new)
+        → IfOk result (λ rows. IsPermutation rows.items (map columns_3 ((state S.Store conn.old).now.trees 0))) }
+    ensures found { HasCleanDisk (state S.Store conn.new) → IfOk result (λ rows. (text : List ℕ)
+        → IsPermutation (meta_columns text) (map columns_3 ((state S.Store conn.old).now.trees 0))
+        → rows.items ≡ meta_columns text) }
+    ensures open { HasCleanDisk (state S.Store conn.new) → fails result ≡ false
+        → IsTrue (state S.Store conn.new).is_open }
     ensures named { IfErr result (λ e. e ≢ KeepError.Full) }
     ensures quiet { IsStill (state S.Store conn.old) (state S.Store conn.new) (fails result) }
 {

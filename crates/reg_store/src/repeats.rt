@@ -65,7 +65,8 @@ impl Digests {
     /// Puts the numbers of a digest in the place of those that stand under it. There is room.
     pub(crate) fn note(&mut self, digest: [u8; 32], numbers: Vec<u32>)
         requires { IsSome (found_at self.old digest) }
-        ensures { (other : List ℕ) → numbers_under self.new other ≡ (if bytes_eq digest other then numbers.items else numbers_under self.old other) }
+        ensures { (other : List ℕ) → numbers_under self.new other
+            ≡ (if bytes_eq digest other then numbers.items else numbers_under self.old other) }
     {
         match self.held.insert(digest, numbers) {
             Ok(_before) => {}
@@ -119,9 +120,11 @@ pub(crate) fn find_equal<S: Alter>(
     bytes: &[u8],
 ) -> Result<Option<u32>, KeepError>
     requires idle { IsIdle (state S.Store conn.old) }
-    ensures equal { HasCleanDisk (state S.Store conn.new) → IfOk result (λ found. IfSome found (HasEqual (state S.Store conn.old).now firm.now project.now bytes.now)) }
+    ensures equal { HasCleanDisk (state S.Store conn.new)
+        → IfOk result (λ found. IfSome found (HasEqual (state S.Store conn.old).now firm.now project.now bytes.now)) }
     ensures among { IfOk result (λ found. IfSome found (λ n. is_among n numbers.now ≡ true)) }
-    ensures none { HasCleanDisk (state S.Store conn.new) → result ≡ Ok None → HasNoEqual (state S.Store conn.old).now numbers.now firm.now project.now bytes.now }
+    ensures none { HasCleanDisk (state S.Store conn.new) → result ≡ Ok None
+        → HasNoEqual (state S.Store conn.old).now numbers.now firm.now project.now bytes.now }
     ensures named { IfErr result (λ e. e ≢ KeepError.Full) }
     ensures quiet { IsStill (state S.Store conn.old) (state S.Store conn.new) (fails result) }
 {

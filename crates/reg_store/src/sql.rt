@@ -8,12 +8,15 @@ ghost use Rattle.sqlite.specs.State.{HasCleanDisk};
 ghost use Rattle.sqlite.specs.Held.{state};
 ghost use Rattle.reg_store.specs.Digests.{AreBelow, AreDigested};
 ghost use Rattle.reg_store.specs.Heads.{AreHeads};
+ghost use Rattle.reg_store.specs.Recent.{HoldsRecent};
 ghost use Rattle.reg_store.specs.Register.{deposits_in, LeavesBroken, LeavesList, KeepsRegister};
 
 use crate::heads::{head_in, make_room, numbers_in};
 use crate::keep::{Keep, KeepError, Kept, KeptHead, KeptRow, ProjectRow};
 use crate::project::{find_project, find_targets};
-use crate::reading::{find_deposit, find_graph, find_lines};
+use crate::reading::find_deposit;
+use crate::recalling::{find_graph, find_rows};
+use crate::recent::Recent;
 use crate::repeats::{Digests, digest_of, find_equal};
 use crate::rows::kept_rows;
 use crate::statements::{Filed, add_file};
@@ -35,22 +38,29 @@ pub struct SqlKeep<S: Alter> {
     pub(crate) count: u32,
     pub(crate) heads: Vec<KeptHead>,
     pub(crate) digests: Digests,
+    pub(crate) recent: Recent,
     pub(crate) has_failed: bool,
     pub(crate) alloc: Global,
     ghost idle: { connection.in_transaction ≡ false },
     ghost few: { count ≤ 999999 },
     ghost long: { length heads.items ≡ count },
     ghost below: { AreBelow digests (count + 1) },
-    ghost kept: { has_failed ≡ false → HasCleanDisk (state S.Store connection) → ∥ KeepsRegister (state S.Store connection) dictionary count ∥₁ },
-    ghost headed: { has_failed ≡ false → HasCleanDisk (state S.Store connection) → AreHeads heads.items (deposits_in (state S.Store connection).committed.trees) },
-    ghost digested: { has_failed ≡ false → HasCleanDisk (state S.Store connection) → AreDigested digests (deposits_in (state S.Store connection).committed.trees) },
+    ghost kept: { has_failed ≡ false → HasCleanDisk (state S.Store connection)
+        → ∥ KeepsRegister (state S.Store connection) dictionary count ∥₁ },
+    ghost headed: { has_failed ≡ false → HasCleanDisk (state S.Store connection)
+        → AreHeads heads.items (deposits_in (state S.Store connection).committed.trees) },
+    ghost digested: { has_failed ≡ false → HasCleanDisk (state S.Store connection)
+        → AreDigested digests (deposits_in (state S.Store connection).committed.trees) },
+    ghost held: { has_failed ≡ false → HasCleanDisk (state S.Store connection)
+        → HoldsRecent (state S.Store connection).now recent },
 }
 
 impl<S: Alter> SqlKeep<S> {
     /// The connection, whose tables are the register of this list where the keep has not failed.
     pub fn into_connection(self) -> Connection<S>
         ensures connection { result ≡ self.connection }
-        ensures kept { self.has_failed ≡ false → HasCleanDisk (state S.Store result) → ∥ KeepsRegister (state S.Store result) self.dictionary self.count ∥₁ }
+        ensures kept { self.has_failed ≡ false → HasCleanDisk (state S.Store result)
+            → ∥ KeepsRegister (state S.Store result) self.dictionary self.count ∥₁ }
     {
         let SqlKeep {
             connection,
@@ -58,6 +68,7 @@ impl<S: Alter> SqlKeep<S> {
             count: _,
             heads: _,
             digests: _,
+            recent: _,
             has_failed: _,
             alloc: _,
         } = self;
@@ -135,6 +146,7 @@ impl<S: Alter> Keep for SqlKeep<S> {
             embargo: stored_day(embargo),
             body,
         };
+        self.recent = Recent::none();
         let added = add_file(
             &mut self.connection,
             filed,
@@ -168,13 +180,13 @@ impl<S: Alter> Keep for SqlKeep<S> {
     }
 
     fn rows(&mut self, n: u32) -> Result<Vec<KeptRow>, KeepError> {
-        let found = find_lines(&mut self.connection, self.alloc, n);
+        let found = find_rows(&mut self.connection, self.alloc, &mut self.recent, n);
         self.has_failed = is_store(&found);
         found
     }
 
     fn steps(&mut self, n: u32) -> Result<Graph, KeepError> {
-        let found = find_graph(&mut self.connection, self.alloc, n);
+        let found = find_graph(&mut self.connection, self.alloc, &mut self.recent, n);
         self.has_failed = is_store(&found);
         found
     }
@@ -207,11 +219,13 @@ impl<S: Alter> Keep for SqlKeep<S> {
         &self.dictionary
     }
 
-    ghost settled = { λ k list clean works left. settled_at (k.kept works clean) (S.Store.settled k.connection.store) list left };
+    ghost settled = { λ k list clean works left. settled_at (k.kept works clean)
+        (S.Store.settled k.connection.store) list left };
 
     ghost stays = { λ k clean works. stays_at (k.kept works clean) (S.Store.stays k.connection.store) };
 
-    ghost unbroken = { λ k clean works left. unbroken_at (k.kept works clean) (S.Store.settled k.connection.store) left };
+    ghost unbroken = { λ k clean works left. unbroken_at (k.kept works clean)
+        (S.Store.settled k.connection.store) left };
 
     ghost remains = { λ k clean whole none. remains_at _ _ (S.Store.survives k.connection.store clean) whole none };
 

@@ -2,16 +2,19 @@
 
 ghost use Rattle.std.specs.Prelude.{◌≡◌, ◌<◌, ◌≤◌, false, length, IfOk, IsTrue, OnOk};
 
-use crate::{Keep, KeepError, Kept, KeptRow, PlainKeep, ProjectRow, SqlKeep};
+mod calls;
+mod sql;
+mod stops;
+
+use crate::{Keep, KeepError, Kept, KeptRow, ProjectRow};
 use ags_check::{Checked, check};
 use ags_dict::Dictionary;
 use ags_links::Graph;
 use ags_rows::LIMIT;
-use ags_rows::vectors::{FILE_A, FILE_B, MINI};
+use ags_rows::vectors::{FILE_A, FILE_B};
 use reg_policy::{Day, Name};
 use std::alloc::{AllocError, Global};
 use std::fmt::Write;
-use std::test::Fail;
 
 /// A file that is deposited.
 #[derive(Clone, Copy)]
@@ -452,132 +455,3 @@ fn compared<K: Keep>(alloc: Global, keep: &mut K, cases: &[Case]) -> Result<&'st
 
 /// Every answer is as wanted.
 const SAME: &str = "all as wanted";
-
-const CASES: [Case; 17] = [
-    Case {
-        call: Call::Sizes,
-        want: "0 of 999999, 10 and 38 entries",
-    },
-    Case {
-        call: Call::Take("Delta", "N1", File::B),
-        want: "1",
-    },
-    Case {
-        call: Call::Take("Delta", "N2", File::A),
-        want: "2",
-    },
-    // Another file of the same length, another firm, and another project are no repeats.
-    Case {
-        call: Call::Take("Delta", "N2", File::OtherA),
-        want: "3",
-    },
-    Case {
-        call: Call::Take("Gamma", "N2", File::A),
-        want: "4",
-    },
-    Case {
-        call: Call::Take("Delta", "N1", File::A),
-        want: "5",
-    },
-    Case {
-        call: Call::Take("Gamma", "N2", File::A),
-        want: "4",
-    },
-    Case {
-        call: Call::Deposit(4),
-        want: "Gamma N2 19875 A",
-    },
-    Case {
-        call: Call::Head(5),
-        want: "Delta N1 19875",
-    },
-    Case {
-        call: Call::Rows(1),
-        want: "41 rows, 13 of kind 4, last LNMC 4 \"DATA\",\"BH2\",\"2.00\",\"S2\",\"2.05\",\"18.4\"",
-    },
-    Case {
-        call: Call::Steps(1),
-        want: "13 rows 7-0 8-0 9-7 10-8 11-9 12-10",
-    },
-    Case {
-        call: Call::Project(1),
-        want: "0 \"HEADING\",\"PROJ_ID\",\"PROJ_NAME\" \"DATA\",\"P7\",\"North bank\"",
-    },
-    Case {
-        call: Call::Targets(1, 9),
-        want: "7;",
-    },
-    Case {
-        call: Call::Targets(1, 0),
-        want: "",
-    },
-    Case {
-        call: Call::Numbers("N1"),
-        want: "1;5;",
-    },
-    Case {
-        call: Call::Numbers("N3"),
-        want: "",
-    },
-    Case {
-        call: Call::Sizes,
-        want: "5 of 999999, 10 and 38 entries",
-    },
-];
-
-const FULL: [Case; 4] = [
-    Case {
-        call: Call::Take("Delta", "N1", File::A),
-        want: "1",
-    },
-    Case {
-        call: Call::Take("Delta", "N1", File::B),
-        want: "full",
-    },
-    Case {
-        call: Call::Take("Delta", "N1", File::A),
-        want: "1",
-    },
-    Case {
-        call: Call::Sizes,
-        want: "1 of 1, 10 and 38 entries",
-    },
-];
-
-/// The calls over a keep in memory.
-fn in_memory(alloc: Global, limit: u32, cases: &[Case]) -> Result<&'static str, KeepError>
-    requires least { 0 < limit }
-    requires most { limit ≤ 999999 }
-{
-    match Dictionary::read(alloc, MINI) {
-        Ok(dictionary) => {
-            let mut keep = PlainKeep::with_limit(alloc, dictionary, limit);
-            compared(alloc, &mut keep, cases)
-        }
-        Err(_) => Err(KeepError::NoMemory),
-    }
-}
-
-/// The calls over the tables of a database in memory.
-fn in_tables(alloc: Global, cases: &[Case]) -> Result<&'static str, KeepError> {
-    match SqlKeep::in_memory(alloc, MINI) {
-        Ok(mut keep) => compared(alloc, &mut keep, cases),
-        Err(_) => Err(KeepError::Store),
-    }
-}
-
-#[test]
-fn calls_in_memory(rt: HostRuntime) -> Result<(), Fail> {
-    let many = in_memory(rt.alloc(), 999_999, &CASES)?;
-    assert!(rt; many == SAME, "{many}");
-    let few = in_memory(rt.alloc(), 1, &FULL)?;
-    assert!(rt; few == SAME, "{few}");
-    Ok(())
-}
-
-#[test]
-fn calls_in_tables(rt: HostRuntime) -> Result<(), Fail> {
-    let found = in_tables(rt.alloc(), &CASES)?;
-    assert!(rt; found == SAME, "{found}");
-    Ok(())
-}

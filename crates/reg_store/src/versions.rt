@@ -7,7 +7,7 @@ ghost use Rattle.sqlite.specs.Held.{state};
 ghost use Rattle.reg_store.specs.Tables.{register_schema};
 ghost use Rattle.reg_store.specs.Rows.{columns_3};
 ghost use Rattle.reg_store.specs.Formats.{StartsWithMeta, starts_with_meta as test};
-ghost use Rattle.reg_store.specs.Quiet.{IsAsBefore};
+ghost use Rattle.reg_store.specs.Quiet.{IsAsBefore, IsSettled, ShowsTheSame};
 ghost use Rattle.reg_store.specs.Adoption.{Adopts, is_store_failure};
 
 use crate::adopting::{AdoptError, other_format};
@@ -35,11 +35,13 @@ pub(crate) fn has_meta(schema: &Schema) -> bool
 fn ask_meta<S: Alter>(conn: &mut Connection<S>) -> Result<Vec<Row>, Error>
     requires mode { conn.old.in_transaction ≡ false }
     requires meta { StartsWithMeta (state S.Store conn.old).now.schema }
-    requires settled { HasCleanDisk (state S.Store conn.old) → IsTrue (state S.Store conn.old).is_open → (state S.Store conn.old).committed ≡ (state S.Store conn.old).now }
+    requires settled { HasCleanDisk (state S.Store conn.old) → IsSettled (state S.Store conn.old) }
     ensures mode { conn.new.in_transaction ≡ false }
-    ensures shown { HasCleanDisk (state S.Store conn.new) → IfOk result (λ rows. IsPermutation rows.items (map columns_3 ((state S.Store conn.old).now.trees 0))) }
+    ensures shown { HasCleanDisk (state S.Store conn.new)
+        → IfOk result (λ rows. IsPermutation rows.items (map columns_3 ((state S.Store conn.old).now.trees 0))) }
     ensures open { HasCleanDisk (state S.Store conn.new) → OnOk result (IsTrue (state S.Store conn.new).is_open) }
-    ensures same { HasCleanDisk (state S.Store conn.new) → IsTrue (state S.Store conn.new).is_open → IsAsBefore (state S.Store conn.old) (state S.Store conn.new) }
+    ensures same { HasCleanDisk (state S.Store conn.new) → IsTrue (state S.Store conn.new).is_open
+        → IsAsBefore (state S.Store conn.old) (state S.Store conn.new) }
     ensures crash { Survives (state S.Store conn.old) (state S.Store conn.new) (λ _. ⊥) }
 {
     conn.query_all("SELECT name, num, body FROM meta ORDER BY name", &[])
@@ -53,11 +55,12 @@ pub(crate) fn refuse_tables<S: Alter>(conn: &mut Connection<S>) -> AdoptError
     requires mode { conn.old.in_transaction ≡ false }
     requires meta { StartsWithMeta (state S.Store conn.old).now.schema }
     requires other { (state S.Store conn.old).now.schema ≢ register_schema }
-    requires settled { HasCleanDisk (state S.Store conn.old) → IsTrue (state S.Store conn.old).is_open → (state S.Store conn.old).committed ≡ (state S.Store conn.old).now }
+    requires settled { HasCleanDisk (state S.Store conn.old) → IsSettled (state S.Store conn.old) }
     ensures refused { HasCleanDisk (state S.Store conn.new) → Adopts (state S.Store conn.old).now (Err result) }
     ensures same { HasCleanDisk (state S.Store conn.new) → is_store_failure result ≡ false
-        → ((state S.Store conn.new).now ≡ (state S.Store conn.old).now) × ((state S.Store conn.new).committed ≡ (state S.Store conn.old).committed) }
-    ensures still { HasCleanDisk (state S.Store conn.new) → IsTrue (state S.Store conn.new).is_open → IsAsBefore (state S.Store conn.old) (state S.Store conn.new) }
+        → ShowsTheSame (state S.Store conn.old) (state S.Store conn.new) }
+    ensures still { HasCleanDisk (state S.Store conn.new) → IsTrue (state S.Store conn.new).is_open
+        → IsAsBefore (state S.Store conn.old) (state S.Store conn.new) }
     ensures crash { Survives (state S.Store conn.old) (state S.Store conn.new) (λ _. ⊥) }
 {
     match ask_meta(conn) {

@@ -10,8 +10,8 @@ ghost use Rattle.ags_check.specs.Placing.{OfFile, AtGroup};
 
 use crate::named_groups::NamedGroups;
 use ags_dict::{Dictionary, has_dict};
-use ags_rows::{Code, Finding, Group, note};
-use std::alloc::{AllocError, Global};
+use ags_rows::{Code, Group, NotedFindings};
+use std::alloc::AllocError;
 
 /// The code of what the dictionary does not know: Rule 9 where the file has a DICT, else Rule 18.
 pub(crate) fn unknown_code(groups: &[Group]) -> Code
@@ -26,17 +26,18 @@ pub(crate) fn unknown_code(groups: &[Group]) -> Code
 
 /// Rules 9 and 18: notes a group for which the dictionary has no entry.
 pub(crate) fn note_unknown_group(
-    alloc: Global,
     dictionary: &Dictionary,
     code: Code,
     group: &Group,
-    findings: &mut Vec<Finding>,
+    findings: &mut NotedFindings,
 ) -> Result<(), AllocError>
-    ensures { OnOk result (Adds (AtGroup code (IsUnknownGroup dictionary.now (group_contents group.now)) group.now) findings.old.items findings.new.items) }
+    ensures { OnOk result (Adds (AtGroup code (IsUnknownGroup dictionary.now (group_contents group.now)) group.now)
+        findings.old findings.new) }
 {
     let name = group.name.as_slice();
-    let is_known = dictionary.has_group(name);
-    note(alloc, findings, group.line, code, name, !is_known)?;
+    if !dictionary.has_group(name) {
+        findings.note(group.line, code, name)?;
+    }
     Ok(())
 }
 
@@ -52,37 +53,33 @@ fn lacks_parent(dictionary: &Dictionary, file: &NamedGroups, group: &Group) -> b
 
 /// Rule 10c: notes a group whose parent group is not in the file.
 pub(crate) fn note_lacking_parent(
-    alloc: Global,
     dictionary: &Dictionary,
     file: &NamedGroups,
     group: &Group,
-    findings: &mut Vec<Finding>,
+    findings: &mut NotedFindings,
 ) -> Result<(), AllocError>
-    ensures { OnOk result (Adds (AtGroup Rule10c (LacksParentGroup dictionary.now (contents_of file.now) (group_contents group.now)) group.now) findings.old.items findings.new.items) }
+    ensures { OnOk result (Adds
+        (AtGroup Rule10c (LacksParentGroup dictionary.now (contents_of file.now) (group_contents group.now)) group.now)
+        findings.old findings.new) }
 {
-    let breaks = lacks_parent(dictionary, file, group);
-    note(
-        alloc,
-        findings,
-        group.line,
-        Code::Rule10c,
-        group.name.as_slice(),
-        breaks,
-    )?;
+    if lacks_parent(dictionary, file, group) {
+        findings.note(group.line, Code::Rule10c, group.name.as_slice())?;
+    }
     Ok(())
 }
 
 /// Rules 13, 14, 15 and 17: notes that a group which each file has is absent.
 pub(crate) fn note_absent_group(
-    alloc: Global,
     file: &NamedGroups,
     code: Code,
     name: &[u8],
-    findings: &mut Vec<Finding>,
+    findings: &mut NotedFindings,
 ) -> Result<(), AllocError>
-    ensures { OnOk result (Adds (OfFile code name.now (LacksGroup (contents_of file.now) name.now)) findings.old.items findings.new.items) }
+    ensures { OnOk result (Adds (OfFile code name.now (LacksGroup (contents_of file.now) name.now))
+        findings.old findings.new) }
 {
-    let is_there = file.has(name);
-    note(alloc, findings, 0, code, name, !is_there)?;
+    if !file.has(name) {
+        findings.note(0, code, name)?;
+    }
     Ok(())
 }

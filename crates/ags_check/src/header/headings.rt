@@ -10,42 +10,46 @@ ghost use Rattle.ags_check.specs.Header.{IsOvertaken, BeginsWithName};
 ghost use Rattle.ags_check.specs.HeaderSteps.{later, is_behind, IsMisnamedBy};
 
 use ags_dict::Dictionary;
-use ags_rows::{Code, Finding, Places, note};
-use std::alloc::{AllocError, Global};
+use ags_rows::{Code, NotedFindings, Places};
+use std::alloc::AllocError;
 
 /// Rules 9 and 18: notes the headings that are not in the group's order.
 pub(crate) fn note_unknown(
-    alloc: Global,
     dictionary: &Dictionary,
     group: &[u8],
     headings: &[&[u8]],
     line: u32,
     code: Code,
-    findings: &mut Vec<Finding>,
+    findings: &mut NotedFindings,
 ) -> Result<(), AllocError>
-    ensures { OnOk result (Adds (AtNames line code (map (λ name. name.now) headings.now) (λ _ name. place_in (order_of dictionary.now group.now) name ≡ None)) findings.old.items findings.new.items) }
+    ensures { OnOk result (Adds (AtNames line code (map (λ name. name.now) headings.now)
+        (λ _ name. place_in (order_of dictionary.now group.now) name ≡ None))
+        findings.old findings.new) }
 {
     for heading in headings {
-        let is_unknown = dictionary.place_in_order(group, heading).is_none();
-        note(alloc, findings, line, code, heading, is_unknown)?;
+        if dictionary.place_in_order(group, heading).is_none() {
+            findings.note(line, code, heading)?;
+        }
     }
     Ok(())
 }
 
 /// Rules 10a and 10b: notes the listed headings that are not in the row.
 pub(crate) fn note_absent(
-    alloc: Global,
     listed: &[&[u8]],
     row: &Places,
     line: u32,
     code: Code,
-    findings: &mut Vec<Finding>,
+    findings: &mut NotedFindings,
 ) -> Result<(), AllocError>
-    ensures { OnOk result (Adds (AtNames line code (map (λ name. name.now) listed.now) (λ _ name. place_in row.now name ≡ None)) findings.old.items findings.new.items) }
+    ensures { OnOk result (Adds (AtNames line code (map (λ name. name.now) listed.now)
+        (λ _ name. place_in row.now name ≡ None))
+        findings.old findings.new) }
 {
     for heading in listed {
-        let is_absent = row.find(heading).is_none();
-        note(alloc, findings, line, code, heading, is_absent)?;
+        if row.find(heading).is_none() {
+            findings.note(line, code, heading)?;
+        }
     }
     Ok(())
 }
@@ -73,20 +77,22 @@ fn is_behind(place: Option<usize>, latest: Option<usize>) -> bool
 
 /// Rule 7: notes the headings before which the row has one that stands later in the group's order.
 pub(crate) fn note_misplaced(
-    alloc: Global,
     dictionary: &Dictionary,
     group: &[u8],
     headings: &[&[u8]],
     line: u32,
-    findings: &mut Vec<Finding>,
+    findings: &mut NotedFindings,
 ) -> Result<(), AllocError>
-    ensures { OnOk result (Adds (AtNames line Rule7 (map (λ name. name.now) headings.now) (IsOvertaken (place_in (order_of dictionary.now group.now)) (map (λ name. name.now) headings.now))) findings.old.items findings.new.items) }
+    ensures { OnOk result (Adds (AtNames line Rule7 (map (λ name. name.now) headings.now)
+        (IsOvertaken (place_in (order_of dictionary.now group.now)) (map (λ name. name.now) headings.now)))
+        findings.old findings.new) }
 {
     let mut latest = None;
     for heading in headings {
         let place = dictionary.place_in_order(group, heading);
-        let breaks = is_behind(place, latest);
-        note(alloc, findings, line, Code::Rule7, heading, breaks)?;
+        if is_behind(place, latest) {
+            findings.note(line, Code::Rule7, heading)?;
+        }
         latest = later(latest, place);
     }
     Ok(())
@@ -94,7 +100,8 @@ pub(crate) fn note_misplaced(
 
 /// What stands behind the front of a text, if the text begins with it.
 fn behind<'t>(text: &'t [u8], front: &[u8]) -> Option<&'t [u8]>
-    ensures { MatchOption result ((rest : List ℕ) → text.now ≡ front.now ++ rest → ⊥) (λ rest. text.now ≡ front.now ++ rest.now) }
+    ensures { MatchOption result ((rest : List ℕ) → text.now ≡ front.now ++ rest → ⊥)
+        (λ rest. text.now ≡ front.now ++ rest.now) }
 {
     text.strip_prefix(front)
 }
@@ -121,19 +128,21 @@ fn is_misnamed(given: &Dictionary, extended: &Dictionary, group: &[u8], heading:
 
 /// Rule 19b: notes the user-defined headings that are neither named for the group nor another group's.
 pub(crate) fn note_misnamed(
-    alloc: Global,
     given: &Dictionary,
     extended: &Dictionary,
     group: &[u8],
     headings: &[&[u8]],
     line: u32,
-    findings: &mut Vec<Finding>,
+    findings: &mut NotedFindings,
 ) -> Result<(), AllocError>
-    ensures { OnOk result (Adds (AtNames line Rule19b (map (λ name. name.now) headings.now) (λ _ name. IsMisnamedBy given.now extended.now group.now name)) findings.old.items findings.new.items) }
+    ensures { OnOk result (Adds (AtNames line Rule19b (map (λ name. name.now) headings.now)
+        (λ _ name. IsMisnamedBy given.now extended.now group.now name))
+        findings.old findings.new) }
 {
     for heading in headings {
-        let breaks = is_misnamed(given, extended, group, heading);
-        note(alloc, findings, line, Code::Rule19b, heading, breaks)?;
+        if is_misnamed(given, extended, group, heading) {
+            findings.note(line, Code::Rule19b, heading)?;
+        }
     }
     Ok(())
 }

@@ -19,7 +19,8 @@ fn add_pair<'a>(
     heading: &'a [u8],
     text: &'a [u8],
 ) -> Result<(), AllocError>
-    ensures { OnOk result ((h t : List ℕ) → has_pair held.new h t ≡ (has_pair held.old h t || is_pair h t (heading.now, text.now))) }
+    ensures { OnOk result ((h t : List ℕ) → has_pair held.new h t
+        ≡ (has_pair held.old h t || is_pair h t (heading.now, text.now))) }
 {
     held.insert((heading, text))?;
     Ok(())

@@ -31,7 +31,8 @@ impl<'a> Model for CodeLists<'a> {
 
     ghost view = { λ l. contents_of l.groups.now };
 
-    ghost invariant = { λ l. AreCodeLists (contents_of l.groups.now) l.units l.types l.abbreviations.held l.concatenator };
+    ghost invariant = { λ l.
+        AreCodeLists (contents_of l.groups.now) l.units l.types l.abbreviations.held l.concatenator };
 }
 
 /// Adds what stands under a heading in the rows of a group.
@@ -41,7 +42,8 @@ fn push_texts<'a>(
     texts: &mut Vec<&'a [u8]>,
 ) -> Result<(), AllocError>
     ensures { OnOk result (map (λ text. text.now) texts.new.items
-        ≡ map (λ text. text.now) texts.old.items ++ map (λ fields. under group.now.headings fields heading.now) (group_contents group.now).rows) }
+        ≡ map (λ text. text.now) texts.old.items
+        ++ map (λ fields. under group.now.headings fields heading.now) (group_contents group.now).rows) }
 {
     let headings = group.headings.as_slice();
     let rows = group.rows.as_slice();
@@ -60,7 +62,9 @@ fn push_named<'a>(
 ) -> Result<(), AllocError>
     ensures { OnOk result (map (λ text. text.now) texts.new.items
         ≡ map (λ text. text.now) texts.old.items
-        ++ (if bytes_eq group.now.name name.now then map (λ fields. under group.now.headings fields heading.now) (group_contents group.now).rows else [])) }
+        ++ (if bytes_eq group.now.name name.now
+        then map (λ fields. under group.now.headings fields heading.now) (group_contents group.now).rows
+        else [])) }
 {
     if group.name.as_slice() == name {
         push_texts(group, heading, texts)?;
@@ -75,7 +79,8 @@ fn texts<'a>(
     name: &[u8],
     heading: &[u8],
 ) -> Result<Vec<&'a [u8]>, AllocError>
-    ensures { IfOk result (λ texts. map (λ text. text.now) texts.items ≡ listed_texts (contents_of groups.now) name.now heading.now) }
+    ensures { IfOk result (λ texts.
+        map (λ text. text.now) texts.items ≡ listed_texts (contents_of groups.now) name.now heading.now) }
 {
     let mut texts = Vec::new(alloc);
     for group in groups {

@@ -50,7 +50,8 @@ pub(crate) fn columns<'a>(
     headings: &[&'a [u8]],
 ) -> Result<Vec<Column<'a>>, AllocError>
     requires { places.now ≡ group.now.headings }
-    ensures { IfOk result (λ columns. AreColumns (group_contents group.now) (map (λ heading. heading.now) headings.now) columns.items) }
+    ensures { IfOk result (λ columns.
+        AreColumns (group_contents group.now) (map (λ heading. heading.now) headings.now) columns.items) }
 {
     let mut columns = Vec::new(alloc);
     for heading in headings {

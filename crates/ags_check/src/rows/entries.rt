@@ -1,19 +1,19 @@
 //! What the entries of a row break.
 
 ghost use Rattle.std.specs.Prelude.{◌↔◌, ℕ, List, All, IsTrue, OnOk};
-ghost use Rattle.ags_rows.specs.Collecting.{Adds, OneOf};
+ghost use Rattle.ags_rows.specs.Collecting.{Adds};
 ghost use Rattle.ags_rows.specs.Contents.{Contents, group_contents};
 ghost use Rattle.ags_check.specs.RowRules.{IsUnfit, IsUnlistedUnitEntry, IsUnlistedAbbreviationEntry, IsUnlistedTypeEntry, entry_in};
 ghost use Rattle.ags_check.specs.RowPhase.{InHeadings, unit_and_type_rules, data_entry_rules, required_rules};
 ghost use Rattle.ags_links.specs.DataRows.{row_in};
-ghost use Rattle.ags_check.specs.Columns.{IsTyped, AreColumns, entry_under, column_rules};
+ghost use Rattle.ags_check.specs.Columns.{IsTyped, AreColumns, entry_under};
 
 use crate::rows::code_lists::CodeLists;
 use crate::rows::columns::{Column, is_of_type};
 use ags_cells::fits;
 use ags_cells::laws::fits_its_type_code;
-use ags_rows::{Cell, Code, Finding, Group, cell_at, note};
-use std::alloc::{AllocError, Global};
+use ags_rows::{Cell, Code, Group, NotedFindings, cell_at};
+use std::alloc::AllocError;
 
 /// Rule 8: whether the text does not fit the type and the unit.
 fn is_unfit(column: &Column, text: &[u8]) -> bool
@@ -45,126 +45,73 @@ fn is_unlisted_type(column: &Column, text: &[u8], listed: &CodeLists) -> bool
     is_of_type(column, b"PT") && listed.is_unlisted_type(text)
 }
 
-/// Notes what an entry breaks.
-fn note_entry<'a>(
-    alloc: Global,
-    line: u32,
-    column: &Column<'a>,
-    text: &'a [u8],
-    listed: &CodeLists<'a>,
-    findings: &mut Vec<Finding>,
-) -> Result<(), AllocError>
-    requires { IsTyped column.now }
-    ensures { OnOk result (Adds (OneOf (data_entry_rules listed.now line (entry_under column.now text.now))) findings.old.items findings.new.items) }
-{
-    let heading = column.heading;
-    let unfit = is_unfit(column, text);
-    let strange_unit = is_unlisted_unit(column, text, listed);
-    let strange_abbreviation = is_unlisted_abbreviation(column, text, listed);
-    let strange_type = is_unlisted_type(column, text, listed);
-    note(alloc, findings, line, Code::Rule8, heading, unfit)?;
-    note(alloc, findings, line, Code::Rule15, heading, strange_unit)?;
-    note(
-        alloc,
-        findings,
-        line,
-        Code::Rule16,
-        heading,
-        strange_abbreviation,
-    )?;
-    note(alloc, findings, line, Code::Rule17, heading, strange_type)?;
-    Ok(())
-}
-
 /// Notes what the entries of a row break.
 pub(crate) fn note_entries<'a>(
-    alloc: Global,
     line: u32,
     columns: &[Column<'a>],
     cells: &'a [Cell],
     listed: &CodeLists<'a>,
-    findings: &mut Vec<Finding>,
+    findings: &mut NotedFindings,
 ) -> Result<(), AllocError>
     requires { All IsTyped columns.now }
     ensures { OnOk result ((group : Contents) (headings : List (List ℕ)) → AreColumns group headings columns.now
-        → Adds (InHeadings headings (λ heading. data_entry_rules listed.now line (entry_in group cells.now heading))) findings.old.items findings.new.items) }
+        → Adds (InHeadings headings (λ heading. data_entry_rules listed.now line (entry_in group cells.now heading)))
+        findings.old findings.new) }
 {
     for column in columns {
         let text = cell_at(cells, column.place);
-        note_entry(alloc, line, column, text, listed, findings)?;
+        if is_unfit(column, text) {
+            findings.note(line, Code::Rule8, column.heading)?;
+        }
+        if is_unlisted_unit(column, text, listed) {
+            findings.note(line, Code::Rule15, column.heading)?;
+        }
+        if is_unlisted_abbreviation(column, text, listed) {
+            findings.note(line, Code::Rule16, column.heading)?;
+        }
+        if is_unlisted_type(column, text, listed) {
+            findings.note(line, Code::Rule17, column.heading)?;
+        }
     }
-    Ok(())
-}
-
-/// Notes the unit and the type over a heading that are not listed (Rules 15 and 17).
-fn note_column(
-    alloc: Global,
-    group: &Group,
-    column: &Column,
-    listed: &CodeLists,
-    findings: &mut Vec<Finding>,
-) -> Result<(), AllocError>
-    ensures { OnOk result (Adds (OneOf (column_rules listed.now group.now column.now)) findings.old.items findings.new.items) }
-{
-    let strange_unit = listed.is_unlisted_unit(column.unit);
-    let strange_type = listed.is_unlisted_type(column.code);
-    note(
-        alloc,
-        findings,
-        group.unit_line,
-        Code::Rule15,
-        column.heading,
-        strange_unit,
-    )?;
-    note(
-        alloc,
-        findings,
-        group.type_line,
-        Code::Rule17,
-        column.heading,
-        strange_type,
-    )?;
     Ok(())
 }
 
 /// Notes the units and types over the headings that are not listed (Rules 15 and 17).
 pub(crate) fn note_columns(
-    alloc: Global,
     group: &Group,
     columns: &[Column],
     listed: &CodeLists,
-    findings: &mut Vec<Finding>,
+    findings: &mut NotedFindings,
 ) -> Result<(), AllocError>
     ensures { OnOk result (AreColumns (group_contents group.now) group.now.headings columns.now
-        → Adds (InHeadings group.now.headings (unit_and_type_rules listed.now group.now)) findings.old.items findings.new.items) }
+        → Adds (InHeadings group.now.headings (unit_and_type_rules listed.now group.now)) findings.old findings.new) }
 {
     for column in columns {
-        note_column(alloc, group, column, listed, findings)?;
+        if listed.is_unlisted_unit(column.unit) {
+            findings.note(group.unit_line, Code::Rule15, column.heading)?;
+        }
+        if listed.is_unlisted_type(column.code) {
+            findings.note(group.type_line, Code::Rule17, column.heading)?;
+        }
     }
     Ok(())
 }
 
 /// Rule 10b: notes the REQUIRED entries of a row that are null.
 pub(crate) fn note_lacking(
-    alloc: Global,
     line: u32,
     required: &[Column],
     cells: &[Cell],
-    findings: &mut Vec<Finding>,
+    findings: &mut NotedFindings,
 ) -> Result<(), AllocError>
     ensures { OnOk result ((group : Contents) (headings : List (List ℕ)) → AreColumns group headings required.now
-        → Adds (InHeadings headings (required_rules line (row_in group cells.now))) findings.old.items findings.new.items) }
+        → Adds (InHeadings headings (required_rules line (row_in group cells.now))) findings.old findings.new) }
 {
     for column in required {
-        let is_null = cell_at(cells, column.place).is_empty();
-        note(
-            alloc,
-            findings,
-            line,
-            Code::Rule10b,
-            column.heading,
-            is_null,
-        )?;
+        let text = cell_at(cells, column.place);
+        if text.is_empty() {
+            findings.note(line, Code::Rule10b, column.heading)?;
+        }
     }
     Ok(())
 }

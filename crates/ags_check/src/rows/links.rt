@@ -12,8 +12,8 @@ ghost use Rattle.ags_check.specs.Columns.{AreColumns};
 
 use crate::rows::columns::{Column, is_of_type};
 use ags_links::Index;
-use ags_rows::{Cell, Code, Finding, cell_at, note};
-use std::alloc::{AllocError, Global};
+use ags_rows::{Cell, Code, NotedFindings, cell_at};
+use std::alloc::AllocError;
 
 /// Rule 11c, in a data group: whether the text is a record link of which some part names no row.
 fn is_broken_link(
@@ -25,7 +25,8 @@ fn is_broken_link(
     requires { number < length (rows_in index.now) }
     ensures { IfOk result (λ broken. (row : DataRow) → IsDataRow (rows_in index.now) number row
         → IsTrue broken ↔ (column.now.code.now ≡ codes "RL") × (text.now ≢ [])
-        × IsBroken index.now.entries (separators_of index.now.contents) (rows_in index.now) row column.now.heading.now) }
+        × IsBroken index.now.entries (separators_of index.now.contents) (rows_in index.now)
+        row column.now.heading.now) }
 {
     if !is_of_type(column, b"RL") {
         return Ok(false);
@@ -38,30 +39,25 @@ fn is_broken_link(
 
 /// Rule 11c: notes the record links of a row of a data group of which some part names no row.
 pub(crate) fn note_links(
-    alloc: Global,
     line: u32,
     columns: &[Column],
     cells: &[Cell],
     index: &Index,
     number: u32,
-    findings: &mut Vec<Finding>,
+    findings: &mut NotedFindings,
 ) -> Result<(), AllocError>
     requires { number < length (rows_in index.now) }
-    ensures { OnOk result ((group : Contents) → AreColumns group group.headings columns.now → is_definition group.name ≡ false
-        → IsDataRow (rows_in index.now) number (row_in group cells.now)
-        → Adds (InHeadings group.headings (link_rules index.now.entries index.now.contents line (row_in group cells.now))) findings.old.items findings.new.items) }
+    ensures { OnOk result ((group : Contents) → AreColumns group group.headings columns.now
+        → is_definition group.name ≡ false → IsDataRow (rows_in index.now) number (row_in group cells.now)
+        → Adds (InHeadings group.headings
+        (link_rules index.now.entries index.now.contents line (row_in group cells.now)))
+        findings.old findings.new) }
 {
     for column in columns {
         let text = cell_at(cells, column.place);
-        let is_broken = is_broken_link(column, text, index, number)?;
-        note(
-            alloc,
-            findings,
-            line,
-            Code::Rule11c,
-            column.heading,
-            is_broken,
-        )?;
+        if is_broken_link(column, text, index, number)? {
+            findings.note(line, Code::Rule11c, column.heading)?;
+        }
     }
     Ok(())
 }

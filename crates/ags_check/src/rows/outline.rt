@@ -35,7 +35,8 @@ impl<'a> Model for Outline<'a> {
 
     ghost view = { λ o. record { group = o.group.now; entries = o.dictionary.now } };
 
-    ghost invariant = { λ o. IsOutline o.group.now o.dictionary.now o.columns.items o.required.items o.file_set o.has_keys o.has_parent o.is_data };
+    ghost invariant = { λ o. IsOutline o.group.now o.dictionary.now o.columns.items o.required.items o.file_set
+        o.has_keys o.has_parent o.is_data };
 }
 
 /// Whether the group has KEY headings.
@@ -99,7 +100,8 @@ impl<'a> Outline<'a> {
     /// Rule 10a: whether an earlier row of the group has the key of this one.
     pub(crate) fn repeats_key(&self, index: &Index, number: u32) -> Result<bool, AllocError>
         requires { number < length (rows_in index.now) }
-        ensures { IfOk result (λ repeats. (row : DataRow) → IsDataRow (rows_in index.now) number row → row.group ≡ self.now.group.name → self.now.entries ≡ index.now.entries
+        ensures { IfOk result (λ repeats. (row : DataRow) → IsDataRow (rows_in index.now) number row
+            → row.group ≡ self.now.group.name → self.now.entries ≡ index.now.entries
             → IsTrue repeats ↔ RepeatsKey index.now.entries index.now.contents number row) }
     {
         if !self.has_keys {
@@ -111,7 +113,8 @@ impl<'a> Outline<'a> {
     /// Rule 10c: whether the group has a parent group, and the row no parent row.
     pub(crate) fn lacks_parent(&self, index: &Index, number: u32) -> Result<bool, AllocError>
         requires { number < length (rows_in index.now) }
-        ensures { IfOk result (λ lacks. (row : DataRow) → IsDataRow (rows_in index.now) number row → row.group ≡ self.now.group.name → self.now.entries ≡ index.now.entries
+        ensures { IfOk result (λ lacks. (row : DataRow) → IsDataRow (rows_in index.now) number row
+            → row.group ≡ self.now.group.name → self.now.entries ≡ index.now.entries
             → IsTrue lacks ↔ LacksParentRow index.now.entries index.now.contents row) }
     {
         if !self.has_parent {

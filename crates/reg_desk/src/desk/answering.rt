@@ -21,7 +21,8 @@ impl<K: Keep> Desk<K> {
     pub fn answer(&mut self, alloc: Global, request: &Request<'_>) -> Answer
         ensures answered { AnsweredBy K.Keep self.old (asked request.entry.now) result self.new }
         ensures clean { K.is_sound self.new.keep → IsCleanText K.Keep self.old.keep result }
-        ensures same { K.is_sound self.new.keep → IsSameAnswer K.Keep self.old.policy self.old.keep (asked request.entry.now) result }
+        ensures same { K.is_sound self.new.keep
+            → IsSameAnswer K.Keep self.old.policy self.old.keep (asked request.entry.now) result }
     {
         if self.failed {
             return Answer::StoreFailed;
@@ -38,16 +39,22 @@ impl<K: Keep> Desk<K> {
         requests: &[Request<'_>],
     ) -> Result<Vec<Answer>, AllocError>
         ensures unasked { OnErr result (self.new ≡ self.old) }
-        ensures answered { IfOk result (λ answers. AreAnsweredBy K.Keep self.old (map asked requests.entry.now) answers.items self.new) }
+        ensures answered { IfOk result (λ answers.
+            AreAnsweredBy K.Keep self.old (map asked requests.entry.now) answers.items self.new) }
         ensures policy { self.new.policy ≡ self.old.policy }
         ensures dictionary { K.dictionary self.new.keep ≡ K.dictionary self.old.keep }
         ensures limit { K.limit self.new.keep ≡ K.limit self.old.keep }
         ensures sound { K.is_sound self.new.keep → K.is_sound self.old.keep }
         ensures count { IfOk result (λ answers. length answers.items ≡ length requests.entry.now) }
-        ensures failed { IfOk result (λ answers. self.new.failed ≡ (self.old.failed || list_any is_failed answers.items)) }
-        ensures stuck { self.old.failed ≡ true → IfOk result (λ answers. AreFailed (map asked requests.entry.now) answers.items × (self.new.keep ≡ self.old.keep)) }
-        ensures runs { K.is_sound self.new.keep → self.old.failed ≡ false → IfOk result (λ answers. ∥ Runs K.Keep self.old.policy self.old.keep self.new.keep (map asked requests.entry.now) answers.items ∥₁) }
-        ensures receipts { K.is_sound self.new.keep → self.old.failed ≡ false → IfOk result (λ answers. (list : List Deposit) → K.may_leave self.new.keep list → ∥ AllZip (IsHeldIn list) (map asked requests.entry.now) answers.items ∥₁) }
+        ensures failed { IfOk result (λ answers. self.new.failed
+            ≡ (self.old.failed || list_any is_failed answers.items)) }
+        ensures stuck { self.old.failed ≡ true → IfOk result (λ answers.
+            AreFailed (map asked requests.entry.now) answers.items × (self.new.keep ≡ self.old.keep)) }
+        ensures runs { K.is_sound self.new.keep → self.old.failed ≡ false → IfOk result (λ answers. ∥ Runs K.Keep
+            self.old.policy self.old.keep self.new.keep (map asked requests.entry.now) answers.items ∥₁) }
+        ensures receipts { K.is_sound self.new.keep → self.old.failed ≡ false → IfOk result (λ answers.
+            (list : List Deposit) → K.may_leave self.new.keep list
+            → ∥ AllZip (IsHeldIn list) (map asked requests.entry.now) answers.items ∥₁) }
     {
         let mut answers = Vec::with_capacity(alloc, requests.len())?;
         for request in requests {

@@ -47,7 +47,8 @@ pub(super) fn serve_check<K: Keep>(
     bytes: &[u8],
 ) -> Answer
     requires { K.has_failed keep.old ≡ false }
-    ensures { (day : ℤ) → Serves K.Keep policy.now (asks_check caller.now project.now bytes.now day) keep.old keep.new result }
+    ensures { (day : ℤ) → Serves K.Keep policy.now
+        (asks_check caller.now project.now bytes.now day) keep.old keep.new result }
 {
     match decide_request(policy, caller, project, Verb::Check) {
         Decision::Deny(rule) => return Answer::Denied(rule),

@@ -23,7 +23,8 @@ fn held_already<K: Keep>(
 ) -> Result<Option<(u32, Day)>, KeepError>
     requires { K.has_failed keep.old ≡ false }
     ensures reads { OnlyReads K.Keep keep.old keep.new (fails result) }
-    ensures held { K.is_sound keep.new → IfOk result (λ held. held ≡ first_equal 1 firm.now project.now bytes.now (K.deposits keep.old)) }
+    ensures held { K.is_sound keep.new → IfOk result (λ held.
+        held ≡ first_equal 1 firm.now project.now bytes.now (K.deposits keep.old)) }
     ensures named { result ≢ Err KeepError.Full }
 {
     match keep.find(firm, project, bytes)? {
@@ -58,7 +59,8 @@ pub(super) fn serve_deposit<K: Keep>(
     bytes: &[u8],
 ) -> Answer
     requires { K.has_failed keep.old ≡ false }
-    ensures { (day : ℤ) → Serves K.Keep policy.now (asks_deposit caller.now project.now embargo bytes.now day) keep.old keep.new result }
+    ensures { (day : ℤ) → Serves K.Keep policy.now
+        (asks_deposit caller.now project.now embargo bytes.now day) keep.old keep.new result }
 {
     match decide_request(policy, caller, project, Verb::Deposit) {
         Decision::Deny(rule) => return Answer::Denied(rule),

@@ -47,7 +47,9 @@ pub(super) fn read_view<K: Keep>(
     requires working { K.has_failed keep.old ≡ false }
     requires number { K.is_sound keep.old → (0 < number) × (number ≤ length (K.deposits keep.old)) }
     ensures reads { OnlyReads K.Keep keep.old keep.new (fails result) }
-    ensures seen { K.is_sound keep.new → IfOk result (λ seen. (d : Deposit) (file : CheckedFile) → slice_get (K.deposits keep.old) (number - 1) ≡ Some d → IsFileOf (K.dictionary keep.old) d file → IsViewOf seen.0.items seen.1 file) }
+    ensures seen { K.is_sound keep.new → IfOk result (λ seen. (d : Deposit) (file : CheckedFile)
+        → slice_get (K.deposits keep.old) (number - 1) ≡ Some d → IsFileOf (K.dictionary keep.old) d file
+        → IsViewOf seen.0.items seen.1 file) }
     ensures named { result ≢ Err KeepError.Full }
 {
     let rows = keep.rows(number)?;
@@ -68,7 +70,9 @@ fn draw<K: Keep>(
 ) -> Result<Option<Vec<u8>>, KeepError>
     requires { K.has_failed keep.old ≡ false }
     ensures reads { OnlyReads K.Keep keep.old keep.new (fails result) }
-    ensures drawn { K.is_sound keep.new → IfOk result (λ text. ∥ IsDrawnFrom (register_at K.Keep policy.now keep.old) caller.now project.now (names_in groups.now) day (held number (K.deposits keep.old)) (text_answer (option_map (λ t. t.items) text)) ∥₁) }
+    ensures drawn { K.is_sound keep.new → IfOk result (λ text. ∥ IsDrawnFrom (register_at K.Keep policy.now keep.old)
+        caller.now project.now (names_in groups.now) day (held number (K.deposits keep.old))
+        (text_answer (option_map (λ t. t.items) text)) ∥₁) }
     ensures named { result ≢ Err KeepError.Full }
 {
     if number == 0 || number > keep.count() {
@@ -96,7 +100,8 @@ pub(super) fn serve_extract<K: Keep>(
     day: Day,
 ) -> Answer
     requires { K.has_failed keep.old ≡ false }
-    ensures { Serves K.Keep policy.now (asks_extract caller.now project.now number (names_in groups.now) day) keep.old keep.new result }
+    ensures { Serves K.Keep policy.now
+        (asks_extract caller.now project.now number (names_in groups.now) day) keep.old keep.new result }
 {
     match decide_request(policy, caller, project, Verb::Extract) {
         Decision::Deny(rule) => return Answer::Denied(rule),

@@ -5,8 +5,8 @@ ghost use Rattle.reg_store.specs.Keep.{fails};
 ghost use Rattle.reg_store.specs.Deposit.{Deposit};
 ghost use Rattle.reg_desk.specs.Asked.{listing as asks_listing};
 ghost use Rattle.reg_desk.specs.Machine.{IsListing, held};
-ghost use Rattle.reg_desk.specs.Serving.{IsLineFor, OfFile, OnlyReads, Serves, register_at};
-ghost use Rattle.reg_desk.specs.View.{IsOpen, Sees, is_only, look_of};
+ghost use Rattle.reg_desk.specs.Serving.{IsLineFor, OnlyReads, OpensDeposit, SeesDeposit, Serves, register_at};
+ghost use Rattle.reg_desk.specs.View.{is_only, look_of};
 
 use crate::answer::{Answer, Listed};
 use crate::serving::drawing::{looking_at, read_view};
@@ -27,7 +27,7 @@ fn open_project<K: Keep>(
     requires working { K.has_failed keep.old ≡ false }
     requires number { K.is_sound keep.old → (0 < number) × (number ≤ length (K.deposits keep.old)) }
     ensures reads { OnlyReads K.Keep keep.old keep.new (fails result) }
-    ensures read { K.is_sound keep.new → IfOk result (λ row. OfFile K.Keep keep.old number (λ file. IsOpen (look_of looking.now) file row)) }
+    ensures read { K.is_sound keep.new → IfOk result (OpensDeposit K.Keep keep.old (look_of looking.now) number) }
     ensures named { result ≢ Err KeepError.Full }
 {
     let project = keep.project_row(number)?;
@@ -44,7 +44,7 @@ fn seen_among_all<K: Keep>(
     requires working { K.has_failed keep.old ≡ false }
     requires number { K.is_sound keep.old → (0 < number) × (number ≤ length (K.deposits keep.old)) }
     ensures reads { OnlyReads K.Keep keep.old keep.new (fails result) }
-    ensures seen { K.is_sound keep.new → IfOk result (λ seen. OfFile K.Keep keep.old number (λ file. Sees (look_of looking.now) file seen)) }
+    ensures seen { K.is_sound keep.new → IfOk result (SeesDeposit K.Keep keep.old (look_of looking.now) number) }
     ensures named { result ≢ Err KeepError.Full }
 {
     let (rows, graph) = read_view(keep, number)?;
@@ -68,9 +68,9 @@ fn seen_from<K: Keep>(
 ) -> Result<bool, KeepError>
     requires working { K.has_failed keep.old ≡ false }
     requires number { K.is_sound keep.old → (0 < number) × (number ≤ length (K.deposits keep.old)) }
-    requires permitted { K.is_sound keep.old → OfFile K.Keep keep.old number (λ file. IsOpen (look_of looking.now) file (Some row)) }
+    requires permitted { K.is_sound keep.old → OpensDeposit K.Keep keep.old (look_of looking.now) number (Some row) }
     ensures reads { OnlyReads K.Keep keep.old keep.new (fails result) }
-    ensures seen { K.is_sound keep.new → IfOk result (λ seen. OfFile K.Keep keep.old number (λ file. Sees (look_of looking.now) file seen)) }
+    ensures seen { K.is_sound keep.new → IfOk result (SeesDeposit K.Keep keep.old (look_of looking.now) number) }
     ensures named { result ≢ Err KeepError.Full }
 {
     let targets = keep.targets(number, row)?;
@@ -90,7 +90,7 @@ fn sees_project<K: Keep>(
     requires working { K.has_failed keep.old ≡ false }
     requires number { K.is_sound keep.old → (0 < number) × (number ≤ length (K.deposits keep.old)) }
     ensures reads { OnlyReads K.Keep keep.old keep.new (fails result) }
-    ensures seen { K.is_sound keep.new → IfOk result (λ seen. OfFile K.Keep keep.old number (λ file. Sees (look_of looking.now) file seen)) }
+    ensures seen { K.is_sound keep.new → IfOk result (SeesDeposit K.Keep keep.old (look_of looking.now) number) }
     ensures named { result ≢ Err KeepError.Full }
 {
     match open_project(alloc, keep, looking, number)? {
@@ -111,7 +111,9 @@ fn listed<K: Keep>(
     requires working { K.has_failed keep.old ≡ false }
     requires number { K.is_sound keep.old → (0 < number) × (number ≤ length (K.deposits keep.old)) }
     ensures reads { OnlyReads K.Keep keep.old keep.new (fails result) }
-    ensures seen { K.is_sound keep.new → IfOk result (λ line. (d : Deposit) → held number (K.deposits keep.old) ≡ Some d → ∥ IsLineFor (register_at K.Keep policy.now keep.old) caller.now day number d line ∥₁) }
+    ensures seen { K.is_sound keep.new → IfOk result (λ line. (d : Deposit)
+        → held number (K.deposits keep.old) ≡ Some d
+        → ∥ IsLineFor (register_at K.Keep policy.now keep.old) caller.now day number d line ∥₁) }
     ensures named { result ≢ Err KeepError.Full }
 {
     let head = keep.head(number)?;
@@ -137,7 +139,8 @@ fn lines_of<K: Keep>(
 ) -> Result<Vec<Listed>, KeepError>
     requires { K.has_failed keep.old ≡ false }
     ensures reads { OnlyReads K.Keep keep.old keep.new (fails result) }
-    ensures listed { K.is_sound keep.new → IfOk result (λ lines. ∥ IsListing (register_at K.Keep policy.now keep.old) caller.now project.now day 1 (K.deposits keep.old) lines.items ∥₁) }
+    ensures listed { K.is_sound keep.new → IfOk result (λ lines. ∥ IsListing (register_at K.Keep policy.now keep.old)
+        caller.now project.now day 1 (K.deposits keep.old) lines.items ∥₁) }
     ensures named { result ≢ Err KeepError.Full }
 {
     let numbers = keep.numbers(project)?;

@@ -14,12 +14,12 @@ returns c =
     let entries = c.args.extended.now in
     let groups = c.args.file.now in
     let file = contents_of groups in
-    let a = c.note_all_header_rows.new.findings.items in
-    let b = c.note_absent_groups.new.findings.items in
+    let a = c.note_all_header_rows.new.findings in
+    let b = c.note_absent_groups.new.findings in
     let code = c.unknown_code-code.ensures ∙ ap (λ (l : List _). unknown_code (contents_of l)) c.groups.ensures in
     let first : Adds (InGroups groups (group_header_rules given entries file (unknown_code file))) [] a =
-    subst (λ (l : List Finding). Adds (InGroups groups (group_header_rules given entries file (unknown_code file))) l a) c.new-findings.ensures.items
-    (subst (λ (k : Code). Adds (InGroups groups (group_header_rules given entries file k)) c.new-findings.result.items a) code c.in_ok-note_all_header_rows.ensures) in
+    subst (λ (l : List Finding). Adds (InGroups groups (group_header_rules given entries file (unknown_code file))) l a) c.new-findings.ensures
+    (subst (λ (k : Code). Adds (InGroups groups (group_header_rules given entries file k)) c.new-findings.result a) code c.in_ok-note_all_header_rows.ensures) in
     listed b c.in_order.result
     (one_more _ (OneOf (file_rules file) ∷ []) [] a b first (one_more (OneOf (file_rules file)) [] a b b c.in_ok-note_absent_groups.ensures (one_none b)))
     c.in_order.ensures.order c.in_order.ensures.only c.in_order.ensures.all

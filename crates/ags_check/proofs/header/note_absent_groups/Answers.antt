@@ -9,11 +9,11 @@ use Rattle.ags_check.proofs.header.note_absent_groups.Goals as goal
 pub returns : goal.returns
 returns c =
     let file = contents_of c.args.file.now in
-    let a = c.args.findings.now.items in
-    let b = c.note_absent_group.new.findings.items in
-    let d = c.note_absent_group-2.new.findings.items in
-    let e = c.note_absent_group-3.new.findings.items in
-    let f = c.note_absent_group-4.new.findings.items in
+    let a = c.args.findings.now in
+    let b = c.note_absent_group.new.findings in
+    let d = c.note_absent_group-2.new.findings in
+    let e = c.note_absent_group-3.new.findings in
+    let f = c.note_absent_group-4.new.findings in
     let transmission = OfFile Rule14 (codes "TRAN") (LacksGroup file (codes "TRAN")) in
     let units = OfFile Rule15 (codes "UNIT") (LacksGroup file (codes "UNIT")) in
     let types = OfFile Rule17 (codes "TYPE") (LacksGroup file (codes "TYPE")) in

@@ -13,11 +13,11 @@ loop-group-preserved c =
     let group = c.group-item.result in
     let i = c.loop-group.group-index in
     let at : At groups i group = subst (λ (l : List Group). At l i group) c.groups-groups.ensures (slice_get_read c.groups-groups.result.now _ i group refl c.loop-group-test.true c.group-item.is) in
-    among_more groups (λ _ g f. OneOf (group_header_rules c.args.given.now c.args.extended.now (contents_of groups) c.args.code g) f) i group c.args.findings.now.items c.loop-group.findings.items c.note_header_rows.new.findings.items
+    among_more groups (λ _ g f. OneOf (group_header_rules c.args.given.now c.args.extended.now (contents_of groups) c.args.code g) f) i group c.args.findings.now c.loop-group.findings c.note_header_rows.new.findings
     at c.loop-group.invariant c.in_ok-note_header_rows.ensures
 
 pub returns : goal.returns
 returns c =
     let groups = c.args.file.now in
-    among_all groups (λ _ g f. OneOf (group_header_rules c.args.given.now c.args.extended.now (contents_of groups) c.args.code g) f) c.loop-group.group-index c.args.findings.now.items c.loop-group.findings.items
+    among_all groups (λ _ g f. OneOf (group_header_rules c.args.given.now c.args.extended.now (contents_of groups) c.args.code g) f) c.loop-group.group-index c.args.findings.now c.loop-group.findings
     (subst (λ (l : List Group). length l ≤ c.loop-group.group-index) c.groups-groups.ensures (omega (arith, c.loop-group-test.false))) c.loop-group.invariant

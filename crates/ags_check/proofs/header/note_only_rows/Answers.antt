@@ -9,11 +9,11 @@ use Rattle.ags_check.proofs.header.note_only_rows.Goals as goal
 pub returns : goal.returns
 returns c =
     let group = c.args.group.now in
-    let a = c.args.findings.now.items in
-    let b = c.note_long_sign.new.findings.items in
-    let d = c.note_long_sign-2.new.findings.items in
-    let e = c.note_further_rows.new.findings.items in
-    let f = c.note_further_rows-2.new.findings.items in
+    let a = c.args.findings.now in
+    let b = c.note_long_sign.new.findings in
+    let d = c.note_long_sign-2.new.findings in
+    let e = c.note_further_rows.new.findings in
+    let f = c.note_further_rows-2.new.findings in
     let concatenator = AtRow Rule11b (codes "TRAN_RCON") (IsLongSign (codes "TRAN_RCON") (group_contents group)) group in
     let project = AtRow Rule13 (codes "PROJ") (IsFurtherRow (codes "PROJ") (group_contents group)) group in
     let transmission = AtRow Rule14 (codes "TRAN") (IsFurtherRow (codes "TRAN") (group_contents group)) group in

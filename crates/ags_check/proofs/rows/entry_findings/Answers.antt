@@ -7,7 +7,7 @@ use Rattle.ags_check.proofs.rows.entry_findings.Goals as goal
 
 pub returns : goal.returns
 returns c =
-    let noted = c.note_all_entries.new.findings.items in
+    let noted = c.note_all_entries.new.findings in
     listed noted c.in_order.result
-    (subst (λ (l : List Finding). Adds (OneOf (entry_rules c.args.dictionary.now c.args.groups.now)) l noted) c.new-findings.ensures.items c.in_ok-note_all_entries.ensures)
+    (subst (λ (l : List Finding). Adds (OneOf (entry_rules c.args.dictionary.now c.args.groups.now)) l noted) c.new-findings.ensures c.in_ok-note_all_entries.ensures)
     c.in_order.ensures.order c.in_order.ensures.only c.in_order.ensures.all

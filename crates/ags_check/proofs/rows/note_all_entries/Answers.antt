@@ -53,12 +53,12 @@ loop-group-preserved c =
     let i = c.loop-group.group-index in
     let group = c.group-item.result in
     let at : At groups i group = slice_get_read groups _ i group refl c.loop-group-test.true c.group-item.is in
-    let mid = c.loop-group.findings.items in
-    let new = c.note_group_entries.new.findings.items in
+    let mid = c.loop-group.findings in
+    let new = c.note_group_entries.new.findings in
     record {
       first = omega (arith, c.loop-group.invariant.first, c.len-size.ensures, group_next groups i group at);
       noted =
-          among_more groups (λ place g f. OneOf (entry_rules_of c.args.dictionary.now contents (rows_before contents place) g) f) i group c.args.findings.now.items mid new at c.loop-group.invariant.noted
+          among_more groups (λ place g f. OneOf (entry_rules_of c.args.dictionary.now contents (rows_before contents place) g) f) i group c.args.findings.now mid new at c.loop-group.invariant.noted
           (subst (λ (n : ℕ). Adds (OneOf (entry_rules_of c.args.dictionary.now contents n group)) mid new) c.loop-group.invariant.first
           (subst (λ (l : List Contents). Adds (OneOf (entry_rules_of c.args.dictionary.now l c.loop-group.first group)) mid new) c.requires.contents
           (subst (λ (e : Entries). Adds (OneOf (entry_rules_of e c.args.index.now.contents c.loop-group.first group)) mid new) (sym c.requires.entries) c.in_ok-note_group_entries.ensures)));
@@ -68,8 +68,8 @@ pub returns : goal.returns
 returns c =
     let groups = c.args.groups.now in
     let contents = contents_of groups in
-    let old = c.args.findings.now.items in
-    let new = c.loop-group.findings.items in
+    let old = c.args.findings.now in
+    let new = c.loop-group.findings in
     one_more _ [] old new new
     (among_all groups (λ place g f. OneOf (entry_rules_of c.args.dictionary.now contents (rows_before contents place) g) f) c.loop-group.group-index old new (omega (arith, c.loop-group-test.false)) c.loop-group.invariant.noted)
     (one_none new)

@@ -9,5 +9,5 @@ abbrev pub invariant-loop-group : goal.invariant-loop-group
 invariant-loop-group l = record {
   first : l.first ≡ rows_before (contents_of l.groups) l.group-index;
   noted :
-      Adds (AmongBefore l.groups (λ place group f. OneOf (entry_rules_of l.dictionary (contents_of l.groups) (rows_before (contents_of l.groups) place) group) f) l.group-index) l.fn.findings.items l.findings.items;
+      Adds (AmongBefore l.groups (λ place group f. OneOf (entry_rules_of l.dictionary (contents_of l.groups) (rows_before (contents_of l.groups) place) group) f) l.group-index) l.fn.findings l.findings;
 }

@@ -19,12 +19,12 @@ loop-i-preserved c =
     let i = c.loop-i.i in
     let row = c.index-rows-i.result in
     let at : At group.rows i row = subst (λ (rows : List Row). At rows i row) c.rows-rows.ensures (slice_get_read c.rows-rows.result.now _ i row refl c.loop-i-test.true c.index-rows-i.is) in
-    among_more group.rows (λ place r f. OneOf (data_row_rules file.entries file.contents group (c.args.first + place) r) f) i row c.args.findings.now.items c.loop-i.findings.items c.note_data_row.new.findings.items
+    among_more group.rows (λ place r f. OneOf (data_row_rules file.entries file.contents group (c.args.first + place) r) f) i row c.args.findings.now c.loop-i.findings c.note_data_row.new.findings
     at c.loop-i.invariant c.in_ok-note_data_row.ensures
 
 pub returns : goal.returns
 returns c =
     let file = c.args.index.now in
     let group = c.args.outline.now.group in
-    among_all group.rows (λ place r f. OneOf (data_row_rules file.entries file.contents group (c.args.first + place) r) f) c.loop-i.i c.args.findings.now.items c.loop-i.findings.items
+    among_all group.rows (λ place r f. OneOf (data_row_rules file.entries file.contents group (c.args.first + place) r) f) c.loop-i.i c.args.findings.now c.loop-i.findings
     (subst (λ (rows : List Row). length rows ≤ c.loop-i.i) c.rows-rows.ensures (omega (arith, c.loop-i-test.false))) c.loop-i.invariant

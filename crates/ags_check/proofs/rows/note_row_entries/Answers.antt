@@ -10,8 +10,8 @@ pub returns : goal.returns
 returns c =
     let file = c.args.listed.now in
     let row = c.args.row.now in
-    let old = c.args.findings.now.items in
-    let new = c.note_entries.new.findings.items in
+    let old = c.args.findings.now in
+    let new = c.note_entries.new.findings in
     let group = c.outline.inside.group.now in
     let are = subst (AreColumns (group_contents group) group.headings) (sym c.as_slice-columns.ensures.value) c.outline.invariant.columns in
     subst (λ (v : Outlined). Adds (InHeadings v.group.headings (λ heading. data_entry_rules file row.line (entry_in (group_contents v.group) (fields_of row) heading))) old new) c.outline.view_is

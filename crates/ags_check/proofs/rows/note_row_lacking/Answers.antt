@@ -10,8 +10,8 @@ use Rattle.ags_check.proofs.rows.note_row_lacking.Goals as goal
 pub returns : goal.returns
 returns c =
     let row = c.args.row.now in
-    let old = c.args.findings.now.items in
-    let new = c.note_lacking.new.findings.items in
+    let old = c.args.findings.now in
+    let new = c.note_lacking.new.findings in
     let group = c.outline.inside.group.now in
     let required = required_of c.outline.inside.dictionary.now group.name in
     let are = subst (AreColumns (group_contents group) required) (sym c.as_slice-required.ensures.value) c.outline.invariant.required in

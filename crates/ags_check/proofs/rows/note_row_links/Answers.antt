@@ -22,7 +22,7 @@ pub returns-then-not-outline : goal.returns-then-not-outline
 returns-then-not-outline c =
     let file = c.args.index.now in
     let row = c.args.row.now in
-    let old = c.args.findings.now.items in
+    let old = c.args.findings.now in
     let group = c.outline.inside.group.now in
     subst (λ (v : Outlined). Adds (InHeadings v.group.headings (link_rules file.entries file.contents row.line (row_in (group_contents v.group) (fields_of row)))) old old) c.outline.view_is
     (no_links file.entries file.contents row.line (group_contents group) (fields_of row) group.headings old
@@ -32,8 +32,8 @@ pub returns : goal.returns
 returns c =
     let file = c.args.index.now in
     let row = c.args.row.now in
-    let old = c.args.findings.now.items in
-    let new = c.note_links.new.findings.items in
+    let old = c.args.findings.now in
+    let new = c.note_links.new.findings in
     let group = c.outline.inside.group.now in
     let are = subst (AreColumns (group_contents group) group.headings) (sym c.as_slice-columns.ensures.value) c.outline.invariant.columns in
     let data_group = is_not_by c.outline.inside.is_data (is_definition group.name) c.outline.invariant.is_data c.if-not-outline.false in

@@ -9,5 +9,5 @@ pub returns : goal.returns
 returns c =
     let group = c.outline.inside.group.now in
     let are = subst (AreColumns (group_contents group) group.headings) (sym c.as_slice-columns.ensures.value) c.outline.invariant.columns in
-    subst (λ (v : Outlined). Adds (InHeadings v.group.headings (unit_and_type_rules c.args.listed.now v.group)) c.args.findings.now.items c.note_columns.new.findings.items) c.outline.view_is
+    subst (λ (v : Outlined). Adds (InHeadings v.group.headings (unit_and_type_rules c.args.listed.now v.group)) c.args.findings.now c.note_columns.new.findings) c.outline.view_is
     (c.in_ok-note_columns.ensures are)

@@ -7,7 +7,7 @@ use Rattle.ags_links.proofs.Finding.{finds_begin, finds_row, finds_rows, finds_o
 use Rattle.ags_links.proofs.families.rows_by_group.Goals as goal
 
 pub loop-number-init : goal.loop-number-init
-loop-number-init c = finds_begin (pairs_of c.new-pairs.result.items) HasGroupName (λ q. ap (λ ps. found (pairs_of ps) q) c.new-pairs.ensures.items)
+loop-number-init c = finds_begin (pairs_of c.in_ok-pairs.pairs.items) HasGroupName (λ q. ap (λ ps. found (pairs_of ps) q) c.in_ok-pairs.ensures.items)
 
 pub loop-number-preserved : goal.loop-number-preserved
 loop-number-preserved c =

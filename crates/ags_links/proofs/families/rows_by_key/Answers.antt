@@ -14,7 +14,7 @@ use Rattle.ags_links.proofs.Kept.{family_below, kept_family}
 use Rattle.ags_links.proofs.families.rows_by_key.Goals as goal
 
 pub loop-number-init : goal.loop-number-init
-loop-number-init c = finds_begin (pairs_of c.new-pairs.result.items) (HasKeyText c.args.dictionary.now) (λ q. ap (λ ps. found (pairs_of ps) q) c.new-pairs.ensures.items)
+loop-number-init c = finds_begin (pairs_of c.in_ok-pairs.pairs.items) (HasKeyText c.args.dictionary.now) (λ q. ap (λ ps. found (pairs_of ps) q) c.in_ok-pairs.ensures.items)
 
 pub bounds-families-row : goal.bounds-families-row
 bounds-families-row c = family_below c.args.dictionary.now c.args.families.now c.args.rows.now c.loop-number.number c.index-rows-number.result c.requires.kept (c.loop-number-test.true, sym c.index-rows-number.is)

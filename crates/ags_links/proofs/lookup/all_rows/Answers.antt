@@ -1,4 +1,4 @@
-use Rattle.std.proofs.Common.{◌≡◌, ◌∙◌, ap, sym, map, List, ℕ}
+use Rattle.std.proofs.Common.{◌∙◌, ap, sym, map, List, ℕ}
 use Rattle.ags_links.proofs.ByText.{rows_alone}
 use Rattle.ags_links.proofs.lookup.all_rows.Goals as goal
 

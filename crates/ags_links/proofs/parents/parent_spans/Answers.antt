@@ -11,7 +11,7 @@ use Rattle.ags_links.proofs.RowLemmas.{one_at}
 use Rattle.ags_links.proofs.parents.parent_spans.Goals as goal
 
 pub loop-row-init : goal.loop-row-init
-loop-row-init c = kept_none (λ n. IsParentSpan c.args.parents.now) c.new-spans.result.items c.new-spans.ensures.items
+loop-row-init c = kept_none (λ n. IsParentSpan c.args.parents.now) c.in_ok-spans.spans.items c.in_ok-spans.ensures.items
 
 pub loop-row-preserved : goal.loop-row-preserved
 loop-row-preserved c =

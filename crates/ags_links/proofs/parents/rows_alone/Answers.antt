@@ -1,4 +1,4 @@
-use Rattle.std.proofs.Common.{◌≡◌, ◌∙◌, ℕ, List, Vec, map}
+use Rattle.std.proofs.Common.{◌≡◌, ◌∙◌, ℕ, Vec, map}
 use Rattle.std.specs.declared.alloc.Global.{Global}
 use Rattle.ags_links.specs.Lookups.{Lookup}
 use Rattle.ags_links.proofs.Kept.{kept_none, kept_next, kept_all}

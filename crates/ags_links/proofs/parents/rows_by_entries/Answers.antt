@@ -14,7 +14,7 @@ use Rattle.ags_links.proofs.RowLemmas.{at_map}
 use Rattle.ags_links.proofs.parents.rows_by_entries.Goals as goal
 
 pub loop-number-init : goal.loop-number-init
-loop-number-init c = finds_no_number (pairs_of c.new-pairs.result.items) (HasEntries (texts c.args.headings.now)) (map row_of c.args.rows.now) (λ q. ap (λ ps. found (pairs_of ps) q) c.new-pairs.ensures.items)
+loop-number-init c = finds_no_number (pairs_of c.in_ok-pairs.pairs.items) (HasEntries (texts c.args.headings.now)) (map row_of c.args.rows.now) (λ q. ap (λ ps. found (pairs_of ps) q) c.in_ok-pairs.ensures.items)
 
 pub bounds-families-row : goal.bounds-families-row
 bounds-families-row c =

@@ -20,4 +20,4 @@ pub returns-clause-few : goal.returns-clause-few
 returns-clause-few c =
     let all : map row_of c.loop-place.rows.items ≡ data_rows (contents_of c.args.scan.now) =
     c.loop-place.invariant.rows ∙ ap (λ gs. data_rows (contents_of gs)) (take_all c.loop-place.place c.groups-groups.result.now c.loop-place-test.false ∙ c.groups-groups.ensures) in
-    omega (arith, kept_counted c.args.scan.now c.loop-place.rows.items all, c.row_count.ensures)
+    omega (arith, kept_counted c.args.scan.now c.loop-place.rows.items all, c.row_count-count.ensures)

@@ -7,5 +7,5 @@ use Rattle.ags_rows.proofs.checking.group_findings.Goals as goal
 
 pub returns : goal.returns
 returns c =
-    let noted = c.note_groups.new.findings.items in
-    listed noted c.in_order.result (subst (λ (l : List Finding). Adds (StandsInGroups c.args.groups.now) l noted) c.new-findings.ensures.items c.in_ok-note_groups.ensures) c.in_order.ensures.order c.in_order.ensures.only c.in_order.ensures.all
+    let noted = c.note_groups.new.findings in
+    listed noted c.in_order.result (subst (λ (l : List Finding). Adds (StandsInGroups c.args.groups.now) l noted) c.new-findings.ensures c.in_ok-note_groups.ensures) c.in_order.ensures.order c.in_order.ensures.only c.in_order.ensures.all

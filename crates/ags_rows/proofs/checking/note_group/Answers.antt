@@ -11,7 +11,7 @@ pub returns-clause-noted : goal.returns-clause-noted
 returns-clause-noted c =
     let group = c.args.group.now in
     let met = c.args.met.now in
-    let one = c.note_shape.new.findings.items in
-    let two = c.note_name.new.findings.items in
+    let one = c.note_shape.new.findings in
+    let two = c.note_name.new.findings in
     let name = subst (λ (n : List ℕ). Adds (OneOf (met_rules group.line Rule19 P1 n (is_group_name n) (IsMet met n))) one two) c.as_slice.ensures c.in_ok-note_name.ensures.noted in
-    IfOk-weaker c.note_headings.result _ _ (λ _ headings. three_rules c.args.findings.now.items one two c.note_headings.new.findings.items c.in_ok-note_shape.ensures name headings) c.note_headings.ensures
+    IfOk-weaker c.note_headings.result _ _ (λ _ headings. three_rules c.args.findings.now one two c.note_headings.new.findings c.in_ok-note_shape.ensures name headings) c.note_headings.ensures

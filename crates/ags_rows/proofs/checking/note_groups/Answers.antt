@@ -18,7 +18,7 @@ loop-group-init c =
     let names = map name_of groups in
     record {
       met = λ q. (λ h. absurd (none_met c.new-met.result q c.new-met.ensures.empty h), λ h. absurd (none_before names q h));
-      noted = among_none groups (λ place group. OneOf (group_rules names place group)) c.args.findings.now.items;
+      noted = among_none groups (λ place group. OneOf (group_rules names place group)) c.args.findings.now;
     }
 
 pub loop-group-preserved : goal.loop-group-preserved
@@ -28,15 +28,15 @@ loop-group-preserved c =
     let i = c.loop-group.group-index in
     let group = c.group-item.result in
     let met = c.loop-group.met in
-    let old = c.loop-group.findings.items in
-    let new = c.note_group.new.findings.items in
+    let old = c.loop-group.findings in
+    let new = c.note_group.new.findings in
     let at = slice_get_read groups _ i group refl c.loop-group-test.true c.group-item.is in
     record {
       met = repeat_more names i group.name (IsMet met) (IsMet c.note_group.new.met) (slice_get-map name_of groups i ∙ ap (option_map name_of) at) c.loop-group.invariant.met c.in_ok-note_group.ensures.met;
-      noted = among_more groups (λ place group. OneOf (group_rules names place group)) i group c.args.findings.now.items old new at c.loop-group.invariant.noted (group_same names i group (IsMet met group.name) old new (c.loop-group.invariant.met group.name) c.in_ok-note_group.ensures.noted);
+      noted = among_more groups (λ place group. OneOf (group_rules names place group)) i group c.args.findings.now old new at c.loop-group.invariant.noted (group_same names i group (IsMet met group.name) old new (c.loop-group.invariant.met group.name) c.in_ok-note_group.ensures.noted);
     }
 
 pub returns : goal.returns
 returns c =
     let groups = c.args.groups.now in
-    among_all groups (λ place group. OneOf (group_rules (map name_of groups) place group)) c.loop-group.group-index c.args.findings.now.items c.loop-group.findings.items c.loop-group-test.false c.loop-group.invariant.noted
+    among_all groups (λ place group. OneOf (group_rules (map name_of groups) place group)) c.loop-group.group-index c.args.findings.now c.loop-group.findings c.loop-group-test.false c.loop-group.invariant.noted

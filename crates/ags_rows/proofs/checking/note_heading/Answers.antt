@@ -1,17 +1,19 @@
-use Rattle.std.proofs.Common.{◌∙◌, sym}
+use Rattle.std.proofs.Common.{◌≡◌, ◌∙◌, false, sym}
 use Rattle.std.proofs.lemmas.Result.{IfOk-weaker}
 use Rattle.ags_rows.specs.declared.code.Code.TheVariants.{Rule19a}
-use Rattle.ags_rows.proofs.Collecting.{adds_note, two_rules}
-use Rattle.ags_rows.proofs.Repeats.{not_is, is_not}
+use Rattle.ags_rows.specs.Names.{is_heading_name}
+use Rattle.ags_rows.specs.Collecting.{Adds, Notes}
+use Rattle.ags_rows.proofs.Collecting.{adds_found, adds_clear, two_rules}
 use Rattle.ags_rows.proofs.checking.note_heading.Goals as goal
+use Rattle.ags_rows.proofs.checking.note_heading.Goals.{then-not-is_heading_name+in_ok-note, else-not-is_heading_name}
 
 pub returns-clause-noted : goal.returns-clause-noted
 returns-clause-noted c =
     let name = c.args.heading.now in
-    let old = c.args.findings.now.items in
-    let mid = c.note.new.findings.items in
-    let is = c.is_heading_name-is_wrong in
-    IfOk-weaker c.note_repeat.result _ _ (λ _ again.
-    two_rules old mid c.note_repeat.new.findings.items
-    (adds_note c.args.line Rule19a name _ _ old mid (λ e. sym is.ensures ∙ not_is is.result e) (λ e. is_not is.result (is.ensures ∙ e)) c.in_ok-note.ensures.noted)
-    again) c.note_repeat.ensures.noted
+    let old = c.args.findings.now in
+    let mid = c.if-not-is_heading_name.findings in
+    let first : Adds (Notes c.args.line Rule19a name (is_heading_name name ≡ false)) old mid = elim c.if-not-is_heading_name.branch [
+      | then-not-is_heading_name+in_ok-note w ↦ adds_found (sym c.is_heading_name.ensures ∙ w.if-not-is_heading_name.true) (w.findings-is ∙ w.in_ok-note.ensures.noted)
+      | else-not-is_heading_name w ↦ adds_clear (λ is. absurd (cc (is, c.is_heading_name.ensures, w.if-not-is_heading_name.false))) w.findings-is
+    ] in
+    IfOk-weaker c.note_repeat.result _ _ (λ _ again. two_rules old mid c.note_repeat.new.findings first again) c.note_repeat.ensures.noted

@@ -15,7 +15,7 @@ loop-heading-init c =
     let items = c.as_slice-heading-items.result.now in
     record {
       met = λ q. (λ h. absurd (none_met c.new-met.result q c.new-met.ensures.empty h), λ h. absurd (none_before items q h));
-      noted = among_none items (λ place heading. OneOf (heading_rules c.args.group.now.heading_line items place heading)) c.args.findings.now.items;
+      noted = among_none items (λ place heading. OneOf (heading_rules c.args.group.now.heading_line items place heading)) c.args.findings.now;
     }
 
 pub loop-heading-preserved : goal.loop-heading-preserved
@@ -26,20 +26,20 @@ loop-heading-preserved c =
     let heading = c.heading-item.result in
     let met = c.loop-heading.met in
     let next = c.note_heading.new.met in
-    let old = c.loop-heading.findings.items in
-    let new = c.note_heading.new.findings.items in
+    let old = c.loop-heading.findings in
+    let new = c.note_heading.new.findings in
     let at = slice_get_read items _ i heading refl c.loop-heading-test.true c.heading-item.is in
     let more = subst (λ (n : List ℕ). (q : List ℕ) → IsMet next q ↔ ((n ≡ q) ⊎ IsMet met q)) c.as_slice.ensures c.in_ok-note_heading.ensures.met in
     let noted = subst (λ (n : List ℕ). Adds (OneOf (met_rules line Rule19a P2 n (is_heading_name n) (IsMet met n))) old new) c.as_slice.ensures c.in_ok-note_heading.ensures.noted in
     record {
       met = repeat_more items i heading (IsMet met) (IsMet next) at c.loop-heading.invariant.met more;
-      noted = among_more items (λ place heading. OneOf (heading_rules line items place heading)) i heading c.args.findings.now.items old new at c.loop-heading.invariant.noted (heading_same line items i heading (IsMet met heading) old new (c.loop-heading.invariant.met heading) noted);
+      noted = among_more items (λ place heading. OneOf (heading_rules line items place heading)) i heading c.args.findings.now old new at c.loop-heading.invariant.noted (heading_same line items i heading (IsMet met heading) old new (c.loop-heading.invariant.met heading) noted);
     }
 
 pub returns : goal.returns
 returns c =
     let line = c.args.group.now.heading_line in
-    let old = c.args.findings.now.items in
-    let new = c.loop-heading.findings.items in
+    let old = c.args.findings.now in
+    let new = c.loop-heading.findings in
     subst (λ (items : List (List ℕ)). Adds (Among items (λ place heading. OneOf (heading_rules line items place heading))) old new) c.as_slice-heading-items.ensures
     (among_all c.as_slice-heading-items.result.now (λ place heading. OneOf (heading_rules line c.as_slice-heading-items.result.now place heading)) c.loop-heading.heading-index old new c.loop-heading-test.false c.loop-heading.invariant.noted)

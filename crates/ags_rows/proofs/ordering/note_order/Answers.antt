@@ -1,24 +1,45 @@
-use Rattle.std.proofs.Common.{[], length, sym, ap, ◌∙◌}
-use Rattle.std.proofs.lemmas.List.{nil_from_length}
-use Rattle.std.proofs.lemmas.Bool.{eqb-true, eq-eqb}
-use Rattle.ags_rows.specs.declared.code.Code.TheVariants.{Rule2}
-use Rattle.ags_rows.specs.Collecting.{OneOf}
-use Rattle.ags_rows.specs.Stands.{row_rules}
-use Rattle.ags_rows.proofs.Collecting.{adds_note, two_rules, some_at, among_none, among_more, among_all}
+use Rattle.std.proofs.Common.{◌≡◌, [], refl, ◌∙◌}
+use Rattle.std.proofs.lemmas.Option.{slice_get_read}
+use Rattle.ags_rows.specs.declared.code.Code.TheVariants.{Rule2, Rule2b, Rule4}
+use Rattle.ags_rows.specs.Collecting.{At, Adds, Notes, OneOf}
+use Rattle.ags_rows.specs.Order.{OutOfPlace}
+use Rattle.ags_rows.specs.Stands.{IsUnnamed, row_rules}
+use Rattle.ags_rows.proofs.Collecting.{adds_found, adds_clear, two_rules, among_none, among_more, among_all}
+use Rattle.ags_rows.proofs.Repeats.{empties, empty}
 use Rattle.ags_rows.proofs.ordering.note_order.Goals as goal
+use Rattle.ags_rows.proofs.ordering.note_order.Goals.{then-is_empty+in_ok-note, else-is_empty, then-is_out_of_place+in_ok-note-2, else-is_out_of_place, then-is_unnamed+in_ok-note-3, else-is_unnamed}
 
 pub loop-place-init : goal.loop-place-init
-loop-place-init c = among_none c.args.rows.now (λ place row. OneOf (row_rules c.args.rows.now place row)) c.note.new.findings.items
+loop-place-init c = among_none c.args.rows.now (λ place row. OneOf (row_rules c.args.rows.now place row)) c.if-is_empty.findings
 
 pub loop-place-preserved : goal.loop-place-preserved
 loop-place-preserved c =
     let rows = c.args.rows.now in
-    let there = some_at rows c.loop-place.place c.loop-place-test.true in
-    among_more rows (λ place row. OneOf (row_rules rows place row)) c.loop-place.place there.0 c.note.new.findings.items c.loop-place.findings.items c.note_row.new.findings.items there.1 c.loop-place.invariant (c.in_ok-note_row.ensures there.0 there.1)
+    let place = c.loop-place.place in
+    let row = c.index-rows-place.result in
+    let old = c.loop-place.findings in
+    let mid = c.if-is_out_of_place.findings in
+    let new = c.if-is_unnamed.findings in
+    let at : At rows place row = slice_get_read rows _ place row refl c.loop-place-test.true c.index-rows-place.is in
+    let out = c.is_out_of_place.ensures row at in
+    let unnamed = c.is_unnamed.ensures in
+    let order : Adds (Notes row.line Rule2b [] (OutOfPlace rows place row)) old mid = elim c.if-is_out_of_place.branch [
+      | then-is_out_of_place+in_ok-note-2 w ↦ adds_found (out.0 w.if-is_out_of_place.true) (w.findings-is ∙ w.in_ok-note-2.ensures.noted)
+      | else-is_out_of_place w ↦ adds_clear (λ h. absurd (cc (out.1 h, w.if-is_out_of_place.false))) w.findings-is
+    ] in
+    let name : Adds (Notes row.line Rule4 [] (IsUnnamed row)) mid new = elim c.if-is_unnamed.branch [
+      | then-is_unnamed+in_ok-note-3 w ↦ adds_found (unnamed.0 w.if-is_unnamed.true) (w.findings-is ∙ w.in_ok-note-3.ensures.noted)
+      | else-is_unnamed w ↦ adds_clear (λ h. absurd (cc (unnamed.1 h, w.if-is_unnamed.false))) w.findings-is
+    ] in
+    among_more rows (λ place row. OneOf (row_rules rows place row)) place row c.if-is_empty.findings old new at c.loop-place.invariant (two_rules old mid new order name)
 
 pub returns : goal.returns
 returns c =
     let rows = c.args.rows.now in
-    two_rules c.args.findings.now.items c.note.new.findings.items c.loop-place.findings.items
-    (adds_note 0 Rule2 [] c.is_empty.result _ c.args.findings.now.items c.note.new.findings.items (λ e. nil_from_length rows (eqb-true _ 0 (sym c.is_empty.ensures ∙ e))) (λ e. c.is_empty.ensures ∙ eq-eqb _ 0 (ap length e)) c.in_ok-note.ensures.noted)
-    (among_all rows (λ place row. OneOf (row_rules rows place row)) c.loop-place.place c.note.new.findings.items c.loop-place.findings.items c.loop-place-test.false c.loop-place.invariant)
+    let old = c.args.findings.now in
+    let mid = c.if-is_empty.findings in
+    let none : Adds (Notes 0 Rule2 [] (rows ≡ [])) old mid = elim c.if-is_empty.branch [
+      | then-is_empty+in_ok-note w ↦ adds_found (empties rows _ c.is_empty.ensures w.if-is_empty.true) (w.findings-is ∙ w.in_ok-note.ensures.noted)
+      | else-is_empty w ↦ adds_clear (λ e. absurd (cc (empty rows _ c.is_empty.ensures e, w.if-is_empty.false))) w.findings-is
+    ] in
+    two_rules old mid c.loop-place.findings none (among_all rows (λ place row. OneOf (row_rules rows place row)) c.loop-place.place mid c.loop-place.findings c.loop-place-test.false c.loop-place.invariant)

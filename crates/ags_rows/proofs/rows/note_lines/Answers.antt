@@ -1,18 +1,34 @@
-use Rattle.std.proofs.Common.{map, ◌+◌, arith, get_or}
+use Rattle.std.proofs.Common.{◌≡◌, [], map, ◌+◌, arith, get_or, sym, ◌∙◌}
 use Rattle.std.proofs.lemmas.List.{length-map}
+use Rattle.ags_rows.specs.declared.code.Code.TheVariants.{Rule1, Rule2a}
+use Rattle.ags_rows.specs.declared.rows.Ending.TheVariants.{Lf}
 use Rattle.ags_rows.specs.Lines.{text_line}
-use Rattle.ags_rows.specs.Collecting.{OneOf}
-use Rattle.ags_rows.specs.Stands.{byte_rules}
-use Rattle.ags_rows.proofs.Collecting.{among_more, among_all}
-use Rattle.ags_rows.proofs.Breaking.{at_line}
+use Rattle.ags_rows.specs.Collecting.{Adds, Notes, OneOf}
+use Rattle.ags_rows.specs.Stands.{HasHighByte, byte_rules}
+use Rattle.ags_rows.proofs.Collecting.{adds_found, adds_clear, two_rules, among_more, among_all}
+use Rattle.ags_rows.proofs.Breaking.{at_line, high_any, any_high, lf_same, same_lf}
 use Rattle.ags_rows.proofs.rows.note_lines.Goals as goal
+use Rattle.ags_rows.proofs.rows.note_lines.Goals.{then-has_high+in_ok-note, else-has_high, then-eq+in_ok-note-2, else-eq}
 
 pub loop-i-preserved : goal.loop-i-preserved
 loop-i-preserved c =
     let lines = c.args.lines.now in
-    among_more (map text_line lines) (λ place line. OneOf (byte_rules (place + 1) line)) c.loop-i.i (text_line (get_or lines c.loop-i.i _)) c.args.findings.now.items c.loop-i.findings.items c.note_line.new.findings.items
-    (at_line lines c.loop-i.i _ c.loop-i-test.true) c.loop-i.invariant c.in_ok-note_line.ensures
+    let i = c.loop-i.i in
+    let line = text_line (get_or lines i _) in
+    let old = c.loop-i.findings in
+    let mid = c.if-has_high.findings in
+    let new = c.if-eq.findings in
+    let high : Adds (Notes (i + 1) Rule1 [] (HasHighByte line.content)) old mid = elim c.if-has_high.branch [
+      | then-has_high+in_ok-note w ↦ adds_found (high_any line.content (sym c.has_high.ensures ∙ w.if-has_high.true)) (w.findings-is ∙ w.in_ok-note.ensures.noted)
+      | else-has_high w ↦ adds_clear (λ h. absurd (cc (any_high line.content h, c.has_high.ensures, w.if-has_high.false))) w.findings-is
+    ] in
+    let ending : Adds (Notes (i + 1) Rule2a [] (line.ending ≡ Lf)) mid new = elim c.if-eq.branch [
+      | then-eq+in_ok-note-2 w ↦ adds_found (lf_same line.ending (sym c.eq.ensures ∙ w.if-eq.true)) (w.findings-is ∙ w.in_ok-note-2.ensures.noted)
+      | else-eq w ↦ adds_clear (λ e. absurd (cc (same_lf line.ending e, c.eq.ensures, w.if-eq.false))) w.findings-is
+    ] in
+    among_more (map text_line lines) (λ place line. OneOf (byte_rules (place + 1) line)) i line c.args.findings.now old new
+    (at_line lines i _ c.loop-i-test.true) c.loop-i.invariant (two_rules old mid new high ending)
 
 pub returns : goal.returns
 returns c =
-    among_all (map text_line c.args.lines.now) (λ place line. OneOf (byte_rules (place + 1) line)) c.loop-i.i c.args.findings.now.items c.loop-i.findings.items (omega (arith, length-map c.args.lines.now text_line)) c.loop-i.invariant
+    among_all (map text_line c.args.lines.now) (λ place line. OneOf (byte_rules (place + 1) line)) c.loop-i.i c.args.findings.now c.loop-i.findings (omega (arith, length-map c.args.lines.now text_line)) c.loop-i.invariant

@@ -5,4 +5,4 @@ use Rattle.ags_rows.specs.Stands.{byte_rules}
 use Rattle.ags_rows.proofs.rows.note_lines.Given as goal
 
 abbrev pub invariant-loop-i : goal.invariant-loop-i
-invariant-loop-i l = Adds (AmongBefore (map text_line l.lines) (λ place line. OneOf (byte_rules (place + 1) line)) l.i) l.fn.findings.items l.findings.items
+invariant-loop-i l = Adds (AmongBefore (map text_line l.lines) (λ place line. OneOf (byte_rules (place + 1) line)) l.i) l.fn.findings l.findings

@@ -30,12 +30,12 @@ returns-clause-file c =
     let lines = map text_line c.in_ok-lines.lines.items in
     let cut : Lines (after_byte_order_mark c.args.bytes.now) lines = subst (λ t. Lines t lines) c.after_byte_order_mark.ensures c.in_ok-lines.ensures in
     let rows : Rows lines c.in_ok-rows.rows.items = subst (λ x. Rows (map text_line x) c.in_ok-rows.rows.items) c.as_slice-2.ensures.value c.in_ok-rows.ensures.rows in
-    let mid = c.note_lines.new.findings.items in
+    let mid = c.note_lines.new.findings in
     let groups = some_groups c.in_ok-rows.rows.items in
-    let noted = c.take_lines.new.findings.items in
+    let noted = c.take_lines.new.findings in
     let first : Adds (Among lines (λ place line. OneOf (byte_rules (place + 1) line))) [] mid =
-    subst (λ (l : List Finding). Adds (Among lines (λ place line. OneOf (byte_rules (place + 1) line))) l mid) c.new-findings.ensures.items
-    (subst (λ x. Adds (Among (map text_line x) (λ place line. OneOf (byte_rules (place + 1) line))) c.new-findings.result.items mid) c.as_slice.ensures.value c.in_ok-note_lines.ensures) in
+    subst (λ (l : List Finding). Adds (Among lines (λ place line. OneOf (byte_rules (place + 1) line))) l mid) c.new-findings.ensures
+    (subst (λ x. Adds (Among (map text_line x) (λ place line. OneOf (byte_rules (place + 1) line))) c.new-findings.result mid) c.as_slice.ensures.value c.in_ok-note_lines.ensures) in
     let second : Adds (StandsInSpelling lines) mid noted = subst (λ x. Adds (StandsInSpelling (map text_line x)) mid noted) c.as_slice-2.ensures.value c.in_ok-rows.ensures.findings in (
       record { lines = lines; rows = c.in_ok-rows.rows.items; groups = groups.0 },
       record { lines = cut; rows = rows; groups = groups.1 },

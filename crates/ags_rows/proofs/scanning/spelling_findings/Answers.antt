@@ -24,9 +24,9 @@ returns-clause-file c =
     let cut : Lines (after_byte_order_mark c.args.bytes.now) lines = subst (λ t. Lines t lines) c.after_byte_order_mark.ensures c.in_ok-lines.ensures in
     let rows : Rows lines c.in_ok-rows.rows.items = subst (λ x. Rows (map text_line x) c.in_ok-rows.rows.items) c.as_slice.ensures.value c.in_ok-rows.ensures.rows in
     let groups = some_groups c.in_ok-rows.rows.items in
-    let noted = c.take_lines.new.findings.items in
-    let adds = subst (λ (l : List Finding). Adds (StandsInSpelling lines) l noted) c.new-findings.ensures.items
-    (subst (λ x. Adds (StandsInSpelling (map text_line x)) c.new-findings.result.items noted) c.as_slice.ensures.value c.in_ok-rows.ensures.findings) in (
+    let noted = c.take_lines.new.findings in
+    let adds = subst (λ (l : List Finding). Adds (StandsInSpelling lines) l noted) c.new-findings.ensures
+    (subst (λ x. Adds (StandsInSpelling (map text_line x)) c.new-findings.result noted) c.as_slice.ensures.value c.in_ok-rows.ensures.findings) in (
       record { lines = lines; rows = c.in_ok-rows.rows.items; groups = groups.0 },
       record { lines = cut; rows = rows; groups = groups.1 },
       refl,

@@ -1,19 +1,28 @@
-use Rattle.std.proofs.Common.{◌≡◌, ◌∙◌, ℕ, List, [], None, sym, ap, arith}
+use Rattle.std.proofs.Common.{◌≡◌, ◌∙◌, ℕ, List, [], None, get_or, sym, ap, arith}
 use Rattle.std.specs.Prelude.{is_some}
 use Rattle.std.specs.Borrow.{Bor}
+use Rattle.ags_rows.specs.Collecting.{Adds}
 use Rattle.ags_rows.specs.Contents.{place_in}
-use Rattle.ags_check.proofs.Naming.{names_more, names_all, is_none_true, is_none_from}
+use Rattle.ags_rows.proofs.Lemmas.{adds_found, adds_unmet}
+use Rattle.ags_check.proofs.Naming.{NotesName, names_more, names_all, is_none_true, is_none_from}
 use Rattle.ags_check.proofs.header.headings.note_absent.Goals as goal
+use Rattle.ags_check.proofs.header.headings.note_absent.Goals.{then-is_none+in_ok-note, else-is_none}
 
 pub loop-heading-preserved : goal.loop-heading-preserved
 loop-heading-preserved c =
     let d : Bor (List ℕ) = record { ref_ptr = (0, 0); now = [] } in
-    let test = ap is_some (sym c.find.ensures) ∙ c.is_none-is_absent.ensures in
-    names_more c.args.listed.now c.args.line c.args.code (λ _ name. place_in c.args.row.now name ≡ None) c.loop-heading.heading-index d c.is_none-is_absent.result
-    c.args.findings.now.items c.loop-heading.findings.items c.note.new.findings.items c.loop-heading-test.true
-    (is_none_true _ _ test) (is_none_from _ _ test) c.in_ok-note.ensures.noted c.loop-heading.invariant
+    let Breaks : ℕ → List ℕ → Type 0 = λ _ name. place_in c.args.row.now name ≡ None in
+    let i = c.loop-heading.heading-index in
+    let mid = c.loop-heading.findings in
+    let new = c.if-is_none.findings in
+    let test = ap is_some (sym c.find.ensures) ∙ c.is_none.ensures in
+    let here : Adds (NotesName c.args.line c.args.code Breaks i (get_or c.args.listed.now i d).now) mid new = elim c.if-is_none.branch [
+      | then-is_none+in_ok-note w ↦ adds_found (is_none_true _ _ test w.if-is_none.true) (w.findings-is ∙ w.in_ok-note.ensures.noted)
+      | else-is_none w ↦ adds_unmet w.if-is_none.false (is_none_from _ _ test) w.findings-is
+    ] in
+    names_more c.args.listed.now c.args.line c.args.code Breaks i d c.args.findings.now mid new c.loop-heading-test.true c.loop-heading.invariant here
 
 pub returns : goal.returns
 returns c =
     names_all c.args.listed.now c.args.line c.args.code (λ _ name. place_in c.args.row.now name ≡ None) c.loop-heading.heading-index
-    c.args.findings.now.items c.loop-heading.findings.items (omega (arith, c.loop-heading-test.false)) c.loop-heading.invariant
+    c.args.findings.now c.loop-heading.findings (omega (arith, c.loop-heading-test.false)) c.loop-heading.invariant

@@ -5,4 +5,4 @@ use Rattle.ags_check.proofs.Naming.{texts, NotesName}
 use Rattle.ags_check.proofs.header.headings.note_absent.Given as goal
 
 abbrev pub invariant-loop-heading : goal.invariant-loop-heading
-invariant-loop-heading l = Adds (AmongBefore (texts l.listed) (NotesName l.line l.code (λ _ name. place_in l.row name ≡ None)) l.heading-index) l.fn.findings.items l.findings.items
+invariant-loop-heading l = Adds (AmongBefore (texts l.listed) (NotesName l.line l.code (λ _ name. place_in l.row name ≡ None)) l.heading-index) l.fn.findings l.findings

@@ -6,4 +6,4 @@ use Rattle.ags_check.proofs.header.headings.note_misnamed.Given as goal
 
 abbrev pub invariant-loop-heading : goal.invariant-loop-heading
 invariant-loop-heading l =
-    Adds (AmongBefore (texts l.headings) (NotesName l.line Rule19b (λ _ name. IsMisnamedBy l.given l.extended l.group name)) l.heading-index) l.fn.findings.items l.findings.items
+    Adds (AmongBefore (texts l.headings) (NotesName l.line Rule19b (λ _ name. IsMisnamedBy l.given l.extended l.group name)) l.heading-index) l.fn.findings l.findings

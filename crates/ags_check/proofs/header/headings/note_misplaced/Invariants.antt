@@ -9,6 +9,6 @@ use Rattle.ags_check.proofs.header.headings.note_misplaced.Given as goal
 
 abbrev pub invariant-loop-heading : goal.invariant-loop-heading
 invariant-loop-heading l = record {
-  noted : Adds (AmongBefore (texts l.headings) (NotesName l.line Rule7 (IsOvertaken (place_in (order_of l.dictionary l.group)) (texts l.headings))) l.heading-index) l.fn.findings.items l.findings.items;
+  noted : Adds (AmongBefore (texts l.headings) (NotesName l.line Rule7 (IsOvertaken (place_in (order_of l.dictionary l.group)) (texts l.headings))) l.heading-index) l.fn.findings l.findings;
   latest : IsLatest (place_in (order_of l.dictionary l.group)) (texts l.headings) l.heading-index l.latest;
 }

@@ -7,4 +7,4 @@ use Rattle.ags_check.proofs.rows.entries.note_columns.Given as goal
 abbrev pub invariant-loop-column : goal.invariant-loop-column
 invariant-loop-column l =
     AreColumns (group_contents l.group) l.group.headings l.columns
-    → Adds (AmongBefore l.group.headings (λ _ heading f. OneOf (unit_and_type_rules l.listed l.group heading) f) l.column-index) l.fn.findings.items l.findings.items
+    → Adds (AmongBefore l.group.headings (λ _ heading f. OneOf (unit_and_type_rules l.listed l.group heading) f) l.column-index) l.fn.findings l.findings

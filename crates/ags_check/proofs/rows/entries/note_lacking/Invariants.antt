@@ -9,4 +9,4 @@ use Rattle.ags_check.proofs.rows.entries.note_lacking.Given as goal
 abbrev pub invariant-loop-column : goal.invariant-loop-column
 invariant-loop-column l =
     (group : Contents) (headings : List (List ℕ)) → AreColumns group headings l.required
-    → Adds (AmongBefore headings (λ _ heading f. OneOf (required_rules l.line (row_in group l.cells) heading) f) l.column-index) l.fn.findings.items l.findings.items
+    → Adds (AmongBefore headings (λ _ heading f. OneOf (required_rules l.line (row_in group l.cells) heading) f) l.column-index) l.fn.findings l.findings

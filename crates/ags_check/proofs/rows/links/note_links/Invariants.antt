@@ -11,4 +11,4 @@ use Rattle.ags_check.proofs.rows.links.note_links.Given as goal
 abbrev pub invariant-loop-column : goal.invariant-loop-column
 invariant-loop-column l =
     (group : Contents) → AreColumns group group.headings l.columns → is_definition group.name ≡ false → IsDataRow (rows_in l.index) l.number (row_in group l.cells)
-    → Adds (AmongBefore group.headings (λ _ heading f. OneOf (link_rules l.index.entries l.index.contents l.line (row_in group l.cells) heading) f) l.column-index) l.fn.findings.items l.findings.items
+    → Adds (AmongBefore group.headings (λ _ heading f. OneOf (link_rules l.index.entries l.index.contents l.line (row_in group l.cells) heading) f) l.column-index) l.fn.findings l.findings

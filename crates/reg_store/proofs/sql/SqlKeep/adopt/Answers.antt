@@ -46,6 +46,7 @@ invariant_of-result g c =
       headed = λ _ clean. heads_found new c.in-Ok.dictionary c.in-Ok.count old.now c.examine.new.heads.items (kept clean) (made.quiet.same clean refl).0 (made.heads clean);
       below = made.below;
       digested = λ _ clean. digested_found new c.in-Ok.dictionary c.in-Ok.count old.now c.examine.new.digests (kept clean) (made.quiet.same clean refl).0 (made.digests clean);
+      held = λ _ _. c.none.ensures _;
     }
 
 pub returns-in-Ok-clause-adopted : goal.returns-in-Ok-clause-adopted

@@ -26,6 +26,9 @@ invariant_of-result-clause-digested g c works clean k d at =
     let empty = new_list c.args.bytes.now (state g.S.Store c.make_register-made.new.conn) (made.put clean) (made.settled clean) in
     absurd (let none = subst (λ (all : List Deposit). slice_get all k ≡ Some d) empty at in cc)
 
+pub invariant_of-result-clause-held : goal.invariant_of-result-clause-held
+invariant_of-result-clause-held g c works clean = c.none.ensures (state g.S.Store c.make_register-made.new.conn).now
+
 pub returns-in-Ok-clause-empty : goal.returns-in-Ok-clause-empty
 returns-in-Ok-clause-empty g c clean =
     let made = c.in-Ok.ensures in

@@ -129,6 +129,12 @@ invariant_of-self-in-Err-clause-digested g c works clean =
     digested_same keep.digests c.make_room-noted.new.self (deposits_in old.committed.trees) (deposits_in new.committed.trees) c.make_room-noted.ensures.same
     (ap (λ (db : Database). deposits_in db.trees) (c.in-Err.ensures.undone clean bare).1) (keep.digested c.requires.working first)
 
+pub invariant_of-self-in-Ok-added-clause-held : goal.invariant_of-self-in-Ok-added-clause-held
+invariant_of-self-in-Ok-added-clause-held g c works clean = c.none.ensures (state g.S.Store c.add_file-added.new.conn).now
+
+pub invariant_of-self-in-Err-clause-held : goal.invariant_of-self-in-Err-clause-held
+invariant_of-self-in-Err-clause-held g c works clean = c.none.ensures (state g.S.Store c.add_file-added.new.conn).now
+
 pub returns-in-Ok-added : goal.returns-in-Ok-added
 returns-in-Ok-added g c =
     let keep = c.args.self.now in

@@ -6,6 +6,7 @@ use Rattle.reg_store.specs.Methods.{deposit_read_at}
 use Rattle.reg_store.proofs.HeadsLemmas.{heads_quiet}
 use Rattle.reg_store.proofs.RepeatsLemmas.{digested_quiet}
 use Rattle.reg_store.proofs.ReadsLemmas.{reads_still}
+use Rattle.reg_store.proofs.RecentLemmas.{recent_quiet}
 use Rattle.reg_store.proofs.sql.SqlKeepKeep.deposit.Goals as goal
 
 pub find_deposit-found-requires : goal.find_deposit-found-requires
@@ -25,6 +26,10 @@ invariant_of-self-clause-headed g c works clean =
 pub invariant_of-self-clause-digested : goal.invariant_of-self-clause-digested
 invariant_of-self-clause-digested g c works clean =
     digested_quiet (state g.S.Store c.args.self.now.connection) (state g.S.Store c.find_deposit-found.new.conn) c.args.self.now.digests (c.args.self.now.digested c.requires.working) c.find_deposit-found.ensures.quiet clean (sym c.is_store-self.ensures ∙ works)
+
+pub invariant_of-self-clause-held : goal.invariant_of-self-clause-held
+invariant_of-self-clause-held g c works clean =
+    recent_quiet (state g.S.Store c.args.self.now.connection) (state g.S.Store c.find_deposit-found.new.conn) c.args.self.now.recent (c.args.self.now.held c.requires.working) c.find_deposit-found.ensures.quiet clean (sym c.is_store-self.ensures ∙ works)
 
 pub returns-clause-leaves : goal.returns-clause-leaves
 returns-clause-leaves g c = reads_still (λ k. state g.S.Store k.connection) (λ k. k.dictionary) 999999 (λ k. k.has_failed) _ _ _ c.find_deposit-found.ensures.quiet refl c.is_store-self.ensures

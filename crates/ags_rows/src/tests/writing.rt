@@ -1,0 +1,348 @@
+use crate::READABLE;
+use crate::cell::Cell;
+use crate::rows::{Descriptor, Group, Row};
+use crate::scanning::Scan;
+use crate::sequence::Sequence;
+use crate::spelling::cells;
+use crate::vectors::{FILE_A, FILE_B, FILE_C, MINI};
+use crate::writing::{quote, write_group, write_line, write_row};
+use std::alloc::{AllocError, Global};
+use std::slice;
+use std::test::Fail;
+
+/// The dictionary's groups: name, parent, and headings with status (`K` is KEY, `R` REQUIRED, `O` OTHER).
+const DICTIONARY: [(&str, &str, &str); 10] = [
+    ("PROJ", "-", "PROJ_ID KR, PROJ_NAME O, FILE_FSET O"),
+    (
+        "TRAN",
+        "-",
+        "TRAN_ISNO K, TRAN_DATE O, TRAN_AGS O, TRAN_DLIM O, TRAN_RCON O",
+    ),
+    ("ABBR", "-", "ABBR_HDNG K, ABBR_CODE K, ABBR_DESC O"),
+    ("UNIT", "-", "UNIT_UNIT K, UNIT_DESC O"),
+    ("TYPE", "-", "TYPE_TYPE K, TYPE_DESC O"),
+    (
+        "DICT",
+        "-",
+        "DICT_TYPE K, DICT_GRP K, DICT_HDNG K, DICT_STAT O, DICT_PGRP O",
+    ),
+    ("FILE", "-", "FILE_FSET K, FILE_NAME K, FILE_DESC O"),
+    (
+        "LOCA",
+        "PROJ",
+        "LOCA_ID KR, LOCA_TYPE O, LOCA_STAT O, LOCA_GL O, FILE_FSET O",
+    ),
+    (
+        "SAMP",
+        "LOCA",
+        "LOCA_ID K, SAMP_TOP K, SAMP_REF K, SAMP_BASE O, SAMP_LINK O",
+    ),
+    (
+        "LNMC",
+        "SAMP",
+        "LOCA_ID K, SAMP_TOP K, SAMP_REF K, SPEC_DPTH K, LNMC_MC O",
+    ),
+];
+
+/// The status that a letter of the table stands for.
+fn status_of(letters: &str) -> &'static str {
+    match letters {
+        "K" => "KEY",
+        "R" => "REQUIRED",
+        "KR" => "KEY+REQUIRED",
+        _ => "OTHER",
+    }
+}
+
+/// The cell of a text in which no quote stands.
+#[tactic(auto, using(crate::proofs::Pieces::lacks_none))]
+fn bare(text: &str) -> Cell<'_> {
+    if text.as_bytes().contains(&b'"') {
+        Cell::borrowed(b"")
+    } else {
+        Cell::borrowed(text.as_bytes())
+    }
+}
+
+/// The cells of these texts.
+fn cells_of(alloc: Global, texts: &[&'static str]) -> Result<Vec<Cell<'static>>, AllocError> {
+    let mut list = Vec::new(alloc);
+    for text in texts {
+        list.push(bare(text))?;
+    }
+    Ok(list)
+}
+
+/// Appends the row of these texts.
+fn push_row(
+    rows: &mut Vec<Row<'static>>,
+    alloc: Global,
+    line: u32,
+    texts: &[&'static str],
+) -> Result<(), AllocError> {
+    let cells = Sequence::from_vec(cells_of(alloc, texts)?);
+    rows.push(Row { line, cells })?;
+    Ok(())
+}
+
+/// Appends a row of each heading of a group.
+fn push_headings(
+    rows: &mut Vec<Row<'static>>,
+    alloc: Global,
+    group: &'static str,
+    headings: &'static str,
+) -> Result<(), AllocError> {
+    for entry in headings.split(", ") {
+        let (heading, letters) = entry.split_once(' ').unwrap_or((entry, ""));
+        let texts = ["HEADING", group, heading, status_of(letters), ""];
+        push_row(rows, alloc, 0, &texts)?;
+    }
+    Ok(())
+}
+
+/// The DATA rows of the dictionary: of each group its own row, then one of each heading.
+fn dictionary_rows(alloc: Global) -> Result<Vec<Row<'static>>, AllocError> {
+    let mut rows = Vec::new(alloc);
+    for (group, parent, headings) in &DICTIONARY {
+        push_row(&mut rows, alloc, 0, &["GROUP", group, "", "", parent])?;
+        push_headings(&mut rows, alloc, group, headings)?;
+    }
+    Ok(rows)
+}
+
+/// A group's name, and the texts of its headings, units and types.
+type Header = (
+    &'static [u8],
+    &'static [&'static str],
+    &'static [&'static str],
+    &'static [&'static str],
+);
+
+const DICT: Header = (
+    b"DICT",
+    &[
+        "DICT_TYPE",
+        "DICT_GRP",
+        "DICT_HDNG",
+        "DICT_STAT",
+        "DICT_PGRP",
+    ],
+    &["", "", "", "", ""],
+    &["X", "X", "X", "X", "X"],
+);
+
+const LOCA: Header = (b"LOCA", &["LOCA_ID"], &[""], &["ID"]);
+
+/// Appends a group of this header and these rows.
+fn push_group(
+    text: &mut Vec<u8>,
+    alloc: Global,
+    header: &Header,
+    rows: &[Row],
+) -> Result<(), AllocError> {
+    let (name, headings, units, types) = header;
+    let headings = cells_of(alloc, headings)?;
+    let units = cells_of(alloc, units)?;
+    let types = cells_of(alloc, types)?;
+    write_group(
+        text,
+        name,
+        headings.as_slice(),
+        units.as_slice(),
+        types.as_slice(),
+        rows,
+    )
+}
+
+/// Whether the dictionary is written as MINI.
+fn is_dictionary_written(alloc: Global) -> Result<bool, AllocError> {
+    let rows = dictionary_rows(alloc)?;
+    let mut text = Vec::new(alloc);
+    push_group(&mut text, alloc, &DICT, rows.as_slice())?;
+    Ok(rows.len() == 48 && text.as_slice() == MINI)
+}
+
+/// Whether the last group of file A is written as it stands there.
+fn is_loca_written(alloc: Global) -> Result<bool, AllocError> {
+    let mut rows = Vec::new(alloc);
+    push_row(&mut rows, alloc, 30, &["BH1"])?;
+    let mut text = Vec::new(alloc);
+    push_group(&mut text, alloc, &LOCA, rows.as_slice())?;
+    Ok(text.as_slice() == &FILE_A[468..])
+}
+
+#[test]
+fn written_groups(rt: HostRuntime) -> Result<(), Fail> {
+    assert!(rt; is_dictionary_written(rt.alloc())?);
+    assert!(rt; is_loca_written(rt.alloc())?);
+    Ok(())
+}
+
+/// Whether groups are the dictionary: one group, its name and its rows at their lines.
+fn are_dictionary(groups: &[Group]) -> bool {
+    let [dictionary] = groups else {
+        return false;
+    };
+    let rows = dictionary.rows.as_slice();
+    for (place, row) in rows.iter().enumerate() {
+        if row.line as usize != place + 5 {
+            return false;
+        }
+    }
+    rows.len() == 48 && dictionary.name.as_slice() == b"DICT".as_slice()
+}
+
+/// Whether the dictionary is read as what it is.
+fn is_dictionary_scanned(alloc: Global) -> bool {
+    match Scan::read(alloc, MINI) {
+        Ok(scan) => are_dictionary(scan.groups()),
+        Err(_error) => false,
+    }
+}
+
+/// Appends groups, with an empty line between two.
+fn push_groups(text: &mut Vec<u8>, groups: &[Group]) -> Result<(), AllocError> {
+    for group in groups {
+        if !text.is_empty() {
+            text.extend_from_slice(b"\r\n")?;
+        }
+        write_group(
+            text,
+            group.name.as_slice(),
+            group.headings.as_slice(),
+            group.units.as_slice(),
+            group.types.as_slice(),
+            group.rows.as_slice(),
+        )?;
+    }
+    Ok(())
+}
+
+/// The groups of a file, written again.
+fn written_again(alloc: Global, bytes: &[u8]) -> Result<Vec<u8>, AllocError> {
+    let mut text = Vec::new(alloc);
+    if bytes.len() > READABLE {
+        return Ok(text);
+    }
+    if let Ok(scan) = Scan::read(alloc, bytes) {
+        push_groups(&mut text, scan.groups())?;
+    }
+    Ok(text)
+}
+
+/// How many line ends bytes have.
+fn line_count(bytes: &[u8]) -> usize {
+    let mut count = 0usize;
+    for byte in bytes {
+        if *byte == b'\n' {
+            count = count.saturating_add(1);
+        }
+    }
+    count
+}
+
+/// A file, its length and its number of lines.
+const FILES: [(&[u8], usize, usize); 4] = [
+    (MINI, 2262, 52),
+    (FILE_A, 543, 30),
+    (FILE_B, 1048, 47),
+    (FILE_C, 1153, 49),
+];
+
+/// Whether a file has so many bytes and lines, and is written again as it stands.
+fn is_written_again(
+    alloc: Global,
+    file: &[u8],
+    length: usize,
+    lines: usize,
+) -> Result<bool, AllocError> {
+    let text = written_again(alloc, file)?;
+    Ok(file.len() == length && line_count(file) == lines && text.as_slice() == file)
+}
+
+/// Whether line 33 of file C, with its line end, is this.
+fn is_line_33(line: &[u8]) -> bool {
+    let before = &FILE_C[..626];
+    line_count(before) == 32 && before.ends_with(b"\n") && FILE_C[626..].starts_with(line)
+}
+
+#[test]
+fn files(rt: HostRuntime) -> Result<(), Fail> {
+    for (file, length, lines) in &FILES {
+        assert!(rt; is_written_again(rt.alloc(), file, *length, *lines)?);
+    }
+    assert!(rt; is_line_33(b"\"DATA\",\"BH2\",\"FINAL\"\r\n"));
+    assert!(rt; is_dictionary_scanned(rt.alloc()));
+    Ok(())
+}
+
+/// Appends the row of a line's fields.
+fn push_fields(text: &mut Vec<u8>, alloc: Global, line: &[u8]) -> Result<(), AllocError> {
+    if let Some(fields) = cells(alloc, line)? {
+        write_row(text, Descriptor::Data, fields.as_slice())?;
+    }
+    Ok(())
+}
+
+/// A field, a row and a line, written one behind the other.
+fn spelled_out(alloc: Global) -> Result<Vec<u8>, AllocError> {
+    let mut text = Vec::new(alloc);
+    quote(&mut text, b"a\"b")?;
+    push_fields(&mut text, alloc, b"\"a\" , \"b\"")?;
+    write_line(&mut text, Descriptor::Group, slice::from_ref(&bare("LOCA")))?;
+    Ok(text)
+}
+
+const SPELLED: &[u8] = b"\"a\"\"b\"\"DATA\",\"a\",\"b\"\r\n\"GROUP\",\"LOCA\"";
+
+#[test]
+fn spelled(rt: HostRuntime) -> Result<(), Fail> {
+    assert!(rt; spelled_out(rt.alloc())?.as_slice() == SPELLED);
+    Ok(())
+}
+
+const BEFORE: &[u8] = b"before";
+
+const NOTE: &[u8] = b"a note \"in quotes\" that is longer than what was there before";
+
+const BOREHOLE: [&str; 3] = ["BH1", "a first borehole on the north bank", "FINAL"];
+
+/// Whether a field is written, or nothing.
+fn is_field_or_nothing(alloc: Global) -> bool {
+    match Vec::from_slice(alloc, BEFORE) {
+        Ok(mut text) => quote(&mut text, NOTE).is_ok() || text.as_slice() == BEFORE,
+        Err(_error) => true,
+    }
+}
+
+/// Whether a row is written, or nothing.
+fn is_row_or_nothing(alloc: Global, cells: &[Cell]) -> bool {
+    match Vec::from_slice(alloc, BEFORE) {
+        Ok(mut text) => {
+            write_row(&mut text, Descriptor::Data, cells).is_ok() || text.as_slice() == BEFORE
+        }
+        Err(_error) => true,
+    }
+}
+
+/// Whether a group is written, or nothing.
+fn is_group_or_nothing(alloc: Global, cells: Vec<Cell<'static>>) -> bool {
+    match Vec::from_slice(alloc, BEFORE) {
+        Ok(mut text) => {
+            let (headings, units, types) = (cells.as_slice(), cells.as_slice(), cells.as_slice());
+            write_group(&mut text, b"LOCA", headings, units, types, &[]).is_ok()
+                || text.as_slice() == BEFORE
+        }
+        Err(_error) => true,
+    }
+}
+
+/// Run with each allocation refused in turn by `conformance/refused_tests`.
+#[test]
+fn unchanged_on_want_of_memory(rt: HostRuntime) {
+    assert!(rt; is_field_or_nothing(rt.alloc()));
+    if let Ok(cells) = cells_of(rt.alloc(), &BOREHOLE) {
+        assert!(rt; is_row_or_nothing(rt.alloc(), cells.as_slice()));
+        assert!(rt; is_group_or_nothing(rt.alloc(), cells));
+    }
+}
