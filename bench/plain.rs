@@ -1,10 +1,11 @@
 //! A server in plain Rust, without proofs: reads a request's head and body, and answers the bytes of a file, whatever was asked.
 //!
-//! usage: plain FILE CONNECTIONS
-//! It takes so many connections on 127.0.0.1, one after the other, a request each, and prints its port first.
+//! usage: plain FILE CONNECTIONS [KEPT]
+//! It takes so many connections on 127.0.0.1, one after the other, a request each, and prints its port first. Where KEPT is named, each body is appended
+//! to that file, and is on the disk before it is answered.
 
 use std::env;
-use std::fs;
+use std::fs::{self, File};
 use std::io::{self, Read, Write};
 use std::net::{Shutdown, TcpListener, TcpStream};
 
@@ -22,20 +23,29 @@ fn head_of(bytes: &[u8]) -> Option<(usize, usize)> {
     Some((end, length.unwrap_or(0)))
 }
 
-fn serve(mut peer: TcpStream, reply: &[u8]) -> io::Result<()> {
+/// The body of a request, which has no more than the head says.
+fn body_of(peer: &mut TcpStream) -> io::Result<Vec<u8>> {
     let mut seen = Vec::new();
     let mut piece = [0; LONGEST_HEAD];
     loop {
         if let Some((end, length)) = head_of(&seen) {
             if seen.len() >= end + length {
-                break;
+                return Ok(seen.split_off(end));
             }
         }
         let read = peer.read(&mut piece)?;
         if read == 0 {
-            break;
+            return Ok(seen);
         }
         seen.extend_from_slice(&piece[..read]);
+    }
+}
+
+fn serve(mut peer: TcpStream, reply: &[u8], kept: Option<&mut File>) -> io::Result<()> {
+    let body = body_of(&mut peer)?;
+    if let Some(file) = kept {
+        file.write_all(&body)?;
+        file.sync_data()?;
     }
     peer.write_all(reply)?;
     peer.shutdown(Shutdown::Write)
@@ -45,10 +55,11 @@ fn main() -> io::Result<()> {
     let words: Vec<String> = env::args().collect();
     let reply = fs::read(&words[1])?;
     let connections: usize = words[2].parse().expect("a count");
+    let mut kept = words.get(3).map(File::create).transpose()?;
     let listener = TcpListener::bind("127.0.0.1:0")?;
     println!("{}", listener.local_addr()?.port());
     for _ in 0..connections {
-        serve(listener.accept()?.0, &reply)?;
+        serve(listener.accept()?.0, &reply, kept.as_mut())?;
     }
     Ok(())
 }

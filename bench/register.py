@@ -74,12 +74,13 @@ def built_plainly(folder):
     return plain
 
 
-def answered_plainly(plain, folder, requests, reply):
-    """Seconds that the server in plain Rust takes for these requests, each of which it answers with the bytes of this reply."""
+def answered_plainly(plain, folder, requests, reply, kept=()):
+    """Seconds that the server in plain Rust takes for these requests, each of which it answers with the bytes of this reply. It keeps their bodies in a
+    file, if one is named."""
     path = os.path.join(folder, "reply")
     with open(path, "wb") as file:
         file.write(reply)
-    serving = subprocess.Popen([plain, path, str(len(requests))], stdout=subprocess.PIPE)
+    serving = subprocess.Popen([plain, path, str(len(requests)), *kept], stdout=subprocess.PIPE)
     taken, _ = ask(int(serving.stdout.readline()), requests)
     serving.communicate()
     return taken
@@ -164,13 +165,14 @@ def measure(program, size, limit):
     place = Place(program, folder, limit)
     tools = tempfile.mkdtemp(prefix="bench")
     plain = built_plainly(tools)
-    print(f"\n| {REQUESTS} requests, a connection each | a second | of a plain Rust server that answers each with the last reply |\n|---|---|---|")
+    print(f"\n| {REQUESTS} requests, a connection each | a second | of a plain Rust server that answers each with the last reply | that has each body on the disk first |\n|---|---|---|---|")
     asked = f"GET /v1/projects/N1/deposits{{}} {FIELDS}\r\n"
     for name, requests in (("deposits of 1 kB", [post(small(n)) for n in range(REQUESTS)]), ("extracts of 1 kB", [asked.format("/1").encode()] * REQUESTS),
                            (f"listings of {REQUESTS} deposits", [asked.format("").encode()] * (REQUESTS // 10)), ("the same deposit again", [post(small(1))] * REQUESTS)):
         taken, reply = place.serve(requests)
-        beside = f"{len(requests) / answered_plainly(plain, tools, requests, reply):.1f}" if plain else "-"
-        print(f"| {name} | {len(requests) / taken:.1f} | {beside} |", flush=True)
+        beside = [f"{len(requests) / answered_plainly(plain, tools, requests, reply, kept):.1f}" if plain and has else "-"
+                  for kept, has in (((), True), ((place.path("kept"),), name == "deposits of 1 kB"))]
+        print(f"| {name} | {len(requests) / taken:.1f} | {beside[0]} | {beside[1]} |", flush=True)
     shutil.rmtree(tools)
     grown(program, folder, limit, size)
     place = Place(program, folder, limit)

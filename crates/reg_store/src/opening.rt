@@ -19,6 +19,7 @@ ghost use Rattle.reg_store.specs.Opened.{FindsSchema, HoldsRegister, RefusesFile
 use crate::adopting::AdoptError;
 use crate::creating::make_register;
 use crate::examining::examine;
+use crate::fronts::Fronts;
 use crate::keep::KeepError;
 use crate::queries::is_memory;
 use crate::recent::Recent;
@@ -108,6 +109,7 @@ impl<S: Alter> SqlKeep<S> {
                 heads: Vec::new(alloc),
                 digests: Digests::new(alloc),
                 recent: Recent::none(),
+                fronts: Fronts::new(alloc),
                 has_failed: false,
                 alloc,
             }),
@@ -193,6 +195,7 @@ impl<S: Alter> SqlKeep<S> {
                 heads,
                 digests,
                 recent: Recent::none(),
+                fronts: Fronts::new(alloc),
                 has_failed: false,
                 alloc,
             }),

@@ -19,8 +19,8 @@ use ags_rows::copy;
 use sqlite::{Alter, Connection, params};
 use std::alloc::{AllocError, Global};
 
-/// The row of PROJ, copied.
-fn project_row(
+/// A row of PROJ of copies.
+pub(crate) fn project_row(
     alloc: Global,
     number: u32,
     headings: &[u8],

@@ -7,10 +7,12 @@ ghost use Rattle.reg_store.specs.KeepLaws.{few_at, fit_at, remains_at, settled_a
 ghost use Rattle.sqlite.specs.State.{HasCleanDisk};
 ghost use Rattle.sqlite.specs.Held.{state};
 ghost use Rattle.reg_store.specs.Digests.{AreBelow, AreDigested};
+ghost use Rattle.reg_store.specs.Fronts.{HoldsFronts};
 ghost use Rattle.reg_store.specs.Heads.{AreHeads};
 ghost use Rattle.reg_store.specs.Recent.{HoldsRecent};
 ghost use Rattle.reg_store.specs.Register.{deposits_in, LeavesBroken, LeavesList, KeepsRegister};
 
+use crate::fronts::Fronts;
 use crate::heads::{head_in, make_room, numbers_in};
 use crate::keep::{Keep, KeepError, Kept, KeptHead, KeptRow, ProjectRow};
 use crate::project::{find_project, find_targets};
@@ -39,6 +41,7 @@ pub struct SqlKeep<S: Alter> {
     pub(crate) heads: Vec<KeptHead>,
     pub(crate) digests: Digests,
     pub(crate) recent: Recent,
+    pub(crate) fronts: Fronts,
     pub(crate) has_failed: bool,
     pub(crate) alloc: Global,
     ghost idle: { connection.in_transaction ≡ false },
@@ -53,6 +56,8 @@ pub struct SqlKeep<S: Alter> {
         → AreDigested digests (deposits_in (state S.Store connection).committed.trees) },
     ghost held: { has_failed ≡ false → HasCleanDisk (state S.Store connection)
         → HoldsRecent (state S.Store connection).now recent },
+    ghost fronted: { has_failed ≡ false → HasCleanDisk (state S.Store connection)
+        → HoldsFronts fronts dictionary (deposits_in (state S.Store connection).committed.trees) },
 }
 
 impl<S: Alter> SqlKeep<S> {
@@ -69,6 +74,7 @@ impl<S: Alter> SqlKeep<S> {
             heads: _,
             digests: _,
             recent: _,
+            fronts: _,
             has_failed: _,
             alloc: _,
         } = self;
@@ -192,14 +198,23 @@ impl<S: Alter> Keep for SqlKeep<S> {
     }
 
     fn project_row(&mut self, n: u32) -> Result<Option<ProjectRow>, KeepError> {
+        let held = self.fronts.row_of(self.alloc, n)?;
+        if held.is_some() {
+            return Ok(held);
+        }
         let found = find_project(&mut self.connection, self.alloc, n);
         self.has_failed = is_store(&found);
+        self.fronts.note_row(self.alloc, n, &found);
         found
     }
 
     fn targets(&mut self, n: u32, row: u32) -> Result<Vec<u32>, KeepError> {
+        if self.fronts.is_alone(n, row) {
+            return Ok(Vec::new(self.alloc));
+        }
         let found = find_targets(&mut self.connection, self.alloc, n, row);
         self.has_failed = is_store(&found);
+        self.fronts.note_targets(n, row, &found);
         found
     }
 

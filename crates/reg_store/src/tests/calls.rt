@@ -110,8 +110,14 @@ const ROWS_OF_A: &str = "26 rows, 6 of kind 4, last LOCA 4 \"DATA\",\"BH1\"";
 
 const STEPS_OF_A: &str = "6 rows 5-0";
 
-/// Rows and steps that are asked twice, of another deposit, and behind one that was added.
-const AGAIN: [Case; 15] = [
+/// The row of PROJ of B, and of A with another first letter.
+const PROJECT_OF_B: &str = "0 \"HEADING\",\"PROJ_ID\",\"PROJ_NAME\" \"DATA\",\"P7\",\"North bank\"";
+
+const PROJECT_OF_OTHER_A: &str =
+    "0 \"HEADING\",\"PROJ_ID\",\"PROJ_NAME\" \"DATA\",\"P7\",\"Forth bank\"";
+
+/// What is asked twice, of another deposit, and behind one that was added.
+const AGAIN: [Case; 27] = [
     Case {
         call: Call::Take("Delta", "N1", File::B),
         want: "1",
@@ -172,6 +178,55 @@ const AGAIN: [Case; 15] = [
     Case {
         call: Call::Rows(3),
         want: ROWS_OF_A,
+    },
+    // The row of PROJ of one deposit, and that it has no step, stand in memory beside those of another.
+    Case {
+        call: Call::Take("Delta", "N2", File::OtherA),
+        want: "4",
+    },
+    Case {
+        call: Call::Project(1),
+        want: PROJECT_OF_B,
+    },
+    Case {
+        call: Call::Project(1),
+        want: PROJECT_OF_B,
+    },
+    Case {
+        call: Call::Project(4),
+        want: PROJECT_OF_OTHER_A,
+    },
+    Case {
+        call: Call::Targets(1, 0),
+        want: "",
+    },
+    Case {
+        call: Call::Targets(1, 0),
+        want: "",
+    },
+    Case {
+        call: Call::Targets(1, 9),
+        want: "7;",
+    },
+    Case {
+        call: Call::Targets(4, 5),
+        want: "0;",
+    },
+    Case {
+        call: Call::Take("Gamma", "N1", File::B),
+        want: "5",
+    },
+    Case {
+        call: Call::Project(1),
+        want: PROJECT_OF_B,
+    },
+    Case {
+        call: Call::Project(4),
+        want: PROJECT_OF_OTHER_A,
+    },
+    Case {
+        call: Call::Targets(1, 9),
+        want: "7;",
     },
 ];
 

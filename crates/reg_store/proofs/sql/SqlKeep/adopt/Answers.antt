@@ -6,6 +6,7 @@ use Rattle.reg_store.specs.Quiet.{clean_before}
 use Rattle.reg_store.specs.KeepLaws.{adopted_keeps, adopted_list}
 use Rattle.reg_store.proofs.SchemaLemmas.{register_is, not_register}
 use Rattle.reg_store.proofs.FormatLemmas.{autocommit_idle, meta_first, refused_unstarted}
+use Rattle.reg_store.proofs.FrontsLemmas.{no_fronts}
 use Rattle.reg_store.proofs.HeadsLemmas.{heads_found}
 use Rattle.reg_store.proofs.RepeatsLemmas.{digested_found}
 use Rattle.reg_store.proofs.sql.SqlKeep.adopt.Goals as goal
@@ -47,6 +48,7 @@ invariant_of-result g c =
       below = made.below;
       digested = λ _ clean. digested_found new c.in-Ok.dictionary c.in-Ok.count old.now c.examine.new.digests (kept clean) (made.quiet.same clean refl).0 (made.digests clean);
       held = λ _ _. c.none.ensures _;
+      fronted = λ _ _. no_fronts c.new.result _ _ c.new.ensures.rows c.new.ensures.alone;
     }
 
 pub returns-in-Ok-clause-adopted : goal.returns-in-Ok-clause-adopted

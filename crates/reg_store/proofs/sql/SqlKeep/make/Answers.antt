@@ -2,6 +2,7 @@ use Rattle.std.proofs.Common.{rules, arith, ◌≡◌, List, Some, slice_get, re
 use Rattle.sqlite.specs.State.{HasCleanDisk}
 use Rattle.sqlite.specs.Held.{state}
 use Rattle.reg_store.proofs.CreateLemmas.{new_list, new_keeps}
+use Rattle.reg_store.proofs.FrontsLemmas.{no_fronts}
 use Rattle.reg_store.proofs.HeadsLemmas.{no_heads}
 use Rattle.reg_store.specs.Deposit.{Deposit}
 use Rattle.reg_store.proofs.RepeatsLemmas.{none_below}
@@ -28,6 +29,9 @@ invariant_of-result-clause-digested g c works clean k d at =
 
 pub invariant_of-result-clause-held : goal.invariant_of-result-clause-held
 invariant_of-result-clause-held g c works clean = c.none.ensures (state g.S.Store c.make_register-made.new.conn).now
+
+pub invariant_of-result-clause-fronted : goal.invariant_of-result-clause-fronted
+invariant_of-result-clause-fronted g c works clean = no_fronts c.new-in-Ok-2.result _ _ c.new-in-Ok-2.ensures.rows c.new-in-Ok-2.ensures.alone
 
 pub returns-in-Ok-clause-empty : goal.returns-in-Ok-clause-empty
 returns-in-Ok-clause-empty g c clean =

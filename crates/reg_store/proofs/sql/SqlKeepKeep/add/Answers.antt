@@ -12,6 +12,7 @@ use Rattle.reg_store.specs.Register.{deposits_in}
 use Rattle.reg_store.specs.RegisterLaws.{IsReady}
 use Rattle.reg_store.specs.KeepLaws.{schema_at, settled_of, keeps_same, HoldsMore, adds_at, counted_at, crash_at, PutsOf, whole_put}
 use Rattle.reg_store.specs.Digests.{AddsNumber, digest_of, own_digest}
+use Rattle.reg_store.proofs.FrontsLemmas.{fronts_push, fronts_same}
 use Rattle.reg_store.proofs.HeadsLemmas.{heads_push, heads_same}
 use Rattle.reg_store.proofs.RepeatsLemmas.{below_more, below_same, digested_push, digested_same, noted_adds}
 use Rattle.reg_store.proofs.sql.SqlKeepKeep.add.Goals as goal
@@ -134,6 +135,34 @@ invariant_of-self-in-Ok-added-clause-held g c works clean = c.none.ensures (stat
 
 pub invariant_of-self-in-Err-clause-held : goal.invariant_of-self-in-Err-clause-held
 invariant_of-self-in-Err-clause-held g c works clean = c.none.ensures (state g.S.Store c.add_file-added.new.conn).now
+
+pub invariant_of-self-in-Ok-added-clause-fronted : goal.invariant_of-self-in-Ok-added-clause-fronted
+invariant_of-self-in-Ok-added-clause-fronted g c works clean =
+    let keep = c.args.self.now in
+    let old = state g.S.Store keep.connection in
+    let new = state g.S.Store c.add_file-added.new.conn in
+    let first = clean_before old new c.add_file-added.ensures.crash clean in
+    let file = c.args.checked.now in
+    let d = deposit_from c.args.firm.now c.args.project.now c.args.embargo file.bytes in
+    let low : keep.count < 999999 = omega arith in
+    let fit : IsFileOf keep.dictionary d file = record { given = c.requires.dictionary; bytes = refl; clean = c.bytes-body.ensures.clean; short = c.requires.short } in
+    let named : IsNamed d = record { firm = c.text.ensures.is_name; project = c.text-2.ensures.is_name; embargo = c.stored_day.ensures.is_day } in
+    let ready : IsReady keep.dictionary (deposits_in old.committed.trees) d file = record { its = fit; named = named; fresh = c.requires.fresh first } in
+    let rows_are : c.as_slice.result.now ≡ kept_rows file.groups = search rules in
+    let steps_are : c.steps.result.now ≡ file.graph.steps = search rules in
+    let bare = rw (c.text.ensures.text, c.text-2.ensures.text, c.bytes-body.ensures.bytes, c.stored_day.ensures.number) at (c.in-Ok-added.ensures.put clean) in
+    let put = subst₂ (λ rows steps. AddsFile (keep.count + 1) d rows steps old.now new.now) rows_are steps_are bare in
+    let more : HoldsMore old new keep.dictionary keep.count d = adds_at {old = old} {new = new} d file (keep.kept c.requires.working first) low put (c.in-Ok-added.ensures.sound clean) (c.in-Ok-added.ensures.settled clean) (c.in-Ok-added.ensures.open clean refl) ready in
+    fronts_push keep.fronts keep.dictionary (deposits_in old.committed.trees) (deposits_in new.committed.trees) d (keep.fronted c.requires.working first) more.list
+
+pub invariant_of-self-in-Err-clause-fronted : goal.invariant_of-self-in-Err-clause-fronted
+invariant_of-self-in-Err-clause-fronted g c works clean =
+    let keep = c.args.self.now in
+    let old = state g.S.Store keep.connection in
+    let new = state g.S.Store c.add_file-added.new.conn in
+    let first = clean_before old new c.add_file-added.ensures.crash clean in
+    let bare : is_store c.in-Err.error ≡ false = sym c.is_store_error-self.ensures ∙ works in
+    fronts_same keep.fronts keep.dictionary old.committed new.committed (keep.fronted c.requires.working first) (c.in-Err.ensures.undone clean bare).1
 
 pub returns-in-Ok-added : goal.returns-in-Ok-added
 returns-in-Ok-added g c =

@@ -3,6 +3,7 @@ use Rattle.sqlite.specs.Held.{state}
 use Rattle.reg_store.specs.Digests.{digest_of, numbers_under}
 use Rattle.reg_store.specs.Quiet.{clean_before}
 use Rattle.reg_store.specs.KeepLaws.{idle_at, keeps_quiet}
+use Rattle.reg_store.proofs.FrontsLemmas.{fronts_quiet}
 use Rattle.reg_store.proofs.HeadsLemmas.{heads_quiet}
 use Rattle.reg_store.proofs.RepeatsLemmas.{digested_quiet, repeat_told}
 use Rattle.reg_store.proofs.ReadsLemmas.{reads_still}
@@ -30,6 +31,10 @@ invariant_of-self-clause-digested g c works clean =
 pub invariant_of-self-clause-held : goal.invariant_of-self-clause-held
 invariant_of-self-clause-held g c works clean =
     recent_quiet (state g.S.Store c.args.self.now.connection) (state g.S.Store c.find_equal-found.new.conn) c.args.self.now.recent (c.args.self.now.held c.requires.working) c.find_equal-found.ensures.quiet clean (sym c.is_store-self.ensures ∙ works)
+
+pub invariant_of-self-clause-fronted : goal.invariant_of-self-clause-fronted
+invariant_of-self-clause-fronted g c works clean =
+    fronts_quiet (state g.S.Store c.args.self.now.connection) (state g.S.Store c.find_equal-found.new.conn) c.args.self.now.fronts c.args.self.now.dictionary (c.args.self.now.fronted c.requires.working) c.find_equal-found.ensures.quiet clean (sym c.is_store-self.ensures ∙ works)
 
 pub returns-clause-leaves : goal.returns-clause-leaves
 returns-clause-leaves g c = reads_still (λ k. state g.S.Store k.connection) (λ k. k.dictionary) 999999 (λ k. k.has_failed) _ _ _ c.find_equal-found.ensures.quiet refl c.is_store-self.ensures

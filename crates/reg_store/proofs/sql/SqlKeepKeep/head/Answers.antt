@@ -18,6 +18,9 @@ invariant_of-self-clause-digested g c works clean = c.args.self.now.digested c.r
 pub invariant_of-self-clause-held : goal.invariant_of-self-clause-held
 invariant_of-self-clause-held g c works clean = c.args.self.now.held c.requires.working clean
 
+pub invariant_of-self-clause-fronted : goal.invariant_of-self-clause-fronted
+invariant_of-self-clause-fronted g c works clean = c.args.self.now.fronted c.requires.working clean
+
 pub returns-clause-leaves : goal.returns-clause-leaves
 returns-clause-leaves g c =
     let still = quiet_none (state g.S.Store c.args.self.now.connection) _ c.args.self.now.idle in

@@ -2,6 +2,7 @@ use Rattle.std.proofs.Common.{refl, sym, ◌∙◌}
 use Rattle.sqlite.specs.Held.{state}
 use Rattle.reg_store.specs.Quiet.{clean_before}
 use Rattle.reg_store.specs.KeepLaws.{idle_at, keeps_quiet}
+use Rattle.reg_store.proofs.FrontsLemmas.{fronts_same, targets_noted}
 use Rattle.reg_store.proofs.HeadsLemmas.{heads_quiet}
 use Rattle.reg_store.proofs.ProjectLemmas.{targets_at}
 use Rattle.reg_store.proofs.RepeatsLemmas.{digested_quiet}
@@ -30,6 +31,17 @@ invariant_of-self-clause-digested g c works clean =
 pub invariant_of-self-clause-held : goal.invariant_of-self-clause-held
 invariant_of-self-clause-held g c works clean =
     recent_quiet (state g.S.Store c.args.self.now.connection) (state g.S.Store c.find_targets-found.new.conn) c.args.self.now.recent (c.args.self.now.held c.requires.working) c.find_targets-found.ensures.quiet clean (sym c.is_store-self.ensures ∙ works)
+
+pub invariant_of-self-clause-fronted : goal.invariant_of-self-clause-fronted
+invariant_of-self-clause-fronted g c works clean =
+    let keep = c.args.self.now in
+    let old = state g.S.Store keep.connection in
+    let new = state g.S.Store c.find_targets-found.new.conn in
+    let first = clean_before old new c.find_targets-found.ensures.quiet.survives clean in
+    let well = sym c.is_store-self.ensures ∙ works in
+    let its = c.requires.number first in
+    let read = targets_at (λ x. x.items) {s = old} {dictionary = keep.dictionary} c.args.n c.args.row c.find_targets-found.result its.0 (keep.kept c.requires.working first) (c.find_targets-found.ensures.found clean) in
+    fronts_same c.note_targets.new.self keep.dictionary old.committed new.committed (targets_noted c.args.n c.args.row c.find_targets-found.result (keep.fronted c.requires.working first) c.note_targets.ensures its read) (c.find_targets-found.ensures.quiet.same clean well).1
 
 pub returns-clause-leaves : goal.returns-clause-leaves
 returns-clause-leaves g c = reads_still (λ k. state g.S.Store k.connection) (λ k. k.dictionary) 999999 (λ k. k.has_failed) _ _ _ c.find_targets-found.ensures.quiet refl c.is_store-self.ensures
