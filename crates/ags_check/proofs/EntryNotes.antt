@@ -9,8 +9,9 @@ use Rattle.ags_rows.specs.Collecting.{At, Adds, Notes, AmongBefore, OneOf}
 use Rattle.ags_rows.specs.Contents.{Contents, group_contents, field_at, place_in}
 use Rattle.ags_rows.specs.declared.rows.Group.{Group}
 use Rattle.ags_rows.proofs.Lemmas.{among_more, among_all, one_more, two_rules}
+use Rattle.ags_dict.specs.Entries.{required_of}
 use Rattle.ags_check.specs.declared.rows.columns.Column.{Column}
-use Rattle.ags_check.specs.Columns.{IsColumn, AreColumns, entry_under, column_text}
+use Rattle.ags_check.specs.Columns.{IsColumn, AreColumns, Outlined, entry_under, column_text}
 use Rattle.ags_check.specs.RowRules.{DataEntry, entry_in, unit_over, IsUnfit, IsUnlistedUnit, IsUnlistedType, IsUnlistedUnitEntry, IsUnlistedAbbreviationEntry, IsUnlistedTypeEntry}
 use Rattle.ags_check.specs.RowPhase.{InHeadings, unit_and_type_rules, data_entry_rules}
 
@@ -34,6 +35,19 @@ heading_of column = column.heading.now
 pub heading_at : (headings : List (List ℕ)) (columns : List Column) (i : ℕ) (d : Column) → map heading_of columns ≡ headings → i < length columns → At headings i (heading_of (get_or columns i d))
 heading_at headings columns i d heads lt =
     subst (λ (l : List (List ℕ)). At l i (heading_of (get_or columns i d))) heads (slice_get-map heading_of columns i ∙ ap (option_map heading_of) (slice_get-get_or columns i d lt))
+
+-- the columns that are read from an outline are those of its group's headings
+pub own_columns : (inside outline : Outlined) (columns kept : List Column) → inside ≡ outline → columns ≡ kept → AreColumns (group_contents inside.group) inside.group.headings kept
+    → AreColumns (group_contents outline.group) outline.group.headings columns
+own_columns inside outline columns kept same is are =
+    subst (λ (v : Outlined). AreColumns (group_contents v.group) v.group.headings columns) same (subst (AreColumns (group_contents inside.group) inside.group.headings) (sym is) are)
+
+-- the required columns that are read from an outline are those of the REQUIRED headings
+pub required_columns : (inside outline : Outlined) (columns kept : List Column) → inside ≡ outline → columns ≡ kept → AreColumns (group_contents inside.group) (required_of inside.entries inside.group.name) kept
+    → AreColumns (group_contents outline.group) (required_of outline.entries outline.group.name) columns
+required_columns inside outline columns kept same is are =
+    subst (λ (v : Outlined). AreColumns (group_contents v.group) (required_of v.entries v.group.name) columns) same
+    (subst (AreColumns (group_contents inside.group) (required_of inside.entries inside.group.name)) (sym is) are)
 
 -- one column more
 pub columns_more : (Rules : List ℕ → List (Finding → Type 0)) (headings : List (List ℕ)) (columns : List Column) (i : ℕ) (d : Column) (old mid new : List Finding)

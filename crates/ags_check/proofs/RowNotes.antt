@@ -1,5 +1,5 @@
 -- What is noted of a DATA row as a whole.
-use Rattle.std.proofs.Common.{◌≡◌, ◌≢◌, ℕ, Bool, true, not, ltb, Option, Some, None, List, [], ◌∷◌, refl, sym, subst, ◌∙◌, arith}
+use Rattle.std.proofs.Common.{◌≡◌, ◌≢◌, ℕ, Bool, true, not, ltb, Option, Some, None, List, [], ◌∷◌, refl, sym, ap, subst, ◌∙◌, arith}
 use Rattle.std.specs.Prelude.{◌↔◌, IsTrue, is_some, codes}
 use Rattle.std.proofs.lemmas.Bool.{true≢false, lt-ltb, ltb-true}
 use Rattle.std.proofs.lemmas.List.{get_or_default}
@@ -21,6 +21,10 @@ use Rattle.ags_check.proofs.Listings.{not_true, true_not}
 -- one row has one number
 same_row : (rows : List DataRow) (n : ℕ) (r s : DataRow) → IsDataRow rows n r → IsDataRow rows n s → r ≡ s
 same_row rows n r s a b = sym a.1 ∙ get_or_default rows n r s a.0 ∙ b.1
+
+-- rows at one number are of one group
+pub same_group : (rows : List DataRow) (n : ℕ) (r s : DataRow) → IsDataRow rows n r → IsDataRow rows n s → r.group ≡ s.group
+same_group rows n r s a b = ap (λ (row : DataRow). row.group) (same_row rows n r s a b)
 
 -- the first row of the key stands before a row that repeats it
 pub repeats_means : (entries : Entries) (file : List Contents) (number first : ℕ) (row : DataRow) → keys_of entries row.group ≢ [] → IsDataRow (data_rows file) number row

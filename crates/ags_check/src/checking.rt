@@ -16,7 +16,7 @@ use crate::named_groups::NamedGroups;
 use crate::rows::entry_findings;
 use ags_dict::Dictionary;
 use ags_links::{Graph, Index};
-use ags_rows::{Finding, READABLE, RowsError, Scan, Sequence};
+use ags_rows::{FindingList, READABLE, RowsError, Scan};
 use std::alloc::{AllocError, Global};
 use std::fmt::{self, Debug, Formatter, Write};
 use thiserror::Error;
@@ -26,7 +26,7 @@ use thiserror::Error;
 pub enum CheckError {
     /// All findings of the first phase that has any, in order.
     #[error("the file has findings")]
-    Findings(Sequence<Finding>),
+    Findings(FindingList),
     /// Memory is wanting.
     #[error("out of memory")]
     NoMemory,

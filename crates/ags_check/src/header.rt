@@ -18,7 +18,7 @@ use crate::header::headings::{note_absent, note_misnamed, note_misplaced, note_u
 use crate::header::only_rows::{note_further_rows, note_long_sign};
 use crate::named_groups::NamedGroups;
 use ags_dict::Dictionary;
-use ags_rows::{Code, Finding, Group, NotedFindings, Places, Sequence};
+use ags_rows::{Code, FindingList, Group, NotedFindings, Places};
 use std::alloc::{AllocError, Global};
 
 /// What the HEADING row of a group breaks, where the dictionary knows the group.
@@ -136,12 +136,12 @@ pub(crate) fn header_findings(
     given: &Dictionary,
     extended: &Dictionary,
     file: &NamedGroups,
-) -> Result<Sequence<Finding>, AllocError>
+) -> Result<FindingList, AllocError>
     ensures { IfOk result (AreExactly (OneOf (header_rules given.now extended.now file.now))) }
 {
     let mut findings = NotedFindings::new(alloc);
     let code = unknown_code(file.groups());
     note_all_header_rows(alloc, given, extended, file, code, &mut findings)?;
     note_absent_groups(file, &mut findings)?;
-    Ok(findings.in_order())
+    findings.in_order()
 }

@@ -4,13 +4,12 @@ ghost use Rattle.std.specs.Prelude.{◌≡◌, ◌<◌, ◌+◌, ◌^◌, IfOk, 
 ghost use Rattle.ags_rows.specs.Findings.{AreExactly};
 ghost use Rattle.ags_rows.specs.declared.code.Code.TheVariants.{Rule20};
 ghost use Rattle.ags_rows.specs.Collecting.{Adds, Notes, OneOf, Among};
-ghost use Rattle.ags_rows.specs.Contents.{group_contents, contents_of, fields_of};
+ghost use Rattle.ags_rows.specs.Contents.{contents_of};
 ghost use Rattle.ags_links.specs.DataRows.{IsDataRow};
 ghost use Rattle.ags_links.specs.Indexing.{rows_in};
 ghost use Rattle.ags_check.specs.Columns.{RowsStand};
-ghost use Rattle.ags_check.specs.RowRules.{entry_in, IsUnlistedFileSet};
-ghost use Rattle.ags_dict.specs.Entries.{required_of};
-ghost use Rattle.ags_check.specs.RowPhase.{headed_row, InHeadings, unit_and_type_rules, data_entry_rules, link_rules, required_rules, data_row_rules, entry_rules_of, entry_rules};
+ghost use Rattle.ags_check.specs.RowRules.{IsUnlistedFileSet};
+ghost use Rattle.ags_check.specs.RowPhase.{headed_row, data_row_rules, entry_rules_of, entry_rules};
 
 pub(crate) mod abbreviations;
 pub(crate) mod code_lists;
@@ -25,68 +24,8 @@ use crate::rows::links::note_links;
 use crate::rows::outline::Outline;
 use ags_dict::Dictionary;
 use ags_links::Index;
-use ags_rows::{Code, Finding, Group, NotedFindings, Row, Sequence};
+use ags_rows::{Code, FindingList, Group, NotedFindings, Row};
 use std::alloc::{AllocError, Global};
-
-/// Rule 11c: what the record links of a row break.
-fn note_row_links(
-    index: &Index,
-    outline: &Outline,
-    row: &Row,
-    number: u32,
-    findings: &mut NotedFindings,
-) -> Result<(), AllocError>
-    requires { IsDataRow (rows_in index.now) number (headed_row outline.now.group row.now) }
-    ensures { OnOk result (Adds (InHeadings outline.now.group.headings
-        (link_rules index.now.entries index.now.contents row.now.line (headed_row outline.now.group row.now)))
-        findings.old findings.new) }
-{
-    if !outline.is_data {
-        return Ok(());
-    }
-    let columns = outline.columns.as_slice();
-    note_links(
-        row.line,
-        columns,
-        row.cells.as_slice(),
-        index,
-        number,
-        findings,
-    )?;
-    Ok(())
-}
-
-/// What the entries of a row break.
-fn note_row_entries<'a>(
-    listed: &CodeLists<'a>,
-    outline: &Outline<'a>,
-    row: &'a Row,
-    findings: &mut NotedFindings,
-) -> Result<(), AllocError>
-    ensures { OnOk result (Adds (InHeadings outline.now.group.headings
-        (λ heading. data_entry_rules listed.now row.now.line
-        (entry_in (group_contents outline.now.group) (fields_of row.now) heading)))
-        findings.old findings.new) }
-{
-    let columns = outline.columns.as_slice();
-    note_entries(row.line, columns, row.cells.as_slice(), listed, findings)?;
-    Ok(())
-}
-
-/// Rule 10b: which REQUIRED entries of a row are null.
-fn note_row_lacking(
-    outline: &Outline,
-    row: &Row,
-    findings: &mut NotedFindings,
-) -> Result<(), AllocError>
-    ensures { OnOk result (Adds (InHeadings (required_of outline.now.entries outline.now.group.name)
-        (required_rules row.now.line (headed_row outline.now.group row.now)))
-        findings.old findings.new) }
-{
-    let required = outline.required.as_slice();
-    note_lacking(row.line, required, row.cells.as_slice(), findings)?;
-    Ok(())
-}
 
 /// Rule 20: notes the file set of a row that no row of FILE has.
 fn note_unlisted_file_set(
@@ -125,9 +64,9 @@ fn note_data_row<'a>(
         findings.old findings.new) }
 {
     let name = outline.name();
-    note_row_entries(listed, outline, row, findings)?;
-    note_row_links(index, outline, row, number, findings)?;
-    note_row_lacking(outline, row, findings)?;
+    note_entries(listed, outline, row, findings)?;
+    note_links(index, outline, row, number, findings)?;
+    note_lacking(outline, row, findings)?;
     if outline.repeats_key(index, number)? {
         findings.note(row.line, Code::Rule10a, name)?;
     }
@@ -179,23 +118,8 @@ fn note_group_entries<'a>(
         findings.old findings.new) }
 {
     let outline = Outline::of(alloc, dictionary, group)?;
-    note_units_and_types(&outline, listed, findings)?;
+    note_columns(listed, &outline, findings)?;
     note_data_rows(index, listed, &outline, first, findings)?;
-    Ok(())
-}
-
-/// What the UNIT and TYPE row of a group break.
-fn note_units_and_types(
-    outline: &Outline,
-    listed: &CodeLists,
-    findings: &mut NotedFindings,
-) -> Result<(), AllocError>
-    ensures { OnOk result (Adds
-        (InHeadings outline.now.group.headings (unit_and_type_rules listed.now outline.now.group))
-        findings.old findings.new) }
-{
-    let columns = outline.columns.as_slice();
-    note_columns(outline.group, columns, listed, findings)?;
     Ok(())
 }
 
@@ -228,7 +152,7 @@ pub(crate) fn entry_findings<'a>(
     dictionary: &'a Dictionary,
     index: &Index,
     groups: &'a [Group<'a>],
-) -> Result<Sequence<Finding>, AllocError>
+) -> Result<FindingList, AllocError>
     requires contents { index.now.contents ≡ contents_of groups.now }
     requires entries { dictionary.now ≡ index.now.entries }
     ensures { IfOk result (AreExactly (OneOf (entry_rules dictionary.now groups.now))) }
@@ -237,5 +161,5 @@ pub(crate) fn entry_findings<'a>(
     // the index counts its rows with a number below 2^32, so each has its own
     index.row_count();
     note_all_entries(alloc, dictionary, index, groups, &mut findings)?;
-    Ok(findings.in_order())
+    findings.in_order()
 }

@@ -6,7 +6,7 @@ mod rows;
 use crate::{CheckError, check};
 use ags_dict::Dictionary;
 use ags_rows::vectors::{FILE_A, FILE_B, FILE_C, MINI};
-use ags_rows::{Finding, READABLE, Sequence};
+use ags_rows::{FindingList, READABLE};
 use std::alloc::{AllocError, Global};
 use std::fmt::Write;
 
@@ -65,12 +65,13 @@ fn shown(subject: &str) -> &str {
 }
 
 /// The findings as they are printed.
-fn listed(alloc: Global, found: &[Finding]) -> Result<String, AllocError> {
+fn listed(alloc: Global, findings: &FindingList) -> Result<String, AllocError> {
     let mut text = String::new(alloc);
-    for finding in found {
+    for place in 0..findings.len() {
+        let finding = findings.at(place);
         let line = finding.line;
         let code = String::from_utf8_lossy(alloc, finding.code.text())?;
-        let subject = String::from_utf8_lossy(alloc, finding.subject.as_slice())?;
+        let subject = String::from_utf8_lossy(alloc, finding.subject)?;
         let subject = shown(subject.as_str());
         write!(text, "{code} {line} {subject};")?;
     }
@@ -80,7 +81,7 @@ fn listed(alloc: Global, found: &[Finding]) -> Result<String, AllocError> {
 /// Why a file is not taken, as it is printed.
 fn printed(alloc: Global, refusal: CheckError) -> Result<String, AllocError> {
     match refusal {
-        CheckError::Findings(found) => listed(alloc, found.as_slice()),
+        CheckError::Findings(found) => listed(alloc, &found),
         CheckError::NoMemory => String::from_str(alloc, "out of memory"),
     }
 }
@@ -271,7 +272,7 @@ fn print(text: &mut String, refusal: &CheckError) -> Result<(), AllocError> {
 
 #[test]
 fn refusals_as_printed(rt: HostRuntime) {
-    let findings = CheckError::Findings(Sequence::from_vec(Vec::new(rt.alloc())));
+    let findings = CheckError::Findings(FindingList::none(rt.alloc()));
     let mut text = String::new(rt.alloc());
     assert!(rt; print(&mut text, &findings).is_ok());
     assert!(rt; print(&mut text, &CheckError::NoMemory).is_ok());

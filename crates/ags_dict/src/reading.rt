@@ -10,7 +10,7 @@ ghost use Rattle.ags_dict.specs.Reading.{ReadsDictionary};
 
 use crate::dictionary::Dictionary;
 use crate::extending::{is_dict, take_contents};
-use ags_rows::{Cell, Finding, Group, READABLE, RowsError, Scan, Sequence};
+use ags_rows::{Cell, FindingList, Group, READABLE, RowsError, Scan};
 use std::alloc::{AllocError, Global};
 use std::fmt;
 use thiserror::Error;
@@ -20,7 +20,7 @@ use thiserror::Error;
 pub enum DictError {
     /// The file has findings, other than of Rules 1 and 2a: all of the first phase that has any, at least one.
     #[error("not a dictionary")]
-    NotDictionary(Sequence<Finding>),
+    NotDictionary(FindingList),
     /// The file has no group DICT.
     #[error("no group DICT")]
     NoDict,

@@ -1,6 +1,6 @@
 use crate::{DictError, Dictionary};
 use ags_rows::vectors::{FILE_A, MINI};
-use ags_rows::{Finding, READABLE, Scan, Sequence};
+use ags_rows::{FindingList, READABLE, Scan, Sequence};
 use std::alloc::{AllocError, Global};
 use std::fmt::Write;
 use std::test::Fail;
@@ -315,12 +315,13 @@ fn questions(rt: HostRuntime) -> Result<(), Fail> {
 }
 
 /// Findings as they are printed.
-fn printed(alloc: Global, findings: &[Finding]) -> Result<String, AllocError> {
+fn printed(alloc: Global, findings: &FindingList) -> Result<String, AllocError> {
     let mut text = String::new(alloc);
-    for finding in findings {
+    for place in 0..findings.len() {
+        let finding = findings.at(place);
         let line = finding.line;
         let code = String::from_utf8_lossy(alloc, finding.code.text())?;
-        let subject = String::from_utf8_lossy(alloc, finding.subject.as_slice())?;
+        let subject = String::from_utf8_lossy(alloc, finding.subject)?;
         write!(text, "{code} {line} {subject};")?;
     }
     Ok(text)
@@ -330,7 +331,7 @@ fn printed(alloc: Global, findings: &[Finding]) -> Result<String, AllocError> {
 fn refusal(alloc: Global, source: Source) -> Result<String, AllocError> {
     match dictionary(alloc, source) {
         Ok(_dictionary) => Ok(String::new(alloc)),
-        Err(DictError::NotDictionary(found)) => printed(alloc, found.as_slice()),
+        Err(DictError::NotDictionary(found)) => printed(alloc, &found),
         Err(DictError::NoDict) => String::from_str(alloc, "no DICT"),
         Err(DictError::MissingHeading) => String::from_str(alloc, "missing heading"),
         Err(DictError::NoMemory) => String::from_str(alloc, "no memory"),
@@ -380,7 +381,7 @@ fn push_words(text: &mut String, refusal: &DictError) -> Result<(), AllocError> 
 /// The words of each refusal.
 fn words(alloc: Global) -> Result<String, AllocError> {
     let mut text = String::new(alloc);
-    let findings = Sequence::from_vec(Vec::new(alloc));
+    let findings = FindingList::none(alloc);
     push_words(&mut text, &DictError::NotDictionary(findings))?;
     push_words(&mut text, &DictError::NoDict)?;
     push_words(&mut text, &DictError::MissingHeading)?;

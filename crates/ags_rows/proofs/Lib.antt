@@ -7,6 +7,7 @@ pub mod Breaking
 pub mod Repeats
 pub mod Cuts
 pub mod Files
+pub mod FindingLists
 pub mod FewRows
 pub mod Once
 pub mod FirstPhase

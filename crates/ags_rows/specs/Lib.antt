@@ -14,6 +14,7 @@ pub mod Parts
 pub mod Places
 pub mod Stands
 pub mod Findings
+pub mod FindingLists
 pub mod Parsing
 pub mod RowTexts
 pub mod Writing

@@ -9,10 +9,9 @@ ghost use Rattle.ags_rows.specs.Findings.{AreExactly};
 ghost use Rattle.ags_rows.specs.Parsing.{IsMet, MeetsAlso, met_rules};
 
 use crate::code::Code;
-use crate::finding::{Finding, NotedFindings};
+use crate::finding::{FindingList, NotedFindings};
 use crate::names::{is_group_name, is_heading_name};
 use crate::rows::Group;
-use crate::sequence::Sequence;
 use std::alloc::{AllocError, Global};
 use std::collections::BTreeMap;
 
@@ -156,13 +155,10 @@ fn note_groups(
 }
 
 /// The findings of the third phase: each group.
-pub(crate) fn group_findings(
-    alloc: Global,
-    groups: &[Group],
-) -> Result<Sequence<Finding>, AllocError>
+pub(crate) fn group_findings(alloc: Global, groups: &[Group]) -> Result<FindingList, AllocError>
     ensures { IfOk result (λ found. AreExactly (StandsInGroups groups.now) found) }
 {
     let mut findings = NotedFindings::new(alloc);
     note_groups(alloc, groups, &mut findings)?;
-    Ok(findings.in_order())
+    findings.in_order()
 }

@@ -23,7 +23,7 @@ mod writing;
 pub use cell::Cell;
 pub use code::Code;
 pub use contents::{cell_at, copy, place_in, under};
-pub use finding::{Finding, NotedFindings};
+pub use finding::{Finding, FindingList, FindingRef, NotedFindings};
 pub use names::{is_definition, is_group_name, is_heading_name, is_within};
 pub use places::Places;
 pub use rows::{Descriptor, Group, Row};

@@ -138,9 +138,9 @@ fault_fails err err_after false out_failed before after fault ended ei eo eb (in
     none_failed false out_failed after ended refl eo (kept ∙ eb) (subst (λ n. n ≤ 5) (sym same) (other_status fault (sym ei)))
 
 -- a report on what was found in all bytes of the stream
-pub reports : (entries : Entries) (known : Option (List ℕ)) (bytes : Vec ℕ Global) (read : List ℕ) (found given : List Finding) (report : Report)
-    → IfSome known (λ all. ReadsFile all (Ok bytes)) → length bytes.items ≤ longest_file → read ≡ bytes.items → Findings entries read found → given ≡ found
-    → report ≡ report_of given → IfSome known (λ all. ReportsOn entries all (Ok report))
-reports entries None bytes read found given report is few lent right same made = tt
-reports entries (Some all) bytes read found given report is few lent right same made =
-    (subst (λ b. length b ≤ longest_file) is few, (found, subst (λ b. Findings entries b found) (lent ∙ is) right, made ∙ ap report_of same))
+pub reports : (entries : Entries) (known : Option (List ℕ)) (bytes : Vec ℕ Global) (read : List ℕ) (found : List Finding) (report : Report)
+    → IfSome known (λ all. ReadsFile all (Ok bytes)) → length bytes.items ≤ longest_file → read ≡ bytes.items → Findings entries read found
+    → report ≡ report_of found → IfSome known (λ all. ReportsOn entries all (Ok report))
+reports entries None bytes read found report is few lent right made = tt
+reports entries (Some all) bytes read found report is few lent right made =
+    (subst (λ b. length b ≤ longest_file) is few, (found, subst (λ b. Findings entries b found) (lent ∙ is) right, made))

@@ -4,7 +4,7 @@ ghost use Rattle.std.specs.Prelude.{◌≡◌, ◌++◌, IfOk, OnOk, codes, deci
 ghost use Rattle.groundreg.specs.Printing.{IsListedLine, IsReceipt, ListsAs, ReportsAnswer};
 
 use crate::report::{Report, findings_report};
-use ags_rows::Sequence;
+use ags_rows::{FindingList, Sequence};
 use reg_desk::{Answer, Listed};
 use reg_policy::Day;
 use std::alloc::{AllocError, Global};
@@ -97,8 +97,8 @@ pub(crate) fn answer_report(alloc: Global, answer: Answer) -> Result<Report, All
 {
     match answer {
         Answer::Receipt { number, embargo } => receipt_report(alloc, number, embargo),
-        Answer::Clean => findings_report(alloc, &[]),
-        Answer::Findings(found) => findings_report(alloc, found.as_slice()),
+        Answer::Clean => findings_report(alloc, &FindingList::none(alloc)),
+        Answer::Findings(found) => findings_report(alloc, &found),
         Answer::Listing(listing) => listing_report(alloc, listing.as_slice()),
         Answer::Text(text) => Ok(Report { text, status: 0 }),
         Answer::Denied(number) => denied_report(alloc, number),

@@ -15,9 +15,9 @@ use crate::watched::Watched;
 use ags_check::{CheckError, check};
 use ags_dict::laws::{mini_is_dictionary, one_dictionary};
 use ags_dict::{DictError, Dictionary};
+use ags_rows::FindingList;
 use ags_rows::laws::one_list_of_findings;
 use ags_rows::vectors::MINI;
-use ags_rows::{Finding, Sequence};
 use std::alloc::{AllocError, Global};
 use std::io::{Read, Write};
 
@@ -42,12 +42,12 @@ fn findings_of(
     alloc: Global,
     dictionary: &Dictionary,
     bytes: &[u8],
-) -> Result<Sequence<Finding>, AllocError>
+) -> Result<FindingList, AllocError>
     requires { length bytes.now ≤ longest_file }
     ensures { IfOk result (λ found. Findings dictionary.now bytes.now found) }
 {
     match check(alloc, dictionary, bytes) {
-        Ok(_) => Ok(Sequence::from_vec(Vec::new(alloc))),
+        Ok(_) => Ok(FindingList::none(alloc)),
         Err(CheckError::Findings(found)) => Ok(found),
         Err(CheckError::NoMemory) => Err(AllocError),
     }
@@ -66,7 +66,7 @@ fn report_on<R: Read>(
 {
     let bytes = read_file(alloc, input)?;
     let found = findings_of(alloc, dictionary, bytes.as_slice())?;
-    Ok(findings_report(alloc, found.as_slice())?)
+    Ok(findings_report(alloc, &found)?)
 }
 
 /// Checks the file that the stream carries: prints its findings under the dictionary, or `clean`, and gives the status.

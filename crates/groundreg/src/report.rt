@@ -1,12 +1,13 @@
 //! What is printed for a file.
 
-ghost use Rattle.std.specs.Prelude.{◌≡◌, OnOk, IfOk, ◌++◌};
+ghost use Rattle.std.specs.Prelude.{◌≡◌, OnOk, IfOk, ◌++◌, flat_map};
+ghost use Rattle.ags_rows.specs.FindingLists.{finding_of};
 ghost use Rattle.groundreg.specs.Faults.{Tells};
 ghost use Rattle.groundreg.specs.Report.{report_of, report_line, shown_byte, shown_subject};
 
 use crate::fault::tell;
 use crate::watched::Watched;
-use ags_rows::{Bytes, Finding, Sequence};
+use ags_rows::{Bytes, FindingList, FindingRef, Sequence};
 use std::alloc::{AllocError, Global};
 use std::io::Write;
 
@@ -53,33 +54,39 @@ fn push_subject(text: &mut Vec<u8>, subject: &[u8]) -> Result<(), AllocError>
 }
 
 /// Appends the line that reports a finding.
-fn push_line(text: &mut Vec<u8>, finding: &Finding) -> Result<(), AllocError>
-    ensures { OnOk result (text.new.items ≡ text.old.items ++ report_line finding.now) }
+fn push_line(text: &mut Vec<u8>, finding: FindingRef<'_>) -> Result<(), AllocError>
+    ensures { OnOk result (text.new.items ≡ text.old.items ++ report_line (finding_of finding.entry)) }
 {
     text.extend_from_slice(finding.code.text())?;
     write!(text, " {} ", finding.line).map_err(|_| AllocError)?;
-    push_subject(text, finding.subject.as_slice())?;
+    push_subject(text, finding.subject)?;
     text.push(b'\n')?;
     Ok(())
 }
 
-/// What is printed for the findings of a file, `clean` where there is none.
-pub(crate) fn findings_report(alloc: Global, findings: &[Finding]) -> Result<Report, AllocError>
-    ensures { IfOk result (λ report. report ≡ report_of findings.now) }
+/// The lines that report findings.
+fn report_lines(alloc: Global, findings: &FindingList) -> Result<Vec<u8>, AllocError>
+    ensures { IfOk result (λ text. text.items ≡ flat_map report_line findings.now) }
 {
     let mut text = Vec::new(alloc);
+    for place in 0..findings.len() {
+        push_line(&mut text, findings.at(place))?;
+    }
+    Ok(text)
+}
+
+/// What is printed for the findings of a file, `clean` where there is none.
+pub(crate) fn findings_report(alloc: Global, findings: &FindingList) -> Result<Report, AllocError>
+    ensures { IfOk result (λ report. report ≡ report_of findings.now) }
+{
     if findings.is_empty() {
-        text.extend_from_slice(b"clean\n")?;
         return Ok(Report {
-            text: Sequence::from_vec(text),
+            text: Sequence::from_vec(Vec::from_slice(alloc, b"clean\n")?),
             status: 0,
         });
     }
-    for finding in findings {
-        push_line(&mut text, finding)?;
-    }
     Ok(Report {
-        text: Sequence::from_vec(text),
+        text: Sequence::from_vec(report_lines(alloc, findings)?),
         status: 1,
     })
 }

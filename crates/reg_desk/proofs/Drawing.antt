@@ -15,7 +15,7 @@ use Rattle.reg_policy.specs.declared.subject.Decision.TheVariants.{Permit, Deny}
 use Rattle.reg_policy.specs.declared.subject.Verb.TheVariants as verbs
 use Rattle.reg_store.specs.Deposit.{Deposit}
 use Rattle.reg_store.specs.Fit.{IsFit, IsFileOf}
-use Rattle.reg_store.specs.Keep.{IsHeadOf, is_store, fails}
+use Rattle.reg_store.specs.Keep.{IsHeadOf, OfDeposit, is_store, fails}
 use Rattle.reg_store.specs.declared.keep.Keep.{Ghosts}
 use Rattle.reg_store.specs.declared.keep.KeepError.{KeepError}
 use Rattle.reg_store.specs.declared.keep.KeepError.TheVariants as errors
@@ -29,7 +29,7 @@ use Rattle.ags_check.specs.Findings.{IsCleanFile}
 use Rattle.reg_desk.specs.Machine.{Register, decided, look_at, IsSeen, IsTextOf, Where, IsDrawnFrom, held}
 use Rattle.ags_check.specs.Findings.{file_of}
 use Rattle.reg_desk.specs.View.{IsViewOf, IsExtractOf, Sees}
-use Rattle.reg_desk.specs.Serving.{OfFile, IsQuiet, AsksStore, IsLineFor, text_answer, register_at, OnlyReads, Serves, look_on, answer_of}
+use Rattle.reg_desk.specs.Serving.{IsQuiet, AsksStore, IsLineFor, text_answer, register_at, OnlyReads, Serves, look_on, answer_of}
 use Rattle.reg_desk.proofs.Replies.{one_file}
 use Rattle.reg_desk.proofs.Bodies.{where_true, where_false}
 use Rattle.reg_desk.proofs.Serves.{is_told, replies_at_once, refused_serves, replies_serves, permitted_reply, denied_reply, permit_stands}
@@ -232,7 +232,7 @@ headed keep old mid number head within fit first read s =
 
 -- a reading of what is kept of a deposit does not fail the store
 pub kept_lives : {K X : Type 0} (keep : Ghosts K) (old : K) (number : ℕ) (r : Result X KeepError) → (0 < number) × (number ≤ length (keep.deposits old)) → All (IsFit (keep.dictionary old)) (keep.deposits old)
-    → (r ≡ Err errors.Store → OfFile keep old number (λ file. ⊥)) → fails r ≡ false
+    → (r ≡ Err errors.Store → OfDeposit (keep.dictionary old) (keep.deposits old) number (λ file. ⊥)) → fails r ≡ false
 kept_lives keep old number (Ok x) within fit broken = refl
 kept_lives keep old number (Err errors.Full) within fit broken = refl
 kept_lives keep old number (Err errors.NoMemory) within fit broken = refl
@@ -242,14 +242,14 @@ kept_lives keep old number (Err errors.Store) within fit broken =
 
 -- whether its row of PROJ is shown, where that was read after its head
 seen_file : {K : Type 0} (keep : Ghosts K) (register : Register) (old mid : K) (caller : Caller) (number : ℕ) (day : ℤ) (head : KeptHead) (look : Look) (seen : Bool) → look ≡ look_on register.rules caller head day → OnlyReads keep old mid false → keep.is_sound mid
-    → (h : IsHeaded (keep.dictionary old) (keep.deposits old) number head) → OfFile keep mid number (λ file. Sees look file seen)
+    → (h : IsHeaded (keep.dictionary old) (keep.deposits old) number head) → OfDeposit (keep.dictionary mid) (keep.deposits mid) number (λ file. Sees look file seen)
     → (file : CheckedFile) → IsFileOf (keep.dictionary old) h.kept file → (seen ≡ true) ↔ IsProjectShown (look_at register caller day h.kept) (file_of file)
 seen_file keep register old mid caller number day head look seen same reads s h sees file is =
     subst (λ (l : Look). (seen ≡ true) ↔ IsProjectShown l (file_of file)) (same ∙ look_same register caller day h.kept head h.of_head)
     (sees h.kept file (ap (λ (l : List Deposit). slice_get l (number - 1)) (reads.same s refl) ∙ h.place) (subst (λ (e : Entries). IsFileOf e h.kept file) (sym reads.same_dictionary) is))
 
 pub seen_listed : {K : Type 0} (keep : Ghosts K) (rules : List Rule) (old mid : K) (caller : Caller) (number : ℕ) (day : ℤ) (head : KeptHead) (look : Look) (seen : Bool) → look ≡ look_on rules caller head day → OnlyReads keep old mid false → keep.is_sound mid
-    → IsHeaded (keep.dictionary old) (keep.deposits old) number head → OfFile keep mid number (λ file. Sees look file seen) → seen ≡ true
+    → IsHeaded (keep.dictionary old) (keep.deposits old) number head → OfDeposit (keep.dictionary mid) (keep.deposits mid) number (λ file. Sees look file seen) → seen ≡ true
     → (d : Deposit) → held number (keep.deposits old) ≡ Some d → ∥ IsLineFor (register_at keep rules old) caller day number d (Some (record { number = number; firm = head.firm; embargo = head.embargo })) ∥₁
 seen_listed keep rules old mid caller number day head look seen same reads s h sees is d holds =
     let register = register_at keep rules old in
@@ -260,7 +260,7 @@ seen_listed keep rules old mid caller number day head look seen same reads s h s
     )))
 
 pub seen_unlisted : {K : Type 0} (keep : Ghosts K) (rules : List Rule) (old mid : K) (caller : Caller) (number : ℕ) (day : ℤ) (head : KeptHead) (look : Look) (seen : Bool) → look ≡ look_on rules caller head day → OnlyReads keep old mid false → keep.is_sound mid
-    → IsHeaded (keep.dictionary old) (keep.deposits old) number head → OfFile keep mid number (λ file. Sees look file seen) → seen ≡ false
+    → IsHeaded (keep.dictionary old) (keep.deposits old) number head → OfDeposit (keep.dictionary mid) (keep.deposits mid) number (λ file. Sees look file seen) → seen ≡ false
     → (d : Deposit) → held number (keep.deposits old) ≡ Some d → ∥ IsLineFor (register_at keep rules old) caller day number d None ∥₁
 seen_unlisted keep rules old mid caller number day head look seen same reads s h sees is d holds =
     let register = register_at keep rules old in

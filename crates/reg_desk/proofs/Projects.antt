@@ -20,7 +20,8 @@ use Rattle.reg_store.specs.Project.{project_from, project_of, targets_of}
 use Rattle.reg_store.specs.declared.keep.Keep.{Ghosts}
 use Rattle.reg_store.specs.declared.keep.KeptRow.{KeptRow}
 use Rattle.reg_store.specs.declared.keep.ProjectRow.{ProjectRow}
-use Rattle.reg_desk.specs.Serving.{OfFile, OnlyReads}
+use Rattle.reg_store.specs.Keep.{OfDeposit}
+use Rattle.reg_desk.specs.Serving.{OnlyReads}
 use Rattle.reg_desk.specs.Shown.{Look, IsPermitted, IsPermittedAt}
 use Rattle.reg_desk.specs.View.{IsLineOf, IsOpen, IsUnreadable, MayBeSeen, Sees, is_only, plain_lines, plain_row, project_line}
 use Rattle.reg_desk.proofs.Bridges.{HasAt, IsOfProject, at_first, at_later, of_first, of_later, lines_spelled}
@@ -183,11 +184,11 @@ project_reads file project clean is unreadable = let line = its_line file clean 
 -- ---- the file of a deposit
 
 -- what holds of the file of a deposit after a call that only read held of it before
-pub of_file_before : {K : Type 0} (keep : Ghosts K) (old new : K) (number : ℕ) (Holds : CheckedFile → Type 0) → OnlyReads keep old new false → keep.is_sound new → OfFile keep new number Holds → OfFile keep old number Holds
+pub of_file_before : {K : Type 0} (keep : Ghosts K) (old new : K) (number : ℕ) (Holds : CheckedFile → Type 0) → OnlyReads keep old new false → keep.is_sound new → OfDeposit (keep.dictionary new) (keep.deposits new) number Holds → OfDeposit (keep.dictionary old) (keep.deposits old) number Holds
 of_file_before keep old new number Holds reads s holds = λ d file at is.
     holds d file (ap (λ (l : List Deposit). slice_get l (number - 1)) (reads.same s refl) ∙ at) (subst (λ (e : Entries). IsFileOf e d file) (sym reads.same_dictionary) is)
 
-pub of_file_after : {K : Type 0} (keep : Ghosts K) (old new : K) (number : ℕ) (Holds : CheckedFile → Type 0) → OnlyReads keep old new false → keep.is_sound new → OfFile keep old number Holds → OfFile keep new number Holds
+pub of_file_after : {K : Type 0} (keep : Ghosts K) (old new : K) (number : ℕ) (Holds : CheckedFile → Type 0) → OnlyReads keep old new false → keep.is_sound new → OfDeposit (keep.dictionary old) (keep.deposits old) number Holds → OfDeposit (keep.dictionary new) (keep.deposits new) number Holds
 of_file_after keep old new number Holds reads s holds = λ d file at is.
     holds d file (ap (λ (l : List Deposit). slice_get l (number - 1)) (sym (reads.same s refl)) ∙ at) (subst (λ (e : Entries). IsFileOf e d file) reads.same_dictionary is)
 

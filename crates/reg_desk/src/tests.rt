@@ -11,7 +11,7 @@ mod refusing;
 use crate::{Answer, Desk, Listed, Request};
 use ags_dict::Dictionary;
 use ags_rows::vectors::{FILE_A, FILE_B, FILE_C, MINI};
-use ags_rows::{Finding, READABLE};
+use ags_rows::{FindingList, READABLE};
 use examples::{EXAMPLES, LENGTHS, MOST};
 use reg_policy::vectors::{CALLERS, POLICY};
 use reg_policy::{Caller, Callers, Day, Name, Policy};
@@ -168,19 +168,18 @@ fn is_denied(answer: &Answer, rule: u32) -> bool {
 }
 
 /// Whether there is one finding: of this code, at this line, of no subject.
-fn is_only(found: &[Finding], code: &str, line: u32) -> bool {
-    match found {
-        [one] => {
-            one.code.text() == code.as_bytes() && one.line == line && one.subject.is_empty()
-        }
-        _ => false,
+fn is_only(found: &FindingList, code: &str, line: u32) -> bool {
+    if found.len() != 1 {
+        return false;
     }
+    let one = found.at(0);
+    one.code.text() == code.as_bytes() && one.line == line && one.subject.is_empty()
 }
 
 /// Whether it is that one finding.
 fn is_finding(answer: &Answer, code: &str, line: u32) -> bool {
     match answer {
-        Answer::Findings(found) => is_only(found.as_slice(), code, line),
+        Answer::Findings(found) => is_only(found, code, line),
         _ => false,
     }
 }

@@ -10,7 +10,7 @@ use crate::render::{
     body_text, clean_value, denied_value, findings_value, listing_value, receipt_value,
 };
 use crate::reply::whole_reply;
-use ags_rows::Finding;
+use ags_rows::FindingList;
 use http::StatusCode;
 use reg_desk::{Answer, Listed};
 use reg_policy::Day;
@@ -89,7 +89,7 @@ fn clean_reply(alloc: Global) -> Result<Vec<u8>, AllocError>
     json_reply(alloc, StatusCode::OK, &value)
 }
 
-fn findings_reply(alloc: Global, findings: &[Finding]) -> Result<Vec<u8>, AllocError>
+fn findings_reply(alloc: Global, findings: &FindingList) -> Result<Vec<u8>, AllocError>
     ensures { IfOk result (λ reply. IsRendered (Answer.Findings findings.now) reply.items) }
 {
     let value = findings_value(alloc, findings)?;
@@ -124,7 +124,7 @@ pub(crate) fn built_reply(alloc: Global, answer: &Answer) -> Result<Vec<u8>, All
     match answer {
         Answer::Receipt { number, embargo } => receipt_reply(alloc, *number, *embargo),
         Answer::Clean => clean_reply(alloc),
-        Answer::Findings(findings) => findings_reply(alloc, findings.as_slice()),
+        Answer::Findings(findings) => findings_reply(alloc, findings),
         Answer::Listing(listing) => listing_reply(alloc, listing.as_slice()),
         Answer::Text(text) => text_reply(alloc, text.as_slice()),
         Answer::Denied(number) => denied_reply(alloc, *number),

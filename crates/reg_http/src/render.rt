@@ -3,10 +3,11 @@ ghost use Rattle.std.specs.Prelude.{◌≡◌, false, IfOk, map, string_bytes};
 ghost use Rattle.std.specs.List.{AllZip};
 ghost use Rattle.serde_json.specs.View.{view};
 ghost use Rattle.serde_json.specs.Written.{compact_text, has_float};
+ghost use Rattle.ags_rows.specs.FindingLists.{finding_of};
 ghost use Rattle.reg_http.specs.Bodies.{clean_data, denied_data, finding_data, findings_data, listed_data, listing_data, receipt_data, IsListedData, IsListingData, IsReceiptData, printed};
 
 use crate::text::as_text;
-use ags_rows::Finding;
+use ags_rows::{FindingList, FindingRef};
 use reg_desk::Listed;
 use reg_policy::Day;
 use serde_json::{Value, json};
@@ -22,22 +23,29 @@ fn printed(alloc: Global, subject: &[u8]) -> Result<String, AllocError>
         .collect(alloc)
 }
 
-fn finding_value(alloc: Global, finding: &Finding) -> Result<Value, AllocError>
-    ensures { IfOk result (λ value. view value ≡ finding_data finding.now) }
+fn finding_value(alloc: Global, finding: FindingRef<'_>) -> Result<Value, AllocError>
+    ensures { IfOk result (λ value. view value ≡ finding_data (finding_of finding.entry)) }
 {
     let code = as_text(finding.code.text());
-    let subject = printed(alloc, finding.subject.as_slice())?;
+    let subject = printed(alloc, finding.subject)?;
     json!(in alloc; {"code": code, "line": finding.line, "subject": subject})
 }
 
-/// The body that lists findings.
-pub(crate) fn findings_value(alloc: Global, findings: &[Finding]) -> Result<Value, AllocError>
-    ensures { IfOk result (λ value. view value ≡ findings_data findings.now) }
+fn finding_values(alloc: Global, findings: &FindingList) -> Result<Vec<Value>, AllocError>
+    ensures { IfOk result (λ list. map view list.items ≡ map finding_data findings.now) }
 {
     let mut list = Vec::new(alloc);
-    for finding in findings {
-        list.push(finding_value(alloc, finding)?)?;
+    for place in 0..findings.len() {
+        list.push(finding_value(alloc, findings.at(place))?)?;
     }
+    Ok(list)
+}
+
+/// The body that lists findings.
+pub(crate) fn findings_value(alloc: Global, findings: &FindingList) -> Result<Value, AllocError>
+    ensures { IfOk result (λ value. view value ≡ findings_data findings.now) }
+{
+    let list = finding_values(alloc, findings)?;
     json!(in alloc; {"findings": Value::Array(list)})
 }
 

@@ -12,7 +12,7 @@ use Rattle.reg_store.specs.declared.keep.KeepError.{KeepError}
 use Rattle.reg_store.specs.declared.keep.ProjectRow.{ProjectRow}
 use Rattle.reg_store.specs.Deposit.{Deposit}
 use Rattle.reg_store.specs.Fit.{kept_rows}
-use Rattle.reg_store.specs.Fronts.{HoldsFronts, IsNothing, IsNumber, NotesRow, NotesTargets, alone_at, row_at}
+use Rattle.reg_store.specs.Fronts.{HoldsFronts, IsNothing, IsHeldNumber, NotesRow, NotesTargets, alone_at, front_at}
 use Rattle.reg_store.specs.Keep.{OfDeposit}
 use Rattle.reg_store.specs.Project.{project_of, targets_of}
 use Rattle.reg_store.specs.Quiet.{IsStill, clean_before}
@@ -20,7 +20,7 @@ use Rattle.reg_store.specs.Register.{deposits_in}
 
 -- ---- they stay, and grow
 
-pub no_fronts : (fronts : Fronts) (dictionary : Entries) (list : List Deposit) → ((n : ℕ) → row_at fronts n ≡ None) → ((n : ℕ) → alone_at fronts n ≡ None) → HoldsFronts fronts dictionary list
+pub no_fronts : (fronts : Fronts) (dictionary : Entries) (list : List Deposit) → ((n : ℕ) → front_at fronts n ≡ None) → ((n : ℕ) → alone_at fronts n ≡ None) → HoldsFronts fronts dictionary list
 no_fronts fronts dictionary list rows alone = record {
   rows = λ n row at. absurd (let none : None ≡ Some row = sym (rows n) ∙ at in cc);
   alone = λ n row at. absurd (let none : None ≡ Some row = sym (alone n) ∙ at in cc);
@@ -41,7 +41,7 @@ still_there [] d k low = absurd (omega (arith, low))
 still_there (x ∷ list) d zero low = refl
 still_there (x ∷ list) d (suc k) low = still_there list d k (omega (arith, low))
 
-still_of : (dictionary : Entries) (list : List Deposit) (d : Deposit) (n : ℕ) (Holds : CheckedFile → Type 0) → IsNumber n list → OfDeposit dictionary list n Holds → IsNumber n (list ++ d ∷ []) × OfDeposit dictionary (list ++ d ∷ []) n Holds
+still_of : (dictionary : Entries) (list : List Deposit) (d : Deposit) (n : ℕ) (Holds : CheckedFile → Type 0) → IsHeldNumber n list → OfDeposit dictionary list n Holds → IsHeldNumber n (list ++ d ∷ []) × OfDeposit dictionary (list ++ d ∷ []) n Holds
 still_of dictionary list d n Holds its holds =
     let longer = length_push list d in
     let low : n - 1 < length list = omega (arith, its.0, its.1) in
@@ -61,7 +61,7 @@ the_row : (dictionary : Entries) (list : List Deposit) (n : ℕ) (row : ProjectR
     → IfOk found (λ f. OfDeposit dictionary list n (λ file. f ≡ project_of (kept_rows file.groups))) → OfDeposit dictionary list n (λ file. Some row ≡ project_of (kept_rows file.groups))
 the_row dictionary list n row found e read = subst (λ r. IfOk r (λ f. OfDeposit dictionary list n (λ file. f ≡ project_of (kept_rows file.groups)))) e read
 
-pub row_noted : {old new : Fronts} {dictionary : Entries} {list : List Deposit} (n : ℕ) (found : Result (Option ProjectRow) KeepError) → HoldsFronts old dictionary list → NotesRow old new n found → IsNumber n list
+pub row_noted : {old new : Fronts} {dictionary : Entries} {list : List Deposit} (n : ℕ) (found : Result (Option ProjectRow) KeepError) → HoldsFronts old dictionary list → NotesRow old new n found → IsHeldNumber n list
     → IfOk found (λ f. OfDeposit dictionary list n (λ file. f ≡ project_of (kept_rows file.groups))) → HoldsFronts new dictionary list
 row_noted {old} {new} {dictionary} {list} n found hold notes its read = record {
   rows = λ m row at. go m row (notes.rows m row at);
@@ -69,9 +69,9 @@ row_noted {old} {new} {dictionary} {list} n found hold notes its read = record {
 }
   where
     Says : ℕ → ProjectRow → Type 0
-    Says m row = IsNumber m list × OfDeposit dictionary list m (λ file. Some row ≡ project_of (kept_rows file.groups))
+    Says m row = IsHeldNumber m list × OfDeposit dictionary list m (λ file. Some row ≡ project_of (kept_rows file.groups))
 
-    go : (m : ℕ) (row : ProjectRow) → (row_at old m ≡ Some row) ⊎ ((m ≡ n) × (found ≡ Ok (Some row))) → Says m row
+    go : (m : ℕ) (row : ProjectRow) → (front_at old m ≡ Some row) ⊎ ((m ≡ n) × (found ≡ Ok (Some row))) → Says m row
     go m row (inl before) = hold.rows m row before
     go m row (inr now) = subst (λ k. Says k row) (sym now.0) (its, the_row dictionary list n row found now.1 read)
 
@@ -80,7 +80,7 @@ the_none : (dictionary : Entries) (list : List Deposit) (n row : ℕ) (found : R
 the_none dictionary list n row (Ok targets) none read = λ d file at of. sym none ∙ read d file at of
 the_none dictionary list n row (Err e) none read = absurd none
 
-pub targets_noted : {old new : Fronts} {dictionary : Entries} {list : List Deposit} (n row : ℕ) (found : Result (Vec ℕ Global) KeepError) → HoldsFronts old dictionary list → NotesTargets old new n row found → IsNumber n list
+pub targets_noted : {old new : Fronts} {dictionary : Entries} {list : List Deposit} (n row : ℕ) (found : Result (Vec ℕ Global) KeepError) → HoldsFronts old dictionary list → NotesTargets old new n row found → IsHeldNumber n list
     → IfOk found (λ targets. OfDeposit dictionary list n (λ file. targets.items ≡ targets_of row file.graph.steps)) → HoldsFronts new dictionary list
 targets_noted {old} {new} {dictionary} {list} n row found hold notes its read = record {
   rows = λ m other at. hold.rows m other (sym (notes.rows m) ∙ at);
@@ -88,7 +88,7 @@ targets_noted {old} {new} {dictionary} {list} n row found hold notes its read = 
 }
   where
     Says : ℕ → ℕ → Type 0
-    Says m other = IsNumber m list × OfDeposit dictionary list m (λ file. [] ≡ targets_of other file.graph.steps)
+    Says m other = IsHeldNumber m list × OfDeposit dictionary list m (λ file. [] ≡ targets_of other file.graph.steps)
 
     go : (m other : ℕ) → (alone_at old m ≡ Some other) ⊎ ((m ≡ n) × (other ≡ row) × IsNothing found) → Says m other
     go m other (inl before) = hold.alone m other before

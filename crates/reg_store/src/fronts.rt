@@ -1,7 +1,7 @@
 //! The rows of PROJ that were read, which stand in memory for the listings to come.
 
 ghost use Rattle.std.specs.Prelude.{◌≡◌, ◌+◌, ◌≤◌, ℕ, None, length, IsTrue, IfOk, IfSome};
-ghost use Rattle.reg_store.specs.Fronts.{NotesRow, NotesTargets, alone_at, row_at};
+ghost use Rattle.reg_store.specs.Fronts.{NotesRow, NotesTargets, alone_at, front_at};
 
 use crate::keep::{KeepError, ProjectRow};
 use crate::project::project_row;
@@ -43,7 +43,7 @@ fn is_short(row: &ProjectRow) -> bool
 impl Fronts {
     /// None.
     pub(crate) fn new(alloc: Global) -> Fronts
-        ensures rows { (n : ℕ) → row_at result n ≡ None }
+        ensures rows { (n : ℕ) → front_at result n ≡ None }
         ensures alone { (n : ℕ) → alone_at result n ≡ None }
     {
         Fronts {
@@ -58,7 +58,7 @@ impl Fronts {
         alloc: Global,
         number: u32,
     ) -> Result<Option<ProjectRow>, AllocError>
-        ensures { IfOk result (λ found. IfSome found (λ row. row_at self.now number ≡ Some row)) }
+        ensures { IfOk result (λ found. IfSome found (λ row. front_at self.now number ≡ Some row)) }
     {
         match self.rows.get(&number) {
             Some(row) => Ok(Some(copy_project(alloc, row)?)),

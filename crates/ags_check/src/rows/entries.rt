@@ -1,18 +1,19 @@
 //! What the entries of a row break.
 
-ghost use Rattle.std.specs.Prelude.{◌↔◌, ℕ, List, All, IsTrue, OnOk};
+ghost use Rattle.std.specs.Prelude.{◌↔◌, IsTrue, OnOk};
 ghost use Rattle.ags_rows.specs.Collecting.{Adds};
-ghost use Rattle.ags_rows.specs.Contents.{Contents, group_contents};
+ghost use Rattle.ags_rows.specs.Contents.{group_contents, fields_of};
+ghost use Rattle.ags_dict.specs.Entries.{required_of};
 ghost use Rattle.ags_check.specs.RowRules.{IsUnfit, IsUnlistedUnitEntry, IsUnlistedAbbreviationEntry, IsUnlistedTypeEntry, entry_in};
-ghost use Rattle.ags_check.specs.RowPhase.{InHeadings, unit_and_type_rules, data_entry_rules, required_rules};
-ghost use Rattle.ags_links.specs.DataRows.{row_in};
-ghost use Rattle.ags_check.specs.Columns.{IsTyped, AreColumns, entry_under};
+ghost use Rattle.ags_check.specs.RowPhase.{headed_row, InHeadings, unit_and_type_rules, data_entry_rules, required_rules};
+ghost use Rattle.ags_check.specs.Columns.{IsTyped, entry_under};
 
 use crate::rows::code_lists::CodeLists;
 use crate::rows::columns::{Column, is_of_type};
+use crate::rows::outline::Outline;
 use ags_cells::fits;
 use ags_cells::laws::fits_its_type_code;
-use ags_rows::{Cell, Code, Group, NotedFindings, cell_at};
+use ags_rows::{Code, NotedFindings, Row, cell_at};
 use std::alloc::AllocError;
 
 /// Rule 8: whether the text does not fit the type and the unit.
@@ -47,30 +48,31 @@ fn is_unlisted_type(column: &Column, text: &[u8], listed: &CodeLists) -> bool
 
 /// Notes what the entries of a row break.
 pub(crate) fn note_entries<'a>(
-    line: u32,
-    columns: &[Column<'a>],
-    cells: &'a [Cell],
     listed: &CodeLists<'a>,
+    outline: &Outline<'a>,
+    row: &'a Row,
     findings: &mut NotedFindings,
 ) -> Result<(), AllocError>
-    requires { All IsTyped columns.now }
-    ensures { OnOk result ((group : Contents) (headings : List (List ℕ)) → AreColumns group headings columns.now
-        → Adds (InHeadings headings (λ heading. data_entry_rules listed.now line (entry_in group cells.now heading)))
+    ensures { OnOk result (Adds (InHeadings outline.now.group.headings
+        (λ heading. data_entry_rules listed.now row.now.line
+        (entry_in (group_contents outline.now.group) (fields_of row.now) heading)))
         findings.old findings.new) }
 {
+    let columns = outline.columns.as_slice();
+    let cells = row.cells.as_slice();
     for column in columns {
         let text = cell_at(cells, column.place);
         if is_unfit(column, text) {
-            findings.note(line, Code::Rule8, column.heading)?;
+            findings.note(row.line, Code::Rule8, column.heading)?;
         }
         if is_unlisted_unit(column, text, listed) {
-            findings.note(line, Code::Rule15, column.heading)?;
+            findings.note(row.line, Code::Rule15, column.heading)?;
         }
         if is_unlisted_abbreviation(column, text, listed) {
-            findings.note(line, Code::Rule16, column.heading)?;
+            findings.note(row.line, Code::Rule16, column.heading)?;
         }
         if is_unlisted_type(column, text, listed) {
-            findings.note(line, Code::Rule17, column.heading)?;
+            findings.note(row.line, Code::Rule17, column.heading)?;
         }
     }
     Ok(())
@@ -78,14 +80,16 @@ pub(crate) fn note_entries<'a>(
 
 /// Notes the units and types over the headings that are not listed (Rules 15 and 17).
 pub(crate) fn note_columns(
-    group: &Group,
-    columns: &[Column],
     listed: &CodeLists,
+    outline: &Outline,
     findings: &mut NotedFindings,
 ) -> Result<(), AllocError>
-    ensures { OnOk result (AreColumns (group_contents group.now) group.now.headings columns.now
-        → Adds (InHeadings group.now.headings (unit_and_type_rules listed.now group.now)) findings.old findings.new) }
+    ensures { OnOk result (Adds
+        (InHeadings outline.now.group.headings (unit_and_type_rules listed.now outline.now.group))
+        findings.old findings.new) }
 {
+    let group = outline.group;
+    let columns = outline.columns.as_slice();
     for column in columns {
         if listed.is_unlisted_unit(column.unit) {
             findings.note(group.unit_line, Code::Rule15, column.heading)?;
@@ -99,18 +103,20 @@ pub(crate) fn note_columns(
 
 /// Rule 10b: notes the REQUIRED entries of a row that are null.
 pub(crate) fn note_lacking(
-    line: u32,
-    required: &[Column],
-    cells: &[Cell],
+    outline: &Outline,
+    row: &Row,
     findings: &mut NotedFindings,
 ) -> Result<(), AllocError>
-    ensures { OnOk result ((group : Contents) (headings : List (List ℕ)) → AreColumns group headings required.now
-        → Adds (InHeadings headings (required_rules line (row_in group cells.now))) findings.old findings.new) }
+    ensures { OnOk result (Adds (InHeadings (required_of outline.now.entries outline.now.group.name)
+        (required_rules row.now.line (headed_row outline.now.group row.now)))
+        findings.old findings.new) }
 {
+    let required = outline.required.as_slice();
+    let cells = row.cells.as_slice();
     for column in required {
         let text = cell_at(cells, column.place);
         if text.is_empty() {
-            findings.note(line, Code::Rule10b, column.heading)?;
+            findings.note(row.line, Code::Rule10b, column.heading)?;
         }
     }
     Ok(())

@@ -1,18 +1,16 @@
 //! The record links of a row.
 
-ghost use Rattle.std.specs.Prelude.{◌≡◌, ◌≢◌, ◌<◌, ◌↔◌, [], false, codes, IsTrue, IfOk, OnOk, length};
+ghost use Rattle.std.specs.Prelude.{◌≡◌, ◌≢◌, ◌<◌, ◌↔◌, [], codes, IsTrue, IfOk, OnOk, length};
 ghost use Rattle.ags_rows.specs.Collecting.{Adds};
-ghost use Rattle.ags_rows.specs.Contents.{Contents};
-ghost use Rattle.ags_rows.specs.Names.{is_definition};
-ghost use Rattle.ags_links.specs.DataRows.{DataRow, IsDataRow, row_in};
+ghost use Rattle.ags_links.specs.DataRows.{DataRow, IsDataRow};
 ghost use Rattle.ags_links.specs.Indexing.{rows_in};
 ghost use Rattle.ags_links.specs.RecordLinks.{separators_of, IsBroken};
-ghost use Rattle.ags_check.specs.RowPhase.{InHeadings, link_rules};
-ghost use Rattle.ags_check.specs.Columns.{AreColumns};
+ghost use Rattle.ags_check.specs.RowPhase.{headed_row, InHeadings, link_rules};
 
 use crate::rows::columns::{Column, is_of_type};
+use crate::rows::outline::Outline;
 use ags_links::Index;
-use ags_rows::{Cell, Code, NotedFindings, cell_at};
+use ags_rows::{Code, NotedFindings, Row, cell_at};
 use std::alloc::AllocError;
 
 /// Rule 11c, in a data group: whether the text is a record link of which some part names no row.
@@ -39,24 +37,26 @@ fn is_broken_link(
 
 /// Rule 11c: notes the record links of a row of a data group of which some part names no row.
 pub(crate) fn note_links(
-    line: u32,
-    columns: &[Column],
-    cells: &[Cell],
     index: &Index,
+    outline: &Outline,
+    row: &Row,
     number: u32,
     findings: &mut NotedFindings,
 ) -> Result<(), AllocError>
-    requires { number < length (rows_in index.now) }
-    ensures { OnOk result ((group : Contents) → AreColumns group group.headings columns.now
-        → is_definition group.name ≡ false → IsDataRow (rows_in index.now) number (row_in group cells.now)
-        → Adds (InHeadings group.headings
-        (link_rules index.now.entries index.now.contents line (row_in group cells.now)))
+    requires { IsDataRow (rows_in index.now) number (headed_row outline.now.group row.now) }
+    ensures { OnOk result (Adds (InHeadings outline.now.group.headings
+        (link_rules index.now.entries index.now.contents row.now.line (headed_row outline.now.group row.now)))
         findings.old findings.new) }
 {
+    if !outline.is_data {
+        return Ok(());
+    }
+    let columns = outline.columns.as_slice();
+    let cells = row.cells.as_slice();
     for column in columns {
         let text = cell_at(cells, column.place);
         if is_broken_link(column, text, index, number)? {
-            findings.note(line, Code::Rule11c, column.heading)?;
+            findings.note(row.line, Code::Rule11c, column.heading)?;
         }
     }
     Ok(())

@@ -99,9 +99,10 @@ impl<'a> Outline<'a> {
 
     /// Rule 10a: whether an earlier row of the group has the key of this one.
     pub(crate) fn repeats_key(&self, index: &Index, number: u32) -> Result<bool, AllocError>
-        requires { number < length (rows_in index.now) }
+        requires entries { self.now.entries ≡ index.now.entries }
+        requires stands { number < length (rows_in index.now) }
+        requires row { (row : DataRow) → IsDataRow (rows_in index.now) number row → row.group ≡ self.now.group.name }
         ensures { IfOk result (λ repeats. (row : DataRow) → IsDataRow (rows_in index.now) number row
-            → row.group ≡ self.now.group.name → self.now.entries ≡ index.now.entries
             → IsTrue repeats ↔ RepeatsKey index.now.entries index.now.contents number row) }
     {
         if !self.has_keys {
@@ -112,9 +113,10 @@ impl<'a> Outline<'a> {
 
     /// Rule 10c: whether the group has a parent group, and the row no parent row.
     pub(crate) fn lacks_parent(&self, index: &Index, number: u32) -> Result<bool, AllocError>
-        requires { number < length (rows_in index.now) }
+        requires entries { self.now.entries ≡ index.now.entries }
+        requires stands { number < length (rows_in index.now) }
+        requires row { (row : DataRow) → IsDataRow (rows_in index.now) number row → row.group ≡ self.now.group.name }
         ensures { IfOk result (λ lacks. (row : DataRow) → IsDataRow (rows_in index.now) number row
-            → row.group ≡ self.now.group.name → self.now.entries ≡ index.now.entries
             → IsTrue lacks ↔ LacksParentRow index.now.entries index.now.contents row) }
     {
         if !self.has_parent {

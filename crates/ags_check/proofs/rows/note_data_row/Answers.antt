@@ -1,4 +1,4 @@
-use Rattle.std.proofs.Common.{List, refl, subst}
+use Rattle.std.proofs.Common.{List, subst}
 use Rattle.std.proofs.lemmas.Result.{IfOk-weaker}
 use Rattle.ags_rows.specs.declared.code.Code.TheVariants.{Rule10a, Rule10c}
 use Rattle.ags_rows.specs.Collecting.{Adds, Notes}
@@ -6,11 +6,18 @@ use Rattle.ags_rows.specs.Contents.{Contents, group_contents, fields_of}
 use Rattle.ags_rows.proofs.Lemmas.{adds_found, adds_unmet}
 use Rattle.ags_dict.specs.Entries.{Entries, required_of}
 use Rattle.ags_links.specs.DataRows.{row_in}
+use Rattle.ags_links.specs.Indexing.{rows_in}
 use Rattle.ags_check.specs.RowPhase.{InHeadings, data_entry_rules, required_rules}
 use Rattle.ags_check.specs.RowRules.{entry_in, RepeatsKey, LacksParentRow}
-use Rattle.ags_check.proofs.RowNotes.{row_noted}
+use Rattle.ags_check.proofs.RowNotes.{same_group, row_noted}
 use Rattle.ags_check.proofs.rows.note_data_row.Goals as goal
 use Rattle.ags_check.proofs.rows.note_data_row.Goals.{then-branch+in_ok-note, else-branch, then-branch-2+in_ok-note-2, else-branch-2}
+
+pub repeats_key-requires-clause-row : goal.repeats_key-requires-clause-row
+repeats_key-requires-clause-row c = λ row at. same_group (rows_in c.args.index.now) c.args.number row _ at c.requires.row
+
+pub lacks_parent-requires-clause-row : goal.lacks_parent-requires-clause-row
+lacks_parent-requires-clause-row c = λ row at. same_group (rows_in c.args.index.now) c.args.number row _ at c.requires.row
 
 pub returns : goal.returns
 returns c =
@@ -19,14 +26,14 @@ returns c =
     let row = c.args.row.now in
     let r = row_in (group_contents group) (fields_of row) in
     let f0 = c.args.findings.now in
-    let f1 = c.note_row_entries.new.findings in
-    let f2 = c.note_row_links.new.findings in
-    let f3 = c.note_row_lacking.new.findings in
+    let f1 = c.note_entries.new.findings in
+    let f2 = c.note_links.new.findings in
+    let f3 = c.note_lacking.new.findings in
     let f4 = c.if-branch.findings in
     let f5 = c.if-branch-2.findings in
     let f6 = c.note_unlisted_file_set.new.findings in
-    let repeats = c.in_ok-repeats_key.ensures r c.requires.row refl c.requires.entries in
-    let orphan = c.in_ok-lacks_parent.ensures r c.requires.row refl c.requires.entries in
+    let repeats = c.in_ok-repeats_key.ensures r c.requires.row in
+    let orphan = c.in_ok-lacks_parent.ensures r c.requires.row in
     let key : Adds (Notes row.line Rule10a group.name (RepeatsKey file.entries file.contents c.args.number r)) f3 f4 = elim c.if-branch.branch [
       | then-branch+in_ok-note w ↦ adds_found (repeats.0 w.if-branch.true) (cc (c.name-name.ensures, w.findings-is, w.in_ok-note.ensures.noted))
       | else-branch w ↦ adds_unmet w.if-branch.false repeats.1 w.findings-is
@@ -38,7 +45,7 @@ returns c =
     IfOk-weaker c.note_unlisted_file_set.result _ _ (λ _ set.
     row_noted file.entries file.contents group c.args.number row f0 f1 f2 f3 f4 f5 f6
     (subst (λ (l : List Contents). Adds (InHeadings group.headings (λ heading. data_entry_rules l row.line (entry_in (group_contents group) (fields_of row) heading))) f0 f1) c.requires.listed
-    c.in_ok-note_row_entries.ensures)
-    c.in_ok-note_row_links.ensures
-    (subst (λ (e : Entries). Adds (InHeadings (required_of e group.name) (required_rules row.line r)) f2 f3) c.requires.entries c.in_ok-note_row_lacking.ensures)
+    c.in_ok-note_entries.ensures)
+    c.in_ok-note_links.ensures
+    (subst (λ (e : Entries). Adds (InHeadings (required_of e group.name) (required_rules row.line r)) f2 f3) c.requires.entries c.in_ok-note_lacking.ensures)
     key parent set) c.note_unlisted_file_set.ensures

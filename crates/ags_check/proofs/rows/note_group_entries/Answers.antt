@@ -15,9 +15,9 @@ returns c =
     let file = c.args.index.now in
     let group = c.args.group.now in
     let old = c.args.findings.now in
-    let mid = c.note_units_and_types.new.findings in
+    let mid = c.note_columns.new.findings in
     let new = c.note_data_rows.new.findings in
     two_rules old mid new
     (subst (λ (l : List Contents). Adds (InHeadings group.headings (unit_and_type_rules l group)) old mid) c.requires.listed
-    (subst (λ (v : Outlined). Adds (InHeadings v.group.headings (unit_and_type_rules c.args.listed.now v.group)) old mid) c.in_ok-outline.ensures c.in_ok-note_units_and_types.ensures))
+    (subst (λ (v : Outlined). Adds (InHeadings v.group.headings (unit_and_type_rules c.args.listed.now v.group)) old mid) c.in_ok-outline.ensures c.in_ok-note_columns.ensures))
     (subst (λ (v : Outlined). Adds (Among v.group.rows (λ place row f. OneOf (data_row_rules file.entries file.contents v.group (c.args.first + place) row) f)) mid new) c.in_ok-outline.ensures c.in_ok-note_data_rows.ensures)

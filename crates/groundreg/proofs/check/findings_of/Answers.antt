@@ -5,4 +5,4 @@ use Rattle.groundreg.proofs.check.findings_of.Goals as goal
 pub returns-in-Ok : goal.returns-in-Ok
 returns-in-Ok c =
     let given = subst (λ entries. Findings entries c.in-Ok.field-0.bytes []) c.in-Ok.ensures.given c.in-Ok.ensures.clean.file.findings in
-    rw (c.from_vec.ensures, c.new.ensures.items) (subst (λ b. Findings c.args.dictionary.now b []) c.in-Ok.ensures.bytes given)
+    rw c.none.ensures (subst (λ b. Findings c.args.dictionary.now b []) c.in-Ok.ensures.bytes given)

@@ -1,22 +1,26 @@
-use Rattle.std.proofs.Common.{◌∙◌, get_or, arith}
+use Rattle.std.proofs.Common.{◌∙◌, get_or, sym, subst, arith}
 use Rattle.ags_rows.specs.declared.code.Code.TheVariants.{Rule15, Rule17}
 use Rattle.ags_rows.specs.Collecting.{Adds, Notes}
+use Rattle.ags_rows.specs.Contents.{group_contents}
 use Rattle.ags_rows.proofs.Lemmas.{adds_found, adds_unmet}
-use Rattle.ags_check.specs.RowPhase.{unit_and_type_rules}
+use Rattle.ags_check.specs.Columns.{AreColumns, Outlined}
+use Rattle.ags_check.specs.RowPhase.{InHeadings, unit_and_type_rules}
 use Rattle.ags_check.specs.RowRules.{IsUnlistedUnit, IsUnlistedType}
 use Rattle.ags_check.proofs.EntryNotes.{header_more, columns_all}
 use Rattle.ags_check.proofs.rows.entries.note_columns.Goals as goal
 use Rattle.ags_check.proofs.rows.entries.note_columns.Goals.{then-is_unlisted_unit+in_ok-note, else-is_unlisted_unit, then-is_unlisted_type+in_ok-note-2, else-is_unlisted_type}
 
 pub loop-column-preserved : goal.loop-column-preserved
-loop-column-preserved c = λ are.
+loop-column-preserved c =
     let file = c.args.listed.now in
-    let group = c.args.group.now in
+    let group = c.outline.inside.group.now in
+    let columns = c.as_slice-columns.result.now in
     let i = c.loop-column.column-index in
-    let column = get_or c.args.columns.now i _ in
+    let column = get_or columns i _ in
     let mid = c.loop-column.findings in
     let half = c.if-is_unlisted_unit.findings in
     let new = c.if-is_unlisted_type.findings in
+    let are = subst (AreColumns (group_contents group) group.headings) (sym c.as_slice-columns.ensures.value) c.outline.invariant.columns in
     let unit : Adds (Notes group.unit_line Rule15 column.heading.now (IsUnlistedUnit file column.unit.now)) mid half = elim c.if-is_unlisted_unit.branch [
       | then-is_unlisted_unit+in_ok-note w ↦ adds_found (c.is_unlisted_unit.ensures.0 w.if-is_unlisted_unit.true) (w.findings-is ∙ w.in_ok-note.ensures.noted)
       | else-is_unlisted_unit w ↦ adds_unmet w.if-is_unlisted_unit.false c.is_unlisted_unit.ensures.1 w.findings-is
@@ -25,9 +29,15 @@ loop-column-preserved c = λ are.
       | then-is_unlisted_type+in_ok-note-2 w ↦ adds_found (c.is_unlisted_type.ensures.0 w.if-is_unlisted_type.true) (w.findings-is ∙ w.in_ok-note-2.ensures.noted)
       | else-is_unlisted_type w ↦ adds_unmet w.if-is_unlisted_type.false c.is_unlisted_type.ensures.1 w.findings-is
     ] in
-    header_more file group c.args.columns.now i _ c.args.findings.now mid half new are c.loop-column-test.true (c.loop-column.invariant are) unit type
+    header_more file group columns i _ c.args.findings.now mid half new are c.loop-column-test.true c.loop-column.invariant unit type
 
 pub returns : goal.returns
-returns c = λ are.
-    columns_all (unit_and_type_rules c.args.listed.now c.args.group.now) c.args.group.now.headings c.args.columns.now c.loop-column.column-index
-    c.args.findings.now c.loop-column.findings are.heads (omega (arith, c.loop-column-test.false)) (c.loop-column.invariant are)
+returns c =
+    let file = c.args.listed.now in
+    let group = c.outline.inside.group.now in
+    let old = c.args.findings.now in
+    let new = c.loop-column.findings in
+    let are = subst (AreColumns (group_contents group) group.headings) (sym c.as_slice-columns.ensures.value) c.outline.invariant.columns in
+    subst (λ (v : Outlined). Adds (InHeadings v.group.headings (unit_and_type_rules file v.group)) old new) c.outline.view_is
+    (columns_all (unit_and_type_rules file group) group.headings c.as_slice-columns.result.now c.loop-column.column-index old new
+    are.heads (omega (arith, c.loop-column-test.false)) c.loop-column.invariant)

@@ -1,26 +1,38 @@
-use Rattle.std.proofs.Common.{◌∙◌, get_or, arith}
+use Rattle.std.proofs.Common.{◌≡◌, ◌∙◌, List, ℕ, get_or, ap, arith}
 use Rattle.ags_rows.specs.declared.code.Code.TheVariants.{Rule8, Rule15, Rule16, Rule17}
 use Rattle.ags_rows.specs.Collecting.{Adds, Notes}
+use Rattle.ags_rows.specs.Contents.{group_contents, fields_of}
 use Rattle.ags_rows.proofs.Lemmas.{adds_found, adds_unmet}
-use Rattle.ags_check.specs.Columns.{entry_under}
+use Rattle.ags_check.specs.Columns.{column_text, entry_under}
 use Rattle.ags_check.specs.RowPhase.{data_entry_rules}
 use Rattle.ags_check.specs.RowRules.{entry_in, IsUnfit, IsUnlistedUnitEntry, IsUnlistedAbbreviationEntry, IsUnlistedTypeEntry}
-use Rattle.ags_check.proofs.EntryNotes.{entry_noted, entries_more, columns_all}
+use Rattle.ags_check.proofs.EntryNotes.{own_columns, entry_noted, entries_more, columns_all}
 use Rattle.ags_check.proofs.rows.entries.note_entries.Goals as goal
 use Rattle.ags_check.proofs.rows.entries.note_entries.Goals.{then-is_unfit+in_ok-note, else-is_unfit, then-is_unlisted_unit+in_ok-note-2, else-is_unlisted_unit, then-is_unlisted_abbreviation+in_ok-note-3, else-is_unlisted_abbreviation, then-is_unlisted_type+in_ok-note-4, else-is_unlisted_type}
 
+pub is_unfit-requires : goal.is_unfit-requires
+is_unfit-requires c =
+    let are = own_columns _ _ _ _ c.outline.view_is c.as_slice-columns.ensures.value c.outline.invariant.columns in
+    (are.each c.loop-column.column-index _ c.loop-column-test.true).typed
+
 pub loop-column-preserved : goal.loop-column-preserved
-loop-column-preserved c = λ group headings are.
+loop-column-preserved c =
     let file = c.args.listed.now in
-    let line = c.args.line in
+    let line = c.args.row.now.line in
+    let group = c.args.outline.now.group in
+    let columns = c.as_slice-columns.result.now in
+    let fields = fields_of c.args.row.now in
     let i = c.loop-column.column-index in
     let text = c.cell_at-text.result.now in
-    let entry = entry_under (get_or c.args.columns.now i _) text in
+    let column = get_or columns i _ in
+    let entry = entry_under column text in
     let f0 = c.loop-column.findings in
     let f1 = c.if-is_unfit.findings in
     let f2 = c.if-is_unlisted_unit.findings in
     let f3 = c.if-is_unlisted_abbreviation.findings in
     let f4 = c.if-is_unlisted_type.findings in
+    let are = own_columns _ _ _ _ c.outline.view_is c.as_slice-columns.ensures.value c.outline.invariant.columns in
+    let stands : text ≡ column_text column fields = c.cell_at-text.ensures ∙ ap (λ (l : List (List ℕ)). column_text column l) c.as_slice-cells.ensures in
     let unfit : Adds (Notes line Rule8 entry.heading (IsUnfit entry)) f0 f1 = elim c.if-is_unfit.branch [
       | then-is_unfit+in_ok-note w ↦ adds_found (c.is_unfit.ensures.0 w.if-is_unfit.true) (w.findings-is ∙ w.in_ok-note.ensures.noted)
       | else-is_unfit w ↦ adds_unmet w.if-is_unfit.false c.is_unfit.ensures.1 w.findings-is
@@ -37,10 +49,13 @@ loop-column-preserved c = λ group headings are.
       | then-is_unlisted_type+in_ok-note-4 w ↦ adds_found (c.is_unlisted_type.ensures.0 w.if-is_unlisted_type.true) (w.findings-is ∙ w.in_ok-note-4.ensures.noted)
       | else-is_unlisted_type w ↦ adds_unmet w.if-is_unlisted_type.false c.is_unlisted_type.ensures.1 w.findings-is
     ] in
-    entries_more file line group headings c.args.cells.now c.args.columns.now i _ text c.args.findings.now f0 f4 are c.loop-column-test.true c.cell_at-text.ensures
-    (c.loop-column.invariant group headings are) (entry_noted file line entry f0 f1 f2 f3 f4 unfit unit abbreviation type)
+    entries_more file line (group_contents group) group.headings fields columns i _ text c.args.findings.now f0 f4 are c.loop-column-test.true stands
+    c.loop-column.invariant (entry_noted file line entry f0 f1 f2 f3 f4 unfit unit abbreviation type)
 
 pub returns : goal.returns
-returns c = λ group headings are.
-    columns_all (λ heading. data_entry_rules c.args.listed.now c.args.line (entry_in group c.args.cells.now heading)) headings c.args.columns.now c.loop-column.column-index
-    c.args.findings.now c.loop-column.findings are.heads (omega (arith, c.loop-column-test.false)) (c.loop-column.invariant group headings are)
+returns c =
+    let group = c.args.outline.now.group in
+    let row = c.args.row.now in
+    let are = own_columns _ _ _ _ c.outline.view_is c.as_slice-columns.ensures.value c.outline.invariant.columns in
+    columns_all (λ heading. data_entry_rules c.args.listed.now row.line (entry_in (group_contents group) (fields_of row) heading)) group.headings c.as_slice-columns.result.now c.loop-column.column-index
+    c.args.findings.now c.loop-column.findings are.heads (omega (arith, c.loop-column-test.false)) c.loop-column.invariant

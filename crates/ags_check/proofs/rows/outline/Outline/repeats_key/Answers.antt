@@ -5,11 +5,11 @@ use Rattle.ags_check.proofs.RowNotes.{repeats_means}
 use Rattle.ags_check.proofs.rows.outline.Outline.repeats_key.Goals as goal
 
 pub returns : goal.returns
-returns c = λ row at name entries.
+returns c = λ row at.
     let own = c.self.inside in
     let file = c.args.index.now in
     let same : keys_of own.dictionary.now own.group.now.name ≡ keys_of file.entries row.group =
-    ap (λ (e : Entries). keys_of e own.group.now.name) (ap (λ (v : Outlined). v.entries) c.self.view_is ∙ entries)
-    ∙ ap (keys_of file.entries) (ap (λ (v : Outlined). v.group.name) c.self.view_is ∙ sym name) in
+    ap (λ (e : Entries). keys_of e own.group.now.name) (ap (λ (v : Outlined). v.entries) c.self.view_is ∙ c.requires.entries)
+    ∙ ap (keys_of file.entries) (ap (λ (v : Outlined). v.group.name) c.self.view_is ∙ sym (c.requires.row row at)) in
     let keyed : keys_of file.entries row.group ≢ [] = λ none. c.self.invariant.has_keys.0 c.if-not-self.false (same ∙ none) in
     repeats_means file.entries file.contents c.args.number c.in_ok-first_of_key.field-0 row keyed at c.in_ok-first_of_key.ensures
