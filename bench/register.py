@@ -32,12 +32,16 @@ class Place:
         return os.path.join(self.folder, name)
 
     def run(self, *words):
-        """Seconds and output of a command."""
-        begun = time.monotonic()
-        run = subprocess.run([self.program, *words], cwd=self.folder, stdin=subprocess.DEVNULL, capture_output=True, preexec_fn=self.limit)
+        """Seconds, greatest resident memory in MB and output of a command."""
+        with tempfile.NamedTemporaryFile() as note:
+            timed = ["/usr/bin/time", "-q", "-f", "%M", "-o", note.name, self.program, *words]
+            begun = time.monotonic()
+            run = subprocess.run(timed, cwd=self.folder, stdin=subprocess.DEVNULL, capture_output=True, preexec_fn=self.limit)
+            taken = time.monotonic() - begun
+            memory = int(note.read().split()[-1]) / 1024
         if run.returncode:
             sys.exit(f"{words[0]}: {run.returncode}, {run.stdout[:80]} {run.stderr[:80]}")
-        return time.monotonic() - begun, run.stdout
+        return taken, memory, run.stdout
 
     def bytes_held(self):
         return sum(os.path.getsize(self.path(name)) for name in ("register", "register-wal") if os.path.exists(self.path(name)))
@@ -149,19 +153,20 @@ def grown(program, folder, limit, size):
 
 def measure(program, size, limit):
     folder = tempfile.mkdtemp(prefix="bench")
-    print("\n| File | Bytes | deposit | list | extract | Register, bytes | SQLite writes the rows | reads them | its bytes |\n|---|---|---|---|---|---|---|---|---|")
+    print("\n| File | Bytes | deposit, s | MB | list, s | MB | extract, s | MB | Register, bytes | SQLite writes the rows, s | reads them | its bytes |\n" + "|---" * 12 + "|")
     for make in (files.flat, files.deep, files.ring):
         place = Place(program, folder, limit)
         data = make(size)
         with open(place.path("file"), "wb") as file:
             file.write(data)
-        deposited, _ = place.run("deposit", *ASKING, "file")
+        deposited, to_deposit, _ = place.run("deposit", *ASKING, "file")
         held = place.bytes_held()
-        listed, _ = place.run("list", *ASKING)
-        drawn, text = place.run("extract", *ASKING, "1")
+        listed, to_list, _ = place.run("list", *ASKING)
+        drawn, to_draw, text = place.run("extract", *ASKING, "1")
         written, read, beside = by_sqlite(place)
         note = "" if len(text) > size // 2 else " (not whole)"
-        print(f"| {make.__name__} | {len(data)} | {deposited:.2f} | {listed:.2f} | {drawn:.2f}{note} | {held} | {written:.2f} | {read:.2f} | {beside} |", flush=True)
+        commands = f"{deposited:.2f} | {to_deposit:.1f} | {listed:.2f} | {to_list:.1f} | {drawn:.2f}{note} | {to_draw:.1f}"
+        print(f"| {make.__name__} | {len(data)} | {commands} | {held} | {written:.2f} | {read:.2f} | {beside} |", flush=True)
     place = Place(program, folder, limit)
     tools = tempfile.mkdtemp(prefix="bench")
     plain = built_plainly(tools)
@@ -178,6 +183,6 @@ def measure(program, size, limit):
     place = Place(program, folder, limit)
     text = files.deep(size // 4)
     taken, _ = place.serve([post(text.replace(b"North bank", b"Site %02d" % n)) for n in range(100)])
-    opened, _ = place.run("list", *WORDS, "--token", "t-delta", "--project", "N2", "--day", "2024-06-01")
-    print(f"\n100 deposits of {len(text)} bytes: {taken / 100:.2f} s each over the socket, {place.bytes_held()} bytes; opened, and a listing of no deposits, in {opened:.2f} s")
+    opened, memory, _ = place.run("list", *WORDS, "--token", "t-delta", "--project", "N2", "--day", "2024-06-01")
+    print(f"\n100 deposits of {len(text)} bytes: {taken / 100:.2f} s each over the socket, {place.bytes_held()} bytes; opened, and a listing of no deposits, in {opened:.2f} s and {memory:.1f} MB")
     shutil.rmtree(folder)
