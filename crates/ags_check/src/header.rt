@@ -143,5 +143,5 @@ pub(crate) fn header_findings(
     let code = unknown_code(file.groups());
     note_all_header_rows(alloc, given, extended, file, code, &mut findings)?;
     note_absent_groups(file, &mut findings)?;
-    findings.in_order()
+    Ok(findings.in_order())
 }

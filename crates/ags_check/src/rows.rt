@@ -161,5 +161,5 @@ pub(crate) fn entry_findings<'a>(
     // the index counts its rows with a number below 2^32, so each has its own
     index.row_count();
     note_all_entries(alloc, dictionary, index, groups, &mut findings)?;
-    findings.in_order()
+    Ok(findings.in_order())
 }

@@ -1,6 +1,7 @@
 -- What stands at a place of a list: `At`, by the place and the item there, and as a member.
-use Rattle.std.proofs.Common.{◌≡◌, ℕ, ◌<◌, List, length, get_or, Some, ◌∙◌, ap}
+use Rattle.std.proofs.Common.{◌≡◌, ℕ, ◌+◌, ◌<◌, List, [], ◌∷◌, ◌++◌, length, get_or, take, Some, ◌∙◌, ap}
 use Rattle.std.specs.Prelude.{Contains}
+use Rattle.std.proofs.lemmas.List.{take_more}
 use Rattle.std.proofs.lemmas.Option.{slice_get-get_or, slice_get_within, get_or_from_slice_get}
 use Rattle.ags_rows.specs.Collecting.{At}
 
@@ -20,3 +21,7 @@ contains_at xs k x at = (k, at_within xs k x at, at_read xs k x x at)
 
 pub at_contained : {X : Type 0} (xs : List X) (x : X) (h : Contains xs x) → At xs h.0 x
 at_contained xs x h = at_from_read xs h.0 x x h.1 h.2
+
+-- up to the next place stands what stands at this one, and before it what stood so far
+pub take_at : {X : Type 0} (xs : List X) (k : ℕ) (x : X) → At xs k x → take (k + 1) xs ≡ take k xs ++ x ∷ []
+take_at {X} xs k x at = take_more xs k x (at_within xs k x at) ∙ ap (λ (y : X). take k xs ++ y ∷ []) (at_read xs k x x at)

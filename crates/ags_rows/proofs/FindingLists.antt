@@ -1,16 +1,14 @@
 -- Findings without a subject, in the order of findings.
-use Rattle.std.proofs.Common.{◌≡◌, ℕ, zero, suc, ◌<◌, List, [], ◌∷◌, ◌++◌, inl, inr, map, get_or, length, refl, ap, subst, arith}
+use Rattle.std.proofs.Common.{◌≡◌, ℕ, zero, suc, ◌<◌, List, [], ◌∷◌, map, get_or, length, refl, ap, subst, arith}
 use Rattle.std.specs.Prelude.{Contains}
 use Rattle.std.specs.List.{AllByRecursion}
 use Rattle.std.specs.List.Sorted.{IsStrictlySortedBy}
 use Rattle.std.specs.Ordering.{on}
 use Rattle.std.specs.declared.cmp.Ordering.{Ordering}
 use Rattle.std.specs.declared.cmp.Ordering.TheVariants.{Less}
-use Rattle.std.proofs.lemmas.List.Elements.{Contains-append_left, Contains-append_right, Contains-append_cases}
 use Rattle.std.proofs.lemmas.Map.Lookups.{CmpEqualImpliesEq}
 use Rattle.ags_rows.specs.declared.finding.Finding.{Finding}
 use Rattle.ags_rows.specs.FindingLists.{bare_cmp, bare_finding}
-use Rattle.ags_rows.specs.Findings.{AreExactly}
 use Rattle.ags_rows.proofs.Files.{finding_exact}
 
 pub bare_exact : CmpEqualImpliesEq bare_cmp
@@ -46,17 +44,3 @@ mapped_within f xs ys within y h =
     let one = mapped_at f xs y h.0 h.1 h.2 in
     let there = within one.0 one.1 in
     subst (λ z. Contains (map f ys) z) one.2 (at_mapped f ys one.0 there.0 there.1 there.2)
-
--- two lists joined the other way round
-pub listed_turned : (front back found : List Finding) → AreExactly (Contains (back ++ front)) found → AreExactly (Contains (front ++ back)) found
-listed_turned front back found lists = record {
-  in_order = lists.in_order;
-  only = λ f h. elim (Contains-append_cases back front f (lists.only f h)) [
-    | inl k ↦ Contains-append_right front back f k
-    | inr k ↦ Contains-append_left front back f k
-  ];
-  all = λ f h. lists.all f (elim (Contains-append_cases front back f h) [
-    | inl k ↦ Contains-append_right back front f k
-    | inr k ↦ Contains-append_left back front f k
-  ]);
-}

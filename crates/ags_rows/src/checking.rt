@@ -160,5 +160,5 @@ pub(crate) fn group_findings(alloc: Global, groups: &[Group]) -> Result<FindingL
 {
     let mut findings = NotedFindings::new(alloc);
     note_groups(alloc, groups, &mut findings)?;
-    findings.in_order()
+    Ok(findings.in_order())
 }

@@ -2,10 +2,10 @@ use Rattle.std.proofs.Common.{List, subst}
 use Rattle.ags_rows.specs.declared.finding.Finding.{Finding}
 use Rattle.ags_rows.specs.Collecting.{Adds}
 use Rattle.ags_rows.specs.Stands.{StandsInGroups}
-use Rattle.ags_rows.proofs.Collecting.{ok_listed}
+use Rattle.ags_rows.proofs.Collecting.{listed}
 use Rattle.ags_rows.proofs.checking.group_findings.Goals as goal
 
 pub returns : goal.returns
 returns c =
     let noted = c.note_groups.new.findings in
-    ok_listed noted c.in_order.result (subst (λ (l : List Finding). Adds (StandsInGroups c.args.groups.now) l noted) c.new-findings.ensures c.in_ok-note_groups.ensures) c.in_order.ensures
+    listed noted c.in_order.result (subst (λ (l : List Finding). Adds (StandsInGroups c.args.groups.now) l noted) c.new-findings.ensures c.in_ok-note_groups.ensures) c.in_order.ensures.order c.in_order.ensures.only c.in_order.ensures.all

@@ -30,7 +30,7 @@ returns-clause-file c =
       record { lines = lines; rows = c.in_ok-rows.rows.items; groups = groups.0 },
       record { lines = cut; rows = rows; groups = groups.1 },
       refl,
-      listed noted c.in_ok-found.found adds c.in_ok-found.ensures,
+      listed noted c.in_order.result adds c.in_order.ensures.order c.in_order.ensures.only c.in_order.ensures.all,
     )
 
 pub returns-clause-few : goal.returns-clause-few

@@ -1,6 +1,0 @@
-use Rattle.std.proofs.Common.{◌≡◌, ◌++◌, map, take}
-use Rattle.ags_rows.specs.FindingLists.{bare_finding}
-use Rattle.ags_rows.proofs.finding.with_bare.Given as goal
-
-abbrev pub invariant-loop-one : goal.invariant-loop-one
-invariant-loop-one l = l.all.items ≡ l.fn.full.items ++ map bare_finding (take l.one-index l.fn.bare)
