@@ -54,7 +54,7 @@ found_not_free [] Stands reply stands h free = stands reply h free
 found_not_free (f ∷ found) Stands reply stands h free = subst IsFree h free
 
 -- a body that is not too large needs memory
-small_needs : (d : Decision) (k : ℕ) (register : Register) (bytes : List ℕ) (Stands : Answer → Type 0) (reply : Answer) → d ≡ Permit k → length bytes ≤ LIMIT → ((r : Answer) → Stands r → IsFree r → ⊥)
+pub small_needs : (d : Decision) (k : ℕ) (register : Register) (bytes : List ℕ) (Stands : Answer → Type 0) (reply : Answer) → d ≡ Permit k → length bytes ≤ LIMIT → ((r : Answer) → Stands r → IsFree r → ⊥)
     → OrDenied d (OrRefused register bytes Stands) reply → IsFree reply → ⊥
 small_needs d k register bytes Stands reply permit le stands is free =
     let h = permit_stands d k (OrRefused register bytes Stands) reply permit is in

@@ -32,7 +32,7 @@ use Rattle.reg_desk.specs.View.{IsViewOf, IsExtractOf, Sees}
 use Rattle.reg_desk.specs.Serving.{IsQuiet, AsksStore, IsLineFor, text_answer, register_at, OnlyReads, Serves, look_on, answer_of}
 use Rattle.reg_desk.proofs.Replies.{one_file}
 use Rattle.reg_desk.proofs.Bodies.{where_true, where_false}
-use Rattle.reg_desk.proofs.Serves.{is_told, replies_at_once, refused_serves, replies_serves, permitted_reply, denied_reply, permit_stands}
+use Rattle.reg_desk.proofs.Serves.{is_told, asks_needs, replies_at_once, refused_serves, replies_serves, permitted_reply, denied_reply, permit_stands}
 
 -- ---- a kept deposit
 
@@ -65,7 +65,7 @@ look_same register caller day d head is =
     ∙ ap (λ (p : List ℕ). record { rules = register.rules; caller = caller; owner = d.firm; project = p; embargo = head.embargo; day = day }) is.project
     ∙ ap (λ (e : ℤ). record { rules = register.rules; caller = caller; owner = d.firm; project = d.project; embargo = e; day = day }) is.embargo
 
-clean_of : (given : Entries) (d : Deposit) (file : CheckedFile) → IsFileOf given d file → IsCleanFile given d.bytes (file_of file)
+pub clean_of : (given : Entries) (d : Deposit) (file : CheckedFile) → IsFileOf given d file → IsCleanFile given d.bytes (file_of file)
 clean_of given d file is =
     subst (λ (b : List ℕ). IsCleanFile given b (file_of file)) is.bytes (subst (λ (g : Entries). IsCleanFile g file.bytes (file_of file)) is.given is.clean.file)
 
@@ -195,7 +195,10 @@ extract_denied keep rules caller project number groups day old m works deny =
 pub extract_unread : {K : Type 0} (keep : Ghosts K) (rules : List Rule) (caller : Caller) (project : List ℕ) (number : ℕ) (groups : List (List ℕ)) (day : ℤ) (old new : K) (k : ℕ) (e : KeepError)
     → decided (register_at keep rules old) caller project verbs.Extract ≡ Permit k → OnlyReads keep old new (is_store e) → e ≢ errors.Full → Serves keep rules (extract caller project number groups day) old new (answer_of e)
 extract_unread keep rules caller project number groups day old new k e permit reads named =
-    refused_serves keep rules (extract caller project number groups day) old new e reads named (extract_asks (register_at keep rules old) (keep.deposits old) caller project number groups day k permit)
+    let register = register_at keep rules old in
+    let state = keep.deposits old in
+    let asks = extract_asks register state caller project number groups day k permit in
+    refused_serves keep rules (extract caller project number groups day) old new e reads named (asks_needs register state (extract caller project number groups day) asks) (λ s. asks)
 
 pub extract_replies : {K : Type 0} (keep : Ghosts K) (rules : List Rule) (caller : Caller) (project : List ℕ) (number : ℕ) (groups : List (List ℕ)) (day : ℤ) (old new : K) (k : ℕ) (answer : Answer)
     → decided (register_at keep rules old) caller project verbs.Extract ≡ Permit k → OnlyReads keep old new false → is_told answer ≡ true
@@ -206,7 +209,7 @@ extract_replies keep rules caller project number groups day old new k answer per
     let state = keep.deposits old in
     replies_serves keep rules (extract caller project number groups day) old new answer reads told
     (λ s. ∥∥₁_map (drawn s) (permitted_reply (decided register caller project verbs.Extract) k (IsDrawnFrom register caller project groups day (held number state)) answer permit))
-    (λ s. refl) (extract_asks register state caller project number groups day k permit)
+    (λ s. refl) (asks_needs register state (extract caller project number groups day) (extract_asks register state caller project number groups day k permit))
 
 -- ---- what is seen
 

@@ -21,7 +21,7 @@ use Rattle.reg_desk.specs.declared.answer.Answer.TheVariants.{Listing, Denied}
 use Rattle.reg_desk.specs.Machine.{Register, decided, IsSeen, Where, IsListing, held}
 use Rattle.reg_desk.specs.Serving.{IsQuiet, AsksStore, IsLineFor, register_at, OnlyReads, Serves, answer_of}
 use Rattle.reg_desk.proofs.Drawing.{held_at}
-use Rattle.reg_desk.proofs.Serves.{replies_at_once, refused_serves, replies_serves, permitted_reply, denied_reply, permit_stands}
+use Rattle.reg_desk.proofs.Serves.{asks_needs, replies_at_once, refused_serves, replies_serves, permitted_reply, denied_reply, permit_stands}
 
 -- ---- lines for numbers
 
@@ -172,7 +172,10 @@ listing_denied keep rules caller project day old m works deny =
 pub listing_unread : {K : Type 0} (keep : Ghosts K) (rules : List Rule) (caller : Caller) (project : List ℕ) (day : ℤ) (old new : K) (k : ℕ) (e : KeepError)
     → decided (register_at keep rules old) caller project verbs.List ≡ Permit k → OnlyReads keep old new (is_store e) → e ≢ errors.Full → Serves keep rules (listing caller project day) old new (answer_of e)
 listing_unread keep rules caller project day old new k e permit reads named =
-    refused_serves keep rules (listing caller project day) old new e reads named (listing_asks (register_at keep rules old) (keep.deposits old) caller project day k permit)
+    let register = register_at keep rules old in
+    let state = keep.deposits old in
+    let asks = listing_asks register state caller project day k permit in
+    refused_serves keep rules (listing caller project day) old new e reads named (asks_needs register state (listing caller project day) asks) (λ s. asks)
 
 pub listing_replies : {K : Type 0} (keep : Ghosts K) (rules : List Rule) (caller : Caller) (project : List ℕ) (day : ℤ) (old new : K) (k : ℕ) (lines : List Listed)
     → decided (register_at keep rules old) caller project verbs.List ≡ Permit k → OnlyReads keep old new false
@@ -184,4 +187,4 @@ listing_replies keep rules caller project day old new k lines permit reads is =
     replies_serves keep rules (listing caller project day) old new (Listing lines) reads refl
     (λ s. ∥∥₁_map (is s) (λ (h : IsListing register caller project day 1 state lines).
     permitted_reply (decided register caller project verbs.List) k (IsListingAnswer register state caller project day) (Listing lines) permit (lines, h, refl)))
-    (λ s. refl) (listing_asks register state caller project day k permit)
+    (λ s. refl) (asks_needs register state (listing caller project day) (listing_asks register state caller project day k permit))

@@ -2,6 +2,7 @@
 
 ghost use Rattle.std.specs.Prelude.{◌≡◌, ◌≤◌, ◌<◌, false};
 
+mod bodies;
 mod examples;
 mod failing;
 mod laws;
@@ -12,7 +13,8 @@ use crate::{Answer, Desk, Listed, Request};
 use ags_dict::Dictionary;
 use ags_rows::vectors::{FILE_A, FILE_B, FILE_C, MINI};
 use ags_rows::{FindingList, READABLE};
-use examples::{EXAMPLES, LENGTHS, MOST};
+use bodies::LENGTHS;
+use examples::{EXAMPLES, MOST};
 use reg_policy::vectors::{CALLERS, POLICY};
 use reg_policy::{Caller, Callers, Day, Name, Policy};
 use reg_store::{Keep, PlainKeep, SqlKeep};

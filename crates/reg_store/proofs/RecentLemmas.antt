@@ -1,4 +1,4 @@
--- What stands in memory of the deposit that was read last, as calls leave it.
+-- What was read last and stands in memory, as calls leave it.
 use Rattle.std.proofs.Common.{◌≡◌, ℕ, Bool, false, Option, Some, IfSome, Result, Ok, Err, IfOk, sym, subst, subst₂}
 use Rattle.sqlite.specs.Effect.{Database}
 use Rattle.sqlite.specs.State.{State, HasCleanDisk}
@@ -18,11 +18,12 @@ recent_quiet old new recent held quiet clean well =
 
 -- so it does with another graph that was read of them
 pub graph_kept : (old new : State) {failed : Bool} (recent : Recent) (n : ℕ) (graph : Wiring) (kept : Option RecentGraph) → (HasCleanDisk old → HoldsRecent old.now recent) → IsStill old new failed → HasCleanDisk new → failed ≡ false
-    → IsGraphAt old.now n graph → IfSome kept (λ (held : RecentGraph). (held.number ≡ n) × (held.graph ≡ graph)) → HoldsRecent new.now (record { rows = recent.rows; graph = kept })
+    → IsGraphAt old.now n graph → IfSome kept (λ (held : RecentGraph). (held.number ≡ n) × (held.graph ≡ graph)) → HoldsRecent new.now (record { rows = recent.rows; graph = kept; found = recent.found })
 graph_kept old new recent n graph kept holds quiet clean well read same =
     let was = recent_quiet old new recent holds quiet clean well in
     record {
       rows = was.rows;
+      found = was.found;
       graph = λ held is.
           (let its = subst (λ (o : Option RecentGraph). IfSome o (λ (it : RecentGraph). (it.number ≡ n) × (it.graph ≡ graph))) is same in
           subst (λ (db : Database). IsGraphAt db held.number held.graph) (sym (quiet.same clean well).0) (subst₂ (λ (m : ℕ) (g : Wiring). IsGraphAt old.now m g) (sym its.0) (sym its.1) read));

@@ -229,6 +229,10 @@ impl Keep for PlainKeep {
         Ok(find_in(self.kept.as_slice(), firm, project, bytes))
     }
 
+    fn recall(&self, firm: &Name, project: &Name, bytes: &[u8]) -> Option<u32> {
+        find_in(self.kept.as_slice(), firm, project, bytes)
+    }
+
     fn add(
         &mut self,
         firm: &Name,

@@ -114,7 +114,13 @@ impl<S: Alter> Keep for SqlKeep<S> {
             bytes,
         );
         self.has_failed = is_store(&found);
+        self.recent
+            .note_found(self.alloc, firm, project, bytes, &found);
         found
+    }
+
+    fn recall(&self, firm: &Name, project: &Name, bytes: &[u8]) -> Option<u32> {
+        self.recent.recall(firm, project, bytes)
     }
 
     fn add(

@@ -30,6 +30,8 @@ enum File {
 enum Call {
     /// `find` of a firm's file for a project, and `add` where there is none.
     Take(&'static str, &'static str, File),
+    /// `recall` of a firm's file for a project.
+    Recall(&'static str, &'static str, File),
     Deposit(u32),
     Head(u32),
     Rows(u32),
@@ -408,6 +410,29 @@ fn tell_take<K: Keep>(
     Ok(tell_taken(number, told)?)
 }
 
+/// The number of the equal deposit, or nothing where it is not known.
+fn tell_recall<K: Keep>(
+    alloc: Global,
+    keep: &K,
+    firm: &str,
+    project: &str,
+    file: File,
+    told: &mut String,
+) -> Result<(), KeepError> {
+    let firm = name(alloc, firm)?;
+    let project = name(alloc, project)?;
+    let renamed = renamed(alloc)?;
+    let bytes = match file {
+        File::A => FILE_A,
+        File::B => FILE_B,
+        File::OtherA => renamed.as_slice(),
+    };
+    match keep.recall(&firm, &project, bytes) {
+        Some(number) => Ok(tell_taken(number, told)?),
+        None => Ok(()),
+    }
+}
+
 /// Adds the answer of a call to a text.
 fn tell<K: Keep>(
     alloc: Global,
@@ -420,6 +445,7 @@ fn tell<K: Keep>(
 {
     match call {
         Call::Take(firm, project, file) => tell_take(alloc, keep, firm, project, file, told),
+        Call::Recall(firm, project, file) => tell_recall(alloc, keep, firm, project, file, told),
         Call::Deposit(n) => tell_deposit(keep, n, told),
         Call::Head(n) => tell_head(keep, n, told),
         Call::Rows(n) => tell_rows(alloc, keep, n, told),

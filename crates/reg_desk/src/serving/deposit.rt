@@ -1,6 +1,7 @@
 //! A deposit: taken once, with a receipt.
 
-ghost use Rattle.std.specs.Prelude.{◌≡◌, ◌≢◌, ℤ, None, Err, IfOk, IfSome, false};
+ghost use Rattle.std.specs.Prelude.{◌≡◌, ◌≢◌, ◌≤◌, ℤ, Some, None, Err, IfOk, IfSome, false, length};
+ghost use Rattle.reg_store.specs.Deposit.{number_of};
 ghost use Rattle.reg_store.specs.Keep.{fails};
 ghost use Rattle.reg_desk.specs.Asked.{deposit as asks_deposit};
 ghost use Rattle.reg_desk.specs.Machine.{first_equal};
@@ -9,9 +10,22 @@ ghost use Rattle.reg_desk.specs.Serving.{OnlyReads, Serves};
 use crate::answer::Answer;
 use crate::serving::body::read_body;
 use crate::serving::{decide_request, refused};
+use ags_rows::LIMIT;
 use reg_policy::{Caller, Day, Decision, Name, Policy, Verb};
 use reg_store::{Keep, KeepError};
 use std::alloc::Global;
+
+/// The number of the deposit that is held already, if the keep knows it without asking its store. The body was checked when it came.
+fn recalled<K: Keep>(keep: &K, firm: &Name, project: &Name, bytes: &[u8]) -> Option<u32>
+    ensures short { IfSome result (λ _. length bytes.now ≤ LIMIT) }
+    ensures held { K.is_sound keep.now → K.has_failed keep.now ≡ false → IfSome result (λ n.
+        number_of firm.now project.now bytes.now (K.deposits keep.now) ≡ Some n) }
+{
+    if bytes.len() > LIMIT {
+        return None;
+    }
+    keep.recall(firm, project, bytes)
+}
 
 /// The number and the embargo of the deposit that is held already: the first that is equal in firm, project and bytes.
 #[tactic(auto, using(crate::proofs::Firsts::none_held))]
@@ -65,6 +79,12 @@ pub(super) fn serve_deposit<K: Keep>(
     match decide_request(policy, caller, project, Verb::Deposit) {
         Decision::Deny(rule) => return Answer::Denied(rule),
         Decision::Permit(_rule) => {}
+    }
+    if let Some(number) = recalled(keep, &caller.firm, project, bytes) {
+        return match keep.head(number) {
+            Err(error) => refused(error),
+            Ok(head) => receipt(number, Some(head.embargo), embargo),
+        };
     }
     let checked = match read_body(alloc, keep.dictionary(), bytes) {
         Err(answer) => return answer,

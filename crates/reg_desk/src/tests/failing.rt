@@ -1,6 +1,7 @@
 //! The desk over a keep that fails.
 
-use super::examples::{B_SHOWN, EXAMPLES, FIRST, LISTED, MOST, UNTIL};
+use super::bodies::B_SHOWN;
+use super::examples::{EXAMPLES, FIRST, LISTED, MOST, UNTIL};
 use super::refusing::Refusing;
 use super::{
     Step, Want, check_of, count_wanted, deposit_of, desk_over, extract_of, list_of, memory_of,

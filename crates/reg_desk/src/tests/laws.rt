@@ -2,7 +2,8 @@
 
 ghost use Rattle.std.specs.Prelude.{◌≡◌, ◌≤◌, false};
 
-use super::examples::{A, B, B_SHOWN, B_TESTED, B_WETTER, FIRST, LISTED, MOST, SECOND, UNTIL};
+use super::bodies::{A, B, B_SHOWN, B_TESTED, B_WETTER};
+use super::examples::{FIRST, LISTED, MOST, SECOND, UNTIL};
 use super::{
     Ask, Body, Step, Want, count_wanted, deposit_of, desk_over, extract_of, holds, list_of,
     memory_of, plays_in_memory, plays_in_tables,

@@ -69,6 +69,10 @@ impl Keep for Refusing {
         self.keep.find(firm, project, bytes)
     }
 
+    fn recall(&self, _firm: &Name, _project: &Name, _bytes: &[u8]) -> Option<u32> {
+        None
+    }
+
     fn add(
         &mut self,
         firm: &Name,

@@ -117,7 +117,7 @@ const PROJECT_OF_OTHER_A: &str =
     "0 \"HEADING\",\"PROJ_ID\",\"PROJ_NAME\" \"DATA\",\"P7\",\"Forth bank\"";
 
 /// What is asked twice, of another deposit, and behind one that was added.
-const AGAIN: [Case; 27] = [
+const AGAIN: [Case; 32] = [
     Case {
         call: Call::Take("Delta", "N1", File::B),
         want: "1",
@@ -227,6 +227,27 @@ const AGAIN: [Case; 27] = [
     Case {
         call: Call::Targets(1, 9),
         want: "7;",
+    },
+    // The deposit that was found last is known by its firm, its project and its body.
+    Case {
+        call: Call::Take("Delta", "N1", File::B),
+        want: "1",
+    },
+    Case {
+        call: Call::Recall("Delta", "N1", File::B),
+        want: "1",
+    },
+    Case {
+        call: Call::Recall("Gamma", "N2", File::B),
+        want: "",
+    },
+    Case {
+        call: Call::Recall("Delta", "N3", File::B),
+        want: "",
+    },
+    Case {
+        call: Call::Recall("Delta", "N1", File::A),
+        want: "",
     },
 ];
 

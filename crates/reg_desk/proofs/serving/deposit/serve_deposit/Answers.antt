@@ -6,7 +6,7 @@ use Rattle.reg_desk.specs.Asked.{deposit}
 use Rattle.reg_desk.specs.Serving.{IsRefusal, Serves, register_at}
 use Rattle.reg_desk.proofs.Firsts.{none_number}
 use Rattle.reg_desk.proofs.Serves.{still_works}
-use Rattle.reg_desk.proofs.Taking.{IsFine, Appends, asked_deposit, deposit_denied, deposit_refused, deposit_unread, deposit_repeats, deposit_added, deposit_unadded}
+use Rattle.reg_desk.proofs.Taking.{IsAllowed, IsFine, Appends, asked_deposit, deposit_denied, deposit_refused, deposit_unread, deposit_repeats, deposit_added, deposit_unadded}
 use Rattle.reg_desk.proofs.serving.deposit.serve_deposit.Goals as goal
 
 pub returns-in-Deny : goal.returns-in-Deny
@@ -25,27 +25,27 @@ held_already-requires g c = c.requires
 
 pub returns-in-Err-held_already : goal.returns-in-Err-held_already
 returns-in-Err-held_already g c = λ day.
-    let fine : IsFine (register_at g.K.Keep c.args.policy.now c.args.keep.now) c.args.caller.now c.args.project.now c.args.bytes.now = record {
+    let allowed : IsAllowed (register_at g.K.Keep c.args.policy.now c.args.keep.now) c.args.caller.now c.args.project.now c.args.bytes.now = record {
       number = c.in-Permit._rule;
       permitted = sym (c.decide_request.ensures (g.K.Keep.dictionary c.args.keep.now) (g.K.Keep.limit c.args.keep.now)) ∙ c.in-Permit.is;
       small = c.in-Ok.ensures.short;
-      clean = subst (λ (e : Entries). AreFindings e c.args.bytes.now []) c.dictionary.ensures c.in-Ok.ensures.clean;
     } in
     subst (Serves g.K.Keep c.args.policy.now (deposit c.args.caller.now c.args.project.now c.args.embargo c.args.bytes.now day) c.args.keep.now c.held_already.new.keep) (sym c.refused.ensures)
-    (deposit_unread g.K.Keep c.args.policy.now c.args.caller.now c.args.project.now c.args.embargo c.args.bytes.now day c.args.keep.now c.held_already.new.keep c.in-Err-held_already.error fine
+    (deposit_unread g.K.Keep c.args.policy.now c.args.caller.now c.args.project.now c.args.embargo c.args.bytes.now day c.args.keep.now c.held_already.new.keep c.in-Err-held_already.error allowed
+    (λ s. ∣ subst (λ (e : Entries). AreFindings e c.args.bytes.now []) c.dictionary.ensures c.in-Ok.ensures.clean ∣₁)
     c.in-Err-held_already.ensures.reads (λ e. c.in-Err-held_already.ensures.named (ap (λ x. Err x) e)))
 
 pub returns-in-Ok-Some : goal.returns-in-Ok-Some
 returns-in-Ok-Some g c = λ day.
-    let fine : IsFine (register_at g.K.Keep c.args.policy.now c.args.keep.now) c.args.caller.now c.args.project.now c.args.bytes.now = record {
+    let allowed : IsAllowed (register_at g.K.Keep c.args.policy.now c.args.keep.now) c.args.caller.now c.args.project.now c.args.bytes.now = record {
       number = c.in-Permit._rule;
       permitted = sym (c.decide_request.ensures (g.K.Keep.dictionary c.args.keep.now) (g.K.Keep.limit c.args.keep.now)) ∙ c.in-Permit.is;
       small = c.in-Ok.ensures.short;
-      clean = subst (λ (e : Entries). AreFindings e c.args.bytes.now []) c.dictionary.ensures c.in-Ok.ensures.clean;
     } in
     let held = rw c.in-Ok-Some.field-0-is at c.in-Ok-Some.ensures.held in
     subst (Serves g.K.Keep c.args.policy.now (deposit c.args.caller.now c.args.project.now c.args.embargo c.args.bytes.now day) c.args.keep.now c.held_already.new.keep) (sym c.receipt.ensures.held)
-    (deposit_repeats g.K.Keep c.args.policy.now c.args.caller.now c.args.project.now c.args.embargo c.args.bytes.now day c.args.keep.now c.held_already.new.keep c.in-Ok-Some.number c.in-Ok-Some.until fine
+    (deposit_repeats g.K.Keep c.args.policy.now c.args.caller.now c.args.project.now c.args.embargo c.args.bytes.now day c.args.keep.now c.held_already.new.keep c.in-Ok-Some.number c.in-Ok-Some.until allowed
+    (λ s. ∣ subst (λ (e : Entries). AreFindings e c.args.bytes.now []) c.dictionary.ensures c.in-Ok.ensures.clean ∣₁)
     c.in-Ok-Some.ensures.reads (λ s. sym (held s)))
 
 pub add-requires-clause-working : goal.add-requires-clause-working

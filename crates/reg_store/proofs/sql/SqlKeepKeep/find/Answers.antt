@@ -1,8 +1,11 @@
-use Rattle.std.proofs.Common.{◌≡◌, ap, refl, sym, ◌∙◌}
+use Rattle.std.proofs.Common.{◌≡◌, IfOk, ap, refl, subst, sym, ◌∙◌}
+use Rattle.sqlite.specs.Effect.{Database}
 use Rattle.sqlite.specs.Held.{state}
+use Rattle.reg_store.specs.Deposit.{number_of}
 use Rattle.reg_store.specs.Digests.{digest_of, numbers_under}
 use Rattle.reg_store.specs.Quiet.{clean_before}
-use Rattle.reg_store.specs.KeepLaws.{idle_at, keeps_quiet}
+use Rattle.reg_store.specs.KeepLaws.{idle_at, keeps_quiet, settled_of}
+use Rattle.reg_store.specs.Register.{deposits_in}
 use Rattle.reg_store.proofs.FrontsLemmas.{fronts_quiet}
 use Rattle.reg_store.proofs.HeadsLemmas.{heads_quiet}
 use Rattle.reg_store.proofs.RepeatsLemmas.{digested_quiet, repeat_told}
@@ -30,7 +33,18 @@ invariant_of-self-clause-digested g c works clean =
 
 pub invariant_of-self-clause-held : goal.invariant_of-self-clause-held
 invariant_of-self-clause-held g c works clean =
-    recent_quiet (state g.S.Store c.args.self.now.connection) (state g.S.Store c.find_equal-found.new.conn) c.args.self.now.recent (c.args.self.now.held c.requires.working) c.find_equal-found.ensures.quiet clean (sym c.is_store-self.ensures ∙ works)
+    let keep = c.args.self.now in
+    let old = state g.S.Store keep.connection in
+    let new = state g.S.Store c.find_equal-found.new.conn in
+    let quiet = c.find_equal-found.ensures.quiet in
+    let well = sym c.is_store-self.ensures ∙ works in
+    let first = clean_before old new quiet.survives clean in
+    let own : c.of-numbers.result.now ≡ numbers_under keep.digests (digest_of c.args.firm.now c.args.project.now c.args.bytes.now) = c.of-numbers.ensures ∙ ap (numbers_under keep.digests) c.digest_of-digest.ensures in
+    let told = repeat_told {s = old} c.args.firm.now c.args.project.now c.args.bytes.now keep.digests c.of-numbers.result.now c.find_equal-found.result (keep.kept c.requires.working first) own keep.below (keep.digested c.requires.working first)
+    (c.find_equal-found.ensures.equal clean) c.find_equal-found.ensures.among (c.find_equal-found.ensures.none clean) in
+    let same : old.committed ≡ new.now = settled_of {s = old} (keep.kept c.requires.working first) ∙ sym (quiet.same clean well).0 in
+    c.note_found.ensures new.now (recent_quiet old new keep.recent (keep.held c.requires.working) quiet clean well)
+    (subst (λ (db : Database). IfOk c.find_equal-found.result (λ n. n ≡ number_of c.args.firm.now c.args.project.now c.args.bytes.now (deposits_in db.trees))) same told)
 
 pub invariant_of-self-clause-fronted : goal.invariant_of-self-clause-fronted
 invariant_of-self-clause-fronted g c works clean =
