@@ -1,12 +1,13 @@
 //! A keep over a database.
 
-ghost use Rattle.std.specs.Prelude.{◌≡◌, ◌≤◌, ◌+◌, length, pos, false, IsTrue};
+ghost use Rattle.std.specs.Prelude.{◌≡◌, ◌<◌, ◌≤◌, ◌+◌, length, pos, false, IfOk, IsTrue};
 ghost use Rattle.reg_policy.specs.Days.{is_day_number};
 ghost use Rattle.reg_store.specs.Keep.{fails, is_store as store_error};
 ghost use Rattle.reg_store.specs.KeepLaws.{few_at, fit_at, remains_at, settled_at, stays_at, unbroken_at};
 ghost use Rattle.sqlite.specs.State.{HasCleanDisk};
 ghost use Rattle.sqlite.specs.Held.{state};
 ghost use Rattle.reg_store.specs.Digests.{AreBelow, AreDigested};
+ghost use Rattle.reg_store.specs.Fit.{kept_rows as rows_in};
 ghost use Rattle.reg_store.specs.Fronts.{HoldsFronts};
 ghost use Rattle.reg_store.specs.Heads.{AreHeads};
 ghost use Rattle.reg_store.specs.Recent.{HoldsRecent};
@@ -25,9 +26,10 @@ use crate::statements::{Filed, add_file};
 use ags_check::Checked;
 use ags_dict::Dictionary;
 use ags_links::Graph;
+use ags_rows::Group;
 use reg_policy::{Day, Name};
 use sqlite::{Alter, Connection};
-use std::alloc::Global;
+use std::alloc::{AllocError, Global};
 
 /// The greatest number of deposits.
 pub const MOST: u32 = 999_999;
@@ -134,13 +136,7 @@ impl<S: Alter> Keep for SqlKeep<S> {
             return Err(KeepError::Full);
         }
         let number = self.count + 1;
-        let made = kept_rows(self.alloc, checked.scan().groups());
-        let Ok(rows) = made else {
-            return Err(KeepError::NoMemory);
-        };
-        if rows.len() >= 4_294_967_296 {
-            return Err(KeepError::NoMemory);
-        }
+        let rows = few_rows(self.alloc, checked.scan().groups())?;
         let room = make_room(&mut self.heads, firm, project, embargo);
         let Ok(head) = room else {
             return Err(KeepError::NoMemory);
@@ -159,12 +155,8 @@ impl<S: Alter> Keep for SqlKeep<S> {
             body,
         };
         self.recent = Recent::none();
-        let added = add_file(
-            &mut self.connection,
-            filed,
-            rows.as_slice(),
-            checked.graph().steps(),
-        );
+        let steps = checked.graph().steps();
+        let added = add_file(&mut self.connection, filed, rows.as_slice(), steps);
         match added {
             Ok(()) => {
                 self.heads.push_reserved(head);
@@ -253,6 +245,18 @@ impl<S: Alter> Keep for SqlKeep<S> {
     ghost fit = { λ k clean works. fit_at (k.kept works clean) };
 
     ghost few = { λ k clean works. few_at (k.kept works clean) };
+}
+
+/// The rows of a file, as many as a table of lines can number.
+fn few_rows(alloc: Global, groups: &[Group]) -> Result<Vec<KeptRow>, AllocError>
+    ensures rows { IfOk result (λ rows. rows.items ≡ rows_in groups.now) }
+    ensures few { IfOk result (λ rows. length rows.items < 4294967296) }
+{
+    let rows = kept_rows(alloc, groups)?;
+    if rows.len() >= 4_294_967_296 {
+        return Err(AllocError);
+    }
+    Ok(rows)
 }
 
 fn is_store_error(error: &KeepError) -> bool
