@@ -46,19 +46,21 @@ class Place:
     def bytes_held(self):
         return sum(os.path.getsize(self.path(name)) for name in ("register", "register-wal") if os.path.exists(self.path(name)))
 
-    def serve(self, requests):
-        """Seconds for these requests, and the last reply."""
+    def serve(self, *parts):
+        """Seconds for the requests of each part, one part behind the other in one run of the program, which has opened the register; and the last reply."""
         port = bodies.free_port()
-        serving = subprocess.Popen([self.program, "serve", *WORDS, "--port", str(port), "--connections", str(len(requests)), "--day", "2024-06-01"], cwd=self.folder,
+        count = sum(len(requests) for requests in parts)
+        serving = subprocess.Popen([self.program, "serve", *WORDS, "--port", str(port), "--connections", str(count), "--day", "2024-06-01"], cwd=self.folder,
                                    stdout=subprocess.PIPE, preexec_fn=self.limit)
         serving.stdout.readline()
-        taken, reply = ask(port, requests)
+        asked = [ask(port, requests) for requests in parts]
         serving.communicate()
-        return taken, reply
+        return [taken for taken, _ in asked], asked[-1][1]
 
 
 def ask(port, requests):
     """Seconds for these requests, one connection each, from the first connection to the last reply, and that reply; each has to be 200."""
+    reply = b""
     begun = time.monotonic()
     for request in requests:
         with socket.create_connection(("127.0.0.1", port)) as connection:
@@ -114,6 +116,13 @@ def by_sqlite(place):
     return written, read, os.path.getsize(place.path("beside"))
 
 
+def socket_times(place, data):
+    """Seconds that a deposit of a file and an extract of it take over the socket, where the register was open before: the extract is the shortest of three."""
+    asked = f"GET /v1/projects/N1/deposits/1 {FIELDS}\r\n".encode()
+    (posted, *drawn), _ = place.serve([post(data)], [asked], [asked], [asked])
+    return posted, min(drawn)
+
+
 def post(data):
     return f"POST /v1/projects/N1/deposits {FIELDS}Content-Length: {len(data)}\r\n\r\n".encode() + data
 
@@ -137,15 +146,7 @@ def grown(program, folder, limit, size):
     for name, requests in (("100 of 1 kB", [post(small(n)) for n in range(100)]), (f"{MANY} of 1 kB", [post(small(n)) for n in range(MANY)]),
                            (f"100 of {size // 400} bytes", hundred(size // 400)), (f"100 of {size // 4} bytes", hundred(size // 4))):
         place = Place(program, folder, limit)
-        port = bodies.free_port()
-        serving = subprocess.Popen([program, "serve", *WORDS, "--port", str(port), "--connections", str(len(requests) + 10), "--day", "2024-06-01"], cwd=folder,
-                                   stdout=subprocess.PIPE, preexec_fn=limit)
-        serving.stdout.readline()
-        if requests[100:]:
-            ask(port, requests[:-100])
-        added, _ = ask(port, requests[-100:])
-        listed, reply = ask(port, [asked] * 10)
-        serving.communicate()
+        (_, added, listed), reply = place.serve(requests[:-100], requests[-100:], [asked] * 10)
         if reply.count(b'"number"') != len(requests):
             sys.exit(f"a listing has {reply.count(b'number')} lines, and not {len(requests)}")
         print(f"| {name} | {1000 * added / 100:.1f} | {1000 * listed / 10:.1f} |", flush=True)
@@ -153,7 +154,7 @@ def grown(program, folder, limit, size):
 
 def measure(program, size, limit):
     folder = tempfile.mkdtemp(prefix="bench")
-    print("\n| File | Bytes | deposit, s | MB | list, s | MB | extract, s | MB | Register, bytes | SQLite writes the rows, s | reads them | its bytes |\n" + "|---" * 12 + "|")
+    print("\n| File | Bytes | deposit, s | MB | list, s | MB | extract, s | MB | deposit over the socket, s | extract there, s | Register, bytes | SQLite writes the rows, s | reads them | its bytes |\n" + "|---" * 14 + "|")
     for make in (files.flat, files.deep, files.ring):
         place = Place(program, folder, limit)
         data = make(size)
@@ -164,9 +165,10 @@ def measure(program, size, limit):
         listed, to_list, _ = place.run("list", *ASKING)
         drawn, to_draw, text = place.run("extract", *ASKING, "1")
         written, read, beside = by_sqlite(place)
+        posted, got = socket_times(Place(program, folder, limit), data)
         note = "" if len(text) > size // 2 else " (not whole)"
         commands = f"{deposited:.2f} | {to_deposit:.1f} | {listed:.2f} | {to_list:.1f} | {drawn:.2f}{note} | {to_draw:.1f}"
-        print(f"| {make.__name__} | {len(data)} | {commands} | {held} | {written:.2f} | {read:.2f} | {beside} |", flush=True)
+        print(f"| {make.__name__} | {len(data)} | {commands} | {posted:.2f} | {got:.2f} | {held} | {written:.2f} | {read:.2f} | {beside} |", flush=True)
     place = Place(program, folder, limit)
     tools = tempfile.mkdtemp(prefix="bench")
     plain = built_plainly(tools)
@@ -174,7 +176,7 @@ def measure(program, size, limit):
     asked = f"GET /v1/projects/N1/deposits{{}} {FIELDS}\r\n"
     for name, requests in (("deposits of 1 kB", [post(small(n)) for n in range(REQUESTS)]), ("extracts of 1 kB", [asked.format("/1").encode()] * REQUESTS),
                            (f"listings of {REQUESTS} deposits", [asked.format("").encode()] * (REQUESTS // 10)), ("the same deposit again", [post(small(1))] * REQUESTS)):
-        taken, reply = place.serve(requests)
+        (taken,), reply = place.serve(requests)
         beside = [f"{len(requests) / answered_plainly(plain, tools, requests, reply, kept):.1f}" if plain and has else "-"
                   for kept, has in (((), True), ((place.path("kept"),), name == "deposits of 1 kB"))]
         print(f"| {name} | {len(requests) / taken:.1f} | {beside[0]} | {beside[1]} |", flush=True)
@@ -182,7 +184,7 @@ def measure(program, size, limit):
     grown(program, folder, limit, size)
     place = Place(program, folder, limit)
     text = files.deep(size // 4)
-    taken, _ = place.serve([post(text.replace(b"North bank", b"Site %02d" % n)) for n in range(100)])
+    (taken,), _ = place.serve([post(text.replace(b"North bank", b"Site %02d" % n)) for n in range(100)])
     opened, memory, _ = place.run("list", *WORDS, "--token", "t-delta", "--project", "N2", "--day", "2024-06-01")
     print(f"\n100 deposits of {len(text)} bytes: {taken / 100:.2f} s each over the socket, {place.bytes_held()} bytes; opened, and a listing of no deposits, in {opened:.2f} s and {memory:.1f} MB")
     shutil.rmtree(folder)
