@@ -71,40 +71,6 @@ pub receipt_with : (n : ℕ) (embargo : ℤ) (text given : List ℕ) (r : Result
 receipt_with n embargo text given (Ok v) writes same is = (text, writes, is ∙ ap (λ t. receipt_data t n) same)
 receipt_with n embargo text given (Err e) writes same is = tt
 
--- the same of a deposit of a listing
-pub listed_with : (l : Listed) (text given : List ℕ) (r : Result Value AllocError) → Writes text l.embargo → given ≡ text
-    → IfOk r (λ v. view v ≡ listed_data given l) → IfOk r (λ v. IsListedData l (view v))
-listed_with l text given (Ok v) writes same is = (text, writes, is ∙ ap (λ t. listed_data t l) same)
-listed_with l text given (Err e) writes same is = tt
-
--- one deposit of a listing more
-pub listed_more : (ls : List Listed) (ds : List Data) (i : ℕ) (l : Listed) (d : Data) → i < length ls → l ≡ get_or ls i l → AllZip IsListedData (take i ls) ds
-    → IsListedData l d → AllZip IsListedData (take (i + 1) ls) (ds ++ d ∷ [])
-listed_more [] ds i l d inside is all new = absurd (omega arith)
-listed_more (x ∷ ls) [] zero l d inside is all new = (subst (λ y. IsListedData y d) is new, tt)
-listed_more (x ∷ ls) (e ∷ ds) zero l d inside is all new = absurd all
-listed_more (x ∷ ls) [] (suc i) l d inside is all new = absurd all
-listed_more (x ∷ ls) (e ∷ ds) (suc i) l d inside is all new =
-    let n : suc i + 1 ≡ suc (i + 1) = omega arith in
-    rw n (all.0, listed_more ls ds i l d (omega arith) is all.1 new)
-
--- the same over values
-pub listed_next : (ls : List Listed) (old new : List Value) (i : ℕ) (l : Listed) (v : Value) → i < length ls → l ≡ get_or ls i l → new ≡ old ++ v ∷ []
-    → IsListedData l (view v) → AllZip IsListedData (take i ls) (map view old) → AllZip IsListedData (take (i + 1) ls) (map view new)
-listed_next ls old new i l v inside is grown this all =
-    let printed : map view new ≡ map view old ++ view v ∷ [] = ap (map view) grown ∙ map-append view old (v ∷ []) in
-    rw printed (listed_more ls (map view old) i l (view v) inside is all this)
-
--- all of them
-pub listed_all : (ls : List Listed) (ds : List Data) (i : ℕ) → length ls ≤ i → AllZip IsListedData (take i ls) ds → AllZip IsListedData ls ds
-listed_all ls ds i past all = subst (λ t. AllZip IsListedData t ds) (take_all i ls past) all
-
--- a listing of all
-pub listing_with : (ls : List Listed) (ds : List Data) (r : Result Value AllocError) → AllZip IsListedData ls ds
-    → IfOk r (λ v. view v ≡ listing_data ds) → IfOk r (λ v. IsListingData ls (view v))
-listing_with ls ds (Ok v) all is = (ds, all, is)
-listing_with ls ds (Err e) all is = tt
-
 -- a reply from its body
 pub replied : (answer : Answer) (body : List ℕ) (r : Result (Vec ℕ Global) AllocError) → IsBody answer body
     → IfOk r (λ v. v.items ≡ reply_text (answer_status answer) (answer_kind answer) body) → IfOk r (λ v. IsRendered answer v.items)

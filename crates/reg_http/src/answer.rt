@@ -6,10 +6,9 @@ ghost use Rattle.reg_http.specs.Rendering.{answer_status, is_fixed, IsRendered};
 ghost use Rattle.reg_http.specs.Replies.{json_kind, reply_text};
 
 use crate::refusal::{out_of_memory_reply, too_large_reply};
-use crate::render::{
-    body_text, clean_value, denied_value, findings_value, listing_value, receipt_value,
-};
+use crate::render::{clean_value, denied_value, receipt_value, value_text};
 use crate::reply::whole_reply;
+use crate::sending::{findings_text, listing_text};
 use ags_rows::FindingList;
 use http::StatusCode;
 use reg_desk::{Answer, Listed};
@@ -67,47 +66,54 @@ pub(crate) fn fixed_reply(answer: &Answer) -> Option<&'static str>
 }
 
 /// The reply with a JSON body.
-fn json_reply(alloc: Global, status: StatusCode, value: &Value) -> Result<Vec<u8>, AllocError>
+fn json_reply(alloc: Global, status: StatusCode, body: &[u8]) -> Result<Vec<u8>, AllocError>
+    ensures { IfOk result (λ reply. reply.items ≡ reply_text status json_kind body.now) }
+{
+    whole_reply(alloc, status, "application/json", body)
+}
+
+/// The reply whose JSON body is this value.
+fn value_reply(alloc: Global, status: StatusCode, value: &Value) -> Result<Vec<u8>, AllocError>
     requires { has_float (view value.now) ≡ false }
     ensures { IfOk result (λ reply. reply.items ≡ reply_text status json_kind (compact_text (view value.now))) }
 {
-    let body = body_text(alloc, value)?;
-    whole_reply(alloc, status, "application/json", body.as_bytes())
+    let body = value_text(alloc, value)?;
+    json_reply(alloc, status, &body)
 }
 
 fn receipt_reply(alloc: Global, number: u32, embargo: Day) -> Result<Vec<u8>, AllocError>
     ensures { IfOk result (λ reply. IsRendered (Answer.Receipt number embargo) reply.items) }
 {
     let value = receipt_value(alloc, number, embargo)?;
-    json_reply(alloc, StatusCode::OK, &value)
+    value_reply(alloc, StatusCode::OK, &value)
 }
 
 fn clean_reply(alloc: Global) -> Result<Vec<u8>, AllocError>
     ensures { IfOk result (λ reply. IsRendered Answer.Clean reply.items) }
 {
     let value = clean_value(alloc)?;
-    json_reply(alloc, StatusCode::OK, &value)
+    value_reply(alloc, StatusCode::OK, &value)
 }
 
 fn findings_reply(alloc: Global, findings: &FindingList) -> Result<Vec<u8>, AllocError>
     ensures { IfOk result (λ reply. IsRendered (Answer.Findings findings.now) reply.items) }
 {
-    let value = findings_value(alloc, findings)?;
-    json_reply(alloc, StatusCode::UNPROCESSABLE_ENTITY, &value)
+    let body = findings_text(alloc, findings)?;
+    json_reply(alloc, StatusCode::UNPROCESSABLE_ENTITY, &body)
 }
 
 fn listing_reply(alloc: Global, listing: &[Listed]) -> Result<Vec<u8>, AllocError>
     ensures { IfOk result (λ reply. IsRendered (Answer.Listing listing.now) reply.items) }
 {
-    let value = listing_value(alloc, listing)?;
-    json_reply(alloc, StatusCode::OK, &value)
+    let body = listing_text(alloc, listing)?;
+    json_reply(alloc, StatusCode::OK, &body)
 }
 
 fn denied_reply(alloc: Global, number: u32) -> Result<Vec<u8>, AllocError>
     ensures { IfOk result (λ reply. IsRendered (Answer.Denied number) reply.items) }
 {
     let value = denied_value(alloc, number)?;
-    json_reply(alloc, StatusCode::FORBIDDEN, &value)
+    value_reply(alloc, StatusCode::FORBIDDEN, &value)
 }
 
 fn text_reply(alloc: Global, text: &[u8]) -> Result<Vec<u8>, AllocError>

@@ -20,6 +20,7 @@ mod render;
 mod reply;
 mod request;
 mod route;
+mod sending;
 mod serve;
 mod tally;
 mod text;

@@ -2,7 +2,7 @@ use Rattle.std.proofs.Common.{rules, ◌≡◌, ℕ, List, map, subst}
 use Rattle.std.specs.Prelude.{IfOk, encode_utf8_all, string_bytes}
 use Rattle.reg_http.specs.Bodies.{shown_byte}
 use Rattle.reg_http.proofs.RenderLemmas.{shown_encodes}
-use Rattle.reg_http.proofs.render.printed.Goals as goal
+use Rattle.reg_http.proofs.sending.printed.Goals as goal
 
 pub returns : goal.returns
 returns c =
