@@ -1,5 +1,5 @@
 -- The row of PROJ of a deposit, and the targets of a row, from what the queries show.
-use Rattle.std.proofs.Common.{◌≡◌, ℕ, zero, suc, ◌+◌, ◌-◌, ◌<◌, pos, List, [], ◌∷◌, map, take, Bool, true, false, if◌then◌else◌, Option, Some, None, Ok, Err, Result, IfOk, refl, sym, ap, ◌∙◌}
+use Rattle.std.proofs.Common.{◌≡◌, ℕ, zero, suc, ◌+◌, ◌-◌, ◌<◌, pos, List, [], ◌∷◌, map, take, Bool, true, false, if◌then◌else◌, Option, Some, Ok, Err, Result, IfOk, sym, ap, ◌∙◌}
 use Rattle.std.specs.Prelude.{◌==◌, codes, slice_get}
 use Rattle.std.specs.Str.{bytes_eq}
 use Rattle.std.specs.List.Sorted.{IsPermutation}

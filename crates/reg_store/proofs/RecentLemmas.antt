@@ -1,5 +1,5 @@
 -- What was read last and stands in memory, as calls leave it.
-use Rattle.std.proofs.Common.{◌≡◌, ℕ, Bool, false, Option, Some, IfSome, Result, Ok, Err, IfOk, sym, subst, subst₂}
+use Rattle.std.proofs.Common.{◌≡◌, ℕ, Bool, false, Option, IfSome, Result, Ok, Err, IfOk, sym, subst, subst₂}
 use Rattle.sqlite.specs.Effect.{Database}
 use Rattle.sqlite.specs.State.{State, HasCleanDisk}
 use Rattle.ags_links.specs.Walks.{Wiring}

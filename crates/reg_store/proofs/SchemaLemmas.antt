@@ -21,7 +21,7 @@ use Rattle.sqlite_schema.specs.declared.schema.Action.TheVariants as acts
 use Rattle.sqlite_value.specs.declared.keys.Order.{Order}
 use Rattle.sqlite_value.specs.Keys.{plain}
 use Rattle.reg_store.specs.Tables as tables
-use Rattle.reg_store.specs.Schemas.{is_integer, is_text, is_blob, is_binary, is_null, is_no_action, is_nil, is_none, is_strict, is_integers, is_texts, is_blobs, is_rowids, is_unstamped, is_plain, is_one, is_two, is_three, is_bytes_order, refers_by_column, meta_keys, deposit_key, has_line_keys, has_step_keys, refers_by, is_of_deposits, refers_to_deposits, has_meta_columns, has_deposit_columns, has_line_columns, has_step_columns, is_meta, is_deposits, is_lines, is_steps, is_key, has_indexes, has_tables, is_register}
+use Rattle.reg_store.specs.Schemas.{is_integer, is_text, is_blob, is_binary, is_null, is_no_action, is_nil, is_none, is_strict, is_integers, is_texts, is_blobs, is_rowids, is_unstamped, is_plain, is_one, is_two, is_three, is_bytes_order, refers_by_column, meta_keys, deposit_key, has_line_keys, has_step_keys, is_of_deposits, refers_to_deposits, has_meta_columns, has_deposit_columns, has_line_columns, has_step_columns, is_meta, is_deposits, is_lines, is_steps, is_key, has_indexes, has_tables, is_register}
 
 both : (a b : Bool) → (a && b) ≡ true → (a ≡ true) × (b ≡ true)
 both true b h = (refl, h)

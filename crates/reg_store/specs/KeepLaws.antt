@@ -1,11 +1,11 @@
 -- The laws of the keep.
-use Rattle.std.specs.Prelude.{◌≡◌, ℕ, ◌+◌, ◌<◌, Bool, false, List, [], ◌∷◌, ◌++◌, map, length, All, IsTrue, Option, None, Result, Ok, Err, IfOk, slice_index_or}
+use Rattle.std.specs.Prelude.{◌≡◌, ℕ, ◌+◌, ◌<◌, Bool, false, List, [], ◌∷◌, ◌++◌, length, All, IsTrue}
 use Rattle.std.proofs.Common.{◌≤◌, zero, suc, sym, ap, ◌∙◌, subst, refl, arith, inl, inr, ◌⊎◌}
 use Rattle.std.proofs.Math.Logic.{∥∥₁_elim, ∥∥₁_map}
 use Rattle.std.proofs.Props.{props}
 use Rattle.std.specs.List.{AllZip}
 use Rattle.std.specs.List.Sorted.{IsPermutation}
-use Rattle.sqlite.specs.Tree.{Trees, put_row}
+use Rattle.sqlite.specs.Tree.{Trees}
 use Rattle.sqlite_trees.specs.Props.{Trees-set}
 use Rattle.sqlite.specs.Schema.{Schema}
 use Rattle.sqlite_schema.specs.contracts.schema.Schema.{the_row}
@@ -16,9 +16,7 @@ use Rattle.sqlite.specs.State.{State, Survives, HasCleanDisk}
 use Rattle.ags_dict.specs.Entries.{Entries}
 use Rattle.ags_check.specs.Findings.{CheckedFile}
 use Rattle.reg_store.specs.declared.keep.KeptRow.{KeptRow}
-use Rattle.reg_store.specs.declared.keep.KeepError.{KeepError}
-use Rattle.reg_store.specs.Apart.{AreApart}
-use Rattle.reg_store.specs.Deposit.{Deposit, number_of}
+use Rattle.reg_store.specs.Deposit.{Deposit}
 use Rattle.reg_store.specs.Tables.{register_schema}
 use Rattle.reg_store.specs.Rows.{given_deposit, deposit_table, IsMore}
 use Rattle.reg_store.specs.Inserts.{AddsFile}

@@ -1,12 +1,12 @@
 -- What the queries for all numbers and for meta show_any of a register, in their order.
-use Rattle.std.proofs.Common.{◌≡◌, ℕ, zero, suc, ◌+◌, ◌<◌, ◌≤◌, pos, List, [], ◌∷◌, map, filter, length, Bool, true, false, Option, Some, None, Ok, Err, Result, IfOk, refl, sym, ap, subst, subst₂, ◌∙◌, arith, Less, Equal}
+use Rattle.std.proofs.Common.{◌≡◌, ℕ, zero, suc, ◌+◌, ◌<◌, pos, List, [], ◌∷◌, map, filter, length, Ok, Err, Result, IfOk, refl, sym, ap, subst, subst₂, ◌∙◌, arith, Less, Equal}
 use Rattle.std.specs.Prelude.{codes}
 use Rattle.std.specs.List.{AllByRecursion}
 use Rattle.std.specs.List.Sorted.{IsPermutation}
 use Rattle.std.specs.Ordering.{ordering_then}
 use Rattle.std.proofs.lemmas.Cmp.{on_total}
 use Rattle.std.proofs.lemmas.List.Sorted.{IsPermutation-map, IsPermutation-trans}
-use Rattle.sqlite.specs.declared.types.Value.TheVariants.{Int, Text as Words}
+use Rattle.sqlite.specs.declared.types.Value.TheVariants.{Int}
 use Rattle.sqlite.specs.Order.{Row, column}
 use Rattle.sqlite.specs.Tree.{IsAscending}
 use Rattle.sqlite.specs.Query.{Output, output_cmp}
@@ -22,7 +22,7 @@ use Rattle.reg_store.specs.Meaning.{all_numbers, all_numbers_read, all_meta, all
 use Rattle.reg_store.specs.Put.{less}
 use Rattle.reg_store.specs.Rows.{columns_3, deposit_columns, deposit_table}
 use Rattle.reg_store.specs.Register.{deposit_rows, meta_columns}
-use Rattle.reg_store.specs.Answers.{passes, shown_of, Selects, answers}
+use Rattle.reg_store.specs.Answers.{passes, shown_of, answers}
 use Rattle.reg_store.specs.Adopts.{by_id, id_of, number_rows, shows_meta, shows_numbers}
 
 -- ---- the numbers

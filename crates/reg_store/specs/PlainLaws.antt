@@ -1,6 +1,6 @@
 -- What a register in memory keeps of its deposits.
 use Rattle.std.specs.Prelude.{ℕ, ◌≤◌, List, All, length, map, slice_index_or}
-use Rattle.std.proofs.Common.{◌<◌, arith}
+use Rattle.std.proofs.Common.{arith}
 use Rattle.std.proofs.lemmas.List.{length-map}
 use Rattle.std.proofs.Math.Logic.{∥∥₁_elim}
 use Rattle.std.proofs.Props.{props}

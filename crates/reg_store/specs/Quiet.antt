@@ -1,6 +1,6 @@
 -- What a query of a register needs of its connection, and what it leaves.
-use Rattle.std.specs.Prelude.{◌≡◌, ◌≤◌, Bool, false, IsTrue}
-use Rattle.std.proofs.Common.{sym, ap, subst, ◌∙◌, refl, arith, inl, inr, ◌⊎◌}
+use Rattle.std.specs.Prelude.{◌≡◌, Bool, false, IsTrue}
+use Rattle.std.proofs.Common.{sym, ap, subst, ◌∙◌, refl, arith, inl}
 use Rattle.sqlite.specs.Tree.{Trees}
 use Rattle.sqlite.specs.Effect.{Database}
 use Rattle.sqlite.specs.State.{State, HasCleanDisk, Survives}

@@ -1,5 +1,5 @@
 -- What the queries for the first rows of a deposit, and for the steps from one of its rows, read.
-use Rattle.std.proofs.Common.{◌≡◌, ◌≢◌, ℕ, zero, suc, ◌+◌, ◌<◌, ◌≤◌, pos, List, [], ◌∷◌, map, filter, take, Bool, true, false, ◌&&◌, ◌==◌, if◌then◌else◌, refl, sym, ap, subst, ◌∙◌, arith, Less, Equal, inl, inr, drop}
+use Rattle.std.proofs.Common.{◌≡◌, ℕ, zero, suc, ◌+◌, ◌<◌, ◌≤◌, pos, List, [], ◌∷◌, map, filter, take, Bool, true, false, ◌&&◌, ◌==◌, if◌then◌else◌, refl, sym, ap, subst, ◌∙◌, arith, Less, Equal, inl, inr, drop}
 use Rattle.std.specs.List.{AllByRecursion}
 use Rattle.std.specs.List.Sorted.{IsPermutation}
 use Rattle.std.specs.Ordering.{is_eq, is_lt, ordering_then}
@@ -8,7 +8,6 @@ use Rattle.std.proofs.lemmas.Int.{ints}
 use Rattle.std.proofs.lemmas.Bool.{eqb-true, eqb-false}
 use Rattle.std.proofs.lemmas.Bool.Decides.{nat_tests}
 use Rattle.std.proofs.lemmas.List.Sorted.{IsPermutation-map, IsPermutation-trans}
-use Rattle.sqlite.specs.declared.types.Value.{Value}
 use Rattle.sqlite.specs.declared.types.Value.TheVariants.{Int}
 use Rattle.sqlite.specs.Order.{Row, column, value_cmp}
 use Rattle.sqlite.specs.Collation.TheVariants.{Binary}
@@ -32,7 +31,7 @@ use Rattle.reg_store.specs.Pushes.{equal_at, apart_at}
 use Rattle.reg_store.specs.Rows.{columns_3, columns_5, line_table, step_table, placed_row, placed_rows, step_pair, is_of, rows_under}
 use Rattle.reg_store.specs.Project.{targets_of}
 use Rattle.reg_store.specs.Answers.{passes, shown_of, answers}
-use Rattle.reg_store.specs.Reads.{and_true, eq_int, truth_is, line_entry, line_entries, lines_are_entries, line_entries_show, lines_rise, by_seq}
+use Rattle.reg_store.specs.Reads.{and_true, eq_int, truth_is, line_entries, lines_are_entries, line_entries_show, lines_rise, by_seq}
 use Rattle.reg_store.specs.ReadsSteps.{nat_in}
 
 -- ---- the first five rows

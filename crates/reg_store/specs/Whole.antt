@@ -1,11 +1,10 @@
 -- What `adopt` finds out of a deposit, and of all: as much as makes a register.
-use Rattle.std.proofs.Common.{◌≡◌, ◌≢◌, ℕ, zero, suc, ◌+◌, ◌-◌, ◌<◌, ◌≤◌, ℤ, pos, Bool, true, false, List, [], ◌∷◌, map, filter, length, get_or, Option, Some, None, slice_get, refl, sym, ap, subst, subst₂, ◌∙◌, arith, inl, inr, ◌⊎◌}
+use Rattle.std.proofs.Common.{◌≡◌, ℕ, zero, suc, ◌+◌, ◌-◌, ◌<◌, ◌≤◌, Bool, true, false, List, [], ◌∷◌, map, filter, length, Option, Some, None, slice_get, refl, sym, ap, subst, subst₂, ◌∙◌, arith}
 use Rattle.std.proofs.Math.Logic.{∥∥₁_map, ∥∥₁_elim}
 use Rattle.std.proofs.Props.{props}
 use Rattle.std.specs.List.{AllByRecursion, AllZip}
 use Rattle.std.specs.List.Sorted.{IsPermutation}
-use Rattle.sqlite.specs.declared.types.Value.TheVariants.{Int, Text as Words, Blob as Bytes}
-use Rattle.sqlite.specs.Order.{Row, column}
+use Rattle.sqlite.specs.Order.{Row}
 use Rattle.sqlite.specs.Effect.{Database, IsDatabase}
 use Rattle.ags_rows.specs.declared.TheConstants.{READABLE}
 use Rattle.ags_dict.specs.Entries.{Entries}

@@ -1,4 +1,4 @@
-use Rattle.std.proofs.Common.{rules, arith, ◌≡◌, ◌<◌, ◌+◌, ℕ, [], length, get_or, refl, ap, sym, ◌∙◌}
+use Rattle.std.proofs.Common.{rules, arith, ◌≡◌, ◌<◌, [], length, get_or, refl, ap, sym, ◌∙◌}
 use Rattle.reg_store.specs.Rows.{placed_row, placed_rows}
 use Rattle.reg_store.proofs.RowsLemmas.{not_true, same_at, same_list, one_further, places_long, place_first, read_at}
 use Rattle.reg_store.proofs.adopting.are_lines.Goals as goal

@@ -1,5 +1,4 @@
-use Rattle.std.proofs.Common.{rules, arith, ◌≡◌, ◌<◌, ℕ, ℤ, pos, length, get_or, refl, sym, subst, ◌∙◌}
-use Rattle.sqlite.specs.Order.{Row}
+use Rattle.std.proofs.Common.{rules, ◌≡◌, pos, get_or, refl, sym, subst}
 use Rattle.reg_store.specs.Formats.{IsFormatRow}
 use Rattle.reg_store.proofs.RowsLemmas.{one_further, same_at}
 use Rattle.reg_store.proofs.adopting.other_format.Goals as goal

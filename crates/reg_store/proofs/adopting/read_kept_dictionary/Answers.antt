@@ -1,4 +1,4 @@
-use Rattle.std.proofs.Common.{◌≡◌, Err, rules, refl, subst}
+use Rattle.std.proofs.Common.{◌≡◌, Err, rules, subst}
 use Rattle.ags_dict.specs.declared.reading.DictError.TheVariants.{NotDictionary, NoDict, MissingHeading}
 use Rattle.ags_dict.specs.Reading.{ReadsDictionary}
 use Rattle.reg_store.proofs.ExamineLemmas.{not_dictionary, has_dict_then, has_headings_then}

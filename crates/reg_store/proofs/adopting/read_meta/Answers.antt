@@ -1,4 +1,4 @@
-use Rattle.std.proofs.Common.{rules, refl}
+use Rattle.std.proofs.Common.{refl}
 use Rattle.reg_store.proofs.ExamineLemmas.{meta_reads}
 use Rattle.reg_store.proofs.adopting.read_meta.Goals as goal
 

@@ -1,4 +1,4 @@
-use Rattle.std.proofs.Common.{rules, ◌≡◌, refl, subst}
+use Rattle.std.proofs.Common.{rules, ◌≡◌, subst}
 use Rattle.ags_check.specs.Findings.{Findings}
 use Rattle.reg_store.specs.Keep.{deposit_of}
 use Rattle.reg_store.proofs.ExamineLemmas.{no_file}

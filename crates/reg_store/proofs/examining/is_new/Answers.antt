@@ -1,7 +1,7 @@
-use Rattle.std.proofs.Common.{rules, ◌≡◌, None, Some, Ok, IfSome, ap, subst}
+use Rattle.std.proofs.Common.{rules, ◌≡◌, IfSome, subst}
 use Rattle.sqlite.specs.Held.{state}
 use Rattle.reg_store.specs.Keep.{deposit_of}
-use Rattle.reg_store.specs.Digests.{HasEqual, HasNoEqual, is_among}
+use Rattle.reg_store.specs.Digests.{HasEqual, HasNoEqual}
 use Rattle.reg_store.proofs.ExamineLemmas.{new_tests, old_tests}
 use Rattle.reg_store.proofs.examining.is_new.Goals as goal
 

@@ -1,4 +1,3 @@
-use Rattle.std.proofs.Common.{◌∙◌}
 use Rattle.reg_store.specs.Keep.{deposit_of}
 use Rattle.reg_store.proofs.PlainLemmas.{project_is}
 use Rattle.reg_store.proofs.plain.checked_project.Goals as goal

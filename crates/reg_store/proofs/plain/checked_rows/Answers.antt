@@ -1,4 +1,4 @@
-use Rattle.std.proofs.Common.{◌≡◌, ◌∙◌}
+use Rattle.std.proofs.Common.{◌∙◌}
 use Rattle.reg_store.specs.Keep.{deposit_of}
 use Rattle.reg_store.proofs.PlainLemmas.{rows_are}
 use Rattle.reg_store.proofs.plain.checked_rows.Goals as goal

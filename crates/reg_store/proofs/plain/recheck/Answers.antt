@@ -1,4 +1,4 @@
-use Rattle.std.proofs.Common.{◌≡◌, ℕ, List, Err, ap, subst, ◌∙◌}
+use Rattle.std.proofs.Common.{ℕ, List, Err, ap, subst, ◌∙◌}
 use Rattle.ags_check.specs.Findings.{Findings}
 use Rattle.reg_store.specs.Keep.{deposit_of}
 use Rattle.reg_store.proofs.PlainLemmas.{fit_is_clean, fit_is_readable, fit_is_short}

@@ -1,4 +1,4 @@
-use Rattle.std.proofs.Common.{rules, ◌≡◌}
+use Rattle.std.proofs.Common.{◌≡◌}
 use Rattle.reg_store.specs.declared.keep.KeepError.TheVariants.{Store}
 use Rattle.reg_store.proofs.ReadersLemmas.{name_utf8}
 use Rattle.reg_store.proofs.readers.read_name.Goals as goal

@@ -1,11 +1,11 @@
-use Rattle.std.proofs.Common.{rules, arith, ◌≡◌, false, true, refl, subst}
+use Rattle.std.proofs.Common.{rules, ◌≡◌, false, true, refl, subst}
 use Rattle.std.specs.Prelude.{slice_index_or}
 use Rattle.sqlite.specs.Effect.{Database}
 use Rattle.sqlite.specs.Held.{state}
 use Rattle.reg_store.specs.Deposit.{is_repeat}
 use Rattle.reg_store.specs.Keep.{deposit_of}
-use Rattle.reg_store.specs.Digests.{HasNoEqual, IsRowOf}
-use Rattle.reg_store.specs.Quiet.{clean_before, idle_then, quiet_none, quiet_then}
+use Rattle.reg_store.specs.Digests.{IsRowOf}
+use Rattle.reg_store.specs.Quiet.{clean_before, idle_then, quiet_then}
 use Rattle.reg_store.proofs.RepeatsLemmas.{no_more}
 use Rattle.reg_store.proofs.repeats.find_equal.Goals as goal
 

@@ -1,4 +1,4 @@
-use Rattle.std.proofs.Common.{◌≡◌, take, false}
+use Rattle.std.proofs.Common.{take, false}
 use Rattle.sqlite.specs.State.{HasCleanDisk}
 use Rattle.sqlite.specs.Held.{state}
 use Rattle.reg_store.specs.Digests.{HasNoEqual}

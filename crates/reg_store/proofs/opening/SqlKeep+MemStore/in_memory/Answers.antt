@@ -1,4 +1,3 @@
-use Rattle.std.proofs.Common.{rules}
 use Rattle.sqlite.proofs.Callers.{memory_is_clean}
 use Rattle.reg_store.proofs.opening.SqlKeep+MemStore.in_memory.Goals as goal
 

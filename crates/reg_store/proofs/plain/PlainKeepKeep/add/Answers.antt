@@ -1,4 +1,4 @@
-use Rattle.std.proofs.Common.{◌≡◌, ap, ◌∙◌, is_ok}
+use Rattle.std.proofs.Common.{ap, ◌∙◌, is_ok}
 use Rattle.reg_store.specs.Keep.{deposit_of}
 use Rattle.reg_store.specs.Deposit.{Deposit}
 use Rattle.reg_store.specs.Fit.{IsFit}

@@ -1,4 +1,4 @@
-use Rattle.std.proofs.Common.{rules, ◌≡◌, ◌++◌, ◌∷◌, [], length}
+use Rattle.std.proofs.Common.{rules, ◌≡◌, ◌++◌, ◌∷◌, []}
 use Rattle.reg_store.proofs.ReadersLemmas.{line_more}
 use Rattle.reg_store.proofs.readers.KeptLinesGather.take.Goals as goal
 

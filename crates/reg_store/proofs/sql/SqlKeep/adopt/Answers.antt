@@ -1,11 +1,9 @@
-use Rattle.std.proofs.Common.{rules, arith, ◌≡◌, ◌≤◌, true, false, IsTrue, refl, sym, subst, ◌∙◌}
-use Rattle.sqlite.specs.Effect.{Database}
+use Rattle.std.proofs.Common.{rules, ◌≡◌, IsTrue, refl, sym, subst, ◌∙◌}
 use Rattle.sqlite.specs.State.{HasCleanDisk}
 use Rattle.sqlite.specs.Held.{state}
-use Rattle.reg_store.specs.Quiet.{clean_before}
 use Rattle.reg_store.specs.KeepLaws.{adopted_keeps, adopted_list}
-use Rattle.reg_store.proofs.SchemaLemmas.{register_is, not_register}
-use Rattle.reg_store.proofs.FormatLemmas.{autocommit_idle, meta_first, refused_unstarted}
+use Rattle.reg_store.proofs.SchemaLemmas.{register_is}
+use Rattle.reg_store.proofs.FormatLemmas.{autocommit_idle, meta_first}
 use Rattle.reg_store.proofs.FrontsLemmas.{no_fronts}
 use Rattle.reg_store.proofs.HeadsLemmas.{heads_found}
 use Rattle.reg_store.proofs.RepeatsLemmas.{digested_found}

@@ -1,5 +1,4 @@
-use Rattle.std.proofs.Common.{rules, arith, ◌≡◌, List, Some, slice_get, refl, sym, subst}
-use Rattle.sqlite.specs.State.{HasCleanDisk}
+use Rattle.std.proofs.Common.{rules, ◌≡◌, List, Some, slice_get, refl, sym, subst}
 use Rattle.sqlite.specs.Held.{state}
 use Rattle.reg_store.proofs.CreateLemmas.{new_list, new_keeps}
 use Rattle.reg_store.proofs.FrontsLemmas.{no_fronts}
