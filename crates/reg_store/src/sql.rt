@@ -156,13 +156,7 @@ impl<S: Alter> Keep for SqlKeep<S> {
         };
         self.recent = Recent::none();
         let steps = checked.graph().steps();
-        let added = add_file(
-            self.alloc,
-            &mut self.connection,
-            filed,
-            rows.as_slice(),
-            steps,
-        );
+        let added = add_file(self.alloc, &mut self.connection, filed, &rows, steps);
         match added {
             Ok(()) => {
                 self.heads.push_reserved(head);

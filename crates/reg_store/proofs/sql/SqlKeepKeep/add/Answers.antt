@@ -41,7 +41,7 @@ more g c clean =
     let fit : IsFileOf keep.dictionary d file = record { given = c.requires.dictionary; bytes = refl; clean = c.bytes-body.ensures.clean; short = c.requires.short } in
     let named : IsNamed d = record { firm = c.text.ensures.is_name; project = c.text-2.ensures.is_name; embargo = c.stored_day.ensures.is_day } in
     let ready : IsReady keep.dictionary (deposits_in old.committed.trees) d file = record { its = fit; named = named; fresh = c.requires.fresh first } in
-    let rows_are : c.as_slice.result.now ≡ kept_rows file.groups = search rules in
+    let rows_are : c.deref.result.now ≡ kept_rows file.groups = search rules in
     let steps_are : c.steps-steps.result.now ≡ file.graph.steps = search rules in
     let bare = rw (c.text.ensures.text, c.text-2.ensures.text, c.bytes-body.ensures.bytes, c.stored_day.ensures.number) at (c.in-Ok-added.ensures.put clean) in
     let put = subst₂ (λ rows steps. AddsFile (keep.count + 1) d rows steps old.now new.now) rows_are steps_are bare in
@@ -154,7 +154,7 @@ returns-in-Ok-added g c =
     let survives = rw (c.text.ensures.text, c.text-2.ensures.text, c.bytes-body.ensures.bytes, c.stored_day.ensures.number) at c.add_file-added.ensures.crash in
     let fit : IsFileOf keep.dictionary d file = record { given = c.requires.dictionary; bytes = refl; clean = c.bytes-body.ensures.clean; short = c.requires.short } in
     let named : IsNamed d = record { firm = c.text.ensures.is_name; project = c.text-2.ensures.is_name; embargo = c.stored_day.ensures.is_day } in
-    let rows_are : c.as_slice.result.now ≡ kept_rows file.groups = search rules in
+    let rows_are : c.deref.result.now ≡ kept_rows file.groups = search rules in
     let steps_are : c.steps-steps.result.now ≡ file.graph.steps = search rules in
     let put_survives = subst₂ (λ rows steps. Survives old new (PutsOf old (keep.count + 1) d rows steps)) rows_are steps_are survives in
     let ready = λ (clean : HasCleanDisk new). (let is : IsReady keep.dictionary (deposits_in old.committed.trees) d file = record { its = fit; named = named; fresh = c.requires.fresh (before clean) } in is) in
@@ -173,7 +173,7 @@ returns-in-Ok-added g c =
         failing = c.requires.working;
         added = λ clean. (more clean).list;
         refused = λ clean well. tt;
-        crash = λ clean. crash_at {old = old} {new = new} d c.as_slice.result.now c.steps-steps.result.now (keep.kept c.requires.working (before clean)) survives clean;
+        crash = λ clean. crash_at {old = old} {new = new} d c.deref.result.now c.steps-steps.result.now (keep.kept c.requires.working (before clean)) survives clean;
         whole = λ clean. whole_put {old = old} {new = new} d file (keep.kept c.requires.working (before clean)) low put_survives (ready clean) clean;
       };
     }
@@ -190,7 +190,7 @@ returns-clause-leaves g c =
     let survives = rw (c.text.ensures.text, c.text-2.ensures.text, c.bytes-body.ensures.bytes, c.stored_day.ensures.number) at c.add_file-added.ensures.crash in
     let fit : IsFileOf keep.dictionary d file = record { given = c.requires.dictionary; bytes = refl; clean = c.bytes-body.ensures.clean; short = c.requires.short } in
     let named : IsNamed d = record { firm = c.text.ensures.is_name; project = c.text-2.ensures.is_name; embargo = c.stored_day.ensures.is_day } in
-    let rows_are : c.as_slice.result.now ≡ kept_rows file.groups = search rules in
+    let rows_are : c.deref.result.now ≡ kept_rows file.groups = search rules in
     let steps_are : c.steps-steps.result.now ≡ file.graph.steps = search rules in
     let put_survives = subst₂ (λ rows steps. Survives old new (PutsOf old (keep.count + 1) d rows steps)) rows_are steps_are survives in
     let ready = λ (clean : HasCleanDisk new). (let is : IsReady keep.dictionary (deposits_in old.committed.trees) d file = record { its = fit; named = named; fresh = c.requires.fresh (before clean) } in is) in
@@ -201,7 +201,7 @@ returns-clause-leaves g c =
       failing = c.is_store_error-self.ensures;
       added = λ clean. tt;
       refused = λ clean well. ap (λ (db : Database). deposits_in db.trees) (c.in-Err.ensures.undone clean well).1;
-      crash = λ clean. crash_at {old = old} {new = new} d c.as_slice.result.now c.steps-steps.result.now (keep.kept c.requires.working (before clean)) survives clean;
+      crash = λ clean. crash_at {old = old} {new = new} d c.deref.result.now c.steps-steps.result.now (keep.kept c.requires.working (before clean)) survives clean;
       whole = λ clean. whole_put {old = old} {new = new} d file (keep.kept c.requires.working (before clean)) low put_survives (ready clean) clean;
     }
 
