@@ -152,6 +152,25 @@ def grown(program, folder, limit, size):
         print(f"| {name} | {1000 * added / 100:.1f} | {1000 * listed / 10:.1f} |", flush=True)
 
 
+def requests_a_second(place):
+    """Requests a second, a connection each, beside a plain Rust server that answers each with the last reply."""
+    tools = tempfile.mkdtemp(prefix="bench")
+    plain = built_plainly(tools)
+    print(f"\n| {REQUESTS} requests, a connection each | a second | of a plain Rust server that answers each with the last reply | that has each body on the disk first |\n|---|---|---|---|")
+    listing, extract = (f"GET /v1/projects/N1/deposits{path} {FIELDS}\r\n".encode() for path in ("", "/1"))
+    deposits = [post(small(n)) for n in range(100 + REQUESTS)]
+    for name, requests in (("", deposits[:10]), ("listings of 10 deposits", [listing] * REQUESTS), ("", deposits[10:100]), ("listings of 100 deposits", [listing] * REQUESTS),
+                           ("deposits of 1 kB", deposits[100:]), (f"listings of {len(deposits)} deposits", [listing] * REQUESTS),
+                           ("extracts of 1 kB", [extract] * REQUESTS), ("the same deposit again", deposits[:1] * REQUESTS)):
+        (taken,), reply = place.serve(requests)
+        if not name:
+            continue
+        beside = [f"{len(requests) / answered_plainly(plain, tools, requests, reply, kept):.1f}" if plain and has else "-"
+                  for kept, has in (((), True), ((place.path("kept"),), name == "deposits of 1 kB"))]
+        print(f"| {name} | {len(requests) / taken:.1f} | {beside[0]} | {beside[1]} |", flush=True)
+    shutil.rmtree(tools)
+
+
 def measure(program, size, limit):
     folder = tempfile.mkdtemp(prefix="bench")
     print("\n| File | Bytes | deposit, s | MB | list, s | MB | extract, s | MB | deposit over the socket, s | extract there, s | Register, bytes | SQLite writes the rows, s | reads them | its bytes |\n" + "|---" * 14 + "|")
@@ -169,18 +188,7 @@ def measure(program, size, limit):
         note = "" if len(text) > size // 2 else " (not whole)"
         commands = f"{deposited:.2f} | {to_deposit:.1f} | {listed:.2f} | {to_list:.1f} | {drawn:.2f}{note} | {to_draw:.1f}"
         print(f"| {make.__name__} | {len(data)} | {commands} | {posted:.2f} | {got:.2f} | {held} | {written:.2f} | {read:.2f} | {beside} |", flush=True)
-    place = Place(program, folder, limit)
-    tools = tempfile.mkdtemp(prefix="bench")
-    plain = built_plainly(tools)
-    print(f"\n| {REQUESTS} requests, a connection each | a second | of a plain Rust server that answers each with the last reply | that has each body on the disk first |\n|---|---|---|---|")
-    asked = f"GET /v1/projects/N1/deposits{{}} {FIELDS}\r\n"
-    for name, requests in (("deposits of 1 kB", [post(small(n)) for n in range(REQUESTS)]), ("extracts of 1 kB", [asked.format("/1").encode()] * REQUESTS),
-                           (f"listings of {REQUESTS} deposits", [asked.format("").encode()] * (REQUESTS // 10)), ("the same deposit again", [post(small(1))] * REQUESTS)):
-        (taken,), reply = place.serve(requests)
-        beside = [f"{len(requests) / answered_plainly(plain, tools, requests, reply, kept):.1f}" if plain and has else "-"
-                  for kept, has in (((), True), ((place.path("kept"),), name == "deposits of 1 kB"))]
-        print(f"| {name} | {len(requests) / taken:.1f} | {beside[0]} | {beside[1]} |", flush=True)
-    shutil.rmtree(tools)
+    requests_a_second(Place(program, folder, limit))
     grown(program, folder, limit, size)
     place = Place(program, folder, limit)
     text = files.deep(size // 4)

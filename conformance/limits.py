@@ -223,6 +223,12 @@ def padded(length, more=()):
     return head(b"/v1/projects/N1/deposits", [*more, b"P: " + b"y" * (length - len(short))])
 
 
+def many_findings(lines):
+    """The reply to a check of so many lines `x`, each ended by LF alone: two findings a line."""
+    line = '{"code":"2a","line":%d,"subject":""},{"code":"5","line":%d,"subject":""}'
+    return machine.rendered(422, f'{{"findings":[{",".join(line % (n, n) for n in range(1, lines + 1))}]}}'.encode())
+
+
 def heads(place):
     """(name, bytes, status, reply) of connections at the limits of a head and a body."""
     listing = machine.reply(("listing", [(1, "Delta", DAY)]))[1]
@@ -252,6 +258,7 @@ def heads(place):
         yield f"a check of {length} bytes", head(check, [b"Content-Length: %d" % length], b"POST") + filled(machine.FILE_A, length), *want
         yield f"a deposit of {length} bytes", head(b"/v1/projects/N1/deposits", [b"Content-Length: %d" % length], b"POST") + filled(machine.FILE_A, length), want[0], \
             machine.reply(("receipt", 1, DAY))[1] if want[0] == 200 else want[1]
+    yield "a check with 4,194,304 findings", head(check, [b"Content-Length: %d" % LIMIT], b"POST") + b"x\n" * (LIMIT // 2), *many_findings(LIMIT // 2)
     yield "a length of 4,194,305 and no body", head(check, [b"Content-Length: 4194305"], b"POST"), *refusal(413, "too large")
     yield "a length of 9,999,999,999", head(check, [b"Content-Length: 9999999999"], b"POST"), *refusal(413, "too large")
     yield "a length of eleven digits", head(check, [b"Content-Length: 00000000001"], b"POST"), *refusal(400, "bad length")

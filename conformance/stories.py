@@ -280,14 +280,14 @@ def sent(connection, data, keeps_open):
 
 def received(connection):
     """All that comes until the end."""
-    out = b""
+    out = bytearray()
     try:
         while piece := connection.recv(65536):
             out += piece
     except ConnectionResetError:
         pass  # it was let go while we were still sending
     connection.close()
-    return out
+    return bytes(out)
 
 
 def printed_line(process, deadline):
