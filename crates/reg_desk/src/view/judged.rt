@@ -19,7 +19,7 @@ pub(crate) struct Judged {
 }
 
 /// Whether the policy would be told the same.
-fn is_same(judged: &Judged, looking: &Looking, row: &ProjectRow) -> bool
+fn is_told_the_same(judged: &Judged, looking: &Looking, row: &ProjectRow) -> bool
     ensures { IsTrue result ↔ IsSameAs judged.now (look_of looking.now) row.now }
 {
     row.line.as_slice() == judged.row.line.as_slice()
@@ -30,14 +30,14 @@ fn is_same(judged: &Judged, looking: &Looking, row: &ProjectRow) -> bool
 }
 
 /// What was decided of the row, if it is the one that was decided last.
-fn recalled(last: &Option<Judged>, looking: &Looking, row: &ProjectRow) -> Option<bool>
+fn decided_last(last: &Option<Judged>, looking: &Looking, row: &ProjectRow) -> Option<bool>
     requires { HoldsLast (look_of looking.now).rules (look_of looking.now).caller last.now }
     ensures may { IfSome result (λ may. MayBeSeen (look_of looking.now) (project_line row.now) may) }
     ensures recalls { IfSome last.now (λ judged. IsSameAs judged (look_of looking.now) row.now
         → result ≡ Some judged.may) }
 {
     match last {
-        Some(judged) if is_same(judged, looking, row) => Some(judged.may),
+        Some(judged) if is_told_the_same(judged, looking, row) => Some(judged.may),
         _ => None,
     }
 }
@@ -72,7 +72,7 @@ pub(super) fn judge(
     ensures named { result ≢ Err KeepError.Full }
     ensures last { HoldsLast (look_of looking.now).rules (look_of looking.now).caller last.new }
 {
-    if let Some(may) = recalled(last, looking, &row) {
+    if let Some(may) = decided_last(last, looking, &row) {
         return Ok(may);
     }
     let may = permits_project(alloc, looking, &row)?;
