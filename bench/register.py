@@ -127,10 +127,11 @@ def post(data):
     return f"POST /v1/projects/N1/deposits {FIELDS}Content-Length: {len(data)}\r\n\r\n".encode() + data
 
 
-def small(number):
-    """A small file, another one for each number."""
+def small(number, apart=False):
+    """A small file, another one for each number, with another row of PROJ too where they stand apart."""
     with open(f"{SAMPLES}/delta.ags", "rb") as file:
-        return file.read().replace(b"North bank", b"Site %d" % number)
+        text = file.read().replace(b"FINAL", b"FINAL %d" % number)
+    return text.replace(b"North bank", b"Site %d" % number) if apart else text
 
 
 def hundred(length):
@@ -152,21 +153,26 @@ def grown(program, folder, limit, size):
         print(f"| {name} | {1000 * added / 100:.1f} | {1000 * listed / 10:.1f} |", flush=True)
 
 
-def requests_a_second(place):
-    """Requests a second, a connection each, beside a plain Rust server that answers each with the last reply."""
+def requests_a_second(program, folder, limit):
+    """Requests a second, a connection each, beside a plain Rust server that answers each with the last reply; before a listing, one that is not counted."""
     tools = tempfile.mkdtemp(prefix="bench")
     plain = built_plainly(tools)
+    place = Place(program, folder, limit)
     print(f"\n| {REQUESTS} requests, a connection each | a second | of a plain Rust server that answers each with the last reply | that has each body on the disk first |\n|---|---|---|---|")
     listing, extract = (f"GET /v1/projects/N1/deposits{path} {FIELDS}\r\n".encode() for path in ("", "/1"))
-    deposits = [post(small(n)) for n in range(100 + REQUESTS)]
-    for name, requests in (("", deposits[:10]), ("listings of 10 deposits", [listing] * REQUESTS), ("", deposits[10:100]), ("listings of 100 deposits", [listing] * REQUESTS),
-                           ("deposits of 1 kB", deposits[100:]), (f"listings of {len(deposits)} deposits", [listing] * REQUESTS),
-                           ("extracts of 1 kB", [extract] * REQUESTS), ("the same deposit again", deposits[:1] * REQUESTS)):
-        (taken,), reply = place.serve(requests)
-        if not name:
+    deposits, apart = ([post(small(n, way)) for n in range(100 + REQUESTS)] for way in (False, True))
+    deposited, listed = "deposits of 1 kB", [listing] * REQUESTS
+    for name, first, requests in (("", [], deposits[:10]), ("listings of 10 deposits", [listing], listed), ("", [], deposits[10:100]), ("listings of 100 deposits", [listing], listed),
+                                  (deposited, [], deposits[100:]), (f"listings of {len(deposits)} deposits", [listing], listed),
+                                  ("extracts of 1 kB", [], [extract] * REQUESTS), ("the same deposit again", [], deposits[:1] * REQUESTS),
+                                  ("new", [], apart), (f"listings of {len(apart)} deposits, each with a row of PROJ of its own", [listing], listed)):
+        if name == "new":
+            place = Place(program, folder, limit)
+        (_, taken), reply = place.serve(first, requests)
+        if name in ("", "new"):
             continue
         beside = [f"{len(requests) / answered_plainly(plain, tools, requests, reply, kept):.1f}" if plain and has else "-"
-                  for kept, has in (((), True), ((place.path("kept"),), name == "deposits of 1 kB"))]
+                  for kept, has in (((), True), ((place.path("kept"),), name == deposited))]
         print(f"| {name} | {len(requests) / taken:.1f} | {beside[0]} | {beside[1]} |", flush=True)
     shutil.rmtree(tools)
 
@@ -188,7 +194,7 @@ def measure(program, size, limit):
         note = "" if len(text) > size // 2 else " (not whole)"
         commands = f"{deposited:.2f} | {to_deposit:.1f} | {listed:.2f} | {to_list:.1f} | {drawn:.2f}{note} | {to_draw:.1f}"
         print(f"| {make.__name__} | {len(data)} | {commands} | {posted:.2f} | {got:.2f} | {held} | {written:.2f} | {read:.2f} | {beside} |", flush=True)
-    requests_a_second(Place(program, folder, limit))
+    requests_a_second(program, folder, limit)
     grown(program, folder, limit, size)
     place = Place(program, folder, limit)
     text = files.deep(size // 4)
