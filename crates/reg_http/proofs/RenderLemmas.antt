@@ -1,5 +1,5 @@
 -- The bodies of the answers: subjects in print are ASCII, and no body has a float.
-use Rattle.std.proofs.Common.{◌≡◌, ℕ, ℤ, ◌+◌, ◌<◌, ◌≤◌, List, [], ◌∷◌, ◌++◌, map, refl, ap, ◌∙◌, subst, arith, false, ◌||◌, zero, suc, length, take, get_or, Result, Ok, Err}
+use Rattle.std.proofs.Common.{◌≡◌, ℕ, ℤ, ◌<◌, List, [], ◌∷◌, map, refl, ap, ◌∙◌, arith, false, ◌||◌, Result, Ok, Err}
 use Rattle.std.specs.Prelude.{IfOk, Vec, encode_utf8_all}
 use Rattle.std.specs.declared.alloc.AllocError.{AllocError}
 use Rattle.std.specs.declared.alloc.Global.{Global}
@@ -9,14 +9,13 @@ use Rattle.std.proofs.lemmas.Bool.Decides.{nat_tests}
 use Rattle.std.proofs.lemmas.Str.{encodes-IsAscii}
 use Rattle.std.proofs.lemmas.Str.Ascii.{IsAscii-from_all}
 use Rattle.std.proofs.lemmas.List.Elements.{All-nil, All-cons}
-use Rattle.std.proofs.lemmas.List.{map-append, take_all}
 use Rattle.serde_json.specs.Data.{Data}
 use Rattle.serde_json.specs.View.{items_of, view}
 use Rattle.serde_json.specs.Written.{has_float, items_have_float}
 use Rattle.ags_rows.specs.declared.finding.Finding.{Finding}
 use Rattle.reg_policy.specs.Days.{Writes}
 use Rattle.reg_desk.specs.declared.answer.Listed.{Listed}
-use Rattle.reg_http.specs.Bodies.{shown_byte, IsListedData, IsListingData, IsReceiptData, finding_data, findings_data, listed_data, listing_data, receipt_data}
+use Rattle.reg_http.specs.Bodies.{shown_byte, IsListedData, IsListingData, IsReceiptData, finding_data, findings_data, listing_data, receipt_data}
 use Rattle.reg_http.specs.Rendering.{IsBody, IsRendered, answer_kind, answer_status}
 use Rattle.reg_http.specs.Replies.{reply_text}
 use Rattle.reg_desk.specs.declared.answer.Answer.{Answer}

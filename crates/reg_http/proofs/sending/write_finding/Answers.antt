@@ -5,6 +5,19 @@ use Rattle.reg_http.proofs.sending.write_finding.Goals as goal
 
 pub returns : goal.returns
 returns g c = on_ok_weaker c.end_map.result
-    (λ ended. (_, refl, (_, c.in_ok-begin_map.ensures, (_, _, c.in_ok-key.ensures, text_event _ _ _ _ (search rules) c.in_ok-str.ensures,
-        (_, _, c.in_ok-key-2.ensures, c.in_ok-serialize.ensures, (_, _, c.in_ok-key-3.ensures, text_event _ _ _ _ (search rules) c.in_ok-str-2.ensures, ended))))))
+    (λ ended. (
+      _,
+      refl,
+      (
+        _,
+        c.in_ok-begin_map.ensures,
+        (
+          _,
+          _,
+          c.in_ok-key.ensures,
+          text_event _ _ _ _ (search rules) c.in_ok-str.ensures,
+          (_, _, c.in_ok-key-2.ensures, c.in_ok-serialize.ensures, (_, _, c.in_ok-key-3.ensures, text_event _ _ _ _ (search rules) c.in_ok-str-2.ensures, ended)),
+        ),
+      ),
+    ))
     c.end_map.ensures
