@@ -11,6 +11,7 @@ import os
 import resource
 import shutil
 import socket
+import sqlite3
 import struct
 import subprocess
 import sys
@@ -104,6 +105,25 @@ def lengths(place):
 
 
 # ---- policies, callers, words
+
+def eights(place):
+    """Files of 3 to 12 holes, so that what statements of eight rows leave over is each number from 0 to 7: their lines and steps are counted in the tables, and
+    the register, opened anew, gives each file back whole, but for the blank line at its end. Each hole has a row of LOCA under PROJ, of SAMP under LOCA and of LNMC under SAMP: three steps."""
+    for holes in range(3, 13):
+        data = (files.FRONT + files.holes(holes) + files.samples(holes, lambda n: "") + files.contents(holes)).encode()
+        store = f"--store=eights{holes}"
+        asking = [store, *ASKING[1:], "--token=t-delta"]
+        with open(os.path.join(place.folder, "eight"), "wb") as file:
+            file.write(data)
+        place.start(f"a register for {holes} holes", ["init", store, "--dictionary=mini"], (b"created\n", b"", 0))
+        place.start(f"a deposit of {holes} holes", ["deposit", *asking, "eight"], (b"receipt 1 %s\n" % DAY.encode(), b"", 0))
+        bodies.copy_register(place.folder, store.split("=")[1], "copy")
+        register = sqlite3.connect(os.path.join(place.folder, "copy"))
+        counts = [register.execute(f"SELECT count(*) FROM {table}").fetchone()[0] for table in ("lines", "steps")]
+        register.close()
+        place.check(f"lines and steps of {holes} holes", [sum(line != b"" for line in data.split(b"\r\n")), 3 * holes], counts)
+        place.start(f"an extract of {holes} holes", ["extract", store, *[word for word in asking[1:] if "embargo" not in word], "1"], (data.removesuffix(b"\r\n"), b"", 0))
+
 
 def policies(place):
     listed = (f"1 Delta {DAY}\n".encode(), b"", 0)
@@ -363,7 +383,7 @@ def main():
     resource.setrlimit(resource.RLIMIT_AS, (hostile.MEMORY, hostile.MEMORY))
     folder = tempfile.mkdtemp(prefix="limits")
     place = Place(program, folder)
-    for part in (lengths, policies, nested, callers, words, served, thousand):
+    for part in (lengths, eights, policies, nested, callers, words, served, thousand):
         part(place)
     peers(place, seconds)
     shutil.rmtree(folder)
