@@ -1,4 +1,5 @@
 pub mod Chosen
+pub mod Unread
 pub mod RowEntries
 pub mod Days
 pub mod DayTexts

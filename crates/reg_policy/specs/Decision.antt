@@ -1,5 +1,5 @@
 -- Which rule of a policy decides.
-use Rattle.std.specs.Prelude.{◌≡◌, ◌⊎◌, ℕ, List, [], ◌∷◌, ◌++◌, Bool, true, false, not, ◌&&◌, ◌||◌, if◌then◌else◌, is_none, Option, Some, None, slice_get}
+use Rattle.std.specs.Prelude.{◌≡◌, ◌≢◌, ◌⊎◌, Contains, ℕ, List, [], ◌∷◌, ◌++◌, Bool, true, false, not, ◌&&◌, ◌||◌, if◌then◌else◌, is_none, Option, Some, None, slice_get}
 use Rattle.std.specs.List.{All}
 use Rattle.std.specs.Str.{bytes_eq}
 use Rattle.reg_policy.specs.declared.subject.Verb.{Verb}
@@ -113,3 +113,22 @@ matches r asked = is_met bytes_eq r.firm asked.firm && (is_met bytes_eq r.role a
 abbrev pub decision_of : List Rule → Question → Decision
 decision_of [] asked = Deny 0
 decision_of (r ∷ rules) asked = if matches r asked then effect_of r.effect r.number else decision_of rules asked
+
+-- ---- a row whose entries are not read
+
+-- what is told of it
+abbrev pub unread : List ℕ → Bool → Bool → Facts
+unread group own past = record { group = group; own = own; past = past; headings = []; cells = [] }
+
+-- the rule without the entry that it wants
+abbrev pub beside_entry : Rule → Rule
+beside_entry r = record r { entry = None }
+
+-- whatever the entries of the row are, this is decided
+abbrev pub IsDecidedUnread : List Rule → Caller → List ℕ → Facts → Decision → Type 0
+IsDecidedUnread rules caller project told decision = (row : Facts) → row.group ≡ told.group → row.own ≡ told.own → row.past ≡ told.past
+    → decision_of rules (row_question caller project row) ≡ decision
+
+-- some rule wants an entry of the row, and all else that it sets is so
+abbrev pub WantsEntry : List Rule → Caller → List ℕ → Facts → Type 0
+WantsEntry rules caller project told = (r : Rule) × Contains rules r × (r.entry ≢ None) × Matches (beside_entry r) (row_question caller project told)

@@ -1,12 +1,12 @@
 //! A policy: a list of rules, of which the first that matches decides.
-ghost use Rattle.std.specs.Prelude.{◌≡◌, ◌↔◌, List, IsTrue};
-ghost use Rattle.reg_policy.specs.Decision.{decision_of};
+ghost use Rattle.std.specs.Prelude.{◌≡◌, ◌↔◌, List, IsTrue, IfSome, IfNone};
+ghost use Rattle.reg_policy.specs.Decision.{decision_of, unread, IsDecidedUnread, WantsEntry};
 ghost use Rattle.reg_policy.specs.Rules.{IsRisingFrom, ReadsPolicy, policy_error};
 ghost use Rattle.reg_policy.specs.declared.rule.Rule.{Rule as RuleValue};
 
 use crate::document::{ReadError, read_list};
-use crate::rule::{Effect, Rule};
-use crate::{Decision, Subject};
+use crate::rule::Rule;
+use crate::{Caller, Decision, Name, Subject};
 use std::alloc::Global;
 use std::marker::Model;
 use thiserror::Error;
@@ -74,13 +74,37 @@ impl Policy {
     {
         for rule in &self.rules {
             if rule.matches(subject) {
-                return match rule.effect {
-                    Effect::Permit => Decision::Permit(rule.number),
-                    Effect::Deny => Decision::Deny(rule.number),
-                };
+                return rule.decision();
             }
         }
         Decision::Deny(0)
+    }
+
+    /// What is decided of every row of a group of a project, whatever its entries are, where a caller wants to see it.
+    /// None where a rule that is come to wants an entry: then the row's entries have to be read, and `decide` asked.
+    ///
+    /// `own` says whether the deposit's firm is the caller's, `past` whether the embargo is over.
+    pub fn decide_unread(
+        &self,
+        caller: &Caller,
+        project: &Name,
+        group: &[u8],
+        own: bool,
+        past: bool,
+    ) -> Option<Decision>
+        ensures decided { IfSome result (IsDecidedUnread self.now caller.now project.now (unread group.now own past)) }
+        ensures wanted { IfNone result (WantsEntry self.now caller.now project.now (unread group.now own past)) }
+    {
+        for reached in &self.rules {
+            if reached.meets_unread(caller, project, group, own, past) {
+                return if reached.entry.is_some() {
+                    None
+                } else {
+                    Some(reached.decision())
+                };
+            }
+        }
+        Some(Decision::Deny(0))
     }
 }
 

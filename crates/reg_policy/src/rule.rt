@@ -1,8 +1,8 @@
 //! One rule of a policy, and whether it matches what is asked.
 ghost use Rattle.std.specs.Prelude.{◌≡◌, ◌↔◌, IsTrue, option_map};
-ghost use Rattle.reg_policy.specs.Decision.{HasEntry, Matches, Meets, MeetsEntry, MeetsRow, facts_of, matches};
+ghost use Rattle.reg_policy.specs.Decision.{HasEntry, Matches, Meets, MeetsEntry, MeetsRow, beside_entry, effect_of, facts_of, matches, row_question, unread};
 
-use crate::{Name, RowFacts, Subject, Verb};
+use crate::{Caller, Decision, Name, RowFacts, Subject, Verb};
 use ags_rows::{Bytes, Cell};
 
 #[derive(Clone, Copy, Debug, PartialEq, Eq)]
@@ -53,6 +53,37 @@ impl Rule {
             && meets_name(&self.project, subject.project)
             && meets_verb(self.verb, subject.verb)
             && self.meets_row(&subject.row)
+    }
+
+    /// Whether all that the rule sets beside an entry is so of a row of a project.
+    pub(crate) fn meets_unread(
+        &self,
+        caller: &Caller,
+        project: &Name,
+        group: &[u8],
+        own: bool,
+        past: bool,
+    ) -> bool
+        ensures { IsTrue result ↔ Matches (beside_entry self.now)
+            (row_question caller.now project.now (unread group.now own past)) }
+    {
+        meets_name(&self.firm, &caller.firm)
+            && meets_name(&self.role, &caller.role)
+            && meets_name(&self.project, project)
+            && meets_verb(self.verb, Verb::See)
+            && meets_group(&self.group, group)
+            && meets_fact(self.own, own)
+            && meets_fact(self.past, past)
+    }
+
+    /// What the rule decides where it matches.
+    pub(crate) fn decision(&self) -> Decision
+        ensures { result ≡ effect_of self.now.effect self.now.number }
+    {
+        match self.effect {
+            Effect::Permit => Decision::Permit(self.number),
+            Effect::Deny => Decision::Deny(self.number),
+        }
     }
 
     /// A rule that sets something of a row does not match a request without one.

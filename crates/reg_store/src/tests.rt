@@ -23,6 +23,8 @@ enum File {
     /// As long as A, with another name of its project.
     OtherA,
     B,
+    /// B with three more rows of LNMC below its first sample: nine steps.
+    LongB,
 }
 
 /// A call of a keep.
@@ -53,6 +55,13 @@ struct Case {
 /// Where the name of A's project begins.
 const NAME_AT: usize = 93;
 
+/// Three rows of LNMC.
+const MORE_ROWS: &[u8] = b"\
+\"DATA\",\"BH1\",\"1.50\",\"S1\",\"1.60\",\"24\"\r\n\
+\"DATA\",\"BH1\",\"1.50\",\"S1\",\"1.65\",\"25\"\r\n\
+\"DATA\",\"BH1\",\"1.50\",\"S1\",\"1.70\",\"26\"\r\n\
+";
+
 /// A name of the tests. One that is none counts as want of memory, which no test expects.
 fn name(alloc: Global, text: &str) -> Result<Name, KeepError> {
     match Name::read(alloc, text) {
@@ -68,6 +77,23 @@ fn renamed(alloc: Global) -> Result<Vec<u8>, AllocError> {
         renamed[NAME_AT] = b'F';
     }
     Ok(renamed)
+}
+
+/// The file B with three more rows at its end.
+fn longer(alloc: Global) -> Result<Vec<u8>, AllocError> {
+    let mut longer = Vec::from_slice(alloc, FILE_B)?;
+    longer.extend_from_slice(MORE_ROWS)?;
+    Ok(longer)
+}
+
+/// The bytes of a file.
+fn bytes_of(alloc: Global, file: File) -> Result<Vec<u8>, AllocError> {
+    match file {
+        File::A => Vec::from_slice(alloc, FILE_A),
+        File::OtherA => renamed(alloc),
+        File::B => Vec::from_slice(alloc, FILE_B),
+        File::LongB => longer(alloc),
+    }
 }
 
 /// A file of the tests, checked. One that is too long or has findings counts as want of memory, which no test expects.
@@ -151,19 +177,6 @@ pub(crate) fn take_named<K: Keep>(
     take_file(alloc, keep, &firm, &project, bytes)
 }
 
-fn take_renamed<K: Keep>(
-    alloc: Global,
-    keep: &mut K,
-    firm: &str,
-    project: &str,
-) -> Result<u32, KeepError>
-    requires { K.has_failed keep.old ≡ false }
-    ensures { OnOk result (K.has_failed keep.new ≡ false) }
-{
-    let bytes = renamed(alloc)?;
-    take_named(alloc, keep, firm, project, bytes.as_slice())
-}
-
 fn take_any<K: Keep>(
     alloc: Global,
     keep: &mut K,
@@ -174,11 +187,8 @@ fn take_any<K: Keep>(
     requires { K.has_failed keep.old ≡ false }
     ensures { OnOk result (K.has_failed keep.new ≡ false) }
 {
-    match file {
-        File::A => take_named(alloc, keep, firm, project, FILE_A),
-        File::B => take_named(alloc, keep, firm, project, FILE_B),
-        File::OtherA => take_renamed(alloc, keep, firm, project),
-    }
+    let bytes = bytes_of(alloc, file)?;
+    take_named(alloc, keep, firm, project, bytes.as_slice())
 }
 
 fn tell_taken(number: u32, told: &mut String) -> Result<(), AllocError> {
@@ -421,13 +431,8 @@ fn tell_recall<K: Keep>(
 ) -> Result<(), KeepError> {
     let firm = name(alloc, firm)?;
     let project = name(alloc, project)?;
-    let renamed = renamed(alloc)?;
-    let bytes = match file {
-        File::A => FILE_A,
-        File::B => FILE_B,
-        File::OtherA => renamed.as_slice(),
-    };
-    match keep.recall(&firm, &project, bytes) {
+    let bytes = bytes_of(alloc, file)?;
+    match keep.recall(&firm, &project, bytes.as_slice()) {
         Some(number) => Ok(tell_taken(number, told)?),
         None => Ok(()),
     }

@@ -9,7 +9,7 @@ use ags_rows::vectors::MINI;
 use std::alloc::Global;
 use std::test::Fail;
 
-const CASES: [Case; 17] = [
+const CASES: [Case; 20] = [
     Case {
         call: Call::Sizes,
         want: "0 of 999999, 10 and 38 entries",
@@ -78,6 +78,19 @@ const CASES: [Case; 17] = [
     Case {
         call: Call::Sizes,
         want: "5 of 999999, 10 and 38 entries",
+    },
+    // More than eight steps.
+    Case {
+        call: Call::Take("Delta", "N4", File::LongB),
+        want: "6",
+    },
+    Case {
+        call: Call::Rows(6),
+        want: "44 rows, 16 of kind 4, last LNMC 4 \"DATA\",\"BH1\",\"1.50\",\"S1\",\"1.70\",\"26\"",
+    },
+    Case {
+        call: Call::Steps(6),
+        want: "16 rows 7-0 8-0 9-7 10-8 11-9 12-10 13-9 14-9 15-9",
     },
 ];
 
