@@ -6,12 +6,12 @@ ghost use Rattle.reg_store.specs.Deposit.{Deposit};
 ghost use Rattle.reg_desk.specs.Asked.{listing as asks_listing};
 ghost use Rattle.reg_desk.specs.Machine.{IsListing, held};
 ghost use Rattle.reg_desk.specs.Serving.{IsLineFor, OnlyReads, OpensDeposit, SeesDeposit, Serves, register_at};
-ghost use Rattle.reg_desk.specs.View.{is_only, look_of, HoldsLast};
+ghost use Rattle.reg_desk.specs.View.{is_only, look_of};
 
 use crate::answer::{Answer, Listed};
 use crate::serving::drawing::{looking_at, read_view};
 use crate::serving::{decide_request, refused};
-use crate::view::{Judged, Looking, opens, sees};
+use crate::view::{Looking, opens, sees};
 use ags_rows::Sequence;
 use reg_policy::{Caller, Day, Decision, Name, Policy, Verb};
 use reg_store::{Keep, KeepError};
@@ -23,18 +23,15 @@ fn open_project<K: Keep>(
     keep: &mut K,
     looking: &Looking,
     number: u32,
-    last: &mut Option<Judged>,
 ) -> Result<Option<u32>, KeepError>
     requires working { K.has_failed keep.old ≡ false }
     requires number { K.is_sound keep.old → (0 < number) × (number ≤ length (K.deposits keep.old)) }
-    requires last { HoldsLast (look_of looking.now).rules (look_of looking.now).caller last.old }
     ensures reads { OnlyReads K.Keep keep.old keep.new (fails result) }
     ensures read { K.is_sound keep.new → IfOk result (OpensDeposit K.Keep keep.old (look_of looking.now) number) }
     ensures named { result ≢ Err KeepError.Full }
-    ensures last { HoldsLast (look_of looking.now).rules (look_of looking.now).caller last.new }
 {
     let project = keep.project_row(number)?;
-    opens(alloc, looking, project, last)
+    opens(alloc, looking, project)
 }
 
 /// Whether the deposit's row of PROJ is shown, from all its rows and steps.
@@ -89,17 +86,14 @@ fn sees_project<K: Keep>(
     keep: &mut K,
     looking: &Looking,
     number: u32,
-    last: &mut Option<Judged>,
 ) -> Result<bool, KeepError>
     requires working { K.has_failed keep.old ≡ false }
     requires number { K.is_sound keep.old → (0 < number) × (number ≤ length (K.deposits keep.old)) }
-    requires last { HoldsLast (look_of looking.now).rules (look_of looking.now).caller last.old }
     ensures reads { OnlyReads K.Keep keep.old keep.new (fails result) }
     ensures seen { K.is_sound keep.new → IfOk result (SeesDeposit K.Keep keep.old (look_of looking.now) number) }
     ensures named { result ≢ Err KeepError.Full }
-    ensures last { HoldsLast (look_of looking.now).rules (look_of looking.now).caller last.new }
 {
-    match open_project(alloc, keep, looking, number, last)? {
+    match open_project(alloc, keep, looking, number)? {
         Some(row) => seen_from(alloc, keep, looking, number, row),
         None => Ok(false),
     }
@@ -113,21 +107,18 @@ fn listed<K: Keep>(
     caller: &Caller,
     number: u32,
     day: Day,
-    last: &mut Option<Judged>,
 ) -> Result<Option<Listed>, KeepError>
     requires working { K.has_failed keep.old ≡ false }
     requires number { K.is_sound keep.old → (0 < number) × (number ≤ length (K.deposits keep.old)) }
-    requires last { HoldsLast policy.now caller.now last.old }
     ensures reads { OnlyReads K.Keep keep.old keep.new (fails result) }
     ensures seen { K.is_sound keep.new → IfOk result (λ line. (d : Deposit)
         → held number (K.deposits keep.old) ≡ Some d
         → ∥ IsLineFor (register_at K.Keep policy.now keep.old) caller.now day number d line ∥₁) }
     ensures named { result ≢ Err KeepError.Full }
-    ensures last { HoldsLast policy.now caller.now last.new }
 {
     let head = keep.head(number)?;
     let looking = looking_at(policy, caller, &head, day);
-    if !sees_project(alloc, keep, &looking, number, last)? {
+    if !sees_project(alloc, keep, &looking, number)? {
         return Ok(None);
     }
     Ok(Some(Listed {
@@ -154,9 +145,8 @@ fn lines_of<K: Keep>(
 {
     let numbers = keep.numbers(project)?;
     let mut lines = Vec::new(alloc);
-    let mut last: Option<Judged> = None;
     for number in &numbers {
-        match listed(alloc, keep, policy, caller, *number, day, &mut last)? {
+        match listed(alloc, keep, policy, caller, *number, day)? {
             Some(line) => lines.push(line)?,
             None => {}
         }

@@ -8,8 +8,8 @@ returns-in_default-clause-read c = λ file clean is. open_none (look_of c.args.l
 
 pub returns-then-branch-clause-read : goal.returns-then-branch-clause-read
 returns-then-branch-clause-read c = λ file clean is.
-    open_shown (look_of c.args.looking.now) file c.in-Some.row c.in_ok-judge.field-0 clean (sym c.in-Some.is ∙ is) c.in_ok-judge.ensures.may c.if-branch.true
+    open_shown (look_of c.args.looking.now) file c.in-Some.row c.in_ok-permits_project.field-0 clean (sym c.in-Some.is ∙ is) c.in_ok-permits_project.ensures.may c.if-branch.true
 
-pub returns-else-branch-clause-read : goal.returns-else-branch-clause-read
-returns-else-branch-clause-read c = λ file clean is.
-    open_hidden (look_of c.args.looking.now) file c.in-Some.row c.in_ok-judge.field-0 clean (sym c.in-Some.is ∙ is) c.in_ok-judge.ensures.may c.if-branch.false
+pub returns-clause-read : goal.returns-clause-read
+returns-clause-read c = λ file clean is.
+    open_hidden (look_of c.args.looking.now) file c.in-Some.row c.in_ok-permits_project.field-0 clean (sym c.in-Some.is ∙ is) c.in_ok-permits_project.ensures.may c.if-branch.false

@@ -21,7 +21,6 @@ loop-number-init g c =
       so_far = λ s.
           subst (λ (l : List Listed). ∥ SoFar register c.args.caller.now c.args.day (λ k. held k state) items items l ∥₁) (sym c.new-lines.ensures.items)
           ∣ lines_begin register c.args.caller.now c.args.day (λ k. held k state) items ∣₁;
-      last = tt;
     }
 
 pub listed-requires-clause-working : goal.listed-requires-clause-working
@@ -64,7 +63,6 @@ loop-number-preserved g c =
           subst (λ (l : List Listed). ∥ SoFar register c.args.caller.now c.args.day (λ k. held k state) items (drop (i + 1) items) l ∥₁) same
           (number_step register c.args.caller.now c.args.day state items i c.loop-number.lines.items c.in_ok-line.field-0 c.loop-number-test.true
           (number_within c.args.project.now state items i (was.numbers s1) c.loop-number-test.true) seen (was.so_far s1));
-      last = c.in_ok-line.ensures.last;
     }
 
 pub returns-clause-reads : goal.returns-clause-reads

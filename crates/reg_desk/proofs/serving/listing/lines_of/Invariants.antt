@@ -2,7 +2,6 @@ use Rattle.std.proofs.Common.{◌≡◌, false, drop}
 use Rattle.reg_store.specs.Deposit.{numbers_from}
 use Rattle.reg_desk.specs.Machine.{held}
 use Rattle.reg_desk.specs.Serving.{OnlyReads, register_at}
-use Rattle.reg_desk.specs.View.{HoldsLast}
 use Rattle.reg_desk.proofs.Listings.{SoFar}
 use Rattle.reg_desk.proofs.serving.listing.lines_of.Given as goal
 
@@ -12,5 +11,4 @@ invariant-loop-number g l = record {
   numbers : g.K.Keep.is_sound l.keep → l.number-items ≡ numbers_from 1 l.project (g.K.Keep.deposits l.fn.keep);
   so_far : g.K.Keep.is_sound l.keep
       → ∥ SoFar (register_at g.K.Keep l.policy l.fn.keep) l.caller l.day (λ n. held n (g.K.Keep.deposits l.fn.keep)) l.number-items (drop l.number-index l.number-items) l.lines.items ∥₁;
-  last : HoldsLast l.policy l.caller l.last;
 }
