@@ -1,5 +1,5 @@
 -- Which rule of a policy decides.
-use Rattle.std.specs.Prelude.{◌≡◌, ◌≢◌, ◌⊎◌, Contains, ℕ, List, [], ◌∷◌, ◌++◌, Bool, true, false, not, ◌&&◌, ◌||◌, if◌then◌else◌, is_none, Option, Some, None, slice_get}
+use Rattle.std.specs.Prelude.{◌≡◌, ◌⊎◌, ℕ, List, [], ◌∷◌, ◌++◌, Bool, true, false, not, ◌&&◌, ◌||◌, if◌then◌else◌, is_none, Option, Some, None, IfSome, slice_get}
 use Rattle.std.specs.List.{All}
 use Rattle.std.specs.Str.{bytes_eq}
 use Rattle.reg_policy.specs.declared.subject.Verb.{Verb}
@@ -114,21 +114,31 @@ abbrev pub decision_of : List Rule → Question → Decision
 decision_of [] asked = Deny 0
 decision_of (r ∷ rules) asked = if matches r asked then effect_of r.effect r.number else decision_of rules asked
 
--- ---- a row whose entries are not read
+-- ---- rows that are not read
 
--- what is told of it
-abbrev pub unread : List ℕ → Bool → Bool → Facts
-unread group own past = record { group = group; own = own; past = past; headings = []; cells = [] }
+-- what is told of them: their group, if they are all of one, whether their deposit is the caller's firm's, and whether its embargo is over
+pub record Told : Type 0 where
+  pub group : Option (List ℕ)
+  pub own : Bool
+  pub past : Bool
 
--- the rule without the entry that it wants
-abbrev pub beside_entry : Rule → Rule
-beside_entry r = record r { entry = None }
+abbrev pub told : Option (List ℕ) → Bool → Bool → Told
+told group own past = record { group = group; own = own; past = past }
 
--- whatever the entries of the row are, this is decided
-abbrev pub IsDecidedUnread : List Rule → Caller → List ℕ → Facts → Decision → Type 0
-IsDecidedUnread rules caller project told decision = (row : Facts) → row.group ≡ told.group → row.own ≡ told.own → row.past ≡ told.past
-    → decision_of rules (row_question caller project row) ≡ decision
+-- the row is one of them
+abbrev pub IsOneOf : Told → Facts → Type 0
+IsOneOf told row = IfSome told.group (λ group. row.group ≡ group) × (row.own ≡ told.own) × (row.past ≡ told.past)
 
--- some rule wants an entry of the row, and all else that it sets is so
-abbrev pub WantsEntry : List Rule → Caller → List ℕ → Facts → Type 0
-WantsEntry rules caller project told = (r : Rule) × Contains rules r × (r.entry ≢ None) × Matches (beside_entry r) (row_question caller project told)
+-- this is decided of each of them
+abbrev pub IsDecidedOfAll : List Rule → Caller → List ℕ → Told → Decision → Type 0
+IsDecidedOfAll rules caller project told decision = (row : Facts) → IsOneOf told row → decision_of rules (row_question caller project row) ≡ decision
+
+-- the rule matches one of them, and does not match another
+abbrev pub TellsApart : Rule → Caller → List ℕ → Told → Type 0
+TellsApart r caller project told = ((row : Facts) × IsOneOf told row × Matches r (row_question caller project row))
+    × ((row : Facts) × IsOneOf told row × ¬ (Matches r (row_question caller project row)))
+
+-- all is so that the rule sets beside the group and the entry of a row
+abbrev pub MeetsDeposit : Rule → Caller → List ℕ → Bool → Bool → Type 0
+MeetsDeposit r caller project own past = Meets r.verb See × Meets r.own own × Meets r.past past
+    × Meets r.firm caller.firm × Meets r.role caller.role × Meets r.project project

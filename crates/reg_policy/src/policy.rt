@@ -1,6 +1,6 @@
 //! A policy: a list of rules, of which the first that matches decides.
-ghost use Rattle.std.specs.Prelude.{◌≡◌, ◌↔◌, List, IsTrue, IfSome, IfNone};
-ghost use Rattle.reg_policy.specs.Decision.{decision_of, unread, IsDecidedUnread, WantsEntry};
+ghost use Rattle.std.specs.Prelude.{◌≡◌, ◌↔◌, List, Contains, IsTrue, IfSome, IfNone, option_map};
+ghost use Rattle.reg_policy.specs.Decision.{decision_of, told, IsDecidedOfAll, TellsApart};
 ghost use Rattle.reg_policy.specs.Rules.{IsRisingFrom, ReadsPolicy, policy_error};
 ghost use Rattle.reg_policy.specs.declared.rule.Rule.{Rule as RuleValue};
 
@@ -80,28 +80,28 @@ impl Policy {
         Decision::Deny(0)
     }
 
-    /// What is decided of every row of a group of a project, whatever its entries are, where a caller wants to see it.
-    /// None where a rule that is come to wants an entry: then the row's entries have to be read, and `decide` asked.
+    /// What is decided of every row of a deposit, or of a group of it, whatever stands in the row, where a caller wants to see it.
+    /// None where a rule that is come to tells such rows apart: then the row has to be read, and `decide` asked.
     ///
     /// `own` says whether the deposit's firm is the caller's, `past` whether the embargo is over.
     pub fn decide_unread(
         &self,
         caller: &Caller,
         project: &Name,
-        group: &[u8],
+        group: Option<&[u8]>,
         own: bool,
         past: bool,
     ) -> Option<Decision>
-        ensures decided { IfSome result (IsDecidedUnread self.now caller.now project.now (unread group.now own past)) }
-        ensures wanted { IfNone result (WantsEntry self.now caller.now project.now (unread group.now own past)) }
+        ensures decided { IfSome result (IsDecidedOfAll self.now caller.now project.now
+            (told (option_map (λ g. g.now) group.entry) own past)) }
+        ensures apart { IfNone result ((r : RuleValue) × Contains self.now r × TellsApart r caller.now project.now
+            (told (option_map (λ g. g.now) group.entry) own past)) }
     {
         for reached in &self.rules {
-            if reached.meets_unread(caller, project, group, own, past) {
-                return if reached.entry.is_some() {
-                    None
-                } else {
-                    Some(reached.decision())
-                };
+            match reached.meets_unread(caller, project, group, own, past) {
+                Some(true) => return Some(reached.decision()),
+                Some(false) => {}
+                None => return None,
             }
         }
         Some(Decision::Deny(0))

@@ -1,6 +1,6 @@
 //! One rule of a policy, and whether it matches what is asked.
-ghost use Rattle.std.specs.Prelude.{◌≡◌, ◌↔◌, IsTrue, option_map};
-ghost use Rattle.reg_policy.specs.Decision.{HasEntry, Matches, Meets, MeetsEntry, MeetsRow, beside_entry, effect_of, facts_of, matches, row_question, unread};
+ghost use Rattle.std.specs.Prelude.{◌≡◌, ◌↔◌, ℕ, List, None, IsTrue, IsSome, IfNone, IfSome, option_map};
+ghost use Rattle.reg_policy.specs.Decision.{HasEntry, Facts, Matches, Meets, MeetsDeposit, MeetsEntry, MeetsRow, IsOneOf, TellsApart, effect_of, facts_of, matches, row_question, told};
 
 use crate::{Caller, Decision, Name, RowFacts, Subject, Verb};
 use ags_rows::{Bytes, Cell};
@@ -48,32 +48,50 @@ impl Rule {
     fn meets(&self, subject: &Subject) -> bool
         ensures { IsTrue result ↔ Matches self.now subject.now }
     {
-        meets_name(&self.firm, &subject.caller.firm)
+        meets_verb(self.verb, subject.verb)
+            && meets_name(&self.firm, &subject.caller.firm)
             && meets_name(&self.role, &subject.caller.role)
             && meets_name(&self.project, subject.project)
-            && meets_verb(self.verb, subject.verb)
             && self.meets_row(&subject.row)
     }
 
-    /// Whether all that the rule sets beside an entry is so of a row of a project.
+    /// Whether all is so that the rule sets beside the group and the entry of a row.
+    fn meets_deposit(&self, caller: &Caller, project: &Name, own: bool, past: bool) -> bool
+        ensures { IsTrue result ↔ MeetsDeposit self.now caller.now project.now own past }
+    {
+        meets_verb(self.verb, Verb::See)
+            && meets_fact(self.own, own)
+            && meets_fact(self.past, past)
+            && meets_name(&self.firm, &caller.firm)
+            && meets_name(&self.role, &caller.role)
+            && meets_name(&self.project, project)
+    }
+
+    /// Whether the rule matches each row of which this is told, or none of them. None where that differs from row to row.
     pub(crate) fn meets_unread(
         &self,
         caller: &Caller,
         project: &Name,
-        group: &[u8],
+        group: Option<&[u8]>,
         own: bool,
         past: bool,
-    ) -> bool
-        ensures { IsTrue result ↔ Matches (beside_entry self.now)
-            (row_question caller.now project.now (unread group.now own past)) }
+    ) -> Option<bool>
+        ensures alike { IfSome result (λ meets. (row : Facts) → IsOneOf (told (option_map (λ g. g.now) group.entry) own past) row
+            → IsTrue meets ↔ Matches self.now (row_question caller.now project.now row)) }
+        ensures apart { IfNone result (TellsApart self.now caller.now project.now
+            (told (option_map (λ g. g.now) group.entry) own past)) }
     {
-        meets_name(&self.firm, &caller.firm)
-            && meets_name(&self.role, &caller.role)
-            && meets_name(&self.project, project)
-            && meets_verb(self.verb, Verb::See)
-            && meets_group(&self.group, group)
-            && meets_fact(self.own, own)
-            && meets_fact(self.past, past)
+        if !self.meets_deposit(caller, project, own, past) {
+            return Some(false);
+        }
+        if !meets_told_group(&self.group, group)? {
+            return Some(false);
+        }
+        if self.entry.is_some() {
+            None
+        } else {
+            Some(true)
+        }
     }
 
     /// What the rule decides where it matches.
@@ -140,6 +158,19 @@ fn meets_group(set: &Option<Bytes>, group: &[u8]) -> bool
     match set {
         Some(wanted) => wanted.as_slice() == group,
         None => true,
+    }
+}
+
+/// Whether rows have the group, where they all have this one, if it is told. None where that differs from row to row.
+fn meets_told_group(set: &Option<Bytes>, told: Option<&[u8]>) -> Option<bool>
+    ensures alike { IfSome result (λ meets. (group : List ℕ) → IfSome (option_map (λ g. g.now) told.entry) (λ g. group ≡ g)
+        → IsTrue meets ↔ Meets set.now group) }
+    ensures apart { IfNone result (IsSome set.now × (option_map (λ g. g.now) told.entry ≡ None)) }
+{
+    match (set, told) {
+        (None, _) => Some(true),
+        (Some(wanted), Some(group)) => Some(wanted.as_slice() == group),
+        (Some(_), None) => None,
     }
 }
 

@@ -11,7 +11,7 @@ ghost use Rattle.reg_desk.specs.View.{is_only, look_of};
 use crate::answer::{Answer, Listed};
 use crate::serving::drawing::{looking_at, read_view};
 use crate::serving::{decide_request, refused};
-use crate::view::{Looking, opens, sees};
+use crate::view::{Looking, may_see_alike, opens, sees};
 use ags_rows::Sequence;
 use reg_policy::{Caller, Day, Decision, Name, Policy, Verb};
 use reg_store::{Keep, KeepError};
@@ -80,7 +80,7 @@ fn seen_from<K: Keep>(
     seen_among_all(alloc, keep, looking, number)
 }
 
-/// Whether the deposit's row of PROJ is shown.
+/// Whether the deposit's row of PROJ is shown. Where all its rows are alike to the policy, none is read.
 fn sees_project<K: Keep>(
     alloc: Global,
     keep: &mut K,
@@ -93,6 +93,9 @@ fn sees_project<K: Keep>(
     ensures seen { K.is_sound keep.new → IfOk result (SeesDeposit K.Keep keep.old (look_of looking.now) number) }
     ensures named { result ≢ Err KeepError.Full }
 {
+    if let Some(may) = may_see_alike(looking, None) {
+        return Ok(may);
+    }
     match open_project(alloc, keep, looking, number)? {
         Some(row) => seen_from(alloc, keep, looking, number, row),
         None => Ok(false),
