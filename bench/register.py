@@ -160,12 +160,15 @@ def requests_a_second(program, folder, limit):
     place = Place(program, folder, limit)
     print(f"\n| {REQUESTS} requests, a connection each | a second | of a plain Rust server that answers each with the last reply | that has each body on the disk first |\n|---|---|---|---|")
     listing, extract = (f"GET /v1/projects/N1/deposits{path} {FIELDS}\r\n".encode() for path in ("", "/1"))
+    # Delta sees all rows of its own deposits; of what Echo sees, each deposit's row of PROJ has to be read
+    foreign = listing.replace(b"t-delta", b"t-echo")
     deposits, apart = ([post(small(n, way)) for n in range(100 + REQUESTS)] for way in (False, True))
     deposited, listed = "deposits of 1 kB", [listing] * REQUESTS
     for name, first, requests in (("", [], deposits[:10]), ("listings of 10 deposits", [listing], listed), ("", [], deposits[10:100]), ("listings of 100 deposits", [listing], listed),
                                   (deposited, [], deposits[100:]), (f"listings of {len(deposits)} deposits", [listing], listed),
                                   ("extracts of 1 kB", [], [extract] * REQUESTS), ("the same deposit again", [], deposits[:1] * REQUESTS),
-                                  ("new", [], apart), (f"listings of {len(apart)} deposits, each with a row of PROJ of its own", [listing], listed)):
+                                  ("new", [], apart), (f"listings of {len(apart)} deposits, each with a row of PROJ of its own", [listing], listed),
+                                  ("the same, asked by another firm", [foreign], [foreign] * REQUESTS)):
         if name == "new":
             place = Place(program, folder, limit)
         (_, taken), reply = place.serve(first, requests)
