@@ -1,4 +1,4 @@
-use super::{CellType, fits};
+use ags_cells::{CellType, fits};
 
 /// A type's code, a unit, an entry, and whether it fits.
 type Case = (&'static str, &'static str, &'static str, bool);
