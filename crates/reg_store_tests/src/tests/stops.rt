@@ -4,8 +4,8 @@
 ghost use Rattle.std.specs.Prelude.{◌≡◌, false, IfSome, IsTrue};
 
 use crate::tests::{take_named, tell_deposit};
-use crate::{AdoptError, CreateError, Keep, KeepError, SqlKeep};
 use ags_rows::vectors::{FILE_A, FILE_B, MINI};
+use reg_store::{AdoptError, CreateError, Keep, KeepError, SqlKeep};
 use sqlite::{Connection, FileStore, Files, Options};
 use sqlite_disk::{Crash, Fuse, Memory};
 use std::alloc::{AllocError, Global};

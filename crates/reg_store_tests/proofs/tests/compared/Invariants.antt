@@ -1,5 +1,5 @@
 use Rattle.std.proofs.Common.{◌≡◌, false}
-use Rattle.reg_store.proofs.tests.compared.Given as goal
+use Rattle.reg_store_tests.proofs.tests.compared.Given as goal
 
 -- the keep has not failed
 abbrev pub invariant-loop-case : goal.invariant-loop-case

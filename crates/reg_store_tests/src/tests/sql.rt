@@ -3,10 +3,10 @@
 ghost use Rattle.std.specs.Prelude.{◌≡◌, ◌≤◌, false, length};
 
 use crate::tests::{take_named, tell_deposit};
-use crate::{AdoptError, CreateError, Keep, KeepError, SqlKeep};
 use ags_dict::DictError;
 use ags_rows::vectors::{FILE_A, FILE_B, MINI};
 use ags_rows::{LIMIT, READABLE};
+use reg_store::{AdoptError, CreateError, Keep, KeepError, SqlKeep};
 use sqlite::{Alter, Connection, File, FileStore, MemStore, params};
 use std::alloc::{AllocError, Global};
 use std::fmt::Write;

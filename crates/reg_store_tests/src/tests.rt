@@ -6,13 +6,13 @@ mod calls;
 mod sql;
 mod stops;
 
-use crate::{Keep, KeepError, Kept, KeptRow, ProjectRow};
 use ags_check::{Checked, check};
 use ags_dict::Dictionary;
 use ags_links::Graph;
 use ags_rows::LIMIT;
 use ags_rows::vectors::{FILE_A, FILE_B};
 use reg_policy::{Day, Name};
+use reg_store::{Keep, KeepError, Kept, KeptRow, ProjectRow};
 use std::alloc::{AllocError, Global};
 use std::fmt::Write;
 

@@ -3,9 +3,9 @@
 ghost use Rattle.std.specs.Prelude.{◌<◌, ◌≤◌};
 
 use super::{Call, Case, File, SAME, compared};
-use crate::{KeepError, PlainKeep, SqlKeep};
 use ags_dict::Dictionary;
 use ags_rows::vectors::MINI;
+use reg_store::{KeepError, PlainKeep, SqlKeep};
 use std::alloc::Global;
 use std::test::Fail;
 
