@@ -8,9 +8,9 @@ use super::{
     Ask, Body, Step, Want, count_wanted, deposit_of, desk_over, extract_of, holds, list_of,
     memory_of, plays_in_memory, plays_in_tables,
 };
-use crate::{Desk, Request};
 use ags_rows::READABLE;
 use ags_rows::vectors::{FILE_A, MINI};
+use reg_desk::{Desk, Request};
 use reg_policy::vectors::CALLERS;
 use reg_policy::{Caller, Callers, Day, Name};
 use reg_store::{Keep, SqlKeep};

@@ -9,12 +9,12 @@ mod laws;
 mod memory;
 mod refusing;
 
-use crate::{Answer, Desk, Listed, Request};
 use ags_dict::Dictionary;
 use ags_rows::vectors::{FILE_A, FILE_B, FILE_C, MINI};
 use ags_rows::{FindingList, READABLE};
 use bodies::LENGTHS;
 use examples::{EXAMPLES, MOST};
+use reg_desk::{Answer, Desk, Listed, Request};
 use reg_policy::vectors::{CALLERS, POLICY};
 use reg_policy::{Caller, Callers, Day, Name, Policy};
 use reg_store::{Keep, PlainKeep, SqlKeep};

@@ -5,12 +5,12 @@ ghost use Rattle.std.specs.Prelude.{◌≡◌, ◌≤◌, false};
 
 use super::examples::UNTIL;
 use super::{Line, deposit_of, desk_over, extract_of, is_listing, is_receipt, list_of, name_of};
-use crate::{Answer, Desk, Request};
 use ags_check::{CheckError, check};
 use ags_dict::{DictError, Dictionary};
 use ags_links::{Graph, reached, shown};
 use ags_rows::vectors::{FILE_A, FILE_B, MINI};
 use ags_rows::{Cell, Group, READABLE, RowsError, Scan, cells, write_group};
+use reg_desk::{Answer, Desk, Request};
 use reg_policy::vectors::{CALLERS, POLICY};
 use reg_policy::{
     Caller, Callers, CallersError, Day, Decision, Name, NameError, Policy, PolicyError, RowFacts,

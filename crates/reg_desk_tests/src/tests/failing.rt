@@ -7,8 +7,8 @@ use super::{
     Step, Want, check_of, count_wanted, deposit_of, desk_over, extract_of, list_of, memory_of,
     name_of, plays,
 };
-use crate::{Answer, Desk, Request};
 use ags_rows::vectors::{FILE_A, FILE_B};
+use reg_desk::{Answer, Desk, Request};
 use reg_policy::vectors::CALLERS;
 use reg_policy::{Caller, Callers, Day, Name};
 use reg_store::Keep;
