@@ -1,8 +1,8 @@
 //! A reader and a writer of one byte a call, which fail.
 
 use super::{RECEIPT, answers, deposit, has_status, small_desk};
-use crate::{IoFault, Served, Tally, serve_one};
 use reg_desk::Desk;
+use reg_http::{IoFault, Served, Tally, serve_one};
 use reg_policy::vectors::CALLERS;
 use reg_policy::{Callers, Day};
 use reg_store::{Keep, PlainKeep};

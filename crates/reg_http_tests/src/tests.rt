@@ -5,11 +5,11 @@ mod cases;
 mod replies;
 mod slow;
 
-use crate::{IoFault, Served, Tally, serve_list, serve_one};
 use ags_dict::Dictionary;
 use ags_rows::READABLE;
 use ags_rows::vectors::{FILE_A, MINI};
 use reg_desk::Desk;
+use reg_http::{IoFault, Served, Tally, serve_list, serve_one};
 use reg_policy::vectors::{CALLERS, POLICY};
 use reg_policy::{Callers, Day, Policy};
 use reg_store::{Keep, PlainKeep};
