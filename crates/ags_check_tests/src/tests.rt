@@ -3,7 +3,7 @@
 mod headers;
 mod rows;
 
-use crate::{CheckError, check};
+use ags_check::{CheckError, check};
 use ags_dict::Dictionary;
 use ags_rows::vectors::{FILE_A, FILE_B, FILE_C, MINI};
 use ags_rows::{FindingList, READABLE};
