@@ -1,6 +1,6 @@
 //! Callers that are read, that are refused, and that are found.
 use super::joined;
-use crate::{Callers, CallersError, vectors};
+use reg_policy::{Callers, CallersError, vectors};
 use std::alloc::Global;
 
 /// What stands before a token, and behind it.

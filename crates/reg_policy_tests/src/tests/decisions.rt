@@ -1,7 +1,7 @@
 //! What policies decide of requests and of rows.
 use super::policies::{RULE, policy_of};
-use crate::{Caller, Decision, Name, NameError, Policy, RowFacts, Subject, Verb, vectors};
 use ags_rows::{Cell, cells};
+use reg_policy::{Caller, Decision, Name, NameError, Policy, RowFacts, Subject, Verb, vectors};
 use std::alloc::Global;
 
 /// One who asks in a project.

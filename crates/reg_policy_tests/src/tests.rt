@@ -3,7 +3,7 @@ mod callers;
 mod decisions;
 mod policies;
 
-use crate::{CallersError, Day, Name, NameError, PolicyError};
+use reg_policy::{CallersError, Day, Name, NameError, PolicyError};
 use std::alloc::{AllocError, Global};
 use std::cmp::Ordering;
 use std::fmt::{Display, Write};

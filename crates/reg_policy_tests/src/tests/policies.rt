@@ -1,6 +1,6 @@
 //! Policies that are read, and that are refused.
 use super::joined;
-use crate::{Policy, PolicyError};
+use reg_policy::{Policy, PolicyError};
 use std::alloc::Global;
 
 pub(super) const RULE: &str = "[[rule]]\nnumber = 1\neffect = \"permit\"\n";
