@@ -1,6 +1,6 @@
 //! The worked examples of files. Where memory wants, no answer is the wanted one.
-use crate::{Graph, Index, Targets};
 use ags_dict::Dictionary;
+use ags_links::{Graph, Index, Targets};
 use ags_rows::vectors::{FILE_A, FILE_B, FILE_C, MINI};
 use ags_rows::{READABLE, Scan};
 use std::alloc::{AllocError, Global};

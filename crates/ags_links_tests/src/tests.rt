@@ -1,7 +1,7 @@
 //! The worked examples of graphs. Where memory wants, no answer is the wanted one.
 mod files;
 
-use crate::{Graph, reached, shown};
+use ags_links::{Graph, reached, shown};
 use std::alloc::{AllocError, Global};
 
 /// The graph of so many rows and these steps, if it is one.
