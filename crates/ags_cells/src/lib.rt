@@ -14,6 +14,3 @@ mod time_unit;
 
 pub use cell_type::CellType;
 pub use fitting::fits;
-
-#[cfg(test)]
-mod tests;

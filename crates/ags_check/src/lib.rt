@@ -7,8 +7,6 @@ mod header;
 pub mod laws;
 mod named_groups;
 mod rows;
-#[cfg(test)]
-mod tests;
 
 pub use checked::Checked;
 pub use checking::{CheckError, check};

@@ -13,8 +13,6 @@ mod parents;
 mod placed;
 mod separators;
 mod steps;
-#[cfg(test)]
-mod tests;
 mod texts;
 
 pub use closure::{reached, shown};

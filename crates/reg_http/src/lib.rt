@@ -31,6 +31,3 @@ pub use number::number_of_deposit;
 pub use query::groups_listed;
 pub use serve::{IoFault, Served, serve_one};
 pub use tally::Tally;
-
-#[cfg(test)]
-mod tests;

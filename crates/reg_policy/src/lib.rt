@@ -19,6 +19,3 @@ pub use day::Day;
 pub use name::{Name, NameError};
 pub use policy::{Policy, PolicyError};
 pub use subject::{Decision, RowFacts, Subject, Verb};
-
-#[cfg(test)]
-mod tests;

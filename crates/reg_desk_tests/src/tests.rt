@@ -1,0 +1,450 @@
+//! Worked examples of the desk, the same over each keep.
+
+ghost use Rattle.std.specs.Prelude.{◌≡◌, ◌≤◌, ◌<◌, false};
+
+mod bodies;
+mod examples;
+mod failing;
+mod laws;
+mod memory;
+mod refusing;
+
+use ags_dict::Dictionary;
+use ags_rows::vectors::{FILE_A, FILE_B, FILE_C, MINI};
+use ags_rows::{FindingList, READABLE};
+use bodies::LENGTHS;
+use examples::{EXAMPLES, MOST};
+use reg_desk::{Answer, Desk, Listed, Request};
+use reg_policy::vectors::{CALLERS, POLICY};
+use reg_policy::{Caller, Callers, Day, Name, Policy};
+use reg_store::{Keep, PlainKeep, SqlKeep};
+use std::alloc::{AllocError, Global};
+
+/// New lines in place of those from the first to the last.
+#[derive(Clone, Copy)]
+pub struct Edit {
+    pub first: usize,
+    pub last: usize,
+    pub lines: &'static str,
+}
+
+/// A file of the worked examples.
+#[derive(Clone, Copy)]
+pub enum File {
+    A,
+    B,
+    C,
+}
+
+/// A file with edits in the order of its lines, after these bytes and before so many spaces.
+#[derive(Clone, Copy)]
+pub struct Body {
+    pub front: &'static [u8],
+    pub file: File,
+    pub edits: &'static [Edit],
+    pub spaces: usize,
+}
+
+/// What is asked. Every request is for project N1.
+#[derive(Clone, Copy)]
+pub enum Ask {
+    /// The body, and its embargo.
+    Deposit(Body, &'static str),
+    Check(Body),
+    List,
+    Extract(u32, &'static [&'static [u8]]),
+}
+
+/// What is answered.
+#[derive(Clone, Copy)]
+pub enum Want {
+    /// An answer that holds nothing, by its name.
+    Says(&'static str),
+    /// The receipt of this number, until this day under embargo.
+    Receipt(u32, &'static str),
+    /// The rule that denies it, 0 where none matches.
+    Denied(u32),
+    /// One finding at no subject: its code and its line.
+    Finding(&'static str, u32),
+    /// These deposits.
+    Lists(&'static [Line]),
+    /// The text of this body.
+    Gives(Body),
+}
+
+/// A line of a listing: number, firm and embargo.
+#[derive(Clone, Copy)]
+pub struct Line(pub u32, pub &'static str, pub &'static str);
+
+/// The caller's token, the day, the request, and its answer.
+#[derive(Clone, Copy)]
+pub struct Step(pub &'static str, pub &'static str, pub Ask, pub Want);
+
+/// A body, and how many bytes it should have.
+#[derive(Clone, Copy)]
+pub struct Length(pub &'static str, pub Body, pub usize);
+
+/// Requests to a register that is empty at first, and may hold so many deposits.
+#[derive(Clone, Copy)]
+pub struct Example {
+    pub name: &'static str,
+    pub limit: u32,
+    pub steps: &'static [Step],
+}
+
+/// The bytes of a file.
+fn file_bytes(file: File) -> &'static [u8] {
+    match file {
+        File::A => FILE_A,
+        File::B => FILE_B,
+        File::C => FILE_C,
+    }
+}
+
+/// Where this line of a file begins, counted from 1; behind the file where it has no such line.
+fn begin_of(file: &[u8], line: usize) -> usize {
+    let mut left = line;
+    for (place, byte) in file.iter().enumerate() {
+        if left == 1 {
+            return place;
+        }
+        if *byte == b'\n' {
+            left = left.saturating_sub(1);
+        }
+    }
+    file.len()
+}
+
+/// The lines of a file from the first and before the last.
+fn lines_of(file: &[u8], first: usize, last: usize) -> &[u8] {
+    match file.get(begin_of(file, first)..begin_of(file, last)) {
+        Some(lines) => lines,
+        None => b"",
+    }
+}
+
+/// The bytes of a body.
+fn bytes_of(alloc: Global, body: &Body) -> Result<Vec<u8>, AllocError> {
+    let file = file_bytes(body.file);
+    let mut text = Vec::from_slice(alloc, body.front)?;
+    let mut line = 1usize;
+    for edit in body.edits {
+        text.extend_from_slice(lines_of(file, line, edit.first))?;
+        text.extend_from_slice(edit.lines.as_bytes())?;
+        line = edit.last.saturating_add(1);
+    }
+    text.extend_from_slice(lines_of(file, line, usize::MAX))?;
+    text.resize(text.len().saturating_add(body.spaces), b' ')?;
+    Ok(text)
+}
+
+/// The name of an answer that holds nothing.
+fn name_of(answer: &Answer) -> &'static str {
+    match answer {
+        Answer::Clean => "clean",
+        Answer::Unknown => "unknown",
+        Answer::TooLarge => "too large",
+        Answer::Full => "full",
+        Answer::NoMemory => "out of memory",
+        Answer::StoreFailed => "store failed",
+        _ => "",
+    }
+}
+
+/// Whether it is the receipt of this number, until this day under embargo.
+fn is_receipt(answer: &Answer, receipt: u32, until: &str) -> bool {
+    match answer {
+        Answer::Receipt { number, embargo } => {
+            *number == receipt && embargo.text().as_slice() == until.as_bytes()
+        }
+        _ => false,
+    }
+}
+
+/// Whether this rule denies it.
+fn is_denied(answer: &Answer, rule: u32) -> bool {
+    match answer {
+        Answer::Denied(by) => *by == rule,
+        _ => false,
+    }
+}
+
+/// Whether there is one finding: of this code, at this line, of no subject.
+fn is_only(found: &FindingList, code: &str, line: u32) -> bool {
+    if found.len() != 1 {
+        return false;
+    }
+    let one = found.at(0);
+    one.code.text() == code.as_bytes() && one.line == line && one.subject.is_empty()
+}
+
+/// Whether it is that one finding.
+fn is_finding(answer: &Answer, code: &str, line: u32) -> bool {
+    match answer {
+        Answer::Findings(found) => is_only(found, code, line),
+        _ => false,
+    }
+}
+
+/// Whether the deposit of a listing is this.
+fn is_line(listed: &Listed, line: &Line) -> bool {
+    listed.number == line.0
+        && listed.firm.text() == line.1
+        && listed.embargo.text().as_slice() == line.2.as_bytes()
+}
+
+/// Whether the deposits are these.
+fn are_lines(listed: &[Listed], lines: &[Line]) -> bool {
+    let mut same = listed.len() == lines.len();
+    for (listed, line) in listed.iter().zip(lines) {
+        same = same && is_line(listed, line);
+    }
+    same
+}
+
+/// Whether it lists these deposits.
+fn is_listing(answer: &Answer, lines: &[Line]) -> bool {
+    match answer {
+        Answer::Listing(listed) => are_lines(listed.as_slice(), lines),
+        _ => false,
+    }
+}
+
+/// Whether it is the text of this body.
+fn gives(alloc: Global, answer: &Answer, body: &Body) -> Result<bool, AllocError> {
+    match answer {
+        Answer::Text(text) => Ok(text.as_slice() == bytes_of(alloc, body)?.as_slice()),
+        _ => Ok(false),
+    }
+}
+
+/// Whether the answer is what is wanted.
+fn is_wanted(alloc: Global, answer: &Answer, want: &Want) -> Result<bool, AllocError> {
+    match want {
+        Want::Says(name) => Ok(name_of(answer) == *name),
+        Want::Receipt(number, until) => Ok(is_receipt(answer, *number, until)),
+        Want::Denied(rule) => Ok(is_denied(answer, *rule)),
+        Want::Finding(code, line) => Ok(is_finding(answer, code, *line)),
+        Want::Lists(lines) => Ok(is_listing(answer, lines)),
+        Want::Gives(body) => gives(alloc, answer, body),
+    }
+}
+
+/// How many answers are wanted before the first that is not.
+fn count_wanted(alloc: Global, answers: &[Answer], wants: &[Want]) -> Result<usize, AllocError> {
+    let mut count = 0usize;
+    for (answer, want) in answers.iter().zip(wants) {
+        if !is_wanted(alloc, answer, want)? {
+            return Ok(count);
+        }
+        count = count.saturating_add(1);
+    }
+    Ok(count)
+}
+
+/// A deposit to a project.
+fn deposit_of<'a>(
+    caller: &'a Caller,
+    project: &'a Name,
+    embargo: Day,
+    bytes: &'a [u8],
+    day: Day,
+) -> Request<'a> {
+    Request::Deposit {
+        caller,
+        project,
+        embargo,
+        bytes,
+        day,
+    }
+}
+
+/// A check of a body.
+fn check_of<'a>(caller: &'a Caller, project: &'a Name, bytes: &'a [u8], day: Day) -> Request<'a> {
+    Request::Check {
+        caller,
+        project,
+        bytes,
+        day,
+    }
+}
+
+/// A list of a project's deposits.
+fn list_of<'a>(caller: &'a Caller, project: &'a Name, day: Day) -> Request<'a> {
+    Request::List {
+        caller,
+        project,
+        day,
+    }
+}
+
+/// An extract of groups of a deposit.
+fn extract_of<'a>(
+    caller: &'a Caller,
+    project: &'a Name,
+    number: u32,
+    groups: &'a [&'a [u8]],
+    day: Day,
+) -> Request<'a> {
+    Request::Extract {
+        caller,
+        project,
+        number,
+        groups,
+        day,
+    }
+}
+
+/// The bytes that are sent with what is asked.
+fn bytes_sent(alloc: Global, ask: &Ask) -> Result<Vec<u8>, AllocError> {
+    match ask {
+        Ask::Deposit(body, _) => bytes_of(alloc, body),
+        Ask::Check(body) => bytes_of(alloc, body),
+        _ => Ok(Vec::new(alloc)),
+    }
+}
+
+/// What is asked, with these bytes; none where its embargo is no day.
+fn request_of<'a>(
+    caller: &'a Caller,
+    project: &'a Name,
+    day: Day,
+    ask: &Ask,
+    bytes: &'a [u8],
+) -> Option<Request<'a>> {
+    match ask {
+        Ask::Deposit(_, until) => {
+            Some(deposit_of(caller, project, Day::read(until)?, bytes, day))
+        }
+        Ask::Check(_) => Some(check_of(caller, project, bytes, day)),
+        Ask::List => Some(list_of(caller, project, day)),
+        Ask::Extract(number, groups) => Some(extract_of(caller, project, *number, groups, day)),
+    }
+}
+
+/// The request of a step, with these bytes; none where its token is nobody's, or one of its days is none.
+fn request_at<'a>(
+    callers: &'a Callers,
+    project: &'a Name,
+    step: &Step,
+    bytes: &'a [u8],
+) -> Option<Request<'a>> {
+    let caller = callers.find(step.0.as_bytes())?;
+    request_of(caller, project, Day::read(step.1)?, &step.2, bytes)
+}
+
+/// Whether a step is answered as it should be.
+fn holds<K: Keep>(
+    alloc: Global,
+    desk: &mut Desk<K>,
+    callers: &Callers,
+    project: &Name,
+    step: &Step,
+) -> Result<bool, AllocError> {
+    let bytes = bytes_sent(alloc, &step.2)?;
+    match request_at(callers, project, step, &bytes) {
+        Some(request) => is_wanted(alloc, &desk.answer(alloc, &request), &step.3),
+        None => Ok(false),
+    }
+}
+
+/// Whether these steps in turn are answered as they should be.
+fn hold<K: Keep>(
+    alloc: Global,
+    desk: &mut Desk<K>,
+    callers: &Callers,
+    steps: &[Step],
+) -> Result<bool, AllocError> {
+    let Ok(project) = Name::read(alloc, "N1") else {
+        return Err(AllocError);
+    };
+    for step in steps {
+        if !holds(alloc, desk, callers, &project, step)? {
+            return Ok(false);
+        }
+    }
+    Ok(true)
+}
+
+/// A desk over this keep.
+fn desk_over<K: Keep + Drop>(alloc: Global, keep: K) -> Result<Desk<K>, AllocError>
+    requires { K.has_failed keep ≡ false }
+{
+    match Policy::read(alloc, POLICY) {
+        Ok(policy) => Ok(Desk::new(keep, policy)),
+        Err(_) => Err(AllocError),
+    }
+}
+
+/// Whether a desk over this keep answers these steps as it should.
+fn plays<K: Keep + Drop>(alloc: Global, keep: K, steps: &[Step]) -> Result<bool, AllocError>
+    requires { K.has_failed keep ≡ false }
+{
+    let mut desk = desk_over(alloc, keep)?;
+    match Callers::read(alloc, CALLERS) {
+        Ok(callers) => hold(alloc, &mut desk, &callers, steps),
+        Err(_) => Err(AllocError),
+    }
+}
+
+/// A keep in memory that may hold so many deposits; none where no keep may hold so many.
+fn memory_of(alloc: Global, limit: u32) -> Option<PlainKeep> {
+    if limit == 0 || limit > 999_999 {
+        return None;
+    }
+    match Dictionary::read(alloc, MINI) {
+        Ok(mini) => Some(PlainKeep::with_limit(alloc, mini, limit)),
+        Err(_) => None,
+    }
+}
+
+/// Whether a desk over a keep in memory that may hold so many deposits answers these steps as it should.
+fn plays_in_memory(alloc: Global, limit: u32, steps: &[Step]) -> Result<bool, AllocError> {
+    match memory_of(alloc, limit) {
+        Some(keep) => plays(alloc, keep, steps),
+        None => Err(AllocError),
+    }
+}
+
+/// Whether a desk over tables answers these steps as it should.
+fn plays_in_tables(alloc: Global, steps: &[Step]) -> Result<bool, AllocError> {
+    if MINI.len() > READABLE {
+        return Ok(false);
+    }
+    match SqlKeep::in_memory(alloc, MINI) {
+        Ok(keep) => plays(alloc, keep, steps),
+        Err(_) => Err(AllocError),
+    }
+}
+
+/// How long a body is.
+fn length_of(alloc: Global, body: &Body) -> Result<usize, AllocError> {
+    Ok(bytes_of(alloc, body)?.len())
+}
+
+#[test]
+fn bodies_are_as_long_as_they_should_be(rt: HostRuntime) {
+    let alloc = rt.alloc();
+    for Length(name, body, length) in &LENGTHS {
+        assert!(rt; length_of(alloc, body).unwrap_or(0) == *length, "{name}");
+    }
+}
+
+#[test]
+fn examples_in_memory(rt: HostRuntime) {
+    let alloc = rt.alloc();
+    for example in &EXAMPLES {
+        let right = plays_in_memory(alloc, example.limit, example.steps).unwrap_or(false);
+        assert!(rt; right, "{}", example.name);
+    }
+}
+
+/// Tables hold as many deposits as may be, so an example with a smaller limit is none of theirs.
+#[test]
+fn examples_in_tables(rt: HostRuntime) {
+    let alloc = rt.alloc();
+    for example in &EXAMPLES {
+        let right = example.limit < MOST || plays_in_tables(alloc, example.steps).unwrap_or(false);
+        assert!(rt; right, "{}", example.name);
+    }
+}

@@ -1,0 +1,148 @@
+//! The desk over a keep that fails.
+
+use super::bodies::B_SHOWN;
+use super::examples::{EXAMPLES, FIRST, LISTED, MOST, UNTIL};
+use super::refusing::Refusing;
+use super::{
+    Step, Want, check_of, count_wanted, deposit_of, desk_over, extract_of, list_of, memory_of,
+    name_of, plays,
+};
+use ags_rows::vectors::{FILE_A, FILE_B};
+use reg_desk::{Answer, Desk, Request};
+use reg_policy::vectors::CALLERS;
+use reg_policy::{Caller, Callers, Day, Name};
+use reg_store::Keep;
+use std::alloc::{AllocError, Global};
+use std::io;
+
+/// Whether a desk over a keep that gives no body answers these steps as it should.
+fn plays_without_bodies(alloc: Global, steps: &[Step]) -> Result<bool, AllocError> {
+    match memory_of(alloc, MOST) {
+        Some(keep) => plays(alloc, Refusing::new(keep, u32::MAX), steps),
+        None => Err(AllocError),
+    }
+}
+
+/// No body is read for a listing or an extract.
+#[test]
+fn examples_without_bodies(rt: HostRuntime) {
+    let alloc = rt.alloc();
+    for example in &EXAMPLES {
+        let right = example.limit < MOST
+            || plays_without_bodies(alloc, example.steps).unwrap_or(false);
+        assert!(rt; right, "{}", example.name);
+    }
+}
+
+/// The requests of a run.
+fn seven_of<'a>(
+    delta: &'a Caller,
+    echo: &'a Caller,
+    project: &'a Name,
+    day: Day,
+) -> [Request<'a>; 7] {
+    [
+        deposit_of(delta, project, day, FILE_B, day),
+        list_of(echo, project, day),
+        extract_of(echo, project, 1, &[], day),
+        deposit_of(delta, project, day, FILE_B, day),
+        check_of(echo, project, FILE_A, day),
+        list_of(echo, project, day),
+        extract_of(echo, project, 1, &[], day),
+    ]
+}
+
+/// What they are answered where the store does not fail.
+const WHOLE: [Want; 7] = [
+    FIRST,
+    LISTED,
+    Want::Gives(B_SHOWN),
+    FIRST,
+    Want::Says("clean"),
+    LISTED,
+    Want::Gives(B_SHOWN),
+];
+
+/// Whether the store failed at each of these answers.
+fn have_failed(answers: &[Answer]) -> bool {
+    let mut failed = true;
+    for answer in answers {
+        failed = failed && name_of(answer) == "store failed";
+    }
+    failed
+}
+
+/// How many answers come before the first that the store failed; none where one of them is not that of a whole run, or one from
+/// there on is another.
+fn answered_before(alloc: Global, answers: &[Answer]) -> Result<Option<usize>, AllocError> {
+    let before = count_wanted(alloc, answers, &WHOLE)?;
+    match answers.get(before..) {
+        Some(behind) if have_failed(behind) => Ok(Some(before)),
+        _ => Ok(None),
+    }
+}
+
+/// The same of a run, and none also where the keep does not hold the one deposit that was answered.
+fn stop_at(
+    alloc: Global,
+    desk: &mut Desk<Refusing>,
+    requests: &[Request],
+) -> Result<Option<usize>, AllocError> {
+    let answers = desk.run(alloc, requests)?;
+    let before = answered_before(alloc, &answers)?;
+    let held = u32::from(before != Some(0));
+    if answers.len() == requests.len() && desk.keep().count() == held {
+        Ok(before)
+    } else {
+        Ok(None)
+    }
+}
+
+/// The same over a keep that answers so many calls.
+fn stop_of(alloc: Global, requests: &[Request], calls: u32) -> Result<Option<usize>, AllocError> {
+    match memory_of(alloc, MOST) {
+        Some(keep) => {
+            let mut desk = desk_over(alloc, Refusing::new(keep, calls))?;
+            stop_at(alloc, &mut desk, requests)
+        }
+        None => Err(AllocError),
+    }
+}
+
+/// Behind how many answers the store fails over the keeps that answer 0 to 63 calls (7 where it does not), and how often it fails;
+/// none where a run is not as it should be.
+fn stops_of(alloc: Global, requests: &[Request]) -> Option<([bool; 8], u32)> {
+    let mut stops = [false; 8];
+    let mut failed = 0u32;
+    for calls in 0..64 {
+        let before = stop_of(alloc, requests, calls).unwrap_or(None)?;
+        let stop = stops.get_mut(before)?;
+        *stop = true;
+        failed = failed.saturating_add(u32::from(before < 7));
+    }
+    Some((stops, failed))
+}
+
+/// The same of seven requests by Delta and Echo.
+fn seven_stops(alloc: Global, callers: &Callers, project: &Name) -> Option<([bool; 8], u32)> {
+    let delta = callers.find(b"t-delta")?;
+    let echo = callers.find(b"t-echo")?;
+    let requests = seven_of(delta, echo, project, Day::read(UNTIL)?);
+    stops_of(alloc, &requests)
+}
+
+/// The same where callers and project are read.
+fn stops(alloc: Global) -> Option<([bool; 8], u32)> {
+    let callers = Callers::read(alloc, CALLERS).ok()?;
+    let project = Name::read(alloc, "N1").ok()?;
+    seven_stops(alloc, &callers, &project)
+}
+
+/// The store fails at each of its calls in turn: within each request but the check, and behind those that may fail first
+/// three more are asked.
+#[test]
+fn runs_that_fail(rt: HostRuntime) -> io::Result<()> {
+    let (stops, failed) = stops(rt.alloc()).unwrap_or(([false; 8], 0));
+    assert!(rt; stops == [true, true, true, true, false, true, true, true]);
+    println!(rt; "{failed} calls of the keep failed")
+}

@@ -1,0 +1,130 @@
+//! Cases that meet the premises of the laws on extracts and on hidden rows, over each keep. All is asked on 2024-06-01.
+
+ghost use Rattle.std.specs.Prelude.{◌≡◌, ◌≤◌, false};
+
+use super::bodies::{A, B, B_SHOWN, B_TESTED, B_WETTER};
+use super::examples::{FIRST, LISTED, MOST, SECOND, UNTIL};
+use super::{
+    Ask, Body, Step, Want, count_wanted, deposit_of, desk_over, extract_of, holds, list_of,
+    memory_of, plays_in_memory, plays_in_tables,
+};
+use ags_rows::READABLE;
+use ags_rows::vectors::{FILE_A, MINI};
+use reg_desk::{Desk, Request};
+use reg_policy::vectors::CALLERS;
+use reg_policy::{Caller, Callers, Day, Name};
+use reg_store::{Keep, SqlKeep};
+use std::alloc::{AllocError, Global};
+
+/// Delta deposits the second file, and what Echo got of it; Delta gets that text again.
+///
+/// `extracts_are_clean`: both answers are texts. `extract_of_an_extract`: the second deposit is the text of an extract of a file
+/// without findings, and every row of it is shown to Delta, whose it is.
+const DRAWN_TWICE: &[Step] = &[
+    Step("t-delta", UNTIL, Ask::Deposit(B, UNTIL), FIRST),
+    Step("t-echo", UNTIL, Ask::Extract(1, &[]), Want::Gives(B_SHOWN)),
+    Step("t-echo", UNTIL, Ask::Check(B_SHOWN), Want::Says("clean")),
+    Step("t-delta", UNTIL, Ask::Deposit(B_SHOWN, UNTIL), SECOND),
+    Step("t-delta", UNTIL, Ask::Extract(2, &[]), Want::Gives(B_SHOWN)),
+];
+
+#[test]
+fn extracts_of_extracts(rt: HostRuntime) {
+    let alloc = rt.alloc();
+    assert!(rt; plays_in_memory(alloc, MOST, DRAWN_TWICE).unwrap_or(false));
+    assert!(rt; plays_in_tables(alloc, DRAWN_TWICE).unwrap_or(false));
+}
+
+/// Echo's list, a deposit by Foxtrot, and Echo's extracts of the first two deposits.
+fn four_of<'a>(
+    echo: &'a Caller,
+    foxtrot: &'a Caller,
+    project: &'a Name,
+    day: Day,
+) -> [Request<'a>; 4] {
+    [
+        list_of(echo, project, day),
+        deposit_of(foxtrot, project, day, FILE_A, day),
+        extract_of(echo, project, 1, &[], day),
+        extract_of(echo, project, 2, &[], day),
+    ]
+}
+
+/// What they are answered.
+const TOLD: [Want; 4] = [LISTED, SECOND, Want::Gives(B_SHOWN), Want::Gives(A)];
+
+/// Whether four requests in turn are answered so.
+fn tells<K: Keep>(
+    alloc: Global,
+    desk: &mut Desk<K>,
+    requests: &[Request],
+) -> Result<bool, AllocError> {
+    let answers = desk.run(alloc, requests)?;
+    Ok(answers.len() == 4 && count_wanted(alloc, &answers, &TOLD)? == 4)
+}
+
+/// Whether those four requests are.
+fn tells_four<K: Keep>(
+    alloc: Global,
+    desk: &mut Desk<K>,
+    callers: &Callers,
+    project: &Name,
+) -> Option<bool> {
+    let echo = callers.find(b"t-echo")?;
+    let foxtrot = callers.find(b"t-foxtrot")?;
+    let day = Day::read(UNTIL)?;
+    tells(alloc, desk, &four_of(echo, foxtrot, project, day)).ok()
+}
+
+/// The same once Delta has a receipt for this body.
+fn tells_behind<K: Keep>(
+    alloc: Global,
+    desk: &mut Desk<K>,
+    callers: &Callers,
+    body: &Body,
+) -> Option<bool> {
+    let step = Step("t-delta", UNTIL, Ask::Deposit(*body, UNTIL), FIRST);
+    let project = Name::read(alloc, "N1").ok()?;
+    if !holds(alloc, desk, callers, &project, &step).ok()? {
+        return None;
+    }
+    tells_four(alloc, desk, callers, &project)
+}
+
+/// The same of a desk over this keep.
+fn tells_over<K: Keep + Drop>(alloc: Global, keep: K, body: &Body) -> Option<bool>
+    requires { K.has_failed keep ≡ false }
+{
+    let mut desk = desk_over(alloc, keep).ok()?;
+    let callers = Callers::read(alloc, CALLERS).ok()?;
+    tells_behind(alloc, &mut desk, &callers, body)
+}
+
+/// The same of a desk over a keep in memory.
+fn tells_in_memory(alloc: Global, body: &Body) -> Option<bool> {
+    tells_over(alloc, memory_of(alloc, MOST)?, body)
+}
+
+/// The same of a desk over tables.
+fn tells_in_tables(alloc: Global, body: &Body) -> Option<bool> {
+    if MINI.len() > READABLE {
+        return None;
+    }
+    match SqlKeep::in_memory(alloc, MINI) {
+        Ok(keep) => tells_over(alloc, keep, body),
+        Err(_) => None,
+    }
+}
+
+/// The second file, with another result in a hidden row, with one hidden row more, and without its hidden rows.
+const BODIES: [Body; 4] = [B, B_WETTER, B_TESTED, B_SHOWN];
+
+/// `no_leak`: these bodies have no finding; Echo is shown the same of each, and no request brings any of them.
+#[test]
+fn hidden_rows_are_not_told(rt: HostRuntime) {
+    let alloc = rt.alloc();
+    for body in &BODIES {
+        assert!(rt; tells_in_memory(alloc, body).unwrap_or(false));
+        assert!(rt; tells_in_tables(alloc, body).unwrap_or(false));
+    }
+}

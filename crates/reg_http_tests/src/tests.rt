@@ -1,0 +1,314 @@
+//! The worked examples over memory. A desk begins empty, under a policy with three contractors and a consultant.
+ghost use Rattle.std.specs.Prelude.{◌<◌, ◌≤◌};
+
+mod cases;
+mod replies;
+mod slow;
+
+use ags_dict::Dictionary;
+use ags_rows::READABLE;
+use ags_rows::vectors::{FILE_A, MINI};
+use reg_desk::Desk;
+use reg_http::{IoFault, Served, Tally, serve_list, serve_one};
+use reg_policy::vectors::{CALLERS, POLICY};
+use reg_policy::{Callers, Day, Policy};
+use reg_store::{Keep, PlainKeep};
+use std::alloc::{AllocError, Global};
+use std::io;
+use std::io::{ErrorKind, Read, Write};
+
+/// An empty desk over memory that takes so many deposits, under this dictionary; none where memory is refused, or the dictionary
+/// is longer than what can be read.
+fn desk_under(alloc: Global, dictionary: &[u8], most: u32) -> Option<Desk<PlainKeep>>
+    requires least { 0 < most }
+    requires most { most ≤ 999999 }
+{
+    if dictionary.len() > READABLE {
+        return None;
+    }
+    let dictionary = Dictionary::read(alloc, dictionary).ok()?;
+    let policy = Policy::read(alloc, POLICY).ok()?;
+    Some(Desk::new(PlainKeep::with_limit(alloc, dictionary, most), policy))
+}
+
+/// The same under the small dictionary, for one deposit.
+fn small_desk(alloc: Global) -> Option<Desk<PlainKeep>> {
+    desk_under(alloc, MINI, 1)
+}
+
+/// Whether a connection was served with this status.
+fn has_status(served: &Result<Served, IoFault>, wanted: u16) -> bool {
+    match served {
+        Ok(Served { status }) => *status == wanted,
+        Err(_) => false,
+    }
+}
+
+/// Whether a request on this day is answered by this status and reply, and nothing else is written.
+fn answers(
+    alloc: Global,
+    desk: &mut Desk<PlainKeep>,
+    callers: &Callers,
+    day: Day,
+    request: &[u8],
+    status: u16,
+    reply: &[u8],
+) -> bool {
+    let mut written = Vec::new(alloc);
+    let served = serve_one(
+        alloc,
+        desk,
+        callers,
+        day,
+        &mut Tally::new(request),
+        &mut Tally::new(&mut written),
+    );
+    has_status(&served, status) && written.as_slice() == reply
+}
+
+/// Whether nothing is written, with status 0, where no byte comes.
+fn is_silent(alloc: Global) -> Option<bool> {
+    let mut desk = small_desk(alloc)?;
+    let callers = Callers::read(alloc, CALLERS).ok()?;
+    let day = Day::read("2024-05-01")?;
+    Some(answers(alloc, &mut desk, &callers, day, b"", 0, b""))
+}
+
+#[test]
+fn no_byte(rt: HostRuntime) {
+    assert!(rt; is_silent(rt.alloc()).unwrap_or(false));
+}
+
+/// A deposit of the file by Delta.
+const DEPOSIT: &[u8] = b"POST /v1/projects/N1/deposits?embargo=2024-06-01 HTTP/1.1\r\n\
+Authorization: Bearer t-delta\r\n\
+Content-Length: 543\r\n\
+\r\n";
+
+fn deposit(alloc: Global) -> Result<Vec<u8>, AllocError> {
+    let mut request = Vec::from_slice(alloc, DEPOSIT)?;
+    request.extend_from_slice(FILE_A)?;
+    Ok(request)
+}
+
+/// The reply to it where the register is empty, or holds it.
+const RECEIPT: &[u8] = b"HTTP/1.1 200 OK\r\n\
+Content-Type: application/json\r\n\
+Content-Length: 35\r\n\
+Connection: close\r\n\
+\r\n\
+{\"embargo\":\"2024-06-01\",\"number\":1}";
+
+/// The reply where the engine is refused memory.
+const OUT_OF_MEMORY: &[u8] = b"HTTP/1.1 503 Service Unavailable\r\n\
+Content-Type: application/json\r\n\
+Content-Length: 25\r\n\
+Connection: close\r\n\
+\r\n\
+{\"error\":\"out of memory\"}";
+
+/// Whether memory was wanting for a deposit, from the status and what was written; none where it is neither that nor the receipt.
+fn was_wanting(served: &Result<Served, IoFault>, written: &[u8]) -> Option<bool> {
+    if has_status(served, 503) && written == OUT_OF_MEMORY {
+        Some(true)
+    } else if has_status(served, 200) && written == RECEIPT {
+        Some(false)
+    } else {
+        None
+    }
+}
+
+/// The same of a deposit that is served. Where memory is refused before, nothing is asked.
+fn deposits(
+    alloc: Global,
+    desk: &mut Desk<PlainKeep>,
+    callers: &Callers,
+    day: Day,
+) -> Option<bool> {
+    let Ok(mut written) = Vec::with_capacity(alloc, 256) else {
+        return Some(false);
+    };
+    let served = serve_one(
+        alloc,
+        desk,
+        callers,
+        day,
+        &mut Tally::new(DEPOSIT.chain(FILE_A)),
+        &mut Tally::new(&mut written),
+    );
+    was_wanting(&served, &written)
+}
+
+/// For how many of three equal deposits memory was wanting.
+fn deposits_thrice(alloc: Global, desk: &mut Desk<PlainKeep>, callers: &Callers) -> Option<u32> {
+    let day = Day::read("2024-05-01")?;
+    let mut refused = 0u32;
+    for _ in 0..3 {
+        let wanting = deposits(alloc, desk, callers, day)?;
+        refused = refused.saturating_add(u32::from(wanting));
+    }
+    Some(refused)
+}
+
+/// The same at a desk that begins.
+fn refused_deposits(alloc: Global) -> Option<u32> {
+    let Some(mut desk) = small_desk(alloc) else {
+        return Some(0);
+    };
+    match Callers::read(alloc, CALLERS) {
+        Ok(callers) => deposits_thrice(alloc, &mut desk, &callers),
+        Err(_) => Some(0),
+    }
+}
+
+/// With memory, and where `conformance/refused_tests` refuses one growth: of three equal deposits one at most is answered 503 then, and
+/// each other as ever.
+#[test]
+fn memory_is_refused_once(rt: HostRuntime) {
+    let refused = refused_deposits(rt.alloc()).unwrap_or(u32::MAX);
+    assert!(rt; refused <= 1);
+}
+
+/// Takes one of two texts, and that in one write.
+#[derive(Clone, Copy)]
+struct Expects {
+    text: &'static [u8],
+    other: &'static [u8],
+}
+
+impl Write for Expects {
+    fn write(&mut self, buf: &[u8]) -> io::Result<usize> {
+        if buf == self.text || buf == self.other {
+            Ok(buf.len())
+        } else {
+            Err(io::Error::from(ErrorKind::BrokenPipe))
+        }
+    }
+
+    fn flush(&mut self) -> io::Result<()> {
+        Ok(())
+    }
+}
+
+const RECEIPT_OR_NOT: Expects = Expects {
+    text: RECEIPT,
+    other: OUT_OF_MEMORY,
+};
+
+const RECEIPT_ALONE: Expects = Expects {
+    text: RECEIPT,
+    other: RECEIPT,
+};
+
+/// How many of these answers are want of memory; none where one is neither that nor as ever.
+fn count_wanting(results: &[Result<Served, IoFault>]) -> Option<u32> {
+    let mut wanting = 0u32;
+    for served in results {
+        if has_status(served, 503) {
+            wanting = wanting.saturating_add(1);
+        } else if !has_status(served, 200) {
+            return None;
+        }
+    }
+    Some(wanting)
+}
+
+/// How often memory was wanting while two equal deposits were served in a list; none where an answer is neither as ever nor want of memory,
+/// or where the list was refused whole and something is held that was not.
+fn list_wanting(
+    alloc: Global,
+    desk: &mut Desk<PlainKeep>,
+    callers: &Callers,
+    day: Day,
+) -> Option<u32> {
+    let mut connections = [
+        (
+            Tally::new(DEPOSIT.chain(FILE_A)),
+            Tally::new(RECEIPT_OR_NOT),
+        ),
+        (
+            Tally::new(DEPOSIT.chain(FILE_A)),
+            Tally::new(RECEIPT_OR_NOT),
+        ),
+    ];
+    let held = desk.keep().count();
+    match serve_list(alloc, desk, callers, day, &mut connections) {
+        Ok(results) if results.len() == 2 => count_wanting(&results),
+        Err(_) if desk.keep().count() == held => Some(1),
+        _ => None,
+    }
+}
+
+/// The same of two such lists.
+fn lists_wanting(alloc: Global, desk: &mut Desk<PlainKeep>, callers: &Callers) -> Option<u32> {
+    let day = Day::read("2024-05-01")?;
+    let first = list_wanting(alloc, desk, callers, day)?;
+    let second = list_wanting(alloc, desk, callers, day)?;
+    Some(first.saturating_add(second))
+}
+
+/// The same at a desk that begins.
+fn refused_lists(alloc: Global) -> Option<u32> {
+    let Some(mut desk) = small_desk(alloc) else {
+        return Some(0);
+    };
+    match Callers::read(alloc, CALLERS) {
+        Ok(callers) => lists_wanting(alloc, &mut desk, &callers),
+        Err(_) => Some(0),
+    }
+}
+
+/// With memory, and where `conformance/refused_tests` refuses one growth: two equal deposits are served in a list, twice. Memory is wanting
+/// once at most, for the list whole or for one of the four answers, and each other answer is as ever.
+#[test]
+fn memory_is_refused_once_in_a_list(rt: HostRuntime) {
+    let refused = refused_lists(rt.alloc()).unwrap_or(u32::MAX);
+    assert!(rt; refused <= 1);
+}
+
+/// Whether these answers have these statuses.
+fn have_statuses(results: &[Result<Served, IoFault>], statuses: &[u16]) -> bool {
+    let mut same = results.len() == statuses.len();
+    for (served, status) in results.iter().zip(statuses) {
+        same = same && has_status(served, *status);
+    }
+    same
+}
+
+/// Whether a deposit, nothing, and the same deposit are served in a list, each reply in one write.
+fn serves_in_turn(
+    alloc: Global,
+    desk: &mut Desk<PlainKeep>,
+    callers: &Callers,
+    day: Day,
+) -> Result<bool, AllocError> {
+    let nothing = b"".as_slice();
+    let mut connections = [
+        (Tally::new(DEPOSIT.chain(FILE_A)), Tally::new(RECEIPT_ALONE)),
+        (
+            Tally::new(nothing.chain(nothing)),
+            Tally::new(RECEIPT_ALONE),
+        ),
+        (Tally::new(DEPOSIT.chain(FILE_A)), Tally::new(RECEIPT_ALONE)),
+    ];
+    let results = serve_list(alloc, desk, callers, day, &mut connections)?;
+    let [first, second, third] = &connections;
+    Ok(
+        have_statuses(&results, &[200, 0, 200])
+            && first.1.calls() == 1
+            && second.1.calls() == 0
+            && third.1.calls() == 1,
+    )
+}
+
+/// The same at a desk that begins.
+fn is_served_in_turn(alloc: Global) -> Option<bool> {
+    let mut desk = small_desk(alloc)?;
+    let callers = Callers::read(alloc, CALLERS).ok()?;
+    serves_in_turn(alloc, &mut desk, &callers, Day::read("2024-05-01")?).ok()
+}
+
+#[test]
+fn connections_in_turn(rt: HostRuntime) {
+    assert!(rt; is_served_in_turn(rt.alloc()).unwrap_or(false));
+}

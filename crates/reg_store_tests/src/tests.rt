@@ -1,0 +1,488 @@
+//! The calls of a keep, as their answers are printed: the same over each keep.
+
+ghost use Rattle.std.specs.Prelude.{◌≡◌, ◌<◌, ◌≤◌, false, length, IfOk, IsTrue, OnOk};
+
+mod calls;
+mod sql;
+mod stops;
+
+use ags_check::{Checked, check};
+use ags_dict::Dictionary;
+use ags_links::Graph;
+use ags_rows::LIMIT;
+use ags_rows::vectors::{FILE_A, FILE_B};
+use reg_policy::{Day, Name};
+use reg_store::{Keep, KeepError, Kept, KeptRow, ProjectRow};
+use std::alloc::{AllocError, Global};
+use std::fmt::Write;
+
+/// A file that is deposited.
+#[derive(Clone, Copy)]
+enum File {
+    A,
+    /// As long as A, with another name of its project.
+    OtherA,
+    B,
+    /// B with three more rows of LNMC below its first sample: nine steps.
+    LongB,
+}
+
+/// A call of a keep.
+#[derive(Clone, Copy)]
+enum Call {
+    /// `find` of a firm's file for a project, and `add` where there is none.
+    Take(&'static str, &'static str, File),
+    /// `recall` of a firm's file for a project.
+    Recall(&'static str, &'static str, File),
+    Deposit(u32),
+    Head(u32),
+    Rows(u32),
+    Steps(u32),
+    Project(u32),
+    /// `targets` of a deposit's row.
+    Targets(u32, u32),
+    Numbers(&'static str),
+    /// `count`, `limit`, and how many entries `dictionary` has.
+    Sizes,
+}
+
+/// A call, and its answer as it is printed.
+struct Case {
+    call: Call,
+    want: &'static str,
+}
+
+/// Where the name of A's project begins.
+const NAME_AT: usize = 93;
+
+/// Three rows of LNMC.
+const MORE_ROWS: &[u8] = b"\
+\"DATA\",\"BH1\",\"1.50\",\"S1\",\"1.60\",\"24\"\r\n\
+\"DATA\",\"BH1\",\"1.50\",\"S1\",\"1.65\",\"25\"\r\n\
+\"DATA\",\"BH1\",\"1.50\",\"S1\",\"1.70\",\"26\"\r\n\
+";
+
+/// A name of the tests. One that is none counts as want of memory, which no test expects.
+fn name(alloc: Global, text: &str) -> Result<Name, KeepError> {
+    match Name::read(alloc, text) {
+        Ok(name) => Ok(name),
+        Err(_) => Err(KeepError::NoMemory),
+    }
+}
+
+/// The file A with another first letter of its project's name.
+fn renamed(alloc: Global) -> Result<Vec<u8>, AllocError> {
+    let mut renamed = Vec::from_slice(alloc, FILE_A)?;
+    if NAME_AT < renamed.len() {
+        renamed[NAME_AT] = b'F';
+    }
+    Ok(renamed)
+}
+
+/// The file B with three more rows at its end.
+fn longer(alloc: Global) -> Result<Vec<u8>, AllocError> {
+    let mut longer = Vec::from_slice(alloc, FILE_B)?;
+    longer.extend_from_slice(MORE_ROWS)?;
+    Ok(longer)
+}
+
+/// The bytes of a file.
+fn bytes_of(alloc: Global, file: File) -> Result<Vec<u8>, AllocError> {
+    match file {
+        File::A => Vec::from_slice(alloc, FILE_A),
+        File::OtherA => renamed(alloc),
+        File::B => Vec::from_slice(alloc, FILE_B),
+        File::LongB => longer(alloc),
+    }
+}
+
+/// A file of the tests, checked. One that is too long or has findings counts as want of memory, which no test expects.
+fn checked<'b>(
+    alloc: Global,
+    dictionary: &Dictionary,
+    bytes: &'b [u8],
+) -> Result<Checked<'b>, KeepError>
+    ensures given { IfOk result (λ checked. checked.given ≡ dictionary.now) }
+    ensures short { IfOk result (λ checked. length checked.bytes ≤ LIMIT) }
+{
+    if bytes.len() > LIMIT {
+        return Err(KeepError::NoMemory);
+    }
+    match check(alloc, dictionary, bytes) {
+        Ok(checked) => Ok(checked),
+        Err(_) => Err(KeepError::NoMemory),
+    }
+}
+
+/// The first day after each embargo of the tests: 2024-06-01.
+fn free_from() -> Result<Day, KeepError> {
+    match Day::new(19_875) {
+        Some(day) => Ok(day),
+        None => Err(KeepError::NoMemory),
+    }
+}
+
+/// The number of the deposit, that of an equal one or a new one; 0 where the keep is full.
+fn take<K: Keep>(
+    keep: &mut K,
+    firm: &Name,
+    project: &Name,
+    embargo: Day,
+    checked: &Checked<'_>,
+) -> Result<u32, KeepError>
+    requires working { K.has_failed keep.old ≡ false }
+    requires dictionary { checked.now.given ≡ K.dictionary keep.old }
+    requires short { length checked.now.bytes ≤ LIMIT }
+    ensures { OnOk result (K.has_failed keep.new ≡ false) }
+{
+    if let Some(held) = keep.find(firm, project, checked.bytes())? {
+        return Ok(held);
+    }
+    match keep.add(firm, project, embargo, checked) {
+        Ok(number) => Ok(number),
+        Err(KeepError::Full) => Ok(0),
+        Err(refused) => Err(refused),
+    }
+}
+
+/// Takes the file of a firm for a project.
+pub(crate) fn take_file<K: Keep>(
+    alloc: Global,
+    keep: &mut K,
+    firm: &Name,
+    project: &Name,
+    bytes: &[u8],
+) -> Result<u32, KeepError>
+    requires { K.has_failed keep.old ≡ false }
+    ensures { OnOk result (K.has_failed keep.new ≡ false) }
+{
+    let embargo = free_from()?;
+    let checked = checked(alloc, keep.dictionary(), bytes)?;
+    take(keep, firm, project, embargo, &checked)
+}
+
+/// Takes the file of a firm for a project, both by name.
+pub(crate) fn take_named<K: Keep>(
+    alloc: Global,
+    keep: &mut K,
+    firm: &str,
+    project: &str,
+    bytes: &[u8],
+) -> Result<u32, KeepError>
+    requires { K.has_failed keep.old ≡ false }
+    ensures { OnOk result (K.has_failed keep.new ≡ false) }
+{
+    let firm = name(alloc, firm)?;
+    let project = name(alloc, project)?;
+    take_file(alloc, keep, &firm, &project, bytes)
+}
+
+fn take_any<K: Keep>(
+    alloc: Global,
+    keep: &mut K,
+    firm: &str,
+    project: &str,
+    file: File,
+) -> Result<u32, KeepError>
+    requires { K.has_failed keep.old ≡ false }
+    ensures { OnOk result (K.has_failed keep.new ≡ false) }
+{
+    let bytes = bytes_of(alloc, file)?;
+    take_named(alloc, keep, firm, project, bytes.as_slice())
+}
+
+fn tell_taken(number: u32, told: &mut String) -> Result<(), AllocError> {
+    if number == 0 {
+        told.push_str("full")
+    } else {
+        write!(told, "{number}")
+    }
+}
+
+/// Which of the files these bytes are.
+fn file_of(bytes: &[u8]) -> &'static str {
+    if bytes == FILE_A {
+        " A"
+    } else if bytes == FILE_B {
+        " B"
+    } else {
+        " another file"
+    }
+}
+
+/// Who sent a deposit, for which project, and until when it is under embargo.
+fn tell_sent(
+    firm: &Name,
+    project: &Name,
+    embargo: Day,
+    told: &mut String,
+) -> Result<(), AllocError> {
+    let firm = firm.text();
+    let project = project.text();
+    let day = embargo.number();
+    write!(told, "{firm} {project} {day}")
+}
+
+fn tell_kept(kept: &Kept, told: &mut String) -> Result<(), AllocError> {
+    tell_sent(&kept.firm, &kept.project, kept.embargo, told)?;
+    told.push_str(file_of(kept.bytes.as_slice()))
+}
+
+/// How many of the rows are DATA rows.
+fn data_count(rows: &[KeptRow]) -> usize {
+    let mut count: usize = 0;
+    for row in rows {
+        if row.kind == 4 {
+            count = count.saturating_add(1);
+        }
+    }
+    count
+}
+
+fn tell_row(alloc: Global, row: &KeptRow, told: &mut String) -> Result<(), AllocError> {
+    let group = String::from_utf8_lossy(alloc, row.group.as_slice())?;
+    let line = String::from_utf8_lossy(alloc, row.line.as_slice())?;
+    let kind = row.kind;
+    write!(told, ", last {group} {kind} {line}")
+}
+
+/// How many rows there are, how many of them are DATA rows, and the last one.
+fn tell_kept_rows(alloc: Global, rows: &[KeptRow], told: &mut String) -> Result<(), AllocError> {
+    let count = rows.len();
+    let data = data_count(rows);
+    write!(told, "{count} rows, {data} of kind 4")?;
+    match rows.last() {
+        Some(last) => tell_row(alloc, last, told),
+        None => Ok(()),
+    }
+}
+
+/// How many rows there are, and the steps between them.
+fn tell_graph(graph: &Graph, told: &mut String) -> Result<(), AllocError> {
+    let rows = graph.rows();
+    write!(told, "{rows} rows")?;
+    for (child, target) in graph.steps() {
+        write!(told, " {child}-{target}")?;
+    }
+    Ok(())
+}
+
+/// The number of the row of PROJ, the HEADING row before it, and the row.
+fn tell_project_row(
+    alloc: Global,
+    found: &ProjectRow,
+    told: &mut String,
+) -> Result<(), AllocError> {
+    let headings = String::from_utf8_lossy(alloc, found.headings.as_slice())?;
+    let line = String::from_utf8_lossy(alloc, found.line.as_slice())?;
+    let number = found.number;
+    write!(told, "{number} {headings} {line}")
+}
+
+fn tell_each(numbers: &[u32], told: &mut String) -> Result<(), AllocError> {
+    for number in numbers {
+        write!(told, "{number};")?;
+    }
+    Ok(())
+}
+
+/// Whether a deposit of that number is held.
+fn is_held<K: Keep>(keep: &K, n: u32) -> bool
+    requires { K.has_failed keep.now ≡ false }
+    ensures { IsTrue result → K.is_sound keep.now → (0 < n) × (n ≤ length (K.deposits keep.now)) }
+{
+    0 < n && n <= keep.count()
+}
+
+/// The deposit of that number, or nothing where it is not held.
+pub(crate) fn tell_deposit<K: Keep>(
+    keep: &mut K,
+    n: u32,
+    told: &mut String,
+) -> Result<(), KeepError>
+    requires { K.has_failed keep.old ≡ false }
+    ensures { OnOk result (K.has_failed keep.new ≡ false) }
+{
+    if !is_held(keep, n) {
+        return Ok(());
+    }
+    let kept = keep.deposit(n)?;
+    Ok(tell_kept(&kept, told)?)
+}
+
+fn tell_head<K: Keep>(keep: &mut K, n: u32, told: &mut String) -> Result<(), KeepError>
+    requires { K.has_failed keep.old ≡ false }
+    ensures { OnOk result (K.has_failed keep.new ≡ false) }
+{
+    if !is_held(keep, n) {
+        return Ok(());
+    }
+    let head = keep.head(n)?;
+    Ok(tell_sent(&head.firm, &head.project, head.embargo, told)?)
+}
+
+fn tell_rows<K: Keep>(
+    alloc: Global,
+    keep: &mut K,
+    n: u32,
+    told: &mut String,
+) -> Result<(), KeepError>
+    requires { K.has_failed keep.old ≡ false }
+    ensures { OnOk result (K.has_failed keep.new ≡ false) }
+{
+    if !is_held(keep, n) {
+        return Ok(());
+    }
+    let rows = keep.rows(n)?;
+    Ok(tell_kept_rows(alloc, rows.as_slice(), told)?)
+}
+
+fn tell_steps<K: Keep>(keep: &mut K, n: u32, told: &mut String) -> Result<(), KeepError>
+    requires { K.has_failed keep.old ≡ false }
+    ensures { OnOk result (K.has_failed keep.new ≡ false) }
+{
+    if !is_held(keep, n) {
+        return Ok(());
+    }
+    let graph = keep.steps(n)?;
+    Ok(tell_graph(&graph, told)?)
+}
+
+fn tell_project<K: Keep>(
+    alloc: Global,
+    keep: &mut K,
+    n: u32,
+    told: &mut String,
+) -> Result<(), KeepError>
+    requires { K.has_failed keep.old ≡ false }
+    ensures { OnOk result (K.has_failed keep.new ≡ false) }
+{
+    if !is_held(keep, n) {
+        return Ok(());
+    }
+    match keep.project_row(n)? {
+        Some(found) => Ok(tell_project_row(alloc, &found, told)?),
+        None => Ok(()),
+    }
+}
+
+fn tell_targets<K: Keep>(keep: &mut K, n: u32, row: u32, told: &mut String) -> Result<(), KeepError>
+    requires { K.has_failed keep.old ≡ false }
+    ensures { OnOk result (K.has_failed keep.new ≡ false) }
+{
+    if !is_held(keep, n) {
+        return Ok(());
+    }
+    let targets = keep.targets(n, row)?;
+    Ok(tell_each(targets.as_slice(), told)?)
+}
+
+fn tell_numbers<K: Keep>(
+    alloc: Global,
+    keep: &mut K,
+    project: &str,
+    told: &mut String,
+) -> Result<(), KeepError>
+    requires { K.has_failed keep.old ≡ false }
+    ensures { OnOk result (K.has_failed keep.new ≡ false) }
+{
+    let project = name(alloc, project)?;
+    let numbers = keep.numbers(&project)?;
+    Ok(tell_each(numbers.as_slice(), told)?)
+}
+
+/// How many entries the dictionary has.
+fn tell_entries(dictionary: &Dictionary, told: &mut String) -> Result<(), AllocError> {
+    let groups = dictionary.group_count();
+    let headings = dictionary.heading_count();
+    write!(told, ", {groups} and {headings} entries")
+}
+
+fn tell_sizes<K: Keep>(keep: &K, told: &mut String) -> Result<(), AllocError> {
+    let count = keep.count();
+    let limit = keep.limit();
+    write!(told, "{count} of {limit}")?;
+    tell_entries(keep.dictionary(), told)
+}
+
+fn tell_take<K: Keep>(
+    alloc: Global,
+    keep: &mut K,
+    firm: &str,
+    project: &str,
+    file: File,
+    told: &mut String,
+) -> Result<(), KeepError>
+    requires { K.has_failed keep.old ≡ false }
+    ensures { OnOk result (K.has_failed keep.new ≡ false) }
+{
+    let number = take_any(alloc, keep, firm, project, file)?;
+    Ok(tell_taken(number, told)?)
+}
+
+/// The number of the equal deposit, or nothing where it is not known.
+fn tell_recall<K: Keep>(
+    alloc: Global,
+    keep: &K,
+    firm: &str,
+    project: &str,
+    file: File,
+    told: &mut String,
+) -> Result<(), KeepError> {
+    let firm = name(alloc, firm)?;
+    let project = name(alloc, project)?;
+    let bytes = bytes_of(alloc, file)?;
+    match keep.recall(&firm, &project, bytes.as_slice()) {
+        Some(number) => Ok(tell_taken(number, told)?),
+        None => Ok(()),
+    }
+}
+
+/// Adds the answer of a call to a text.
+fn tell<K: Keep>(
+    alloc: Global,
+    keep: &mut K,
+    call: Call,
+    told: &mut String,
+) -> Result<(), KeepError>
+    requires { K.has_failed keep.old ≡ false }
+    ensures { OnOk result (K.has_failed keep.new ≡ false) }
+{
+    match call {
+        Call::Take(firm, project, file) => tell_take(alloc, keep, firm, project, file, told),
+        Call::Recall(firm, project, file) => tell_recall(alloc, keep, firm, project, file, told),
+        Call::Deposit(n) => tell_deposit(keep, n, told),
+        Call::Head(n) => tell_head(keep, n, told),
+        Call::Rows(n) => tell_rows(alloc, keep, n, told),
+        Call::Steps(n) => tell_steps(keep, n, told),
+        Call::Project(n) => tell_project(alloc, keep, n, told),
+        Call::Targets(n, row) => tell_targets(keep, n, row, told),
+        Call::Numbers(project) => tell_numbers(alloc, keep, project, told),
+        Call::Sizes => Ok(tell_sizes(keep, told)?),
+    }
+}
+
+/// Whether a keep answers a call so.
+fn is_answered<K: Keep>(alloc: Global, keep: &mut K, case: &Case) -> Result<bool, KeepError>
+    requires { K.has_failed keep.old ≡ false }
+    ensures { OnOk result (K.has_failed keep.new ≡ false) }
+{
+    let mut told = String::new(alloc);
+    tell(alloc, keep, case.call, &mut told)?;
+    Ok(told.as_str() == case.want)
+}
+
+/// Whether a keep answers each call so, of calls that are asked in turn; else the first answer that it does not give.
+fn compared<K: Keep>(alloc: Global, keep: &mut K, cases: &[Case]) -> Result<&'static str, KeepError>
+    requires { K.has_failed keep.old ≡ false }
+{
+    for case in cases {
+        if !is_answered(alloc, keep, case)? {
+            return Ok(case.want);
+        }
+    }
+    Ok(SAME)
+}
+
+/// Every answer is as wanted.
+const SAME: &str = "all as wanted";
