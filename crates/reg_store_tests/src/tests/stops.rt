@@ -6,7 +6,7 @@ ghost use Rattle.std.specs.Prelude.{◌≡◌, false, IfSome, IsTrue};
 use crate::tests::{take_named, tell_deposit};
 use ags_rows::vectors::{FILE_A, FILE_B, MINI};
 use reg_store::{AdoptError, CreateError, Keep, KeepError, SqlKeep};
-use sqlite::{Connection, FileStore, Files, Options};
+use sqlite::{Alter, Connection, FileStore, Files, Options};
 use sqlite_disk::{Crash, Fuse, Memory};
 use std::alloc::{AllocError, Global};
 use std::test::Fail;
@@ -115,27 +115,33 @@ fn after_closing(stage: Stage) -> Stage {
     }
 }
 
-/// Both files are deposited in a register, and it is closed, up to the first call that is refused.
-fn filled(alloc: Global, mut keep: SqlKeep<FileStore<Stopping>>) -> Option<(Stage, Files<Stopping>)>
+/// Both files are deposited in a register, up to the first call that is refused.
+fn filled<S: Alter + Drop>(alloc: Global, mut keep: SqlKeep<S>) -> Option<(Stage, Connection<S>)>
     requires { keep.has_failed ≡ false }
 {
     let stage = send_both(alloc, &mut keep)?;
-    Some(closed(stage, keep.into_connection()))
+    Some((stage, keep.into_connection()))
 }
 
 /// A register is made and filled, up to the first call that is refused.
-fn made(alloc: Global, connection: Stoppable) -> Option<(Stage, Files<Stopping>)> {
+fn made<S: Alter + Drop>(
+    alloc: Global,
+    connection: Connection<S>,
+) -> Option<(Stage, Connection<S>)> {
     match SqlKeep::create_in(alloc, connection, MINI) {
         Ok(keep) => filled(alloc, keep),
-        Err((CreateError::Store, connection)) => Some(closed(Stage::Making, connection)),
+        Err((CreateError::Store, connection)) => Some((Stage::Making, connection)),
         Err(_) => None,
     }
 }
 
-/// The same from the opening of the files on. Where a call is refused otherwise than by the stop, nothing is answered.
+/// The same from the opening of the files to their closing. Where a call is refused otherwise than by the stop, nothing is answered.
 fn run(alloc: Global, file: File, calls: u64) -> Option<(Stage, Files<Stopping>)> {
     match started(alloc, file, calls) {
-        Ok(connection) => made(alloc, connection),
+        Ok(connection) => {
+            let (stage, connection) = made(alloc, connection)?;
+            Some(closed(stage, connection))
+        }
         Err(files) => Some((Stage::Making, files)),
     }
 }
@@ -200,7 +206,7 @@ fn is_whole<K: Keep>(alloc: Global, stage: Stage, keep: &mut K) -> bool
 }
 
 /// Makes the register anew in tables that are none, which the making alone may leave.
-fn is_made_anew(alloc: Global, stage: Stage, connection: Stoppable) -> bool {
+fn is_made_anew<S: Alter + Drop>(alloc: Global, stage: Stage, connection: Connection<S>) -> bool {
     match SqlKeep::create_in(alloc, connection, MINI) {
         Ok(mut keep) => matches!(stage, Stage::Making) && is_whole(alloc, stage, &mut keep),
         Err(_) => false,
@@ -208,7 +214,7 @@ fn is_made_anew(alloc: Global, stage: Stage, connection: Stoppable) -> bool {
 }
 
 /// Whether what a stop left is as it may be: opens it, and looks at it.
-fn is_left_well(alloc: Global, stage: Stage, connection: Stoppable) -> bool {
+fn is_left_well<S: Alter + Drop>(alloc: Global, stage: Stage, connection: Connection<S>) -> bool {
     match SqlKeep::adopt(alloc, connection) {
         Ok(mut keep) => is_whole(alloc, stage, &mut keep),
         Err((AdoptError::NotRegister, connection)) => is_made_anew(alloc, stage, connection),
