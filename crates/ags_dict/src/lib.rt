@@ -10,8 +10,6 @@ pub mod laws;
 mod parts;
 mod places;
 mod reading;
-#[cfg(test)]
-mod tests;
 
 pub use dictionary::Dictionary;
 pub use reading::{DictError, has_dict};

@@ -15,8 +15,6 @@ mod rows;
 mod scanning;
 mod sequence;
 mod spelling;
-#[cfg(test)]
-mod tests;
 pub mod vectors;
 mod writing;
 

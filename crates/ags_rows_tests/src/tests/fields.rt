@@ -1,5 +1,5 @@
 //! The fields of a line.
-use crate::{Cell, cells};
+use ags_rows::{Cell, cells};
 use std::alloc::{AllocError, Global};
 use std::fmt::Write;
 use std::test::Fail;

@@ -1,4 +1,4 @@
-use crate::{DictError, Dictionary};
+use ags_dict::{DictError, Dictionary};
 use ags_rows::vectors::{FILE_A, MINI};
 use ags_rows::{FindingList, READABLE, Scan, Sequence};
 use std::alloc::{AllocError, Global};

@@ -1,86 +1,90 @@
-use crate::READABLE;
-use crate::cell::Cell;
-use crate::rows::{Descriptor, Group, Row};
-use crate::scanning::Scan;
-use crate::sequence::Sequence;
-use crate::spelling::cells;
-use crate::vectors::{FILE_A, FILE_B, FILE_C, MINI};
-use crate::writing::{quote, write_group, write_line, write_row};
+use ags_rows::vectors::{FILE_A, FILE_B, FILE_C, MINI};
+use ags_rows::{
+    Cell, Descriptor, Group, READABLE, Row, Scan, Sequence, cells, quote, write_group, write_line,
+    write_row,
+};
 use std::alloc::{AllocError, Global};
-use std::slice;
 use std::test::Fail;
 
-/// The dictionary's groups: name, parent, and headings with status (`K` is KEY, `R` REQUIRED, `O` OTHER).
+/// The dictionary's groups: name, parent, and headings with status (`K` is KEY, `R` REQUIRED, `O` OTHER), each field as a row spells it.
 const DICTIONARY: [(&str, &str, &str); 10] = [
-    ("PROJ", "-", "PROJ_ID KR, PROJ_NAME O, FILE_FSET O"),
     (
-        "TRAN",
-        "-",
-        "TRAN_ISNO K, TRAN_DATE O, TRAN_AGS O, TRAN_DLIM O, TRAN_RCON O",
-    ),
-    ("ABBR", "-", "ABBR_HDNG K, ABBR_CODE K, ABBR_DESC O"),
-    ("UNIT", "-", "UNIT_UNIT K, UNIT_DESC O"),
-    ("TYPE", "-", "TYPE_TYPE K, TYPE_DESC O"),
-    (
-        "DICT",
-        "-",
-        "DICT_TYPE K, DICT_GRP K, DICT_HDNG K, DICT_STAT O, DICT_PGRP O",
-    ),
-    ("FILE", "-", "FILE_FSET K, FILE_NAME K, FILE_DESC O"),
-    (
-        "LOCA",
-        "PROJ",
-        "LOCA_ID KR, LOCA_TYPE O, LOCA_STAT O, LOCA_GL O, FILE_FSET O",
+        r#""PROJ""#,
+        r#""-""#,
+        r#""PROJ_ID" KR, "PROJ_NAME" O, "FILE_FSET" O"#,
     ),
     (
-        "SAMP",
-        "LOCA",
-        "LOCA_ID K, SAMP_TOP K, SAMP_REF K, SAMP_BASE O, SAMP_LINK O",
+        r#""TRAN""#,
+        r#""-""#,
+        r#""TRAN_ISNO" K, "TRAN_DATE" O, "TRAN_AGS" O, "TRAN_DLIM" O, "TRAN_RCON" O"#,
     ),
     (
-        "LNMC",
-        "SAMP",
-        "LOCA_ID K, SAMP_TOP K, SAMP_REF K, SPEC_DPTH K, LNMC_MC O",
+        r#""ABBR""#,
+        r#""-""#,
+        r#""ABBR_HDNG" K, "ABBR_CODE" K, "ABBR_DESC" O"#,
+    ),
+    (r#""UNIT""#, r#""-""#, r#""UNIT_UNIT" K, "UNIT_DESC" O"#),
+    (r#""TYPE""#, r#""-""#, r#""TYPE_TYPE" K, "TYPE_DESC" O"#),
+    (
+        r#""DICT""#,
+        r#""-""#,
+        r#""DICT_TYPE" K, "DICT_GRP" K, "DICT_HDNG" K, "DICT_STAT" O, "DICT_PGRP" O"#,
+    ),
+    (
+        r#""FILE""#,
+        r#""-""#,
+        r#""FILE_FSET" K, "FILE_NAME" K, "FILE_DESC" O"#,
+    ),
+    (
+        r#""LOCA""#,
+        r#""PROJ""#,
+        r#""LOCA_ID" KR, "LOCA_TYPE" O, "LOCA_STAT" O, "LOCA_GL" O, "FILE_FSET" O"#,
+    ),
+    (
+        r#""SAMP""#,
+        r#""LOCA""#,
+        r#""LOCA_ID" K, "SAMP_TOP" K, "SAMP_REF" K, "SAMP_BASE" O, "SAMP_LINK" O"#,
+    ),
+    (
+        r#""LNMC""#,
+        r#""SAMP""#,
+        r#""LOCA_ID" K, "SAMP_TOP" K, "SAMP_REF" K, "SPEC_DPTH" K, "LNMC_MC" O"#,
     ),
 ];
+
+/// An empty field.
+const EMPTY: &str = r#""""#;
 
 /// The status that a letter of the table stands for.
 fn status_of(letters: &str) -> &'static str {
     match letters {
-        "K" => "KEY",
-        "R" => "REQUIRED",
-        "KR" => "KEY+REQUIRED",
-        _ => "OTHER",
+        "K" => r#""KEY""#,
+        "R" => r#""REQUIRED""#,
+        "KR" => r#""KEY+REQUIRED""#,
+        _ => r#""OTHER""#,
     }
 }
 
-/// The cell of a text in which no quote stands.
-#[tactic(auto, using(crate::proofs::Pieces::lacks_none))]
-fn bare(text: &str) -> Cell<'_> {
-    if text.as_bytes().contains(&b'"') {
-        Cell::borrowed(b"")
-    } else {
-        Cell::borrowed(text.as_bytes())
+/// The cells that a line spells, or none.
+fn cells_of(alloc: Global, line: &'static str) -> Result<Vec<Cell<'static>>, AllocError> {
+    match cells(alloc, line.as_bytes())? {
+        Some(found) => Ok(found),
+        None => Ok(Vec::new(alloc)),
     }
 }
 
-/// The cells of these texts.
-fn cells_of(alloc: Global, texts: &[&'static str]) -> Result<Vec<Cell<'static>>, AllocError> {
-    let mut list = Vec::new(alloc);
-    for text in texts {
-        list.push(bare(text))?;
-    }
-    Ok(list)
-}
-
-/// Appends the row of these texts.
+/// Appends the row of these fields.
 fn push_row(
     rows: &mut Vec<Row<'static>>,
     alloc: Global,
     line: u32,
-    texts: &[&'static str],
+    fields: &[&'static str],
 ) -> Result<(), AllocError> {
-    let cells = Sequence::from_vec(cells_of(alloc, texts)?);
+    let mut list = Vec::new(alloc);
+    for field in fields {
+        list.append(&mut cells_of(alloc, field)?)?;
+    }
+    let cells = Sequence::from_vec(list);
     rows.push(Row { line, cells })?;
     Ok(())
 }
@@ -94,8 +98,8 @@ fn push_headings(
 ) -> Result<(), AllocError> {
     for entry in headings.split(", ") {
         let (heading, letters) = entry.split_once(' ').unwrap_or((entry, ""));
-        let texts = ["HEADING", group, heading, status_of(letters), ""];
-        push_row(rows, alloc, 0, &texts)?;
+        let fields = [r#""HEADING""#, group, heading, status_of(letters), EMPTY];
+        push_row(rows, alloc, 0, &fields)?;
     }
     Ok(())
 }
@@ -104,34 +108,24 @@ fn push_headings(
 fn dictionary_rows(alloc: Global) -> Result<Vec<Row<'static>>, AllocError> {
     let mut rows = Vec::new(alloc);
     for (group, parent, headings) in &DICTIONARY {
-        push_row(&mut rows, alloc, 0, &["GROUP", group, "", "", parent])?;
+        let fields = [r#""GROUP""#, group, EMPTY, EMPTY, parent];
+        push_row(&mut rows, alloc, 0, &fields)?;
         push_headings(&mut rows, alloc, group, headings)?;
     }
     Ok(rows)
 }
 
-/// A group's name, and the texts of its headings, units and types.
-type Header = (
-    &'static [u8],
-    &'static [&'static str],
-    &'static [&'static str],
-    &'static [&'static str],
-);
+/// A group's name, and the lines of its headings, units and types, without their descriptors.
+type Header = (&'static [u8], &'static str, &'static str, &'static str);
 
 const DICT: Header = (
     b"DICT",
-    &[
-        "DICT_TYPE",
-        "DICT_GRP",
-        "DICT_HDNG",
-        "DICT_STAT",
-        "DICT_PGRP",
-    ],
-    &["", "", "", "", ""],
-    &["X", "X", "X", "X", "X"],
+    r#""DICT_TYPE","DICT_GRP","DICT_HDNG","DICT_STAT","DICT_PGRP""#,
+    r#""","","","","""#,
+    r#""X","X","X","X","X""#,
 );
 
-const LOCA: Header = (b"LOCA", &["LOCA_ID"], &[""], &["ID"]);
+const LOCA: Header = (b"LOCA", r#""LOCA_ID""#, EMPTY, r#""ID""#);
 
 /// Appends a group of this header and these rows.
 fn push_group(
@@ -165,7 +159,7 @@ fn is_dictionary_written(alloc: Global) -> Result<bool, AllocError> {
 /// Whether the last group of file A is written as it stands there.
 fn is_loca_written(alloc: Global) -> Result<bool, AllocError> {
     let mut rows = Vec::new(alloc);
-    push_row(&mut rows, alloc, 30, &["BH1"])?;
+    push_row(&mut rows, alloc, 30, &[r#""BH1""#])?;
     let mut text = Vec::new(alloc);
     push_group(&mut text, alloc, &LOCA, rows.as_slice())?;
     Ok(text.as_slice() == &FILE_A[468..])
@@ -289,7 +283,11 @@ fn spelled_out(alloc: Global) -> Result<Vec<u8>, AllocError> {
     let mut text = Vec::new(alloc);
     quote(&mut text, b"a\"b")?;
     push_fields(&mut text, alloc, b"\"a\" , \"b\"")?;
-    write_line(&mut text, Descriptor::Group, slice::from_ref(&bare("LOCA")))?;
+    write_line(
+        &mut text,
+        Descriptor::Group,
+        cells_of(alloc, r#""LOCA""#)?.as_slice(),
+    )?;
     Ok(text)
 }
 
@@ -305,7 +303,7 @@ const BEFORE: &[u8] = b"before";
 
 const NOTE: &[u8] = b"a note \"in quotes\" that is longer than what was there before";
 
-const BOREHOLE: [&str; 3] = ["BH1", "a first borehole on the north bank", "FINAL"];
+const BOREHOLE: &str = r#""BH1","a first borehole on the north bank","FINAL""#;
 
 /// Whether a field is written, or nothing.
 fn is_field_or_nothing(alloc: Global) -> bool {
@@ -341,7 +339,7 @@ fn is_group_or_nothing(alloc: Global, cells: Vec<Cell<'static>>) -> bool {
 #[test]
 fn unchanged_on_want_of_memory(rt: HostRuntime) {
     assert!(rt; is_field_or_nothing(rt.alloc()));
-    if let Ok(cells) = cells_of(rt.alloc(), &BOREHOLE) {
+    if let Ok(cells) = cells_of(rt.alloc(), BOREHOLE) {
         assert!(rt; is_row_or_nothing(rt.alloc(), cells.as_slice()));
         assert!(rt; is_group_or_nothing(rt.alloc(), cells));
     }
