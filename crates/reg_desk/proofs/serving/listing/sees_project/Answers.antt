@@ -10,7 +10,7 @@ seen_from-requires-clause-permitted g c = λ s.
     (λ d file at is. subst (λ (o : Option ℕ). IsOpen (look_of c.args.looking.now) file o) c.in-Some-2.is (c.in_ok-row.ensures.read s d file at is))
 
 pub returns-in-Some-clause-seen : goal.returns-in-Some-clause-seen
-returns-in-Some-clause-seen g c = λ s d file at is. sees_alike (look_of c.args.looking.now) file c.in-Some.may is.clean c.in-Some.ensures
+returns-in-Some-clause-seen g c = λ s d file at is. sees_alike (look_of c.args.looking.now) file c.in-Some.may is.clean c.in-Some.ensures.alike
 
 pub returns-in-Some-2-clause-seen : goal.returns-in-Some-2-clause-seen
 returns-in-Some-2-clause-seen g c = λ s.
