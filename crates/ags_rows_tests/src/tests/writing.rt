@@ -340,6 +340,7 @@ fn is_group_or_nothing(alloc: Global, cells: Vec<Cell<'static>>) -> bool {
 fn unchanged_on_want_of_memory(rt: HostRuntime) {
     assert!(rt; is_field_or_nothing(rt.alloc()));
     if let Ok(cells) = cells_of(rt.alloc(), BOREHOLE) {
+        assert!(rt; cells.len() == 3);
         assert!(rt; is_row_or_nothing(rt.alloc(), cells.as_slice()));
         assert!(rt; is_group_or_nothing(rt.alloc(), cells));
     }
