@@ -76,7 +76,8 @@ impl Rule {
         own: bool,
         past: bool,
     ) -> Option<bool>
-        ensures alike { IfSome result (λ meets. (row : Facts) → IsOneOf (told (option_map (λ g. g.now) group.entry) own past) row
+        ensures alike { IfSome result (λ meets. (row : Facts)
+            → IsOneOf (told (option_map (λ g. g.now) group.entry) own past) row
             → IsTrue meets ↔ Matches self.now (row_question caller.now project.now row)) }
         ensures apart { IfNone result (TellsApart self.now caller.now project.now
             (told (option_map (λ g. g.now) group.entry) own past)) }
@@ -163,7 +164,8 @@ fn meets_group(set: &Option<Bytes>, group: &[u8]) -> bool
 
 /// Whether rows have the group, where they all have this one, if it is told. None where that differs from row to row.
 fn meets_told_group(set: &Option<Bytes>, told: Option<&[u8]>) -> Option<bool>
-    ensures alike { IfSome result (λ meets. (group : List ℕ) → IfSome (option_map (λ g. g.now) told.entry) (λ g. group ≡ g)
+    ensures alike { IfSome result (λ meets. (group : List ℕ)
+        → IfSome (option_map (λ g. g.now) told.entry) (λ g. group ≡ g)
         → IsTrue meets ↔ Meets set.now group) }
     ensures apart { IfNone result (IsSome set.now × (option_map (λ g. g.now) told.entry ≡ None)) }
 {
