@@ -1,5 +1,5 @@
 //! Names of firms, roles and projects.
-ghost use Rattle.std.specs.Prelude.{◌≡◌, ◌↔◌, ℕ, List, Err, IsTrue, IsFalse, IfOk, string_bytes};
+ghost use Rattle.std.specs.Prelude.{◌≡◌, ◌↔◌, ℕ, List, Err, IsTrue, IsFalse, IfOk};
 ghost use Rattle.std.specs.List.{list_all};
 ghost use Rattle.std.specs.Cmp.{partial_order_from_own_ties};
 ghost use Rattle.std.specs.Cmp.Lexicographic.{slice_cmp};
@@ -10,6 +10,7 @@ ghost use Rattle.std.proofs.Common.{rules};
 ghost use Rattle.reg_policy.specs.Names.{is_name, is_name_byte};
 
 use ags_rows::is_within;
+use arrayvec::ArrayString;
 use std::alloc::{AllocError, Global};
 use std::cmp::Ordering;
 use std::marker::Model;
@@ -29,20 +30,20 @@ pub enum NameError {
 /// The name of a firm, a role or a project: 1 to 32 letters, digits, `-` and `_`. Names compare by their bytes.
 #[derive(Drop)]
 pub struct Name {
-    text: String,
+    text: ArrayString<32>,
 }
 
 impl Model for Name {
     ghost Value = { List ℕ };
 
-    ghost view = { λ n. string_bytes n.text };
+    ghost view = { λ n. n.text.bytes };
 
-    ghost invariant = { λ n. IsTrue (is_name (string_bytes n.text)) };
+    ghost invariant = { λ n. IsTrue (is_name n.text.bytes) };
 }
 
 impl Name {
     /// The name that the text is.
-    pub fn read(alloc: Global, text: &str) -> Result<Name, NameError>
+    pub fn read(_alloc: Global, text: &str) -> Result<Name, NameError>
         ensures name { IfOk result (λ n. n ≡ text.now) }
         ensures is_name { IfOk result (λ n. IsTrue (is_name n)) }
         ensures bad_name { (result ≡ Err NameError.BadName) ↔ IsFalse (is_name text.now) }
@@ -50,10 +51,9 @@ impl Name {
         if !is_name(text.as_bytes()) {
             return Err(NameError::BadName);
         }
-        match String::from_str(alloc, text) {
-            Ok(text) => Ok(Name { text }),
-            Err(_) => Err(NameError::NoMemory),
-        }
+        let mut copy = ArrayString::new();
+        copy.push_str(text);
+        Ok(Name { text: copy })
     }
 
     /// The text that it was read from.
@@ -71,9 +71,7 @@ impl Clone for Name {
     fn clone(&self) -> Result<Name, AllocError>
         ensures { IfOk result (λ copy. copy ≡ self.now) }
     {
-        Ok(Name {
-            text: self.text.clone()?,
-        })
+        Ok(Name { text: self.text })
     }
 }
 

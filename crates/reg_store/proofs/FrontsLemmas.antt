@@ -1,5 +1,5 @@
 -- The rows of PROJ that stand in memory, as calls leave them.
-use Rattle.std.proofs.Common.{zero, suc, ◌≡◌, ℕ, ◌-◌, ◌<◌, Bool, false, List, [], ◌∷◌, ◌++◌, length, Option, Some, None, slice_get, Result, Ok, Err, IfOk, refl, sym, subst, ◌∙◌, arith, inl, inr, ◌⊎◌}
+use Rattle.std.proofs.Common.{zero, suc, ◌≡◌, ℕ, ◌-◌, ◌<◌, Bool, false, List, [], ◌∷◌, ◌++◌, length, Option, Some, None, slice_get, Result, Ok, Err, IfOk, refl, sym, ap, subst, ◌∙◌, arith, inl, inr, ◌⊎◌}
 use Rattle.std.proofs.lemmas.List.{length_push}
 use Rattle.std.specs.declared.alloc.Global.{Global}
 use Rattle.std.specs.declared.vec.Vec.{Vec}
@@ -14,7 +14,7 @@ use Rattle.reg_store.specs.Deposit.{Deposit}
 use Rattle.reg_store.specs.Fit.{kept_rows}
 use Rattle.reg_store.specs.Fronts.{HoldsFronts, IsNothing, IsHeldNumber, NotesRow, NotesTargets, alone_at, front_at}
 use Rattle.reg_store.specs.Keep.{OfDeposit}
-use Rattle.reg_store.specs.Project.{project_of, targets_of}
+use Rattle.reg_store.specs.Project.{project_number, project_of, targets_of}
 use Rattle.reg_store.specs.Quiet.{IsStill, clean_before}
 use Rattle.reg_store.specs.Register.{deposits_in}
 
@@ -54,6 +54,16 @@ fronts_push fronts dictionary list more d hold e =
       rows = λ n row at. (let its = hold.rows n row at in still_of dictionary list d n (λ file. Some row ≡ project_of (kept_rows file.groups)) its.0 its.1);
       alone = λ n row at. (let its = hold.alone n row at in still_of dictionary list d n (λ file. [] ≡ targets_of row file.graph.steps) its.0 its.1);
     })
+
+-- ---- the number of a row that stands there
+
+pub number_held : {fronts : Fronts} {dictionary : Entries} {list : List Deposit} (n number : ℕ) → HoldsFronts fronts dictionary list → Some number ≡ project_number (front_at fronts n)
+    → OfDeposit dictionary list n (λ file. Some number ≡ project_number (project_of (kept_rows file.groups)))
+number_held {fronts} {dictionary} {list} n number hold is = go (front_at fronts n) refl is
+  where
+    go : (held : Option ProjectRow) → front_at fronts n ≡ held → Some number ≡ project_number held → OfDeposit dictionary list n (λ file. Some number ≡ project_number (project_of (kept_rows file.groups)))
+    go None at none = absurd cc
+    go (Some row) at same = λ d file place of. same ∙ ap project_number ((hold.rows n row at).1 d file place of)
 
 -- ---- what is noted
 

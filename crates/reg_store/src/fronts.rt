@@ -2,6 +2,7 @@
 
 ghost use Rattle.std.specs.Prelude.{◌≡◌, ◌+◌, ◌≤◌, ℕ, None, length, IsTrue, IfOk, IfSome};
 ghost use Rattle.reg_store.specs.Fronts.{NotesRow, NotesTargets, alone_at, front_at};
+ghost use Rattle.reg_store.specs.Project.{project_number};
 
 use crate::keep::{KeepError, ProjectRow};
 use crate::project::project_row;
@@ -64,6 +65,13 @@ impl Fronts {
             Some(row) => Ok(Some(copy_project(alloc, row)?)),
             None => Ok(None),
         }
+    }
+
+    /// The number of the row of PROJ of a deposit, if that row stands here.
+    pub(crate) fn project_number(&self, number: u32) -> Option<u32>
+        ensures { result ≡ project_number (front_at self.now number) }
+    {
+        self.rows.get(&number).map(|row| row.number)
     }
 
     /// Whether it stands here that this row of a deposit has no step.

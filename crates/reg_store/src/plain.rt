@@ -9,7 +9,7 @@ ghost use Rattle.reg_store.specs.Project.{project_of, targets_of};
 ghost use Rattle.reg_store.specs.PlainLaws.{few_of, fit_of};
 
 use crate::keep::{Keep, KeepError, Kept, KeptHead, KeptRow, ProjectRow};
-use crate::project::{project_in, targets_in};
+use crate::project::{project_in, project_number, targets_in};
 use crate::repeats::is_equal;
 use crate::rows::kept_rows;
 use crate::sql::MOST;
@@ -280,6 +280,11 @@ impl Keep for PlainKeep {
     fn project_row(&mut self, n: u32) -> Result<Option<ProjectRow>, KeepError> {
         let found = checked_project(self.alloc, &self.dictionary, &self.kept[n as usize - 1])?;
         Ok(found)
+    }
+
+    fn project_number(&mut self, n: u32) -> Result<Option<u32>, KeepError> {
+        let found = self.project_row(n)?;
+        Ok(project_number(found))
     }
 
     fn targets(&mut self, n: u32, row: u32) -> Result<Vec<u32>, KeepError> {

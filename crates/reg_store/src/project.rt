@@ -8,7 +8,7 @@ ghost use Rattle.ags_links.specs.Steps.{IsBefore};
 ghost use Rattle.reg_store.specs.declared.keep.KeptRow.{KeptRow};
 ghost use Rattle.reg_store.specs.Quiet.{IsIdle, IsStill};
 ghost use Rattle.reg_store.specs.Keep.{fails};
-ghost use Rattle.reg_store.specs.Project.{project_of, targets_of};
+ghost use Rattle.reg_store.specs.Project.{project_number, project_of, targets_of};
 ghost use Rattle.reg_store.specs.Methods.{HoldsLines, HoldsSteps};
 
 use crate::gathering::take_shown;
@@ -56,6 +56,13 @@ pub(crate) fn project_in(alloc: Global, rows: &[KeptRow]) -> Result<Option<Proje
         }
     }
     Ok(None)
+}
+
+/// The number of the row of PROJ, if there is one.
+pub(crate) fn project_number(found: Option<ProjectRow>) -> Option<u32>
+    ensures { result ≡ project_number found }
+{
+    found.map(|row| row.number)
 }
 
 /// The rows that the row has a step to, in the order of the steps.

@@ -16,7 +16,7 @@ ghost use Rattle.reg_store.specs.Register.{deposits_in, LeavesBroken, LeavesList
 use crate::fronts::Fronts;
 use crate::heads::{head_in, make_room, numbers_in};
 use crate::keep::{Keep, KeepError, Kept, KeptHead, KeptRow, ProjectRow};
-use crate::project::{find_project, find_targets};
+use crate::project::{find_project, find_targets, project_number};
 use crate::reading::find_deposit;
 use crate::recalling::{find_graph, find_rows};
 use crate::recent::Recent;
@@ -204,6 +204,16 @@ impl<S: Alter> Keep for SqlKeep<S> {
         self.has_failed = is_store(&found);
         self.fronts.note_row(self.alloc, n, &found);
         found
+    }
+
+    fn project_number(&mut self, n: u32) -> Result<Option<u32>, KeepError> {
+        if let Some(number) = self.fronts.project_number(n) {
+            return Ok(Some(number));
+        }
+        match self.project_row(n) {
+            Ok(found) => Ok(project_number(found)),
+            Err(error) => Err(error),
+        }
     }
 
     fn targets(&mut self, n: u32, row: u32) -> Result<Vec<u32>, KeepError> {

@@ -3,9 +3,11 @@
 ghost use Rattle.std.specs.Prelude.{◌≡◌, ◌<◌, ◌≤◌, false, length, IfOk, IsTrue, OnOk};
 
 mod calls;
+mod files;
 mod sql;
 mod stops;
 
+use crate::tests::files::{File, bytes_of};
 use ags_check::{Checked, check};
 use ags_dict::Dictionary;
 use ags_links::Graph;
@@ -15,17 +17,6 @@ use reg_policy::{Day, Name};
 use reg_store::{Keep, KeepError, Kept, KeptRow, ProjectRow};
 use std::alloc::{AllocError, Global};
 use std::fmt::Write;
-
-/// A file that is deposited.
-#[derive(Clone, Copy)]
-enum File {
-    A,
-    /// As long as A, with another name of its project.
-    OtherA,
-    B,
-    /// B with three more rows of LNMC below its first sample: nine steps.
-    LongB,
-}
 
 /// A call of a keep.
 #[derive(Clone, Copy)]
@@ -39,6 +30,7 @@ enum Call {
     Rows(u32),
     Steps(u32),
     Project(u32),
+    ProjectNumber(u32),
     /// `targets` of a deposit's row.
     Targets(u32, u32),
     Numbers(&'static str),
@@ -52,47 +44,11 @@ struct Case {
     want: &'static str,
 }
 
-/// Where the name of A's project begins.
-const NAME_AT: usize = 93;
-
-/// Three rows of LNMC.
-const MORE_ROWS: &[u8] = b"\
-\"DATA\",\"BH1\",\"1.50\",\"S1\",\"1.60\",\"24\"\r\n\
-\"DATA\",\"BH1\",\"1.50\",\"S1\",\"1.65\",\"25\"\r\n\
-\"DATA\",\"BH1\",\"1.50\",\"S1\",\"1.70\",\"26\"\r\n\
-";
-
 /// A name of the tests. One that is none counts as want of memory, which no test expects.
 fn name(alloc: Global, text: &str) -> Result<Name, KeepError> {
     match Name::read(alloc, text) {
         Ok(name) => Ok(name),
         Err(_) => Err(KeepError::NoMemory),
-    }
-}
-
-/// The file A with another first letter of its project's name.
-fn renamed(alloc: Global) -> Result<Vec<u8>, AllocError> {
-    let mut renamed = Vec::from_slice(alloc, FILE_A)?;
-    if NAME_AT < renamed.len() {
-        renamed[NAME_AT] = b'F';
-    }
-    Ok(renamed)
-}
-
-/// The file B with three more rows at its end.
-fn longer(alloc: Global) -> Result<Vec<u8>, AllocError> {
-    let mut longer = Vec::from_slice(alloc, FILE_B)?;
-    longer.extend_from_slice(MORE_ROWS)?;
-    Ok(longer)
-}
-
-/// The bytes of a file.
-fn bytes_of(alloc: Global, file: File) -> Result<Vec<u8>, AllocError> {
-    match file {
-        File::A => Vec::from_slice(alloc, FILE_A),
-        File::OtherA => renamed(alloc),
-        File::B => Vec::from_slice(alloc, FILE_B),
-        File::LongB => longer(alloc),
     }
 }
 
@@ -366,6 +322,19 @@ fn tell_project<K: Keep>(
     }
 }
 
+fn tell_project_number<K: Keep>(keep: &mut K, n: u32, told: &mut String) -> Result<(), KeepError>
+    requires { K.has_failed keep.old ≡ false }
+    ensures { OnOk result (K.has_failed keep.new ≡ false) }
+{
+    if !is_held(keep, n) {
+        return Ok(());
+    }
+    match keep.project_number(n)? {
+        Some(number) => Ok(write!(told, "{number}")?),
+        None => Ok(()),
+    }
+}
+
 fn tell_targets<K: Keep>(keep: &mut K, n: u32, row: u32, told: &mut String) -> Result<(), KeepError>
     requires { K.has_failed keep.old ≡ false }
     ensures { OnOk result (K.has_failed keep.new ≡ false) }
@@ -456,6 +425,7 @@ fn tell<K: Keep>(
         Call::Rows(n) => tell_rows(alloc, keep, n, told),
         Call::Steps(n) => tell_steps(keep, n, told),
         Call::Project(n) => tell_project(alloc, keep, n, told),
+        Call::ProjectNumber(n) => tell_project_number(keep, n, told),
         Call::Targets(n, row) => tell_targets(keep, n, row, told),
         Call::Numbers(project) => tell_numbers(alloc, keep, project, told),
         Call::Sizes => Ok(tell_sizes(keep, told)?),

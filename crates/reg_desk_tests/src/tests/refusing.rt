@@ -126,6 +126,13 @@ impl Keep for Refusing {
         self.keep.project_row(n)
     }
 
+    fn project_number(&mut self, n: u32) -> Result<Option<u32>, KeepError> {
+        if self.fails() {
+            return Err(KeepError::Store);
+        }
+        self.keep.project_number(n)
+    }
+
     fn targets(&mut self, n: u32, row: u32) -> Result<Vec<u32>, KeepError> {
         if self.fails() {
             return Err(KeepError::Store);

@@ -2,14 +2,15 @@
 
 ghost use Rattle.std.specs.Prelude.{◌<◌, ◌≤◌};
 
-use super::{Call, Case, File, SAME, compared};
+use super::files::File;
+use super::{Call, Case, SAME, compared};
 use ags_dict::Dictionary;
 use ags_rows::vectors::MINI;
 use reg_store::{KeepError, PlainKeep, SqlKeep};
 use std::alloc::Global;
 use std::test::Fail;
 
-const CASES: [Case; 20] = [
+const CASES: [Case; 21] = [
     Case {
         call: Call::Sizes,
         want: "0 of 999999, 10 and 38 entries",
@@ -58,6 +59,10 @@ const CASES: [Case; 20] = [
     Case {
         call: Call::Project(1),
         want: "0 \"HEADING\",\"PROJ_ID\",\"PROJ_NAME\" \"DATA\",\"P7\",\"North bank\"",
+    },
+    Case {
+        call: Call::ProjectNumber(1),
+        want: "0",
     },
     Case {
         call: Call::Targets(1, 9),
@@ -130,7 +135,7 @@ const PROJECT_OF_OTHER_A: &str =
     "0 \"HEADING\",\"PROJ_ID\",\"PROJ_NAME\" \"DATA\",\"P7\",\"Forth bank\"";
 
 /// What is asked twice, of another deposit, and behind one that was added.
-const AGAIN: [Case; 32] = [
+const AGAIN: [Case; 39] = [
     Case {
         call: Call::Take("Delta", "N1", File::B),
         want: "1",
@@ -240,6 +245,35 @@ const AGAIN: [Case; 32] = [
     Case {
         call: Call::Targets(1, 9),
         want: "7;",
+    },
+    // Its number is told from the row in memory, and before the row stands there, also where PROJ is a later group.
+    Case {
+        call: Call::ProjectNumber(4),
+        want: "0",
+    },
+    Case {
+        call: Call::Take("Delta", "N2", File::LateProject),
+        want: "6",
+    },
+    Case {
+        call: Call::ProjectNumber(6),
+        want: "4",
+    },
+    Case {
+        call: Call::ProjectNumber(6),
+        want: "4",
+    },
+    Case {
+        call: Call::Project(6),
+        want: "4 \"HEADING\",\"PROJ_ID\",\"PROJ_NAME\" \"DATA\",\"P7\",\"North bank\"",
+    },
+    Case {
+        call: Call::ProjectNumber(5),
+        want: "0",
+    },
+    Case {
+        call: Call::Targets(6, 5),
+        want: "4;",
     },
     // The deposit that was found last is known by its firm, its project and its body.
     Case {
