@@ -1,6 +1,6 @@
 -- What the row of PROJ says by itself of whether it is shown.
 use Rattle.std.proofs.Common.{◌≡◌, ℕ, zero, suc, ◌+◌, ◌<◌, Bool, true, false, if◌then◌else◌, Option, Some, None, List, [], ◌∷◌, map, filter, Contains, inl, inr, refl, sym, ap, subst, ◌∙◌, arith}
-use Rattle.std.specs.Prelude.{codes, ◌==◌, ◌≢◌, ◌-◌, ◌≤◌, slice_get, length}
+use Rattle.std.specs.Prelude.{codes, ◌==◌, ◌≢◌, ◌-◌, ◌≤◌, slice_get, length, IfSome}
 use Rattle.std.specs.List.{AllZip}
 use Rattle.std.specs.Str.{bytes_eq}
 use Rattle.std.proofs.lemmas.Bool.{true≢false, and_parts, eqb-true, eqb-false}
@@ -17,7 +17,7 @@ use Rattle.ags_links.proofs.Lemmas.{one_at, at_map, row_among, row_of_group, rea
 use Rattle.ags_check.specs.Findings.{CheckedFile, IsClean, file_of}
 use Rattle.reg_store.specs.Deposit.{Deposit}
 use Rattle.reg_store.specs.Fit.{IsFileOf, kept_rows}
-use Rattle.reg_store.specs.Project.{project_from, project_of, targets_of}
+use Rattle.reg_store.specs.Project.{project_from, project_number, project_of, targets_of}
 use Rattle.reg_store.specs.declared.keep.Keep.{Ghosts}
 use Rattle.reg_store.specs.declared.keep.KeptRow.{KeptRow}
 use Rattle.reg_store.specs.declared.keep.ProjectRow.{ProjectRow}
@@ -27,7 +27,7 @@ use Rattle.reg_desk.specs.Shown.{Look, IsPermitted, IsPermittedAt, IsProjectShow
 use Rattle.reg_desk.specs.View.{AreAlike, IsLineOf, IsOpen, IsUnreadable, MayBeSeen, Sees, is_only, plain_lines, plain_row, project_line}
 use Rattle.reg_desk.proofs.Bridges.{HasAt, IsOfProject, at_first, at_later, of_first, of_later, lines_spelled}
 use Rattle.reg_desk.proofs.Clean.{clean_formed, clean_keeps}
-use Rattle.reg_desk.proofs.Views.{permit_is}
+use Rattle.reg_desk.proofs.Views.{group_seen, permit_is}
 
 -- ---- the row of PROJ among the DATA rows
 
@@ -212,19 +212,34 @@ alike_shown look file clean alike (Some project) is =
     let line = its_line file clean project is in
     (project.number, (line.0, line.1, sym line.2.group), λ m walk. alike_reaches look file alike project.number m walk.0 (line.0, line.1, alike_permits look alike line.0) walk.1)
 
-alike_hidden : (look : Look) (file : CheckedFile) → AreAlike look None false → IsProjectShown look (file_of file) → ⊥
-alike_hidden look file alike shows =
+-- none of these rows may be seen, among them that of PROJ
+alike_hidden : (look : Look) (file : CheckedFile) (named : Option (List ℕ)) → AreAlike look named false → IfSome named (λ name. codes "PROJ" ≡ name) → IsProjectShown look (file_of file) → ⊥
+alike_hidden look file named alike of_project shows =
     let itself : IsPermittedAt look (file_of file) shows.0 = shows.2 shows.0 (reach_itself (StepAt (file_of file)) shows.0) in
     let row : itself.0 ≡ shows.1.0 = one_at (data_rows (contents_of file.groups)) shows.0 itself.0 shows.1.0 itself.1 shows.1.1 in
     let group : itself.0.group ≡ codes "PROJ" = ap (λ (r : DataRow). r.group) row ∙ shows.1.2 in
     elim itself.2 [
       | inl definition ↦ true≢false (sym definition ∙ ap is_definition group ∙ refl)
-      | inr permit ↦ true≢false (sym ((permit_is _).1 permit) ∙ alike itself.0.group itself.0.headings itself.0.fields tt)
+      | inr permit ↦ true≢false (sym ((permit_is _).1 permit) ∙ alike itself.0.group itself.0.headings itself.0.fields (subst (λ (g : List ℕ). IfSome named (λ name. g ≡ name)) (sym group) of_project))
     ]
 
 pub sees_alike : (look : Look) (file : CheckedFile) (may : Bool) → IsClean file → AreAlike look None may → Sees look file may
 sees_alike look file true clean alike = (λ _. alike_shown look file clean alike (project_of (kept_rows file.groups)) refl, λ _. refl)
-sees_alike look file false clean alike = (λ e. absurd (true≢false (sym e)), λ shows. absurd (alike_hidden look file alike shows))
+sees_alike look file false clean alike = (λ e. absurd (true≢false (sym e)), λ shows. absurd (alike_hidden look file None alike tt shows))
+
+-- ---- all rows of PROJ are alike to the policy
+
+-- they may be seen
+pub open_alike : (look : Look) (file : CheckedFile) (found : Option ℕ) → IsClean file → AreAlike look (Some (codes "PROJ")) true → found ≡ project_number (project_of (kept_rows file.groups)) → IsOpen look file found
+open_alike look file found clean alike is = go (project_of (kept_rows file.groups)) refl is
+  where
+    go : (project : Option ProjectRow) → project ≡ project_of (kept_rows file.groups) → found ≡ project_number project → IsOpen look file found
+    go None none same = subst (IsOpen look file) (sym same) (open_none look file None clean refl none)
+    go (Some project) there same = subst (IsOpen look file) (sym same) (open_shown look file project true clean there (group_seen look (project_line project) true refl alike) refl)
+
+-- they may not
+pub open_denied : (look : Look) (file : CheckedFile) → AreAlike look (Some (codes "PROJ")) false → IsOpen look file None
+open_denied look file alike = alike_hidden look file (Some (codes "PROJ")) alike refl
 
 -- a row of PROJ that is kept of a file can be read
 pub project_reads : (file : CheckedFile) (project : ProjectRow) → IsClean file → Some project ≡ project_of (kept_rows file.groups) → IsUnreadable (project_line project) → ⊥

@@ -18,6 +18,7 @@ use reg_store::{Keep, KeepError};
 use std::alloc::Global;
 
 /// The number of the deposit's row of PROJ, if it may be seen: where it has no step to another row it is shown.
+/// Where the rows of PROJ are alike to the policy, it is not read.
 fn open_project<K: Keep>(
     alloc: Global,
     keep: &mut K,
@@ -30,8 +31,14 @@ fn open_project<K: Keep>(
     ensures read { K.is_sound keep.new → IfOk result (OpensDeposit K.Keep keep.old (look_of looking.now) number) }
     ensures named { result ≢ Err KeepError.Full }
 {
-    let project = keep.project_row(number)?;
-    opens(alloc, looking, project)
+    match may_see_alike(looking, Some(b"PROJ")) {
+        Some(true) => keep.project_number(number),
+        Some(false) => Ok(None),
+        None => {
+            let project = keep.project_row(number)?;
+            opens(alloc, looking, project)
+        }
+    }
 }
 
 /// Whether the deposit's row of PROJ is shown, from all its rows and steps.

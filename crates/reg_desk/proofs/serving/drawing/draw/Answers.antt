@@ -8,7 +8,7 @@ use Rattle.reg_desk.specs.Shown.{Look}
 use Rattle.reg_desk.specs.View.{IsExtractOf}
 use Rattle.reg_desk.specs.Serving.{register_at}
 use Rattle.reg_desk.proofs.Serves.{reads_once, reads_more}
-use Rattle.reg_desk.proofs.Drawing.{viewed, reading_lives, reads_answered, view_drawn, unheld_drawn}
+use Rattle.reg_desk.proofs.Drawing.{headed, viewed, reading_lives, reads_answered, view_drawn, other_drawn, unheld_drawn}
 use Rattle.reg_desk.proofs.serving.drawing.draw.Goals as goal
 use Rattle.reg_desk.proofs.serving.drawing.draw.Goals.{then-number-eq0-via-then-number-eq0, then-number-eq0-via-else-number-eq0+then-number-count}
 
@@ -19,6 +19,14 @@ returns-then-number-eq0-clause-drawn g c = λ s.
       | then-number-eq0-via-then-number-eq0 w ↦ inl w.if-number-eq0.true
       | then-number-eq0-via-else-number-eq0+then-number-count w ↦ inr (omega (arith, w.if-number-count.true, w.count.ensures s c.requires))
     ]) ∣₁
+
+pub returns-then-not-is_same-clause-drawn : goal.returns-then-not-is_same-clause-drawn
+returns-then-not-is_same-clause-drawn g c = λ s.
+    let first = reads_once g.K.Keep c.args.keep.now c.head.new.self _ c.in_ok-head.ensures.leaves in
+    let h = headed g.K.Keep c.args.keep.now c.head.new.self c.args.number c.in_ok-head.head (λ s0. (omega (arith, c.if-number-eq0.false), omega (arith, c.if-number-count.false, c.count.ensures s0 c.requires)))
+    (λ s0. g.met.K.Keep.fit c.args.keep.now s0 c.requires) first c.in_ok-head.ensures.read s in
+    ∣ other_drawn (register_at g.K.Keep c.args.policy.now c.args.keep.now) (g.K.Keep.deposits c.args.keep.now) c.args.caller.now c.args.project.now c.args.number (names_in c.args.groups.now) c.args.day h.kept c.in_ok-head.head h.holds h.of_head
+    (sym c.is_same.ensures ∙ c.if-not-is_same.true) ∣₁
 
 pub returns-clause-reads : goal.returns-clause-reads
 returns-clause-reads g c =
