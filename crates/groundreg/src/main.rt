@@ -1,29 +1,16 @@
 //! A register of AGS4 files. Without words it checks a file on standard input, and prints its findings, or `clean`.
 #![tactic(auto)]
 
-mod answers;
-mod check;
-mod commands;
-mod fault;
-mod files;
-mod input;
-mod refusal;
-mod report;
-mod serving;
 #[cfg(test)]
 mod tests;
-mod watched;
-mod words;
 
-use commands::run_words;
-use fault::Fault;
 use jiff::Zoned;
 use jiff::tz::TimeZone;
+use reg_cli::{Fault, Watched, run_words};
 use reg_policy::Day;
 use std::env;
 use std::io::ErrorKind;
 use std::process::ExitCode;
-use watched::Watched;
 
 /// The words that the program is started with, its name first. A word that is not UTF-8 refuses them.
 fn words_given(rt: &HostRuntime) -> Result<Vec<String>, Fault> {

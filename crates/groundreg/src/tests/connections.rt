@@ -2,9 +2,8 @@
 
 use super::failing_after;
 use super::runs::{answers, enter, leave};
-use crate::serving::serve_on;
-use crate::watched::Watched;
 use ags_rows::vectors::{FILE_A, MINI};
+use reg_cli::{Watched, serve_on};
 use reg_desk::Desk;
 use reg_policy::vectors::{CALLERS, POLICY};
 use reg_policy::{Callers, Day, Policy};

@@ -2,11 +2,9 @@
 
 ghost use Rattle.std.specs.Prelude.{◌≡◌, false};
 
-use crate::commands::{Session, ask_deposit, session_of};
-use crate::watched::Watched;
-use crate::words::Asker;
 use ags_dict::Dictionary;
 use ags_rows::vectors::{FILE_A, FILE_B, MINI};
+use reg_cli::{Asker, Session, Watched, ask_deposit, session_of};
 use reg_desk::Desk;
 use reg_policy::vectors::{CALLERS, POLICY};
 use reg_policy::{Callers, Day, Policy};

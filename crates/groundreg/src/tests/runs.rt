@@ -1,9 +1,8 @@
 //! Runs with words, over files in a folder of their own.
 
 use super::faults;
-use crate::commands::run_words;
-use crate::watched::Watched;
 use ags_rows::vectors::{FILE_A, FILE_B, MINI};
+use reg_cli::{Watched, run_words};
 use reg_policy::Day;
 use reg_policy::vectors::{CALLERS, POLICY};
 use std::alloc::AllocError;

@@ -1,8 +1,0 @@
-pub mod Report
-pub mod Faults
-pub mod Reading
-pub mod Writing
-pub mod Answers
-pub mod Refusals
-pub mod Printing
-pub mod Asking

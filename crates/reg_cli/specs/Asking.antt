@@ -1,0 +1,31 @@
+-- What a command asks of the desk, and what is printed of the answer.
+use Rattle.std.specs.Prelude.{◌≡◌, ℕ, List, Option, Result, Ok, Err, Bool, Vec}
+use Rattle.std.specs.Global.{Global}
+use Rattle.ags_dict.specs.Entries.{Entries}
+use Rattle.ags_dict.specs.Reading.{IsDictionary}
+use Rattle.reg_cli.specs.Answers.{AnswersOn}
+use Rattle.reg_desk.specs.Asked.{Asked}
+use Rattle.reg_desk.specs.declared.answer.Answer.{Answer}
+use Rattle.reg_cli.specs.Faults.{Tells}
+use Rattle.reg_cli.specs.Printing.{IsPrinted, status_of}
+use Rattle.reg_cli.specs.declared.fault.Fault.TheVariants.{NoMemory}
+use Rattle.reg_cli.specs.declared.refusal.Refusal.{Refusal}
+use Rattle.reg_cli.specs.declared.refusal.Refusal.TheVariants.{Plain}
+
+-- The answer was printed, or the writer failed, and the run ends with its status; or there was no memory for its text.
+abbrev pub PrintsAnswer : Answer → Option (List ℕ) → Option (List ℕ) → Bool → Bool → Result ℕ Refusal → Type 0
+PrintsAnswer answer out out_after before after (Ok ended) = (text : List ℕ) × IsPrinted answer text × Tells out out_after text before after (status_of answer) ended
+PrintsAnswer answer out out_after before after (Err refusal) = (refusal ≡ Plain NoMemory) × (out_after ≡ out) × (after ≡ before)
+
+-- The desk was asked this once, and its answer was printed. `answers` says of a desk, a request, an answer and the desk afterwards
+-- whether they belong together.
+abbrev pub AsksDesk : {D : Type 0} → (D → Asked → Answer → D → Type 0) → Asked → D → D
+    → Option (List ℕ) → Option (List ℕ) → Bool → Bool → Result ℕ Refusal → Type 0
+AsksDesk answers request old new out out_after before after result =
+    (answer : Answer) × answers old request answer new × PrintsAnswer answer out out_after before after result
+
+-- The bytes of a file were read, and the run answers on them under the dictionary that the text is.
+abbrev pub ChecksUnder : List ℕ → Result (Vec ℕ Global) Refusal → Option (List ℕ) → Option (List ℕ) → Option (List ℕ) → Option (List ℕ) → Bool → Bool → ℕ → Type 0
+ChecksUnder dictionary (Ok bytes) out out_after err err_after out_failed err_failed status =
+    (entries : Entries) × IsDictionary dictionary entries × ((in_failed : Bool) × AnswersOn entries bytes.items out out_after err err_after in_failed out_failed err_failed status)
+ChecksUnder dictionary (Err refusal) out out_after err err_after out_failed err_failed status = ⊥

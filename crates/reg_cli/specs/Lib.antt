@@ -1,0 +1,10 @@
+pub mod Streams
+pub mod Report
+pub mod Faults
+pub mod Reading
+pub mod Writing
+pub mod Answers
+pub mod Refusals
+pub mod Printing
+pub mod Asking
+pub mod Sessions

@@ -1,0 +1,460 @@
+//! What each command does.
+
+ghost use Rattle.std.specs.Prelude.{◌≡◌, ◌≤◌, Bool, false, IfOk, IfSome, MatchOption, Some, length};
+ghost use Rattle.ags_dict.specs.Mini.{mini_entries};
+ghost use Rattle.reg_policy.specs.Callers.{caller_of};
+ghost use Rattle.reg_policy.specs.Days.{day_of};
+ghost use Rattle.reg_desk.specs.Asked.{asked, deposit, extract, listing, names_in};
+ghost use Rattle.reg_desk.specs.Desks.{AnsweredBy};
+ghost use Rattle.reg_cli.specs.Answers.{AnswersOn};
+ghost use Rattle.reg_cli.specs.Asking.{AsksDesk, ChecksUnder};
+ghost use Rattle.reg_cli.specs.Sessions.{session_caller, session_day, session_project};
+ghost use Rattle.reg_cli.specs.Streams.{has_failed, inner_of};
+
+use crate::answers::answer_report;
+use crate::check::{check_stream, run_without_words};
+use crate::fault::{Fault, tell};
+use crate::files::{dictionary_in, read_callers, read_path, read_policy};
+use crate::refusal::Refusal;
+use crate::serving::serve;
+use crate::watched::Watched;
+use crate::words::{Asker, Words, read_words};
+use ags_dict::Dictionary;
+use ags_rows::LIMIT;
+use reg_desk::{Desk, Request};
+use reg_http::{groups_listed, number_of_deposit};
+use reg_policy::{Caller, Callers, Day, Name, NameError, Policy};
+use reg_store::{CreateError, Keep, SqlKeep};
+use sqlite::{Alter, File, FileStore};
+use std::alloc::Global;
+use std::convert::AsStr;
+use std::fs;
+use std::io::{ErrorKind, Read, Write};
+use std::path::Path;
+
+/// Who asks, for which project, and on which day.
+#[derive(Drop)]
+pub struct Session<'c> {
+    caller: &'c Caller,
+    project: Name,
+    day: Day,
+}
+
+/// What is asked of the desk.
+#[derive(Drop)]
+enum Task<'t> {
+    Deposit { embargo: Day, bytes: &'t [u8] },
+    List,
+    Extract { number: u32, groups: &'t [&'t [u8]] },
+}
+
+/// Makes a register.
+fn init<'w, W: Write>(
+    rt: &HostRuntime,
+    alloc: Global,
+    store: &'w str,
+    dictionary: &'w str,
+    out: &mut Watched<W>,
+) -> Result<u8, Refusal<'w>> {
+    let bytes = read_path(rt, alloc, dictionary)?;
+    if bytes.len() > LIMIT {
+        return Err(Refusal::Plain(Fault::DictionaryRefused));
+    }
+    match SqlKeep::create(rt, alloc, store, &bytes) {
+        Ok(_) => Ok(tell(out, b"created\n", 0)),
+        Err(CreateError::Dictionary(_)) => Err(Refusal::Plain(Fault::DictionaryRefused)),
+        Err(CreateError::NotEmpty) => Err(Refusal::Plain(Fault::StoreNotEmpty)),
+        Err(CreateError::Store) => Err(Refusal::Plain(Fault::StoreFailed)),
+        Err(CreateError::NoMemory) => Err(Refusal::Plain(Fault::NoMemory)),
+    }
+}
+
+/// Checks a file under the dictionary of another.
+fn check_file<'w, W: Write, E: Write>(
+    rt: &HostRuntime,
+    alloc: Global,
+    dictionary: &'w str,
+    file: &'w str,
+    out: &mut Watched<W>,
+    err: &mut Watched<E>,
+) -> Result<u8, Refusal<'w>>
+    requires out { out.old.failed ≡ false }
+    requires err { err.old.failed ≡ false }
+{
+    let dictionary = read_path(rt, alloc, dictionary)?;
+    check_given(alloc, &dictionary, read_path(rt, alloc, file), out, err)
+}
+
+/// Checks a file, if it was read, under the dictionary that bytes are. A dictionary that is none is refused first.
+fn check_given<'w, W: Write, E: Write>(
+    alloc: Global,
+    dictionary: &[u8],
+    file: Result<Vec<u8>, Refusal<'w>>,
+    out: &mut Watched<W>,
+    err: &mut Watched<E>,
+) -> Result<u8, Refusal<'w>>
+    requires out { out.old.failed ≡ false }
+    requires err { err.old.failed ≡ false }
+    ensures { IfOk result (λ status. ChecksUnder dictionary.now file.entry
+        (W.contents out.old.inner) (W.contents out.new.inner) (E.contents err.old.inner) (E.contents err.new.inner)
+        out.new.failed err.new.failed status) }
+{
+    let dictionary = dictionary_in(alloc, dictionary)?;
+    let bytes = file?;
+    Ok(check_bytes(alloc, &dictionary, &bytes, out, err))
+}
+
+/// Checks bytes under a dictionary.
+fn check_bytes<W: Write, E: Write>(
+    alloc: Global,
+    dictionary: &Dictionary,
+    bytes: &[u8],
+    out: &mut Watched<W>,
+    err: &mut Watched<E>,
+) -> u8
+    requires out { out.old.failed ≡ false }
+    requires err { err.old.failed ≡ false }
+    ensures { (in_failed : Bool) × AnswersOn dictionary.now bytes.now
+        (W.contents out.old.inner) (W.contents out.new.inner) (E.contents err.old.inner) (E.contents err.new.inner)
+        in_failed out.new.failed err.new.failed result }
+{
+    let mut input = Watched::new(bytes);
+    check_stream(alloc, dictionary, &mut input, out, err)
+}
+
+/// The day that a text writes, or the one for where none is given.
+pub(crate) fn day_or(text: Option<&str>, other: Option<Day>) -> Result<Day, Fault>
+    ensures { IfOk result (λ day. MatchOption text.entry (other ≡ Some day) (λ given. day_of given.now ≡ Some day)) }
+{
+    match text {
+        Some(text) => Day::read(text).ok_or(Fault::DayRefused),
+        None => other.ok_or(Fault::DayRefused),
+    }
+}
+
+/// The project of a name.
+fn project_of(alloc: Global, text: &str) -> Result<Name, Fault>
+    ensures { IfOk result (λ project. project ≡ text.now) }
+{
+    match Name::read(alloc, text) {
+        Ok(name) => Ok(name),
+        Err(NameError::BadName) => Err(Fault::ProjectRefused),
+        Err(NameError::NoMemory) => Err(Fault::NoMemory),
+    }
+}
+
+/// Who asks by this token, for the project and on the day that the words give.
+/// The first of these that is none is refused.
+pub fn session_of<'c>(
+    alloc: Global,
+    callers: &'c Callers,
+    asker: &Asker<'_>,
+    today: Option<Day>,
+) -> Result<Session<'c>, Fault>
+    ensures caller { IfOk result (λ session.
+        caller_of asker.now.token.now callers.now ≡ Some (session_caller session)) }
+    ensures project { IfOk result (λ session. session_project session ≡ asker.now.project.now) }
+    ensures day { IfOk result (λ session. MatchOption asker.now.day (today ≡ Some (session_day session))
+        (λ given. day_of given.now ≡ Some (session_day session))) }
+{
+    let Some(caller) = callers.find(asker.token.as_bytes()) else {
+        return Err(Fault::TokenRefused);
+    };
+    let project = project_of(alloc, asker.project)?;
+    let day = day_or(asker.day, today)?;
+    Ok(Session {
+        caller,
+        project,
+        day,
+    })
+}
+
+/// The register in the file at a path.
+pub(crate) fn open_store<'w>(
+    rt: &HostRuntime,
+    alloc: Global,
+    store: &'w str,
+) -> Result<SqlKeep<FileStore<File>>, Refusal<'w>>
+    ensures { IfOk result (λ keep. keep.has_failed ≡ false) }
+{
+    if is_absent(rt, store) {
+        return Err(Refusal::Plain(Fault::NotRegister));
+    }
+    Ok(SqlKeep::open(rt, alloc, store)?)
+}
+
+/// Whether a path names nothing, in a folder that is there. Opening a store would make a file of this name.
+fn is_absent(rt: &HostRuntime, path: &str) -> bool {
+    match fs::symlink_metadata(rt, path) {
+        Err(error) if error.kind() == ErrorKind::NotFound => has_folder(rt, path),
+        _ => false,
+    }
+}
+
+/// Whether the folder of a path is there.
+fn has_folder(rt: &HostRuntime, path: &str) -> bool {
+    match Path::new(path).parent() {
+        Some(folder) if folder.as_str().is_empty() => true,
+        Some(folder) => matches!(fs::metadata(rt, folder), Ok(found) if found.is_dir()),
+        None => false,
+    }
+}
+
+/// Asks the desk, and prints its answer.
+fn ask_desk<'w, K: Keep, W: Write>(
+    alloc: Global,
+    desk: &mut Desk<K>,
+    request: &Request<'_>,
+    out: &mut Watched<W>,
+) -> Result<u8, Refusal<'w>>
+    ensures { AsksDesk (AnsweredBy K.Keep) (asked request.entry.now) desk.old desk.new
+        (W.contents out.old.inner) (W.contents out.new.inner) out.old.failed out.new.failed result }
+{
+    let answer = desk.answer(alloc, request);
+    let report = answer_report(alloc, answer)?;
+    Ok(report.print(out))
+}
+
+fn deposit<'w, W: Write>(
+    rt: &HostRuntime,
+    alloc: Global,
+    asker: &Asker<'w>,
+    embargo: Option<&'w str>,
+    file: &'w str,
+    today: Option<Day>,
+    out: &mut Watched<W>,
+) -> Result<u8, Refusal<'w>> {
+    let policy = read_policy(rt, alloc, asker.policy)?;
+    let callers = read_callers(rt, alloc, asker.callers)?;
+    let session = session_of(alloc, &callers, asker, today)?;
+    let embargo = day_or(embargo, Some(session.day))?;
+    let bytes = read_path(rt, alloc, file)?;
+    let task = Task::Deposit {
+        embargo,
+        bytes: &bytes,
+    };
+    ask_store(rt, alloc, asker.store, policy, &session, &task, out)
+}
+
+/// Asks the desk to keep a file, as the one who asks. Refused only where memory for the text of its answer is wanting.
+pub fn ask_deposit<'w, K: Keep, W: Write>(
+    alloc: Global,
+    desk: &mut Desk<K>,
+    session: &Session<'_>,
+    embargo: Day,
+    bytes: &[u8],
+    out: &mut Watched<W>,
+) -> Result<u8, Refusal<'w>>
+    ensures { AsksDesk (AnsweredBy K.Keep)
+        (deposit (session_caller session.now) (session_project session.now) embargo bytes.now (session_day session.now))
+        desk.old desk.new (W.contents (inner_of out.old)) (W.contents (inner_of out.new))
+        (has_failed out.old) (has_failed out.new) result }
+{
+    let request = Request::Deposit {
+        caller: session.caller,
+        project: &session.project,
+        embargo,
+        bytes,
+        day: session.day,
+    };
+    ask_desk(alloc, desk, &request, out)
+}
+
+fn list<'w, W: Write>(
+    rt: &HostRuntime,
+    alloc: Global,
+    asker: &Asker<'w>,
+    today: Option<Day>,
+    out: &mut Watched<W>,
+) -> Result<u8, Refusal<'w>> {
+    let policy = read_policy(rt, alloc, asker.policy)?;
+    let callers = read_callers(rt, alloc, asker.callers)?;
+    let session = session_of(alloc, &callers, asker, today)?;
+    ask_store(rt, alloc, asker.store, policy, &session, &Task::List, out)
+}
+
+/// Asks the desk for the deposits of a project, as the one who asks.
+fn ask_list<'w, K: Keep, W: Write>(
+    alloc: Global,
+    desk: &mut Desk<K>,
+    session: &Session<'_>,
+    out: &mut Watched<W>,
+) -> Result<u8, Refusal<'w>>
+    ensures { AsksDesk (AnsweredBy K.Keep)
+        (listing session.now.caller.now session.now.project session.now.day) desk.old desk.new
+        (W.contents out.old.inner) (W.contents out.new.inner) out.old.failed out.new.failed result }
+{
+    let request = Request::List {
+        caller: session.caller,
+        project: &session.project,
+        day: session.day,
+    };
+    ask_desk(alloc, desk, &request, out)
+}
+
+/// The groups that a text lists; none for all.
+fn groups_of<'w>(alloc: Global, text: Option<&'w str>) -> Result<Vec<&'w [u8]>, Fault> {
+    let text = text.unwrap_or("");
+    match groups_listed(alloc, text.as_bytes())? {
+        Some(groups) => Ok(groups),
+        None => Err(Fault::GroupsRefused),
+    }
+}
+
+fn extract<'w, W: Write>(
+    rt: &HostRuntime,
+    alloc: Global,
+    asker: &Asker<'w>,
+    groups: Option<&'w str>,
+    number: &'w str,
+    today: Option<Day>,
+    out: &mut Watched<W>,
+) -> Result<u8, Refusal<'w>> {
+    let policy = read_policy(rt, alloc, asker.policy)?;
+    let callers = read_callers(rt, alloc, asker.callers)?;
+    let session = session_of(alloc, &callers, asker, today)?;
+    let groups = groups_of(alloc, groups)?;
+    let number = number_of_deposit(number.as_bytes()).ok_or(Fault::NumberRefused)?;
+    let task = Task::Extract {
+        number,
+        groups: &groups,
+    };
+    ask_store(rt, alloc, asker.store, policy, &session, &task, out)
+}
+
+/// Asks the desk for an extract, as the one who asks.
+fn ask_extract<'w, K: Keep, W: Write>(
+    alloc: Global,
+    desk: &mut Desk<K>,
+    session: &Session<'_>,
+    number: u32,
+    groups: &[&[u8]],
+    out: &mut Watched<W>,
+) -> Result<u8, Refusal<'w>>
+    ensures { AsksDesk (AnsweredBy K.Keep)
+        (extract session.now.caller.now session.now.project number (names_in groups.now) session.now.day)
+        desk.old desk.new (W.contents out.old.inner) (W.contents out.new.inner) out.old.failed out.new.failed result }
+{
+    let request = Request::Extract {
+        caller: session.caller,
+        project: &session.project,
+        number,
+        groups,
+        day: session.day,
+    };
+    ask_desk(alloc, desk, &request, out)
+}
+
+/// Asks the desk of the register in the file at a path, as the one who asks.
+fn ask_store<'w, W: Write>(
+    rt: &HostRuntime,
+    alloc: Global,
+    store: &'w str,
+    policy: Policy,
+    session: &Session<'_>,
+    task: &Task<'_>,
+    out: &mut Watched<W>,
+) -> Result<u8, Refusal<'w>> {
+    let keep = open_store(rt, alloc, store)?;
+    ask_tables(alloc, keep, policy, session, task, out)
+}
+
+/// Asks the desk of a keep in tables, of any store: named over the one of a file, `SqlKeep` would have to be shown to be a keep at length.
+fn ask_tables<'w, S: Alter + Drop, W: Write>(
+    alloc: Global,
+    keep: SqlKeep<S>,
+    policy: Policy,
+    session: &Session<'_>,
+    task: &Task<'_>,
+    out: &mut Watched<W>,
+) -> Result<u8, Refusal<'w>>
+    requires { keep.has_failed ≡ false }
+{
+    ask_keep(alloc, keep, policy, session, task, out)
+}
+
+/// Asks the desk of a keep. What speaks of the keep stands here, for any keep: over one in tables it would be proved at each place anew.
+fn ask_keep<'w, K: Keep + Drop, W: Write>(
+    alloc: Global,
+    keep: K,
+    policy: Policy,
+    session: &Session<'_>,
+    task: &Task<'_>,
+    out: &mut Watched<W>,
+) -> Result<u8, Refusal<'w>>
+    requires { K.has_failed keep ≡ false }
+{
+    let mut desk = Desk::new(keep, policy);
+    match task {
+        Task::Deposit { embargo, bytes } => {
+            ask_deposit(alloc, &mut desk, session, *embargo, bytes, out)
+        }
+        Task::List => ask_list(alloc, &mut desk, session, out),
+        Task::Extract { number, groups } => {
+            ask_extract(alloc, &mut desk, session, *number, groups, out)
+        }
+    }
+}
+
+/// Does what the words ask.
+fn run_command<'w, W: Write, E: Write>(
+    rt: &HostRuntime,
+    alloc: Global,
+    words: Words<'w>,
+    today: Option<Day>,
+    out: &mut Watched<W>,
+    err: &mut Watched<E>,
+) -> Result<u8, Refusal<'w>>
+    requires out { out.old.failed ≡ false }
+    requires err { err.old.failed ≡ false }
+{
+    match words {
+        Words::Init { store, dictionary } => init(rt, alloc, store, dictionary, out),
+        Words::Check { dictionary, file } => check_file(rt, alloc, dictionary, file, out, err),
+        Words::Deposit {
+            asker,
+            embargo,
+            file,
+        } => deposit(rt, alloc, &asker, embargo, file, today, out),
+        Words::Extract {
+            asker,
+            groups,
+            number,
+        } => extract(rt, alloc, &asker, groups, number, today, out),
+        Words::List(asker) => list(rt, alloc, &asker, today, out),
+        Words::Serve(service) => serve(rt, alloc, &service, today, out),
+    }
+}
+
+/// Runs the program on its words, of which the first is its name; without others it checks the file that the input carries.
+/// `today` is what the clock tells, if it tells a day.
+pub fn run_words<S: AsStr, R: Read, W: Write, E: Write>(
+    rt: &HostRuntime,
+    words: &[S],
+    today: Option<Day>,
+    input: &mut Watched<R>,
+    out: &mut Watched<W>,
+    err: &mut Watched<E>,
+) -> u8
+    requires input { has_failed input.old ≡ false }
+    requires out { has_failed out.old ≡ false }
+    requires err { has_failed err.old ≡ false }
+    ensures wordless { length words.now ≤ 1 → IfSome (R.remaining (inner_of input.old)) (λ bytes.
+        AnswersOn mini_entries bytes
+        (W.contents (inner_of out.old)) (W.contents (inner_of out.new))
+        (E.contents (inner_of err.old)) (E.contents (inner_of err.new))
+        (has_failed input.new) (has_failed out.new) (has_failed err.new) result) }
+{
+    let alloc = rt.alloc();
+    if words.len() <= 1 {
+        return run_without_words(alloc, input, out, err);
+    }
+    let words = match read_words(alloc, words) {
+        Ok(words) => words,
+        Err(fault) => return fault.tell(err),
+    };
+    match run_command(rt, alloc, words, today, out, err) {
+        Ok(status) => status,
+        Err(refusal) => refusal.tell(err),
+    }
+}

@@ -1,0 +1,143 @@
+//! A register that is served over connections.
+
+ghost use Rattle.std.specs.Prelude.{◌≡◌, false};
+
+use crate::commands::{day_or, open_store};
+use crate::fault::Fault;
+use crate::files::{read_callers, read_policy};
+use crate::refusal::Refusal;
+use crate::watched::{StreamFailed, Watched};
+use crate::words::Service;
+use itoa::Buffer;
+use reg_desk::Desk;
+use reg_http::{Tally, serve_one};
+use reg_policy::{Callers, Day, Policy};
+use reg_store::{Keep, SqlKeep};
+use sqlite::Alter;
+use std::alloc::Global;
+use std::io::Write;
+use std::net::{Shutdown, TcpListener, TcpStream};
+
+/// Serves a connection: the status of the reply, unless the connection failed. After a reply nothing more is written.
+fn serve_stream<K: Keep>(
+    alloc: Global,
+    desk: &mut Desk<K>,
+    callers: &Callers,
+    day: Day,
+    stream: &TcpStream,
+) -> Option<u16> {
+    let mut reader = Tally::new(stream);
+    let mut writer = Tally::new(stream);
+    let served = serve_one(alloc, desk, callers, day, &mut reader, &mut writer).ok()?;
+    let _closed = stream.shutdown(Shutdown::Write);
+    Some(served.status)
+}
+
+/// Accepts a connection and serves it: the status of the reply, unless that failed.
+fn serve_next<K: Keep>(
+    alloc: Global,
+    listener: &TcpListener,
+    desk: &mut Desk<K>,
+    callers: &Callers,
+    day: Day,
+) -> Option<u16> {
+    let (stream, _) = listener.accept().ok()?;
+    serve_stream(alloc, desk, callers, day, &stream)
+}
+
+/// Prints the line of a connection.
+fn print_line<W: Write>(out: &mut Watched<W>, status: Option<u16>) -> Result<(), StreamFailed> {
+    let Some(status) = status else {
+        return out.write_text(b"fault\n");
+    };
+    let mut buffer = Buffer::new();
+    out.write_line(b"", buffer.format(status).as_bytes())
+}
+
+/// Serves connections, one after the other, and prints the status of each reply, or `fault`. The status of the run: 6
+/// where such a line is not written, which ends it, and else 0.
+pub fn serve_on<K: Keep, W: Write>(
+    alloc: Global,
+    listener: &TcpListener,
+    desk: &mut Desk<K>,
+    callers: &Callers,
+    day: Day,
+    connections: u32,
+    out: &mut Watched<W>,
+) -> u8 {
+    for _ in 0..connections {
+        let status = serve_next(alloc, listener, desk, callers, day);
+        if print_line(out, status).is_err() {
+            return Fault::Stream.status();
+        }
+    }
+    0
+}
+
+/// Prints that the port is listened on.
+fn print_port<W: Write>(out: &mut Watched<W>, port: u16) -> Result<(), StreamFailed> {
+    let mut buffer = Buffer::new();
+    out.write_line(b"listening 127.0.0.1:", buffer.format(port).as_bytes())
+}
+
+/// Opens the register, listens, and serves.
+pub(crate) fn serve<'w, W: Write>(
+    rt: &HostRuntime,
+    alloc: Global,
+    service: &Service<'w>,
+    today: Option<Day>,
+    out: &mut Watched<W>,
+) -> Result<u8, Refusal<'w>> {
+    let policy = read_policy(rt, alloc, service.policy)?;
+    let callers = read_callers(rt, alloc, service.callers)?;
+    let day = day_or(service.day, today)?;
+    let keep = open_store(rt, alloc, service.store)?;
+    serve_tables(rt, alloc, keep, policy, &callers, day, service, out)
+}
+
+/// Serves from a keep in tables, of any store: named over the one of a file, `SqlKeep` would have to be shown to be a keep at length.
+fn serve_tables<'w, S: Alter + Drop, W: Write>(
+    rt: &HostRuntime,
+    alloc: Global,
+    keep: SqlKeep<S>,
+    policy: Policy,
+    callers: &Callers,
+    day: Day,
+    service: &Service<'w>,
+    out: &mut Watched<W>,
+) -> Result<u8, Refusal<'w>>
+    requires { keep.has_failed ≡ false }
+{
+    serve_keep(rt, alloc, keep, policy, callers, day, service, out)
+}
+
+/// Listens, and serves from a keep.
+fn serve_keep<'w, K: Keep + Drop, W: Write>(
+    rt: &HostRuntime,
+    alloc: Global,
+    keep: K,
+    policy: Policy,
+    callers: &Callers,
+    day: Day,
+    service: &Service<'w>,
+    out: &mut Watched<W>,
+) -> Result<u8, Refusal<'w>>
+    requires { K.has_failed keep ≡ false }
+{
+    let mut desk = Desk::new(keep, policy);
+    let Ok(listener) = TcpListener::bind(rt, ("127.0.0.1", service.port)) else {
+        return Err(Refusal::CannotListen);
+    };
+    if print_port(out, service.port).is_err() {
+        return Ok(Fault::Stream.status());
+    }
+    Ok(serve_on(
+        alloc,
+        &listener,
+        &mut desk,
+        callers,
+        day,
+        service.connections,
+        out,
+    ))
+}

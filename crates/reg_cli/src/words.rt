@@ -1,0 +1,209 @@
+//! The words of the command line.
+
+ghost use Rattle.std.specs.Prelude.{◌≤◌, IfOk};
+
+use crate::fault::Fault;
+use clap::error::ErrorKind;
+use clap::{Arg, ArgAction, ArgMatches, Command};
+use std::alloc::{AllocError, Global};
+use std::convert::AsStr;
+
+/// Who asks, of which store, by which policy, for which project and on which day, as it was given.
+#[derive(Clone, Copy)]
+pub struct Asker<'w> {
+    pub store: &'w str,
+    pub policy: &'w str,
+    pub callers: &'w str,
+    pub token: &'w str,
+    pub project: &'w str,
+    pub day: Option<&'w str>,
+}
+
+/// What `serve` serves, as it was given.
+#[derive(Clone, Copy)]
+pub(crate) struct Service<'w> {
+    pub(crate) store: &'w str,
+    pub(crate) policy: &'w str,
+    pub(crate) callers: &'w str,
+    pub(crate) day: Option<&'w str>,
+    /// 1 to 65,535.
+    pub(crate) port: u16,
+    /// 1 to 1,000,000.
+    pub(crate) connections: u32,
+}
+
+/// A command with the texts that its words give.
+#[derive(Clone, Copy)]
+pub(crate) enum Words<'w> {
+    Init {
+        store: &'w str,
+        dictionary: &'w str,
+    },
+    Check {
+        dictionary: &'w str,
+        file: &'w str,
+    },
+    Deposit {
+        asker: Asker<'w>,
+        embargo: Option<&'w str>,
+        file: &'w str,
+    },
+    Extract {
+        asker: Asker<'w>,
+        groups: Option<&'w str>,
+        number: &'w str,
+    },
+    List(Asker<'w>),
+    Serve(Service<'w>),
+}
+
+/// The greatest number of connections that `serve` serves.
+const MOST_CONNECTIONS: u32 = 1_000_000;
+
+fn option<'w>(alloc: Global, name: &'w str) -> Arg<'w> {
+    Arg::new(alloc, name).long(name).action(ArgAction::Set)
+}
+
+fn with_required<'w>(
+    alloc: Global,
+    command: Command<'w>,
+    names: &[&'w str],
+) -> Result<Command<'w>, AllocError> {
+    let mut command = command;
+    for name in names {
+        command = command.arg(option(alloc, name).required(true))?;
+    }
+    Ok(command)
+}
+
+fn with_word<'w>(
+    alloc: Global,
+    command: Command<'w>,
+    name: &'w str,
+) -> Result<Command<'w>, AllocError> {
+    command.arg(Arg::new(alloc, name).required(true).action(ArgAction::Set))
+}
+
+/// A command with these options, all of them required.
+fn command<'w>(alloc: Global, name: &'w str, names: &[&'w str]) -> Result<Command<'w>, AllocError> {
+    let command = Command::new(alloc, name).disable_help_flag(true);
+    with_required(alloc, command, names)
+}
+
+/// A command of someone who asks.
+fn asking<'w>(alloc: Global, name: &'w str) -> Result<Command<'w>, AllocError> {
+    let names = ["store", "policy", "callers", "token", "project"];
+    command(alloc, name, &names)?.arg(option(alloc, "day"))
+}
+
+fn deposit_command<'w>(alloc: Global) -> Result<Command<'w>, AllocError> {
+    let command = asking(alloc, "deposit")?.arg(option(alloc, "embargo"))?;
+    with_word(alloc, command, "file")
+}
+
+fn extract_command<'w>(alloc: Global) -> Result<Command<'w>, AllocError> {
+    let command = asking(alloc, "extract")?.arg(option(alloc, "groups"))?;
+    with_word(alloc, command, "number")
+}
+
+fn serve_command<'w>(alloc: Global) -> Result<Command<'w>, AllocError> {
+    let names = ["store", "policy", "callers", "port", "connections"];
+    command(alloc, "serve", &names)?.arg(option(alloc, "day"))
+}
+
+/// All commands.
+fn commands<'w>(alloc: Global) -> Result<Command<'w>, AllocError> {
+    let check = command(alloc, "check", &["dictionary"])?;
+    Command::new(alloc, "groundreg")
+        .disable_help_flag(true)
+        .disable_version_flag(true)
+        .disable_help_subcommand(true)
+        .subcommand_required(true)
+        .subcommand(command(alloc, "init", &["store", "dictionary"])?)?
+        .subcommand(with_word(alloc, check, "file")?)?
+        .subcommand(deposit_command(alloc)?)?
+        .subcommand(extract_command(alloc)?)?
+        .subcommand(asking(alloc, "list")?)?
+        .subcommand(serve_command(alloc)?)
+}
+
+/// The text that is given under a name.
+fn text<'w>(given: &ArgMatches<'w>, name: &str) -> Result<&'w str, Fault> {
+    given.get_str(name).ok_or(Fault::WordsRefused)
+}
+
+/// The number that digits give under a name, from 1 to `most`.
+fn number(given: &ArgMatches<'_>, name: &str, most: u32) -> Result<u32, Fault>
+    ensures { IfOk result (λ number. (1 ≤ number) × (number ≤ most)) }
+{
+    let digits = text(given, name)?;
+    if !digits.bytes().all(|b| b.is_ascii_digit()) {
+        return Err(Fault::WordsRefused);
+    }
+    match digits.parse::<u32>() {
+        Ok(number) if (1..=most).contains(&number) => Ok(number),
+        _ => Err(Fault::WordsRefused),
+    }
+}
+
+fn asker_in<'w>(given: &ArgMatches<'w>) -> Result<Asker<'w>, Fault> {
+    Ok(Asker {
+        store: text(given, "store")?,
+        policy: text(given, "policy")?,
+        callers: text(given, "callers")?,
+        token: text(given, "token")?,
+        project: text(given, "project")?,
+        day: given.get_str("day"),
+    })
+}
+
+fn service_in<'w>(given: &ArgMatches<'w>) -> Result<Service<'w>, Fault> {
+    Ok(Service {
+        store: text(given, "store")?,
+        policy: text(given, "policy")?,
+        callers: text(given, "callers")?,
+        day: given.get_str("day"),
+        port: number(given, "port", 65_535)? as u16,
+        connections: number(given, "connections", MOST_CONNECTIONS)?,
+    })
+}
+
+/// What a command's own words give.
+fn words_of<'w>(name: &str, given: &ArgMatches<'w>) -> Result<Words<'w>, Fault> {
+    match name {
+        "init" => Ok(Words::Init {
+            store: text(given, "store")?,
+            dictionary: text(given, "dictionary")?,
+        }),
+        "check" => Ok(Words::Check {
+            dictionary: text(given, "dictionary")?,
+            file: text(given, "file")?,
+        }),
+        "deposit" => Ok(Words::Deposit {
+            asker: asker_in(given)?,
+            embargo: given.get_str("embargo"),
+            file: text(given, "file")?,
+        }),
+        "extract" => Ok(Words::Extract {
+            asker: asker_in(given)?,
+            groups: given.get_str("groups"),
+            number: text(given, "number")?,
+        }),
+        "list" => Ok(Words::List(asker_in(given)?)),
+        "serve" => Ok(Words::Serve(service_in(given)?)),
+        _ => Err(Fault::WordsRefused),
+    }
+}
+
+/// What the words ask, of which the first is the program's name. A request for help is refused as well.
+pub(crate) fn read_words<'w, S: AsStr>(alloc: Global, words: &'w [S]) -> Result<Words<'w>, Fault> {
+    let matches = match commands(alloc)?.try_get_matches_from(words) {
+        Ok(matches) => matches,
+        Err(error) if error.kind() == ErrorKind::OutOfMemory => return Err(Fault::NoMemory),
+        Err(_) => return Err(Fault::WordsRefused),
+    };
+    match matches.subcommand() {
+        Some((name, given)) => words_of(name, given),
+        None => Err(Fault::WordsRefused),
+    }
+}
