@@ -32,7 +32,7 @@ class Item:
     def __init__(self, kind, name, source, first):
         self.kind, self.name, self.source, self.first = kind, name, source, first
         self.comment, self.lines, self.statements, self.own = [], [], [], set()
-        self.needs, self.owner = None, None
+        self.needs, self.owner, self.renamed = None, None, {}
         self.constructors = set()
 
     @property
@@ -476,7 +476,8 @@ class House:
     def needs(self, item):
         """The definitions that an item names, in the order in which it names them; and the names that the kit gives it."""
         if item.needs is None:
-            item.needs = Namer(self, item).run()
+            namer = Namer(self, item)
+            item.needs, item.renamed = namer.run(), namer.renamed
         return item.needs
 
     def functions(self, crate):
@@ -494,7 +495,7 @@ class Namer:
 
     def __init__(self, house, item):
         self.house, self.item, self.source = house, item, item.source
-        self.found, self.kit, self.bound = [], [], set()
+        self.found, self.kit, self.bound, self.renamed = [], [], set(), {}
 
     def run(self):
         if self.source.path.endswith(".antt"):
@@ -572,15 +573,23 @@ class Namer:
             self.need(source.items[head])
         elif head in source.imports:
             path, there, line = source.imports[head]
+            self.rename(head, there, path)
             self.need(self.house.find(source, line, path, there), (path, there))
         elif head in source.modules:
             path, line = source.modules[head]
             there = rest.partition(".")[0]
+            *_, of, last = path.split(".")
+            self.rename(head, f"the variants of {of}" if last == "TheVariants" else last, path)
             self.need(self.house.find(source, token.line, path, there), (path, there))
         elif head in source.operators:
             self.name(token, source.operators[head], rest)
         elif not self.rust_name(head) and head not in ("Some", "None", "Ok", "Err"):
             raise source.error(token.line, f"{head} is found nowhere")
+
+    def rename(self, here, there, path):
+        """Notes a name that an import gives to what has another name where it is defined."""
+        if here != there:
+            self.renamed[here] = f"{there} of {path.split('.')[1]}"
 
     def need(self, item, kit=None):
         if item is None:

@@ -154,7 +154,18 @@ def laws():
         return sorted(item.name for item in house.needs(trait)[0]), trait.shown()
 
 
+def renamed():
+    """What an import has renamed is told above the definition that uses it: a name, and the variants of a type."""
+    with tempfile.TemporaryDirectory() as folder:
+        house = house_with(folder, {})
+        items = [house.specs["top", "Facts"].items["HasSize"], house.specs["low", "Base"].items["number"]]
+        for item in items:
+            house.needs(item)
+        return [[line for line in reach.text_of(item) if "stands for" in line] for item in items]
+
+
 CASES += [
+    ("names that an import has renamed", renamed(), [["-- Form stands for Shape of low"], ["-- colours stands for the variants of Colour of low"]]),
     ("a law over two lines", laws(), (["HasSize", "Shape", "size"], [line for line in TRAIT.split("\n")[2:-1] if line])),
     ("a variant that there is not", variants(), "crates/low/specs/Base.antt:11: Rattle.low.specs.declared.colour.Colour.TheVariants.Blue is not found"),
     ("a proof", proofs(), ["number"]),
