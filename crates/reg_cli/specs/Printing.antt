@@ -8,7 +8,7 @@ use Rattle.reg_desk.specs.declared.answer.Listed.{Listed}
 use Rattle.reg_cli.specs.Report.{report_of}
 use Rattle.reg_cli.specs.declared.report.Report.{Report}
 
--- a receipt: the number of the deposit, and the last day of its embargo
+-- a receipt: the number of the deposit, and the first day on which it is no longer under embargo
 abbrev pub IsReceipt : ℕ → ℤ → List ℕ → Type 0
 IsReceipt number embargo text = (day : List ℕ) × Writes day embargo × (text ≡ codes "receipt " ++ decimal number ++ codes " " ++ day ++ codes "\n")
 
