@@ -146,6 +146,7 @@ impl Fronts {
             → (front_at self.old n ≡ Some held) ⊎ ((n ≡ number) × (held ≡ row.now)) }
         ensures alone { (n : ℕ) → alone_at self.new n ≡ alone_at self.old n }
         ensures there { OnOk result (front_at self.new number ≡ Some row.now) }
+        ensures count { self.new.alone_count ≡ self.old.alone_count }
     {
         let copied = copy_project(alloc, row)?;
         make_entry(&mut self.entries, number)?;
