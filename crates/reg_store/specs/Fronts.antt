@@ -1,7 +1,6 @@
 -- The rows of PROJ that stand in memory.
-use Rattle.std.specs.Prelude.{◌≡◌, ◌<◌, ◌≤◌, ◌⊎◌, ℕ, List, [], length, Option, Some, Result, Ok, Err}
-use Rattle.std.specs.BTreeMap.{get_by}
-use Rattle.std.specs.Ordering.{nat_cmp}
+use Rattle.std.specs.Prelude.{◌≡◌, ◌<◌, ◌≤◌, ◌⊎◌, ℕ, List, [], length, Option, Some, Result, Ok, Err, slice_get}
+use Rattle.std.specs.Option.{option_and_then}
 use Rattle.std.specs.declared.alloc.Global.{Global}
 use Rattle.std.specs.declared.vec.Vec.{Vec}
 use Rattle.ags_dict.specs.Entries.{Entries}
@@ -11,15 +10,16 @@ use Rattle.reg_store.specs.declared.keep.ProjectRow.{ProjectRow}
 use Rattle.reg_store.specs.Deposit.{Deposit}
 use Rattle.reg_store.specs.Fit.{kept_rows}
 use Rattle.reg_store.specs.Keep.{OfDeposit}
+use Rattle.reg_store.specs.Places.{entry_at}
 use Rattle.reg_store.specs.Project.{project_of, targets_of}
 
 -- the row of PROJ that stands in memory under the number of a deposit
 abbrev pub front_at : Fronts → ℕ → Option ProjectRow
-front_at fronts n = get_by (nat_cmp n) fronts.rows
+front_at fronts n = option_and_then (slice_get fronts.rows.items) (entry_at fronts.entries.items n).place
 
 -- the DATA row, of the deposit of a number, of which it stands in memory that it has no step
 abbrev pub alone_at : Fronts → ℕ → Option ℕ
-alone_at fronts n = get_by (nat_cmp n) fronts.alone
+alone_at fronts n = (entry_at fronts.entries.items n).alone
 
 -- A deposit has the number.
 abbrev pub IsHeldNumber : ℕ → List Deposit → Type 0

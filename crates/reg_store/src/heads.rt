@@ -71,8 +71,11 @@ pub(crate) fn head_in(heads: &[KeptHead], n: u32) -> Result<KeptHead, KeepError>
     let Some(head) = heads.get(n as usize - 1) else {
         return Err(KeepError::Store);
     };
-    let copied = new_head(&head.firm, &head.project, head.embargo)?;
-    Ok(copied)
+    Ok(KeptHead {
+        firm: head.firm.clone()?,
+        project: head.project.clone()?,
+        embargo: head.embargo,
+    })
 }
 
 /// The numbers of a project's deposits, rising.
