@@ -24,12 +24,13 @@ use Rattle.reg_store.specs.declared.keep.KeptRow.{KeptRow}
 use Rattle.reg_desk.specs.Asked.{extract}
 use Rattle.reg_desk.specs.declared.answer.Answer.{Answer}
 use Rattle.reg_desk.specs.declared.answer.Answer.TheVariants.{Text, Denied, Unknown}
+use Rattle.reg_desk.specs.declared.serving.listing.Lister.{Lister}
 use Rattle.reg_desk.specs.Shown.{Look, IsProjectShown}
 use Rattle.ags_check.specs.Findings.{IsCleanFile}
 use Rattle.reg_desk.specs.Machine.{Register, decided, look_at, IsSeen, IsTextOf, Where, IsDrawnFrom, held}
 use Rattle.ags_check.specs.Findings.{file_of}
 use Rattle.reg_desk.specs.View.{IsViewOf, IsExtractOf, Sees}
-use Rattle.reg_desk.specs.Serving.{IsQuiet, AsksStore, IsLineFor, text_answer, register_at, OnlyReads, Serves, look_on, answer_of}
+use Rattle.reg_desk.specs.Serving.{IsQuiet, AsksStore, IsLineFor, text_answer, register_at, OnlyReads, Serves, look_in, look_on, answer_of}
 use Rattle.reg_desk.proofs.Replies.{one_file}
 use Rattle.reg_desk.proofs.Bodies.{where_true, where_false}
 use Rattle.reg_desk.proofs.Serves.{is_told, asks_needs, replies_at_once, refused_serves, replies_serves, permitted_reply, denied_reply, permit_stands}
@@ -64,6 +65,15 @@ look_same register caller day d head is =
     ap (λ (f : List ℕ). record { rules = register.rules; caller = caller; owner = f; project = head.project; embargo = head.embargo; day = day }) is.firm
     ∙ ap (λ (p : List ℕ). record { rules = register.rules; caller = caller; owner = d.firm; project = p; embargo = head.embargo; day = day }) is.project
     ∙ ap (λ (e : ℤ). record { rules = register.rules; caller = caller; owner = d.firm; project = d.project; embargo = e; day = day }) is.embargo
+
+-- its project is the one that is listed
+pub looked_in : (register : Register) (lister : Lister) (d : Deposit) (head : KeptHead) (look : Look) → register.rules ≡ lister.policy.now → IsHeadOf d head → d.project ≡ lister.project.now → look ≡ look_in lister head
+    → look ≡ look_at register lister.caller.now lister.day d
+looked_in register lister d head look rules is of_project same =
+    same
+    ∙ ap (λ (r : List Rule). record { rules = r; caller = lister.caller.now; owner = head.firm; project = lister.project.now; embargo = head.embargo; day = lister.day }) (sym rules)
+    ∙ ap (λ (p : List ℕ). record { rules = register.rules; caller = lister.caller.now; owner = head.firm; project = p; embargo = head.embargo; day = lister.day }) (sym of_project ∙ sym is.project)
+    ∙ look_same register lister.caller.now lister.day d head is
 
 pub clean_of : (given : Entries) (d : Deposit) (file : CheckedFile) → IsFileOf given d file → IsCleanFile given d.bytes (file_of file)
 clean_of given d file is =
@@ -244,31 +254,31 @@ kept_lives keep old number (Err errors.Store) within fit broken =
     absurd (∥∥₁_elim (fit_at (keep.dictionary old) (keep.deposits old) (number - 1) d.0 fit d.1) (Prim.hlevel props) (λ (f : (file : CheckedFile) × IsFileOf (keep.dictionary old) d.0 file). broken refl d.0 f.0 d.1 f.1))
 
 -- whether its row of PROJ is shown, where that was read after its head
-seen_file : {K : Type 0} (keep : Ghosts K) (register : Register) (old mid : K) (caller : Caller) (number : ℕ) (day : ℤ) (head : KeptHead) (look : Look) (seen : Bool) → look ≡ look_on register.rules caller head day → OnlyReads keep old mid false → keep.is_sound mid
-    → (h : IsHeaded (keep.dictionary old) (keep.deposits old) number head) → OfDeposit (keep.dictionary mid) (keep.deposits mid) number (λ file. Sees look file seen)
+seen_file : {K : Type 0} (keep : Ghosts K) (register : Register) (old mid : K) (caller : Caller) (number : ℕ) (day : ℤ) (head : KeptHead) (look : Look) (seen : Bool) → OnlyReads keep old mid false → keep.is_sound mid
+    → (h : IsHeaded (keep.dictionary old) (keep.deposits old) number head) → look ≡ look_at register caller day h.kept → OfDeposit (keep.dictionary mid) (keep.deposits mid) number (λ file. Sees look file seen)
     → (file : CheckedFile) → IsFileOf (keep.dictionary old) h.kept file → (seen ≡ true) ↔ IsProjectShown (look_at register caller day h.kept) (file_of file)
-seen_file keep register old mid caller number day head look seen same reads s h sees file is =
-    subst (λ (l : Look). (seen ≡ true) ↔ IsProjectShown l (file_of file)) (same ∙ look_same register caller day h.kept head h.of_head)
+seen_file keep register old mid caller number day head look seen reads s h same sees file is =
+    subst (λ (l : Look). (seen ≡ true) ↔ IsProjectShown l (file_of file)) same
     (sees h.kept file (ap (λ (l : List Deposit). slice_get l (number - 1)) (reads.same s refl) ∙ h.place) (subst (λ (e : Entries). IsFileOf e h.kept file) (sym reads.same_dictionary) is))
 
-pub seen_listed : {K : Type 0} (keep : Ghosts K) (rules : List Rule) (old mid : K) (caller : Caller) (number : ℕ) (day : ℤ) (head : KeptHead) (look : Look) (seen : Bool) → look ≡ look_on rules caller head day → OnlyReads keep old mid false → keep.is_sound mid
-    → IsHeaded (keep.dictionary old) (keep.deposits old) number head → OfDeposit (keep.dictionary mid) (keep.deposits mid) number (λ file. Sees look file seen) → seen ≡ true
+pub seen_listed : {K : Type 0} (keep : Ghosts K) (rules : List Rule) (old mid : K) (caller : Caller) (number : ℕ) (day : ℤ) (head : KeptHead) (look : Look) (seen : Bool) → OnlyReads keep old mid false → keep.is_sound mid
+    → (h : IsHeaded (keep.dictionary old) (keep.deposits old) number head) → look ≡ look_at (register_at keep rules old) caller day h.kept → OfDeposit (keep.dictionary mid) (keep.deposits mid) number (λ file. Sees look file seen) → seen ≡ true
     → (d : Deposit) → held number (keep.deposits old) ≡ Some d → ∥ IsLineFor (register_at keep rules old) caller day number d (Some (record { number = number; firm = head.firm; embargo = head.embargo })) ∥₁
-seen_listed keep rules old mid caller number day head look seen same reads s h sees is d holds =
+seen_listed keep rules old mid caller number day head look seen reads s h same sees is d holds =
     let register = register_at keep rules old in
     subst (λ (k : Deposit). ∥ IsLineFor register caller day number k (Some (record { number = number; firm = head.firm; embargo = head.embargo })) ∥₁) (same_kept (held number (keep.deposits old)) h.kept d h.holds holds)
     (∥∥₁_map h.fit (λ (f : (file : CheckedFile) × IsFileOf register.given h.kept file). (
-      (file_of f.0, clean_of register.given h.kept f.0 f.1, (seen_file keep register old mid caller number day head look seen same reads s h sees f.0 f.1).0 is),
+      (file_of f.0, clean_of register.given h.kept f.0 f.1, (seen_file keep register old mid caller number day head look seen reads s h same sees f.0 f.1).0 is),
       ap (λ (firm : List ℕ). record { number = number; firm = firm; embargo = head.embargo }) h.of_head.firm ∙ ap (λ (e : ℤ). record { number = number; firm = h.kept.firm; embargo = e }) h.of_head.embargo,
     )))
 
-pub seen_unlisted : {K : Type 0} (keep : Ghosts K) (rules : List Rule) (old mid : K) (caller : Caller) (number : ℕ) (day : ℤ) (head : KeptHead) (look : Look) (seen : Bool) → look ≡ look_on rules caller head day → OnlyReads keep old mid false → keep.is_sound mid
-    → IsHeaded (keep.dictionary old) (keep.deposits old) number head → OfDeposit (keep.dictionary mid) (keep.deposits mid) number (λ file. Sees look file seen) → seen ≡ false
+pub seen_unlisted : {K : Type 0} (keep : Ghosts K) (rules : List Rule) (old mid : K) (caller : Caller) (number : ℕ) (day : ℤ) (head : KeptHead) (look : Look) (seen : Bool) → OnlyReads keep old mid false → keep.is_sound mid
+    → (h : IsHeaded (keep.dictionary old) (keep.deposits old) number head) → look ≡ look_at (register_at keep rules old) caller day h.kept → OfDeposit (keep.dictionary mid) (keep.deposits mid) number (λ file. Sees look file seen) → seen ≡ false
     → (d : Deposit) → held number (keep.deposits old) ≡ Some d → ∥ IsLineFor (register_at keep rules old) caller day number d None ∥₁
-seen_unlisted keep rules old mid caller number day head look seen same reads s h sees is d holds =
+seen_unlisted keep rules old mid caller number day head look seen reads s h same sees is d holds =
     let register = register_at keep rules old in
     subst (λ (k : Deposit). ∥ IsLineFor register caller day number k None ∥₁) (same_kept (held number (keep.deposits old)) h.kept d h.holds holds)
     (∥∥₁_map h.fit (λ (f : (file : CheckedFile) × IsFileOf register.given h.kept file) (was : IsSeen register caller day h.kept).
     let clean = clean_of register.given h.kept f.0 f.1 in
     let shown = subst (IsProjectShown (look_at register caller day h.kept)) (one_file register.given h.kept.bytes was.0 (file_of f.0) was.1 clean) was.2 in
-    true≢false (sym ((seen_file keep register old mid caller number day head look seen same reads s h sees f.0 f.1).1 shown) ∙ is)))
+    true≢false (sym ((seen_file keep register old mid caller number day head look seen reads s h same sees f.0 f.1).1 shown) ∙ is)))

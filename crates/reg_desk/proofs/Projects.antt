@@ -196,7 +196,7 @@ project_there file clean none =
         none row.0 (row_in group fields, (row.1, row.2), name)
 
 alike_permits : (look : Look) → AreAlike look None true → (row : DataRow) → IsPermitted look row
-alike_permits look alike row = inr ((permit_is (decision_on look (facts_on look row.group row.headings row.fields))).0 (alike row.group row.headings row.fields tt))
+alike_permits look alike row = inr ((permit_is (decision_on look (facts_on look row.group row.headings row.fields))).0 (alike (facts_on look row.group row.headings row.fields) (tt, refl, refl)))
 
 -- then each row that another reaches is permitted
 alike_reaches : (look : Look) (file : CheckedFile) → AreAlike look None true → (n m : ℕ) (rows : List ℕ) → IsPermittedAt look (file_of file) n → IsWalk (StepAt (file_of file)) n rows m → IsPermittedAt look (file_of file) m
@@ -220,7 +220,7 @@ alike_hidden look file named alike of_project shows =
     let group : itself.0.group ≡ codes "PROJ" = ap (λ (r : DataRow). r.group) row ∙ shows.1.2 in
     elim itself.2 [
       | inl definition ↦ true≢false (sym definition ∙ ap is_definition group ∙ refl)
-      | inr permit ↦ true≢false (sym ((permit_is _).1 permit) ∙ alike itself.0.group itself.0.headings itself.0.fields (subst (λ (g : List ℕ). IfSome named (λ name. g ≡ name)) (sym group) of_project))
+      | inr permit ↦ true≢false (sym ((permit_is _).1 permit) ∙ alike (facts_on look itself.0.group itself.0.headings itself.0.fields) (subst (λ (g : List ℕ). IfSome named (λ name. g ≡ name)) (sym group) of_project, refl, refl))
     ]
 
 pub sees_alike : (look : Look) (file : CheckedFile) (may : Bool) → IsClean file → AreAlike look None may → Sees look file may

@@ -21,7 +21,7 @@ use reg_store::{Keep, KeepError, KeptHead, KeptRow};
 use std::alloc::Global;
 
 /// Who looks at the deposit of this head.
-pub(super) fn looking_at<'x>(
+fn looking_at<'x>(
     policy: &'x Policy,
     caller: &'x Caller,
     head: &'x KeptHead,

@@ -3,22 +3,47 @@
 ghost use Rattle.std.specs.Prelude.{◌≡◌, ◌≢◌, ◌<◌, ◌≤◌, false, length, Some, Err, IfOk};
 ghost use Rattle.reg_store.specs.Keep.{fails};
 ghost use Rattle.reg_store.specs.Deposit.{Deposit};
+ghost use Rattle.reg_desk.specs.Alike.{AreAlikeBy};
 ghost use Rattle.reg_desk.specs.Asked.{listing as asks_listing};
 ghost use Rattle.reg_desk.specs.Machine.{IsListing, held};
-ghost use Rattle.reg_desk.specs.Serving.{IsLineFor, OnlyReads, OpensDeposit, SeesDeposit, Serves, register_at};
-ghost use Rattle.reg_desk.specs.View.{is_only, look_of};
+ghost use Rattle.reg_desk.specs.Serving.{IsLineFor, OnlyReads, OpensDeposit, SeesDeposit, Serves, look_in, register_at};
+ghost use Rattle.reg_desk.specs.View.{IsAlikeOn, is_only, look_of};
 
+use crate::alike::{Alike, AlikeByStanding};
 use crate::answer::{Answer, Listed};
-use crate::serving::drawing::{looking_at, read_view};
+use crate::serving::drawing::read_view;
 use crate::serving::{decide_request, refused};
-use crate::view::{Looking, may_see_alike, opens, sees};
+use crate::view::{Looking, opens, sees, standing_of};
 use ags_rows::Sequence;
 use reg_policy::{Caller, Day, Decision, Name, Policy, Verb};
-use reg_store::{Keep, KeepError};
+use reg_store::{Keep, KeepError, KeptHead};
 use std::alloc::Global;
 
-/// The number of the deposit's row of PROJ, if it may be seen: where it has no step to another row it is shown.
-/// Where the rows of PROJ are alike to the policy, it is not read.
+/// Who lists which project on which day, and which rows of its deposits are alike to the policy.
+#[derive(Clone, Copy)]
+struct Lister<'a> {
+    policy: &'a Policy,
+    caller: &'a Caller,
+    project: &'a Name,
+    day: Day,
+    alike: AlikeByStanding,
+}
+
+/// Who looks at the deposit of this head, which is of the project.
+fn looking_in<'x>(lister: &'x Lister<'x>, head: &'x KeptHead) -> Looking<'x>
+    ensures { look_of result ≡ look_in lister.now head.now }
+{
+    Looking {
+        policy: lister.policy,
+        caller: lister.caller,
+        owner: &head.firm,
+        project: lister.project,
+        embargo: head.embargo,
+        day: lister.day,
+    }
+}
+
+/// The number of the deposit's row of PROJ, which is read, if it may be seen: where it has no step to another row it is shown.
 fn open_project<K: Keep>(
     alloc: Global,
     keep: &mut K,
@@ -31,14 +56,8 @@ fn open_project<K: Keep>(
     ensures read { K.is_sound keep.new → IfOk result (OpensDeposit K.Keep keep.old (look_of looking.now) number) }
     ensures named { result ≢ Err KeepError.Full }
 {
-    match may_see_alike(looking, Some(b"PROJ")) {
-        Some(true) => keep.project_number(number),
-        Some(false) => Ok(None),
-        None => {
-            let project = keep.project_row(number)?;
-            opens(alloc, looking, project)
-        }
-    }
+    let project = keep.project_row(number)?;
+    opens(alloc, looking, project)
 }
 
 /// Whether the deposit's row of PROJ is shown, from all its rows and steps.
@@ -65,21 +84,24 @@ fn are_only(targets: &[u32], row: u32) -> bool
     targets.iter().all(|target| *target == row)
 }
 
-/// Whether the deposit's row of PROJ, which may be seen, is shown: where it has no step to another row it decides alone.
+/// Whether the deposit's row of PROJ is shown, where it may be seen: one with no step to another row decides alone.
 fn seen_from<K: Keep>(
     alloc: Global,
     keep: &mut K,
     looking: &Looking,
     number: u32,
-    row: u32,
+    opened: Option<u32>,
 ) -> Result<bool, KeepError>
     requires working { K.has_failed keep.old ≡ false }
     requires number { K.is_sound keep.old → (0 < number) × (number ≤ length (K.deposits keep.old)) }
-    requires permitted { K.is_sound keep.old → OpensDeposit K.Keep keep.old (look_of looking.now) number (Some row) }
+    requires opened { K.is_sound keep.old → OpensDeposit K.Keep keep.old (look_of looking.now) number opened }
     ensures reads { OnlyReads K.Keep keep.old keep.new (fails result) }
     ensures seen { K.is_sound keep.new → IfOk result (SeesDeposit K.Keep keep.old (look_of looking.now) number) }
     ensures named { result ≢ Err KeepError.Full }
 {
+    let Some(row) = opened else {
+        return Ok(false);
+    };
     let targets = keep.targets(number, row)?;
     if are_only(&targets, row) {
         return Ok(true);
@@ -92,43 +114,52 @@ fn sees_project<K: Keep>(
     alloc: Global,
     keep: &mut K,
     looking: &Looking,
+    alike: Alike,
     number: u32,
 ) -> Result<bool, KeepError>
     requires working { K.has_failed keep.old ≡ false }
     requires number { K.is_sound keep.old → (0 < number) × (number ≤ length (K.deposits keep.old)) }
+    requires alike { IsAlikeOn (look_of looking.now) alike }
     ensures reads { OnlyReads K.Keep keep.old keep.new (fails result) }
     ensures seen { K.is_sound keep.new → IfOk result (SeesDeposit K.Keep keep.old (look_of looking.now) number) }
     ensures named { result ≢ Err KeepError.Full }
 {
-    if let Some(may) = may_see_alike(looking, None) {
-        return Ok(may);
-    }
-    match open_project(alloc, keep, looking, number)? {
-        Some(row) => seen_from(alloc, keep, looking, number, row),
-        None => Ok(false),
+    match alike {
+        Alike::AllRows(may) => Ok(may),
+        Alike::ProjectRows(false) => Ok(false),
+        Alike::ProjectRows(true) => {
+            let row = keep.project_number(number)?;
+            seen_from(alloc, keep, looking, number, row)
+        }
+        Alike::Apart => {
+            let row = open_project(alloc, keep, looking, number)?;
+            seen_from(alloc, keep, looking, number, row)
+        }
     }
 }
 
-/// The deposit's line in a listing, if its row of PROJ is shown.
+/// The deposit's line in a listing of its project, if its row of PROJ is shown.
 fn listed<K: Keep>(
     alloc: Global,
     keep: &mut K,
-    policy: &Policy,
-    caller: &Caller,
+    lister: &Lister,
     number: u32,
-    day: Day,
 ) -> Result<Option<Listed>, KeepError>
     requires working { K.has_failed keep.old ≡ false }
     requires number { K.is_sound keep.old → (0 < number) × (number ≤ length (K.deposits keep.old)) }
+    requires project { K.is_sound keep.old → (d : Deposit)
+        → held number (K.deposits keep.old) ≡ Some d → d.project ≡ lister.now.project.now }
+    requires alike { AreAlikeBy lister.now.policy.now lister.now.caller.now lister.now.project.now lister.now.alike }
     ensures reads { OnlyReads K.Keep keep.old keep.new (fails result) }
-    ensures seen { K.is_sound keep.new → IfOk result (λ line. (d : Deposit)
-        → held number (K.deposits keep.old) ≡ Some d
-        → ∥ IsLineFor (register_at K.Keep policy.now keep.old) caller.now day number d line ∥₁) }
+    ensures seen { K.is_sound keep.new → IfOk result (λ line. (d : Deposit) → held number (K.deposits keep.old) ≡ Some d
+        → ∥ IsLineFor (register_at K.Keep lister.now.policy.now keep.old) lister.now.caller.now lister.now.day
+        number d line ∥₁) }
     ensures named { result ≢ Err KeepError.Full }
 {
     let head = keep.head(number)?;
-    let looking = looking_at(policy, caller, &head, day);
-    if !sees_project(alloc, keep, &looking, number)? {
+    let looking = looking_in(lister, &head);
+    let alike = lister.alike.at(standing_of(&looking));
+    if !sees_project(alloc, keep, &looking, alike, number)? {
         return Ok(None);
     }
     Ok(Some(Listed {
@@ -154,9 +185,19 @@ fn lines_of<K: Keep>(
     ensures named { result ≢ Err KeepError.Full }
 {
     let numbers = keep.numbers(project)?;
+    if numbers.is_empty() {
+        return Ok(Vec::new(alloc));
+    }
+    let lister = Lister {
+        policy,
+        caller,
+        project,
+        day,
+        alike: AlikeByStanding::of(policy, caller, project),
+    };
     let mut lines = Vec::new(alloc);
     for number in &numbers {
-        match listed(alloc, keep, policy, caller, *number, day)? {
+        match listed(alloc, keep, &lister, *number)? {
             Some(line) => lines.push(line)?,
             None => {}
         }

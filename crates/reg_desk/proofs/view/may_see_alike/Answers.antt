@@ -1,4 +1,15 @@
+use Rattle.std.proofs.Common.{Some, subst}
+use Rattle.std.specs.Prelude.{IfNone, IfSome}
+use Rattle.reg_desk.specs.Alike.{ArePermitted, AreToldApart, told_by}
+use Rattle.reg_desk.specs.declared.alike.Standing.{Standing}
 use Rattle.reg_desk.proofs.view.may_see_alike.Goals as goal
 
-pub returns-in_err-decision-clause-apart : goal.returns-in_err-decision-clause-apart
-returns-in_err-decision-clause-apart c = rw c.from_residual.ensures (rw (c.is_own.ensures, c.is_past.ensures) at c.in_err-decision.ensures.apart)
+pub returns-clause-alike : goal.returns-clause-alike
+returns-clause-alike c =
+    subst (λ (s : Standing). IfSome c.permits_unread.result (ArePermitted c.args.looking.now.policy.now c.args.looking.now.caller.now c.args.looking.now.project.now (told_by (Some c.args.group.now) s)))
+    c.standing_of.ensures c.permits_unread.ensures.alike
+
+pub returns-clause-apart : goal.returns-clause-apart
+returns-clause-apart c =
+    subst (λ (s : Standing). IfNone c.permits_unread.result (AreToldApart c.args.looking.now.policy.now c.args.looking.now.caller.now c.args.looking.now.project.now (told_by (Some c.args.group.now) s)))
+    c.standing_of.ensures c.permits_unread.ensures.apart

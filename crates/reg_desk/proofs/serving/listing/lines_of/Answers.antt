@@ -1,12 +1,13 @@
-use Rattle.std.proofs.Common.{◌≡◌, ◌∙◌, sym, ap, subst, refl, ◌+◌, ◌<◌, ◌≤◌, List, length, drop, get_or, Some, false, Vec, Global}
+use Rattle.std.proofs.Common.{◌≡◌, ◌∙◌, arith, vec_len, sym, ap, subst, refl, ◌+◌, ◌<◌, ◌≤◌, List, length, drop, get_or, Some, false, Vec, Global}
+use Rattle.std.proofs.lemmas.Bool.{eqb-true}
 use Rattle.std.proofs.lemmas.Result.{err_from_is_err_and}
 use Rattle.reg_store.specs.Deposit.{Deposit}
 use Rattle.reg_store.specs.Keep.{fails, is_store}
 use Rattle.reg_desk.specs.declared.answer.Listed.{Listed}
-use Rattle.reg_desk.specs.Machine.{Register, held}
+use Rattle.reg_desk.specs.Machine.{IsListing, Register, held}
 use Rattle.reg_desk.specs.Serving.{IsLineFor, OnlyReads, register_at}
 use Rattle.reg_desk.proofs.Serves.{reads_once, reads_more, still_works}
-use Rattle.reg_desk.proofs.Listings.{SoFar, put_line, lines_begin, number_within, number_step, lines_whole, register_same}
+use Rattle.reg_desk.proofs.Listings.{SoFar, put_line, lines_begin, lines_none, number_named, number_within, number_step, lines_whole, register_same}
 use Rattle.reg_desk.proofs.serving.listing.lines_of.Goals as goal
 use Rattle.reg_desk.proofs.serving.listing.lines_of.Goals.{in-Some+in_ok-push-in-Some, in-None}
 
@@ -32,6 +33,13 @@ listed-requires-clause-number g c = λ s.
     let n = get_or items c.loop-number.number-index 0 in
     subst (λ (l : List Deposit). (0 < n) × (n ≤ length l)) (sym (c.loop-number.invariant.reads.same s refl))
     (number_within c.args.project.now (g.K.Keep.deposits c.args.keep.now) items c.loop-number.number-index (c.loop-number.invariant.numbers s) c.loop-number-test.true)
+
+pub listed-requires-clause-project : goal.listed-requires-clause-project
+listed-requires-clause-project g c = λ s d holds.
+    let reads = c.loop-number.invariant.reads in
+    let items = c.deref-number-items.result.now in
+    number_named c.args.project.now (g.K.Keep.deposits c.args.keep.now) items c.loop-number.number-index (c.loop-number.invariant.numbers s) c.loop-number-test.true d
+    (ap (held (get_or items c.loop-number.number-index 0)) (sym (reads.same s refl)) ∙ holds)
 
 pub returns-in_err-line-clause-reads : goal.returns-in_err-line-clause-reads
 returns-in_err-line-clause-reads g c =
@@ -64,6 +72,18 @@ loop-number-preserved g c =
           (number_step register c.args.caller.now c.args.day state items i c.loop-number.lines.items c.in_ok-line.field-0 c.loop-number-test.true
           (number_within c.args.project.now state items i (was.numbers s1) c.loop-number-test.true) seen (was.so_far s1));
     }
+
+pub returns-then-is_empty-clause-reads : goal.returns-then-is_empty-clause-reads
+returns-then-is_empty-clause-reads g c = reads_once g.K.Keep c.args.keep.now c.numbers.new.self _ c.in_ok-numbers.ensures.leaves
+
+pub returns-then-is_empty-clause-listed : goal.returns-then-is_empty-clause-listed
+returns-then-is_empty-clause-listed g c = λ s.
+    let register = register_at g.K.Keep c.args.policy.now c.args.keep.now in
+    let numbers = c.in_ok-numbers.numbers in
+    let none : vec_len numbers ≡ 0 = eqb-true (vec_len numbers) 0 (sym c.is_empty.ensures ∙ c.if-is_empty.true) in
+    let empty : length numbers.items ≡ 0 = omega (arith, none, numbers.ok) in
+    subst (λ (l : List Listed). ∥ IsListing register c.args.caller.now c.args.project.now c.args.day 1 (g.K.Keep.deposits c.args.keep.now) l ∥₁) (sym c.new.ensures.items)
+    (lines_none register c.args.caller.now c.args.project.now c.args.day (g.K.Keep.deposits c.args.keep.now) numbers.items empty (c.in_ok-numbers.ensures.numbers s))
 
 pub returns-clause-reads : goal.returns-clause-reads
 returns-clause-reads g c = c.loop-number.invariant.reads

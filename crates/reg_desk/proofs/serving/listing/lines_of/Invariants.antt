@@ -10,5 +10,5 @@ invariant-loop-number g l = record {
   reads : OnlyReads g.K.Keep l.fn.keep l.keep false;
   numbers : g.K.Keep.is_sound l.keep → l.number-items ≡ numbers_from 1 l.project (g.K.Keep.deposits l.fn.keep);
   so_far : g.K.Keep.is_sound l.keep
-      → ∥ SoFar (register_at g.K.Keep l.policy l.fn.keep) l.caller l.day (λ n. held n (g.K.Keep.deposits l.fn.keep)) l.number-items (drop l.number-index l.number-items) l.lines.items ∥₁;
+      → ∥ SoFar (register_at g.K.Keep l.policy l.fn.keep) l.caller l.fn.day (λ n. held n (g.K.Keep.deposits l.fn.keep)) l.number-items (drop l.number-index l.number-items) l.lines.items ∥₁;
 }
