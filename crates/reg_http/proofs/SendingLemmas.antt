@@ -19,27 +19,27 @@ use Rattle.reg_http.specs.Bodies.{finding_data, findings_data, IsListedData, IsL
 use Rattle.reg_http.proofs.PlainLemmas.{code_plain, day_plain, name_plain}
 
 -- the texts of items, behind others or not, with a comma between two
-abbrev joined : Bool → List Data → List ℕ
-joined later [] = []
-joined later (d ∷ ds) = comma_if later ++ (compact_text d ++ joined true ds)
+abbrev items_front : Bool → List Data → List ℕ
+items_front later [] = []
+items_front later (d ∷ ds) = comma_if later ++ (compact_text d ++ items_front true ds)
 
 -- the text of an object whose one member is a list, up to the last of its items
 abbrev pub list_front : List ℕ → List Data → List ℕ
-list_front name ds = codes "{" ++ (quoted name ++ (codes ":[" ++ joined false ds))
+list_front name ds = codes "{" ++ (quoted name ++ (codes ":[" ++ items_front false ds))
 
 -- behind other items stands a comma
-later_more : (ds : List Data) (d : Data) → joined true (ds ++ d ∷ []) ≡ joined true ds ++ 44 ∷ compact_text d
+later_more : (ds : List Data) (d : Data) → items_front true (ds ++ d ∷ []) ≡ items_front true ds ++ 44 ∷ compact_text d
 later_more [] d = ap (λ t. 44 ∷ t) (append-nil (compact_text d))
 later_more (e ∷ ds) d =
-    ap (λ t. 44 ∷ (compact_text e ++ t)) (later_more ds d) ∙ ap (λ t. 44 ∷ t) (sym (append_assoc (compact_text e) (joined true ds) (44 ∷ compact_text d)))
+    ap (λ t. 44 ∷ (compact_text e ++ t)) (later_more ds d) ∙ ap (λ t. 44 ∷ t) (sym (append_assoc (compact_text e) (items_front true ds) (44 ∷ compact_text d)))
 
 -- one item more, behind so many
-items_more : (ds : List Data) (d : Data) (n : ℕ) → length ds ≡ n → joined false (ds ++ d ∷ []) ≡ joined false ds ++ (comma_if (nat_lt 0 n) ++ compact_text d)
+items_more : (ds : List Data) (d : Data) (n : ℕ) → length ds ≡ n → items_front false (ds ++ d ∷ []) ≡ items_front false ds ++ (comma_if (nat_lt 0 n) ++ compact_text d)
 items_more [] d n none = subst (λ k. compact_text d ++ [] ≡ comma_if (nat_lt 0 k) ++ compact_text d) none (append-nil (compact_text d))
 items_more (e ∷ ds) d n some =
     let later : nat_lt 0 n ≡ true = grind (arith, nat_tests) in
-    ap (λ t. compact_text e ++ t) (later_more ds d) ∙ sym (append_assoc (compact_text e) (joined true ds) (44 ∷ compact_text d))
-    ∙ ap (λ b. (compact_text e ++ joined true ds) ++ (comma_if b ++ compact_text d)) (sym later)
+    ap (λ t. compact_text e ++ t) (later_more ds d) ∙ sym (append_assoc (compact_text e) (items_front true ds) (44 ∷ compact_text d))
+    ∙ ap (λ b. (compact_text e ++ items_front true ds) ++ (comma_if b ++ compact_text d)) (sym later)
 
 -- a list that has one item more
 pub front_more : (name : List ℕ) (ds : List Data) (d : Data) (n : ℕ) (old mid new : List ℕ) → length ds ≡ n → old ≡ list_front name ds → mid ≡ old ++ comma_if (nat_lt 0 n) → new ≡ mid ++ compact_text d
@@ -47,21 +47,21 @@ pub front_more : (name : List ℕ) (ds : List Data) (d : Data) (n : ℕ) (old mi
 front_more name ds d n old mid new so was comma item =
     let comma_item = comma_if (nat_lt 0 n) ++ compact_text d in
     item ∙ ap (λ t. t ++ compact_text d) comma ∙ append_assoc old (comma_if (nat_lt 0 n)) (compact_text d) ∙ ap (λ t. t ++ comma_item) was
-    ∙ append_assoc (codes "{" ++ quoted name) (codes ":[" ++ joined false ds) comma_item ∙ ap (λ t. codes "{" ++ (quoted name ++ (codes ":[" ++ t))) (sym (items_more ds d n so))
+    ∙ append_assoc (codes "{" ++ quoted name) (codes ":[" ++ items_front false ds) comma_item ∙ ap (λ t. codes "{" ++ (quoted name ++ (codes ":[" ++ t))) (sym (items_more ds d n so))
 
 regroup : (a b c d : List ℕ) → (a ++ (b ++ c)) ++ d ≡ a ++ (b ++ (c ++ d))
 regroup a b c d = simp append_assoc
 
 -- closed, they are the text of a list
-closed : (later : Bool) (ds : List Data) (rest : List ℕ) → joined later ds ++ 93 ∷ rest ≡ items_text later (items_of ds) ++ rest
+closed : (later : Bool) (ds : List Data) (rest : List ℕ) → items_front later ds ++ 93 ∷ rest ≡ items_text later (items_of ds) ++ rest
 closed later [] rest = refl
 closed later (d ∷ ds) rest =
-    regroup (comma_if later) (compact_text d) (joined true ds) (93 ∷ rest) ∙ ap (λ t. comma_if later ++ (compact_text d ++ t)) (closed true ds rest)
+    regroup (comma_if later) (compact_text d) (items_front true ds) (93 ∷ rest) ∙ ap (λ t. comma_if later ++ (compact_text d ++ t)) (closed true ds rest)
     ∙ sym (regroup (comma_if later) (compact_text d) (items_text true (items_of ds)) rest)
 
 -- the text of the whole
 list_closed : (name : List ℕ) (ds : List Data) → list_front name ds ++ codes "]}" ≡ compact_text (object (member name (array (items_of ds)) no_members))
-list_closed name ds = append_assoc (codes "{" ++ quoted name) (codes ":[" ++ joined false ds) (codes "]}") ∙ ap (λ t. codes "{" ++ (quoted name ++ (codes ":[" ++ t))) (closed false ds (codes "}"))
+list_closed name ds = append_assoc (codes "{" ++ quoted name) (codes ":[" ++ items_front false ds) (codes "]}") ∙ ap (λ t. codes "{" ++ (quoted name ++ (codes ":[" ++ t))) (closed false ds (codes "}"))
 
 -- a string that is written as it is
 quoted_plain : (s rest : List ℕ) → escape s ≡ s → quoted s ++ rest ≡ 34 ∷ (s ++ 34 ∷ rest)
@@ -121,8 +121,8 @@ findings_text_is fs place old new end was is =
     is ∙ ap (λ t. t ++ codes "]}") (was ∙ ap (λ xs. list_front (codes "findings") (map finding_data xs)) (take_all place fs end)) ∙ list_closed (codes "findings") (map finding_data fs)
 
 -- the deposits are listed so far
-abbrev pub IsFront : List Listed → List ℕ → Type 0
-IsFront ls out = (ds : List Data) × AllZip IsListedData ls ds × (out ≡ list_front (codes "deposits") ds)
+abbrev pub IsListingFront : List Listed → List ℕ → Type 0
+IsListingFront ls out = (ds : List Data) × AllZip IsListedData ls ds × (out ≡ list_front (codes "deposits") ds)
 
 -- as many have data as there are
 all_more : (ls : List Listed) (ds : List Data) (l : Listed) (d : Data) → AllZip IsListedData ls ds → IsListedData l d → AllZip IsListedData (ls ++ l ∷ []) (ds ++ d ∷ [])
@@ -138,8 +138,8 @@ all_long (k ∷ ls) [] all = absurd all
 all_long (k ∷ ls) (e ∷ ds) all = ap suc (all_long ls ds all.1)
 
 -- one deposit more is written
-pub deposits_more : (ls : List Listed) (place : ℕ) (l : Listed) (old mid new : List ℕ) → place < length ls → l ≡ get_or ls place l → IsFront (take place ls) old → mid ≡ old ++ comma_if (nat_lt 0 place)
-    → (d : Data) × IsListedData l d × (new ≡ mid ++ compact_text d) → IsFront (take (place + 1) ls) new
+pub deposits_more : (ls : List Listed) (place : ℕ) (l : Listed) (old mid new : List ℕ) → place < length ls → l ≡ get_or ls place l → IsListingFront (take place ls) old → mid ≡ old ++ comma_if (nat_lt 0 place)
+    → (d : Data) × IsListedData l d × (new ≡ mid ++ compact_text d) → IsListingFront (take (place + 1) ls) new
 deposits_more ls place l old mid new lt at (ds, all, was) comma (d, data_is, item) =
     let so : length ds ≡ place = all_long (take place ls) ds all ∙ length-take-le place ls (omega arith) in
     let taken : take place ls ++ l ∷ [] ≡ take (place + 1) ls = ap (λ x. take place ls ++ x ∷ []) at ∙ sym (take_more ls place l lt) in (
@@ -149,20 +149,20 @@ deposits_more ls place l old mid new lt at (ds, all, was) comma (d, data_is, ite
     )
 
 -- the text of a listing
-pub listing_text_is : (ls : List Listed) (place : ℕ) (old new : List ℕ) → length ls ≤ place → IsFront (take place ls) old → new ≡ old ++ codes "]}"
+pub listing_text_is : (ls : List Listed) (place : ℕ) (old new : List ℕ) → length ls ≤ place → IsListingFront (take place ls) old → new ≡ old ++ codes "]}"
     → (d : Data) × IsListingData ls d × (new ≡ compact_text d)
 listing_text_is ls place old new end (ds, all, was) is =
     (listing_data ds, (ds, subst (λ xs. AllZip IsListedData xs ds) (take_all place ls end) all, refl), is ∙ ap (λ t. t ++ codes "]}") was ∙ list_closed (codes "deposits") ds)
 
 -- the line of a deposit
-pub listed_is : (day : List ℕ) (l : Listed) (old new : List ℕ) → Writes day l.embargo → is_name l.firm ≡ true
+pub deposit_line : (day : List ℕ) (l : Listed) (old new : List ℕ) → Writes day l.embargo → is_name l.firm ≡ true
     → new ≡ old ++ (codes "{\"embargo\":\"" ++ (day ++ (codes "\",\"firm\":\"" ++ (l.firm ++ (codes "\",\"number\":" ++ (decimal l.number ++ codes "}"))))))
     → (d : Data) × IsListedData l d × (new ≡ old ++ compact_text d)
-listed_is day l old new writes name is =
+deposit_line day l old new writes name is =
     (listed_data day l, (day, writes, refl), is ∙ ap (λ t. old ++ t) (listed_text day l (day_plain day l.embargo writes) (name_plain l.firm name)))
 
 -- that of a finding
-pub finding_is : (f : Finding) (old new : List ℕ)
+pub finding_line : (f : Finding) (old new : List ℕ)
     → new ≡ old ++ (codes "{\"code\":\"" ++ (code_text f.code ++ (codes "\",\"line\":" ++ (decimal f.line ++ (codes ",\"subject\":\"" ++ (escape (printed f.subject) ++ codes "\"}"))))))
     → new ≡ old ++ compact_text (finding_data f)
-finding_is f old new is = is ∙ ap (λ t. old ++ t) (finding_text f (code_plain f.code))
+finding_line f old new is = is ∙ ap (λ t. old ++ t) (finding_text f (code_plain f.code))

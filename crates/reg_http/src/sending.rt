@@ -27,7 +27,7 @@ fn write_number(out: &mut Vec<u8>, number: u32) -> Result<(), AllocError>
 }
 
 /// A byte as it is printed: `?` stands for one that does not show.
-fn shown(byte: u8) -> u8
+fn printed_byte(byte: u8) -> u8
     ensures { result ≡ shown_byte byte }
 {
     if byte < b' ' || b'~' < byte {
@@ -41,10 +41,10 @@ fn shown(byte: u8) -> u8
 fn write_shown(out: &mut Vec<u8>, byte: u8) -> Result<(), AllocError>
     ensures { OnOk result (out.new.items ≡ out.old.items ++ escape_byte (shown_byte byte)) }
 {
-    match shown(byte) {
+    match printed_byte(byte) {
         b'"' => out.extend_from_slice(b"\\\"")?,
         b'\\' => out.extend_from_slice(b"\\\\")?,
-        shown => out.push(shown)?,
+        other => out.push(other)?,
     }
     Ok(())
 }
