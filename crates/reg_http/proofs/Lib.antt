@@ -7,6 +7,7 @@ pub mod SeekLemmas
 pub mod GroupLemmas
 pub mod RouteWalk
 pub mod RenderLemmas
+pub mod PlainLemmas
 pub mod SendingLemmas
 pub mod ServeLemmas
 pub mod ListLemmas

@@ -5,7 +5,6 @@ pub mod Heads
 pub mod Fields
 pub mod Replies
 pub mod Bodies
-pub mod Sending
 pub mod Rendering
 pub mod Agree
 pub mod HeadParts

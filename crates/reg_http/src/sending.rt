@@ -1,150 +1,128 @@
-//! The bodies that are lists, as JSON. They are written line by line, and no tree is made of them.
-ghost use Rattle.std.specs.Prelude.{◌≡◌, [], IfOk, OnOk, Some, string_bytes};
-ghost use Rattle.serde.specs.Event.{Log, WritesSeq};
+//! The bodies that are lists, as JSON. They are written line by line, a fixed text in one piece.
+//!
+//! Within quotes a day, a name and a code are written as they are, since no byte of theirs is escaped.
+ghost use Rattle.std.specs.Prelude.{◌≡◌, ◌++◌, decimal, nat_lt, IfOk, OnOk};
+ghost use Rattle.json.specs.Print.{escape, escape_byte};
 ghost use Rattle.serde_json.specs.Data.{Data};
-ghost use Rattle.serde_json.specs.Sent.{IsTextOf};
-ghost use Rattle.serde_json.specs.Written.{compact_text};
+ghost use Rattle.serde_json.specs.Written.{comma_if, compact_text};
 ghost use Rattle.ags_rows.specs.FindingLists.{finding_of};
-ghost use Rattle.reg_http.specs.Bodies.{findings_data, IsListingData, printed};
-ghost use Rattle.reg_http.specs.Sending.{SendsFinding, SendsFindings, SendsListed, SendsListing};
+ghost use Rattle.reg_http.specs.Bodies.{finding_data, findings_data, IsListedData, IsListingData, printed, shown_byte};
 
-use crate::text::as_text;
 use ags_rows::{FindingList, FindingRef};
 use reg_desk::Listed;
-use serde::{Described, Serialize, Serializer};
 use std::alloc::{AllocError, Global};
 
-/// A subject as it is printed: `?` stands for each byte that does not show.
-fn printed(alloc: Global, subject: &[u8]) -> Result<String, AllocError>
-    ensures { IfOk result (λ text. string_bytes text ≡ printed subject.now) }
+/// The bytes that a finding without a subject takes at most, with the comma before it.
+const FINDING_BYTES: usize = 46;
+
+/// The bytes that a deposit takes at most, with the comma before it.
+const LISTED_BYTES: usize = 87;
+
+/// Writes a number.
+fn write_number(out: &mut Vec<u8>, number: u32) -> Result<(), AllocError>
+    ensures { OnOk result (out.new.items ≡ out.old.items ++ decimal number) }
 {
-    subject
-        .iter()
-        .map(|&b| if b < b' ' || b'~' < b { '?' } else { b as char })
-        .collect(alloc)
+    let mut digits = itoa::Buffer::new();
+    out.extend_from_slice(digits.format(number).as_bytes())
+}
+
+/// A byte as it is printed: `?` stands for one that does not show.
+fn printed_byte(byte: u8) -> u8
+    ensures { result ≡ shown_byte byte }
+{
+    if byte < b' ' || b'~' < byte {
+        b'?'
+    } else {
+        byte
+    }
+}
+
+/// Writes a byte of a subject, within the quotes of a string.
+fn write_shown(out: &mut Vec<u8>, byte: u8) -> Result<(), AllocError>
+    ensures { OnOk result (out.new.items ≡ out.old.items ++ escape_byte (shown_byte byte)) }
+{
+    match printed_byte(byte) {
+        b'"' => out.extend_from_slice(b"\\\"")?,
+        b'\\' => out.extend_from_slice(b"\\\\")?,
+        other => out.push(other)?,
+    }
+    Ok(())
+}
+
+/// Writes a subject, within the quotes of a string: `?` stands for each byte that does not show.
+fn write_subject(out: &mut Vec<u8>, subject: &[u8]) -> Result<(), AllocError>
+    ensures { OnOk result (out.new.items ≡ out.old.items ++ escape (printed subject.now)) }
+{
+    for &byte in subject {
+        write_shown(out, byte)?;
+    }
+    Ok(())
+}
+
+/// Writes the comma before the line of a list at this place, which the first has not.
+fn write_comma(out: &mut Vec<u8>, place: usize) -> Result<(), AllocError>
+    ensures { OnOk result (out.new.items ≡ out.old.items ++ comma_if (nat_lt 0 place)) }
+{
+    if place > 0 {
+        out.push(b',')?;
+    }
+    Ok(())
 }
 
 /// Writes a finding of a list.
-fn write_finding<S: Serializer>(
-    alloc: Global,
-    finding: FindingRef<'_>,
-    out: &mut S,
-) -> Result<(), S::Error>
-    ensures { OnOk result (SendsFinding (finding_of finding.entry) (S.written out.old) (S.written out.new)) }
+fn write_finding(out: &mut Vec<u8>, finding: FindingRef<'_>) -> Result<(), AllocError>
+    ensures { OnOk result (out.new.items ≡ out.old.items ++ compact_text (finding_data (finding_of finding.entry))) }
 {
-    let Ok(subject) = printed(alloc, finding.subject) else {
-        return Err(out.custom("out of memory"));
-    };
-    out.begin_map(Some(3))?;
-    out.key("code")?;
-    out.str(as_text(finding.code.text()))?;
-    out.key("line")?;
-    finding.line.serialize(out)?;
-    out.key("subject")?;
-    out.str(&subject)?;
-    out.end_map()
-}
-
-/// Writes findings, as a sequence.
-fn write_findings<S: Serializer>(
-    alloc: Global,
-    findings: &FindingList,
-    out: &mut S,
-) -> Result<(), S::Error>
-    ensures { OnOk result (WritesSeq SendsFinding findings.now (S.written out.old) (S.written out.new)) }
-{
-    out.begin_seq(Some(findings.len()))?;
-    for place in 0..findings.len() {
-        write_finding(alloc, findings.at(place), out)?;
-    }
-    out.end_seq()
-}
-
-/// What lists findings.
-#[derive(Drop)]
-struct FindingsBody<'a> {
-    alloc: Global,
-    findings: &'a FindingList,
-}
-
-impl Described for FindingsBody<'_> {
-    ghost writes = { λ body. SendsFindings body.findings.now };
-}
-
-impl Serialize for FindingsBody<'_> {
-    fn serialize<S: Serializer>(&self, out: &mut S) -> Result<(), S::Error> {
-        out.begin_map(Some(1))?;
-        out.key("findings")?;
-        write_findings(self.alloc, self.findings, out)?;
-        out.end_map()
-    }
+    out.extend_from_slice(b"{\"code\":\"")?;
+    out.extend_from_slice(finding.code.text())?;
+    out.extend_from_slice(b"\",\"line\":")?;
+    write_number(out, finding.line)?;
+    out.extend_from_slice(b",\"subject\":\"")?;
+    write_subject(out, finding.subject)?;
+    out.extend_from_slice(b"\"}")?;
+    Ok(())
 }
 
 /// The body that lists findings.
 pub(crate) fn findings_text(alloc: Global, findings: &FindingList) -> Result<Vec<u8>, AllocError>
     ensures { IfOk result (λ text. text.items ≡ compact_text (findings_data findings.now)) }
 {
-    text_of(alloc, &FindingsBody { alloc, findings })
+    let mut out = Vec::with_capacity(alloc, findings.len().saturating_mul(FINDING_BYTES))?;
+    out.extend_from_slice(b"{\"findings\":[")?;
+    for place in 0..findings.len() {
+        write_comma(&mut out, place)?;
+        write_finding(&mut out, findings.at(place))?;
+    }
+    out.extend_from_slice(b"]}")?;
+    Ok(out)
 }
 
 /// Writes a deposit of a listing.
-fn write_listed<S: Serializer>(listed: &Listed, out: &mut S) -> Result<(), S::Error>
-    ensures { OnOk result (SendsListed listed.now (S.written out.old) (S.written out.new)) }
+fn write_listed(out: &mut Vec<u8>, listed: &Listed) -> Result<(), AllocError>
+    ensures { OnOk result ((d : Data) × IsListedData listed.now d × (out.new.items ≡ out.old.items ++ compact_text d)) }
 {
     let day = listed.embargo.text();
-    out.begin_map(Some(3))?;
-    out.key("embargo")?;
-    out.str(as_text(&day))?;
-    out.key("firm")?;
-    out.str(listed.firm.text())?;
-    out.key("number")?;
-    listed.number.serialize(out)?;
-    out.end_map()
-}
-
-/// Writes the deposits of a listing, as a sequence.
-fn write_listing<S: Serializer>(listing: &[Listed], out: &mut S) -> Result<(), S::Error>
-    ensures { OnOk result (WritesSeq SendsListed listing.now (S.written out.old) (S.written out.new)) }
-{
-    out.begin_seq(Some(listing.len()))?;
-    for listed in listing {
-        write_listed(listed, out)?;
-    }
-    out.end_seq()
-}
-
-/// What lists deposits.
-#[derive(Drop)]
-struct ListingBody<'a> {
-    listing: &'a [Listed],
-}
-
-impl Described for ListingBody<'_> {
-    ghost writes = { λ body. SendsListing body.listing.now };
-}
-
-impl Serialize for ListingBody<'_> {
-    fn serialize<S: Serializer>(&self, out: &mut S) -> Result<(), S::Error> {
-        out.begin_map(Some(1))?;
-        out.key("deposits")?;
-        write_listing(self.listing, out)?;
-        out.end_map()
-    }
+    let firm = listed.firm.text();
+    out.extend_from_slice(b"{\"embargo\":\"")?;
+    out.extend_from_slice(&day)?;
+    out.extend_from_slice(b"\",\"firm\":\"")?;
+    out.extend_from_slice(firm.as_bytes())?;
+    out.extend_from_slice(b"\",\"number\":")?;
+    write_number(out, listed.number)?;
+    out.extend_from_slice(b"}")?;
+    Ok(())
 }
 
 /// The body of a listing.
 pub(crate) fn listing_text(alloc: Global, listing: &[Listed]) -> Result<Vec<u8>, AllocError>
     ensures { IfOk result (λ text. (d : Data) × IsListingData listing.now d × (text.items ≡ compact_text d)) }
 {
-    text_of(alloc, &ListingBody { listing })
-}
-
-/// The text that a body writes.
-fn text_of<T: Serialize>(alloc: Global, body: &T) -> Result<Vec<u8>, AllocError>
-    ensures { IfOk result (λ text. (log : Log) × T.writes body.now (Some []) log × IsTextOf log text.items) }
-{
-    match serde_json::to_vec(alloc, body) {
-        Ok(text) => Ok(text),
-        Err(_) => Err(AllocError),
+    let mut out = Vec::with_capacity(alloc, listing.len().saturating_mul(LISTED_BYTES))?;
+    out.extend_from_slice(b"{\"deposits\":[")?;
+    for place in 0..listing.len() {
+        write_comma(&mut out, place)?;
+        write_listed(&mut out, &listing[place])?;
     }
+    out.extend_from_slice(b"]}")?;
+    Ok(out)
 }

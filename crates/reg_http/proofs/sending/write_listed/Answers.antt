@@ -1,23 +1,11 @@
-use Rattle.std.proofs.Common.{rules, refl}
-use Rattle.std.proofs.lemmas.Result.{on_ok_weaker}
-use Rattle.reg_http.proofs.SendingLemmas.{text_event}
+use Rattle.std.proofs.Common.{rules, codes, decimal}
+use Rattle.reg_http.proofs.SendingLemmas.{pieces, deposit_line}
 use Rattle.reg_http.proofs.sending.write_listed.Goals as goal
 
 pub returns : goal.returns
-returns g c = on_ok_weaker c.end_map.result
-    (λ ended. (
-      _,
-      (_, c.text-day.ensures.written, refl),
-      (
-        _,
-        c.in_ok-begin_map.ensures,
-        (
-          _,
-          _,
-          c.in_ok-key.ensures,
-          text_event _ _ _ _ c.as_text.ensures c.in_ok-str.ensures,
-          (_, _, c.in_ok-key-2.ensures, text_event _ _ _ _ (search rules) c.in_ok-str-2.ensures, (_, _, c.in_ok-key-3.ensures, c.in_ok-serialize.ensures, ended)),
-        ),
-      ),
-    ))
-    c.end_map.ensures
+returns c =
+    let listed = c.args.listed.now in
+    deposit_line c.text-day.result listed _ _ c.text-day.ensures.written c.text-firm.ensures.is_name
+    (pieces c.args.out.now.items (codes "{\"embargo\":\"") c.text-day.result (codes "\",\"firm\":\"") listed.firm (codes "\",\"number\":") (decimal listed.number) (codes "}") _ _ _ _ _ _ _
+    c.in_ok-extend_from_slice.ensures.items c.in_ok-extend_from_slice-2.ensures.items c.in_ok-extend_from_slice-3.ensures.items (search rules)
+    c.in_ok-extend_from_slice-5.ensures.items c.in_ok-write_number.ensures c.in_ok-extend_from_slice-6.ensures.items)
