@@ -1,9 +1,9 @@
 -- A text is the code of one type.
-use Rattle.std.proofs.Common.{◌≡◌, ℕ, ◌-◌, cond, List, [], ◌∷◌, codes, refl, sym, ap, ◌∙◌, subst, arith}
+use Rattle.std.proofs.Common.{◌≡◌, ℕ, ◌-◌, cond, List, [], ◌∷◌, codes, refl, sym, ap, ◌∙◌, subst, inl, inr, arith}
 use Rattle.std.specs.Str.{bytes_eq}
 use Rattle.ags_cells.specs.Bytes.{digit}
 use Rattle.ags_cells.specs.CellTypes.{IsListedTypeCode, IsTypeCodeOf}
-use Rattle.ags_cells.specs.Fits.{Fits, FitsTypeCode}
+use Rattle.ags_cells.specs.Fits.{IsEntryOf, IsEntryUnder}
 use Rattle.ags_cells.specs.Laws.{OneType, FitsItsTypeCode}
 use Rattle.ags_cells.specs.declared.cell_type.CellType.{CellType}
 use Rattle.ags_cells.specs.declared.cell_type.CellType.TheVariants.{DecimalPlaces, SignificantFigures, Scientific, MoistureContent, YesNo, DegreesMinutesSeconds, DateTime, ElapsedTime, Any}
@@ -71,8 +71,34 @@ one_type code DateTime u h w = listed_type code DateTime u h w
 one_type code ElapsedTime u h w = listed_type code ElapsedTime u h w
 one_type code Any u h w = unlisted_type code u h w
 
+entry_under : (code unit text : List ℕ) (t : CellType) → IsTypeCodeOf code t → IsEntryOf t unit text → IsEntryUnder code unit text
+entry_under code unit text t h fact =
+    let P : CellType → Type 0 = λ u. IsEntryOf u unit text in
+    let of : (u : CellType) → IsListedTypeCode code u → P u = λ u w. subst P (sym (listed_type code u t w h)) fact in
+    record {
+      decimal = λ n small e. of (DecimalPlaces n) (small, e);
+      significant = λ n small e. of (SignificantFigures n) (small, e);
+      scientific = λ n small e. of (Scientific n) (small, e);
+      moisture = λ e. of MoistureContent e;
+      yes_no = λ e. of YesNo e;
+      angle = λ e. of DegreesMinutesSeconds e;
+      date_time = λ e. of DateTime e;
+      elapsed_time = λ e. of ElapsedTime e;
+    }
+
+entry_of : (code unit text : List ℕ) (t : CellType) → IsTypeCodeOf code t → IsEntryUnder code unit text → IsEntryOf t unit text
+entry_of code unit text (DecimalPlaces n) h w = w.decimal n h.0 h.1
+entry_of code unit text (SignificantFigures n) h w = w.significant n h.0 h.1
+entry_of code unit text (Scientific n) h w = w.scientific n h.0 h.1
+entry_of code unit text MoistureContent h w = w.moisture h
+entry_of code unit text YesNo h w = w.yes_no h
+entry_of code unit text DegreesMinutesSeconds h w = w.angle h
+entry_of code unit text DateTime h w = w.date_time h
+entry_of code unit text ElapsedTime h w = w.elapsed_time h
+entry_of code unit text Any h w = tt
+
 pub fits_its_type_code : FitsItsTypeCode
-fits_its_type_code code unit text t h =
-    let back : FitsTypeCode code unit text → Fits t unit text =
-    λ w. subst (λ u. Fits u unit text) (one_type code w.0 t w.1 h) w.2 in
-    (λ fit. (t, h, fit), back)
+fits_its_type_code code unit text t h = (
+  λ fit. elim fit [ inl null ↦ inl null | inr fact ↦ inr (entry_under code unit text t h fact) ],
+  λ fit. elim fit [ inl null ↦ inl null | inr fact ↦ inr (entry_of code unit text t h fact) ],
+)

@@ -1,19 +1,23 @@
 -- What the reader of a day of the calendar takes off a text.
-use Rattle.std.proofs.Common.{◌≡◌, ℕ, ◌+◌, ◌*◌, ◌/◌, ◌%◌, ◌<◌, ◌≤◌, Bool, true, false, cond, ◌&&◌, nat_le, le-leb, List, ◌∷◌, ◌++◌, Option, Some, None, Decides, refl, ap, ◌∙◌, arith, pos}
+use Rattle.std.proofs.Common.{◌≡◌, ℕ, ◌+◌, ◌*◌, ◌/◌, ◌%◌, ◌<◌, ◌≤◌, Bool, true, false, cond, ◌&&◌, nat_le, le-leb, List, ◌∷◌, ◌++◌, codes, Option, Some, None, Decides, refl, ap, ◌∙◌, arith, pos}
 use Rattle.std.proofs.lemmas.Bool.{and_parts, leb-true}
 use Rattle.std.proofs.lemmas.Int.{ints}
 use Rattle.jiff_core.proofs.CalendarLemmas.{days_in_month_bounds}
 use Rattle.jiff.specs.Words.{IsDate, IsYear, IsBetween, days_in_month}
 use Rattle.ags_cells.specs.Bytes.{hyphen}
-use Rattle.ags_cells.specs.Parts.{two_digits, four_digits}
+use Rattle.ags_cells.specs.Parts.{two_digits}
 use Rattle.ags_cells.specs.Times.{CalendarDay}
 use Rattle.ags_cells.specs.Readers.{◌>>=◌, after_mark, read_two, has_day, after_day}
-use Rattle.ags_cells.proofs.Strips.{Strips, Anything, mark}
+use Rattle.ags_cells.proofs.Strips.{Strips, Anything, only, mark}
 use Rattle.ags_cells.proofs.PartReaders.{two_sound, two_complete}
+
+-- the text of a day
+abbrev day_text : ℕ → ℕ → ℕ → List ℕ
+day_text y m d = two_digits (y / 100) ++ two_digits (y % 100) ++ codes "-" ++ two_digits m ++ codes "-" ++ two_digits d
 
 -- what is left after the two numbers and the mark that a reader takes
 day_there : (y m d : ℕ) (r : List ℕ) → y < 10000 → m < 100 → d < 100 → has_day y m d ≡ true
-    → after_day ((four_digits y ++ hyphen ∷ two_digits m ++ hyphen ∷ two_digits d) ++ r) ≡ Some r
+    → after_day (day_text y m d ++ r) ≡ Some r
 unfolding after_day after_mark
 day_there y m d r hy hm hd ok =
     let century = two_complete (y / 100) (two_digits (y % 100) ++ hyphen ∷ two_digits m ++ hyphen ∷ two_digits d ++ r) (omega arith) in
@@ -66,7 +70,7 @@ picked true m r e = (refl, cc)
 picked false m r e = cc
 
 mark_gives : (m : ℕ) (t r : List ℕ) → after_mark m t ≡ Some r → t ≡ m ∷ r
-mark_gives m t r e = let (a, ta, pa) = (mark m).sound t r e in ta ∙ ap (λ z. z ++ r) pa
+mark_gives m t r e = let (a, ta, pa) = (mark m).sound t r e in ta ∙ ap (λ z. z ++ r) (rw (only m pa.0 pa.1) at pa.2)
 
 end_sound : (y m : ℕ) (t r : List ℕ) → day_end y m t ≡ Some r → (d : ℕ) × (d < 100) × (has_day y m d ≡ true) × (t ≡ two_digits d ++ r)
 end_sound y m t r e =
@@ -103,7 +107,7 @@ day_sound t r e =
     let in_range : year < 10000 = omega arith in
     let high : year / 100 ≡ p.0 = omega arith in
     let low : year % 100 ≡ y = omega arith in (
-      four_digits year ++ hyphen ∷ two_digits m ++ hyphen ∷ two_digits d,
+      day_text year m d,
       rw (high, low) (split ∙ ap (λ z. two_digits p.0 ++ z) rest),
       (year, m, d, in_range, (has_day_Decides year m d in_range).0 ok, refl),
     )

@@ -1,26 +1,27 @@
 -- What the readers of numbers and angles take off a text.
-use Rattle.std.proofs.Common.{◌≡◌, ℕ, Bool, false, List, [], ◌++◌, Some, refl, inl, inr, append_assoc, arith}
+use Rattle.std.proofs.Common.{◌≡◌, ℕ, Bool, true, false, List, [], ◌++◌, codes, Some, refl, inl, inr, append_assoc, arith}
 use Rattle.std.proofs.lemmas.Bool.Decides.{nat_tests}
 use Rattle.std.specs.Char.{is_ascii_digit}
-use Rattle.ags_cells.specs.Bytes.{decimal_point, colon, capital_e, small_e, IsDigit}
-use Rattle.ags_cells.specs.Parts.{◌⨾◌, Optional, Empty, Mark, Digits, DigitsOf, Sign, TwoDigits}
-use Rattle.ags_cells.specs.Numbers.{PlacesAfterPoint, Fraction, Exponent, ExponentMark, Sixtieth}
+use Rattle.ags_cells.specs.Bytes.{decimal_point, colon, capital_e, small_e}
+use Rattle.ags_cells.specs.Parts.{◌⨾◌, Optional, Mark, Digits, DigitsOf, Sign, TwoDigits}
+use Rattle.ags_cells.specs.Numbers.{PlacesAfterPoint, Fraction, Exponent, Sixtieth}
 use Rattle.ags_cells.specs.Readers.{◌>>=◌, if_any, after_sign, after_digits, after_some_digits, after_fraction, after_places, after_exponent, after_sixtieth, after_decimal, after_moisture, after_significant, after_scientific, after_angle}
-use Rattle.ags_cells.proofs.Strips.{Strips, NotFirst, is_sign, seq, sign}
-use Rattle.ags_cells.proofs.PartReaders.{Leads, Passes, leads_mark, leads_seq, passes_optional, leads_digits, is_digit_or_point, not_digit, digits, some_digits, fraction, places, exponent, any, sixtieth}
+use Rattle.ags_cells.proofs.Strips.{Strips, NotFirst, Nothing, is_sign, seq, sign}
+use Rattle.ags_cells.proofs.PartReaders.{Leads, Passes, leads_mark, leads_seq, passes_optional, leads_digits, is_digit_or_point, not_digit, digits, some_digits, fraction, places, exponent_byte, exponent, any, sixtieth}
 
-not_sign : (c : ℕ) → IsDigit c → is_sign c ≡ false
+not_sign : (c : ℕ) → is_ascii_digit c ≡ true → is_sign c ≡ false
 not_sign c d = grind (arith, nat_tests)
 
 leads_exponent : (p : ℕ → Bool) → p capital_e ≡ false → p small_e ≡ false → Leads p Exponent
-leads_exponent p e f = leads_seq p ExponentMark _ (λ a r m. elim m [ inl x ↦ rw x e | inr x ↦ rw x f ])
+leads_exponent p e f = leads_seq p (Mark (codes "Ee")) _
+    (λ a r m. elim (exponent_byte m.0 m.1) [ inl x ↦ rw (m.2, x) e | inr x ↦ rw (m.2, x) f ])
 
 passes_fraction : (p : ℕ → Bool) → p decimal_point ≡ false → Passes p Fraction
-passes_fraction p e = passes_optional p _ (leads_seq p (Mark decimal_point) Digits (leads_mark p decimal_point e))
+passes_fraction p e = passes_optional p _ (leads_seq p (Mark (codes ".")) Digits (leads_mark p decimal_point e))
 
 passes_places : (p : ℕ → Bool) → p decimal_point ≡ false → (n : ℕ) → Passes p (PlacesAfterPoint n)
 passes_places p e n a r (inl x) stop = rw x.1 stop
-passes_places p e n a r (inr x) stop = leads_seq p (Mark decimal_point) (DigitsOf n n) (leads_mark p decimal_point e) a r x.1
+passes_places p e n a r (inr x) stop = leads_seq p (Mark (codes ".")) (DigitsOf n n) (leads_mark p decimal_point e) a r x.1
 
 -- digits come first, and no sign
 signless : (Q : List ℕ → Type 0) → Leads is_sign (Digits ⨾ Q)
@@ -52,7 +53,7 @@ passes_seq p P Q h k c r (a, b, split, pa, qb) stop = rw (split, append_assoc a 
 passes_exponent : (p : ℕ → Bool) → p capital_e ≡ false → p small_e ≡ false → Passes p (Optional Exponent)
 passes_exponent p e f = passes_optional p Exponent (leads_exponent p e f)
 
-pub significant : Strips after_significant (Optional Sign ⨾ Digits ⨾ Fraction ⨾ Optional Exponent) Empty
+pub significant : Strips after_significant (Optional Sign ⨾ Digits ⨾ Fraction ⨾ Optional Exponent) Nothing
 unfolding after_significant
 significant = seq (λ t. Some (after_sign t)) (λ t. after_some_digits t >>= (λ u. after_fraction u >>= if_any after_exponent)) sign
     (seq after_some_digits (λ u. after_fraction u >>= if_any after_exponent) some_digits
@@ -71,7 +72,7 @@ scientific n = seq (λ t. Some (after_sign t)) (λ t. after_digits 1 1 t >>= (λ
     (λ a r q stop. signless_of 1 _ a r q)
 
 pub leads_sixtieth : (Q : List ℕ → Type 0) → Leads is_ascii_digit (Sixtieth ⨾ Q)
-leads_sixtieth Q = leads_seq is_ascii_digit Sixtieth Q (leads_seq is_ascii_digit (Mark colon) (TwoDigits 0 59) (leads_mark is_ascii_digit colon refl))
+leads_sixtieth Q = leads_seq is_ascii_digit Sixtieth Q (leads_seq is_ascii_digit (Mark (codes ":")) (TwoDigits 0 59) (leads_mark is_ascii_digit colon refl))
 
 pub angle : Strips after_angle (Optional Sign ⨾ DigitsOf 1 3 ⨾ Sixtieth ⨾ Sixtieth ⨾ Fraction) (NotFirst is_digit_or_point)
 unfolding after_angle
@@ -84,4 +85,4 @@ angle = seq (λ t. Some (after_sign t)) (λ t. after_digits 1 3 t >>= (λ m. aft
     (λ a r q stop. signless_of 3 _ a r q)
 
 pub leads_minutes : Leads is_ascii_digit Sixtieth
-leads_minutes = leads_seq is_ascii_digit (Mark colon) (TwoDigits 0 59) (leads_mark is_ascii_digit colon refl)
+leads_minutes = leads_seq is_ascii_digit (Mark (codes ":")) (TwoDigits 0 59) (leads_mark is_ascii_digit colon refl)

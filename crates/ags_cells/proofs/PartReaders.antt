@@ -1,17 +1,18 @@
 -- What the readers of digits, fractions, exponents and numbers take off a text.
-use Rattle.std.proofs.Common.{◌≡◌, ℕ, ◌+◌, ◌-◌, ◌*◌, ◌/◌, ◌%◌, ◌<◌, ◌≤◌, Bool, true, false, cond, eqb, ◌&&◌, ◌||◌, nat_le, List, [], ◌∷◌, ◌++◌, length, take, drop, Option, Some, None, refl, sym, ap, ◌∙◌, inl, inr, append_assoc, append-nil, length-append, arith}
+use Rattle.std.proofs.Common.{◌≡◌, ℕ, suc, ◌+◌, ◌-◌, ◌*◌, ◌/◌, ◌%◌, ◌<◌, ◌≤◌, Bool, true, false, cond, eqb, ◌&&◌, ◌||◌, nat_le, List, [], ◌∷◌, ◌++◌, length, take, drop, Option, Some, None, codes, refl, sym, ap, ◌∙◌, ◌⊎◌, inl, inr, append_assoc, append-nil, length-append, arith}
+use Rattle.std.proofs.lemmas.Bool.{and_parts}
 use Rattle.std.proofs.lemmas.Bool.Decides.{eqb_tells, leb_tells, nat_tests}
-use Rattle.std.proofs.lemmas.List.{length-take-le, get_or-take, take-append-drop}
-use Rattle.std.proofs.lemmas.List.Elements.{All-head, All-tail, All-from_get_or}
-use Rattle.std.proofs.lemmas.List.Sums.{prefix_len-le-length, prefix_len_passes}
+use Rattle.std.proofs.lemmas.List.{length-take-le, take-append-drop}
+use Rattle.std.proofs.lemmas.List.Sums.{prefix_len-le-length}
 use Rattle.std.proofs.Math.Seq.{drop-append_seam}
-use Rattle.std.specs.List.{All, prefix_len}
-use Rattle.std.specs.Char.{is_ascii_digit}
-use Rattle.ags_cells.specs.Bytes.{decimal_point, colon, capital_e, small_e, digit, IsDigit}
-use Rattle.ags_cells.specs.Parts.{◌⨾◌, Optional, Empty, Mark, Digits, DigitsOf, Sign, two_digits, TwoDigits}
-use Rattle.ags_cells.specs.Numbers.{PlacesAfterPoint, Fraction, Exponent, ExponentMark, Sixtieth}
+use Rattle.std.specs.List.{prefix_len}
+use Rattle.std.specs.Char.{is_ascii_digit, char_set_contains}
+use Rattle.std.specs.Str.{all_ascii_digits}
+use Rattle.ags_cells.specs.Bytes.{decimal_point, colon, capital_e, small_e, digit}
+use Rattle.ags_cells.specs.Parts.{◌⨾◌, Optional, Mark, Digits, DigitsOf, Sign, two_digits, TwoDigits}
+use Rattle.ags_cells.specs.Numbers.{PlacesAfterPoint, Fraction, Exponent, Sixtieth}
 use Rattle.ags_cells.specs.Readers.{◌>>=◌, after_sign, after_mark, after_digits, after_some_digits, fraction_after, after_fraction, after_places, after_exponent_mark, after_exponent, if_any, read_two, after_two_digits, after_sixtieth}
-use Rattle.ags_cells.proofs.Strips.{Strips, NotFirst, Anything, is_sign, is_digit_yes, is_digit_tells, seq, sign, mark}
+use Rattle.ags_cells.proofs.Strips.{Strips, NotFirst, Anything, Nothing, only, is_sign, is_digit_yes, is_digit_tells, seq, sign, mark}
 
 -- each text of P begins with a byte that fails the test; or is empty
 abbrev pub Leads : (ℕ → Bool) → (List ℕ → Type 0) → Type 0
@@ -20,8 +21,8 @@ Leads p P = (a r : List ℕ) → P a → NotFirst p (a ++ r)
 abbrev pub Passes : (ℕ → Bool) → (List ℕ → Type 0) → Type 0
 Passes p P = (a r : List ℕ) → P a → NotFirst p r → NotFirst p (a ++ r)
 
-pub leads_mark : (p : ℕ → Bool) (m : ℕ) → p m ≡ false → Leads p (Mark m)
-leads_mark p m fails a r e = rw e fails
+pub leads_mark : (p : ℕ → Bool) (m : ℕ) → p m ≡ false → Leads p (Mark (m ∷ []))
+leads_mark p m fails a r (c, is, e) = rw (e, only m c is) fails
 
 pub leads_seq : (p : ℕ → Bool) (P Q : List ℕ → Type 0) → Leads p P → Leads p (P ⨾ Q)
 leads_seq p P Q h c r (a, b, split, pa, qb) = rw (split, append_assoc a b r) (h a (b ++ r) pa)
@@ -30,25 +31,30 @@ pub passes_optional : (p : ℕ → Bool) (P : List ℕ → Type 0) → Leads p P
 passes_optional p P h a r (inl e) stop = rw e stop
 passes_optional p P h a r (inr w) stop = h a r w
 
-pub leads_digits : (p : ℕ → Bool) → ((c : ℕ) → IsDigit c → p c ≡ false) → (a r : List ℕ) → 1 ≤ length a → All IsDigit a → NotFirst p (a ++ r)
+pub leads_digits : (p : ℕ → Bool) → ((c : ℕ) → is_ascii_digit c ≡ true → p c ≡ false) → (a r : List ℕ) → 1 ≤ length a → all_ascii_digits a ≡ true → NotFirst p (a ++ r)
 leads_digits p h [] r some all = absurd (omega arith)
-leads_digits p h (c ∷ cs) r some all = h c (All-head IsDigit c cs all)
+leads_digits p h (c ∷ cs) r some all = h c (and_parts (is_ascii_digit c) (all_ascii_digits cs) all).0
 
-count : (a r : List ℕ) → All IsDigit a → NotFirst is_ascii_digit r → prefix_len is_ascii_digit (a ++ r) ≡ length a
+count : (a r : List ℕ) → all_ascii_digits a ≡ true → NotFirst is_ascii_digit r → prefix_len is_ascii_digit (a ++ r) ≡ length a
 count [] [] all stop = refl
 count [] (c ∷ cs) all stop = rw stop
 count (c ∷ cs) r all stop =
-    rw (is_digit_yes c (All-head IsDigit c cs all)) (omega (arith, count cs r (All-tail IsDigit c cs all) stop))
+    let (first, rest) = and_parts (is_ascii_digit c) (all_ascii_digits cs) all in
+    rw first (omega (arith, count cs r rest stop))
 
-front_digits : (t : List ℕ) → All IsDigit (take (prefix_len is_ascii_digit t) t)
-front_digits t =
-    let k = prefix_len is_ascii_digit t in
-    let within : k ≤ length t = prefix_len-le-length is_ascii_digit t in
-    All-from_get_or IsDigit (take k t) 0
-    (λ i h. let low : i < k = omega (arith, length-take-le k t within) in
-    rw (get_or-take k t i 0 low) (is_digit_tells _ (prefix_len_passes is_ascii_digit t i 0 low)))
+front_from : (c k : ℕ) (cs : List ℕ) (b : Bool) → is_ascii_digit c ≡ b → all_ascii_digits (take k cs) ≡ true
+    → all_ascii_digits (take (cond b (1 + k) 0) (c ∷ cs)) ≡ true
+front_from c k cs true e h =
+    let next : 1 + k ≡ suc k = omega arith in
+    let both : (is_ascii_digit c && all_ascii_digits (take k cs)) ≡ true = rw e h in
+    rw next both
+front_from c k cs false e h = refl
 
-digits_from : (low high k : ℕ) (t r : List ℕ) → k ≤ length t → All IsDigit (take k t) → (low ≤ k) × (k ≤ high) → r ≡ drop k t
+front_digits : (t : List ℕ) → all_ascii_digits (take (prefix_len is_ascii_digit t) t) ≡ true
+front_digits [] = refl
+front_digits (c ∷ cs) = front_from c (prefix_len is_ascii_digit cs) cs (is_ascii_digit c) refl (front_digits cs)
+
+digits_from : (low high k : ℕ) (t r : List ℕ) → k ≤ length t → all_ascii_digits (take k t) ≡ true → (low ≤ k) × (k ≤ high) → r ≡ drop k t
     → (a : List ℕ) × (t ≡ a ++ r) × DigitsOf low high a
 digits_from low high k t r within all fit e =
     let len = length-take-le k t within in
@@ -138,23 +144,29 @@ places n =
       }
     ]
 
-exponent_mark_sound : (t r : List ℕ) → after_exponent_mark t ≡ Some r → (a : List ℕ) × (t ≡ a ++ r) × ExponentMark a
+exponent_bytes : (c : ℕ) → (c ≡ capital_e) ⊎ (c ≡ small_e) → char_set_contains (codes "Ee") c ≡ true
+exponent_bytes c (inl e) = rw e
+exponent_bytes c (inr e) = rw e
+
+pub exponent_byte : (c : ℕ) → char_set_contains (codes "Ee") c ≡ true → (c ≡ capital_e) ⊎ (c ≡ small_e)
+exponent_byte c is = elim (eqb_tells c capital_e) [ inl y ↦ inl y.1 | inr n ↦ inr (grind (arith, nat_tests)) ]
+
+exponent_mark_sound : (t r : List ℕ) → after_exponent_mark t ≡ Some r → (a : List ℕ) × (t ≡ a ++ r) × Mark (codes "Ee") a
 unfolding after_exponent_mark
 exponent_mark_sound [] r e = cc
 exponent_mark_sound (c ∷ cs) r e = elim (eqb_tells c capital_e) [
-  | inl y ↦ let f : Some cs ≡ Some r = rw y.0 at e in (c ∷ [], cc, inl (ap (λ x. x ∷ []) y.1))
+  | inl y ↦ let f : Some cs ≡ Some r = rw y.0 at e in (c ∷ [], cc, (c, exponent_bytes c (inl y.1), refl))
   | inr n ↦ elim (eqb_tells c small_e) [
-    | inl y ↦ let f : Some cs ≡ Some r = rw (n.0, y.0) at e in (c ∷ [], cc, inr (ap (λ x. x ∷ []) y.1))
+    | inl y ↦ let f : Some cs ≡ Some r = rw (n.0, y.0) at e in (c ∷ [], cc, (c, exponent_bytes c (inr y.1), refl))
     | inr m ↦ let f : None ≡ Some r = rw (n.0, m.0) at e in cc
   ]
 ]
 
-exponent_mark_complete : (a r : List ℕ) → ExponentMark a → Anything r → after_exponent_mark (a ++ r) ≡ Some r
+exponent_mark_complete : (a r : List ℕ) → Mark (codes "Ee") a → Anything r → after_exponent_mark (a ++ r) ≡ Some r
 unfolding after_exponent_mark
-exponent_mark_complete a r (inl e) stop = rw e
-exponent_mark_complete a r (inr e) stop = rw e
+exponent_mark_complete a r (c, is, e) stop = elim (exponent_byte c is) [ inl x ↦ rw (e, x) | inr x ↦ rw (e, x) ]
 
-exponent_mark : Strips after_exponent_mark ExponentMark Anything
+exponent_mark : Strips after_exponent_mark (Mark (codes "Ee")) Anything
 exponent_mark = record { sound = exponent_mark_sound; complete = exponent_mark_complete }
 
 -- a sign, if there is one, and 1 to 3 digits
@@ -175,7 +187,7 @@ any_there s [] e = refl
 any_there s (c ∷ cs) e = e
 
 -- a part that may be missing at the end
-pub any : {P Stop : List ℕ → Type 0} (s : List ℕ → Option (List ℕ)) → Strips s P Stop → Stop [] → Strips (if_any s) (Optional P) Empty
+pub any : {P Stop : List ℕ → Type 0} (s : List ℕ → Option (List ℕ)) → Strips s P Stop → Stop [] → Strips (if_any s) (Optional P) Nothing
 any s h end = record {
   sound = any_sound s h;
   complete = λ a r p stop. elim p [
@@ -184,7 +196,7 @@ any s h end = record {
   ];
 }
 
-two_from : (a b n : ℕ) (cs r : List ℕ) → IsDigit a → IsDigit b → 10 * (a - digit 0) + (b - digit 0) ≡ n → cs ≡ r → (n < 100) × (a ∷ b ∷ cs ≡ two_digits n ++ r)
+two_from : (a b n : ℕ) (cs r : List ℕ) → (digit 0 ≤ a) × (a ≤ digit 9) → (digit 0 ≤ b) × (b ≤ digit 9) → 10 * (a - digit 0) + (b - digit 0) ≡ n → cs ≡ r → (n < 100) × (a ∷ b ∷ cs ≡ two_digits n ++ r)
 two_from a b n cs r da db e f =
     let x : digit (n / 10) ≡ a = omega arith in
     let y : digit (n % 10) ≡ b = omega arith in

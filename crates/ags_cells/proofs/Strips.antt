@@ -1,9 +1,9 @@
 -- A reader takes a part off the front of a text: laws of readers one after another.
-use Rattle.std.proofs.Common.{◌≡◌, ℕ, Bool, true, false, cond, eqb, ◌||◌, List, [], ◌∷◌, ◌++◌, Option, Some, None, Decides, refl, sym, ap, ◌∙◌, subst, inl, inr, append_assoc, append-nil, arith}
+use Rattle.std.proofs.Common.{◌≡◌, ℕ, Bool, true, false, cond, eqb, ◌||◌, ◌≤◌, List, [], ◌∷◌, ◌++◌, codes, Option, Some, None, Decides, refl, sym, ap, ◌∙◌, subst, ◌⊎◌, inl, inr, append_assoc, append-nil, arith}
 use Rattle.std.proofs.lemmas.Bool.{false≢true}
 use Rattle.std.proofs.lemmas.Bool.Decides.{eqb_tells, nat_tests}
-use Rattle.std.specs.Char.{is_ascii_digit}
-use Rattle.ags_cells.specs.Bytes.{plus_sign, hyphen, IsDigit}
+use Rattle.std.specs.Char.{is_ascii_digit, char_set_contains}
+use Rattle.ags_cells.specs.Bytes.{plus_sign, hyphen, digit}
 use Rattle.ags_cells.specs.Parts.{◌⨾◌, Optional, Mark, Sign}
 use Rattle.ags_cells.specs.Readers.{◌>>=◌, then_rest, is_empty, after_sign, after_mark}
 
@@ -54,14 +54,31 @@ NotFirst p (c ∷ cs) = p c ≡ false
 abbrev pub Anything : List ℕ → Type 0
 Anything t = Unit {0}
 
+abbrev pub Nothing : List ℕ → Type 0
+Nothing t = t ≡ []
+
+-- the one byte of a mark
+pub only : (m c : ℕ) → char_set_contains (m ∷ []) c ≡ true → c ≡ m
+only m c is = grind (arith, nat_tests)
+
+itself : (m c : ℕ) → c ≡ m → char_set_contains (m ∷ []) c ≡ true
+itself m c e = grind (arith, nat_tests)
+
 abbrev pub is_sign : ℕ → Bool
 is_sign c = eqb c plus_sign || eqb c hyphen
 
+signs : (c : ℕ) → (c ≡ plus_sign) ⊎ (c ≡ hyphen) → char_set_contains (codes "+-") c ≡ true
+signs c (inl e) = rw e
+signs c (inr e) = rw e
+
+signs_are : (c : ℕ) → char_set_contains (codes "+-") c ≡ true → is_sign c ≡ true
+signs_are c is = grind (arith, nat_tests)
+
 sign_sound : (c : ℕ) (cs r : List ℕ) → cond (is_sign c) cs (c ∷ cs) ≡ r → (a : List ℕ) × (c ∷ cs ≡ a ++ r) × Optional Sign a
 sign_sound c cs r e = elim (eqb_tells c plus_sign) [
-  | inl y ↦ (c ∷ [], ap (λ x. c ∷ x) (rw y.0 at e), inr (inl (ap (λ x. x ∷ []) y.1)))
+  | inl y ↦ (c ∷ [], ap (λ x. c ∷ x) (rw y.0 at e), inr (c, signs c (inl y.1), refl))
   | inr n ↦ elim (eqb_tells c hyphen) [
-    | inl y ↦ (c ∷ [], ap (λ x. c ∷ x) (rw (n.0, y.0) at e), inr (inr (ap (λ x. x ∷ []) y.1)))
+    | inl y ↦ (c ∷ [], ap (λ x. c ∷ x) (rw (n.0, y.0) at e), inr (c, signs c (inr y.1), refl))
     | inr m ↦ ([], (rw (n.0, m.0) at e), inl refl)
   ]
 ]
@@ -79,29 +96,28 @@ sign_step (c ∷ cs) r e = let f : cond (is_sign c) cs (c ∷ cs) ≡ r = cc in 
 sign_done : (a r : List ℕ) → Optional Sign a → NotFirst is_sign r → after_sign (a ++ r) ≡ r
 unfolding after_sign
 sign_done a r (inl e) stop = rw e (after_sign_not r stop)
-sign_done a r (inr (inl e)) stop = rw e
-sign_done a r (inr (inr e)) stop = rw e
+sign_done a r (inr (c, is, e)) stop = rw (e, signs_are c is)
 
 pub sign : Strips (λ t. Some (after_sign t)) (Optional Sign) (NotFirst is_sign)
 sign = record { sound = sign_step; complete = λ a r p stop. ap Some (sign_done a r p stop) }
 
-mark_sound : (m : ℕ) (t r : List ℕ) → after_mark m t ≡ Some r → (a : List ℕ) × (t ≡ a ++ r) × Mark m a
+mark_sound : (m : ℕ) (t r : List ℕ) → after_mark m t ≡ Some r → (a : List ℕ) × (t ≡ a ++ r) × Mark (m ∷ []) a
 unfolding after_mark
 mark_sound m [] r e = cc
 mark_sound m (c ∷ cs) r e = elim (eqb_tells c m) [
-  | inl y ↦ let f : Some cs ≡ Some r = rw y.0 at e in (c ∷ [], cc, ap (λ x. x ∷ []) y.1)
+  | inl y ↦ let f : Some cs ≡ Some r = rw y.0 at e in (c ∷ [], cc, (c, itself m c y.1, refl))
   | inr n ↦ let f : None ≡ Some r = rw n.0 at e in cc
 ]
 
-pub mark : (m : ℕ) → Strips (after_mark m) (Mark m) Anything
+pub mark : (m : ℕ) → Strips (after_mark m) (Mark (m ∷ [])) Anything
 unfolding after_mark
 mark m = record {
   sound = mark_sound m;
-  complete = λ a r e _. rw e (grind (arith, nat_tests));
+  complete = λ a r w _. rw (w.2, only m w.0 w.1) (grind (arith, nat_tests));
 }
 
-pub is_digit_yes : (c : ℕ) → IsDigit c → is_ascii_digit c ≡ true
+pub is_digit_yes : (c : ℕ) → (digit 0 ≤ c) × (c ≤ digit 9) → is_ascii_digit c ≡ true
 is_digit_yes c h = grind (arith, nat_tests)
 
-pub is_digit_tells : (c : ℕ) → is_ascii_digit c ≡ true → IsDigit c
+pub is_digit_tells : (c : ℕ) → is_ascii_digit c ≡ true → (digit 0 ≤ c) × (c ≤ digit 9)
 is_digit_tells c h = (grind (arith, nat_tests), grind (arith, nat_tests))

@@ -3,7 +3,9 @@ use Rattle.std.proofs.Common.{◌≡◌, ◌≢◌, ℕ, ◌==◌, length, Bool,
 use Rattle.std.proofs.lemmas.Bool.Decides.{Decides-like, Decides-at}
 use Rattle.std.proofs.lemmas.Bool.{false≢true}
 use Rattle.std.specs.Str.{bytes_eq}
-use Rattle.ags_cells.specs.Times.{Year, Month, CalendarDay, ClockMinutes, ClockSeconds, DayWith, FitsUnit}
+use Rattle.ags_cells.specs.Parts.{◌⨾◌, DigitsOf, TwoDigits}
+use Rattle.ags_cells.specs.Numbers.{Sixtieth}
+use Rattle.ags_cells.specs.Times.{Month, CalendarDay, DayWith, FitsUnit}
 use Rattle.ags_cells.specs.Fits.{Fits, IsEntryOf}
 use Rattle.ags_cells.specs.TimeUnits.{IsListedUnit, IsUnitOf}
 use Rattle.ags_cells.specs.declared.time_unit.TimeUnit.{TimeUnit}
@@ -46,19 +48,19 @@ same_unit t Units.Seconds v is h = sym (named t Units.Seconds is) ∙ named t v 
 same_unit t Units.Other v is h = absurd (is v h)
 
 -- the texts of a unit
-abbrev pub IsUnderUnit : (M S : List ℕ → Type 0) → TimeUnit → List ℕ → Type 0
-IsUnderUnit M S Units.Year text = Year text
-IsUnderUnit M S Units.Month text = Month text
-IsUnderUnit M S Units.Day text = CalendarDay text
-IsUnderUnit M S Units.DayMinutes text = DayWith ClockMinutes text
-IsUnderUnit M S Units.DaySeconds text = DayWith ClockSeconds text
-IsUnderUnit M S Units.Minutes text = M text
-IsUnderUnit M S Units.Seconds text = S text
-IsUnderUnit M S Units.Other text = Unit {0}
+abbrev pub IsUnderUnit : (H : List ℕ → Type 0) → TimeUnit → List ℕ → Type 0
+IsUnderUnit H Units.Year text = DigitsOf 4 4 text
+IsUnderUnit H Units.Month text = Month text
+IsUnderUnit H Units.Day text = CalendarDay text
+IsUnderUnit H Units.DayMinutes text = DayWith (TwoDigits 0 23 ⨾ Sixtieth) text
+IsUnderUnit H Units.DaySeconds text = DayWith (TwoDigits 0 23 ⨾ Sixtieth ⨾ Sixtieth) text
+IsUnderUnit H Units.Minutes text = (H ⨾ Sixtieth) text
+IsUnderUnit H Units.Seconds text = (H ⨾ Sixtieth ⨾ Sixtieth) text
+IsUnderUnit H Units.Other text = Unit {0}
 
-timed_from : (M S : List ℕ → Type 0) (unit text : List ℕ) (u : TimeUnit) → IsUnitOf unit u → IsUnderUnit M S u text → FitsUnit M S unit text
-timed_from M S unit text u is fact =
-    let P : TimeUnit → Type 0 = λ v. IsUnderUnit M S v text in
+timed_from : (H : List ℕ → Type 0) (unit text : List ℕ) (u : TimeUnit) → IsUnitOf unit u → IsUnderUnit H u text → FitsUnit H unit text
+timed_from H unit text u is fact =
+    let P : TimeUnit → Type 0 = λ v. IsUnderUnit H v text in
     record {
       year = λ e. subst P (same_unit unit u Units.Year is e) fact;
       month = λ e. subst P (same_unit unit u Units.Month is e) fact;
@@ -69,28 +71,28 @@ timed_from M S unit text u is fact =
       seconds = λ e. subst P (same_unit unit u Units.Seconds is e) fact;
     }
 
-timed_to : (M S : List ℕ → Type 0) (unit text : List ℕ) (u : TimeUnit) → IsUnitOf unit u → FitsUnit M S unit text → IsUnderUnit M S u text
-timed_to M S unit text Units.Year is h = h.year is
-timed_to M S unit text Units.Month is h = h.month is
-timed_to M S unit text Units.Day is h = h.day is
-timed_to M S unit text Units.DayMinutes is h = h.day_minutes is
-timed_to M S unit text Units.DaySeconds is h = h.day_seconds is
-timed_to M S unit text Units.Minutes is h = h.minutes is
-timed_to M S unit text Units.Seconds is h = h.seconds is
-timed_to M S unit text Units.Other is h = tt
+timed_to : (H : List ℕ → Type 0) (unit text : List ℕ) (u : TimeUnit) → IsUnitOf unit u → FitsUnit H unit text → IsUnderUnit H u text
+timed_to H unit text Units.Year is h = h.year is
+timed_to H unit text Units.Month is h = h.month is
+timed_to H unit text Units.Day is h = h.day is
+timed_to H unit text Units.DayMinutes is h = h.day_minutes is
+timed_to H unit text Units.DaySeconds is h = h.day_seconds is
+timed_to H unit text Units.Minutes is h = h.minutes is
+timed_to H unit text Units.Seconds is h = h.seconds is
+timed_to H unit text Units.Other is h = tt
 
-pub timed : (M S : List ℕ → Type 0) (unit text : List ℕ) (u : TimeUnit) (q : Bool) → IsUnitOf unit u → Decides q (IsUnderUnit M S u text) → Decides q (FitsUnit M S unit text)
-timed M S unit text u q is h = Decides-like q (timed_from M S unit text u is) (timed_to M S unit text u is) h
+pub timed : (H : List ℕ → Type 0) (unit text : List ℕ) (u : TimeUnit) (q : Bool) → IsUnitOf unit u → Decides q (IsUnderUnit H u text) → Decides q (FitsUnit H unit text)
+timed H unit text u q is h = Decides-like q (timed_from H unit text u is) (timed_to H unit text u is) h
 
-pub dated : (M S : List ℕ → Type 0) (u : TimeUnit) (text : List ℕ) → u ≢ Units.Minutes → u ≢ Units.Seconds → Decides (fits_dated u text) (IsUnderUnit M S u text)
-dated M S Units.Year text a b = whole (after_digits 4 4) (digits 4 4) tt text
-dated M S Units.Month text a b = whole after_month month tt text
-dated M S Units.Day text a b = whole after_day day tt text
-dated M S Units.DayMinutes text a b = whole after_day_minutes day_minutes refl text
-dated M S Units.DaySeconds text a b = whole after_day_seconds day_seconds refl text
-dated M S Units.Minutes text a b = absurd (a refl)
-dated M S Units.Seconds text a b = absurd (b refl)
-dated M S Units.Other text a b = (λ _. tt, λ _. refl)
+pub dated : (H : List ℕ → Type 0) (u : TimeUnit) (text : List ℕ) → u ≢ Units.Minutes → u ≢ Units.Seconds → Decides (fits_dated u text) (IsUnderUnit H u text)
+dated H Units.Year text a b = whole (after_digits 4 4) (digits 4 4) tt text
+dated H Units.Month text a b = whole after_month month tt text
+dated H Units.Day text a b = whole after_day day tt text
+dated H Units.DayMinutes text a b = whole after_day_minutes day_minutes refl text
+dated H Units.DaySeconds text a b = whole after_day_seconds day_seconds refl text
+dated H Units.Minutes text a b = absurd (a refl)
+dated H Units.Seconds text a b = absurd (b refl)
+dated H Units.Other text a b = (λ _. tt, λ _. refl)
 
 -- a reader's answer, where the code gives what the reader does
 pub wholly : {P Stop : List ℕ → Type 0} (s : List ℕ → Option (List ℕ)) → Strips s P Stop → Stop [] → (t : List ℕ) (o : Option (List ℕ)) (q : Bool)

@@ -1,5 +1,5 @@
 -- The bytes that cells are written in, by name. They are ASCII (Rule 1).
-use Rattle.std.specs.Prelude.{ℕ, ◌+◌, ◌≤◌}
+use Rattle.std.specs.Prelude.{ℕ, ◌+◌}
 
 abbrev pub plus_sign : ℕ
 plus_sign = 43
@@ -23,10 +23,6 @@ small_e = 101
 abbrev pub capital_t : ℕ
 capital_t = 84
 
--- the digit of a number from 0 to 9
+-- the digit of a number from 0 to 9: `0` to `9`
 abbrev pub digit : ℕ → ℕ
 digit n = 48 + n
-
--- `0` to `9`
-abbrev pub IsDigit : ℕ → Type 0
-IsDigit byte = (digit 0 ≤ byte) × (byte ≤ digit 9)

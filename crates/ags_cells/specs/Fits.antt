@@ -1,15 +1,11 @@
 -- Rule 8: which texts fit a type and a unit.
-use Rattle.std.specs.Prelude.{◌≡◌, ◌⊎◌, ℕ, List, codes}
-use Rattle.ags_cells.specs.Parts.{Empty}
-use Rattle.ags_cells.specs.CellTypes.{IsTypeCodeOf}
+use Rattle.std.specs.Prelude.{◌≡◌, ◌⊎◌, ℕ, ◌≤◌, List, [], ◌∷◌, codes}
+use Rattle.ags_cells.specs.Bytes.{digit}
+use Rattle.ags_cells.specs.Parts.{Mark, DigitsOf, TwoDigits}
 use Rattle.ags_cells.specs.Numbers.{Decimal, Significant, Scientific as ScientificNumber, Moisture, Angle}
-use Rattle.ags_cells.specs.Times.{FitsUnit, ClockMinutes, ClockSeconds, ElapsedMinutes, ElapsedSeconds}
+use Rattle.ags_cells.specs.Times.{FitsUnit}
 use Rattle.ags_cells.specs.declared.cell_type.CellType.{CellType}
 use Rattle.ags_cells.specs.declared.cell_type.CellType.TheVariants.{DecimalPlaces, SignificantFigures, Scientific, MoistureContent, YesNo, DegreesMinutesSeconds, DateTime, ElapsedTime, Any}
-
--- YN: `Y`, `N`, `y` or `n`
-abbrev pub YesOrNo : List ℕ → Type 0
-YesOrNo text = (text ≡ codes "Y") ⊎ ((text ≡ codes "N") ⊎ ((text ≡ codes "y") ⊎ (text ≡ codes "n")))
 
 -- the texts of each type but for the null. The unit counts for dates and times alone
 abbrev pub IsEntryOf : CellType → List ℕ → List ℕ → Type 0
@@ -17,16 +13,28 @@ IsEntryOf (DecimalPlaces n) unit text = Decimal n text
 IsEntryOf (SignificantFigures n) unit text = Significant text
 IsEntryOf (Scientific n) unit text = ScientificNumber n text
 IsEntryOf MoistureContent unit text = Moisture text
-IsEntryOf YesNo unit text = YesOrNo text
+IsEntryOf YesNo unit text = Mark (codes "YNyn") text
 IsEntryOf DegreesMinutesSeconds unit text = Angle text
-IsEntryOf DateTime unit text = FitsUnit ClockMinutes ClockSeconds unit text
-IsEntryOf ElapsedTime unit text = FitsUnit ElapsedMinutes ElapsedSeconds unit text
+IsEntryOf DateTime unit text = FitsUnit (TwoDigits 0 23) unit text
+IsEntryOf ElapsedTime unit text = FitsUnit (DigitsOf 2 4) unit text
 IsEntryOf Any unit text = Unit {0}
 
 -- the text fits the type under the unit. The null fits every type
 abbrev pub Fits : CellType → List ℕ → List ℕ → Type 0
-Fits cell_type unit text = Empty text ⊎ IsEntryOf cell_type unit text
+Fits cell_type unit text = (text ≡ []) ⊎ IsEntryOf cell_type unit text
 
--- the text fits, under the unit, the type whose code a TYPE row has
+-- the texts under the code of a type but for the null. The unit counts for dates and times alone: hours are 00 to 23 for DT, and of
+-- two to four digits for T. A code that is not listed (ID, PA, PT, PU, X, XN, U, RL and all else) restricts nothing
+pub record IsEntryUnder (code unit text : List ℕ) : Type 0 where
+  pub decimal : (n : ℕ) → n ≤ 9 → code ≡ digit n ∷ codes "DP" → Decimal n text
+  pub significant : (n : ℕ) → n ≤ 9 → code ≡ digit n ∷ codes "SF" → Significant text
+  pub scientific : (n : ℕ) → n ≤ 9 → code ≡ digit n ∷ codes "SCI" → ScientificNumber n text
+  pub moisture : code ≡ codes "MC" → Moisture text
+  pub yes_no : code ≡ codes "YN" → Mark (codes "YNyn") text
+  pub angle : code ≡ codes "DMS" → Angle text
+  pub date_time : code ≡ codes "DT" → FitsUnit (TwoDigits 0 23) unit text
+  pub elapsed_time : code ≡ codes "T" → FitsUnit (DigitsOf 2 4) unit text
+
+-- the text fits, under the unit, the type whose code a TYPE row has. The null fits every type
 abbrev pub FitsTypeCode : List ℕ → List ℕ → List ℕ → Type 0
-FitsTypeCode code unit text = (cell_type : CellType) × IsTypeCodeOf code cell_type × Fits cell_type unit text
+FitsTypeCode code unit text = (text ≡ []) ⊎ IsEntryUnder code unit text

@@ -1,23 +1,18 @@
 -- How numbers and angles are written (Rule 8). The standard leaves the spelling open: this is the profile's.
-use Rattle.std.specs.Prelude.{◌≡◌, ◌⊎◌, ℕ, ◌<◌, List}
-use Rattle.ags_cells.specs.Bytes.{decimal_point, colon, capital_e, small_e}
-use Rattle.ags_cells.specs.Parts.{◌⨾◌, Empty, Optional, Mark, Sign, Digits, DigitsOf, TwoDigits}
+use Rattle.std.specs.Prelude.{◌≡◌, ◌⊎◌, ℕ, ◌<◌, List, [], codes}
+use Rattle.ags_cells.specs.Parts.{◌⨾◌, Optional, Mark, Sign, Digits, DigitsOf, TwoDigits}
 
 -- for n above 0 a point and exactly n digits, and nothing for n = 0
 abbrev pub PlacesAfterPoint : ℕ → List ℕ → Type 0
-PlacesAfterPoint n text = ((n ≡ 0) × Empty text) ⊎ ((0 < n) × (Mark decimal_point ⨾ DigitsOf n n) text)
+PlacesAfterPoint n text = ((n ≡ 0) × (text ≡ [])) ⊎ ((0 < n) × (Mark (codes ".") ⨾ DigitsOf n n) text)
 
 -- optionally a point and digits
 abbrev pub Fraction : List ℕ → Type 0
-Fraction = Optional (Mark decimal_point ⨾ Digits)
-
--- `E` or `e`
-abbrev pub ExponentMark : List ℕ → Type 0
-ExponentMark text = Mark capital_e text ⊎ Mark small_e text
+Fraction = Optional (Mark (codes ".") ⨾ Digits)
 
 -- `E` or `e`, optionally a sign, 1 to 3 digits
 abbrev pub Exponent : List ℕ → Type 0
-Exponent = ExponentMark ⨾ Optional Sign ⨾ DigitsOf 1 3
+Exponent = Mark (codes "Ee") ⨾ Optional Sign ⨾ DigitsOf 1 3
 
 -- nDP: optionally a sign, digits, n places
 abbrev pub Decimal : ℕ → List ℕ → Type 0
@@ -37,7 +32,7 @@ Moisture = Optional Sign ⨾ Digits ⨾ Fraction
 
 -- `:00` to `:59`
 abbrev pub Sixtieth : List ℕ → Type 0
-Sixtieth = Mark colon ⨾ TwoDigits 0 59
+Sixtieth = Mark (codes ":") ⨾ TwoDigits 0 59
 
 -- DMS: optionally a sign, 1 to 3 digits, minutes, seconds, optionally a point and digits
 abbrev pub Angle : List ℕ → Type 0

@@ -1,6 +1,7 @@
 //! Readers of dates, times of day and lengths of time.
 ghost use Rattle.std.specs.Prelude.{◌≡◌, ◌↔◌, ◌<◌, IsTrue, option_map};
-ghost use Rattle.ags_cells.specs.Times.{ClockMinutes, ClockSeconds, ElapsedMinutes, ElapsedSeconds, FitsUnit};
+ghost use Rattle.ags_cells.specs.Parts.{DigitsOf, TwoDigits};
+ghost use Rattle.ags_cells.specs.Times.{FitsUnit};
 ghost use Rattle.ags_cells.specs.Readers as read;
 
 use crate::number::after_sixtieth;
@@ -132,7 +133,7 @@ fn fits_dated(unit: TimeUnit, text: &[u8]) -> bool
 
 /// Whether the text fits type DT under the unit.
 pub(crate) fn fits_date_time(unit: &[u8], text: &[u8]) -> bool
-    ensures { IsTrue result ↔ FitsUnit ClockMinutes ClockSeconds unit.now text.now }
+    ensures { IsTrue result ↔ FitsUnit (TwoDigits 0 23) unit.now text.now }
 {
     match TimeUnit::of(unit) {
         TimeUnit::Minutes => is_whole(after_clock_minutes(text)),
@@ -143,7 +144,7 @@ pub(crate) fn fits_date_time(unit: &[u8], text: &[u8]) -> bool
 
 /// Whether the text fits type T under the unit.
 pub(crate) fn fits_elapsed_time(unit: &[u8], text: &[u8]) -> bool
-    ensures { IsTrue result ↔ FitsUnit ElapsedMinutes ElapsedSeconds unit.now text.now }
+    ensures { IsTrue result ↔ FitsUnit (DigitsOf 2 4) unit.now text.now }
 {
     match TimeUnit::of(unit) {
         TimeUnit::Minutes => is_whole(after_elapsed_minutes(text)),
