@@ -31,7 +31,8 @@ pub passes_optional : (p : ℕ → Bool) (P : List ℕ → Type 0) → Leads p P
 passes_optional p P h a r (inl e) stop = rw e stop
 passes_optional p P h a r (inr w) stop = h a r w
 
-pub leads_digits : (p : ℕ → Bool) → ((c : ℕ) → is_ascii_digit c ≡ true → p c ≡ false) → (a r : List ℕ) → 1 ≤ length a → all_ascii_digits a ≡ true → NotFirst p (a ++ r)
+pub leads_digits : (p : ℕ → Bool) → ((c : ℕ) → is_ascii_digit c ≡ true → p c ≡ false) → (a r : List ℕ) → 1 ≤ length a → all_ascii_digits a ≡ true
+    → NotFirst p (a ++ r)
 leads_digits p h [] r some all = absurd (omega arith)
 leads_digits p h (c ∷ cs) r some all = h c (and_parts (is_ascii_digit c) (all_ascii_digits cs) all).0
 
@@ -196,7 +197,8 @@ any s h end = record {
   ];
 }
 
-two_from : (a b n : ℕ) (cs r : List ℕ) → (digit 0 ≤ a) × (a ≤ digit 9) → (digit 0 ≤ b) × (b ≤ digit 9) → 10 * (a - digit 0) + (b - digit 0) ≡ n → cs ≡ r → (n < 100) × (a ∷ b ∷ cs ≡ two_digits n ++ r)
+two_from : (a b n : ℕ) (cs r : List ℕ) → (digit 0 ≤ a) × (a ≤ digit 9) → (digit 0 ≤ b) × (b ≤ digit 9)
+    → 10 * (a - digit 0) + (b - digit 0) ≡ n → cs ≡ r → (n < 100) × (a ∷ b ∷ cs ≡ two_digits n ++ r)
 two_from a b n cs r da db e f =
     let x : digit (n / 10) ≡ a = omega arith in
     let y : digit (n % 10) ≡ b = omega arith in

@@ -2,22 +2,22 @@
 use Rattle.std.specs.Prelude.{◌≡◌, ◌⊎◌, ℕ, ◌≤◌, List, [], ◌∷◌, codes}
 use Rattle.ags_cells.specs.Bytes.{digit}
 use Rattle.ags_cells.specs.Parts.{Mark, DigitsOf, TwoDigits}
-use Rattle.ags_cells.specs.Numbers.{Decimal, Significant, Scientific as ScientificNumber, Moisture, Angle}
+use Rattle.ags_cells.specs.Numbers.{Decimal, Significant, Scientific, Moisture, Angle}
 use Rattle.ags_cells.specs.Times.{FitsUnit}
 use Rattle.ags_cells.specs.declared.cell_type.CellType.{CellType}
-use Rattle.ags_cells.specs.declared.cell_type.CellType.TheVariants.{DecimalPlaces, SignificantFigures, Scientific, MoistureContent, YesNo, DegreesMinutesSeconds, DateTime, ElapsedTime, Any}
+use Rattle.ags_cells.specs.declared.cell_type.CellType.TheVariants as Types
 
 -- the texts of each type but for the null. The unit counts for dates and times alone
 abbrev pub IsEntryOf : CellType → List ℕ → List ℕ → Type 0
-IsEntryOf (DecimalPlaces n) unit text = Decimal n text
-IsEntryOf (SignificantFigures n) unit text = Significant text
-IsEntryOf (Scientific n) unit text = ScientificNumber n text
-IsEntryOf MoistureContent unit text = Moisture text
-IsEntryOf YesNo unit text = Mark (codes "YNyn") text
-IsEntryOf DegreesMinutesSeconds unit text = Angle text
-IsEntryOf DateTime unit text = FitsUnit (TwoDigits 0 23) unit text
-IsEntryOf ElapsedTime unit text = FitsUnit (DigitsOf 2 4) unit text
-IsEntryOf Any unit text = Unit {0}
+IsEntryOf (Types.DecimalPlaces n) unit text = Decimal n text
+IsEntryOf (Types.SignificantFigures n) unit text = Significant text
+IsEntryOf (Types.Scientific n) unit text = Scientific n text
+IsEntryOf Types.MoistureContent unit text = Moisture text
+IsEntryOf Types.YesNo unit text = Mark (codes "YNyn") text
+IsEntryOf Types.DegreesMinutesSeconds unit text = Angle text
+IsEntryOf Types.DateTime unit text = FitsUnit (TwoDigits 0 23) unit text
+IsEntryOf Types.ElapsedTime unit text = FitsUnit (DigitsOf 2 4) unit text
+IsEntryOf Types.Any unit text = Unit {0}
 
 -- the text fits the type under the unit. The null fits every type
 abbrev pub Fits : CellType → List ℕ → List ℕ → Type 0
@@ -28,7 +28,7 @@ Fits cell_type unit text = (text ≡ []) ⊎ IsEntryOf cell_type unit text
 pub record IsEntryUnder (code unit text : List ℕ) : Type 0 where
   pub decimal : (n : ℕ) → n ≤ 9 → code ≡ digit n ∷ codes "DP" → Decimal n text
   pub significant : (n : ℕ) → n ≤ 9 → code ≡ digit n ∷ codes "SF" → Significant text
-  pub scientific : (n : ℕ) → n ≤ 9 → code ≡ digit n ∷ codes "SCI" → ScientificNumber n text
+  pub scientific : (n : ℕ) → n ≤ 9 → code ≡ digit n ∷ codes "SCI" → Scientific n text
   pub moisture : code ≡ codes "MC" → Moisture text
   pub yes_no : code ≡ codes "YN" → Mark (codes "YNyn") text
   pub angle : code ≡ codes "DMS" → Angle text
