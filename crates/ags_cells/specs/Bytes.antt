@@ -1,4 +1,4 @@
--- The bytes that cells are written in, by name. They are ASCII (Rule 1).
+-- The bytes that cells are written in: those that a reader looks for, by name, and the digits. They are ASCII (Rule 1).
 use Rattle.std.specs.Prelude.{ℕ, ◌+◌}
 
 abbrev pub plus_sign : ℕ
@@ -23,6 +23,6 @@ small_e = 101
 abbrev pub capital_t : ℕ
 capital_t = 84
 
--- the digit of a number from 0 to 9: `0` to `9`
+-- the digit of a number from 0 to 9: `0` is 48 and `9` is 57
 abbrev pub digit : ℕ → ℕ
 digit n = 48 + n
