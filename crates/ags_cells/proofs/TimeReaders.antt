@@ -4,14 +4,14 @@ use Rattle.std.specs.Char.{is_ascii_digit}
 use Rattle.ags_cells.specs.Bytes.{hyphen, capital_t}
 use Rattle.ags_cells.specs.Parts.{◌⨾◌, Mark, DigitsOf, TwoDigits}
 use Rattle.ags_cells.specs.Numbers.{Sixtieth}
-use Rattle.ags_cells.specs.Times.{Month, DayWith}
+use Rattle.ags_cells.specs.Times.{DayWith}
 use Rattle.ags_cells.specs.Readers.{◌>>=◌, if_any, after_mark, after_digits, after_two_digits, after_sixtieth, after_day, after_month, after_clock_minutes, after_clock_seconds, after_elapsed_minutes, after_elapsed_seconds, after_time_minutes, after_time_seconds, after_day_minutes, after_day_seconds}
 use Rattle.ags_cells.proofs.Strips.{Strips, Anything, Nothing, seq, mark}
 use Rattle.ags_cells.proofs.PartReaders.{leads_mark, leads_seq, digits, any, number, sixtieth}
 use Rattle.ags_cells.proofs.NumberReaders.{leads_minutes, leads_sixtieth}
 use Rattle.ags_cells.proofs.DayReader.{day}
 
-pub month : Strips after_month Month Anything
+pub month : Strips after_month (DigitsOf 4 4 ⨾ Mark (codes "-") ⨾ TwoDigits 1 12) Anything
 unfolding after_month
 month = seq (after_digits 4 4) (λ t. after_mark hyphen t >>= after_two_digits 1 12) (digits 4 4)
     (seq (after_mark hyphen) (after_two_digits 1 12) (mark hyphen) (number 1 12 (omega arith)) (λ a r q stop. tt))

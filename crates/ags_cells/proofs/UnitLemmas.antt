@@ -3,9 +3,9 @@ use Rattle.std.proofs.Common.{◌≡◌, ◌≢◌, ℕ, ◌==◌, length, Bool,
 use Rattle.std.proofs.lemmas.Bool.Decides.{Decides-like, Decides-at}
 use Rattle.std.proofs.lemmas.Bool.{false≢true}
 use Rattle.std.specs.Str.{bytes_eq}
-use Rattle.ags_cells.specs.Parts.{◌⨾◌, DigitsOf, TwoDigits}
+use Rattle.ags_cells.specs.Parts.{◌⨾◌, Mark, DigitsOf, TwoDigits}
 use Rattle.ags_cells.specs.Numbers.{Sixtieth}
-use Rattle.ags_cells.specs.Times.{Month, CalendarDay, DayWith, FitsUnit}
+use Rattle.ags_cells.specs.Times.{CalendarDay, DayWith, FitsUnit}
 use Rattle.ags_cells.specs.Fits.{Fits, IsEntryOf}
 use Rattle.ags_cells.specs.TimeUnits.{IsListedUnit, IsUnitOf}
 use Rattle.ags_cells.specs.declared.time_unit.TimeUnit.{TimeUnit}
@@ -50,7 +50,7 @@ same_unit t Units.Other v is h = absurd (is v h)
 -- the texts of a unit
 abbrev pub IsUnderUnit : (H : List ℕ → Type 0) → TimeUnit → List ℕ → Type 0
 IsUnderUnit H Units.Year text = DigitsOf 4 4 text
-IsUnderUnit H Units.Month text = Month text
+IsUnderUnit H Units.Month text = (DigitsOf 4 4 ⨾ Mark (codes "-") ⨾ TwoDigits 1 12) text
 IsUnderUnit H Units.Day text = CalendarDay text
 IsUnderUnit H Units.DayMinutes text = DayWith (TwoDigits 0 23 ⨾ Sixtieth) text
 IsUnderUnit H Units.DaySeconds text = DayWith (TwoDigits 0 23 ⨾ Sixtieth ⨾ Sixtieth) text

@@ -5,10 +5,6 @@ use Rattle.jiff.specs.Words.{IsDate}
 use Rattle.ags_cells.specs.Parts.{◌⨾◌, Optional, Mark, DigitsOf, TwoDigits, two_digits}
 use Rattle.ags_cells.specs.Numbers.{Sixtieth}
 
--- `yyyy-mm`: years 0000 to 9999, months 01 to 12
-abbrev pub Month : List ℕ → Type 0
-Month = DigitsOf 4 4 ⨾ Mark (codes "-") ⨾ TwoDigits 1 12
-
 -- `yyyy-mm-dd`: a day that the Gregorian calendar has, of a year 0000 to 9999
 abbrev pub CalendarDay : List ℕ → Type 0
 CalendarDay text = (year : ℕ) × (month : ℕ) × (day : ℕ) × (year < 10000) × IsDate (pos year) (pos month) (pos day)
@@ -18,11 +14,11 @@ CalendarDay text = (year : ℕ) × (month : ℕ) × (day : ℕ) × (year < 10000
 abbrev pub DayWith : (List ℕ → Type 0) → List ℕ → Type 0
 DayWith Time = CalendarDay ⨾ Optional (Mark (codes "T") ⨾ Time)
 
--- the texts under a unit: years 0000 to 9999; minutes and seconds 00 to 59; hours 00 to 23 after a date, and else those of Hours.
--- Under any other unit every text is one
+-- the texts under a unit: years 0000 to 9999; months 01 to 12; hours 00 to 23 after a date, and else those of Hours; minutes and
+-- seconds 00 to 59. Under any other unit every text is one
 pub record FitsUnit (Hours : List ℕ → Type 0) (unit text : List ℕ) : Type 0 where
   pub year : unit ≡ codes "yyyy" → DigitsOf 4 4 text
-  pub month : unit ≡ codes "yyyy-mm" → Month text
+  pub month : unit ≡ codes "yyyy-mm" → (DigitsOf 4 4 ⨾ Mark (codes "-") ⨾ TwoDigits 1 12) text
   pub day : unit ≡ codes "yyyy-mm-dd" → CalendarDay text
   pub day_minutes : unit ≡ codes "yyyy-mm-ddThh:mm" → DayWith (TwoDigits 0 23 ⨾ Sixtieth) text
   pub day_seconds : unit ≡ codes "yyyy-mm-ddThh:mm:ss" → DayWith (TwoDigits 0 23 ⨾ Sixtieth ⨾ Sixtieth) text
