@@ -6,17 +6,13 @@ use crate::{Caller, Decision, Name, RowFacts, Subject, Verb};
 use ags_rows::{Bytes, Cell};
 
 #[derive(Clone, Copy, Debug, PartialEq, Eq)]
-pub(crate) enum Effect {
-    Permit,
-    Deny,
-}
+#[rattlefmt::skip]
+pub(crate) enum Effect { Permit, Deny }
 
 /// A heading and an entry under it.
 #[derive(Drop)]
-pub(crate) struct WantedEntry {
-    pub(crate) heading: Bytes,
-    pub(crate) value: Bytes,
-}
+#[rattlefmt::skip]
+pub(crate) struct WantedEntry { pub(crate) heading: Bytes, pub(crate) value: Bytes }
 
 /// A rule. What it does not set matches all.
 #[derive(Drop)]
