@@ -9,7 +9,7 @@ use Rattle.std.specs.Bool.{beq}
 use Rattle.std.specs.List.{list_any, zip}
 use Rattle.std.specs.Str.{bytes_eq}
 use denote.Enum.Bare.{same_true, sameb, true_same}
-use Rattle.reg_policy.specs.contracts.subject.Verb.{the_type}
+use Rattle.reg_policy.specs.contracts.subject.Verb.{the_type as the_verbs}
 use Rattle.reg_policy.specs.Decision.{Question, Facts, IsFirstMatch, HasEntry, Matches, Meets, MeetsEntry, MeetsRow, decision_of, effect_of, has_entry, is_met, is_row_met, matches}
 use Rattle.reg_policy.specs.declared.rule.WantedEntry.{WantedEntry}
 use Rattle.reg_policy.specs.declared.rule.Rule.{Rule}
@@ -26,8 +26,8 @@ beq-Decides true false = (λ e. absurd (false≢true e), λ e. sym e)
 beq-Decides false true = (λ e. absurd (false≢true e), λ e. e)
 beq-Decides false false = (λ _. refl, λ _. refl)
 
-verb-Decides : (v w : Verb) → Decides (sameb the_type v w) (v ≡ w)
-verb-Decides v w = (same_true the_type tt v w, true_same the_type v w)
+verb-Decides : (v w : Verb) → Decides (sameb the_verbs v w) (v ≡ w)
+verb-Decides v w = (same_true the_verbs tt v w, true_same the_verbs v w)
 
 -- the entry at the first place, or further on
 entry_to : (e : WantedEntry) (h c : List ℕ) (hs cs : List (List ℕ)) → ((h ≡ e.heading) × (c ≡ e.value)) ⊎ HasEntry e hs cs → HasEntry e (h ∷ hs) (c ∷ cs)
@@ -39,7 +39,7 @@ entry_from e h c hs cs (zero, a, b) = inl (cc, cc)
 entry_from e h c hs cs (suc i, a, b) = inr (i, a, b)
 
 has_entry-Decides : (e : WantedEntry) (hs cs : List (List ℕ))
-    → Decides (list_any (λ p. bytes_eq p.0 e.heading && bytes_eq p.1 e.value) (zip hs cs)) (HasEntry e hs cs)
+    → Decides (list_any (λ (h, c). bytes_eq h e.heading && bytes_eq c e.value) (zip hs cs)) (HasEntry e hs cs)
 has_entry-Decides e [] cs = (λ f. absurd (false≢true f), λ (i, a, b). absurd (cc))
 has_entry-Decides e (h ∷ hs) [] = (λ f. absurd (false≢true f), λ (i, a, b). absurd (cc))
 has_entry-Decides e (h ∷ hs) (c ∷ cs) =
@@ -68,7 +68,7 @@ pub matches-Decides : (r : Rule) (s : Question) → Decides (matches r s) (Match
 matches-Decides r s =
     Decides-like _ (λ h. (h.0.0, h.0.1, h.0.2, h.0.3, h.1)) (λ h. ((h.0, h.1, h.2, h.3), h.4))
     (Decides-and _ _ (four-Decides _ _ _ _ (is_met-Decides bytes_eq bytes_eq-Decides r.firm s.firm) (is_met-Decides bytes_eq bytes_eq-Decides r.role s.role)
-    (is_met-Decides bytes_eq bytes_eq-Decides r.project s.project) (is_met-Decides (sameb the_type) verb-Decides r.verb s.verb)) (is_row_met-Decides r s.row))
+    (is_met-Decides bytes_eq bytes_eq-Decides r.project s.project) (is_met-Decides (sameb the_verbs) verb-Decides r.verb s.verb)) (is_row_met-Decides r s.row))
 
 -- one turn of the search for the first rule that matches
 pub decision_turn : (rules : List Rule) (s : Question) (i : ℕ) (r : Rule) (b : Bool) → i < length rules → r ≡ get_or rules i r → b ≡ matches r s

@@ -4,7 +4,7 @@ use Rattle.std.specs.Bool.{beq}
 use Rattle.std.specs.List.{All, list_any, zip}
 use Rattle.std.specs.Str.{bytes_eq}
 use denote.Enum.Bare.{sameb}
-use Rattle.reg_policy.specs.contracts.subject.Verb.{the_type}
+use Rattle.reg_policy.specs.contracts.subject.Verb.{the_type as the_verbs}
 use Rattle.reg_policy.specs.declared.subject.Verb.{Verb}
 use Rattle.reg_policy.specs.declared.subject.Verb.TheVariants.{See}
 use Rattle.reg_policy.specs.declared.callers.Caller.{Caller}
@@ -87,17 +87,17 @@ is_met same (Some set) asked = same set asked
 
 -- at some place the row has the heading, and exactly the value
 abbrev pub has_entry : WantedEntry → Facts → Bool
-has_entry entry row = list_any (λ p. bytes_eq p.0 entry.heading && bytes_eq p.1 entry.value) (zip row.headings row.cells)
+has_entry entry row = list_any (λ (heading, cell). bytes_eq heading entry.heading && bytes_eq cell entry.value) (zip row.headings row.cells)
 
 -- A request without a row is met only by a rule that sets nothing of a row.
 abbrev pub is_row_met : Rule → Option Facts → Bool
 is_row_met r None = is_none r.group && is_none r.own && is_none r.past && is_none r.entry
 is_row_met r (Some row) = is_met bytes_eq r.group row.group && is_met beq r.own row.own && is_met beq r.past row.past && is_met has_entry r.entry row
 
--- The rule matches what is asked: all that it sets is so.
+-- The rule matches what is asked: all that it sets is so. `sameb the_verbs` tells whether two verbs are one.
 abbrev pub matches : Rule → Question → Bool
 matches r asked = is_met bytes_eq r.firm asked.firm && is_met bytes_eq r.role asked.role && is_met bytes_eq r.project asked.project
-    && is_met (sameb the_type) r.verb asked.verb && is_row_met r asked.row
+    && is_met (sameb the_verbs) r.verb asked.verb && is_row_met r asked.row
 
 -- The decision: the effect and number of the first rule that matches, or the denial 0.
 abbrev pub decision_of : List Rule → Question → Decision

@@ -5,6 +5,7 @@ ghost use Rattle.reg_policy.specs.Decision.{HasEntry, Facts, Matches, Meets, Mee
 use crate::{Caller, Decision, Name, RowFacts, Subject, Verb};
 use ags_rows::{Bytes, Cell};
 
+/// What a rule decides where it matches.
 #[derive(Clone, Copy, Debug, PartialEq, Eq)]
 #[rattlefmt::skip]
 pub(crate) enum Effect { Permit, Deny }
