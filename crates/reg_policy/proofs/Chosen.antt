@@ -5,31 +5,29 @@ use Rattle.std.proofs.lemmas.Bool.Decides.{Decides-and, Decides-like, Decides-or
 use Rattle.std.proofs.lemmas.List.{at_drop_more}
 use Rattle.std.proofs.lemmas.List.Elements.{All-cons, All-nil}
 use Rattle.std.proofs.lemmas.Slice.Eq.{bytes_eq-Decides}
+use Rattle.std.specs.Bool.{beq}
+use Rattle.std.specs.List.{list_any, zip}
 use Rattle.std.specs.Str.{bytes_eq}
-use Rattle.reg_policy.specs.Decision.{Question, Facts, IsFirstMatch, HasEntry, Matches, Meets, MeetsEntry, MeetsRow, decision_of, effect_of, has_entry, is_entry_met, is_met, is_row_met, matches, same_fact, same_verb}
+use denote.Enum.Bare.{same_true, sameb, true_same}
+use Rattle.reg_policy.specs.contracts.subject.Verb.{the_type as the_verbs}
+use Rattle.reg_policy.specs.Decision.{Question, Facts, IsFirstMatch, HasEntry, Matches, Meets, MeetsEntry, MeetsRow, decision_of, effect_of, has_entry, is_met, is_row_met, matches}
 use Rattle.reg_policy.specs.declared.rule.WantedEntry.{WantedEntry}
 use Rattle.reg_policy.specs.declared.rule.Rule.{Rule}
 use Rattle.reg_policy.specs.declared.subject.Decision.{Decision}
 use Rattle.reg_policy.specs.declared.subject.Verb.{Verb}
-use Rattle.reg_policy.specs.declared.subject.Verb.TheVariants.{Deposit, Check, List as ListDeposits, Extract, See}
 
 is_met-Decides : {A : Type 0} (same : A → A → Bool) → ((x y : A) → Decides (same x y) (x ≡ y)) → (o : Option A) (x : A) → Decides (is_met same o x) (Meets o x)
 is_met-Decides same each None x = (λ _. tt, λ _. refl)
 is_met-Decides same each (Some a) x = each a x
 
-same_fact-Decides : (a b : Bool) → Decides (same_fact a b) (a ≡ b)
-same_fact-Decides true true = (λ _. refl, λ _. refl)
-same_fact-Decides true false = (λ e. absurd (false≢true e), λ e. sym e)
-same_fact-Decides false true = (λ e. absurd (false≢true e), λ e. e)
-same_fact-Decides false false = (λ _. refl, λ _. refl)
+beq-Decides : (a b : Bool) → Decides (beq a b) (a ≡ b)
+beq-Decides true true = (λ _. refl, λ _. refl)
+beq-Decides true false = (λ e. absurd (false≢true e), λ e. sym e)
+beq-Decides false true = (λ e. absurd (false≢true e), λ e. e)
+beq-Decides false false = (λ _. refl, λ _. refl)
 
-same_verb-Decides : (v w : Verb) → Decides (same_verb v w) (v ≡ w)
-same_verb-Decides Deposit Deposit = (λ _. refl, λ _. refl)
-same_verb-Decides Check Check = (λ _. refl, λ _. refl)
-same_verb-Decides ListDeposits ListDeposits = (λ _. refl, λ _. refl)
-same_verb-Decides Extract Extract = (λ _. refl, λ _. refl)
-same_verb-Decides See See = (λ _. refl, λ _. refl)
-same_verb-Decides v w = (λ e. absurd (false≢true e), λ e. absurd (cc))
+verb-Decides : (v w : Verb) → Decides (sameb the_verbs v w) (v ≡ w)
+verb-Decides v w = (same_true the_verbs tt v w, true_same the_verbs v w)
 
 -- the entry at the first place, or further on
 entry_to : (e : WantedEntry) (h c : List ℕ) (hs cs : List (List ℕ)) → ((h ≡ e.heading) × (c ≡ e.value)) ⊎ HasEntry e hs cs → HasEntry e (h ∷ hs) (c ∷ cs)
@@ -40,37 +38,37 @@ entry_from : (e : WantedEntry) (h c : List ℕ) (hs cs : List (List ℕ)) → Ha
 entry_from e h c hs cs (zero, a, b) = inl (cc, cc)
 entry_from e h c hs cs (suc i, a, b) = inr (i, a, b)
 
-has_entry-Decides : (e : WantedEntry) (hs cs : List (List ℕ)) → Decides (has_entry e hs cs) (HasEntry e hs cs)
+has_entry-Decides : (e : WantedEntry) (hs cs : List (List ℕ))
+    → Decides (list_any (λ (h, c). bytes_eq h e.heading && bytes_eq c e.value) (zip hs cs)) (HasEntry e hs cs)
 has_entry-Decides e [] cs = (λ f. absurd (false≢true f), λ (i, a, b). absurd (cc))
 has_entry-Decides e (h ∷ hs) [] = (λ f. absurd (false≢true f), λ (i, a, b). absurd (cc))
 has_entry-Decides e (h ∷ hs) (c ∷ cs) =
     Decides-like _ (entry_to e h c hs cs) (entry_from e h c hs cs)
     (Decides-or _ _ (Decides-and _ _ (bytes_eq-Decides h e.heading) (bytes_eq-Decides c e.value)) (has_entry-Decides e hs cs))
 
-is_entry_met-Decides : (o : Option WantedEntry) (hs cs : List (List ℕ)) → Decides (is_entry_met o hs cs) (MeetsEntry o hs cs)
-is_entry_met-Decides None hs cs = (λ _. tt, λ _. refl)
-is_entry_met-Decides (Some e) hs cs = has_entry-Decides e hs cs
+is_entry_met-Decides : (o : Option WantedEntry) (f : Facts) → Decides (is_met has_entry o f) (MeetsEntry o f.headings f.cells)
+is_entry_met-Decides None f = (λ _. tt, λ _. refl)
+is_entry_met-Decides (Some e) f = has_entry-Decides e f.headings f.cells
 
 is_none-Decides : {A : Type 0} (o : Option A) → Decides (is_none o) (o ≡ None)
 is_none-Decides None = (λ _. refl, λ _. refl)
 is_none-Decides (Some a) = (λ e. absurd (false≢true e), λ e. absurd (cc))
 
-four-Decides : {P Q R S : Type 0} (a b c d : Bool) → Decides a P → Decides b Q → Decides c R → Decides d S → Decides (a && (b && (c && d))) (P × Q × R × S)
+four-Decides : {P Q R S : Type 0} (a b c d : Bool) → Decides a P → Decides b Q → Decides c R → Decides d S → Decides (a && b && c && d) (P × Q × R × S)
 four-Decides a b c d p q r s =
-    Decides-like _ (λ h. (h.0, h.1.0, h.1.1.0, h.1.1.1)) (λ h. (h.0, (h.1, (h.2, h.3))))
-    (Decides-and _ _ p (Decides-and _ _ q (Decides-and _ _ r s)))
+    Decides-like _ (λ h. (h.0.0.0, h.0.0.1, h.0.1, h.1)) (λ h. (((h.0, h.1), h.2), h.3))
+    (Decides-and _ _ (Decides-and _ _ (Decides-and _ _ p q) r) s)
 
 is_row_met-Decides : (r : Rule) (o : Option Facts) → Decides (is_row_met r o) (MeetsRow r o)
 is_row_met-Decides r None = four-Decides _ _ _ _ (is_none-Decides r.group) (is_none-Decides r.own) (is_none-Decides r.past) (is_none-Decides r.entry)
-is_row_met-Decides r (Some f) = four-Decides _ _ _ _ (is_met-Decides bytes_eq bytes_eq-Decides r.group f.group) (is_met-Decides same_fact same_fact-Decides r.own f.own)
-    (is_met-Decides same_fact same_fact-Decides r.past f.past) (is_entry_met-Decides r.entry f.headings f.cells)
+is_row_met-Decides r (Some f) = four-Decides _ _ _ _ (is_met-Decides bytes_eq bytes_eq-Decides r.group f.group) (is_met-Decides beq beq-Decides r.own f.own)
+    (is_met-Decides beq beq-Decides r.past f.past) (is_entry_met-Decides r.entry f)
 
 pub matches-Decides : (r : Rule) (s : Question) → Decides (matches r s) (Matches r s)
 matches-Decides r s =
-    Decides-like _ (λ h. (h.0, h.1.0, h.1.1.0, h.1.1.1.0, h.1.1.1.1)) (λ h. (h.0, (h.1, (h.2, (h.3, h.4)))))
-    (Decides-and _ _ (is_met-Decides bytes_eq bytes_eq-Decides r.firm s.firm) (Decides-and _ _ (is_met-Decides bytes_eq bytes_eq-Decides r.role s.role)
-    (Decides-and _ _ (is_met-Decides bytes_eq bytes_eq-Decides r.project s.project)
-    (Decides-and _ _ (is_met-Decides same_verb same_verb-Decides r.verb s.verb) (is_row_met-Decides r s.row)))))
+    Decides-like _ (λ h. (h.0.0, h.0.1, h.0.2, h.0.3, h.1)) (λ h. ((h.0, h.1, h.2, h.3), h.4))
+    (Decides-and _ _ (four-Decides _ _ _ _ (is_met-Decides bytes_eq bytes_eq-Decides r.firm s.firm) (is_met-Decides bytes_eq bytes_eq-Decides r.role s.role)
+    (is_met-Decides bytes_eq bytes_eq-Decides r.project s.project) (is_met-Decides (sameb the_verbs) verb-Decides r.verb s.verb)) (is_row_met-Decides r s.row))
 
 -- one turn of the search for the first rule that matches
 pub decision_turn : (rules : List Rule) (s : Question) (i : ℕ) (r : Rule) (b : Bool) → i < length rules → r ≡ get_or rules i r → b ≡ matches r s

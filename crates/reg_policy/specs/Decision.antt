@@ -1,9 +1,12 @@
 -- Which rule of a policy decides.
-use Rattle.std.specs.Prelude.{◌≡◌, ◌⊎◌, ℕ, List, [], ◌∷◌, ◌++◌, Bool, true, false, not, ◌&&◌, ◌||◌, if◌then◌else◌, is_none, Option, Some, None, IfSome, slice_get}
-use Rattle.std.specs.List.{All}
+use Rattle.std.specs.Prelude.{◌≡◌, ◌⊎◌, ℕ, List, [], ◌∷◌, ◌++◌, Bool, true, ◌&&◌, if◌then◌else◌, is_none, Option, Some, None, IfSome, slice_get}
+use Rattle.std.specs.Bool.{beq}
+use Rattle.std.specs.List.{All, list_any, zip}
 use Rattle.std.specs.Str.{bytes_eq}
+use denote.Enum.Bare.{sameb}
+use Rattle.reg_policy.specs.contracts.subject.Verb.{the_type as the_verbs}
 use Rattle.reg_policy.specs.declared.subject.Verb.{Verb}
-use Rattle.reg_policy.specs.declared.subject.Verb.TheVariants.{Deposit, Check, List as ListDeposits, Extract, See}
+use Rattle.reg_policy.specs.declared.subject.Verb.TheVariants.{See}
 use Rattle.reg_policy.specs.declared.callers.Caller.{Caller}
 use Rattle.reg_policy.specs.declared.subject.RowFacts.{RowFacts}
 use Rattle.reg_policy.specs.declared.subject.Decision.{Decision}
@@ -75,39 +78,26 @@ IsFirstMatch rules asked decision =
     × All (λ x. ¬ (Matches x asked)) before × Matches r asked × (decision ≡ effect_of r.effect r.number))
     ⊎ (All (λ x. ¬ (Matches x asked)) rules × (decision ≡ Deny 0))
 
--- the tests of these relations, from which a decision is computed
-abbrev pub is_met : {A : Type 0} → (A → A → Bool) → Option A → A → Bool
+-- ---- the tests of these relations, from which a decision is computed
+
+-- what a rule sets is the same as what is asked; what it does not set matches all
+abbrev pub is_met : {A B : Type 0} → (A → B → Bool) → Option A → B → Bool
 is_met same None asked = true
 is_met same (Some set) asked = same set asked
 
-abbrev pub same_fact : Bool → Bool → Bool
-same_fact true fact = fact
-same_fact false fact = not fact
+-- at some place the row has the heading, and exactly the value
+abbrev pub has_entry : WantedEntry → Facts → Bool
+has_entry entry row = list_any (λ (heading, cell). bytes_eq heading entry.heading && bytes_eq cell entry.value) (zip row.headings row.cells)
 
-abbrev pub same_verb : Verb → Verb → Bool
-same_verb Deposit Deposit = true
-same_verb Check Check = true
-same_verb ListDeposits ListDeposits = true
-same_verb Extract Extract = true
-same_verb See See = true
-same_verb v w = false
-
-abbrev pub has_entry : WantedEntry → List (List ℕ) → List (List ℕ) → Bool
-has_entry entry (h ∷ headings) (c ∷ cells) = (bytes_eq h entry.heading && bytes_eq c entry.value) || has_entry entry headings cells
-has_entry entry headings cells = false
-
-abbrev pub is_entry_met : Option WantedEntry → List (List ℕ) → List (List ℕ) → Bool
-is_entry_met None headings cells = true
-is_entry_met (Some entry) headings cells = has_entry entry headings cells
-
+-- A request without a row is met only by a rule that sets nothing of a row.
 abbrev pub is_row_met : Rule → Option Facts → Bool
-is_row_met r None = is_none r.group && (is_none r.own && (is_none r.past && is_none r.entry))
-is_row_met r (Some row) = is_met bytes_eq r.group row.group && (is_met same_fact r.own row.own && (is_met same_fact r.past row.past
-    && is_entry_met r.entry row.headings row.cells))
+is_row_met r None = is_none r.group && is_none r.own && is_none r.past && is_none r.entry
+is_row_met r (Some row) = is_met bytes_eq r.group row.group && is_met beq r.own row.own && is_met beq r.past row.past && is_met has_entry r.entry row
 
+-- The rule matches what is asked: all that it sets is so. `sameb the_verbs` tells whether two verbs are one.
 abbrev pub matches : Rule → Question → Bool
-matches r asked = is_met bytes_eq r.firm asked.firm && (is_met bytes_eq r.role asked.role && (is_met bytes_eq r.project asked.project
-    && (is_met same_verb r.verb asked.verb && is_row_met r asked.row)))
+matches r asked = is_met bytes_eq r.firm asked.firm && is_met bytes_eq r.role asked.role && is_met bytes_eq r.project asked.project
+    && is_met (sameb the_verbs) r.verb asked.verb && is_row_met r asked.row
 
 -- The decision: the effect and number of the first rule that matches, or the denial 0.
 abbrev pub decision_of : List Rule → Question → Decision

@@ -1,8 +1,9 @@
 -- Which texts are names of firms, roles and projects, which are tokens, and the words of the verbs.
 use Rattle.std.specs.Prelude.{ℕ, List, nat_le, Bool, ◌&&◌, ◌||◌, ◌==◌, codes}
+use Rattle.std.specs.Char.{is_ascii_alphanumeric}
 use Rattle.std.specs.List.{list_all}
 use Rattle.ags_rows.specs.Bytes.{low_line}
-use Rattle.ags_rows.specs.Names.{is_capital, is_digit, is_within}
+use Rattle.ags_rows.specs.Names.{is_within}
 use Rattle.reg_policy.specs.declared.subject.Verb.{Verb}
 use Rattle.reg_policy.specs.declared.subject.Verb.TheVariants.{Deposit, Check, List as ListDeposits, Extract, See}
 
@@ -10,19 +11,9 @@ use Rattle.reg_policy.specs.declared.subject.Verb.TheVariants.{Deposit, Check, L
 abbrev pub dash : ℕ
 dash = 45
 
--- a to z
-abbrev pub first_small : ℕ
-first_small = 97
-
-abbrev pub last_small : ℕ
-last_small = 122
-
-abbrev pub is_small : ℕ → Bool
-is_small b = nat_le first_small b && nat_le b last_small
-
 -- a letter, a digit, `-` or `_`
 abbrev pub is_name_byte : ℕ → Bool
-is_name_byte b = is_capital b || is_small b || is_digit b || b == dash || b == low_line
+is_name_byte b = is_ascii_alphanumeric b || b == dash || b == low_line
 
 -- A name of a firm, a role or a project: 1 to 32 letters, digits, `-` and `_`.
 abbrev pub is_name : List ℕ → Bool

@@ -52,10 +52,8 @@ impl From<ReadError> for CallersError {
 
 /// Who speaks.
 #[derive(Drop)]
-pub struct Caller {
-    pub firm: Name,
-    pub role: Name,
-}
+#[rattlefmt::skip]
+pub struct Caller { pub firm: Name, pub role: Name }
 
 /// A caller and the token that shows who it is.
 #[derive(Drop)]

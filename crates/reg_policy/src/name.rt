@@ -128,5 +128,5 @@ fn has_name_bytes(text: &[u8]) -> bool
 fn is_name_byte(b: u8) -> bool
     ensures { result ≡ is_name_byte b }
 {
-    b.is_ascii_uppercase() || b.is_ascii_lowercase() || b.is_ascii_digit() || b == b'-' || b == b'_'
+    b.is_ascii_alphanumeric() || b == b'-' || b == b'_'
 }

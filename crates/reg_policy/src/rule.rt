@@ -5,18 +5,15 @@ ghost use Rattle.reg_policy.specs.Decision.{HasEntry, Facts, Matches, Meets, Mee
 use crate::{Caller, Decision, Name, RowFacts, Subject, Verb};
 use ags_rows::{Bytes, Cell};
 
+/// What a rule decides where it matches.
 #[derive(Clone, Copy, Debug, PartialEq, Eq)]
-pub(crate) enum Effect {
-    Permit,
-    Deny,
-}
+#[rattlefmt::skip]
+pub(crate) enum Effect { Permit, Deny }
 
 /// A heading and an entry under it.
 #[derive(Drop)]
-pub(crate) struct WantedEntry {
-    pub(crate) heading: Bytes,
-    pub(crate) value: Bytes,
-}
+#[rattlefmt::skip]
+pub(crate) struct WantedEntry { pub(crate) heading: Bytes, pub(crate) value: Bytes }
 
 /// A rule. What it does not set matches all.
 #[derive(Drop)]

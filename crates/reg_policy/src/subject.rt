@@ -5,16 +5,10 @@ use crate::{Caller, Name};
 use ags_rows::Cell;
 use std::marker::Model;
 
-/// What a caller wants to do.
+/// What a caller wants to do. `See` is to see one row.
 #[derive(Clone, Copy, Debug, PartialEq, Eq)]
-pub enum Verb {
-    Deposit,
-    Check,
-    List,
-    Extract,
-    /// To see one row.
-    See,
-}
+#[rattlefmt::skip]
+pub enum Verb { Deposit, Check, List, Extract, See }
 
 /// What a policy knows of one row.
 #[derive(Clone, Copy)]
@@ -84,7 +78,5 @@ impl<'a> Subject<'a> {
 
 /// The answer, with the number of the rule that decides: 0 where no rule matches.
 #[derive(Clone, Copy, Debug, PartialEq, Eq)]
-pub enum Decision {
-    Permit(u32),
-    Deny(u32),
-}
+#[rattlefmt::skip]
+pub enum Decision { Permit(u32), Deny(u32) }
