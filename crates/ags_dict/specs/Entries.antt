@@ -19,17 +19,13 @@ pub record Entries : Type 0 where
 
 -- a row of DICT_TYPE `GROUP` makes an entry for a group, with its parent
 abbrev pub group_entries : List (List ℕ) → List (List ℕ) → List GroupEntry
-group_entries headings fields = if bytes_eq (under headings fields (codes "DICT_TYPE")) (codes "GROUP")
-    then record { group = under headings fields (codes "DICT_GRP"); parent = under headings fields (codes "DICT_PGRP") } ∷ [] else []
+group_entries headings fields = let entry = under headings fields in if bytes_eq (entry (codes "DICT_TYPE")) (codes "GROUP")
+    then record { group = entry (codes "DICT_GRP"); parent = entry (codes "DICT_PGRP") } ∷ [] else []
 
 -- a row of DICT_TYPE `HEADING` makes an entry for a heading of a group, with its status
 abbrev pub heading_entries : List (List ℕ) → List (List ℕ) → List HeadingEntry
-heading_entries headings fields = if bytes_eq (under headings fields (codes "DICT_TYPE")) (codes "HEADING")
-    then record {
-      group = under headings fields (codes "DICT_GRP");
-      heading = under headings fields (codes "DICT_HDNG");
-      status = under headings fields (codes "DICT_STAT");
-    } ∷ [] else []
+heading_entries headings fields = let entry = under headings fields in if bytes_eq (entry (codes "DICT_TYPE")) (codes "HEADING")
+    then record { group = entry (codes "DICT_GRP"); heading = entry (codes "DICT_HDNG"); status = entry (codes "DICT_STAT") } ∷ [] else []
 
 abbrev pub is_dict : Contents → Bool
 is_dict group = bytes_eq group.name (codes "DICT")
