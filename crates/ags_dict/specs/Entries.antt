@@ -55,10 +55,9 @@ with_unstated same old new = old ++ unstated same old new
 
 -- the extended dictionary: entries, then the new ones of a file's own DICT
 abbrev pub extended : Entries → List Contents → Entries
-extended standard contents = record {
-  groups = with_unstated same_group standard.groups (flat_map group_entries_in contents);
-  headings = with_unstated same_heading standard.headings (flat_map heading_entries_in contents);
-}
+extended standard contents =
+    let groups = flat_map group_entries_in contents in let headings = flat_map heading_entries_in contents in
+    record { groups = with_unstated same_group standard.groups groups; headings = with_unstated same_heading standard.headings headings }
 
 -- the entries of the dictionary that a file is: those of its DICT alone
 abbrev pub standard_entries : List Contents → Entries
