@@ -11,8 +11,7 @@ use Rattle.std.proofs.lemmas.List.Folds.{position_or_len_push, find_at}
 use Rattle.std.proofs.lemmas.Option.{slice_get_past}
 use Rattle.ags_rows.specs.Contents.{place_in}
 use Rattle.ags_dict.specs.declared.entries.HeadingEntry.{HeadingEntry}
-use Rattle.ags_dict.specs.Entries.{heading_of, of_group}
-use Rattle.ags_dict.specs.Index.{is_named}
+use Rattle.ags_dict.specs.Index.{of_group, is_named}
 use Rattle.ags_dict.proofs.Held.{same_bytes}
 
 place_map : {X Y : Type 0} (f : X → Y) (p : Y → Bool) (xs : List X) → position_or_len p (map f xs) ≡ position_or_len (λ x. p (f x)) xs
@@ -28,9 +27,9 @@ position_leads p xs =
       | inr le ↦ ap (λ (b : Bool). option_and_then (slice_get xs) (cond b (Some n) None)) (le-ltb n (length xs) le) ∙ sym (slice_get_past xs n le) ∙ sym (find_at p xs)
     ]
 
-pub rank_leads : (entries : List HeadingEntry) (heading : List ℕ) → option_and_then (slice_get entries) (place_in (map heading_of entries) heading) ≡ find (is_named heading) entries
+pub rank_leads : (entries : List HeadingEntry) (heading : List ℕ) → option_and_then (slice_get entries) (place_in (map (λ (e : HeadingEntry). e.heading) entries) heading) ≡ find (is_named heading) entries
 rank_leads entries heading =
-    rw (place_map heading_of (λ h. bytes_eq h heading) entries, length-map entries heading_of) (position_leads (is_named heading) entries)
+    rw (place_map (λ (e : HeadingEntry). e.heading) (λ h. bytes_eq h heading) entries, length-map entries (λ (e : HeadingEntry). e.heading)) (position_leads (is_named heading) entries)
 
 -- the place n of a list of m items, if it has one
 abbrev at : ℕ → ℕ → Option ℕ
@@ -75,12 +74,12 @@ or_none (Some n) = refl
 
 -- the orders of groups after one more entry
 pub ordered : (entries : List HeadingEntry) (e : HeadingEntry) (g h : List ℕ) (rank : ℕ) → rank ≡ length (filter (of_group e.group) entries)
-    → place_in (map heading_of (filter (of_group g) (entries ++ e ∷ []))) h
-    ≡ option_or (place_in (map heading_of (filter (of_group g) entries)) h) (cond (bytes_eq e.group g && bytes_eq e.heading h) (Some rank) None)
+    → place_in (map (λ (e : HeadingEntry). e.heading) (filter (of_group g) (entries ++ e ∷ []))) h
+    ≡ option_or (place_in (map (λ (e : HeadingEntry). e.heading) (filter (of_group g) entries)) h) (cond (bytes_eq e.group g && bytes_eq e.heading h) (Some rank) None)
 ordered entries e g h rank is = elim (cases_Bool (bytes_eq e.group g)) [
   | inl t ↦
-      let at_g : rank ≡ length (map heading_of (filter (of_group g) entries)) =
-      is ∙ ap (λ (k : List ℕ). length (filter (of_group k) entries)) (same_bytes e.group g t) ∙ sym (length-map (filter (of_group g) entries) heading_of) in
-      rw (filter-append (of_group g) entries (e ∷ []), t, map-append heading_of (filter (of_group g) entries) (e ∷ []), at_g) (rank_push (map heading_of (filter (of_group g) entries)) e.heading h)
+      let at_g : rank ≡ length (map (λ (e : HeadingEntry). e.heading) (filter (of_group g) entries)) =
+      is ∙ ap (λ (k : List ℕ). length (filter (of_group k) entries)) (same_bytes e.group g t) ∙ sym (length-map (filter (of_group g) entries) (λ (e : HeadingEntry). e.heading)) in
+      rw (filter-append (of_group g) entries (e ∷ []), t, map-append (λ (e : HeadingEntry). e.heading) (filter (of_group g) entries) (e ∷ []), at_g) (rank_push (map (λ (e : HeadingEntry). e.heading) (filter (of_group g) entries)) e.heading h)
   | inr f ↦ rw (filter-append (of_group g) entries (e ∷ []), f, append-nil (filter (of_group g) entries)) (sym (or_none _))
 ]

@@ -2,6 +2,7 @@
 -- All of it speaks of a file's contents, not of its lines. A heading that DICT does not have reads as null.
 use Rattle.std.specs.Prelude.{ℕ, List, [], ◌∷◌, ◌++◌, map, flat_map, codes, Bool, not, ◌&&◌, Option, Some, None, if◌then◌else◌}
 use Rattle.std.specs.List.{filter, find, list_any, list_all}
+use Rattle.std.specs.Option.{option_and_then}
 use Rattle.std.specs.Str.{bytes_eq}
 use Rattle.ags_rows.specs.Contents.{Contents, under}
 use Rattle.ags_rows.specs.Bytes.{plus}
@@ -18,20 +19,13 @@ pub record Entries : Type 0 where
 
 -- a row of DICT_TYPE `GROUP` makes an entry for a group, with its parent
 abbrev pub group_entries : List (List ℕ) → List (List ℕ) → List GroupEntry
-group_entries headings fields =
-    if bytes_eq (under headings fields (codes "DICT_TYPE")) (codes "GROUP") then record {
-      group = under headings fields (codes "DICT_GRP");
-      parent = under headings fields (codes "DICT_PGRP");
-    } ∷ [] else []
+group_entries headings fields = let entry = under headings fields in if bytes_eq (entry (codes "DICT_TYPE")) (codes "GROUP")
+    then record { group = entry (codes "DICT_GRP"); parent = entry (codes "DICT_PGRP") } ∷ [] else []
 
 -- a row of DICT_TYPE `HEADING` makes an entry for a heading of a group, with its status
 abbrev pub heading_entries : List (List ℕ) → List (List ℕ) → List HeadingEntry
-heading_entries headings fields =
-    if bytes_eq (under headings fields (codes "DICT_TYPE")) (codes "HEADING") then record {
-      group = under headings fields (codes "DICT_GRP");
-      heading = under headings fields (codes "DICT_HDNG");
-      status = under headings fields (codes "DICT_STAT");
-    } ∷ [] else []
+heading_entries headings fields = let entry = under headings fields in if bytes_eq (entry (codes "DICT_TYPE")) (codes "HEADING")
+    then record { group = entry (codes "DICT_GRP"); heading = entry (codes "DICT_HDNG"); status = entry (codes "DICT_STAT") } ∷ [] else []
 
 abbrev pub is_dict : Contents → Bool
 is_dict group = bytes_eq group.name (codes "DICT")
@@ -61,10 +55,9 @@ with_unstated same old new = old ++ unstated same old new
 
 -- the extended dictionary: entries, then the new ones of a file's own DICT
 abbrev pub extended : Entries → List Contents → Entries
-extended standard contents = record {
-  groups = with_unstated same_group standard.groups (flat_map group_entries_in contents);
-  headings = with_unstated same_heading standard.headings (flat_map heading_entries_in contents);
-}
+extended standard contents =
+    let groups = flat_map group_entries_in contents in let headings = flat_map heading_entries_in contents in
+    record { groups = with_unstated same_group standard.groups groups; headings = with_unstated same_heading standard.headings headings }
 
 -- the entries of the dictionary that a file is: those of its DICT alone
 abbrev pub standard_entries : List Contents → Entries
@@ -92,27 +85,21 @@ lacks_heading contents = list_any is_incomplete contents
 
 -- ---- what is asked of the entries
 
-abbrev pub heading_of : HeadingEntry → List ℕ
-heading_of entry = entry.heading
-
-abbrev pub of_group : List ℕ → HeadingEntry → Bool
-of_group group entry = bytes_eq entry.group group
-
--- an entry of the group whose status, cut at `+`, has this word
-abbrev pub of_status : List ℕ → List ℕ → HeadingEntry → Bool
-of_status group word entry = of_group group entry && has_part plus word entry.status
-
 -- Rule 7: the group's headings in the order of the dictionary
 abbrev pub order_of : Entries → List ℕ → List (List ℕ)
-order_of entries group = map heading_of (filter (of_group group) entries.headings)
+order_of entries group = map (λ e. e.heading) (filter (λ e. bytes_eq e.group group) entries.headings)
+
+-- those whose status, cut at `+`, has this word, in that order
+abbrev pub of_status : Entries → List ℕ → List ℕ → List (List ℕ)
+of_status entries group word = map (λ e. e.heading) (filter (λ e. bytes_eq e.group group && has_part plus word e.status) entries.headings)
 
 -- Rule 10a: the group's KEY headings, in that order
 abbrev pub keys_of : Entries → List ℕ → List (List ℕ)
-keys_of entries group = map heading_of (filter (of_status group (codes "KEY")) entries.headings)
+keys_of entries group = of_status entries group (codes "KEY")
 
 -- Rule 10b: the group's REQUIRED headings, in that order
 abbrev pub required_of : Entries → List ℕ → List (List ℕ)
-required_of entries group = map heading_of (filter (of_status group (codes "REQUIRED")) entries.headings)
+required_of entries group = of_status entries group (codes "REQUIRED")
 
 -- Rule 9: the group has an entry
 abbrev pub has_group : Entries → List ℕ → Bool
@@ -120,18 +107,13 @@ has_group entries group = list_any (λ e. bytes_eq e.group group) entries.groups
 
 -- Rule 19b: another group has a heading of this name
 abbrev pub elsewhere : Entries → List ℕ → List ℕ → Bool
-elsewhere entries group heading = list_any (λ e. bytes_eq e.heading heading && not (of_group group e)) entries.headings
+elsewhere entries group heading = list_any (λ e. bytes_eq e.heading heading && not (bytes_eq e.group group)) entries.headings
 
 -- the groups that have no parent, whatever their entries say
 abbrev pub has_no_parent : List ℕ → Bool
-has_no_parent group =
-    list_any (bytes_eq group) (codes "PROJ" ∷ codes "TRAN" ∷ codes "ABBR" ∷ codes "DICT" ∷ codes "UNIT" ∷ codes "TYPE" ∷ codes "FILE" ∷ [])
+has_no_parent group = list_any (bytes_eq group) (codes "PROJ" ∷ codes "TRAN" ∷ codes "ABBR" ∷ codes "DICT" ∷ codes "UNIT" ∷ codes "TYPE" ∷ codes "FILE" ∷ [])
 
--- the parent that an entry names: none where it is null or `-`
-abbrev pub named_parent : Option GroupEntry → Option (List ℕ)
-named_parent None = None
-named_parent (Some entry) = if list_any (bytes_eq entry.parent) ([] ∷ codes "-" ∷ []) then None else Some entry.parent
-
--- Rule 10c: the parent of a group
+-- Rule 10c: the parent of a group, as its entry names it: none where that is null or `-`
 abbrev pub parent_of : Entries → List ℕ → Option (List ℕ)
-parent_of entries group = if has_no_parent group then None else named_parent (find (λ e. bytes_eq e.group group) entries.groups)
+parent_of entries group = if has_no_parent group then None else option_and_then
+    (λ e. if list_any (bytes_eq e.parent) ([] ∷ codes "-" ∷ []) then None else Some e.parent) (find (λ e. bytes_eq e.group group) entries.groups)

@@ -13,7 +13,6 @@ use Rattle.ags_dict.specs.declared.entries.GroupEntry.{GroupEntry}
 use Rattle.ags_dict.specs.declared.entries.HeadingEntry.{HeadingEntry}
 use Rattle.ags_dict.specs.declared.places.PlacesByText.{PlacesByText}
 use Rattle.ags_dict.specs.declared.places.Ranks.{Ranks}
-use Rattle.ags_dict.specs.Entries.{of_group, heading_of}
 
 -- what a map has at a text
 abbrev pub found_at : {X : Type 0} → BTreeMap (Vec ℕ Global) X → List ℕ → Option X
@@ -34,6 +33,9 @@ ArePlaces test items places = map (slice_get items) places ≡ map Some (filter 
 abbrev pub is_for : List ℕ → GroupEntry → Bool
 is_for group entry = bytes_eq entry.group group
 
+abbrev pub of_group : List ℕ → HeadingEntry → Bool
+of_group group entry = bytes_eq entry.group group
+
 abbrev pub is_named : List ℕ → HeadingEntry → Bool
 is_named heading entry = bytes_eq entry.heading heading
 
@@ -53,4 +55,4 @@ FindsGroups entries by_name = (group : List ℕ) → ArePlaces (is_for group) en
 pub record FindsHeadings (entries : List HeadingEntry) (by_group by_heading : PlacesByText) (ranks : Ranks) : Type 0 where
   pub groups : (group : List ℕ) → ArePlaces (of_group group) entries (places_at by_group group)
   pub headings : (heading : List ℕ) → ArePlaces (is_named heading) entries (places_at by_heading heading)
-  pub orders : (group heading : List ℕ) → rank_at ranks group heading ≡ place_in (map heading_of (filter (of_group group) entries)) heading
+  pub orders : (group heading : List ℕ) → rank_at ranks group heading ≡ place_in (map (λ e. e.heading) (filter (of_group group) entries)) heading

@@ -1,9 +1,8 @@
 //! A dictionary's entries, and what is asked of them.
 
 ghost use Rattle.std.specs.Prelude.{◌≡◌, IfOk, map, length, [], option_copied};
-ghost use Rattle.std.specs.List.{filter};
 ghost use Rattle.ags_rows.specs.Contents.{place_in};
-ghost use Rattle.ags_dict.specs.Entries.{has_no_parent, order_of, keys_of, required_of, parent_of, has_group, elsewhere, heading_of, of_status};
+ghost use Rattle.ags_dict.specs.Entries.{has_no_parent, order_of, keys_of, required_of, parent_of, has_group, elsewhere, of_status};
 
 use crate::groups::GroupEntries;
 use crate::headings::HeadingEntries;
@@ -87,8 +86,7 @@ impl Dictionary {
 
     /// The group's headings whose status has a word, in the order of the dictionary.
     fn of_status(&self, alloc: Global, group: &[u8], word: &[u8]) -> Result<Vec<&[u8]>, AllocError>
-        ensures { IfOk result (λ found. map (λ h. h.now) found.items
-            ≡ map heading_of (filter (of_status group.now word.now) self.now.headings)) }
+        ensures { IfOk result (λ found. map (λ h. h.now) found.items ≡ of_status self.now group.now word.now) }
     {
         let entries = self.headings.of_group(alloc, group)?;
         let mut found = Vec::new(alloc);

@@ -3,8 +3,8 @@
 ghost use Rattle.std.specs.Prelude.{◌≡◌, [], ◌∷◌, ◌++◌, IfOk, length, option_copied, slice_get, map, not, ◌&&◌};
 ghost use Rattle.std.specs.List.{filter, find, list_any};
 ghost use Rattle.ags_rows.specs.Contents.{place_in};
-ghost use Rattle.ags_dict.specs.Entries.{same_heading, with_unstated, of_group, heading_of};
-ghost use Rattle.ags_dict.specs.Index.{is_named, is_of_other, is_heading};
+ghost use Rattle.ags_dict.specs.Entries.{same_heading, with_unstated};
+ghost use Rattle.ags_dict.specs.Index.{of_group, is_named, is_of_other, is_heading};
 
 use crate::entries::HeadingEntry;
 use crate::places::{PlacesByText, Ranks};
@@ -80,7 +80,7 @@ impl HeadingEntries {
 
     /// The place of a heading in the order of its group.
     pub(crate) fn place_in_order(&self, group: &[u8], heading: &[u8]) -> Option<usize>
-        ensures { result ≡ place_in (map heading_of (filter (of_group group.now) self.now)) heading.now }
+        ensures { result ≡ place_in (map (λ e. e.heading) (filter (of_group group.now) self.now)) heading.now }
     {
         self.ranks.of(group, heading)
     }

@@ -7,7 +7,7 @@ use Rattle.std.proofs.lemmas.List.Elements.{Contains-get_or, Contains-push, Cont
 use Rattle.ags_links.specs.Adding.{AddsRows}
 use Rattle.ags_links.specs.DataRows.{DataFile, DataRow, IsDataRow, ListsRows}
 use Rattle.ags_links.specs.Indexing.{rows_in, IsNamedBy, IsNamedAmong, IsLinkedAt}
-use Rattle.ags_links.specs.RecordLinks.{separators_of, IsPartOf, IsLinkRow, IsBroken}
+use Rattle.ags_links.specs.RecordLinks.{separators_of, IsPartOf, IsBroken}
 use Rattle.ags_links.specs.Steps.{IsLinkedPart, Linked}
 use Rattle.ags_links.proofs.Kept.{texts, texts_next}
 use Rattle.ags_links.proofs.Members.{contains_head, contains_map}
@@ -110,13 +110,13 @@ once_lists old new once IsOne empty adds same rises = record {
 -- the rows that some part of an entry names, each once
 pub link_lists : (file : DataFile) (r : DataRow) (heading : List ℕ) (parts : List (List ℕ)) (found once : List ℕ) → ((part : List ℕ) → Contains parts part ↔ IsPartOf (separators_of file.contents) r heading part)
     → AddsRows [] found (IsNamedAmong file parts) → ((n : ℕ) → Contains once n ↔ Contains found n) → IsStrictlyIncreasing once
-    → ListsRows once (λ m. (s : DataRow) × IsDataRow (rows_in file) m s × IsLinkRow file.entries (separators_of file.contents) heading r s)
+    → ListsRows once (λ m. (part : List ℕ) × IsPartOf (separators_of file.contents) r heading part × IsNamedBy file part m)
 link_lists file r heading parts found once cut adds same rises =
-    let IsOne = λ (m : ℕ). (s : DataRow) × IsDataRow (rows_in file) m s × IsLinkRow file.entries (separators_of file.contents) heading r s in
+    let IsOne = λ (m : ℕ). (part : List ℕ) × IsPartOf (separators_of file.contents) r heading part × IsNamedBy file part m in
     once_lists [] found once IsOne refl
     (adds_same [] found (IsNamedAmong file parts) IsOne adds
-    (λ m h. (h.2.0, h.2.1, (h.0, (cut h.0).0 h.1, h.2.2)))
-    (λ m h. (h.2.0, (cut h.2.0).1 h.2.1, (h.0, h.1, h.2.2))))
+    (λ m h. (h.0, (cut h.0).0 h.1, h.2))
+    (λ m h. (h.0, (cut h.0).1 h.1, h.2)))
     same rises
 
 -- ---- going over the parts of a cell

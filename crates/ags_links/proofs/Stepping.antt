@@ -10,7 +10,7 @@ use Rattle.ags_rows.specs.Names.{is_definition}
 use Rattle.ags_links.specs.Adding.{AddsRows}
 use Rattle.ags_links.specs.DataRows.{DataFile, DataRow, IsDataRow, ListsRows}
 use Rattle.ags_links.specs.Indexing.{rows_in, IsParentAt, IsLinkedAt, IsLinkStepAt, IsFileRowAt, IsFileStepAt}
-use Rattle.ags_links.specs.Steps.{FileStep, StepAt, IsBefore, ListsSteps}
+use Rattle.ags_links.specs.Steps.{StepAt, IsBefore, ListsSteps}
 use Rattle.ags_links.specs.Walks.{InRange}
 use Rattle.ags_links.proofs.Linking.{adds_then, adds_same, adds_none, adds_listed, once_lists}
 use Rattle.ags_links.proofs.Members.{contains_map, map_contains}
@@ -59,9 +59,9 @@ file_steps file n r old new rows row may lists e =
 pub no_file_steps : (file : DataFile) (n : ℕ) (r : DataRow) (old : List ℕ) → IsDataRow (rows_in file) n r → may_have_files r.group ≡ false → AddsRows old old (IsFileStepAt file n)
 no_file_steps file n r old row may = adds_none old (IsFileStepAt file n) (λ m h.
     let is : h.0 ≡ r = one_at (rows_in file) n h.0 r h.2 row in
-    let step : FileStep r h.1 = subst (λ q. FileStep q h.1) is h.4 in
-    let data_group : not (is_definition r.group) ≡ true = ap not step.0 in
-    true≢false (sym (true_both (not (is_definition r.group)) (not (bytes_eq r.group (codes "FILE"))) data_group (other_bytes r.group (codes "FILE") step.1)) ∙ may))
+    let data_group : not (is_definition r.group) ≡ true = ap (λ (q : DataRow). not (is_definition q.group)) (sym is) ∙ ap not h.4.0 in
+    let other : r.group ≡ codes "FILE" → ⊥ = subst (λ (q : DataRow). q.group ≡ codes "FILE" → ⊥) is h.4.1 in
+    true≢false (sym (true_both (not (is_definition r.group)) (not (bytes_eq r.group (codes "FILE"))) data_group (other_bytes r.group (codes "FILE") other)) ∙ may))
 
 -- ---- record links
 

@@ -28,17 +28,17 @@ group_rows group = map (row_in group) group.rows
 abbrev pub data_rows : List Contents → List DataRow
 data_rows contents = flat_map group_rows contents
 
--- x stands at this place of the list, counted from 0
-abbrev pub IsAt : {X : Type 0} → List X → ℕ → X → Type 0
-IsAt xs place x = (place < length xs) × (slice_index_or xs place x ≡ x)
-
--- row n of these is r
+-- row n of these, counted from 0, is r
 abbrev pub IsDataRow : List DataRow → ℕ → DataRow → Type 0
-IsDataRow rows n r = IsAt rows n r
+IsDataRow rows n r = (n < length rows) × (slice_index_or rows n r ≡ r)
 
 -- how many DATA rows stand in the groups before this place
 abbrev pub rows_before : List Contents → ℕ → ℕ
 rows_before file place = length (data_rows (take place file))
+
+-- x stands at this place of a list of anything, counted from 0
+abbrev pub IsAt : {X : Type 0} → List X → ℕ → X → Type 0
+IsAt xs place x = (place < length xs) × (slice_index_or xs place x ≡ x)
 
 -- Row n of a file is the row at a place of one of its groups.
 pub record IsRowOfGroup (file : List Contents) (n : ℕ) (row : DataRow) : Type 0 where

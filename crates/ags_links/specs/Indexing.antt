@@ -1,7 +1,8 @@
 -- What an index keeps, and what is asked of it by the numbers of rows.
-use Rattle.std.specs.Prelude.{◌≡◌, ◌<◌, ◌^◌, ℕ, List, All, Contains, map, length}
+use Rattle.std.specs.Prelude.{◌≡◌, ◌≢◌, ◌<◌, ◌^◌, ℕ, List, All, Contains, codes, false, map, length}
 use Rattle.ags_rows.specs.declared.rows.Group.{Group}
 use Rattle.ags_rows.specs.Contents.{contents_of}
+use Rattle.ags_rows.specs.Names.{is_definition}
 use Rattle.ags_dict.specs.Entries.{Entries}
 use Rattle.ags_links.specs.declared.families.Family.{Family}
 use Rattle.ags_links.specs.declared.index.Targets.{Targets}
@@ -18,7 +19,7 @@ use Rattle.ags_links.specs.ParentRows.{AreParentLists}
 use Rattle.ags_links.specs.Parents.{IsParentRow}
 use Rattle.ags_links.specs.Placing.{IsPlaced, row_of}
 use Rattle.ags_links.specs.RecordLinks as links
-use Rattle.ags_links.specs.Steps.{IsFileRow, Linked, LinkStep, FileStep}
+use Rattle.ags_links.specs.Steps.{IsFileRow, Linked}
 use Rattle.ags_links.specs.Targets.{AreTargets}
 
 -- the index of these groups under these entries
@@ -63,11 +64,11 @@ IsLinkedAt file = Between (rows_in file) (Linked file.entries (links.separators_
 
 -- row n has a step to row m by its record links, if it is in a data group
 abbrev pub IsLinkStepAt : DataFile → ℕ → ℕ → Type 0
-IsLinkStepAt file = Between (rows_in file) (LinkStep file.entries (links.separators_of file.contents))
+IsLinkStepAt file = Between (rows_in file) (λ r s. (is_definition r.group ≡ false) × Linked file.entries (links.separators_of file.contents) r s)
 
--- row n has a step to row m, a row of FILE
+-- row n has a step to row m of FILE, if it is in a data group other than FILE
 abbrev pub IsFileStepAt : DataFile → ℕ → ℕ → Type 0
-IsFileStepAt file = Between (rows_in file) FileStep
+IsFileStepAt file = Between (rows_in file) (λ r s. (is_definition r.group ≡ false) × (r.group ≢ codes "FILE") × IsFileRow r s)
 
 -- these are the targets of row n under the heading
 abbrev pub AreTargetsAt : DataFile → ℕ → List ℕ → Targets → Type 0

@@ -1,6 +1,7 @@
 -- Record links (Rule 11): what a cell of type RL names.
-use Rattle.std.specs.Prelude.{◌≡◌, ◌==◌, ℕ, List, [], ◌∷◌, Option, Some, None, length, Contains, codes, slice_index, if◌then◌else◌}
+use Rattle.std.specs.Prelude.{◌≡◌, ◌==◌, ℕ, List, [], ◌∷◌, Option, length, Contains, codes, slice_index, slice_index_or, if◌then◌else◌}
 use Rattle.std.specs.List.{find}
+use Rattle.std.specs.Option.{option_map_or}
 use Rattle.std.specs.Str.{bytes_eq}
 use Rattle.ags_rows.specs.Contents.{Contents, under}
 use Rattle.ags_rows.specs.Bytes.{plus}
@@ -18,25 +19,17 @@ bar = 124
 abbrev pub one_character : List ℕ → ℕ → ℕ
 one_character entry usual = if length entry == 1 then slice_index entry 0 else usual
 
--- what stands under a heading in the first of these rows; null where there is none
-abbrev pub entry_in_first : List (List ℕ) → List (List (List ℕ)) → List ℕ → List ℕ
-entry_in_first headings [] heading = []
-entry_in_first headings (fields ∷ rows) heading = under headings fields heading
-
--- what stands under a heading in the first DATA row of TRAN; null where there is none
+-- what stands under a heading in the first DATA row of TRAN; null where TRAN or the row is absent
 abbrev pub first_entry : Option Contents → List ℕ → List ℕ
-first_entry None heading = []
-first_entry (Some tran) heading = entry_in_first tran.headings tran.rows heading
+first_entry tran heading = option_map_or (λ group. under group.headings (slice_index_or group.rows 0 []) heading) tran []
 
 abbrev pub tran_of : List Contents → Option Contents
 tran_of contents = find (λ group. bytes_eq group.name (codes "TRAN")) contents
 
 -- TRAN_DLIM and TRAN_RCON of TRAN's first DATA row where they are one character, else `|` and `+`
 abbrev pub separators_of : List Contents → Separators
-separators_of contents = record {
-  delimiter = one_character (first_entry (tran_of contents) (codes "TRAN_DLIM")) bar;
-  concatenator = one_character (first_entry (tran_of contents) (codes "TRAN_RCON")) plus;
-}
+separators_of contents = let entry = first_entry (tran_of contents) in
+    record { delimiter = one_character (entry (codes "TRAN_DLIM")) bar; concatenator = one_character (entry (codes "TRAN_RCON")) plus }
 
 -- a part, cut at the delimiter, is the group of s and then all entries of its key, in dictionary order
 abbrev pub Names : Entries → ℕ → List ℕ → DataRow → Type 0
@@ -45,10 +38,6 @@ Names entries delimiter part s = parts_at delimiter part ≡ s.group ∷ key_of 
 -- a part of what stands in the row under a heading, read as a record link
 abbrev pub IsPartOf : Separators → DataRow → List ℕ → List ℕ → Type 0
 IsPartOf separators row heading part = Contains (parts_at separators.concatenator (entry_of row heading)) part
-
--- some part of r's entry under the heading names s
-abbrev pub IsLinkRow : Entries → Separators → List ℕ → DataRow → DataRow → Type 0
-IsLinkRow entries separators heading r s = (part : List ℕ) × IsPartOf separators r heading part × Names entries separators.delimiter part s
 
 -- the part names row n of the file
 abbrev pub NamesAt : Entries → Separators → List DataRow → List ℕ → ℕ → Type 0

@@ -7,7 +7,7 @@ use Rattle.ags_rows.specs.Names.{is_definition}
 use Rattle.ags_dict.specs.Entries.{Entries}
 use Rattle.ags_links.specs.DataRows.{DataFile, DataRow, entry_of, data_rows, Between}
 use Rattle.ags_links.specs.Parents.{IsParentRow}
-use Rattle.ags_links.specs.RecordLinks.{separators_of, IsPartOf, IsLinkRow}
+use Rattle.ags_links.specs.RecordLinks.{separators_of, IsPartOf, Names}
 use Rattle.ags_links.specs.Walks.{Wiring}
 use Rattle.ags_links.specs.declared.separators.Separators.{Separators}
 
@@ -21,23 +21,18 @@ IsLinkedPart separators row part = (heading : List ℕ) × IsRecordLink row head
 
 -- one of r's record links names s in some part
 abbrev pub Linked : Entries → Separators → DataRow → DataRow → Type 0
-Linked entries separators r s = (heading : List ℕ) × IsRecordLink r heading × IsLinkRow entries separators heading r s
-
--- r is in a data group, and one of its record links names s
-abbrev pub LinkStep : Entries → Separators → DataRow → DataRow → Type 0
-LinkStep entries separators r s = (is_definition r.group ≡ false) × Linked entries separators r s
+Linked entries separators r s =
+    (heading : List ℕ) × IsRecordLink r heading × ((part : List ℕ) × IsPartOf separators r heading part × Names entries separators.delimiter part s)
 
 -- s is a row of FILE with r's FILE_FSET, which is not null
 abbrev pub IsFileRow : DataRow → DataRow → Type 0
 IsFileRow r s = (s.group ≡ codes "FILE") × (entry_of r (codes "FILE_FSET") ≢ []) × (entry_of s (codes "FILE_FSET") ≡ entry_of r (codes "FILE_FSET"))
 
--- r is in a data group other than FILE, and s is a row of FILE with its FILE_FSET
-abbrev pub FileStep : DataRow → DataRow → Type 0
-FileStep r s = (is_definition r.group ≡ false) × (r.group ≢ codes "FILE") × IsFileRow r s
-
--- one step from r to s
+-- one step from r to s: s is a parent row of r; or r is in a data group, and one of its record links names s;
+-- or r is in a data group other than FILE, and s is a row of FILE with its FILE_FSET
 abbrev pub Step : Entries → Separators → DataRow → DataRow → Type 0
-Step entries separators r s = IsParentRow entries r s ⊎ (LinkStep entries separators r s ⊎ FileStep r s)
+Step entries separators r s = IsParentRow entries r s
+    ⊎ (((is_definition r.group ≡ false) × Linked entries separators r s) ⊎ ((is_definition r.group ≡ false) × (r.group ≢ codes "FILE") × IsFileRow r s))
 
 -- row n of the file has a step to row m
 abbrev pub StepAt : DataFile → ℕ → ℕ → Type 0

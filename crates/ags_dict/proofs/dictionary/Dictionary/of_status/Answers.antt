@@ -2,7 +2,8 @@ use Rattle.std.proofs.Common.{◌≡◌, ℕ, List, Bor, Vec, Global, Bool, map,
 use Rattle.std.specs.List.{filter}
 use Rattle.std.proofs.lemmas.List.{take_all, length-map}
 use Rattle.ags_dict.specs.declared.entries.HeadingEntry.{HeadingEntry}
-use Rattle.ags_dict.specs.Entries.{Entries, heading_of, of_group, of_status}
+use Rattle.ags_dict.specs.Entries.{Entries, of_status}
+use Rattle.ags_dict.specs.Index.{of_group}
 use Rattle.ags_rows.specs.Bytes.{plus}
 use Rattle.ags_rows.specs.Parts.{has_part}
 use Rattle.ags_dict.proofs.Picked.{picked_yes, picked_no}
@@ -21,11 +22,11 @@ loop-entry-preserved c =
     elim c.if-has_part.branch [
       | then-has_part+in_ok-push w ↦
           ap values w.found-is ∙ ap (map (λ (r : Bor (List ℕ)). r.now)) w.in_ok-push.ensures.items
-          ∙ picked_yes (has word) heading_of c.deref-entry-items.result.now c.loop-entry.entry-index c.entry-item.result c.loop-entry.found.items w.as_slice-then-has_part.result
+          ∙ picked_yes (has word) (λ e. e.heading) c.deref-entry-items.result.now c.loop-entry.entry-index c.entry-item.result c.loop-entry.found.items w.as_slice-then-has_part.result
           c.loop-entry-test.true c.entry-item.is (asked ∙ w.if-has_part.true) w.as_slice-then-has_part.ensures c.loop-entry.invariant
       | else-has_part w ↦
           ap values w.found-is
-          ∙ picked_no (has word) heading_of c.deref-entry-items.result.now c.loop-entry.entry-index c.entry-item.result c.loop-entry.found.items
+          ∙ picked_no (has word) (λ e. e.heading) c.deref-entry-items.result.now c.loop-entry.entry-index c.entry-item.result c.loop-entry.found.items
           c.loop-entry-test.true c.entry-item.is (asked ∙ w.if-has_part.false) c.loop-entry.invariant
     ]
 
@@ -36,6 +37,6 @@ returns c =
     let refs = c.deref-entry-items.result.now in
     let entries : List (Bor HeadingEntry) → List HeadingEntry = map (λ (r : Bor HeadingEntry). r.now) in
     let all : take c.loop-entry.entry-index (entries refs) ≡ entries refs = take_all c.loop-entry.entry-index (entries refs) (omega (arith, length-map refs (λ (r : Bor HeadingEntry). r.now), c.loop-entry-test.false)) in
-    c.loop-entry.invariant ∙ ap (λ (l : List HeadingEntry). map heading_of (filter (has word) l)) (all ∙ ap entries c.deref-entry-items.ensures.value ∙ c.in_ok-entries.ensures)
-    ∙ ap (map heading_of) (sym (filter_both (of_group group) (has word) c.self.inside.headings))
-    ∙ ap (λ (e : Entries). map heading_of (filter (of_status group word) e.headings)) c.self.view_is
+    c.loop-entry.invariant ∙ ap (λ (l : List HeadingEntry). map (λ e. e.heading) (filter (has word) l)) (all ∙ ap entries c.deref-entry-items.ensures.value ∙ c.in_ok-entries.ensures)
+    ∙ ap (map (λ (e : HeadingEntry). e.heading)) (sym (filter_both (of_group group) (has word) c.self.inside.headings))
+    ∙ ap (λ (e : Entries). of_status e group word) c.self.view_is

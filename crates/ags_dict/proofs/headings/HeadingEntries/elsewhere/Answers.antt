@@ -3,8 +3,7 @@ use Rattle.std.specs.List.{list_any}
 use Rattle.std.proofs.lemmas.List.{take_all}
 use Rattle.std.proofs.lemmas.List.Folds.{list_any_at}
 use Rattle.ags_dict.specs.declared.entries.HeadingEntry.{HeadingEntry}
-use Rattle.ags_dict.specs.Entries.{of_group}
-use Rattle.ags_dict.specs.Index.{is_named, is_of_other, ArePlaces}
+use Rattle.ags_dict.specs.Index.{of_group, is_named, is_of_other, ArePlaces}
 use Rattle.ags_dict.proofs.Found.{place_any, any_both}
 use Rattle.ags_dict.proofs.headings.HeadingEntries.elsewhere.Goals as goal
 

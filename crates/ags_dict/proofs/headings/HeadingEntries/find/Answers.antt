@@ -2,15 +2,14 @@ use Rattle.std.proofs.Common.{◌≡◌, ℕ, List, Option, Some, None, sym, ap,
 use Rattle.std.specs.List.{find, filter}
 use Rattle.std.specs.Option.{option_and_then}
 use Rattle.ags_dict.specs.declared.entries.HeadingEntry.{HeadingEntry}
-use Rattle.ags_dict.specs.Entries.{of_group, heading_of}
 use Rattle.ags_rows.specs.Contents.{place_in}
-use Rattle.ags_dict.specs.Index.{places_at, is_named, is_heading}
+use Rattle.ags_dict.specs.Index.{places_at, of_group, is_named, is_heading}
 use Rattle.ags_dict.proofs.Found.{place_leads, find_both}
 use Rattle.ags_dict.proofs.Ranks.{rank_leads}
 use Rattle.ags_dict.proofs.headings.HeadingEntries.find.Goals as goal
 
 -- the entry that the place of a heading in its group's order leads to
-by_rank : (entries : List HeadingEntry) (g h : List ℕ) (rank : Option ℕ) → rank ≡ place_in (map heading_of (filter (of_group g) entries)) h
+by_rank : (entries : List HeadingEntry) (g h : List ℕ) (rank : Option ℕ) → rank ≡ place_in (map (λ (e : HeadingEntry). e.heading) (filter (of_group g) entries)) h
     → option_and_then (slice_get (filter (of_group g) entries)) rank ≡ find (is_heading g h) entries
 by_rank entries g h rank is =
     ap (λ (r : Option ℕ). option_and_then (slice_get (filter (of_group g) entries)) r) is ∙ rank_leads (filter (of_group g) entries) h

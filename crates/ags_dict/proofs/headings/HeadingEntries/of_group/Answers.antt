@@ -3,8 +3,7 @@ use Rattle.std.specs.List.{filter, filter_map}
 use Rattle.std.specs.Option.{option_to_list}
 use Rattle.std.proofs.lemmas.List.{append-nil, take_all}
 use Rattle.ags_dict.specs.declared.entries.HeadingEntry.{HeadingEntry}
-use Rattle.ags_dict.specs.Entries.{of_group}
-use Rattle.ags_dict.specs.Index.{places_at}
+use Rattle.ags_dict.specs.Index.{places_at, of_group}
 use Rattle.ags_dict.proofs.Found.{leads_more, place_all}
 use Rattle.ags_dict.proofs.headings.HeadingEntries.of_group.Goals as goal
 use Rattle.ags_dict.proofs.headings.HeadingEntries.of_group.Goals.{in-Some+in_ok-push, in_default}

@@ -4,8 +4,7 @@ use Rattle.std.specs.Option.{option_or}
 use Rattle.std.specs.Str.{bytes_eq}
 use Rattle.ags_rows.specs.Contents.{place_in}
 use Rattle.ags_dict.specs.declared.entries.HeadingEntry.{HeadingEntry}
-use Rattle.ags_dict.specs.Entries.{of_group, heading_of}
-use Rattle.ags_dict.specs.Index.{places_at, rank_at, is_named}
+use Rattle.ags_dict.specs.Index.{places_at, rank_at, of_group, is_named}
 use Rattle.ags_dict.proofs.Found.{noted, places_length}
 use Rattle.ags_dict.proofs.Ranks.{ordered}
 use Rattle.ags_dict.proofs.headings.HeadingEntries.with.Goals as goal
@@ -34,5 +33,5 @@ invariant_of-result c =
           c.in_ok-note.ensures g h ∙ ap (λ (a : List ℕ). kept g h a heading) c.as_slice-group.ensures ∙ ap (λ (b : List ℕ). kept g h e.group b) c.as_slice-heading.ensures
           ∙ ap (λ (o : Option ℕ). option_or o (cond (bytes_eq e.group g && bytes_eq e.heading h) (Some rank) None)) (c.self.invariant.orders g h)
           ∙ sym (ordered entries e g h rank ranked)
-          ∙ ap (λ (l : List HeadingEntry). place_in (map heading_of (filter (of_group g) l)) h) (sym c.in_ok-push.ensures.items);
+          ∙ ap (λ (l : List HeadingEntry). place_in (map (λ (e : HeadingEntry). e.heading) (filter (of_group g) l)) h) (sym c.in_ok-push.ensures.items);
     }
