@@ -1,5 +1,5 @@
 -- The lines and rows of a file that is written.
-use Rattle.std.proofs.Common.{◌≡◌, ◌≢◌, ℕ, zero, suc, ◌+◌, ◌<◌, true, false, eqb, ltb, ◌&&◌, List, [], ◌∷◌, ◌++◌, length, map, flat_map, Option, Some, None, refl, sym, ap, subst, ◌∙◌, arith, inl, inr}
+use Rattle.std.proofs.Common.{◌≡◌, ◌≢◌, ℕ, zero, suc, ◌+◌, ◌<◌, true, false, eqb, ltb, ◌&&◌, ◌||◌, List, [], ◌∷◌, ◌++◌, length, map, flat_map, Option, Some, None, refl, sym, ap, subst, ◌∙◌, arith, inl, inr}
 use Rattle.std.specs.Prelude.{◌⊎◌, nat_le, Bool, MatchOption, codes as bytes}
 use Rattle.std.specs.List.{AllByRecursion, list_all}
 use Rattle.std.proofs.lemmas.Bool.{cases_eq, eq-eqb, eqb-true, ne_eqb, and_parts, or_cases, ltb-true, leb-true}
@@ -24,7 +24,7 @@ use Rattle.ags_rows.specs.Stands.{line_rules, StandsInLines, StandsInOrder}
 use Rattle.ags_rows.specs.Parsing.{IsFirstLine, MayStandBehind}
 use Rattle.ags_rows.specs.Contents.{Contents, group_contents}
 use Rattle.ags_rows.specs.Writing.{written_row, group_lines, empty_line, written_lines, text_of, written_file, IsPlainByte, ArePlain, IsPlainGroup, IsWellFormedGroup, IsWellFormed}
-use Rattle.ags_rows.specs.Names.{is_capital, is_digit, is_group_letter, is_heading_letter, is_group_name, is_heading_name}
+use Rattle.ags_rows.specs.Names.{is_capital, is_digit, is_group_name, is_heading_name}
 use Rattle.ags_rows.proofs.Fields.{same_fields, line_spells}
 use Rattle.ags_rows.proofs.Cuts.{type_ends, groups_behind}
 use Rattle.ags_rows.proofs.Cutting.{AreCut, lines_from_cut}
@@ -100,14 +100,14 @@ between low high b e more less =
     let p = and_parts (nat_le low b) (nat_le b high) e in
     plain_byte b (omega (arith, leb-true low b p.0, more)) (omega (arith, leb-true b high p.1, less))
 
-group_letter_plain : (b : ℕ) → is_group_letter b ≡ true → IsPlainByte b
+group_letter_plain : (b : ℕ) → is_capital b || is_digit b ≡ true → IsPlainByte b
 group_letter_plain b e = elim (or_cases (is_capital b) (is_digit b) e) [
   | inl p ↦ between 65 90 b p (omega arith) (omega arith)
   | inr p ↦ between 48 57 b p (omega arith) (omega arith)
 ]
 
-heading_letter_plain : (b : ℕ) → is_heading_letter b ≡ true → IsPlainByte b
-heading_letter_plain b e = elim (or_cases (is_group_letter b) (eqb b 95) e) [
+heading_letter_plain : (b : ℕ) → (is_capital b || is_digit b) || eqb b 95 ≡ true → IsPlainByte b
+heading_letter_plain b e = elim (or_cases (is_capital b || is_digit b) (eqb b 95) e) [
   | inl p ↦ group_letter_plain b p
   | inr p ↦ let q = eqb-true b 95 p in plain_byte b (omega (arith, q)) (omega (arith, q))
 ]
@@ -117,10 +117,10 @@ all_tested P p each [] e = tt
 all_tested P p each (b ∷ t) e = let q = and_parts (p b) (list_all p t) e in (each b q.0, all_tested P p each t q.1)
 
 group_name_plain : (name : List ℕ) → is_group_name name ≡ true → AllByRecursion IsPlainByte name
-group_name_plain name e = all_tested IsPlainByte is_group_letter group_letter_plain name (and_parts (nat_le 1 (length name) && nat_le (length name) 4) (list_all is_group_letter name) e).1
+group_name_plain name e = all_tested IsPlainByte (λ b. is_capital b || is_digit b) group_letter_plain name (and_parts (nat_le 1 (length name) && nat_le (length name) 4) (list_all (λ b. is_capital b || is_digit b) name) e).1
 
 heading_name_plain : (name : List ℕ) → is_heading_name name ≡ true → AllByRecursion IsPlainByte name
-heading_name_plain name e = all_tested IsPlainByte is_heading_letter heading_letter_plain name (and_parts (nat_le 1 (length name) && nat_le (length name) 9) (list_all is_heading_letter name) e).1
+heading_name_plain name e = all_tested IsPlainByte (λ b. (is_capital b || is_digit b) || eqb b 95) heading_letter_plain name (and_parts (nat_le 1 (length name) && nat_le (length name) 9) (list_all (λ b. (is_capital b || is_digit b) || eqb b 95) name) e).1
 
 group_plain : (g : Contents) → IsWellFormedGroup g → IsPlainGroup g
 group_plain g h = record {
