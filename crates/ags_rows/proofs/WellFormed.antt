@@ -18,7 +18,8 @@ use Rattle.ags_rows.specs.Rows.{descriptor_text, IsRow, RowsFrom}
 use Rattle.ags_rows.specs.Groups.{data_row, rows_of}
 use Rattle.ags_rows.specs.Collecting.{At}
 use Rattle.ags_rows.specs.Stands.{StandsInLines, StandsInOrder, StandsInGroups}
-use Rattle.ags_rows.specs.Findings.{FirstFound, later_phases, FileGroups}
+use Rattle.ags_rows.specs.Findings.{FirstFound, FileGroups}
+use Rattle.ags_rows.specs.Parsing.{later_phases}
 use Rattle.ags_rows.specs.Contents.{contents_of, fields_of}
 use Rattle.ags_rows.specs.Writing.{IsPlainByte, ArePlain, IsPlainGroup, StandOnce}
 

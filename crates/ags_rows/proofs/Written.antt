@@ -17,7 +17,7 @@ use Rattle.ags_rows.specs.Bytes.{Lacks}
 use Rattle.ags_rows.specs.Spelling.{Spells, doubled, quoted, line_of}
 use Rattle.ags_rows.specs.Lines.{TextLine, Lines, line_bytes, ending_bytes, after_byte_order_mark}
 use Rattle.ags_rows.specs.Rows.{descriptor_text, IsRow, RowsFrom}
-use Rattle.ags_rows.specs.Order.{may_follow, is_header, OutOfPlace}
+use Rattle.ags_rows.specs.Order.{may_follow, OutOfPlace}
 use Rattle.ags_rows.specs.Groups.{data_row, rows_of}
 use Rattle.ags_rows.specs.Collecting.{At, OneOf}
 use Rattle.ags_rows.specs.Stands.{line_rules, StandsInLines, StandsInOrder}
@@ -289,9 +289,9 @@ follows d (x ∷ y ∷ rows) m zero a b p q =
     subst (λ (z : FileRow). may_follow z.descriptor b.descriptor ≡ true) e (subst (λ (z : FileRow). may_follow x.descriptor z.descriptor ≡ true) f m.2.0)
 follows d (x ∷ y ∷ rows) m (suc k) a b p q = follows x.descriptor (y ∷ rows) m.2 k a b p q
 
-ends_whole : (d : Descriptor) (rows : List FileRow) → MayStandBehind d rows → (k : ℕ) (a : FileRow) → At rows k a → k + 1 ≡ length rows → is_header a.descriptor ≡ false
+ends_whole : (d : Descriptor) (rows : List FileRow) → MayStandBehind d rows → (k : ℕ) (a : FileRow) → At rows k a → k + 1 ≡ length rows → may_follow a.descriptor kinds.Group ≡ true
 ends_whole d [] m k a p e = absurd cc
-ends_whole d (x ∷ []) m zero a p e = let z : x ≡ a = cc in subst (λ (r : FileRow). is_header r.descriptor ≡ false) z m.2
+ends_whole d (x ∷ []) m zero a p e = let z : x ≡ a = cc in subst (λ (r : FileRow). may_follow r.descriptor kinds.Group ≡ true) z m.2
 ends_whole d (x ∷ []) m (suc k) a p e = absurd cc
 ends_whole d (x ∷ y ∷ rows) m zero a p e = absurd (omega (arith, e))
 ends_whole d (x ∷ y ∷ rows) m (suc k) a p e = ends_whole x.descriptor (y ∷ rows) m.2 k a p (omega (arith, e))
@@ -311,7 +311,7 @@ place_clear x rows first m place row at (inr (inl h)) =
     let here : At (x ∷ rows) (suc h.1) row = subst (λ (k : ℕ). At (x ∷ rows) k row) second at in
     let z : true ≡ false = sym (follows kinds.Type (x ∷ rows) m h.1 h.0 row h.3 here) ∙ h.4 in cc
 place_clear x rows first m place row at (inr (inr h)) =
-    let z : true ≡ false = sym h.1 ∙ ends_whole kinds.Type (x ∷ rows) m place row at h.0 in cc
+    let z : true ≡ false = sym (ends_whole kinds.Type (x ∷ rows) m place row at h.0) ∙ h.1 in cc
 
 order_clear : (x : FileRow) (rows : List FileRow) → x.descriptor ≡ kinds.Group → MayStandBehind kinds.Type (x ∷ rows) → (f : Finding) → StandsInOrder (x ∷ rows) f → ⊥
 order_clear x rows first m f (inl h) = let z : x ∷ rows ≡ [] = h.0 in cc
