@@ -25,8 +25,7 @@ IsBlank content = AllByRecursion (λ b. b ≡ space) content
 
 -- fields spell it, and the first is no descriptor
 abbrev pub LacksDescriptor : List ℕ → Type 0
-LacksDescriptor content =
-    (first : List ℕ) × (fields : List (List ℕ)) × Spells content (first ∷ fields) × ((kind : Descriptor) → first ≢ descriptor_text kind)
+LacksDescriptor content = (first : List ℕ) × (fields : List (List ℕ)) × Spells content (first ∷ fields) × ((kind : Descriptor) → first ≢ descriptor_text kind)
 
 -- Rules 1, 2a, 6, 5, 3: ASCII alone; CR LF at the end; no CR within; fields spell what is not blank; the first is a descriptor.
 abbrev pub line_rules : ℕ → TextLine → List (Finding → Type 0)
