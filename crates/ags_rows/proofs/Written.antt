@@ -184,13 +184,13 @@ clean_breaks_none n line c f (inr (inr h)) = elim c.kind [
 line_first : (line : TextLine) (rest : List ℕ) → IsClean line → IsFirstLine (line_bytes line ++ rest) line rest
 line_first line rest c = record {
   parts = refl;
-  whole = record {
-    one_feed = no_feed line.content c.plain;
-    whole_ending = λ e. let z : CrLf ≡ Lf = sym c.whole ∙ e in absurd cc;
-    not_empty = λ e.
+  whole = (
+    λ e.
         let z : line.content ++ 13 ∷ 10 ∷ [] ≡ [] = subst (λ (x : Ending). line.content ++ ending_bytes x ≡ []) c.whole e in
-        omega (arith, ap length z, length-append line.content (13 ∷ 10 ∷ []));
-  };
+        omega (arith, ap length z, length-append line.content (13 ∷ 10 ∷ [])),
+    no_feed line.content c.plain,
+    λ e. let z : CrLf ≡ Lf = sym c.whole ∙ e in absurd cc,
+  );
   last = λ e. let z : CrLf ≡ Nothing = sym c.whole ∙ e in absurd cc;
 }
 

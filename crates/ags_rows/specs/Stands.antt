@@ -34,8 +34,7 @@ line_rules number line =
     ∷ Notes number Rule2a [] (line.ending ≡ Lf)
     ∷ Notes number Rule6 [] (Contains line.content carriage_return)
     ∷ Notes number Rule5 [] ((IsBlank line.content → ⊥) × Lacks carriage_return line.content × ((fields : List (List ℕ)) → Spells line.content fields → ⊥))
-    ∷ Notes number Rule3 [] (LacksDescriptor line.content)
-    ∷ []
+    ∷ Notes number Rule3 [] (LacksDescriptor line.content) ∷ []
 
 -- what stands in the lines, which are numbered from 1
 abbrev pub StandsInLines : List TextLine → Finding → Type 0
