@@ -76,8 +76,7 @@ shape_rules group =
     ∷ Notes group.heading_line Rule4 group.name (group.headings ≡ [])
     ∷ Notes group.unit_line Rule4 group.name (length group.units ≢ length group.headings)
     ∷ Notes group.type_line Rule4 group.name (length group.types ≢ length group.headings)
-    ∷ Among group.rows (λ place row. Notes row.line Rule4 group.name (length row.cells ≢ length group.headings))
-    ∷ []
+    ∷ Among group.rows (λ place row. Notes row.line Rule4 group.name (length row.cells ≢ length group.headings)) ∷ []
 
 -- A name of no right form; and one that stands at an earlier place of its list as well: the later place is noted, with the name as subject.
 abbrev pub StandsInName : ℕ → Code → Code → (List ℕ → Bool) → List (List ℕ) → ℕ → List ℕ → Finding → Type 0
@@ -89,8 +88,7 @@ abbrev pub group_rules : List (List ℕ) → ℕ → Group → List (Finding →
 group_rules names place group =
     OneOf (shape_rules group)
     ∷ StandsInName group.line Rule19 P1 is_group_name names place group.name
-    ∷ Among group.headings (StandsInName group.heading_line Rule19a P2 is_heading_name group.headings)
-    ∷ []
+    ∷ Among group.headings (StandsInName group.heading_line Rule19a P2 is_heading_name group.headings) ∷ []
 
 -- what stands in the groups of a file
 abbrev pub StandsInGroups : List Group → Finding → Type 0
