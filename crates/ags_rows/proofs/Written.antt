@@ -67,7 +67,7 @@ quoted_all P f q h = (q, all_append P (doubled f) (34 ∷ []) (doubled_all P f q
 
 line_all : (P : ℕ → Type 0) (fields : List (List ℕ)) → P 34 → P 44 → AllByRecursion (λ f. AllByRecursion P f) fields → AllByRecursion P (line_of fields)
 line_all P [] q c h = tt
-line_all P (f ∷ []) q c h = quoted_all P f q h.0
+line_all P (f ∷ []) q c h = all_append P (quoted f) [] (quoted_all P f q h.0) tt
 line_all P (f ∷ g ∷ fields) q c h = all_append P (quoted f) (44 ∷ line_of (g ∷ fields)) (quoted_all P f q h.0) (c, line_all P (g ∷ fields) q c h.1)
 
 plain_byte : (b : ℕ) → 13 < b → b < 128 → IsPlainByte b
