@@ -436,8 +436,10 @@ class House:
         return found[0] if found else None
 
     def find(self, source, line, path, name):
-        """What an import names: a definition of the house, or None for one of the kit."""
+        """What an import names: a definition of the house, or None for one of the kit, which also makes the modules `specs.contracts` of each crate."""
         words = path.split(".")
+        if words[0] == "denote" or words[2:4] == ["specs", "contracts"]:
+            return None
         if words[0] != "Rattle":
             raise source.error(line, f"{path} is no path of Rattle")
         if words[1] not in self.crates:
@@ -467,7 +469,7 @@ class House:
             return module.items.get(name) if module else None
         module = self.rust.get((words[1], ".".join(rest[:-1])))
         item = module.items.get(rest[-1]) if module else None
-        if item and words[-1] == "TheVariants" and not any(re.match(rf"\s+{name}\b", line) for line in item.lines):
+        if item and words[-1] == "TheVariants" and not any(re.search(rf"(^\s+|[{{,] ){name}\b", line) for line in item.lines if not is_comment(line)):
             return None
         return item
 

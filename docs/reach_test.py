@@ -124,6 +124,29 @@ def variants():
             return str(error)
 
 
+def one_line():
+    """The variants of a type may stand on one line: each leads to the type, and what it has not is an error."""
+    with tempfile.TemporaryDirectory() as folder:
+        colour = {"crates/low/src/colour.rt": "/// A colour.\n#[rattlefmt::skip]\npub enum Colour { Red, Green }\n"}
+        base = "crates/low/specs/Base.antt"
+        house = house_with(folder, colour)
+        found = [item.name for item in house.needs(house.specs["low", "Base"].items["number"])[0]]
+        house = house_with(folder, {**colour, base: FILES[base].replace("colours.Red", "colours.Gree")})
+        try:
+            house.needs(house.specs["low", "Base"].items["number"])
+            return found, "no error"
+        except Unresolved as error:
+            return found, str(error)
+
+
+def of_contracts():
+    """What the kit makes of a type, and what it says of all types, are names of the kit."""
+    path = "crates/top/specs/Facts.antt"
+    text = FILES[path].replace("size form ≡ n", "size form ≡ tag_of the_type")
+    uses = "use Rattle.low.specs.contracts.colour.Colour.{the_type}\nuse denote.Enum.Declared.{tag_of}\n"
+    return names_reached({path: uses + text})[1]
+
+
 def proofs():
     """The body of what nothing unfolds is not entered."""
     with tempfile.TemporaryDirectory() as folder:
@@ -168,6 +191,8 @@ CASES += [
     ("names that an import has renamed", renamed(), [["-- Form stands for Shape of low"], ["-- colours stands for the variants of Colour of low"]]),
     ("a law over two lines", laws(), (["HasSize", "Shape", "size"], [line for line in TRAIT.split("\n")[2:-1] if line])),
     ("a variant that there is not", variants(), "crates/low/specs/Base.antt:11: Rattle.low.specs.declared.colour.Colour.TheVariants.Blue is not found"),
+    ("variants on one line", one_line(), (["Colour", "one"], "crates/low/specs/Base.antt:11: Rattle.low.specs.declared.colour.Colour.TheVariants.Gree is not found")),
+    ("what is made of a type", of_contracts(), ["tag_of", "the_type", "ℕ", "◌+◌", "◌≡◌"]),
     ("a proof", proofs(), ["number"]),
 ]
 wrong = [(name, got, want) for name, got, want in CASES if got != want]

@@ -6,7 +6,7 @@ use Rattle.ags_rows.specs.declared.rows.FileRow.{FileRow}
 use Rattle.ags_rows.specs.declared.rows.Row.{Row}
 use Rattle.ags_rows.specs.declared.rows.Group.{Group}
 use Rattle.ags_rows.specs.Lines.{TextLine, Lines, after_byte_order_mark}
-use Rattle.ags_rows.specs.Rows.{RowsFrom, Rows}
+use Rattle.ags_rows.specs.Rows.{RowsFrom}
 use Rattle.ags_rows.specs.Groups.{Groups, data_row, rows_of, row_count}
 use Rattle.ags_rows.proofs.Files.{lines_within}
 
@@ -32,7 +32,7 @@ pub counted_within : (rows : List FileRow) (groups : List Group) (most : ℕ) �
 counted_within rows groups most cut le = omega (arith, data_rows_fit groups, ap length cut, le)
 
 pub rows_within : (bytes : List ℕ) (lines : List TextLine) (rows : List FileRow) (most : ℕ)
-    → Lines (after_byte_order_mark bytes) lines → Rows lines rows → length bytes ≤ most → length rows ≤ most
+    → Lines (after_byte_order_mark bytes) lines → RowsFrom 1 lines rows → length bytes ≤ most → length rows ≤ most
 rows_within bytes lines rows most cut read le = omega (arith, lines_within bytes lines most cut le, rows_fit 1 lines rows read)
 
 -- ---- the rows of the first groups

@@ -4,7 +4,8 @@ use Rattle.ags_rows.specs.declared.rows.FileRow.{FileRow}
 use Rattle.ags_rows.specs.declared.rows.Group.{Group}
 use Rattle.ags_rows.specs.declared.finding.Finding.{Finding}
 use Rattle.ags_rows.specs.Groups.{Groups}
-use Rattle.ags_rows.specs.Findings.{FileParts, ArePartsOf, FirstFound, GroupsOrNone, later_phases}
+use Rattle.ags_rows.specs.Findings.{FileParts, ArePartsOf, FirstFound, GroupsOrNone}
+use Rattle.ags_rows.specs.Parsing.{later_phases}
 use Rattle.ags_rows.proofs.Once.{same_cutting}
 
 pub later_groups : (bytes : List ℕ) (Stands : Finding → Type 0) (file : FileParts) (rows : List FileRow) (groups : List Group)

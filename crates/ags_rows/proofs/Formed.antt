@@ -8,8 +8,8 @@ use Rattle.ags_rows.specs.declared.code.Code.{Code}
 use Rattle.ags_rows.specs.declared.code.Code.TheVariants.{Rule2, Rule4, Rule19, Rule19a, P1, P2}
 use Rattle.ags_rows.specs.declared.finding.Finding.{Finding}
 use Rattle.ags_rows.specs.Names.{is_group_name, is_heading_name}
-use Rattle.ags_rows.specs.Collecting.{At, OneOf}
-use Rattle.ags_rows.specs.Stands.{shape_rules, name_rules, StandsInHeadings, StandsInGroups}
+use Rattle.ags_rows.specs.Collecting.{At, Among, OneOf}
+use Rattle.ags_rows.specs.Stands.{shape_rules, StandsInName, StandsInGroups}
 use Rattle.ags_rows.specs.Contents.{contents_of, fields_of, group_contents}
 use Rattle.ags_rows.specs.Writing.{ArePlain, IsPlainGroup, AreUnder, AreHeadings, StandOnce, group_names, IsWellFormedGroup, IsWellFormed}
 use Rattle.ags_rows.proofs.Written.{all_at}
@@ -39,12 +39,12 @@ shape_clear g w f (inr (inr (inr (inr (inl n))))) =
     n.3.0 under.count
 shape_clear g w f (inr (inr (inr (inr (inr n))))) = n
 
-name_clear : (groups : List Group) (k : ℕ) (g : Group) → At groups k g → IsWellFormedGroup (group_contents g) → StandOnce (scanned_names groups) → (f : Finding) → OneOf (name_rules (scanned_names groups) k g) f → ⊥
+name_clear : (groups : List Group) (k : ℕ) (g : Group) → At groups k g → IsWellFormedGroup (group_contents g) → StandOnce (scanned_names groups) → (f : Finding) → StandsInName g.line Rule19 P1 is_group_name (scanned_names groups) k g.name f → ⊥
 name_clear groups k g at w once f (inl n) = not_both (is_group_name g.name) w.name n.0
 name_clear groups k g at w once f (inr (inl n)) = once_apart (scanned_names groups) n.0.0 k g.name g.name once n.0.1 n.0.2 (map_at (λ (x : Group). x.name) groups k g at) refl
 name_clear groups k g at w once f (inr (inr n)) = n
 
-headings_clear : (g : Group) → IsWellFormedGroup (group_contents g) → (f : Finding) → StandsInHeadings g f → ⊥
+headings_clear : (g : Group) → IsWellFormedGroup (group_contents g) → (f : Finding) → Among g.headings (StandsInName g.heading_line Rule19a P2 is_heading_name g.headings) f → ⊥
 headings_clear g w f h =
     elim h.3 [
       | inl n ↦ not_both (is_heading_name h.1) (all_at (λ x. is_heading_name x ≡ true) g.headings h.0 h.1 w.headings.named h.2) n.0

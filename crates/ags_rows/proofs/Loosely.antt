@@ -4,7 +4,8 @@ use Rattle.ags_rows.specs.declared.finding.Finding.{Finding}
 use Rattle.ags_rows.specs.declared.rows.Group.{Group}
 use Rattle.ags_rows.specs.Lines.{TextLine}
 use Rattle.ags_rows.specs.Stands.{StandsInLines, StandsInSpelling}
-use Rattle.ags_rows.specs.Findings.{FileParts, FirstFound, phases, loose_phases, later_phases, RowFindings, LooseFindings, FileGroups, LooseGroups}
+use Rattle.ags_rows.specs.Findings.{FileParts, FirstFound, phases, loose_phases, RowFindings, LooseFindings, FileGroups, LooseGroups}
+use Rattle.ags_rows.specs.Parsing.{later_phases}
 use Rattle.ags_rows.proofs.WellFormed.{clear_first}
 
 -- what stands against the spelling of a line stands against the line

@@ -4,7 +4,8 @@ use Rattle.ags_rows.specs.declared.rows.Group.{Group}
 use Rattle.ags_rows.specs.declared.finding.Finding.{Finding}
 use Rattle.ags_rows.specs.Groups.{rows_of}
 use Rattle.ags_rows.specs.Stands.{StandsInLines, StandsInOrder, StandsInGroups}
-use Rattle.ags_rows.specs.Findings.{FileParts, ArePartsOf, FirstFound, phases, later_phases, FileGroups}
+use Rattle.ags_rows.specs.Findings.{FileParts, ArePartsOf, FirstFound, phases, FileGroups}
+use Rattle.ags_rows.specs.Parsing.{later_phases}
 use Rattle.ags_rows.specs.Contents.{Contents, contents_of}
 use Rattle.ags_rows.specs.Writing.{written_lines, written_file, IsWellFormed}
 use Rattle.ags_rows.specs.Laws.{WrittenFileIsRead}

@@ -4,14 +4,17 @@ use Rattle.std.proofs.lemmas.List.{length-append, length-map, map-append}
 use Rattle.std.proofs.lemmas.List.Elements.{filter-append}
 use Rattle.ags_rows.specs.declared.rows.Descriptor.TheVariants as kinds
 use Rattle.ags_rows.specs.declared.rows.Group.{Group}
+use Rattle.ags_rows.specs.Rows.{descriptor_text}
+use Rattle.ags_rows.specs.Spelling.{line_of}
 use Rattle.ags_rows.specs.Contents.{Contents, fields_of, group_contents, contents_of}
 use Rattle.ags_rows.specs.Groups.{data_row, rows_of, row_count}
 use Rattle.ags_rows.specs.Findings.{LooseGroups}
-use Rattle.ags_rows.specs.RowTexts.{each_row, each_data_row, row_text, row_texts, is_data_text, spelling_of}
+use Rattle.ags_rows.specs.RowTexts.{each_row, each_data_row, row_text, row_texts, is_data_text}
 use Rattle.ags_rows.specs.Writing.{written_row, group_lines}
 use Rattle.ags_rows.specs.Laws.{RowsAreTheirTexts, RowsWithinBytes}
 use Rattle.ags_rows.proofs.FewRows.{rows_within}
 use Rattle.ags_rows.proofs.Loosely.{loose_groups}
+use Rattle.ags_rows.proofs.Texts.{with_rows}
 
 -- what is made of what is made of each DATA row
 pub map_each_data_row : {X Y : Type 0} (f : X → Y) (made : Contents → List (List ℕ) → X) (contents : List Contents) → map f (each_data_row made contents) ≡ each_data_row (λ group fields. f (made group fields)) contents
@@ -27,11 +30,11 @@ map_each_data_row f made (group ∷ contents) =
 
 data_texts : (name : List ℕ) (rows : List (List (List ℕ))) → map (λ line. line.content) (map (written_row kinds.Data) rows) ≡ map (λ row. row.text) (map (row_text name kinds.Data) rows ++ [])
 data_texts name [] = refl
-data_texts name (row ∷ rows) = ap (λ more. spelling_of kinds.Data row ∷ more) (data_texts name rows)
+data_texts name (row ∷ rows) = ap (λ more. line_of (descriptor_text kinds.Data ∷ row) ∷ more) (data_texts name rows)
 
 lines_are_texts : (group : Contents) → map (λ line. line.content) (group_lines group) ≡ map (λ row. row.text) (row_texts (group ∷ []))
 lines_are_texts group =
-    let header = spelling_of kinds.Group (group.name ∷ []) ∷ spelling_of kinds.Heading group.headings ∷ spelling_of kinds.Unit group.units ∷ spelling_of kinds.Type group.types ∷ [] in
+    let header = map (λ line. line.content) (group_lines (with_rows group [])) in
     ap (λ more. header ++ more) (data_texts group.name group.rows)
 
 -- ---- the rows of kind DATA

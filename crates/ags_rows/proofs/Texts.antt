@@ -1,10 +1,11 @@
 -- Texts that are written a part at a time, for those who write a file group by group and row by row.
-use Rattle.std.proofs.Common.{◌≡◌, ℕ, List, [], ◌∷◌, ◌++◌, map, refl, sym, ap, ◌∙◌, append_assoc}
+use Rattle.std.proofs.Common.{◌≡◌, ℕ, List, [], ◌∷◌, ◌++◌, ◌+◌, ◌<◌, length, get_or, take, map, refl, sym, ap, ◌∙◌, append_assoc}
 use Rattle.std.proofs.lemmas.Grind.{flat_map-append}
-use Rattle.std.proofs.lemmas.List.{append-nil, map-append}
+use Rattle.std.proofs.lemmas.List.{append-nil, map-append, take_more}
 use Rattle.ags_rows.specs.declared.rows.Descriptor.TheVariants as kinds
+use Rattle.ags_rows.specs.declared.rows.Row.{Row}
 use Rattle.ags_rows.specs.Lines.{TextLine, line_bytes}
-use Rattle.ags_rows.specs.Contents.{Contents}
+use Rattle.ags_rows.specs.Contents.{Contents, fields_of}
 use Rattle.ags_rows.specs.Writing.{written_row, contents_from, group_lines, empty_line, written_lines, text_of, written_file}
 
 -- the text of lines, and of more lines
@@ -35,6 +36,19 @@ group_push group rows cells =
     ap (λ (lines : List TextLine). text_of (header ++ lines)) (map-append (written_row kinds.Data) rows (cells ∷ []))
     ∙ ap text_of (sym (append_assoc header front (line ∷ [])))
     ∙ text_push (header ++ front) line
+
+-- the text of a group so far, and its next row
+pub group_more : (old out new : List ℕ) (group : Contents) (rows : List Row) (i : ℕ) (d : Row) → i < length rows
+    → out ≡ old ++ text_of (group_lines (with_rows group (map fields_of (take i rows)))) → new ≡ out ++ line_bytes (written_row kinds.Data (get_or rows i d).cells)
+    → new ≡ old ++ text_of (group_lines (with_rows group (map fields_of (take (i + 1) rows))))
+group_more old out new group rows i d lt before next =
+    let text = λ (some : List Row). text_of (group_lines (with_rows group (map fields_of some))) in
+    let line = line_bytes (written_row kinds.Data (get_or rows i d).cells) in
+    let more : text (take (i + 1) rows) ≡ text (take i rows) ++ line =
+    ap text (take_more rows i d lt)
+    ∙ ap (λ (cells : List (List (List ℕ))). text_of (group_lines (with_rows group cells))) (map-append fields_of (take i rows) (get_or rows i d ∷ []))
+    ∙ group_push group (map fields_of (take i rows)) (get_or rows i d).cells in
+    next ∙ ap (λ (front : List ℕ). front ++ line) before ∙ append_assoc old (text (take i rows)) line ∙ ap (λ (back : List ℕ). old ++ back) (sym more)
 
 -- the first group is written as it is
 pub file_one : (group : Contents) → written_file (group ∷ []) ≡ text_of (group_lines group)

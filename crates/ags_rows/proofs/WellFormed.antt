@@ -18,7 +18,8 @@ use Rattle.ags_rows.specs.Rows.{descriptor_text, IsRow, RowsFrom}
 use Rattle.ags_rows.specs.Groups.{data_row, rows_of}
 use Rattle.ags_rows.specs.Collecting.{At}
 use Rattle.ags_rows.specs.Stands.{StandsInLines, StandsInOrder, StandsInGroups}
-use Rattle.ags_rows.specs.Findings.{FirstFound, later_phases, FileGroups}
+use Rattle.ags_rows.specs.Findings.{FirstFound, FileGroups}
+use Rattle.ags_rows.specs.Parsing.{later_phases}
 use Rattle.ags_rows.specs.Contents.{contents_of, fields_of}
 use Rattle.ags_rows.specs.Writing.{IsPlainByte, ArePlain, IsPlainGroup, StandOnce}
 
@@ -51,9 +52,9 @@ quoted_back P f h = doubled_back P f (all_left P (doubled f) (34 ∷ []) h.1)
 
 piece_back : (P : ℕ → Type 0) (piece f : List ℕ) → IsPiece piece f → AllByRecursion P piece → AllByRecursion P f
 piece_back P piece f p h =
-    let front = replicate p.before 32 in
-    let back = replicate p.after 32 in
-    let parts = subst (AllByRecursion P) p.bytes h in
+    let front = replicate p.0 32 in
+    let back = replicate p.1 32 in
+    let parts = subst (AllByRecursion P) p.2 h in
     quoted_back P f (all_right P front (quoted f) (all_left P (front ++ quoted f) back parts))
 
 fields_back : (P : ℕ → Type 0) (t : List ℕ) (fs : List (List ℕ)) → Spells t fs → AllByRecursion P t → AllByRecursion (λ f. AllByRecursion P f) fs
@@ -65,8 +66,8 @@ fields_back P t (f ∷ g ∷ fs) s h =
 
 fields_whole : (t : List ℕ) (fs : List (List ℕ)) → Spells t fs → AllByRecursion (λ f. Lacks 13 f × Lacks 10 f) fs
 fields_whole t [] s = absurd s
-fields_whole t (f ∷ []) s = ((s.no_return, s.no_feed), tt)
-fields_whole t (f ∷ g ∷ fs) s = ((s.3.no_return, s.3.no_feed), fields_whole s.1 (g ∷ fs) s.4)
+fields_whole t (f ∷ []) s = ((s.3, s.4), tt)
+fields_whole t (f ∷ g ∷ fs) s = ((s.3.3, s.3.4), fields_whole s.1 (g ∷ fs) s.4)
 
 -- ASCII
 abbrev pub IsLow : List ℕ → Type 0

@@ -1,5 +1,5 @@
 -- The lines and rows of a file that is written.
-use Rattle.std.proofs.Common.{◌≡◌, ◌≢◌, ℕ, zero, suc, ◌+◌, ◌<◌, true, false, eqb, ltb, ◌&&◌, List, [], ◌∷◌, ◌++◌, length, map, flat_map, Option, Some, None, refl, sym, ap, subst, ◌∙◌, arith, inl, inr}
+use Rattle.std.proofs.Common.{◌≡◌, ◌≢◌, ℕ, zero, suc, ◌+◌, ◌<◌, true, false, eqb, ltb, ◌&&◌, ◌||◌, List, [], ◌∷◌, ◌++◌, length, map, flat_map, Option, Some, None, refl, sym, ap, subst, ◌∙◌, arith, inl, inr}
 use Rattle.std.specs.Prelude.{◌⊎◌, nat_le, Bool, MatchOption, codes as bytes}
 use Rattle.std.specs.List.{AllByRecursion, list_all}
 use Rattle.std.proofs.lemmas.Bool.{cases_eq, eq-eqb, eqb-true, ne_eqb, and_parts, or_cases, ltb-true, leb-true}
@@ -17,14 +17,14 @@ use Rattle.ags_rows.specs.Bytes.{Lacks}
 use Rattle.ags_rows.specs.Spelling.{Spells, doubled, quoted, line_of}
 use Rattle.ags_rows.specs.Lines.{TextLine, Lines, line_bytes, ending_bytes, after_byte_order_mark}
 use Rattle.ags_rows.specs.Rows.{descriptor_text, IsRow, RowsFrom}
-use Rattle.ags_rows.specs.Order.{may_follow, is_header, OutOfPlace}
+use Rattle.ags_rows.specs.Order.{may_follow, OutOfPlace}
 use Rattle.ags_rows.specs.Groups.{data_row, rows_of}
 use Rattle.ags_rows.specs.Collecting.{At, OneOf}
 use Rattle.ags_rows.specs.Stands.{line_rules, StandsInLines, StandsInOrder}
 use Rattle.ags_rows.specs.Parsing.{IsFirstLine, MayStandBehind}
 use Rattle.ags_rows.specs.Contents.{Contents, group_contents}
 use Rattle.ags_rows.specs.Writing.{written_row, group_lines, empty_line, written_lines, text_of, written_file, IsPlainByte, ArePlain, IsPlainGroup, IsWellFormedGroup, IsWellFormed}
-use Rattle.ags_rows.specs.Names.{is_capital, is_digit, is_group_letter, is_heading_letter, is_group_name, is_heading_name}
+use Rattle.ags_rows.specs.Names.{is_capital, is_digit, is_group_name, is_heading_name}
 use Rattle.ags_rows.proofs.Fields.{same_fields, line_spells}
 use Rattle.ags_rows.proofs.Cuts.{type_ends, groups_behind}
 use Rattle.ags_rows.proofs.Cutting.{AreCut, lines_from_cut}
@@ -67,7 +67,7 @@ quoted_all P f q h = (q, all_append P (doubled f) (34 ∷ []) (doubled_all P f q
 
 line_all : (P : ℕ → Type 0) (fields : List (List ℕ)) → P 34 → P 44 → AllByRecursion (λ f. AllByRecursion P f) fields → AllByRecursion P (line_of fields)
 line_all P [] q c h = tt
-line_all P (f ∷ []) q c h = quoted_all P f q h.0
+line_all P (f ∷ []) q c h = all_append P (quoted f) [] (quoted_all P f q h.0) tt
 line_all P (f ∷ g ∷ fields) q c h = all_append P (quoted f) (44 ∷ line_of (g ∷ fields)) (quoted_all P f q h.0) (c, line_all P (g ∷ fields) q c h.1)
 
 plain_byte : (b : ℕ) → 13 < b → b < 128 → IsPlainByte b
@@ -100,14 +100,14 @@ between low high b e more less =
     let p = and_parts (nat_le low b) (nat_le b high) e in
     plain_byte b (omega (arith, leb-true low b p.0, more)) (omega (arith, leb-true b high p.1, less))
 
-group_letter_plain : (b : ℕ) → is_group_letter b ≡ true → IsPlainByte b
+group_letter_plain : (b : ℕ) → is_capital b || is_digit b ≡ true → IsPlainByte b
 group_letter_plain b e = elim (or_cases (is_capital b) (is_digit b) e) [
   | inl p ↦ between 65 90 b p (omega arith) (omega arith)
   | inr p ↦ between 48 57 b p (omega arith) (omega arith)
 ]
 
-heading_letter_plain : (b : ℕ) → is_heading_letter b ≡ true → IsPlainByte b
-heading_letter_plain b e = elim (or_cases (is_group_letter b) (eqb b 95) e) [
+heading_letter_plain : (b : ℕ) → (is_capital b || is_digit b) || eqb b 95 ≡ true → IsPlainByte b
+heading_letter_plain b e = elim (or_cases (is_capital b || is_digit b) (eqb b 95) e) [
   | inl p ↦ group_letter_plain b p
   | inr p ↦ let q = eqb-true b 95 p in plain_byte b (omega (arith, q)) (omega (arith, q))
 ]
@@ -117,10 +117,10 @@ all_tested P p each [] e = tt
 all_tested P p each (b ∷ t) e = let q = and_parts (p b) (list_all p t) e in (each b q.0, all_tested P p each t q.1)
 
 group_name_plain : (name : List ℕ) → is_group_name name ≡ true → AllByRecursion IsPlainByte name
-group_name_plain name e = all_tested IsPlainByte is_group_letter group_letter_plain name (and_parts (nat_le 1 (length name) && nat_le (length name) 4) (list_all is_group_letter name) e).1
+group_name_plain name e = all_tested IsPlainByte (λ b. is_capital b || is_digit b) group_letter_plain name (and_parts (nat_le 1 (length name) && nat_le (length name) 4) (list_all (λ b. is_capital b || is_digit b) name) e).1
 
 heading_name_plain : (name : List ℕ) → is_heading_name name ≡ true → AllByRecursion IsPlainByte name
-heading_name_plain name e = all_tested IsPlainByte is_heading_letter heading_letter_plain name (and_parts (nat_le 1 (length name) && nat_le (length name) 9) (list_all is_heading_letter name) e).1
+heading_name_plain name e = all_tested IsPlainByte (λ b. (is_capital b || is_digit b) || eqb b 95) heading_letter_plain name (and_parts (nat_le 1 (length name) && nat_le (length name) 9) (list_all (λ b. (is_capital b || is_digit b) || eqb b 95) name) e).1
 
 group_plain : (g : Contents) → IsWellFormedGroup g → IsPlainGroup g
 group_plain g h = record {
@@ -184,13 +184,13 @@ clean_breaks_none n line c f (inr (inr h)) = elim c.kind [
 line_first : (line : TextLine) (rest : List ℕ) → IsClean line → IsFirstLine (line_bytes line ++ rest) line rest
 line_first line rest c = record {
   parts = refl;
-  whole = record {
-    one_feed = no_feed line.content c.plain;
-    whole_ending = λ e. let z : CrLf ≡ Lf = sym c.whole ∙ e in absurd cc;
-    not_empty = λ e.
+  whole = (
+    λ e.
         let z : line.content ++ 13 ∷ 10 ∷ [] ≡ [] = subst (λ (x : Ending). line.content ++ ending_bytes x ≡ []) c.whole e in
-        omega (arith, ap length z, length-append line.content (13 ∷ 10 ∷ []));
-  };
+        omega (arith, ap length z, length-append line.content (13 ∷ 10 ∷ [])),
+    no_feed line.content c.plain,
+    λ e. let z : CrLf ≡ Lf = sym c.whole ∙ e in absurd cc,
+  );
   last = λ e. let z : CrLf ≡ Nothing = sym c.whole ∙ e in absurd cc;
 }
 
@@ -289,9 +289,9 @@ follows d (x ∷ y ∷ rows) m zero a b p q =
     subst (λ (z : FileRow). may_follow z.descriptor b.descriptor ≡ true) e (subst (λ (z : FileRow). may_follow x.descriptor z.descriptor ≡ true) f m.2.0)
 follows d (x ∷ y ∷ rows) m (suc k) a b p q = follows x.descriptor (y ∷ rows) m.2 k a b p q
 
-ends_whole : (d : Descriptor) (rows : List FileRow) → MayStandBehind d rows → (k : ℕ) (a : FileRow) → At rows k a → k + 1 ≡ length rows → is_header a.descriptor ≡ false
+ends_whole : (d : Descriptor) (rows : List FileRow) → MayStandBehind d rows → (k : ℕ) (a : FileRow) → At rows k a → k + 1 ≡ length rows → may_follow a.descriptor kinds.Group ≡ true
 ends_whole d [] m k a p e = absurd cc
-ends_whole d (x ∷ []) m zero a p e = let z : x ≡ a = cc in subst (λ (r : FileRow). is_header r.descriptor ≡ false) z m.2
+ends_whole d (x ∷ []) m zero a p e = let z : x ≡ a = cc in subst (λ (r : FileRow). may_follow r.descriptor kinds.Group ≡ true) z m.2
 ends_whole d (x ∷ []) m (suc k) a p e = absurd cc
 ends_whole d (x ∷ y ∷ rows) m zero a p e = absurd (omega (arith, e))
 ends_whole d (x ∷ y ∷ rows) m (suc k) a p e = ends_whole x.descriptor (y ∷ rows) m.2 k a p (omega (arith, e))
@@ -311,7 +311,7 @@ place_clear x rows first m place row at (inr (inl h)) =
     let here : At (x ∷ rows) (suc h.1) row = subst (λ (k : ℕ). At (x ∷ rows) k row) second at in
     let z : true ≡ false = sym (follows kinds.Type (x ∷ rows) m h.1 h.0 row h.3 here) ∙ h.4 in cc
 place_clear x rows first m place row at (inr (inr h)) =
-    let z : true ≡ false = sym h.1 ∙ ends_whole kinds.Type (x ∷ rows) m place row at h.0 in cc
+    let z : true ≡ false = sym (ends_whole kinds.Type (x ∷ rows) m place row at h.0) ∙ h.1 in cc
 
 order_clear : (x : FileRow) (rows : List FileRow) → x.descriptor ≡ kinds.Group → MayStandBehind kinds.Type (x ∷ rows) → (f : Finding) → StandsInOrder (x ∷ rows) f → ⊥
 order_clear x rows first m f (inl h) = let z : x ∷ rows ≡ [] = h.0 in cc

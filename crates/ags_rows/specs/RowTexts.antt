@@ -19,18 +19,14 @@ each_row made group =
 abbrev pub each_data_row : {X : Type 0} → (Contents → List (List ℕ) → X) → List Contents → List X
 each_data_row made contents = flat_map (λ group. map (made group) group.rows) contents
 
--- the one spelling of a row: without spaces, and without the end of its line
-abbrev pub spelling_of : Descriptor → List (List ℕ) → List ℕ
-spelling_of kind items = line_of (descriptor_text kind ∷ items)
-
--- A row of a file: the name of its group, its kind, and its spelling.
+-- A row of a file: the name of its group, its kind, and its one spelling, without the end of its line.
 pub record RowText : Type 0 where
   pub group : List ℕ
   pub kind : Descriptor
   pub text : List ℕ
 
 abbrev pub row_text : List ℕ → Descriptor → List (List ℕ) → RowText
-row_text group kind items = record { group = group; kind = kind; text = spelling_of kind items }
+row_text group kind items = record { group = group; kind = kind; text = line_of (descriptor_text kind ∷ items) }
 
 -- The rows of a file: group after group, of each its header rows and then its DATA rows.
 abbrev pub row_texts : List Contents → List RowText

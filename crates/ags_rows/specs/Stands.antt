@@ -1,11 +1,12 @@
 -- What stands against a file: for each phase its sentences, one for each rule.
-use Rattle.std.specs.Prelude.{◌≡◌, ◌≢◌, ℕ, ◌+◌, ◌<◌, ◌≤◌, List, [], ◌∷◌, ◌++◌, map, Any, Contains, length, false}
+use Rattle.std.specs.Prelude.{◌≡◌, ◌≢◌, ℕ, ◌+◌, ◌<◌, ◌≤◌, List, [], ◌∷◌, map, take, drop, Any, Contains, length, Bool, false}
 use Rattle.std.specs.List.{AllByRecursion}
 use Rattle.ags_rows.specs.declared.rows.Ending.TheVariants.{Lf}
 use Rattle.ags_rows.specs.declared.rows.Descriptor.{Descriptor}
 use Rattle.ags_rows.specs.declared.rows.Descriptor.TheVariants as kinds
 use Rattle.ags_rows.specs.declared.rows.FileRow.{FileRow}
 use Rattle.ags_rows.specs.declared.finding.Finding.{Finding}
+use Rattle.ags_rows.specs.declared.code.Code.{Code}
 use Rattle.ags_rows.specs.declared.code.Code.TheVariants.{Rule1, Rule2, Rule2a, Rule2b, Rule3, Rule4, Rule5, Rule6, Rule19, Rule19a, P1, P2}
 use Rattle.ags_rows.specs.Bytes.{space, carriage_return, ascii_end, Lacks}
 use Rattle.ags_rows.specs.declared.rows.Group.{Group}
@@ -22,54 +23,41 @@ use Rattle.ags_rows.specs.Order.{OutOfPlace}
 abbrev pub IsBlank : List ℕ → Type 0
 IsBlank content = AllByRecursion (λ b. b ≡ space) content
 
--- a byte that is no ASCII
-abbrev pub HasHighByte : List ℕ → Type 0
-HasHighByte content = Any (λ b. ascii_end ≤ b) content
-
--- no fields spell it
-abbrev pub NoFields : List ℕ → Type 0
-NoFields content = (fields : List (List ℕ)) → Spells content fields → ⊥
-
-abbrev pub IsDescriptor : List ℕ → Type 0
-IsDescriptor field = (kind : Descriptor) × (field ≡ descriptor_text kind)
-
 -- fields spell it, and the first is no descriptor
 abbrev pub LacksDescriptor : List ℕ → Type 0
-LacksDescriptor content = (first : List ℕ) × (fields : List (List ℕ)) × Spells content (first ∷ fields) × (IsDescriptor first → ⊥)
+LacksDescriptor content = (first : List ℕ) × (fields : List (List ℕ)) × Spells content (first ∷ fields) × ((kind : Descriptor) → first ≢ descriptor_text kind)
 
--- Rules 6, 5, 3: how a line spells its fields.
-abbrev pub spelling_rules : ℕ → TextLine → List (Finding → Type 0)
-spelling_rules number line =
-    Notes number Rule6 [] (Contains line.content carriage_return)
-    ∷ Notes number Rule5 [] ((IsBlank line.content → ⊥) × Lacks carriage_return line.content × NoFields line.content)
-    ∷ Notes number Rule3 [] (LacksDescriptor line.content)
-    ∷ []
-
--- Rules 1, 2a: ASCII alone, and CR LF at the end.
-abbrev pub byte_rules : ℕ → TextLine → List (Finding → Type 0)
-byte_rules number line = Notes number Rule1 [] (HasHighByte line.content) ∷ Notes number Rule2a [] (line.ending ≡ Lf) ∷ []
-
--- all rules of a line
+-- Rules 1, 2a, 6, 5, 3: ASCII alone; CR LF at the end; no CR within; fields spell what is not blank; the first is a descriptor.
 abbrev pub line_rules : ℕ → TextLine → List (Finding → Type 0)
-line_rules number line = byte_rules number line ++ spelling_rules number line
+line_rules number line =
+    Notes number Rule1 [] (Any (λ b. ascii_end ≤ b) line.content)
+    ∷ Notes number Rule2a [] (line.ending ≡ Lf)
+    ∷ Notes number Rule6 [] (Contains line.content carriage_return)
+    ∷ Notes number Rule5 [] ((IsBlank line.content → ⊥) × Lacks carriage_return line.content × ((fields : List (List ℕ)) → Spells line.content fields → ⊥))
+    ∷ Notes number Rule3 [] (LacksDescriptor line.content) ∷ []
 
 -- what stands in the lines, which are numbered from 1
 abbrev pub StandsInLines : List TextLine → Finding → Type 0
 StandsInLines lines = Among lines (λ place line. OneOf (line_rules (place + 1) line))
 
--- the same with Rules 1 and 2a struck out
+-- Rules 1 and 2a alone
+abbrev pub byte_rules : ℕ → TextLine → List (Finding → Type 0)
+byte_rules number line = take 2 (line_rules number line)
+
+-- the others: how a line spells its fields
+abbrev pub spelling_rules : ℕ → TextLine → List (Finding → Type 0)
+spelling_rules number line = drop 2 (line_rules number line)
+
+-- what stands in the lines with Rules 1 and 2a struck out
 abbrev pub StandsInSpelling : List TextLine → Finding → Type 0
 StandsInSpelling lines = Among lines (λ place line. OneOf (spelling_rules (place + 1) line))
 
 -- ---- the second phase: each row among the rows
 
--- a GROUP row without exactly one item
-abbrev pub IsUnnamed : FileRow → Type 0
-IsUnnamed row = (row.descriptor ≡ kinds.Group) × (length row.items ≢ 1)
-
--- Rules 2b, 4: the order of rows, and the one name of a group.
+-- Rules 2b, 4: the order of rows, and the one name of a group: a GROUP row has exactly one item.
 abbrev pub row_rules : List FileRow → ℕ → FileRow → List (Finding → Type 0)
-row_rules rows place row = Notes row.line Rule2b [] (OutOfPlace rows place row) ∷ Notes row.line Rule4 [] (IsUnnamed row) ∷ []
+row_rules rows place row =
+    Notes row.line Rule2b [] (OutOfPlace rows place row) ∷ Notes row.line Rule4 [] ((row.descriptor ≡ kinds.Group) × (length row.items ≢ 1)) ∷ []
 
 -- Rule 2: there is a row; then each row.
 abbrev pub StandsInOrder : List FileRow → Finding → Type 0
@@ -81,10 +69,6 @@ StandsInOrder rows = OneOf (Notes 0 Rule2 [] (rows ≡ []) ∷ Among rows (λ pl
 abbrev pub IsRepeat : List (List ℕ) → ℕ → List ℕ → Type 0
 IsRepeat names place name = (earlier : ℕ) × (earlier < place) × At names earlier name
 
--- a DATA row with another number of items than the HEADING row
-abbrev pub StandsInRows : Group → Finding → Type 0
-StandsInRows group = Among group.rows (λ place row. Notes row.line Rule4 group.name (length row.cells ≢ length group.headings))
-
 -- Rules 2, 4: a group has DATA rows, its HEADING row has items, and each other row has as many as that.
 abbrev pub shape_rules : Group → List (Finding → Type 0)
 shape_rules group =
@@ -92,25 +76,19 @@ shape_rules group =
     ∷ Notes group.heading_line Rule4 group.name (group.headings ≡ [])
     ∷ Notes group.unit_line Rule4 group.name (length group.units ≢ length group.headings)
     ∷ Notes group.type_line Rule4 group.name (length group.types ≢ length group.headings)
-    ∷ StandsInRows group
-    ∷ []
+    ∷ Among group.rows (λ place row. Notes row.line Rule4 group.name (length row.cells ≢ length group.headings)) ∷ []
 
--- Rule 19; and P1: an earlier group has the name as well. The later group is noted, at its GROUP row, with the name as subject.
-abbrev pub name_rules : List (List ℕ) → ℕ → Group → List (Finding → Type 0)
-name_rules names place group =
-    Notes group.line Rule19 group.name (is_group_name group.name ≡ false) ∷ Notes group.line P1 group.name (IsRepeat names place group.name) ∷ []
+-- A name of no right form; and one that stands at an earlier place of its list as well: the later place is noted, with the name as subject.
+abbrev pub StandsInName : ℕ → Code → Code → (List ℕ → Bool) → List (List ℕ) → ℕ → List ℕ → Finding → Type 0
+StandsInName line wrong repeated is_name names place name =
+    OneOf (Notes line wrong name (is_name name ≡ false) ∷ Notes line repeated name (IsRepeat names place name) ∷ [])
 
--- Rule 19a; and P2: the heading stands at an earlier place of its row as well. The later place is noted, at the HEADING row, with the heading as subject.
-abbrev pub heading_rules : ℕ → List (List ℕ) → ℕ → List ℕ → List (Finding → Type 0)
-heading_rules line headings place heading =
-    Notes line Rule19a heading (is_heading_name heading ≡ false) ∷ Notes line P2 heading (IsRepeat headings place heading) ∷ []
-
-abbrev pub StandsInHeadings : Group → Finding → Type 0
-StandsInHeadings group = Among group.headings (λ place heading. OneOf (heading_rules group.heading_line group.headings place heading))
-
--- all rules of a group
+-- All rules of a group. Rule 19 and P1 are of its name, noted at its GROUP row; Rule 19a and P2 of each heading, noted at its HEADING row.
 abbrev pub group_rules : List (List ℕ) → ℕ → Group → List (Finding → Type 0)
-group_rules names place group = OneOf (shape_rules group) ∷ OneOf (name_rules names place group) ∷ StandsInHeadings group ∷ []
+group_rules names place group =
+    OneOf (shape_rules group)
+    ∷ StandsInName group.line Rule19 P1 is_group_name names place group.name
+    ∷ Among group.headings (StandsInName group.heading_line Rule19a P2 is_heading_name group.headings) ∷ []
 
 -- what stands in the groups of a file
 abbrev pub StandsInGroups : List Group → Finding → Type 0

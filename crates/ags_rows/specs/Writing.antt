@@ -7,11 +7,13 @@ use Rattle.ags_rows.specs.Bytes.{ascii_end, carriage_return, line_feed}
 use Rattle.ags_rows.specs.Names.{is_group_name, is_heading_name}
 use Rattle.ags_rows.specs.Contents.{Contents}
 use Rattle.ags_rows.specs.Lines.{TextLine, line_bytes}
-use Rattle.ags_rows.specs.RowTexts.{each_row, spelling_of}
+use Rattle.ags_rows.specs.Rows.{descriptor_text}
+use Rattle.ags_rows.specs.Spelling.{line_of}
+use Rattle.ags_rows.specs.RowTexts.{each_row}
 
--- the line of a row
+-- the line of a row, in its one spelling
 abbrev pub written_row : Descriptor → List (List ℕ) → TextLine
-written_row kind items = record { content = spelling_of kind items; ending = CrLf }
+written_row kind items = record { content = line_of (descriptor_text kind ∷ items); ending = CrLf }
 
 -- a group, part by part
 abbrev pub contents_from : List ℕ → List (List ℕ) → List (List ℕ) → List (List ℕ) → List (List (List ℕ)) → Contents

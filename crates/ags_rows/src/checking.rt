@@ -1,10 +1,10 @@
 //! What stands against the groups of a file.
 
-ghost use Rattle.std.specs.Prelude.{◌∷◌, [], OnOk, IfOk};
-ghost use Rattle.ags_rows.specs.declared.code.Code.TheVariants.{Rule19, Rule19a, P1, P2};
+ghost use Rattle.std.specs.Prelude.{◌≢◌, ◌∷◌, [], length, OnOk, IfOk};
+ghost use Rattle.ags_rows.specs.declared.code.Code.TheVariants.{Rule4, Rule19, Rule19a, P1, P2};
 ghost use Rattle.ags_rows.specs.Names.{is_group_name, is_heading_name};
-ghost use Rattle.ags_rows.specs.Collecting.{OneOf, Notes, Adds};
-ghost use Rattle.ags_rows.specs.Stands.{shape_rules, StandsInRows, StandsInHeadings, StandsInGroups};
+ghost use Rattle.ags_rows.specs.Collecting.{OneOf, Among, Notes, Adds};
+ghost use Rattle.ags_rows.specs.Stands.{shape_rules, StandsInName, StandsInGroups};
 ghost use Rattle.ags_rows.specs.Findings.{AreExactly};
 ghost use Rattle.ags_rows.specs.Parsing.{IsMet, MeetsAlso, met_rules};
 
@@ -35,7 +35,9 @@ fn note_repeat<'g>(
 
 /// Notes rows of a group with another number of items than its HEADING row (Rule 4).
 fn note_widths(group: &Group, findings: &mut NotedFindings) -> Result<(), AllocError>
-    ensures { OnOk result (Adds (StandsInRows group.now) findings.old findings.new) }
+    ensures { OnOk result (Adds (Among group.now.rows (λ place row.
+        Notes row.line Rule4 group.now.name (length row.cells ≢ length group.now.headings)))
+        findings.old findings.new) }
 {
     let width = group.headings.len();
     let name = group.name.as_slice();
@@ -110,7 +112,9 @@ fn note_headings(
     group: &Group,
     findings: &mut NotedFindings,
 ) -> Result<(), AllocError>
-    ensures { OnOk result (Adds (StandsInHeadings group.now) findings.old findings.new) }
+    ensures { OnOk result (Adds (Among group.now.headings
+        (StandsInName group.now.heading_line Rule19a P2 is_heading_name group.now.headings))
+        findings.old findings.new) }
 {
     let mut met = BTreeMap::new(alloc);
     for heading in group.headings.as_slice() {
@@ -130,7 +134,8 @@ fn note_group<'g>(
         (OneOf (OneOf (shape_rules group.now)
         ∷ OneOf (met_rules group.now.line Rule19 P1 group.now.name (is_group_name group.now.name)
         (IsMet met.old group.now.name))
-        ∷ StandsInHeadings group.now ∷ []))
+        ∷ Among group.now.headings
+        (StandsInName group.now.heading_line Rule19a P2 is_heading_name group.now.headings) ∷ []))
         findings.old findings.new) }
     ensures met { OnOk result (MeetsAlso met.old met.new group.now.name) }
 {

@@ -4,38 +4,14 @@ ghost use Rattle.std.specs.Prelude.{◌≡◌};
 ghost use Rattle.std.specs.Str.{IsUtf8};
 ghost use Rattle.ags_rows.specs.Codes.{code_text};
 
-/// The rule that a finding is of, in the order in which findings are sorted.
+/// The rule that a finding is of. Findings of one line are sorted in the order of these variants.
+#[rattlefmt::skip]
 #[derive(Clone, Copy, Debug, PartialEq, Eq, PartialOrd, Ord)]
 pub enum Code {
-    Rule1,
-    Rule2,
-    Rule2a,
-    Rule2b,
-    Rule3,
-    Rule4,
-    Rule5,
-    Rule6,
-    Rule7,
-    Rule8,
-    Rule9,
-    Rule10a,
-    Rule10b,
-    Rule10c,
-    Rule11a,
-    Rule11b,
-    Rule11c,
-    Rule13,
-    Rule14,
-    Rule15,
-    Rule16,
-    Rule17,
-    Rule18,
-    Rule19,
-    Rule19a,
-    Rule19b,
-    Rule20,
-    P1,
-    P2,
+    Rule1, Rule2, Rule2a, Rule2b, Rule3, Rule4, Rule5, Rule6,
+    Rule7, Rule8, Rule9, Rule10a, Rule10b, Rule10c, Rule11a, Rule11b,
+    Rule11c, Rule13, Rule14, Rule15, Rule16, Rule17, Rule18, Rule19,
+    Rule19a, Rule19b, Rule20, P1, P2,
 }
 
 impl Code {

@@ -4,7 +4,7 @@ use Rattle.std.proofs.lemmas.Option.{slice_get_read}
 use Rattle.ags_rows.specs.declared.code.Code.TheVariants.{Rule19a, P2}
 use Rattle.ags_rows.specs.Names.{is_heading_name}
 use Rattle.ags_rows.specs.Collecting.{Adds, Among, OneOf}
-use Rattle.ags_rows.specs.Stands.{heading_rules}
+use Rattle.ags_rows.specs.Stands.{StandsInName}
 use Rattle.ags_rows.specs.Parsing.{IsMet, met_rules}
 use Rattle.ags_rows.proofs.Collecting.{among_none, among_more, among_all}
 use Rattle.ags_rows.proofs.Repeats.{none_met, none_before, repeat_more, heading_same}
@@ -15,7 +15,7 @@ loop-heading-init c =
     let items = c.as_slice-heading-items.result.now in
     record {
       met = λ q. (λ h. absurd (none_met c.new-met.result q c.new-met.ensures.empty h), λ h. absurd (none_before items q h));
-      noted = among_none items (λ place heading. OneOf (heading_rules c.args.group.now.heading_line items place heading)) c.args.findings.now;
+      noted = among_none items (StandsInName c.args.group.now.heading_line Rule19a P2 is_heading_name items) c.args.findings.now;
     }
 
 pub loop-heading-preserved : goal.loop-heading-preserved
@@ -33,7 +33,7 @@ loop-heading-preserved c =
     let noted = subst (λ (n : List ℕ). Adds (OneOf (met_rules line Rule19a P2 n (is_heading_name n) (IsMet met n))) old new) c.as_slice.ensures c.in_ok-note_heading.ensures.noted in
     record {
       met = repeat_more items i heading (IsMet met) (IsMet next) at c.loop-heading.invariant.met more;
-      noted = among_more items (λ place heading. OneOf (heading_rules line items place heading)) i heading c.args.findings.now old new at c.loop-heading.invariant.noted (heading_same line items i heading (IsMet met heading) old new (c.loop-heading.invariant.met heading) noted);
+      noted = among_more items (StandsInName line Rule19a P2 is_heading_name items) i heading c.args.findings.now old new at c.loop-heading.invariant.noted (heading_same line items i heading (IsMet met heading) old new (c.loop-heading.invariant.met heading) noted);
     }
 
 pub returns : goal.returns
@@ -41,5 +41,5 @@ returns c =
     let line = c.args.group.now.heading_line in
     let old = c.args.findings.now in
     let new = c.loop-heading.findings in
-    subst (λ (items : List (List ℕ)). Adds (Among items (λ place heading. OneOf (heading_rules line items place heading))) old new) c.as_slice-heading-items.ensures
-    (among_all c.as_slice-heading-items.result.now (λ place heading. OneOf (heading_rules line c.as_slice-heading-items.result.now place heading)) c.loop-heading.heading-index old new c.loop-heading-test.false c.loop-heading.invariant.noted)
+    subst (λ (items : List (List ℕ)). Adds (Among items (StandsInName line Rule19a P2 is_heading_name items)) old new) c.as_slice-heading-items.ensures
+    (among_all c.as_slice-heading-items.result.now (StandsInName line Rule19a P2 is_heading_name c.as_slice-heading-items.result.now) c.loop-heading.heading-index old new c.loop-heading-test.false c.loop-heading.invariant.noted)

@@ -1,9 +1,10 @@
-use Rattle.std.proofs.Common.{◌≡◌, [], refl, ◌∙◌}
+use Rattle.std.proofs.Common.{◌≡◌, ◌≢◌, [], length, refl, ◌∙◌}
 use Rattle.std.proofs.lemmas.Option.{slice_get_read}
 use Rattle.ags_rows.specs.declared.code.Code.TheVariants.{Rule2, Rule2b, Rule4}
+use Rattle.ags_rows.specs.declared.rows.Descriptor.TheVariants as kinds
 use Rattle.ags_rows.specs.Collecting.{At, Adds, Notes, OneOf}
 use Rattle.ags_rows.specs.Order.{OutOfPlace}
-use Rattle.ags_rows.specs.Stands.{IsUnnamed, row_rules}
+use Rattle.ags_rows.specs.Stands.{row_rules}
 use Rattle.ags_rows.proofs.Collecting.{adds_found, adds_clear, two_rules, among_none, among_more, among_all}
 use Rattle.ags_rows.proofs.Repeats.{empties, empty}
 use Rattle.ags_rows.proofs.ordering.note_order.Goals as goal
@@ -27,7 +28,7 @@ loop-place-preserved c =
       | then-is_out_of_place+in_ok-note-2 w ↦ adds_found (out.0 w.if-is_out_of_place.true) (w.findings-is ∙ w.in_ok-note-2.ensures.noted)
       | else-is_out_of_place w ↦ adds_clear (λ h. absurd (cc (out.1 h, w.if-is_out_of_place.false))) w.findings-is
     ] in
-    let name : Adds (Notes row.line Rule4 [] (IsUnnamed row)) mid new = elim c.if-is_unnamed.branch [
+    let name : Adds (Notes row.line Rule4 [] ((row.descriptor ≡ kinds.Group) × (length row.items ≢ 1))) mid new = elim c.if-is_unnamed.branch [
       | then-is_unnamed+in_ok-note-3 w ↦ adds_found (unnamed.0 w.if-is_unnamed.true) (w.findings-is ∙ w.in_ok-note-3.ensures.noted)
       | else-is_unnamed w ↦ adds_clear (λ h. absurd (cc (unnamed.1 h, w.if-is_unnamed.false))) w.findings-is
     ] in

@@ -2,9 +2,11 @@ use Rattle.std.proofs.Common.{◌≡◌, [], map, ◌+◌, arith, get_or, sym, �
 use Rattle.std.proofs.lemmas.List.{length-map}
 use Rattle.ags_rows.specs.declared.code.Code.TheVariants.{Rule1, Rule2a}
 use Rattle.ags_rows.specs.declared.rows.Ending.TheVariants.{Lf}
+use Rattle.std.specs.Prelude.{◌≤◌, Any}
+use Rattle.ags_rows.specs.Bytes.{ascii_end}
 use Rattle.ags_rows.specs.Lines.{text_line}
 use Rattle.ags_rows.specs.Collecting.{Adds, Notes, OneOf}
-use Rattle.ags_rows.specs.Stands.{HasHighByte, byte_rules}
+use Rattle.ags_rows.specs.Stands.{byte_rules}
 use Rattle.ags_rows.proofs.Collecting.{adds_found, adds_clear, two_rules, among_more, among_all}
 use Rattle.ags_rows.proofs.Breaking.{at_line, high_any, any_high, lf_same, same_lf}
 use Rattle.ags_rows.proofs.rows.note_lines.Goals as goal
@@ -18,7 +20,7 @@ loop-i-preserved c =
     let old = c.loop-i.findings in
     let mid = c.if-has_high.findings in
     let new = c.if-eq.findings in
-    let high : Adds (Notes (i + 1) Rule1 [] (HasHighByte line.content)) old mid = elim c.if-has_high.branch [
+    let high : Adds (Notes (i + 1) Rule1 [] (Any (λ b. ascii_end ≤ b) line.content)) old mid = elim c.if-has_high.branch [
       | then-has_high+in_ok-note w ↦ adds_found (high_any line.content (sym c.has_high.ensures ∙ w.if-has_high.true)) (w.findings-is ∙ w.in_ok-note.ensures.noted)
       | else-has_high w ↦ adds_clear (λ h. absurd (cc (any_high line.content h, c.has_high.ensures, w.if-has_high.false))) w.findings-is
     ] in

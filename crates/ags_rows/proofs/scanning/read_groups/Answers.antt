@@ -5,7 +5,8 @@ use Rattle.ags_rows.specs.declared.rows.Group.{Group}
 use Rattle.ags_rows.specs.declared.finding.Finding.{Finding}
 use Rattle.ags_rows.specs.Groups.{Groups}
 use Rattle.ags_rows.specs.Stands.{StandsInOrder, StandsInGroups}
-use Rattle.ags_rows.specs.Findings.{AreExactly, FirstFound, GroupsOrNone, later_phases}
+use Rattle.ags_rows.specs.Findings.{AreExactly, FirstFound, GroupsOrNone}
+use Rattle.ags_rows.specs.Parsing.{later_phases}
 use Rattle.ags_rows.proofs.Files.{is_nil, is_some}
 use Rattle.ags_rows.proofs.Collecting.{none_listed}
 use Rattle.ags_rows.proofs.Cuts.{none_clear}

@@ -3,7 +3,7 @@ use Rattle.std.proofs.lemmas.List.{length-map}
 use Rattle.ags_rows.specs.declared.TheConstants.{READABLE}
 use Rattle.ags_rows.specs.declared.finding.Finding.{Finding}
 use Rattle.ags_rows.specs.Lines.{Lines, after_byte_order_mark, text_line}
-use Rattle.ags_rows.specs.Rows.{Rows}
+use Rattle.ags_rows.specs.Rows.{RowsFrom}
 use Rattle.ags_rows.specs.Collecting.{Adds}
 use Rattle.ags_rows.specs.Stands.{StandsInSpelling}
 use Rattle.ags_rows.proofs.Files.{lines_within}
@@ -22,7 +22,7 @@ pub returns-clause-file : goal.returns-clause-file
 returns-clause-file c =
     let lines = map text_line c.in_ok-lines.lines.items in
     let cut : Lines (after_byte_order_mark c.args.bytes.now) lines = subst (λ t. Lines t lines) c.after_byte_order_mark.ensures c.in_ok-lines.ensures in
-    let rows : Rows lines c.in_ok-rows.rows.items = subst (λ x. Rows (map text_line x) c.in_ok-rows.rows.items) c.as_slice.ensures.value c.in_ok-rows.ensures.rows in
+    let rows : RowsFrom 1 lines c.in_ok-rows.rows.items = subst (λ x. RowsFrom 1 (map text_line x) c.in_ok-rows.rows.items) c.as_slice.ensures.value c.in_ok-rows.ensures.rows in
     let groups = some_groups c.in_ok-rows.rows.items in
     let noted = c.take_lines.new.findings in
     let adds = subst (λ (l : List Finding). Adds (StandsInSpelling lines) l noted) c.new-findings.ensures
@@ -37,5 +37,5 @@ pub returns-clause-few : goal.returns-clause-few
 returns-clause-few c =
     let lines = map text_line c.in_ok-lines.lines.items in
     let cut : Lines (after_byte_order_mark c.args.bytes.now) lines = subst (λ t. Lines t lines) c.after_byte_order_mark.ensures c.in_ok-lines.ensures in
-    let rows : Rows lines c.in_ok-rows.rows.items = subst (λ x. Rows (map text_line x) c.in_ok-rows.rows.items) c.as_slice.ensures.value c.in_ok-rows.ensures.rows in
+    let rows : RowsFrom 1 lines c.in_ok-rows.rows.items = subst (λ x. RowsFrom 1 (map text_line x) c.in_ok-rows.rows.items) c.as_slice.ensures.value c.in_ok-rows.ensures.rows in
     rows_within c.args.bytes.now lines c.in_ok-rows.rows.items READABLE cut rows c.requires
