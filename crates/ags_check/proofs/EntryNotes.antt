@@ -6,7 +6,7 @@ use Rattle.std.proofs.lemmas.Option.{slice_get-map, slice_get-get_or}
 use Rattle.ags_rows.specs.declared.code.Code.TheVariants.{Rule8, Rule15, Rule16, Rule17}
 use Rattle.ags_rows.specs.declared.finding.Finding.{Finding}
 use Rattle.ags_rows.specs.Collecting.{At, Adds, Notes, AmongBefore, OneOf}
-use Rattle.ags_rows.specs.Contents.{Contents, group_contents, field_at, place_in, under}
+use Rattle.ags_rows.specs.Contents.{Contents, group_contents, field_at, under}
 use Rattle.ags_rows.specs.declared.rows.Group.{Group}
 use Rattle.ags_rows.proofs.Lemmas.{among_more, among_all, one_more, two_rules}
 use Rattle.ags_dict.specs.Entries.{required_of}
