@@ -54,4 +54,5 @@ entry_rules_of entries file first group =
 
 -- the fifth phase: the UNIT, TYPE and DATA rows
 abbrev pub entry_rules : Entries → List Group → List (Finding → Type 0)
-entry_rules entries groups = Among groups (λ place group f. OneOf (entry_rules_of entries (contents_of groups) (rows_before (contents_of groups) place) group) f) ∷ []
+entry_rules entries groups =
+    Among groups (λ place group f. OneOf (entry_rules_of entries (contents_of groups) (rows_before (contents_of groups) place) group) f) ∷ []
