@@ -1,31 +1,32 @@
 -- Going over the columns of a group, and what is noted of each.
-use Rattle.std.proofs.Common.{◌≡◌, ℕ, ◌+◌, ◌<◌, ◌≤◌, List, [], ◌∷◌, length, get_or, map, sym, ap, subst, ◌∙◌, arith}
-use Rattle.std.specs.Prelude.{option_map}
+use Rattle.std.proofs.Common.{◌≡◌, ◌≢◌, ℕ, ◌+◌, ◌<◌, ◌≤◌, List, [], ◌∷◌, length, get_or, map, sym, ap, subst, ◌∙◌, arith}
+use Rattle.std.specs.Prelude.{option_map, codes}
 use Rattle.std.proofs.lemmas.List.{length-map}
 use Rattle.std.proofs.lemmas.Option.{slice_get-map, slice_get-get_or}
 use Rattle.ags_rows.specs.declared.code.Code.TheVariants.{Rule8, Rule15, Rule16, Rule17}
 use Rattle.ags_rows.specs.declared.finding.Finding.{Finding}
 use Rattle.ags_rows.specs.Collecting.{At, Adds, Notes, AmongBefore, OneOf}
-use Rattle.ags_rows.specs.Contents.{Contents, group_contents, field_at, place_in}
+use Rattle.ags_rows.specs.Contents.{Contents, group_contents, field_at, under}
 use Rattle.ags_rows.specs.declared.rows.Group.{Group}
 use Rattle.ags_rows.proofs.Lemmas.{among_more, among_all, one_more, two_rules}
 use Rattle.ags_dict.specs.Entries.{required_of}
 use Rattle.ags_check.specs.declared.rows.columns.Column.{Column}
-use Rattle.ags_check.specs.Columns.{IsColumn, AreColumns, Outlined, entry_under, column_text}
-use Rattle.ags_check.specs.RowRules.{DataEntry, entry_in, unit_over, IsUnfit, IsUnlistedUnit, IsUnlistedType, IsUnlistedUnitEntry, IsUnlistedAbbreviationEntry, IsUnlistedTypeEntry}
-use Rattle.ags_check.specs.RowPhase.{InHeadings, unit_and_type_rules, data_entry_rules}
+use Rattle.ags_check.specs.Columns.{IsColumn, AreColumns, Outlined, column_text}
+use Rattle.ags_cells.specs.Fits.{FitsTypeCode}
+use Rattle.ags_check.specs.Placing.{InSome}
+use Rattle.ags_check.specs.RowRules.{unit_over, type_over, IsUnlistedUnit, IsUnlistedType, IsUnlistedAbbreviation}
+use Rattle.ags_check.specs.RowPhase.{unit_and_type_rules, data_entry_rules}
 
 -- the notes on an entry
-pub entry_noted : (file : List Contents) (line : ℕ) (entry : DataEntry) (f0 f1 f2 f3 f4 : List Finding)
-    → Adds (Notes line Rule8 entry.heading (IsUnfit entry)) f0 f1 → Adds (Notes line Rule15 entry.heading (IsUnlistedUnitEntry file entry)) f1 f2
-    → Adds (Notes line Rule16 entry.heading (IsUnlistedAbbreviationEntry file entry)) f2 f3 → Adds (Notes line Rule17 entry.heading (IsUnlistedTypeEntry file entry)) f3 f4
-    → Adds (OneOf (data_entry_rules file line entry)) f0 f4
-entry_noted file line entry f0 f1 f2 f3 f4 unfit unit abbreviation type =
-    let h = entry.heading in
-    let types : List (Finding → Type 0) = Notes line Rule17 h (IsUnlistedTypeEntry file entry) ∷ [] in
-    let abbreviations : List (Finding → Type 0) = Notes line Rule16 h (IsUnlistedAbbreviationEntry file entry) ∷ types in
-    one_more (Notes line Rule8 h (IsUnfit entry)) (Notes line Rule15 h (IsUnlistedUnitEntry file entry) ∷ abbreviations) f0 f1 f4 unfit
-    (one_more (Notes line Rule15 h (IsUnlistedUnitEntry file entry)) abbreviations f1 f2 f4 unit (two_rules f2 f3 f4 abbreviation type))
+pub entry_noted : (file : List Contents) (line : ℕ) (h unit code text : List ℕ) (f0 f1 f2 f3 f4 : List Finding)
+    → Adds (Notes line Rule8 h ((text ≢ []) × ¬ (FitsTypeCode code unit text))) f0 f1 → Adds (Notes line Rule15 h ((code ≡ codes "PU") × IsUnlistedUnit file text)) f1 f2
+    → Adds (Notes line Rule16 h ((code ≡ codes "PA") × IsUnlistedAbbreviation file h text)) f2 f3 → Adds (Notes line Rule17 h ((code ≡ codes "PT") × IsUnlistedType file text)) f3 f4
+    → Adds (OneOf (data_entry_rules file line h unit code text)) f0 f4
+entry_noted file line h unit code text f0 f1 f2 f3 f4 unfit units abbreviation type =
+    let types : List (Finding → Type 0) = Notes line Rule17 h ((code ≡ codes "PT") × IsUnlistedType file text) ∷ [] in
+    let abbreviations : List (Finding → Type 0) = Notes line Rule16 h ((code ≡ codes "PA") × IsUnlistedAbbreviation file h text) ∷ types in
+    one_more _ (Notes line Rule15 h ((code ≡ codes "PU") × IsUnlistedUnit file text) ∷ abbreviations) f0 f1 f4 unfit
+    (one_more _ abbreviations f1 f2 f4 units (two_rules f2 f3 f4 abbreviation type))
 
 -- ---- columns and headings
 
@@ -59,29 +60,30 @@ columns_more Rules headings columns i d old mid new heads lt before here =
 
 -- all columns
 pub columns_all : (Rules : List ℕ → List (Finding → Type 0)) (headings : List (List ℕ)) (columns : List Column) (i : ℕ) (old new : List Finding)
-    → map heading_of columns ≡ headings → length columns ≤ i → Adds (AmongBefore headings (λ _ heading f. OneOf (Rules heading) f) i) old new → Adds (InHeadings headings Rules) old new
+    → map heading_of columns ≡ headings → length columns ≤ i → Adds (AmongBefore headings (λ _ heading f. OneOf (Rules heading) f) i) old new → Adds (InSome headings Rules) old new
 columns_all Rules headings columns i old new heads le x =
     let sizes : length headings ≡ length columns = sym (ap (length {A = List ℕ}) heads) ∙ length-map columns heading_of in
     among_all headings (λ _ heading f. OneOf (Rules heading) f) i old new (omega (arith, sizes, le)) x
 
--- a column has what the group says of the heading
-pub entry_same : (group : Contents) (column : Column) (fields : List (List ℕ)) (text : List ℕ) → IsColumn group column → text ≡ column_text column fields → entry_under column text ≡ entry_in group fields column.heading.now
-entry_same group column fields text is same =
-    let h = column.heading.now in
-    let e : text ≡ field_at fields (place_in group.headings h) = same ∙ ap (field_at fields) is.place in
-    ap (λ (t : List ℕ). record { heading = h; unit = column.unit.now; code = column.code.now; text = t }) e
-    ∙ ap (λ (u : List ℕ). record { heading = h; unit = u; code = column.code.now; text = (entry_in group fields h).text }) is.unit
-    ∙ ap (λ (k : List ℕ). record { heading = h; unit = unit_over group h; code = k; text = (entry_in group fields h).text }) is.code
+-- the rules on the entry under a heading of a row
+abbrev pub entry_rules_in : List Contents → ℕ → Contents → List (List ℕ) → List ℕ → List (Finding → Type 0)
+entry_rules_in file line group fields heading = data_entry_rules file line heading (unit_over group heading) (type_over group heading) (under group.headings fields heading)
 
--- the entry of one column more
+-- the entry of one column more, of which the column has what the group says
 pub entries_more : (file : List Contents) (line : ℕ) (group : Contents) (headings fields : List (List ℕ)) (columns : List Column) (i : ℕ) (d : Column) (text : List ℕ) (old mid new : List Finding)
     → AreColumns group headings columns → i < length columns → text ≡ column_text (get_or columns i d) fields
-    → Adds (AmongBefore headings (λ _ heading f. OneOf (data_entry_rules file line (entry_in group fields heading)) f) i) old mid
-    → Adds (OneOf (data_entry_rules file line (entry_under (get_or columns i d) text))) mid new
-    → Adds (AmongBefore headings (λ _ heading f. OneOf (data_entry_rules file line (entry_in group fields heading)) f) (i + 1)) old new
-entries_more file line group headings fields columns i d text old mid new are lt is before here =
-    columns_more (λ heading. data_entry_rules file line (entry_in group fields heading)) headings columns i d old mid new are.heads lt before
-    (subst (λ (entry : DataEntry). Adds (OneOf (data_entry_rules file line entry)) mid new) (entry_same group (get_or columns i d) fields text (are.each i d lt) is) here)
+    → Adds (AmongBefore headings (λ _ heading f. OneOf (entry_rules_in file line group fields heading) f) i) old mid
+    → Adds (OneOf (data_entry_rules file line (heading_of (get_or columns i d)) (get_or columns i d).unit.now (get_or columns i d).code.now text)) mid new
+    → Adds (AmongBefore headings (λ _ heading f. OneOf (entry_rules_in file line group fields heading) f) (i + 1)) old new
+entries_more file line group headings fields columns i d text old mid new are lt same before here =
+    let column = get_or columns i d in
+    let is : IsColumn group column = are.each i d lt in
+    let h = column.heading.now in
+    let e : text ≡ under group.headings fields h = same ∙ ap (field_at fields) is.place in
+    columns_more (entry_rules_in file line group fields) headings columns i d old mid new are.heads lt before
+    (subst (λ (t : List ℕ). Adds (OneOf (data_entry_rules file line h (unit_over group h) (type_over group h) t)) mid new) e
+    (subst (λ (k : List ℕ). Adds (OneOf (data_entry_rules file line h (unit_over group h) k text)) mid new) is.code
+    (subst (λ (u : List ℕ). Adds (OneOf (data_entry_rules file line h u column.code.now text)) mid new) is.unit here)))
 
 -- what is listed of a column's unit and type is what is listed of the group's
 pub header_more : (file : List Contents) (group : Group) (columns : List Column) (i : ℕ) (d : Column) (old mid half new : List Finding)

@@ -4,9 +4,9 @@ use Rattle.std.specs.Prelude.{◌↔◌, IsTrue, codes}
 use Rattle.std.proofs.lemmas.Bool.{true≢false}
 use Rattle.ags_rows.specs.Contents.{Contents}
 use Rattle.ags_rows.specs.Names.{is_definition}
-use Rattle.ags_links.specs.DataRows.{DataRow, IsDataRow, Between, entry_of, row_in, data_rows}
+use Rattle.ags_links.specs.DataRows.{DataRow, IsDataRow, Between, entry_of, data_rows}
 use Rattle.ags_links.specs.Steps.{IsFileRow}
-use Rattle.ags_links.proofs.Lemmas.{row_of_group, row_among, one_at}
+use Rattle.ags_links.proofs.Lemmas.{one_at}
 use Rattle.ags_check.specs.RowRules.{IsListed, IsUnlistedFileSet}
 
 abbrev pub file_set : DataRow → List ℕ
@@ -19,20 +19,10 @@ HasFileRow file n = (m : ℕ) × Between (data_rows file) IsFileRow n m
 file_row_lists : (file : List Contents) (n : ℕ) (row : DataRow) → IsDataRow (data_rows file) n row → HasFileRow file n → IsListed file (codes "FILE") (codes "FILE_FSET") (file_set row)
 file_row_lists file n row at h =
     let same : h.1.0 ≡ row = one_at (data_rows file) n h.1.0 row h.1.2 at in
-    let p = row_of_group file h.0 h.1.1 h.1.3 in
-    record {
-      group = p.group;
-      fields = p.fields;
-      of_file = (p.group_place, p.of_file.0, p.of_file.1);
-      named = ap (λ (r : DataRow). r.group) p.same ∙ h.1.4.0;
-      row = (p.place, p.of_group.0, p.of_group.1);
-      entry = ap file_set p.same ∙ h.1.4.2 ∙ ap file_set same;
-    }
+    (h.1.1, (h.0, h.1.3.0, h.1.3.1), h.1.4.0, h.1.4.2 ∙ ap file_set same)
 
 lists_file_row : (file : List Contents) (n : ℕ) (row : DataRow) → IsDataRow (data_rows file) n row → file_set row ≢ [] → IsListed file (codes "FILE") (codes "FILE_FSET") (file_set row) → HasFileRow file n
-lists_file_row file n row at some l =
-    let there = row_among file l.group l.fields l.of_file l.row in
-    (there.0, (row, row_in l.group l.fields, at, (there.1, there.2), (l.named, some, l.entry)))
+lists_file_row file n row at some l = (l.1.0, (row, l.0, at, (l.1.1, l.1.2), (l.2, some, l.3)))
 
 has_none : (file : List Contents) (n : ℕ) (row : DataRow) (has : Bool) → IsDataRow (data_rows file) n row → IsTrue has ↔ HasFileRow file n → (IsListed file (codes "FILE") (codes "FILE_FSET") (file_set row) → ⊥) → has ≡ false
 has_none file n row true at means none = absurd (none (file_row_lists file n row at (means.0 refl)))
@@ -44,7 +34,7 @@ pub file_set_means : (file : List Contents) (n : ℕ) (row : DataRow) (has b : B
 file_set_means file n row has b at means holds = (
   λ e. (
       let h = holds.0 e in
-      record { data_group = h.0; other_group = h.1; unlisted = (h.2.0, λ l. true≢false (sym (means.1 (lists_file_row file n row at h.2.0 l)) ∙ h.2.1)) }
+      (h.0, h.1, (h.2.0, λ l. true≢false (sym (means.1 (lists_file_row file n row at h.2.0 l)) ∙ h.2.1)))
       ),
-  λ u. holds.1 (u.data_group, u.other_group, (u.unlisted.0, has_none file n row has at means u.unlisted.1)),
+  λ u. holds.1 (u.0, u.1, (u.2.0, has_none file n row has at means u.2.1)),
 )

@@ -67,8 +67,8 @@ is_not_there false There means e h = true≢false (sym (means.1 h))
 pub lacks_parent : (entries : Entries) (file : List Contents) (group : Contents) (parent : List ℕ) (b : Bool) → parent_of entries group.name ≡ Some parent
     → IsTrue b ↔ HasGroup file parent → IsTrue (not b) ↔ LacksParentGroup entries file group
 lacks_parent entries file group parent b is means = (
-  λ e. record { parent = parent; is_parent = is; absent = is_not_there b (HasGroup file parent) means e },
+  λ e. (parent, is, is_not_there b (HasGroup file parent) means e),
   λ rule.
-      let same : rule.parent ≡ parent = same_Some rule.parent parent (sym rule.is_parent ∙ is) in
-      not_there b (HasGroup file parent) means (λ h. rule.absent (subst (HasGroup file) (sym same) h)),
+      let same : rule.0 ≡ parent = same_Some rule.0 parent (sym rule.1 ∙ is) in
+      not_there b (HasGroup file parent) means (λ h. rule.2 (subst (HasGroup file) (sym same) h)),
 )

@@ -8,10 +8,10 @@ use Rattle.ags_rows.specs.declared.finding.Finding.{Finding}
 use Rattle.ags_rows.specs.declared.rows.Group.{Group}
 use Rattle.ags_rows.specs.Collecting.{At, Adds}
 use Rattle.ags_rows.specs.Contents.{place_in, group_contents}
-use Rattle.ags_dict.specs.Entries.{Entries, order_of, keys_of, required_of}
+use Rattle.ags_dict.specs.Entries.{Entries, order_of}
 use Rattle.ags_links.proofs.Lemmas.{placed, place_of, at_place}
-use Rattle.ags_check.specs.Header.{IsUnknownHeading, IsOvertaken, IsMisplaced, LacksKey, LacksRequired, IsMisnamed}
-use Rattle.ags_check.specs.HeaderSteps.{IsMisnamedBy}
+use Rattle.ags_check.specs.Header.{IsOnlyIn, IsMisplaced, IsMisnamed}
+use Rattle.ags_check.specs.HeaderSteps.{IsOvertaken, IsMisnamedBy}
 use Rattle.ags_check.specs.Placing.{AtNames, AtHeading}
 use Rattle.ags_rows.proofs.Lemmas.{contains_at, at_contained}
 use Rattle.ags_check.proofs.Naming.{at_heading}
@@ -33,66 +33,41 @@ unplaced names name absent = elim (place_of (place_in names name)) [
 
 pub unknown_rule : (entries : Entries) (group : Group) (code : Code) (names : List (List ℕ)) (old new : List Finding) → names ≡ group.headings
     → Adds (AtNames group.heading_line code names (λ _ name. place_in (order_of entries group.name) name ≡ None)) old new
-    → Adds (AtHeading code (IsUnknownHeading entries (group_contents group)) group) old new
+    → Adds (AtHeading code (IsOnlyIn group.headings (order_of entries group.name)) group) old new
 unknown_rule entries group code names old new same x =
     let order = order_of entries group.name in
-    at_heading names group code (λ _ name. place_in order name ≡ None) (IsUnknownHeading entries (group_contents group)) old new
-    (λ place name at none. record { stands = subst (λ (l : List (List ℕ)). Contains l name) same (contains_at names place name at); unknown = λ h. placed order name h none })
+    at_heading names group code (λ _ name. place_in order name ≡ None) (IsOnlyIn group.headings (order_of entries group.name)) old new
+    (λ place name at none. (subst (λ (l : List (List ℕ)). Contains l name) same (contains_at names place name at), λ h. placed order name h none))
     (λ name rule.
-    let h = subst (λ (l : List (List ℕ)). Contains l name) (sym same) rule.stands in
-    (h.0, at_contained names name h, unplaced order name rule.unknown))
+    let h = subst (λ (l : List (List ℕ)). Contains l name) (sym same) rule.0 in
+    (h.0, at_contained names name h, unplaced order name rule.1))
     x
 
 pub misplaced_rule : (entries : Entries) (group : Group) (code : Code) (names : List (List ℕ)) (old new : List Finding) → names ≡ group.headings
-    → Adds (AtNames group.heading_line code names (IsOvertaken (place_in (order_of entries group.name)) names)) old new
-    → Adds (AtHeading code (IsMisplaced entries (group_contents group)) group) old new
+    → Adds (AtNames group.heading_line code names (IsOvertaken (order_of entries group.name) names)) old new
+    → Adds (AtHeading code (IsMisplaced (order_of entries group.name) group.headings) group) old new
 misplaced_rule entries group code names old new same x =
-    let rank = place_in (order_of entries group.name) in
-    at_heading names group code (IsOvertaken rank names) (IsMisplaced entries (group_contents group)) old new
-    (λ place name at o. record {
-      place = place;
-      stands = subst (λ (l : List (List ℕ)). At l place name) same at;
-      overtaken = subst (λ (l : List (List ℕ)). IsOvertaken rank l place name) same o;
-    })
-    (λ name rule. (
-      rule.place,
-      subst (λ (l : List (List ℕ)). At l rule.place name) (sym same) rule.stands,
-      subst (λ (l : List (List ℕ)). IsOvertaken rank l rule.place name) (sym same) rule.overtaken,
-    ))
+    let order = order_of entries group.name in
+    at_heading names group code (IsOvertaken order names) (IsMisplaced (order_of entries group.name) group.headings) old new
+    (λ place name at o.
+    let stands = subst (λ (l : List (List ℕ)). At l place name) same at in
+    let other_stands = subst (λ (l : List (List ℕ)). At l o.0 o.1) same o.3 in
+    (place, o.0, o.1, stands, other_stands, o.2, o.4))
+    (λ name rule.
+    let stands = subst (λ (l : List (List ℕ)). At l rule.0 name) (sym same) rule.3 in
+    let other_stands = subst (λ (l : List (List ℕ)). At l rule.1 rule.2) (sym same) rule.4 in
+    (rule.0, stands, (rule.1, rule.2, rule.5, other_stands, rule.6)))
     x
 
 -- a heading of the list that is not in the row
-lacking : (group : Group) (code : Code) (names listed : List (List ℕ)) (Lacks : List ℕ → Type 0) (old new : List Finding) → names ≡ listed
-    → ((name : List ℕ) → Contains listed name → (Contains group.headings name → ⊥) → Lacks name)
-    → ((name : List ℕ) → Lacks name → Contains listed name × (Contains group.headings name → ⊥))
-    → Adds (AtNames group.heading_line code names (λ _ name. place_in group.headings name ≡ None)) old new → Adds (AtHeading code Lacks group) old new
-lacking group code names listed Lacks old new same to from x =
-    at_heading names group code (λ _ name. place_in group.headings name ≡ None) Lacks old new
-    (λ place name at none.
-    to name (subst (λ (l : List (List ℕ)). Contains l name) same (contains_at names place name at))
-    (λ h. placed group.headings name h none))
+pub lacking_rule : (group : Group) (code : Code) (names listed : List (List ℕ)) (old new : List Finding) → names ≡ listed
+    → Adds (AtNames group.heading_line code names (λ _ name. place_in group.headings name ≡ None)) old new → Adds (AtHeading code (IsOnlyIn listed group.headings) group) old new
+lacking_rule group code names listed old new same x =
+    at_heading names group code (λ _ name. place_in group.headings name ≡ None) (IsOnlyIn listed group.headings) old new
+    (λ place name at none. (subst (λ (l : List (List ℕ)). Contains l name) same (contains_at names place name at), λ h. placed group.headings name h none))
     (λ name rule.
-    let k = from name rule in
-    let h = subst (λ (l : List (List ℕ)). Contains l name) (sym same) k.0 in
-    (h.0, at_contained names name h, unplaced group.headings name k.1))
-    x
-
-pub key_rule : (entries : Entries) (group : Group) (code : Code) (names : List (List ℕ)) (old new : List Finding) → names ≡ keys_of entries group.name
-    → Adds (AtNames group.heading_line code names (λ _ name. place_in group.headings name ≡ None)) old new
-    → Adds (AtHeading code (LacksKey entries (group_contents group)) group) old new
-key_rule entries group code names old new same x =
-    lacking group code names (keys_of entries group.name) (LacksKey entries (group_contents group)) old new same
-    (λ name h none. record { key = h; absent = none })
-    (λ name rule. (rule.key, rule.absent))
-    x
-
-pub required_rule : (entries : Entries) (group : Group) (code : Code) (names : List (List ℕ)) (old new : List Finding) → names ≡ required_of entries group.name
-    → Adds (AtNames group.heading_line code names (λ _ name. place_in group.headings name ≡ None)) old new
-    → Adds (AtHeading code (LacksRequired entries (group_contents group)) group) old new
-required_rule entries group code names old new same x =
-    lacking group code names (required_of entries group.name) (LacksRequired entries (group_contents group)) old new same
-    (λ name h none. record { required = h; absent = none })
-    (λ name rule. (rule.required, rule.absent))
+    let h = subst (λ (l : List (List ℕ)). Contains l name) (sym same) rule.0 in
+    (h.0, at_contained names name h, unplaced group.headings name rule.1))
     x
 
 some_place : (place : Option ℕ) → IsSome place → (i : ℕ) × (place ≡ Some i)
@@ -118,21 +93,17 @@ misnamed_rule given entries group code names old new same x =
     at_heading names group code (λ _ name. IsMisnamedBy given entries group.name name) (IsMisnamed given entries (group_contents group)) old new
     (λ place name at m.
     let some = some_place (place_in order name) m.known in
-    record {
-      stands = subst (λ (l : List (List ℕ)). Contains l name) same (contains_at names place name at);
-      user_defined = record { known = has_place order name some.0 some.1; own = λ h. placed given_order name h m.own };
-      other_name = m.other_name;
-      nowhere_else = m.nowhere_else;
-    })
+    let stands = subst (λ (l : List (List ℕ)). Contains l name) same (contains_at names place name at) in
+    (stands, (has_place order name some.0 some.1, λ h. placed given_order name h m.own), m.other_name, m.nowhere_else))
     (λ name rule.
-    let h = subst (λ (l : List (List ℕ)). Contains l name) (sym same) rule.stands in (
+    let h = subst (λ (l : List (List ℕ)). Contains l name) (sym same) rule.0 in (
       h.0,
       at_contained names name h,
       record {
-        known = has_some order name rule.user_defined.known;
-        own = unplaced given_order name rule.user_defined.own;
-        other_name = rule.other_name;
-        nowhere_else = rule.nowhere_else;
+        known = has_some order name rule.1.0;
+        own = unplaced given_order name rule.1.1;
+        other_name = rule.2;
+        nowhere_else = rule.3;
       },
     ))
     x

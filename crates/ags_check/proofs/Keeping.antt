@@ -7,9 +7,9 @@ use Rattle.ags_rows.specs.declared.rows.Group.{Group}
 use Rattle.ags_rows.specs.Collecting.{At, OneOf}
 use Rattle.ags_rows.specs.Contents.{Contents, group_contents, contents_of, fields_of}
 use Rattle.ags_dict.specs.Entries.{Entries, required_of}
-use Rattle.ags_links.specs.DataRows.{row_in, rows_before}
+use Rattle.ags_links.specs.DataRows.{row_in, entry_of, rows_before}
 use Rattle.ags_check.specs.HeaderPhase.{unknown_code, heading_row_rules, only_row_rules, group_header_rules, file_rules, header_rules}
-use Rattle.ags_check.specs.RowRules.{DataEntry, entry_in, RepeatsKey}
+use Rattle.ags_check.specs.RowRules.{unit_over, type_over, RepeatsKey}
 use Rattle.ags_check.specs.RowPhase.{data_entry_rules, data_row_rules, entry_rules_of, entry_rules}
 use Rattle.ags_check.specs.Keeping.{KeepsOnlyRow, KeepsHeader, KeepsHeaders, KeepsEntry, KeepsRow, KeepsRows}
 use Rattle.ags_check.specs.Findings.{IsClear}
@@ -40,8 +40,7 @@ group_clear : (given entries : Entries) (file : List Contents) (code : Code) (g 
 group_clear given entries file code g k f (inl n) = k.known n.0
 group_clear given entries file code g k f (inr (inl n)) = k.parent n.0
 group_clear given entries file code g k f (inr (inr (inl n))) = heading_clear given entries file code g k f n.1
-group_clear given entries file code g k f (inr (inr (inr (inl n)))) = only_clear g k.only_rows f n
-group_clear given entries file code g k f (inr (inr (inr (inr n)))) = n
+group_clear given entries file code g k f (inr (inr (inr n))) = only_clear g k.only_rows f n
 
 file_clear : (given entries : Entries) (file : List Contents) → KeepsHeaders given entries file → (f : Finding) → OneOf (file_rules file) f → ⊥
 file_clear given entries file k f (inl n) = k.project n.0
@@ -53,19 +52,20 @@ file_clear given entries file k f (inr (inr (inr (inr n)))) = n
 pub headers_clear : (given entries : Entries) (groups : List Group) → KeepsHeaders given entries (contents_of groups) → IsClear (header_rules given entries groups)
 headers_clear given entries groups k f (inl n) =
     group_clear given entries (contents_of groups) (unknown_code (contents_of groups)) n.1 (k.groups (group_contents n.1) (contents_contain groups n.0 n.1 n.2)) f n.3
-headers_clear given entries groups k f (inr (inl n)) = file_clear given entries (contents_of groups) k f n
-headers_clear given entries groups k f (inr (inr n)) = n
+headers_clear given entries groups k f (inr n) = file_clear given entries (contents_of groups) k f n
 
-entry_clear : (file : List Contents) (line : ℕ) (entry : DataEntry) → KeepsEntry file entry → (f : Finding) → OneOf (data_entry_rules file line entry) f → ⊥
-entry_clear file line entry k f (inl n) = k.fits n.0
-entry_clear file line entry k f (inr (inl n)) = k.unit n.0
-entry_clear file line entry k f (inr (inr (inl n))) = k.abbreviation n.0
-entry_clear file line entry k f (inr (inr (inr (inl n)))) = k.code n.0
-entry_clear file line entry k f (inr (inr (inr (inr n)))) = n
+entry_clear : (file : List Contents) (line : ℕ) (heading unit code text : List ℕ) → KeepsEntry file heading unit code text → (f : Finding) → OneOf (data_entry_rules file line heading unit code text) f → ⊥
+entry_clear file line heading unit code text k f (inl n) = k.fits n.0
+entry_clear file line heading unit code text k f (inr (inl n)) = k.units n.0
+entry_clear file line heading unit code text k f (inr (inr (inl n))) = k.abbreviations n.0
+entry_clear file line heading unit code text k f (inr (inr (inr (inl n)))) = k.types n.0
+entry_clear file line heading unit code text k f (inr (inr (inr (inr n)))) = n
 
 data_clear : (entries : Entries) (file : List Contents) (g : Group) (number : ℕ) (row : Row) → KeepsRow entries file (group_contents g) (fields_of row)
     → (RepeatsKey entries file number (row_in (group_contents g) (fields_of row)) → ⊥) → (f : Finding) → OneOf (data_row_rules entries file g number row) f → ⊥
-data_clear entries file g number row k key f (inl n) = entry_clear file row.line (entry_in (group_contents g) (fields_of row) n.1) (k.each n.1 (contains_at g.headings n.0 n.1 n.2)) f n.3
+data_clear entries file g number row k key f (inl n) =
+    let group = group_contents g in
+    entry_clear file row.line n.1 (unit_over group n.1) (type_over group n.1) (entry_of (row_in group (fields_of row)) n.1) (k.each n.1 (contains_at g.headings n.0 n.1 n.2)) f n.3
 data_clear entries file g number row k key f (inr (inl n)) =
     elim n.3 [
       | inl l ↦ k.links n.1 (contains_at g.headings n.0 n.1 n.2) l.0

@@ -54,7 +54,7 @@ header given entries file code g clear =
       names = λ h b. clear (noted g.heading_line rule.Rule19b h) (inr (inr (inl (has, inr (inr (inr (inr (inl (b, refl, refl)))))))));
       only_rows = λ place fields at.
           let row = map_at fields_of g.rows place fields at in
-          subst (KeepsOnlyRow (group_contents g) place) row.2 (only_row g (λ f n. clear f (inr (inr (inr (inl n))))) place row.0 row.1);
+          subst (KeepsOnlyRow (group_contents g) place) row.2 (only_row g (λ f n. clear f (inr (inr (inr n)))) place row.0 row.1);
     }
 
 pub headers_kept : (given entries : Entries) (groups : List Group) → IsClear (header_rules given entries groups) → KeepsHeaders given entries (contents_of groups)
@@ -63,10 +63,10 @@ headers_kept given entries groups clear = record {
       let of = of_group groups c there in
       subst (KeepsHeader given entries (contents_of groups)) of.3
       (header given entries (contents_of groups) (unknown_code (contents_of groups)) of.1 (λ f n. clear f (inl (of.0, of.1, of.2, n))));
-  project = λ b. clear (noted 0 rule.Rule13 (codes "PROJ")) (inr (inl (inl (b, refl, refl, refl))));
-  transmission = λ b. clear (noted 0 rule.Rule14 (codes "TRAN")) (inr (inl (inr (inl (b, refl, refl, refl)))));
-  units = λ b. clear (noted 0 rule.Rule15 (codes "UNIT")) (inr (inl (inr (inr (inl (b, refl, refl, refl))))));
-  types = λ b. clear (noted 0 rule.Rule17 (codes "TYPE")) (inr (inl (inr (inr (inr (inl (b, refl, refl, refl)))))));
+  project = λ b. clear (noted 0 rule.Rule13 (codes "PROJ")) (inr (inl (b, refl, refl, refl)));
+  transmission = λ b. clear (noted 0 rule.Rule14 (codes "TRAN")) (inr (inr (inl (b, refl, refl, refl))));
+  units = λ b. clear (noted 0 rule.Rule15 (codes "UNIT")) (inr (inr (inr (inl (b, refl, refl, refl)))));
+  types = λ b. clear (noted 0 rule.Rule17 (codes "TYPE")) (inr (inr (inr (inr (inl (b, refl, refl, refl))))));
 }
 
 -- ---- the fifth phase
@@ -77,9 +77,9 @@ row entries file g number r clear = record {
       let at = at_contained g.headings h there in
       record {
         fits = λ b. clear (noted r.line rule.Rule8 h) (inl (there.0, h, at, inl (b, refl, refl, refl)));
-        unit = λ b. clear (noted r.line rule.Rule15 h) (inl (there.0, h, at, inr (inl (b, refl, refl, refl))));
-        abbreviation = λ b. clear (noted r.line rule.Rule16 h) (inl (there.0, h, at, inr (inr (inl (b, refl, refl, refl)))));
-        code = λ b. clear (noted r.line rule.Rule17 h) (inl (there.0, h, at, inr (inr (inr (inl (b, refl, refl, refl))))));
+        units = λ b. clear (noted r.line rule.Rule15 h) (inl (there.0, h, at, inr (inl (b, refl, refl, refl))));
+        abbreviations = λ b. clear (noted r.line rule.Rule16 h) (inl (there.0, h, at, inr (inr (inl (b, refl, refl, refl)))));
+        types = λ b. clear (noted r.line rule.Rule17 h) (inl (there.0, h, at, inr (inr (inr (inl (b, refl, refl, refl))))));
       };
   links = λ h there b. clear (noted r.line rule.Rule11c h) (inr (inl (there.0, h, at_contained g.headings h there, inl (b, refl, refl, refl))));
   required = λ h there b. clear (noted r.line rule.Rule10b h) (inr (inr (inl (there.0, h, at_contained (required_of entries g.name) h there, inl (b, refl, refl, refl)))));

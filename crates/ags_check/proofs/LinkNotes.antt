@@ -3,7 +3,8 @@ use Rattle.std.proofs.Common.{◌≡◌, ◌≢◌, ℕ, ◌<◌, Bool, true, fa
 use Rattle.std.specs.Prelude.{◌↔◌, IsTrue, Contains, codes}
 use Rattle.std.proofs.lemmas.Bool.{true≢false, eqb-true}
 use Rattle.ags_rows.specs.declared.finding.Finding.{Finding}
-use Rattle.ags_rows.specs.Collecting.{Adds}
+use Rattle.ags_rows.specs.Collecting.{Adds, Notes}
+use Rattle.ags_rows.specs.declared.code.Code.TheVariants.{Rule11c}
 use Rattle.ags_rows.specs.Contents.{Contents, under, field_at}
 use Rattle.ags_rows.specs.Names.{is_definition}
 use Rattle.ags_rows.proofs.Lemmas.{adds_none, contains_at}
@@ -13,7 +14,7 @@ use Rattle.ags_links.specs.RecordLinks.{separators_of, IsBroken}
 use Rattle.ags_check.specs.declared.rows.columns.Column.{Column}
 use Rattle.ags_check.specs.Columns.{IsColumn, AreColumns, column_text}
 use Rattle.ags_check.specs.RowRules.{IsBrokenLink}
-use Rattle.ags_check.specs.RowPhase.{InHeadings, link_rules}
+use Rattle.ags_check.specs.Placing.{InSome}
 use Rattle.ags_check.proofs.EntryNotes.{heading_at, heading_of}
 
 -- what stands in the row at a column's place stands under its heading
@@ -28,9 +29,9 @@ link_means entries file group column fields text b is same stands data_group mea
     let there : text ≡ under group.headings fields column.heading.now = text_same group column fields text is same in (
       λ e. (
           let h = means.0 e in
-          record { data_group = data_group; link = (stands, sym is.code ∙ h.0, λ n. h.1 (there ∙ n)); broken = h.2 }
+          (data_group, (stands, sym is.code ∙ h.0, λ n. h.1 (there ∙ n)), h.2)
           ),
-      λ link. means.1 (is.code ∙ link.link.1, λ n. link.link.2 (sym there ∙ n), link.broken),
+      λ link. means.1 (is.code ∙ link.1.1, λ n. link.1.2 (sym there ∙ n), link.2),
     )
 
 pub link_at : (entries : Entries) (file : List Contents) (group : Contents) (fields : List (List ℕ)) (columns : List Column) (i : ℕ) (d : Column) (text : List ℕ) (b : Bool)
@@ -43,9 +44,9 @@ link_at entries file group fields columns i d text b are data_group lt same mean
 
 -- a row of a definition group has no link that is broken
 pub no_links : (entries : Entries) (file : List Contents) (line : ℕ) (group : Contents) (fields headings : List (List ℕ)) (old : List Finding)
-    → is_definition group.name ≡ true → Adds (InHeadings headings (link_rules entries file line (row_in group fields))) old old
+    → is_definition group.name ≡ true → Adds (InSome headings (λ heading. Notes line Rule11c heading (IsBrokenLink entries file (row_in group fields) heading) ∷ [])) old old
 no_links entries file line group fields headings old definition =
-    adds_none old (λ f h. elim h.3 [ inl k ↦ true≢false (sym definition ∙ k.0.data_group) | inr k ↦ k ])
+    adds_none old (λ f h. elim h.3 [ inl k ↦ true≢false (sym definition ∙ k.0.0) | inr k ↦ k ])
 
 -- ---- entries that are null
 

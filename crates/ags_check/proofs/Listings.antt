@@ -12,7 +12,8 @@ use Rattle.ags_rows.specs.Contents.{Contents, under, group_contents, contents_of
 use Rattle.ags_rows.specs.declared.rows.Group.{Group}
 use Rattle.ags_rows.proofs.Lemmas.{none_is}
 use Rattle.ags_links.specs.RecordLinks.{separators_of}
-use Rattle.ags_links.proofs.Lemmas.{contains_head, contains_tail, contains_cons, contains_map, map_contains, placed}
+use Rattle.ags_links.proofs.Lemmas.{contains_head, contains_tail, contains_cons, contains_map, map_contains, placed, row_of, row_among}
+use Rattle.ags_links.specs.DataRows.{DataRow, row_in, data_rows}
 use Rattle.ags_rows.specs.Parts.{parts_at}
 use Rattle.ags_check.specs.CodeLists.{read_rows, listed_texts, abbreviation_in, abbreviations, PairSet, has_pair, is_pair, HasPairs, lacks_part}
 use Rattle.ags_check.specs.RowRules.{IsListed, IsUnlisted, IsAbbreviation, IsUnlistedAbbreviation}
@@ -55,6 +56,14 @@ row_read name read (g ∷ file) x k = elim (contains_cons g file k.0 k.2) [
   | inr more ↦ Contains-append_right (read_group name read g) (read_rows name read file) x (row_read name read file x (k.0, k.1, more, k.3, k.4, k.5))
 ]
 
+-- what is read from a row of the file, of a group of the name
+pub read_of : {X : Type 0} (name : List ℕ) (read : List (List ℕ) → List (List ℕ) → X) (file : List Contents) (row : DataRow) (x : X)
+    → Contains (data_rows file) row → row.group ≡ name → read row.headings row.fields ≡ x → Read name read file x
+read_of name read file row x there named is =
+    let p = (row_of file row there).1 in
+    let name_is : p.group.name ≡ name = ap (λ (r : DataRow). r.group) p.same ∙ named in
+    (p.group, p.fields, (p.group_place, p.of_file.0, p.of_file.1), name_is, (p.place, p.of_group.0, p.of_group.1), ap (λ (r : DataRow). read r.headings r.fields) p.same ∙ is)
+
 -- one group more
 pub read_more : {X : Type 0} (name : List ℕ) (read : List (List ℕ) → List (List ℕ) → X) (groups : List Group) (i : ℕ) (group : Group) → i < length groups → group ≡ get_or groups i group
     → read_rows name read (contents_of (take (i + 1) groups)) ≡ read_rows name read (contents_of (take i groups)) ++ read_group name read (group_contents group)
@@ -71,11 +80,11 @@ read_more {X} name read groups i group lt is =
 pub listed_is : (file : List Contents) (name heading text : List ℕ) → Contains (listed_texts file name heading) text → IsListed file name heading text
 listed_is file name heading text h =
     let k = rows_read name (λ headings fields. under headings fields heading) file text h in
-    record { group = k.0; fields = k.1; of_file = k.2; named = k.3; row = k.4; entry = k.5 }
+    (row_in k.0 k.1, row_among file k.0 k.1 k.2 k.4, k.3, k.5)
 
 pub is_listed : (file : List Contents) (name heading text : List ℕ) → IsListed file name heading text → Contains (listed_texts file name heading) text
 is_listed file name heading text h =
-    row_read name (λ headings fields. under headings fields heading) file text (h.group, h.fields, h.of_file, h.named, h.row, h.entry)
+    row_read name (λ headings fields. under headings fields heading) file text (read_of name (λ headings fields. under headings fields heading) file h.0 text h.1 h.2 h.3)
 
 -- what is not found is not listed
 pub unlisted_by : (file : List Contents) (name heading text : List ℕ) (texts : List (List ℕ)) (b : Bool) → texts ≡ listed_texts file name heading
@@ -111,13 +120,13 @@ pair_is file held heading text has e =
     let there : Contains (abbreviations file) (heading, text) =
     subst (Contains (abbreviations file)) (same_pair heading text found.1 found.4) (found.0, found.2, found.3) in
     let k = rows_read (codes "ABBR") abbreviation_in file (heading, text) there in
-    record { group = k.0; fields = k.1; of_file = k.2; named = k.3; row = k.4; heads = ap (λ (p : List ℕ × List ℕ). p.0) k.5; code = ap (λ (p : List ℕ × List ℕ). p.1) k.5 }
+    (row_in k.0 k.1, row_among file k.0 k.1 k.2 k.4, k.3, ap (λ (p : List ℕ × List ℕ). p.0) k.5, ap (λ (p : List ℕ × List ℕ). p.1) k.5)
 
 pub is_pair_of : (file : List Contents) (held : PairSet) (heading text : List ℕ) → HasPairs held (abbreviations file) → IsAbbreviation file heading text → has_pair held heading text ≡ true
 is_pair_of file held heading text has h =
-    let both : abbreviation_in h.group.headings h.fields ≡ (heading, text) =
-    ap (λ (x : List ℕ). (x, (abbreviation_in h.group.headings h.fields).1)) h.heads ∙ ap (λ (y : List ℕ). (heading, y)) h.code in
-    let there = row_read (codes "ABBR") abbreviation_in file (heading, text) (h.group, h.fields, h.of_file, h.named, h.row, both) in
+    let both : abbreviation_in h.0.headings h.0.fields ≡ (heading, text) =
+    ap (λ (x : List ℕ). (x, (abbreviation_in h.0.headings h.0.fields).1)) h.3 ∙ ap (λ (y : List ℕ). (heading, y)) h.4 in
+    let there = row_read (codes "ABBR") abbreviation_in file (heading, text) (read_of (codes "ABBR") abbreviation_in file h.0 (heading, text) h.1 h.2 both) in
     has heading text ∙ list_any-from_Any (is_pair heading text) (abbreviations file) (there.0, (heading, text), there.1, there.2, pair_itself heading text)
 
 pub not_true : (b : Bool) → not b ≡ true → b ≡ true → ⊥
@@ -139,19 +148,14 @@ unlisted_pair file held separator heading text b has same means = (
   λ e.
       let h = means.0 e in
       let found = Any-from_list_any (λ part. not (has_pair held heading part)) (parts_at separator text) h.2 in
-      record {
-        some_text = h.0;
-        whole = λ k. true≢false (sym (is_pair_of file held heading text has k) ∙ h.1);
-        part = found.1;
-        is_part = subst (λ (s : ℕ). Contains (parts_at s text) found.1) same (found.0, found.2, found.3);
-        unlisted = λ k. not_true (has_pair held heading found.1) found.4 (is_pair_of file held heading found.1 has k);
-      },
+      let is_part = subst (λ (s : ℕ). Contains (parts_at s text) found.1) same (found.0, found.2, found.3) in
+      (found.1, h.0, λ k. true≢false (sym (is_pair_of file held heading text has k) ∙ h.1), is_part, λ k. not_true (has_pair held heading found.1) found.4 (is_pair_of file held heading found.1 has k)),
   λ r.
-      let part = subst (λ (s : ℕ). Contains (parts_at s text) r.part) (sym same) r.is_part in
+      let part = subst (λ (s : ℕ). Contains (parts_at s text) r.0) (sym same) r.3 in
       means.1 (
-        r.some_text,
-        false_from (has_pair held heading text) (λ e. r.whole (pair_is file held heading text has e)),
+        r.1,
+        false_from (has_pair held heading text) (λ e. r.2 (pair_is file held heading text has e)),
         list_any-from_Any (λ p. not (has_pair held heading p)) (parts_at separator text)
-            (part.0, r.part, part.1, part.2, true_not (has_pair held heading r.part) (λ e. r.unlisted (pair_is file held heading r.part has e))),
+            (part.0, r.0, part.1, part.2, true_not (has_pair held heading r.0) (λ e. r.4 (pair_is file held heading r.0 has e))),
       ),
 )

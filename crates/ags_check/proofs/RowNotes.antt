@@ -3,7 +3,7 @@ use Rattle.std.proofs.Common.{◌≡◌, ◌≢◌, ℕ, Bool, true, not, ltb, O
 use Rattle.std.specs.Prelude.{◌↔◌, IsTrue, is_some, codes}
 use Rattle.std.proofs.lemmas.Bool.{true≢false, lt-ltb, ltb-true}
 use Rattle.std.proofs.lemmas.List.{get_or_default}
-use Rattle.ags_rows.specs.declared.code.Code.TheVariants.{Rule10a, Rule10c, Rule20}
+use Rattle.ags_rows.specs.declared.code.Code.TheVariants.{Rule10a, Rule10b, Rule10c, Rule11c, Rule20}
 use Rattle.ags_rows.specs.declared.finding.Finding.{Finding}
 use Rattle.ags_rows.specs.declared.rows.Group.{Group}
 use Rattle.ags_rows.specs.declared.rows.Row.{Row}
@@ -11,11 +11,13 @@ use Rattle.ags_rows.specs.Collecting.{Adds, Notes, OneOf}
 use Rattle.ags_rows.specs.Contents.{Contents, group_contents, fields_of}
 use Rattle.ags_rows.proofs.Lemmas.{one_more, three_rules}
 use Rattle.ags_dict.specs.Entries.{Entries, keys_of, parent_of, required_of}
-use Rattle.ags_links.specs.DataRows.{DataRow, IsDataRow, Between, row_in, data_rows}
+use Rattle.ags_links.specs.DataRows.{DataRow, IsDataRow, Between, row_in, entry_of, data_rows}
 use Rattle.ags_links.specs.Keys.{IsFirstOfKey, HasKeyOf}
 use Rattle.ags_links.specs.Parents.{IsParentRow}
-use Rattle.ags_check.specs.RowRules.{entry_in, RepeatsKey, LacksParentRow, IsUnlistedFileSet}
-use Rattle.ags_check.specs.RowPhase.{InHeadings, data_entry_rules, link_rules, required_rules, data_row_rules}
+use Rattle.ags_check.specs.RowRules.{IsBrokenLink, RepeatsKey, LacksParentRow, IsUnlistedFileSet}
+use Rattle.ags_check.specs.Placing.{InSome}
+use Rattle.ags_check.specs.RowPhase.{data_row_rules}
+use Rattle.ags_check.proofs.EntryNotes.{entry_rules_in}
 use Rattle.ags_check.proofs.Listings.{not_true, true_not}
 
 -- one row has one number
@@ -30,17 +32,13 @@ same_group rows n r s a b = ap (λ (row : DataRow). row.group) (same_row rows n 
 pub repeats_means : (entries : Entries) (file : List Contents) (number first : ℕ) (row : DataRow) → keys_of entries row.group ≢ [] → IsDataRow (data_rows file) number row
     → IsFirstOfKey (data_rows file) entries number first → IsTrue (ltb first number) ↔ RepeatsKey entries file number row
 repeats_means entries file number first row keyed at is_first = (
-  λ e. record {
-    some_key = keyed;
-    earlier = first;
-    other = is_first.0.1;
-    before = ltb-true first number e;
-    stands = is_first.0.3;
-    equal = subst (λ (r : DataRow). HasKeyOf entries r is_first.0.1) (same_row (data_rows file) number is_first.0.0 row is_first.0.2 at) is_first.0.4;
-  },
+  λ e. (
+      let equal = subst (λ (r : DataRow). HasKeyOf entries r is_first.0.1) (same_row (data_rows file) number is_first.0.0 row is_first.0.2 at) is_first.0.4 in
+      (first, is_first.0.1, keyed, ltb-true first number e, is_first.0.3, equal)
+      ),
   λ rule.
-      let le = is_first.1 rule.earlier (row, rule.other, at, rule.stands, rule.equal) in
-      lt-ltb first number (omega (arith, le, rule.before)),
+      let le = is_first.1 rule.0 (row, rule.1, at, rule.4, rule.5) in
+      lt-ltb first number (omega (arith, le, rule.3)),
 )
 
 some_there : {X : Type 0} (o : Option X) → is_some o ≡ true → (x : X) × (o ≡ Some x)
@@ -52,24 +50,20 @@ pub parent_means : (entries : Entries) (file : List Contents) (number : ℕ) (ro
 parent_means entries file number row has parented at means = (
   λ e. (
       let parent = some_there (parent_of entries row.group) parented in
-      record {
-        parent = parent.0;
-        is_parent = parent.1;
-        none = λ other there is. not_true has e (means.1 (there.0, (row, other, at, (there.1, there.2), is)));
-      }
+      (parent.0, parent.1, λ other there is. not_true has e (means.1 (there.0, (row, other, at, (there.1, there.2), is))))
       ),
   λ rule.
       true_not has
       (λ h.
       let p = means.0 h in
-      rule.none p.1.1 (p.0, p.1.3.0, p.1.3.1) (subst (λ (r : DataRow). IsParentRow entries r p.1.1) (same_row (data_rows file) number p.1.0 row p.1.2 at) p.1.4)),
+      rule.2 p.1.1 (p.0, p.1.3.0, p.1.3.1) (subst (λ (r : DataRow). IsParentRow entries r p.1.1) (same_row (data_rows file) number p.1.0 row p.1.2 at) p.1.4)),
 )
 
 -- all that is noted of a row
 pub row_noted : (entries : Entries) (file : List Contents) (group : Group) (number : ℕ) (row : Row) (f0 f1 f2 f3 f4 f5 f6 : List Finding)
-    → Adds (InHeadings group.headings (λ heading. data_entry_rules file row.line (entry_in (group_contents group) (fields_of row) heading))) f0 f1
-    → Adds (InHeadings group.headings (link_rules entries file row.line (row_in (group_contents group) (fields_of row)))) f1 f2
-    → Adds (InHeadings (required_of entries group.name) (required_rules row.line (row_in (group_contents group) (fields_of row)))) f2 f3
+    → Adds (InSome group.headings (entry_rules_in file row.line (group_contents group) (fields_of row))) f0 f1
+    → Adds (InSome group.headings (λ heading. Notes row.line Rule11c heading (IsBrokenLink entries file (row_in (group_contents group) (fields_of row)) heading) ∷ [])) f1 f2
+    → Adds (InSome (required_of entries group.name) (λ heading. Notes row.line Rule10b heading (entry_of (row_in (group_contents group) (fields_of row)) heading ≡ []) ∷ [])) f2 f3
     → Adds (Notes row.line Rule10a group.name (RepeatsKey entries file number (row_in (group_contents group) (fields_of row)))) f3 f4
     → Adds (Notes row.line Rule10c group.name (LacksParentRow entries file (row_in (group_contents group) (fields_of row)))) f4 f5
     → Adds (Notes row.line Rule20 (codes "FILE_FSET") (IsUnlistedFileSet file (row_in (group_contents group) (fields_of row)))) f5 f6
@@ -78,8 +72,8 @@ row_noted entries file group number row f0 f1 f2 f3 f4 f5 f6 entry link need key
     let r : DataRow = row_in (group_contents group) (fields_of row) in
     let sets : List (Finding → Type 0) = Notes row.line Rule20 (codes "FILE_FSET") (IsUnlistedFileSet file r) ∷ [] in
     let keys : List (Finding → Type 0) = Notes row.line Rule10a group.name (RepeatsKey entries file number r) ∷ Notes row.line Rule10c group.name (LacksParentRow entries file r) ∷ sets in
-    let required : List (Finding → Type 0) = InHeadings (required_of entries group.name) (required_rules row.line r) ∷ keys in
-    let links : List (Finding → Type 0) = InHeadings group.headings (link_rules entries file row.line r) ∷ required in
-    one_more (InHeadings group.headings (λ heading. data_entry_rules file row.line (entry_in (group_contents group) (fields_of row) heading))) links f0 f1 f6 entry
-    (one_more (InHeadings group.headings (link_rules entries file row.line r)) required f1 f2 f6 link
-    (one_more (InHeadings (required_of entries group.name) (required_rules row.line r)) keys f2 f3 f6 need (three_rules f3 f4 f5 f6 key parent set)))
+    let required : List (Finding → Type 0) = InSome (required_of entries group.name) (λ heading. Notes row.line Rule10b heading (entry_of r heading ≡ []) ∷ []) ∷ keys in
+    let links : List (Finding → Type 0) = InSome group.headings (λ heading. Notes row.line Rule11c heading (IsBrokenLink entries file r heading) ∷ []) ∷ required in
+    one_more _ links f0 f1 f6 entry
+    (one_more _ required f1 f2 f6 link
+    (one_more _ keys f2 f3 f6 need (three_rules f3 f4 f5 f6 key parent set)))

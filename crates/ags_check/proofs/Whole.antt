@@ -1,5 +1,5 @@
 -- From the findings of the phases to the findings of a file.
-use Rattle.std.proofs.Common.{◌≡◌, ◌≢◌, ℕ, List, [], length, take, false, eqb, refl, subst, sym, ap, ◌∙◌, inl, inr}
+use Rattle.std.proofs.Common.{◌≡◌, ◌≢◌, ℕ, List, [], ◌++◌, length, take, false, eqb, refl, subst, sym, ap, ◌∙◌, inl, inr}
 use Rattle.std.proofs.Math.Seq.{take-append_seam}
 use Rattle.std.proofs.lemmas.Bool.{eqb-false}
 use Rattle.ags_rows.specs.declared.finding.Finding.{Finding}
@@ -10,7 +10,7 @@ use Rattle.ags_rows.proofs.Lemmas.{found_late, same_file, one_first_found}
 use Rattle.ags_dict.specs.declared.entries.GroupEntry.{GroupEntry}
 use Rattle.ags_dict.specs.declared.entries.HeadingEntry.{HeadingEntry}
 use Rattle.ags_dict.specs.Entries.{Entries, extended}
-use Rattle.ags_check.specs.Findings.{dictionary_phases, all_phases, IsClear, Findings, CheckedFile, IsClean, first_entries}
+use Rattle.ags_check.specs.Findings.{dictionary_phases, IsClear, Findings, CheckedFile, IsClean, first_entries}
 use Rattle.ags_check.specs.HeaderPhase.{header_rules}
 use Rattle.ags_check.specs.RowPhase.{entry_rules}
 use Rattle.ags_links.specs.DataRows.{DataFile}
@@ -86,5 +86,6 @@ some_found found e none = eqb-false (length found) 0 (sym e) (ap length none)
 
 pub one_list : (given : Entries) (bytes : List ℕ) (found others : List Finding) → Findings given bytes found → Findings given bytes others → found ≡ others
 one_list given bytes found others h k =
+    let all : FileParts → List (Finding → Type 0) = λ file. phases file ++ dictionary_phases given (extended given (contents_of file.groups)) file.groups in
     let same = same_file bytes k.0 h.0 k.1 h.1 in
-    one_first_found (all_phases given h.0) found others h.2 (subst (λ (file : FileParts). FirstFound (all_phases given file) others) same k.2)
+    one_first_found (all h.0) found others h.2 (subst (λ (file : FileParts). FirstFound (all file) others) same k.2)

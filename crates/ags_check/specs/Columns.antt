@@ -8,7 +8,7 @@ use Rattle.ags_rows.specs.Names.{is_definition}
 use Rattle.ags_cells.specs.CellTypes.{IsTypeCodeOf}
 use Rattle.ags_dict.specs.Entries.{Entries, keys_of, required_of, parent_of}
 use Rattle.ags_links.specs.DataRows.{DataRow, IsDataRow}
-use Rattle.ags_check.specs.RowRules.{DataEntry, unit_over, type_over}
+use Rattle.ags_check.specs.RowRules.{unit_over, type_over}
 use Rattle.ags_check.specs.RowPhase.{headed_row}
 use Rattle.ags_check.specs.declared.rows.columns.Column.{Column}
 
@@ -27,10 +27,6 @@ pub record IsColumn (group : Contents) (column : Column) : Type 0 where
 pub record AreColumns (group : Contents) (headings : List (List ℕ)) (columns : List Column) : Type 0 where
   pub each : All (IsColumn group) columns
   pub heads : map (λ column. column.heading.now) columns ≡ headings
-
--- a text under the column's heading
-abbrev pub entry_under : Column → List ℕ → DataEntry
-entry_under column text = record { heading = column.heading.now; unit = column.unit.now; code = column.code.now; text = text }
 
 -- what stands in a row at the column's place
 abbrev pub column_text : Column → List (List ℕ) → List ℕ

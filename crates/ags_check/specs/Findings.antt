@@ -22,13 +22,10 @@ dictionary_phases given entries groups = OneOf (header_rules given entries group
 abbrev pub IsClear : List (Finding → Type 0) → Type 0
 IsClear rules = (found : Finding) → OneOf rules found → ⊥
 
--- All phases of a file under a dictionary, which the file's own DICT extends.
-abbrev pub all_phases : Entries → FileParts → List (Finding → Type 0)
-all_phases given file = phases file ++ dictionary_phases given (extended given (contents_of file.groups)) file.groups
-
--- The findings of a file under a dictionary.
+-- The findings of a file under a dictionary, which the file's own DICT extends: those of the first of all phases that has any.
 abbrev pub Findings : Entries → List ℕ → List Finding → Type 0
-Findings given bytes found = (file : FileParts) × ArePartsOf bytes file × FirstFound (all_phases given file) found
+Findings given bytes found = (file : FileParts) × ArePartsOf bytes file
+    × FirstFound (phases file ++ dictionary_phases given (extended given (contents_of file.groups)) file.groups) found
 
 -- Where findings are the error, they are these, and there is one.
 abbrev pub HasFindings : {A : Type 0} → Result A CheckError → (List Finding → Type 0) → Type 0

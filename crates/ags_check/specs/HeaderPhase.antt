@@ -1,26 +1,27 @@
 -- The rules of the fourth phase as findings.
-use Rattle.std.specs.Prelude.{List, [], ◌∷◌, codes, if◌then◌else◌}
+use Rattle.std.specs.Prelude.{◌≡◌, List, [], ◌∷◌, codes, true, false, if◌then◌else◌}
 use Rattle.ags_rows.specs.declared.code.Code.{Code}
 use Rattle.ags_rows.specs.declared.code.Code.TheVariants.{Rule7, Rule9, Rule10a, Rule10b, Rule10c, Rule11a, Rule11b, Rule13, Rule14, Rule15, Rule17, Rule18, Rule19b}
 use Rattle.ags_rows.specs.declared.finding.Finding.{Finding}
 use Rattle.ags_rows.specs.declared.rows.Group.{Group}
 use Rattle.ags_rows.specs.Contents.{Contents, group_contents, contents_of}
-use Rattle.ags_rows.specs.Collecting.{OneOf}
-use Rattle.ags_dict.specs.Entries.{Entries, has_dict}
-use Rattle.ags_check.specs.Header.{IsUnknownGroup, LacksParentGroup, IsUnknownHeading, IsMisplaced, LacksKey, LacksRequired, IsMisnamed, IsFurtherRow, IsLongSign, LacksGroup}
-use Rattle.ags_check.specs.Placing.{OfFile, AtGroup, AtHeading, AtRow, OfKnown, InGroups}
+use Rattle.ags_rows.specs.Collecting.{Notes, OneOf}
+use Rattle.ags_dict.specs.Entries.{Entries, order_of, keys_of, required_of, has_group, has_dict}
+use Rattle.ags_check.specs.Header.{HasGroup, LacksParentGroup, IsOnlyIn, IsMisplaced, IsMisnamed, IsFurtherRow, IsLongSign}
+use Rattle.ags_check.specs.Placing.{AtHeading, AtRow, InSome}
 
 -- What the dictionary does not know is a finding of Rule 9 where the file has a group DICT, else of Rule 18.
 abbrev pub unknown_code : List Contents → Code
 unknown_code file = if has_dict file then Rule9 else Rule18
 
--- the fourth phase's rules on the HEADING row of a group that the dictionary knows
+-- the fourth phase's rules on the HEADING row of a group that the dictionary knows. Rules 9 and 18: the heading is not in the group's
+-- order. Rules 10a and 10b: a KEY heading, and a REQUIRED heading, of the group is not in the row.
 abbrev pub heading_row_rules : Entries → Entries → Code → Group → List (Finding → Type 0)
 heading_row_rules given entries unknown group =
-    AtHeading unknown (IsUnknownHeading entries (group_contents group)) group
-    ∷ AtHeading Rule7 (IsMisplaced entries (group_contents group)) group
-    ∷ AtHeading Rule10a (LacksKey entries (group_contents group)) group
-    ∷ AtHeading Rule10b (LacksRequired entries (group_contents group)) group
+    AtHeading unknown (IsOnlyIn group.headings (order_of entries group.name)) group
+    ∷ AtHeading Rule7 (IsMisplaced (order_of entries group.name) group.headings) group
+    ∷ AtHeading Rule10a (IsOnlyIn (keys_of entries group.name) group.headings) group
+    ∷ AtHeading Rule10b (IsOnlyIn (required_of entries group.name) group.headings) group
     ∷ AtHeading Rule19b (IsMisnamed given entries (group_contents group)) group
     ∷ []
 
@@ -33,27 +34,25 @@ only_row_rules group =
     ∷ AtRow Rule14 (codes "TRAN") (IsFurtherRow (codes "TRAN") (group_contents group)) group
     ∷ []
 
--- the fourth phase's rules on one group. Of a group without an entry only the first stands, of those that ask the dictionary.
+-- the fourth phase's rules on one group. Rules 9 and 18: the dictionary has no entry for the group. Of such a group only this stands,
+-- of the rules that ask the dictionary.
 abbrev pub group_header_rules : Entries → Entries → List Contents → Code → Group → List (Finding → Type 0)
 group_header_rules given entries file unknown group =
-    AtGroup unknown (IsUnknownGroup entries (group_contents group)) group
-    ∷ AtGroup Rule10c (LacksParentGroup entries file (group_contents group)) group
-    ∷ OfKnown entries group (heading_row_rules given entries unknown group)
-    ∷ OneOf (only_row_rules group)
-    ∷ []
+    Notes group.line unknown group.name (has_group entries group.name ≡ false)
+    ∷ Notes group.line Rule10c group.name (LacksParentGroup entries file (group_contents group))
+    ∷ (λ found. (has_group entries group.name ≡ true) × OneOf (heading_row_rules given entries unknown group) found)
+    ∷ only_row_rules group
 
--- the fourth phase's rules on the groups that each file has
+-- the fourth phase's rules on the groups that each file has (Rules 13, 14, 15 and 17): the group is absent. Such a finding has no line.
 abbrev pub file_rules : List Contents → List (Finding → Type 0)
 file_rules file =
-    OfFile Rule13 (codes "PROJ") (LacksGroup file (codes "PROJ"))
-    ∷ OfFile Rule14 (codes "TRAN") (LacksGroup file (codes "TRAN"))
-    ∷ OfFile Rule15 (codes "UNIT") (LacksGroup file (codes "UNIT"))
-    ∷ OfFile Rule17 (codes "TYPE") (LacksGroup file (codes "TYPE"))
+    Notes 0 Rule13 (codes "PROJ") (¬ (HasGroup file (codes "PROJ")))
+    ∷ Notes 0 Rule14 (codes "TRAN") (¬ (HasGroup file (codes "TRAN")))
+    ∷ Notes 0 Rule15 (codes "UNIT") (¬ (HasGroup file (codes "UNIT")))
+    ∷ Notes 0 Rule17 (codes "TYPE") (¬ (HasGroup file (codes "TYPE")))
     ∷ []
 
 -- the fourth phase: the groups of a file against its dictionary
 abbrev pub header_rules : Entries → Entries → List Group → List (Finding → Type 0)
 header_rules given entries groups =
-    InGroups groups (group_header_rules given entries (contents_of groups) (unknown_code (contents_of groups)))
-    ∷ OneOf (file_rules (contents_of groups))
-    ∷ []
+    InSome groups (group_header_rules given entries (contents_of groups) (unknown_code (contents_of groups))) ∷ file_rules (contents_of groups)

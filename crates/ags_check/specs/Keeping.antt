@@ -1,11 +1,12 @@
 -- The rules of the fourth and the fifth phase as what contents keep: no line, no finding.
-use Rattle.std.specs.Prelude.{◌≡◌, ℕ, List, [], codes, Contains}
+use Rattle.std.specs.Prelude.{◌≡◌, ◌≢◌, ℕ, List, [], codes, false, Contains}
 use Rattle.ags_rows.specs.Collecting.{At}
 use Rattle.ags_rows.specs.Contents.{Contents}
-use Rattle.ags_dict.specs.Entries.{Entries, required_of, extended}
+use Rattle.ags_cells.specs.Fits.{FitsTypeCode}
+use Rattle.ags_dict.specs.Entries.{Entries, order_of, keys_of, required_of, has_group, extended}
 use Rattle.ags_links.specs.DataRows.{DataRow, IsDataRow, row_in, entry_of, data_rows}
-use Rattle.ags_check.specs.Header.{IsUnknownGroup, LacksParentGroup, IsUnknownHeading, IsMisplaced, LacksKey, LacksRequired, IsMisnamed, IsFurtherRow, IsLongSign, LacksGroup}
-use Rattle.ags_check.specs.RowRules.{DataEntry, entry_in, unit_over, type_over, IsUnfit, IsUnlistedUnit, IsUnlistedType, IsUnlistedUnitEntry, IsUnlistedAbbreviationEntry, IsUnlistedTypeEntry, IsBrokenLink, RepeatsKey, LacksParentRow, IsUnlistedFileSet}
+use Rattle.ags_check.specs.Header.{HasGroup, LacksParentGroup, IsOnlyIn, IsMisplaced, IsMisnamed, IsFurtherRow, IsLongSign}
+use Rattle.ags_check.specs.RowRules.{unit_over, type_over, IsUnlistedUnit, IsUnlistedType, IsUnlistedAbbreviation, IsBrokenLink, RepeatsKey, LacksParentRow, IsUnlistedFileSet}
 
 -- the fourth phase's rules on a DATA row of TRAN or PROJ
 pub record KeepsOnlyRow (group : Contents) (place : ℕ) (fields : List (List ℕ)) : Type 0 where
@@ -16,33 +17,33 @@ pub record KeepsOnlyRow (group : Contents) (place : ℕ) (fields : List (List �
 
 -- the fourth phase's rules on a group
 pub record KeepsHeader (given entries : Entries) (file : List Contents) (group : Contents) : Type 0 where
-  pub known : IsUnknownGroup entries group → ⊥
+  pub known : has_group entries group.name ≡ false → ⊥
   pub parent : LacksParentGroup entries file group → ⊥
-  pub headings : (h : List ℕ) → IsUnknownHeading entries group h → ⊥
-  pub order : (h : List ℕ) → IsMisplaced entries group h → ⊥
-  pub keys : (h : List ℕ) → LacksKey entries group h → ⊥
-  pub required : (h : List ℕ) → LacksRequired entries group h → ⊥
+  pub headings : (h : List ℕ) → IsOnlyIn group.headings (order_of entries group.name) h → ⊥
+  pub order : (h : List ℕ) → IsMisplaced (order_of entries group.name) group.headings h → ⊥
+  pub keys : (h : List ℕ) → IsOnlyIn (keys_of entries group.name) group.headings h → ⊥
+  pub required : (h : List ℕ) → IsOnlyIn (required_of entries group.name) group.headings h → ⊥
   pub names : (h : List ℕ) → IsMisnamed given entries group h → ⊥
   pub only_rows : (place : ℕ) (fields : List (List ℕ)) → At group.rows place fields → KeepsOnlyRow group place fields
 
 -- and on the file
 pub record KeepsHeaders (given entries : Entries) (file : List Contents) : Type 0 where
   pub groups : (group : Contents) → Contains file group → KeepsHeader given entries file group
-  pub project : LacksGroup file (codes "PROJ") → ⊥
-  pub transmission : LacksGroup file (codes "TRAN") → ⊥
-  pub units : LacksGroup file (codes "UNIT") → ⊥
-  pub types : LacksGroup file (codes "TYPE") → ⊥
+  pub project : ¬ (HasGroup file (codes "PROJ")) → ⊥
+  pub transmission : ¬ (HasGroup file (codes "TRAN")) → ⊥
+  pub units : ¬ (HasGroup file (codes "UNIT")) → ⊥
+  pub types : ¬ (HasGroup file (codes "TYPE")) → ⊥
 
 -- the fifth phase's rules on an entry
-pub record KeepsEntry (file : List Contents) (entry : DataEntry) : Type 0 where
-  pub fits : IsUnfit entry → ⊥
-  pub unit : IsUnlistedUnitEntry file entry → ⊥
-  pub abbreviation : IsUnlistedAbbreviationEntry file entry → ⊥
-  pub code : IsUnlistedTypeEntry file entry → ⊥
+pub record KeepsEntry (file : List Contents) (heading unit code text : List ℕ) : Type 0 where
+  pub fits : (text ≢ []) × ¬ (FitsTypeCode code unit text) → ⊥
+  pub units : (code ≡ codes "PU") × IsUnlistedUnit file text → ⊥
+  pub abbreviations : (code ≡ codes "PA") × IsUnlistedAbbreviation file heading text → ⊥
+  pub types : (code ≡ codes "PT") × IsUnlistedType file text → ⊥
 
 -- on a DATA row, but for its key
 pub record KeepsRow (entries : Entries) (file : List Contents) (group : Contents) (fields : List (List ℕ)) : Type 0 where
-  pub each : (h : List ℕ) → Contains group.headings h → KeepsEntry file (entry_in group fields h)
+  pub each : (h : List ℕ) → Contains group.headings h → KeepsEntry file h (unit_over group h) (type_over group h) (entry_of (row_in group fields) h)
   pub links : (h : List ℕ) → Contains group.headings h → IsBrokenLink entries file (row_in group fields) h → ⊥
   pub required : (h : List ℕ) → Contains (required_of entries group.name) h → entry_of (row_in group fields) h ≡ [] → ⊥
   pub parent : LacksParentRow entries file (row_in group fields) → ⊥

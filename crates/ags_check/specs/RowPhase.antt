@@ -1,22 +1,20 @@
 -- The rules of the fifth phase as findings.
-use Rattle.std.specs.Prelude.{◌≡◌, ℕ, ◌+◌, List, [], ◌∷◌, codes}
+use Rattle.std.specs.Prelude.{◌≡◌, ◌≢◌, ℕ, ◌+◌, List, [], ◌∷◌, codes}
 use Rattle.ags_rows.specs.declared.code.Code.TheVariants.{Rule8, Rule10a, Rule10b, Rule10c, Rule11c, Rule15, Rule16, Rule17, Rule20}
 use Rattle.ags_rows.specs.declared.finding.Finding.{Finding}
 use Rattle.ags_rows.specs.declared.rows.Group.{Group}
 use Rattle.ags_rows.specs.declared.rows.Row.{Row}
 use Rattle.ags_rows.specs.Collecting.{Notes, Among, OneOf}
 use Rattle.ags_rows.specs.Contents.{Contents, group_contents, contents_of, fields_of}
+use Rattle.ags_cells.specs.Fits.{FitsTypeCode}
 use Rattle.ags_dict.specs.Entries.{Entries, required_of}
 use Rattle.ags_links.specs.DataRows.{DataRow, row_in, entry_of, rows_before}
-use Rattle.ags_check.specs.RowRules.{DataEntry, entry_in, unit_over, type_over, IsUnfit, IsUnlistedUnit, IsUnlistedType, IsUnlistedUnitEntry, IsUnlistedAbbreviationEntry, IsUnlistedTypeEntry, IsBrokenLink, RepeatsKey, LacksParentRow, IsUnlistedFileSet}
+use Rattle.ags_check.specs.RowRules.{unit_over, type_over, IsUnlistedUnit, IsUnlistedType, IsUnlistedAbbreviation, IsBrokenLink, RepeatsKey, LacksParentRow, IsUnlistedFileSet}
+use Rattle.ags_check.specs.Placing.{InSome}
 
 -- a DATA row of a group, with what its group says of it
 abbrev pub headed_row : Group → Row → DataRow
 headed_row group row = row_in (group_contents group) (fields_of row)
-
--- some heading of the list breaks one of the rules on headings
-abbrev pub InHeadings : List (List ℕ) → (List ℕ → List (Finding → Type 0)) → Finding → Type 0
-InHeadings headings rules found = Among headings (λ _ heading f. OneOf (rules heading) f) found
 
 -- the rules on what stands over a heading, in the UNIT and the TYPE row
 abbrev pub unit_and_type_rules : List Contents → Group → List ℕ → List (Finding → Type 0)
@@ -25,29 +23,23 @@ unit_and_type_rules file group heading =
     ∷ Notes group.type_line Rule17 heading (IsUnlistedType file (type_over (group_contents group) heading))
     ∷ []
 
--- the rules on an entry, at its row's line; the subject is the heading
-abbrev pub data_entry_rules : List Contents → ℕ → DataEntry → List (Finding → Type 0)
-data_entry_rules file line entry =
-    Notes line Rule8 entry.heading (IsUnfit entry)
-    ∷ Notes line Rule15 entry.heading (IsUnlistedUnitEntry file entry)
-    ∷ Notes line Rule16 entry.heading (IsUnlistedAbbreviationEntry file entry)
-    ∷ Notes line Rule17 entry.heading (IsUnlistedTypeEntry file entry)
+-- the rules on an entry, the text under a heading of this unit and type, at its row's line; the subject is the heading.
+-- Rule 8: the entry is not null, and does not fit type and unit. Rules 15, 16 and 17: an entry of type PU, PA and PT is not listed.
+abbrev pub data_entry_rules : List Contents → ℕ → List ℕ → List ℕ → List ℕ → List ℕ → List (Finding → Type 0)
+data_entry_rules file line heading unit code text =
+    Notes line Rule8 heading ((text ≢ []) × ¬ (FitsTypeCode code unit text))
+    ∷ Notes line Rule15 heading ((code ≡ codes "PU") × IsUnlistedUnit file text)
+    ∷ Notes line Rule16 heading ((code ≡ codes "PA") × IsUnlistedAbbreviation file heading text)
+    ∷ Notes line Rule17 heading ((code ≡ codes "PT") × IsUnlistedType file text)
     ∷ []
 
--- Rule 11c: the record link under a heading
-abbrev pub link_rules : Entries → List Contents → ℕ → DataRow → List ℕ → List (Finding → Type 0)
-link_rules entries file line row heading = Notes line Rule11c heading (IsBrokenLink entries file row heading) ∷ []
-
--- Rule 10b: a REQUIRED entry is null.
-abbrev pub required_rules : ℕ → DataRow → List ℕ → List (Finding → Type 0)
-required_rules line row heading = Notes line Rule10b heading (entry_of row heading ≡ []) ∷ []
-
--- the rules on a DATA row, by its number in the file
+-- the rules on a DATA row, by its number in the file. Rule 10b: a REQUIRED entry is null.
 abbrev pub data_row_rules : Entries → List Contents → Group → ℕ → Row → List (Finding → Type 0)
 data_row_rules entries file group number row =
-    InHeadings group.headings (λ heading. data_entry_rules file row.line (entry_in (group_contents group) (fields_of row) heading))
-    ∷ InHeadings group.headings (link_rules entries file row.line (headed_row group row))
-    ∷ InHeadings (required_of entries group.name) (required_rules row.line (headed_row group row))
+    InSome group.headings (λ heading. data_entry_rules file row.line heading
+    (unit_over (group_contents group) heading) (type_over (group_contents group) heading) (entry_of (headed_row group row) heading))
+    ∷ InSome group.headings (λ heading. Notes row.line Rule11c heading (IsBrokenLink entries file (headed_row group row) heading) ∷ [])
+    ∷ InSome (required_of entries group.name) (λ heading. Notes row.line Rule10b heading (entry_of (headed_row group row) heading ≡ []) ∷ [])
     ∷ Notes row.line Rule10a group.name (RepeatsKey entries file number (headed_row group row))
     ∷ Notes row.line Rule10c group.name (LacksParentRow entries file (headed_row group row))
     ∷ Notes row.line Rule20 (codes "FILE_FSET") (IsUnlistedFileSet file (headed_row group row))
@@ -56,10 +48,11 @@ data_row_rules entries file group number row =
 -- the rules on one group, whose DATA rows are numbered from `first`
 abbrev pub entry_rules_of : Entries → List Contents → ℕ → Group → List (Finding → Type 0)
 entry_rules_of entries file first group =
-    InHeadings group.headings (unit_and_type_rules file group)
+    InSome group.headings (unit_and_type_rules file group)
     ∷ Among group.rows (λ place row f. OneOf (data_row_rules entries file group (first + place) row) f)
     ∷ []
 
 -- the fifth phase: the UNIT, TYPE and DATA rows
 abbrev pub entry_rules : Entries → List Group → List (Finding → Type 0)
-entry_rules entries groups = Among groups (λ place group f. OneOf (entry_rules_of entries (contents_of groups) (rows_before (contents_of groups) place) group) f) ∷ []
+entry_rules entries groups =
+    Among groups (λ place group f. OneOf (entry_rules_of entries (contents_of groups) (rows_before (contents_of groups) place) group) f) ∷ []

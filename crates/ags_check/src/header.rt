@@ -1,10 +1,11 @@
 //! The fourth phase: the groups of a file against its dictionary.
 
-ghost use Rattle.std.specs.Prelude.{IfOk, OnOk};
+ghost use Rattle.std.specs.Prelude.{◌≡◌, true, IfOk, OnOk};
 ghost use Rattle.ags_rows.specs.Collecting.{Adds, OneOf};
 ghost use Rattle.ags_rows.specs.Contents.{contents_of};
 ghost use Rattle.ags_rows.specs.Findings.{AreExactly};
-ghost use Rattle.ags_check.specs.Placing.{OfKnown, InGroups};
+ghost use Rattle.ags_dict.specs.Entries.{has_group};
+ghost use Rattle.ags_check.specs.Placing.{InSome};
 ghost use Rattle.ags_check.specs.HeaderPhase.{heading_row_rules, only_row_rules, group_header_rules, file_rules, header_rules};
 
 pub(crate) mod groups;
@@ -57,7 +58,8 @@ fn note_known_heading_row(
     findings: &mut NotedFindings,
 ) -> Result<(), AllocError>
     ensures { OnOk result (Adds
-        (OfKnown extended.now group.now (heading_row_rules given.now extended.now code group.now))
+        (λ found. (has_group extended.now group.now.name ≡ true)
+        × OneOf (heading_row_rules given.now extended.now code group.now) found)
         findings.old findings.new) }
 {
     if !extended.has_group(group.name.as_slice()) {
@@ -109,7 +111,7 @@ fn note_all_header_rows(
     findings: &mut NotedFindings,
 ) -> Result<(), AllocError>
     ensures { OnOk result (Adds
-        (InGroups file.now (group_header_rules given.now extended.now (contents_of file.now) code))
+        (InSome file.now (group_header_rules given.now extended.now (contents_of file.now) code))
         findings.old findings.new) }
 {
     let groups = file.groups();

@@ -1,12 +1,12 @@
 //! What the GROUP row of a group breaks, and the file by the groups that it lacks.
 
-ghost use Rattle.std.specs.Prelude.{◌≡◌, ◌↔◌, IsTrue, OnOk};
+ghost use Rattle.std.specs.Prelude.{◌≡◌, ◌↔◌, false, IsTrue, OnOk};
 ghost use Rattle.ags_rows.specs.declared.code.Code.TheVariants.{Rule10c};
-ghost use Rattle.ags_rows.specs.Collecting.{Adds};
+ghost use Rattle.ags_rows.specs.Collecting.{Adds, Notes};
 ghost use Rattle.ags_rows.specs.Contents.{group_contents, contents_of};
-ghost use Rattle.ags_check.specs.Header.{IsUnknownGroup, LacksParentGroup, LacksGroup};
+ghost use Rattle.ags_dict.specs.Entries.{has_group};
+ghost use Rattle.ags_check.specs.Header.{HasGroup, LacksParentGroup};
 ghost use Rattle.ags_check.specs.HeaderPhase.{unknown_code};
-ghost use Rattle.ags_check.specs.Placing.{OfFile, AtGroup};
 
 use crate::named_groups::NamedGroups;
 use ags_dict::{Dictionary, has_dict};
@@ -31,7 +31,8 @@ pub(crate) fn note_unknown_group(
     group: &Group,
     findings: &mut NotedFindings,
 ) -> Result<(), AllocError>
-    ensures { OnOk result (Adds (AtGroup code (IsUnknownGroup dictionary.now (group_contents group.now)) group.now)
+    ensures { OnOk result (Adds
+        (Notes group.now.line code group.now.name (has_group dictionary.now group.now.name ≡ false))
         findings.old findings.new) }
 {
     let name = group.name.as_slice();
@@ -59,7 +60,8 @@ pub(crate) fn note_lacking_parent(
     findings: &mut NotedFindings,
 ) -> Result<(), AllocError>
     ensures { OnOk result (Adds
-        (AtGroup Rule10c (LacksParentGroup dictionary.now (contents_of file.now) (group_contents group.now)) group.now)
+        (Notes group.now.line Rule10c group.now.name
+        (LacksParentGroup dictionary.now (contents_of file.now) (group_contents group.now)))
         findings.old findings.new) }
 {
     if lacks_parent(dictionary, file, group) {
@@ -75,7 +77,7 @@ pub(crate) fn note_absent_group(
     name: &[u8],
     findings: &mut NotedFindings,
 ) -> Result<(), AllocError>
-    ensures { OnOk result (Adds (OfFile code name.now (LacksGroup (contents_of file.now) name.now))
+    ensures { OnOk result (Adds (Notes 0 code name.now (¬ (HasGroup (contents_of file.now) name.now)))
         findings.old findings.new) }
 {
     if !file.has(name) {

@@ -6,8 +6,8 @@ ghost use Rattle.ags_rows.specs.Collecting.{Adds};
 ghost use Rattle.ags_rows.specs.Contents.{place_in};
 ghost use Rattle.ags_dict.specs.Entries.{order_of};
 ghost use Rattle.ags_check.specs.Placing.{AtNames};
-ghost use Rattle.ags_check.specs.Header.{IsOvertaken, BeginsWithName};
-ghost use Rattle.ags_check.specs.HeaderSteps.{later, is_behind, IsMisnamedBy};
+ghost use Rattle.ags_check.specs.Header.{BeginsWithName};
+ghost use Rattle.ags_check.specs.HeaderSteps.{later, is_behind, IsOvertaken, IsMisnamedBy};
 
 use ags_dict::Dictionary;
 use ags_rows::{Code, NotedFindings, Places};
@@ -84,7 +84,7 @@ pub(crate) fn note_misplaced(
     findings: &mut NotedFindings,
 ) -> Result<(), AllocError>
     ensures { OnOk result (Adds (AtNames line Rule7 (map (λ name. name.now) headings.now)
-        (IsOvertaken (place_in (order_of dictionary.now group.now)) (map (λ name. name.now) headings.now)))
+        (IsOvertaken (order_of dictionary.now group.now) (map (λ name. name.now) headings.now)))
         findings.old findings.new) }
 {
     let mut latest = None;

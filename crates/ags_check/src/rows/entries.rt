@@ -1,12 +1,16 @@
 //! What the entries of a row break.
 
-ghost use Rattle.std.specs.Prelude.{◌↔◌, IsTrue, OnOk};
-ghost use Rattle.ags_rows.specs.Collecting.{Adds};
-ghost use Rattle.ags_rows.specs.Contents.{group_contents, fields_of};
+ghost use Rattle.std.specs.Prelude.{◌≡◌, ◌≢◌, ◌↔◌, [], ◌∷◌, codes, IsTrue, OnOk};
+ghost use Rattle.ags_rows.specs.Collecting.{Adds, Notes};
+ghost use Rattle.ags_rows.specs.declared.code.Code.TheVariants.{Rule10b};
+ghost use Rattle.ags_rows.specs.Contents.{group_contents};
+ghost use Rattle.ags_cells.specs.Fits.{FitsTypeCode};
 ghost use Rattle.ags_dict.specs.Entries.{required_of};
-ghost use Rattle.ags_check.specs.RowRules.{IsUnfit, IsUnlistedUnitEntry, IsUnlistedAbbreviationEntry, IsUnlistedTypeEntry, entry_in};
-ghost use Rattle.ags_check.specs.RowPhase.{headed_row, InHeadings, unit_and_type_rules, data_entry_rules, required_rules};
-ghost use Rattle.ags_check.specs.Columns.{IsTyped, entry_under};
+ghost use Rattle.ags_links.specs.DataRows.{entry_of};
+ghost use Rattle.ags_check.specs.Placing.{InSome};
+ghost use Rattle.ags_check.specs.RowRules.{unit_over, type_over, IsUnlistedUnit, IsUnlistedType, IsUnlistedAbbreviation};
+ghost use Rattle.ags_check.specs.RowPhase.{headed_row, unit_and_type_rules, data_entry_rules};
+ghost use Rattle.ags_check.specs.Columns.{IsTyped};
 
 use crate::rows::code_lists::CodeLists;
 use crate::rows::columns::{Column, is_of_type};
@@ -19,7 +23,8 @@ use std::alloc::AllocError;
 /// Rule 8: whether the text does not fit the type and the unit.
 fn is_unfit(column: &Column, text: &[u8]) -> bool
     requires { IsTyped column.now }
-    ensures { IsTrue result ↔ IsUnfit (entry_under column.now text.now) }
+    ensures { IsTrue result ↔ (text.now ≢ [])
+        × ¬ (FitsTypeCode column.now.code.now column.now.unit.now text.now) }
 {
     fits_its_type_code();
     !text.is_empty() && !fits(column.cell_type, column.unit, text)
@@ -27,21 +32,22 @@ fn is_unfit(column: &Column, text: &[u8]) -> bool
 
 /// Rule 15, of an entry of type PU.
 fn is_unlisted_unit(column: &Column, text: &[u8], listed: &CodeLists) -> bool
-    ensures { IsTrue result ↔ IsUnlistedUnitEntry listed.now (entry_under column.now text.now) }
+    ensures { IsTrue result ↔ (column.now.code.now ≡ codes "PU") × IsUnlistedUnit listed.now text.now }
 {
     is_of_type(column, b"PU") && listed.is_unlisted_unit(text)
 }
 
 /// Rule 16, of an entry of type PA.
 fn is_unlisted_abbreviation<'a>(column: &Column<'a>, text: &'a [u8], listed: &CodeLists<'a>) -> bool
-    ensures { IsTrue result ↔ IsUnlistedAbbreviationEntry listed.now (entry_under column.now text.now) }
+    ensures { IsTrue result ↔ (column.now.code.now ≡ codes "PA")
+        × IsUnlistedAbbreviation listed.now column.now.heading.now text.now }
 {
     is_of_type(column, b"PA") && listed.is_unlisted_abbreviation(column.heading, text)
 }
 
 /// Rule 17, of an entry of type PT.
 fn is_unlisted_type(column: &Column, text: &[u8], listed: &CodeLists) -> bool
-    ensures { IsTrue result ↔ IsUnlistedTypeEntry listed.now (entry_under column.now text.now) }
+    ensures { IsTrue result ↔ (column.now.code.now ≡ codes "PT") × IsUnlistedType listed.now text.now }
 {
     is_of_type(column, b"PT") && listed.is_unlisted_type(text)
 }
@@ -53,9 +59,10 @@ pub(crate) fn note_entries<'a>(
     row: &'a Row,
     findings: &mut NotedFindings,
 ) -> Result<(), AllocError>
-    ensures { OnOk result (Adds (InHeadings outline.now.group.headings
-        (λ heading. data_entry_rules listed.now row.now.line
-        (entry_in (group_contents outline.now.group) (fields_of row.now) heading)))
+    ensures { OnOk result (Adds (InSome outline.now.group.headings
+        (λ heading. data_entry_rules listed.now row.now.line heading
+        (unit_over (group_contents outline.now.group) heading) (type_over (group_contents outline.now.group) heading)
+        (entry_of (headed_row outline.now.group row.now) heading)))
         findings.old findings.new) }
 {
     let columns = outline.columns.as_slice();
@@ -85,7 +92,7 @@ pub(crate) fn note_columns(
     findings: &mut NotedFindings,
 ) -> Result<(), AllocError>
     ensures { OnOk result (Adds
-        (InHeadings outline.now.group.headings (unit_and_type_rules listed.now outline.now.group))
+        (InSome outline.now.group.headings (unit_and_type_rules listed.now outline.now.group))
         findings.old findings.new) }
 {
     let group = outline.group;
@@ -107,8 +114,9 @@ pub(crate) fn note_lacking(
     row: &Row,
     findings: &mut NotedFindings,
 ) -> Result<(), AllocError>
-    ensures { OnOk result (Adds (InHeadings (required_of outline.now.entries outline.now.group.name)
-        (required_rules row.now.line (headed_row outline.now.group row.now)))
+    ensures { OnOk result (Adds (InSome (required_of outline.now.entries outline.now.group.name)
+        (λ heading. Notes row.now.line Rule10b heading
+        (entry_of (headed_row outline.now.group row.now) heading ≡ []) ∷ []))
         findings.old findings.new) }
 {
     let required = outline.required.as_slice();

@@ -1,11 +1,14 @@
 //! The record links of a row.
 
-ghost use Rattle.std.specs.Prelude.{◌≡◌, ◌≢◌, ◌<◌, ◌↔◌, [], codes, IsTrue, IfOk, OnOk, length};
-ghost use Rattle.ags_rows.specs.Collecting.{Adds};
+ghost use Rattle.std.specs.Prelude.{◌≡◌, ◌≢◌, ◌<◌, ◌↔◌, [], ◌∷◌, codes, IsTrue, IfOk, OnOk, length};
+ghost use Rattle.ags_rows.specs.Collecting.{Adds, Notes};
+ghost use Rattle.ags_rows.specs.declared.code.Code.TheVariants.{Rule11c};
 ghost use Rattle.ags_links.specs.DataRows.{DataRow, IsDataRow};
 ghost use Rattle.ags_links.specs.Indexing.{rows_in};
 ghost use Rattle.ags_links.specs.RecordLinks.{separators_of, IsBroken};
-ghost use Rattle.ags_check.specs.RowPhase.{headed_row, InHeadings, link_rules};
+ghost use Rattle.ags_check.specs.Placing.{InSome};
+ghost use Rattle.ags_check.specs.RowPhase.{headed_row};
+ghost use Rattle.ags_check.specs.RowRules.{IsBrokenLink};
 
 use crate::rows::columns::{Column, is_of_type};
 use crate::rows::outline::Outline;
@@ -44,8 +47,8 @@ pub(crate) fn note_links(
     findings: &mut NotedFindings,
 ) -> Result<(), AllocError>
     requires { IsDataRow (rows_in index.now) number (headed_row outline.now.group row.now) }
-    ensures { OnOk result (Adds (InHeadings outline.now.group.headings
-        (link_rules index.now.entries index.now.contents row.now.line (headed_row outline.now.group row.now)))
+    ensures { OnOk result (Adds (InSome outline.now.group.headings (λ heading. Notes row.now.line Rule11c heading
+        (IsBrokenLink index.now.entries index.now.contents (headed_row outline.now.group row.now) heading) ∷ []))
         findings.old findings.new) }
 {
     if !outline.is_data {

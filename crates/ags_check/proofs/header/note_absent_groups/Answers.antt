@@ -2,8 +2,8 @@ use Rattle.std.proofs.Common.{[], ◌∷◌, codes}
 use Rattle.ags_rows.specs.declared.code.Code.TheVariants.{Rule14, Rule15, Rule17}
 use Rattle.ags_rows.specs.Contents.{contents_of}
 use Rattle.ags_rows.proofs.Lemmas.{one_more, one_none}
-use Rattle.ags_check.specs.Header.{LacksGroup}
-use Rattle.ags_check.specs.Placing.{OfFile}
+use Rattle.ags_rows.specs.Collecting.{Notes}
+use Rattle.ags_check.specs.Header.{HasGroup}
 use Rattle.ags_check.proofs.header.note_absent_groups.Goals as goal
 
 pub returns : goal.returns
@@ -14,9 +14,9 @@ returns c =
     let d = c.note_absent_group-2.new.findings in
     let e = c.note_absent_group-3.new.findings in
     let f = c.note_absent_group-4.new.findings in
-    let transmission = OfFile Rule14 (codes "TRAN") (LacksGroup file (codes "TRAN")) in
-    let units = OfFile Rule15 (codes "UNIT") (LacksGroup file (codes "UNIT")) in
-    let types = OfFile Rule17 (codes "TYPE") (LacksGroup file (codes "TYPE")) in
+    let transmission = Notes 0 Rule14 (codes "TRAN") (¬ (HasGroup file (codes "TRAN"))) in
+    let units = Notes 0 Rule15 (codes "UNIT") (¬ (HasGroup file (codes "UNIT"))) in
+    let types = Notes 0 Rule17 (codes "TYPE") (¬ (HasGroup file (codes "TYPE"))) in
     one_more _ (transmission ∷ units ∷ types ∷ []) a b f c.in_ok-note_absent_group.ensures
     (one_more transmission (units ∷ types ∷ []) b d f c.in_ok-note_absent_group-2.ensures
     (one_more units (types ∷ []) d e f c.in_ok-note_absent_group-3.ensures

@@ -1,11 +1,12 @@
-use Rattle.std.proofs.Common.{[], ◌∷◌}
+use Rattle.std.proofs.Common.{◌≡◌, true, List, ◌∷◌}
+use Rattle.ags_rows.specs.declared.finding.Finding.{Finding}
 use Rattle.ags_rows.specs.declared.code.Code.TheVariants.{Rule10c}
-use Rattle.ags_rows.specs.Collecting.{OneOf}
+use Rattle.ags_rows.specs.Collecting.{Notes, OneOf}
 use Rattle.ags_rows.specs.Contents.{group_contents, contents_of}
-use Rattle.ags_rows.proofs.Lemmas.{one_more, one_none}
+use Rattle.ags_rows.proofs.Lemmas.{one_more}
+use Rattle.ags_dict.specs.Entries.{has_group}
 use Rattle.ags_check.specs.Header.{LacksParentGroup}
 use Rattle.ags_check.specs.HeaderPhase.{heading_row_rules, only_row_rules}
-use Rattle.ags_check.specs.Placing.{AtGroup, OfKnown}
 use Rattle.ags_check.proofs.header.note_header_rows.Goals as goal
 
 pub returns : goal.returns
@@ -18,10 +19,9 @@ returns c =
     let d = c.note_lacking_parent.new.findings in
     let e = c.note_known_heading_row.new.findings in
     let f = c.note_only_rows.new.findings in
-    let parent = AtGroup Rule10c (LacksParentGroup entries (contents_of c.args.file.now) (group_contents group)) group in
-    let known = OfKnown entries group (heading_row_rules given entries c.args.code group) in
-    let only = OneOf (only_row_rules group) in
-    one_more _ (parent ∷ known ∷ only ∷ []) a b f c.in_ok-note_unknown_group.ensures
-    (one_more parent (known ∷ only ∷ []) b d f c.in_ok-note_lacking_parent.ensures
-    (one_more known (only ∷ []) d e f c.in_ok-note_known_heading_row.ensures
-    (one_more only [] e f f c.in_ok-note_only_rows.ensures (one_none f))))
+    let parent = Notes group.line Rule10c group.name (LacksParentGroup entries (contents_of c.args.file.now) (group_contents group)) in
+    let known : Finding → Type 0 = λ found. (has_group entries group.name ≡ true) × OneOf (heading_row_rules given entries c.args.code group) found in
+    let only : List (Finding → Type 0) = only_row_rules group in
+    one_more _ (parent ∷ known ∷ only) a b f c.in_ok-note_unknown_group.ensures
+    (one_more parent (known ∷ only) b d f c.in_ok-note_lacking_parent.ensures
+    (one_more known only d e f c.in_ok-note_known_heading_row.ensures c.in_ok-note_only_rows.ensures))

@@ -2,11 +2,11 @@ use Rattle.std.proofs.Common.{◌≡◌, [], ◌∷◌, ap, ◌∙◌}
 use Rattle.ags_rows.specs.declared.code.Code.TheVariants.{Rule7, Rule10a, Rule10b, Rule19b}
 use Rattle.ags_rows.specs.Contents.{group_contents}
 use Rattle.ags_rows.proofs.Lemmas.{one_more, one_none}
-use Rattle.ags_dict.specs.Entries.{keys_of, required_of}
-use Rattle.ags_check.specs.Header.{IsMisplaced, LacksKey, LacksRequired, IsMisnamed}
+use Rattle.ags_dict.specs.Entries.{order_of, keys_of, required_of}
+use Rattle.ags_check.specs.Header.{IsOnlyIn, IsMisplaced, IsMisnamed}
 use Rattle.ags_check.specs.Placing.{AtHeading}
 use Rattle.ags_check.proofs.Naming.{texts}
-use Rattle.ags_check.proofs.HeaderRules.{unknown_rule, misplaced_rule, key_rule, required_rule, misnamed_rule}
+use Rattle.ags_check.proofs.HeaderRules.{unknown_rule, misplaced_rule, lacking_rule, misnamed_rule}
 use Rattle.ags_check.proofs.header.note_heading_row.Goals as goal
 
 pub returns : goal.returns
@@ -14,7 +14,6 @@ returns c =
     let given = c.args.given.now in
     let entries = c.args.extended.now in
     let group = c.args.group.now in
-    let here = group_contents group in
     let name = c.as_slice-name.ensures in
     let row = c.in_ok-row.ensures ∙ c.as_slice.ensures in
     let headings : texts c.names-headings.result.now ≡ group.headings = c.names-headings.ensures ∙ row in
@@ -26,12 +25,12 @@ returns c =
     let e = c.note_absent.new.findings in
     let f = c.note_absent-2.new.findings in
     let g = c.note_misnamed.new.findings in
-    let misplaced = AtHeading Rule7 (IsMisplaced entries here) group in
-    let key = AtHeading Rule10a (LacksKey entries here) group in
-    let need = AtHeading Rule10b (LacksRequired entries here) group in
-    let misnamed = AtHeading Rule19b (IsMisnamed given entries here) group in
+    let misplaced = AtHeading Rule7 (IsMisplaced (order_of entries group.name) group.headings) group in
+    let key = AtHeading Rule10a (IsOnlyIn (keys_of entries group.name) group.headings) group in
+    let need = AtHeading Rule10b (IsOnlyIn (required_of entries group.name) group.headings) group in
+    let misnamed = AtHeading Rule19b (IsMisnamed given entries (group_contents group)) group in
     one_more _ (misplaced ∷ key ∷ need ∷ misnamed ∷ []) a b g (unknown_rule entries group c.args.code _ a b headings (rw c.as_slice-name.ensures at c.in_ok-note_unknown.ensures))
     (one_more misplaced (key ∷ need ∷ misnamed ∷ []) b d g (misplaced_rule entries group Rule7 _ b d headings (rw c.as_slice-name.ensures at c.in_ok-note_misplaced.ensures))
-    (one_more key (need ∷ misnamed ∷ []) d e g (key_rule entries group Rule10a _ d e keys (rw row at c.in_ok-note_absent.ensures))
-    (one_more need (misnamed ∷ []) e f g (required_rule entries group Rule10b _ e f required (rw row at c.in_ok-note_absent-2.ensures))
+    (one_more key (need ∷ misnamed ∷ []) d e g (lacking_rule group Rule10a _ (keys_of entries group.name) d e keys (rw row at c.in_ok-note_absent.ensures))
+    (one_more need (misnamed ∷ []) e f g (lacking_rule group Rule10b _ (required_of entries group.name) e f required (rw row at c.in_ok-note_absent-2.ensures))
     (one_more misnamed [] f g g (misnamed_rule given entries group Rule19b _ f g headings (rw c.as_slice-name.ensures at c.in_ok-note_misnamed.ensures)) (one_none g)))))

@@ -1,14 +1,15 @@
-use Rattle.std.proofs.Common.{List, subst}
+use Rattle.std.proofs.Common.{◌≡◌, List, [], ◌∷◌, subst}
 use Rattle.std.proofs.lemmas.Result.{IfOk-weaker}
-use Rattle.ags_rows.specs.declared.code.Code.TheVariants.{Rule10a, Rule10c}
+use Rattle.ags_rows.specs.declared.code.Code.TheVariants.{Rule10a, Rule10b, Rule10c}
 use Rattle.ags_rows.specs.Collecting.{Adds, Notes}
 use Rattle.ags_rows.specs.Contents.{Contents, group_contents, fields_of}
 use Rattle.ags_rows.proofs.Lemmas.{adds_found, adds_unmet}
 use Rattle.ags_dict.specs.Entries.{Entries, required_of}
-use Rattle.ags_links.specs.DataRows.{row_in}
+use Rattle.ags_links.specs.DataRows.{row_in, entry_of}
 use Rattle.ags_links.specs.Indexing.{rows_in}
-use Rattle.ags_check.specs.RowPhase.{InHeadings, data_entry_rules, required_rules}
-use Rattle.ags_check.specs.RowRules.{entry_in, RepeatsKey, LacksParentRow}
+use Rattle.ags_check.specs.Placing.{InSome}
+use Rattle.ags_check.proofs.EntryNotes.{entry_rules_in}
+use Rattle.ags_check.specs.RowRules.{RepeatsKey, LacksParentRow}
 use Rattle.ags_check.proofs.RowNotes.{same_group, row_noted}
 use Rattle.ags_check.proofs.rows.note_data_row.Goals as goal
 use Rattle.ags_check.proofs.rows.note_data_row.Goals.{then-branch+in_ok-note, else-branch, then-branch-2+in_ok-note-2, else-branch-2}
@@ -44,8 +45,8 @@ returns c =
     ] in
     IfOk-weaker c.note_unlisted_file_set.result _ _ (λ _ set.
     row_noted file.entries file.contents group c.args.number row f0 f1 f2 f3 f4 f5 f6
-    (subst (λ (l : List Contents). Adds (InHeadings group.headings (λ heading. data_entry_rules l row.line (entry_in (group_contents group) (fields_of row) heading))) f0 f1) c.requires.listed
+    (subst (λ (l : List Contents). Adds (InSome group.headings (entry_rules_in l row.line (group_contents group) (fields_of row))) f0 f1) c.requires.listed
     c.in_ok-note_entries.ensures)
     c.in_ok-note_links.ensures
-    (subst (λ (e : Entries). Adds (InHeadings (required_of e group.name) (required_rules row.line r)) f2 f3) c.requires.entries c.in_ok-note_lacking.ensures)
+    (subst (λ (e : Entries). Adds (InSome (required_of e group.name) (λ heading. Notes row.line Rule10b heading (entry_of r heading ≡ []) ∷ [])) f2 f3) c.requires.entries c.in_ok-note_lacking.ensures)
     key parent set) c.note_unlisted_file_set.ensures

@@ -22,8 +22,8 @@ loop-i-preserved c =
     let mid = c.loop-i.findings in
     let new = c.if-i-gt0.findings in
     let here : Adds (Notes row.line c.args.code name (IsFurtherRow name (group_contents group) i (fields_of row))) mid new = elim c.if-i-gt0.branch [
-      | then-i-gt0+in_ok-note w ↦ adds_found (record { of_group = same; further = w.if-i-gt0.true }) (w.findings-is ∙ w.in_ok-note.ensures.noted)
-      | else-i-gt0 w ↦ adds_clear (λ rule. omega (arith, rule.further, w.if-i-gt0.false)) w.findings-is
+      | then-i-gt0+in_ok-note w ↦ adds_found ((same, w.if-i-gt0.true)) (w.findings-is ∙ w.in_ok-note.ensures.noted)
+      | else-i-gt0 w ↦ adds_clear (λ rule. omega (arith, rule.1, w.if-i-gt0.false)) w.findings-is
     ] in
     among_more group.rows (λ place row f. Notes row.line c.args.code name (IsFurtherRow name (group_contents group) place (fields_of row)) f) i row c.args.findings.now mid new
     at c.loop-i.invariant here

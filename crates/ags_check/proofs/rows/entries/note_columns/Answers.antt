@@ -4,7 +4,8 @@ use Rattle.ags_rows.specs.Collecting.{Adds, Notes}
 use Rattle.ags_rows.specs.Contents.{group_contents}
 use Rattle.ags_rows.proofs.Lemmas.{adds_found, adds_unmet}
 use Rattle.ags_check.specs.Columns.{AreColumns, Outlined}
-use Rattle.ags_check.specs.RowPhase.{InHeadings, unit_and_type_rules}
+use Rattle.ags_check.specs.Placing.{InSome}
+use Rattle.ags_check.specs.RowPhase.{unit_and_type_rules}
 use Rattle.ags_check.specs.RowRules.{IsUnlistedUnit, IsUnlistedType}
 use Rattle.ags_check.proofs.EntryNotes.{header_more, columns_all}
 use Rattle.ags_check.proofs.rows.entries.note_columns.Goals as goal
@@ -38,6 +39,6 @@ returns c =
     let old = c.args.findings.now in
     let new = c.loop-column.findings in
     let are = subst (AreColumns (group_contents group) group.headings) (sym c.as_slice-columns.ensures.value) c.outline.invariant.columns in
-    subst (λ (v : Outlined). Adds (InHeadings v.group.headings (unit_and_type_rules file v.group)) old new) c.outline.view_is
+    subst (λ (v : Outlined). Adds (InSome v.group.headings (unit_and_type_rules file v.group)) old new) c.outline.view_is
     (columns_all (unit_and_type_rules file group) group.headings c.as_slice-columns.result.now c.loop-column.column-index old new
     are.heads (omega (arith, c.loop-column-test.false)) c.loop-column.invariant)

@@ -1,4 +1,4 @@
-use Rattle.std.proofs.Common.{◌≡◌, ◌∙◌, List, ℕ, [], get_or, ap, arith}
+use Rattle.std.proofs.Common.{◌≡◌, ◌∙◌, List, ℕ, [], ◌∷◌, get_or, ap, arith}
 use Rattle.ags_rows.specs.declared.code.Code.TheVariants.{Rule10b}
 use Rattle.ags_rows.specs.Collecting.{Adds, Notes}
 use Rattle.ags_rows.specs.Contents.{group_contents, fields_of}
@@ -6,7 +6,7 @@ use Rattle.ags_rows.proofs.Lemmas.{adds_found, adds_unmet, one_rule}
 use Rattle.ags_dict.specs.Entries.{required_of}
 use Rattle.ags_links.specs.DataRows.{entry_of}
 use Rattle.ags_check.specs.Columns.{column_text}
-use Rattle.ags_check.specs.RowPhase.{headed_row, required_rules}
+use Rattle.ags_check.specs.RowPhase.{headed_row}
 use Rattle.ags_check.proofs.EntryNotes.{required_columns, columns_more, columns_all}
 use Rattle.ags_check.proofs.LinkNotes.{lacking_means}
 use Rattle.ags_check.proofs.rows.entries.note_lacking.Goals as goal
@@ -32,12 +32,12 @@ loop-column-preserved c =
       | then-is_empty+in_ok-note w ↦ adds_found (means.0 w.if-is_empty.true) (w.findings-is ∙ w.in_ok-note.ensures.noted)
       | else-is_empty w ↦ adds_unmet w.if-is_empty.false means.1 w.findings-is
     ] in
-    columns_more (required_rules line row) headings columns i _ c.args.findings.now mid new are.heads c.loop-column-test.true c.loop-column.invariant (one_rule mid new here)
+    columns_more (λ heading. Notes line Rule10b heading (entry_of row heading ≡ []) ∷ []) headings columns i _ c.args.findings.now mid new are.heads c.loop-column-test.true c.loop-column.invariant (one_rule mid new here)
 
 pub returns : goal.returns
 returns c =
     let outline = c.args.outline.now in
     let row = c.args.row.now in
     let are = required_columns _ _ _ _ c.outline.view_is c.as_slice-required.ensures.value c.outline.invariant.required in
-    columns_all (required_rules row.line (headed_row outline.group row)) (required_of outline.entries outline.group.name) c.as_slice-required.result.now c.loop-column.column-index
+    columns_all (λ heading. Notes row.line Rule10b heading (entry_of (headed_row outline.group row) heading ≡ []) ∷ []) (required_of outline.entries outline.group.name) c.as_slice-required.result.now c.loop-column.column-index
     c.args.findings.now c.loop-column.findings are.heads (omega (arith, c.loop-column-test.false)) c.loop-column.invariant

@@ -1,4 +1,4 @@
-use Rattle.std.proofs.Common.{◌≡◌, ◌∙◌, Bool, true, false, not, List, ℕ, get_or, refl, sym, ap, arith}
+use Rattle.std.proofs.Common.{◌≡◌, ◌∙◌, Bool, true, false, not, List, [], ◌∷◌, ℕ, get_or, refl, sym, ap, arith}
 use Rattle.std.proofs.lemmas.Bool.{true≢false}
 use Rattle.ags_rows.specs.declared.code.Code.TheVariants.{Rule11c}
 use Rattle.ags_rows.specs.Collecting.{Adds, Notes}
@@ -6,7 +6,7 @@ use Rattle.ags_rows.specs.Contents.{group_contents, fields_of}
 use Rattle.ags_rows.specs.Names.{is_definition}
 use Rattle.ags_rows.proofs.Lemmas.{adds_found, adds_unmet, one_rule}
 use Rattle.ags_check.specs.Columns.{Outlined, column_text}
-use Rattle.ags_check.specs.RowPhase.{headed_row, link_rules}
+use Rattle.ags_check.specs.RowPhase.{headed_row}
 use Rattle.ags_check.specs.RowRules.{IsBrokenLink}
 use Rattle.ags_check.proofs.EntryNotes.{own_columns, columns_more, columns_all}
 use Rattle.ags_check.proofs.LinkNotes.{link_at, no_links}
@@ -53,7 +53,7 @@ loop-column-preserved c =
       | then-branch+in_ok-note w ↦ adds_found (means.0 w.if-branch.true) (w.findings-is ∙ w.in_ok-note.ensures.noted)
       | else-branch w ↦ adds_unmet w.if-branch.false means.1 w.findings-is
     ] in
-    columns_more (link_rules entries file line row) group.headings columns i _ c.args.findings.now mid new are.heads c.loop-column-test.true c.loop-column.invariant (one_rule mid new here)
+    columns_more (λ heading. Notes line Rule11c heading (IsBrokenLink entries file row heading) ∷ []) group.headings columns i _ c.args.findings.now mid new are.heads c.loop-column-test.true c.loop-column.invariant (one_rule mid new here)
 
 pub returns : goal.returns
 returns c =
@@ -61,5 +61,5 @@ returns c =
     let group = c.args.outline.now.group in
     let row = c.args.row.now in
     let are = own_columns _ _ _ _ c.outline.view_is c.as_slice-columns.ensures.value c.outline.invariant.columns in
-    columns_all (link_rules file.entries file.contents row.line (headed_row group row)) group.headings c.as_slice-columns.result.now c.loop-column.column-index
+    columns_all (λ heading. Notes row.line Rule11c heading (IsBrokenLink file.entries file.contents (headed_row group row) heading) ∷ []) group.headings c.as_slice-columns.result.now c.loop-column.column-index
     c.args.findings.now c.loop-column.findings are.heads (omega (arith, c.loop-column-test.false)) c.loop-column.invariant
