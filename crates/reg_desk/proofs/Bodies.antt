@@ -1,6 +1,6 @@
 -- Bodies that are handed in: what they are refused for, and what a check is answered.
-use Rattle.std.proofs.Common.{◌≡◌, ◌≢◌, ℕ, ◌<◌, ◌≤◌, Bool, true, false, List, [], ◌∷◌, refl, sym, subst, inl, inr, arith}
-use Rattle.std.specs.Prelude.{ℤ, nat_lt, length}
+use Rattle.std.proofs.Common.{◌≡◌, ◌≢◌, ℕ, ◌<◌, ◌≤◌, Bool, true, false, List, [], ◌∷◌, refl, sym, inl, inr, arith}
+use Rattle.std.specs.Prelude.{ℤ, nat_lt, length, MatchBool}
 use Rattle.std.proofs.lemmas.Bool.{true≢false, cases_Bool, ltb-true, lt-ltb}
 use Rattle.ags_rows.specs.declared.finding.Finding.{Finding}
 use Rattle.ags_rows.specs.declared.TheConstants.{LIMIT}
@@ -14,19 +14,19 @@ use Rattle.reg_store.specs.declared.keep.Keep.{Ghosts}
 use Rattle.reg_desk.specs.Asked.{Asked, check}
 use Rattle.reg_desk.specs.declared.answer.Answer.{Answer}
 use Rattle.reg_desk.specs.declared.answer.Answer.TheVariants.{Receipt, Clean, Findings, Listing, Text, Denied, Unknown, TooLarge, Full, NoMemory, StoreFailed}
-use Rattle.reg_desk.specs.Machine.{Register, decided, Where, OrDenied, OrFound, OrRefused, IsReply, IsNext}
-use Rattle.reg_desk.specs.Serving.{IsFree, IsRefusal, register_at, Serves}
-use Rattle.reg_desk.proofs.Serves.{replies_at_once, memory_at_once, permitted_reply, denied_reply, permit_stands}
+use Rattle.reg_desk.specs.Machine.{Register, decided, OrDenied, OrFound, OrRefused, IsReply, IsNext}
+use Rattle.reg_desk.specs.Serving.{NeedsMemory, IsRefusal, register_at, Serves}
+use Rattle.reg_desk.proofs.Serves.{needs_of, replies_at_once, memory_at_once, permitted_reply, denied_reply, permit_stands}
 
-pub where_true : (t : Bool) (A B : Type 0) → t ≡ true → A → Where t A B
+pub where_true : (t : Bool) (A B : Type 0) → t ≡ true → A → MatchBool t A B
 where_true true A B e a = a
 where_true false A B e a = absurd (true≢false (sym e))
 
-pub where_false : (t : Bool) (A B : Type 0) → t ≡ false → B → Where t A B
+pub where_false : (t : Bool) (A B : Type 0) → t ≡ false → B → MatchBool t A B
 where_false true A B e b = absurd (true≢false e)
 where_false false A B e b = b
 
-pub where_else : (t : Bool) (A B : Type 0) → t ≡ false → Where t A B → B
+pub where_else : (t : Bool) (A B : Type 0) → t ≡ false → MatchBool t A B → B
 where_else true A B e h = absurd (true≢false e)
 where_else false A B e h = h
 
@@ -49,68 +49,78 @@ refused_found register bytes Stands found le are some = where_false (nat_lt LIMI
 pub refused_none : (register : Register) (bytes : List ℕ) (Stands : Answer → Type 0) (answer : Answer) → length bytes ≤ LIMIT → AreFindings register.given bytes [] → Stands answer → OrRefused register bytes Stands answer
 refused_none register bytes Stands answer le are h = where_false (nat_lt LIMIT (length bytes)) _ _ (ltb_of LIMIT (length bytes) le) ([], are, h)
 
-found_not_free : (found : List Finding) (Stands : Answer → Type 0) (reply : Answer) → ((r : Answer) → Stands r → IsFree r → ⊥) → OrFound found Stands reply → IsFree reply → ⊥
-found_not_free [] Stands reply stands h free = stands reply h free
-found_not_free (f ∷ found) Stands reply stands h free = subst IsFree h free
+found_needs : (found : List Finding) (Stands : Answer → Type 0) → NeedsMemory Stands → NeedsMemory (OrFound found Stands)
+found_needs [] Stands needs = needs
+found_needs (f ∷ found) Stands needs = (λ n e. cc, λ e. cc)
 
--- a body that is not too large needs memory
-pub small_needs : (d : Decision) (k : ℕ) (register : Register) (bytes : List ℕ) (Stands : Answer → Type 0) (reply : Answer) → d ≡ Permit k → length bytes ≤ LIMIT → ((r : Answer) → Stands r → IsFree r → ⊥)
-    → OrDenied d (OrRefused register bytes Stands) reply → IsFree reply → ⊥
-small_needs d k register bytes Stands reply permit le stands is free =
+-- where the body is not too large, its findings decide
+small_found : (d : Decision) (k : ℕ) (register : Register) (bytes : List ℕ) (Stands : Answer → Type 0) (reply : Answer) → d ≡ Permit k → length bytes ≤ LIMIT
+    → OrDenied d (OrRefused register bytes Stands) reply → (found : List Finding) × OrFound found Stands reply
+small_found d k register bytes Stands reply permit le is =
     let h = permit_stands d k (OrRefused register bytes Stands) reply permit is in
     let found = where_else (nat_lt LIMIT (length bytes)) _ _ (ltb_of LIMIT (length bytes) le) h in
-    found_not_free found.0 Stands reply stands found.2 free
+    (found.0, found.2)
+
+-- a body that is not too large needs memory
+pub small_needs : (d : Decision) (k : ℕ) (register : Register) (bytes : List ℕ) (Stands : Answer → Type 0) → d ≡ Permit k → length bytes ≤ LIMIT → NeedsMemory Stands
+    → NeedsMemory (OrDenied d (OrRefused register bytes Stands))
+small_needs d k register bytes Stands permit le needs = (
+  λ n is. let found = small_found d k register bytes Stands (Denied n) permit le is in (found_needs found.0 Stands needs).0 n found.1,
+  λ is. let found = small_found d k register bytes Stands TooLarge permit le is in (found_needs found.0 Stands needs).1 found.1,
+)
 
 -- a request with a body that is refused
 pub refusal_serves : {K : Type 0} (keep : Ghosts K) (rules : List Rule) (request : Asked) (old : K) (answer : Answer) (d : Decision) (k : ℕ) (bytes : List ℕ) (Stands : Answer → Type 0)
-    → keep.has_failed old ≡ false → d ≡ Permit k → IsRefusal (keep.dictionary old) bytes answer → ((r : Answer) → Stands r → IsFree r → ⊥)
+    → keep.has_failed old ≡ false → d ≡ Permit k → IsRefusal (keep.dictionary old) bytes answer → NeedsMemory Stands
     → ((r : Answer) → OrDenied d (OrRefused (register_at keep rules old) bytes Stands) r → IsReply (register_at keep rules old) (keep.deposits old) request r)
     → ((r : Answer) → IsReply (register_at keep rules old) (keep.deposits old) request r → OrDenied d (OrRefused (register_at keep rules old) bytes Stands) r)
     → ((r : Answer) → IsRefusal (keep.dictionary old) bytes r → IsReply (register_at keep rules old) (keep.deposits old) request r → IsNext (register_at keep rules old) (keep.deposits old) request (keep.deposits old))
     → Serves keep rules request old old answer
-refusal_serves keep rules request old TooLarge d k bytes Stands works permit refusal free to from next =
+refusal_serves keep rules request old TooLarge d k bytes Stands works permit refusal needs to from next =
     let register = register_at keep rules old in
     let is = to TooLarge (permitted_reply d k (OrRefused register bytes Stands) TooLarge permit (refused_large register bytes Stands refusal)) in
     replies_at_once keep rules request old TooLarge works refl is (next TooLarge refusal is)
-refusal_serves keep rules request old (Findings found) d k bytes Stands works permit refusal free to from next =
+refusal_serves keep rules request old (Findings found) d k bytes Stands works permit refusal needs to from next =
     let register = register_at keep rules old in
     let is = to (Findings found) (permitted_reply d k (OrRefused register bytes Stands) (Findings found) permit (refused_found register bytes Stands found refusal.0 refusal.1 refusal.2)) in
     replies_at_once keep rules request old (Findings found) works refl is (next (Findings found) refusal is)
-refusal_serves keep rules request old NoMemory d k bytes Stands works permit refusal free to from next =
-    memory_at_once keep rules request old works (λ reply is needs. small_needs d k (register_at keep rules old) bytes Stands reply permit refusal free (from reply is) needs)
-refusal_serves keep rules request old (Receipt n e) d k bytes Stands works permit refusal free to from next = absurd refusal
-refusal_serves keep rules request old Clean d k bytes Stands works permit refusal free to from next = absurd refusal
-refusal_serves keep rules request old (Listing l) d k bytes Stands works permit refusal free to from next = absurd refusal
-refusal_serves keep rules request old (Text t) d k bytes Stands works permit refusal free to from next = absurd refusal
-refusal_serves keep rules request old (Denied n) d k bytes Stands works permit refusal free to from next = absurd refusal
-refusal_serves keep rules request old Unknown d k bytes Stands works permit refusal free to from next = absurd refusal
-refusal_serves keep rules request old Full d k bytes Stands works permit refusal free to from next = absurd refusal
-refusal_serves keep rules request old StoreFailed d k bytes Stands works permit refusal free to from next = absurd refusal
+refusal_serves keep rules request old NoMemory d k bytes Stands works permit refusal needs to from next =
+    let register = register_at keep rules old in
+    memory_at_once keep rules request old works
+    (needs_of (OrDenied d (OrRefused register bytes Stands)) (IsReply register (keep.deposits old) request) from (small_needs d k register bytes Stands permit refusal needs))
+refusal_serves keep rules request old (Receipt n e) d k bytes Stands works permit refusal needs to from next = absurd refusal
+refusal_serves keep rules request old Clean d k bytes Stands works permit refusal needs to from next = absurd refusal
+refusal_serves keep rules request old (Listing l) d k bytes Stands works permit refusal needs to from next = absurd refusal
+refusal_serves keep rules request old (Text t) d k bytes Stands works permit refusal needs to from next = absurd refusal
+refusal_serves keep rules request old (Denied n) d k bytes Stands works permit refusal needs to from next = absurd refusal
+refusal_serves keep rules request old Unknown d k bytes Stands works permit refusal needs to from next = absurd refusal
+refusal_serves keep rules request old Full d k bytes Stands works permit refusal needs to from next = absurd refusal
+refusal_serves keep rules request old StoreFailed d k bytes Stands works permit refusal needs to from next = absurd refusal
 
 -- ---- a check
 
 abbrev IsCleanAnswer : Answer → Type 0
 IsCleanAnswer r = r ≡ Clean
 
-clean_not_free : (r : Answer) → IsCleanAnswer r → IsFree r → ⊥
-clean_not_free r e free = subst IsFree e free
+clean_needs : NeedsMemory IsCleanAnswer
+clean_needs = (λ n e. cc, λ e. cc)
 
 pub check_denied : {K : Type 0} (keep : Ghosts K) (rules : List Rule) (caller : Caller) (project bytes : List ℕ) (day : ℤ) (old : K) (m : ℕ) → keep.has_failed old ≡ false
     → decided (register_at keep rules old) caller project verbs.Check ≡ Deny m → Serves keep rules (check caller project bytes day) old old (Denied m)
 check_denied keep rules caller project bytes day old m works deny =
     let register = register_at keep rules old in
     replies_at_once keep rules (check caller project bytes day) old (Denied m) works refl
-    (denied_reply (decided register caller project verbs.Check) m (OrRefused register bytes IsCleanAnswer) deny) refl
+    (denied_reply (decided register caller project verbs.Check) m (OrRefused register bytes IsCleanAnswer) deny) (inr (λ taken. taken, refl))
 
 pub check_refused : {K : Type 0} (keep : Ghosts K) (rules : List Rule) (caller : Caller) (project bytes : List ℕ) (day : ℤ) (old : K) (answer : Answer) (k : ℕ) → keep.has_failed old ≡ false
     → decided (register_at keep rules old) caller project verbs.Check ≡ Permit k → IsRefusal (keep.dictionary old) bytes answer → Serves keep rules (check caller project bytes day) old old answer
 check_refused keep rules caller project bytes day old answer k works permit refusal =
-    refusal_serves keep rules (check caller project bytes day) old answer (decided (register_at keep rules old) caller project verbs.Check) k bytes IsCleanAnswer works permit refusal clean_not_free
-    (λ r h. h) (λ r h. h) (λ r h is. refl)
+    refusal_serves keep rules (check caller project bytes day) old answer (decided (register_at keep rules old) caller project verbs.Check) k bytes IsCleanAnswer works permit refusal clean_needs
+    (λ r h. h) (λ r h. h) (λ r h is. inr (λ taken. taken, refl))
 
 pub check_clean : {K : Type 0} (keep : Ghosts K) (rules : List Rule) (caller : Caller) (project bytes : List ℕ) (day : ℤ) (old : K) (k : ℕ) → keep.has_failed old ≡ false
     → decided (register_at keep rules old) caller project verbs.Check ≡ Permit k → length bytes ≤ LIMIT → AreFindings (keep.dictionary old) bytes [] → Serves keep rules (check caller project bytes day) old old Clean
 check_clean keep rules caller project bytes day old k works permit le are =
     let register = register_at keep rules old in
     replies_at_once keep rules (check caller project bytes day) old Clean works refl
-    (permitted_reply (decided register caller project verbs.Check) k (OrRefused register bytes IsCleanAnswer) Clean permit (refused_none register bytes IsCleanAnswer Clean le are refl)) refl
+    (permitted_reply (decided register caller project verbs.Check) k (OrRefused register bytes IsCleanAnswer) Clean permit (refused_none register bytes IsCleanAnswer Clean le are refl)) (inr (λ taken. taken, refl))

@@ -2,7 +2,7 @@
 use Rattle.std.proofs.Common.{◌≡◌, ◌≢◌, ℕ, zero, suc, ◌-◌, ◌<◌, ◌≤◌, Bool, true, false, Option, Some, None, Ok, Err, List, [], ◌∷◌, refl, sym, ap, subst, ◌∙◌, inl, inr, ◌⊎◌, arith}
 use Rattle.std.proofs.lemmas.Option.{slice_get_within, get_or_from_slice_get}
 use Rattle.std.proofs.lemmas.Bool.{true≢false}
-use Rattle.std.specs.Prelude.{All, ℤ, slice_get, length, Result, ◌↔◌}
+use Rattle.std.specs.Prelude.{All, ℤ, slice_get, length, Result, ◌↔◌, MatchBool}
 use Rattle.std.specs.Str.{bytes_eq}
 use Rattle.std.proofs.Math.Logic.{∥∥₁_map, ∥∥₁_elim}
 use Rattle.std.proofs.Props.{props}
@@ -27,13 +27,13 @@ use Rattle.reg_desk.specs.declared.answer.Answer.TheVariants.{Text, Denied, Unkn
 use Rattle.reg_desk.specs.declared.serving.listing.Lister.{Lister}
 use Rattle.reg_desk.specs.Shown.{Look, IsProjectShown}
 use Rattle.ags_check.specs.Findings.{IsCleanFile}
-use Rattle.reg_desk.specs.Machine.{Register, decided, look_at, IsSeen, IsTextOf, Where, IsDrawnFrom, held}
+use Rattle.reg_desk.specs.Machine.{Register, decided, look_at, IsSeen, IsTextOf, IsDrawnFrom, held, IsReply}
 use Rattle.ags_check.specs.Findings.{file_of}
 use Rattle.reg_desk.specs.View.{IsViewOf, IsExtractOf, Sees}
-use Rattle.reg_desk.specs.Serving.{IsQuiet, AsksStore, IsLineFor, text_answer, register_at, OnlyReads, Serves, look_in, look_on, answer_of}
+use Rattle.reg_desk.specs.Serving.{AsksStore, IsLineFor, text_answer, register_at, OnlyReads, Serves, look_in, look_on, answer_of}
 use Rattle.reg_desk.proofs.Replies.{one_file}
 use Rattle.reg_desk.proofs.Bodies.{where_true, where_false}
-use Rattle.reg_desk.proofs.Serves.{is_told, asks_needs, replies_at_once, refused_serves, replies_serves, permitted_reply, denied_reply, permit_stands}
+use Rattle.reg_desk.proofs.Serves.{is_told, asks_of, replies_at_once, refused_serves, replies_serves, permitted_reply, denied_reply, permit_stands}
 
 -- ---- a kept deposit
 
@@ -176,7 +176,7 @@ abbrev IsOne : Answer → Type 0
 IsOne answer = (answer ≡ Unknown) ⊎ ((t : List ℕ) × (answer ≡ Text t))
 
 one_of : (register : Register) (caller : Caller) (project : List ℕ) (groups : List (List ℕ)) (day : ℤ) (d : Deposit) (t : Bool) (answer : Answer)
-    → Where t ((IsSeen register caller day d × ((text : List ℕ) × IsTextOf register caller day groups d text × (answer ≡ Text text))) ⊎ ((IsSeen register caller day d → ⊥) × (answer ≡ Unknown))) (answer ≡ Unknown) → IsOne answer
+    → MatchBool t ((IsSeen register caller day d × ((text : List ℕ) × IsTextOf register caller day groups d text × (answer ≡ Text text))) ⊎ ((IsSeen register caller day d → ⊥) × (answer ≡ Unknown))) (answer ≡ Unknown) → IsOne answer
 one_of register caller project groups day d true answer (inl h) = inr (h.1.0, h.1.2)
 one_of register caller project groups day d true answer (inr h) = inl h.1
 one_of register caller project groups day d false answer h = inl h
@@ -185,22 +185,26 @@ drawn_one : (register : Register) (caller : Caller) (project : List ℕ) (groups
 drawn_one register caller project groups day None answer h = inl h
 drawn_one register caller project groups day (Some d) answer h = one_of register caller project groups day d (bytes_eq d.project project) answer h
 
-one_not_quiet : (a : Answer) → IsOne a → IsQuiet a → ⊥
-one_not_quiet a (inl e) q = subst IsQuiet e q
-one_not_quiet a (inr e) q = subst IsQuiet e.1 q
+one_asks : AsksStore IsOne
+one_asks = (
+  (λ n h. elim h [ inl e ↦ cc | inr e ↦ let same = e.1 in cc ], λ h. elim h [ inl e ↦ cc | inr e ↦ let same = e.1 in cc ]),
+  λ found h. elim h [ inl e ↦ cc | inr e ↦ let same = e.1 in cc ],
+  λ h. elim h [ inl e ↦ cc | inr e ↦ let same = e.1 in cc ],
+)
 
 extract_asks : (register : Register) (state : List Deposit) (caller : Caller) (project : List ℕ) (number : ℕ) (groups : List (List ℕ)) (day : ℤ) (k : ℕ) → decided register caller project verbs.Extract ≡ Permit k
-    → AsksStore register state (extract caller project number groups day)
-extract_asks register state caller project number groups day k permit = λ reply is quiet.
-    one_not_quiet reply (drawn_one register caller project groups day (held number state) reply
-    (permit_stands (decided register caller project verbs.Extract) k (IsDrawnFrom register caller project groups day (held number state)) reply permit is)) quiet
+    → AsksStore (IsReply register state (extract caller project number groups day))
+extract_asks register state caller project number groups day k permit =
+    let Drawn = IsDrawnFrom register caller project groups day (held number state) in
+    asks_of IsOne (IsReply register state (extract caller project number groups day))
+    (λ reply is. drawn_one register caller project groups day (held number state) reply (permit_stands (decided register caller project verbs.Extract) k Drawn reply permit is)) one_asks
 
 pub extract_denied : {K : Type 0} (keep : Ghosts K) (rules : List Rule) (caller : Caller) (project : List ℕ) (number : ℕ) (groups : List (List ℕ)) (day : ℤ) (old : K) (m : ℕ) → keep.has_failed old ≡ false
     → decided (register_at keep rules old) caller project verbs.Extract ≡ Deny m → Serves keep rules (extract caller project number groups day) old old (Denied m)
 extract_denied keep rules caller project number groups day old m works deny =
     let register = register_at keep rules old in
     replies_at_once keep rules (extract caller project number groups day) old (Denied m) works refl
-    (denied_reply (decided register caller project verbs.Extract) m (IsDrawnFrom register caller project groups day (held number (keep.deposits old))) deny) refl
+    (denied_reply (decided register caller project verbs.Extract) m (IsDrawnFrom register caller project groups day (held number (keep.deposits old))) deny) (inr (λ taken. taken, refl))
 
 pub extract_unread : {K : Type 0} (keep : Ghosts K) (rules : List Rule) (caller : Caller) (project : List ℕ) (number : ℕ) (groups : List (List ℕ)) (day : ℤ) (old new : K) (k : ℕ) (e : KeepError)
     → decided (register_at keep rules old) caller project verbs.Extract ≡ Permit k → OnlyReads keep old new (is_store e) → e ≢ errors.Full → Serves keep rules (extract caller project number groups day) old new (answer_of e)
@@ -208,7 +212,7 @@ extract_unread keep rules caller project number groups day old new k e permit re
     let register = register_at keep rules old in
     let state = keep.deposits old in
     let asks = extract_asks register state caller project number groups day k permit in
-    refused_serves keep rules (extract caller project number groups day) old new e reads named (asks_needs register state (extract caller project number groups day) asks) (λ s. asks)
+    refused_serves keep rules (extract caller project number groups day) old new e reads named asks.0 (λ s. asks)
 
 pub extract_replies : {K : Type 0} (keep : Ghosts K) (rules : List Rule) (caller : Caller) (project : List ℕ) (number : ℕ) (groups : List (List ℕ)) (day : ℤ) (old new : K) (k : ℕ) (answer : Answer)
     → decided (register_at keep rules old) caller project verbs.Extract ≡ Permit k → OnlyReads keep old new false → is_told answer ≡ true
@@ -219,7 +223,7 @@ extract_replies keep rules caller project number groups day old new k answer per
     let state = keep.deposits old in
     replies_serves keep rules (extract caller project number groups day) old new answer reads told
     (λ s. ∥∥₁_map (drawn s) (permitted_reply (decided register caller project verbs.Extract) k (IsDrawnFrom register caller project groups day (held number state)) answer permit))
-    (λ s. refl) (asks_needs register state (extract caller project number groups day) (extract_asks register state caller project number groups day k permit))
+    (λ s. inr (λ taken. taken, refl)) (extract_asks register state caller project number groups day k permit).0
 
 -- ---- what is seen
 

@@ -1,6 +1,6 @@
 -- The texts that a desk answers: clean files, and the same bytes where an extract is drawn again.
 use Rattle.std.proofs.Common.{◌≡◌, ℕ, ◌+◌, Bool, true, false, List, [], ◌∷◌, Option, Some, None, cond}
-use Rattle.std.specs.Prelude.{ℤ, nat_lt, length}
+use Rattle.std.specs.Prelude.{ℤ, nat_lt, length, MatchBool}
 use Rattle.std.proofs.Math.Logic.{∥∥₁_map, ∥∥₁_elim}
 use Rattle.std.proofs.Props.{props}
 use Rattle.ags_rows.specs.declared.finding.Finding.{Finding}
@@ -16,7 +16,7 @@ use Rattle.reg_desk.specs.Asked.{Asked, deposit, check, listing, extract}
 use Rattle.reg_desk.specs.declared.answer.Listed.{Listed}
 use Rattle.reg_desk.specs.declared.answer.Answer.{Answer}
 use Rattle.reg_desk.specs.declared.answer.Answer.TheVariants.{Receipt, Clean, Findings, Listing, Text, Denied, Unknown, TooLarge, Full, NoMemory, StoreFailed}
-use Rattle.reg_desk.specs.Machine.{Register, decided, Where, OrDenied, OrFound, OrRefused, first_equal, receipt_of, IsListing, IsReply}
+use Rattle.reg_desk.specs.Machine.{Register, decided, OrDenied, OrFound, OrRefused, first_equal, receipt_of, IsListing, IsReply}
 use Rattle.reg_desk.specs.Serving.{IsAnswer, register_at, Serves}
 use Rattle.reg_desk.specs.Desks.{IsCleanText, IsSameText, IsSameAnswer}
 use Rattle.reg_desk.proofs.Runs.{texts_clean, extract_again}
@@ -38,7 +38,7 @@ found_no_text : (found : List Finding) (P : Answer → Type 0) → NoText P → 
 found_no_text [] P never = never
 found_no_text (f ∷ found) P never = λ text h. absurd cc
 
-where_no_text : (t : Bool) (A B : Type 0) → (A → ⊥) → (B → ⊥) → Where t A B → ⊥
+where_no_text : (t : Bool) (A B : Type 0) → (A → ⊥) → (B → ⊥) → MatchBool t A B → ⊥
 where_no_text true A B a b h = a h
 where_no_text false A B a b h = b h
 

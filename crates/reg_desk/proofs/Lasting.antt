@@ -1,6 +1,6 @@
 -- A deposit with a receipt is held from then on, whatever a crash leaves.
-use Rattle.std.proofs.Common.{◌≡◌, ◌≢◌, ℕ, zero, suc, ◌+◌, Bool, true, false, cond, Option, Some, None, List, [], ◌∷◌, ◌++◌, length, refl, sym, ap, subst, ◌∙◌, inl, inr, arith, append_assoc, append-nil, ◌&&◌}
-use Rattle.std.specs.Prelude.{ℤ, nat_lt, slice_get}
+use Rattle.std.proofs.Common.{◌≡◌, ◌≢◌, ℕ, zero, suc, ◌+◌, Bool, true, false, cond, Option, Some, None, List, [], ◌∷◌, ◌++◌, length, refl, sym, ap, subst, ◌∙◌, inl, inr, ◌⊎◌, arith, append_assoc, append-nil, ◌&&◌}
+use Rattle.std.specs.Prelude.{ℤ, nat_lt, slice_get, MatchBool}
 use Rattle.std.specs.List.{AllZip}
 use Rattle.std.specs.Str.{bytes_eq}
 use Rattle.std.proofs.lemmas.Bool.{true≢false}
@@ -19,9 +19,9 @@ use Rattle.reg_store.specs.declared.keep.Keep.{Ghosts}
 use Rattle.reg_desk.specs.Asked.{Asked, deposit, check, listing, extract}
 use Rattle.reg_desk.specs.declared.answer.Answer.{Answer}
 use Rattle.reg_desk.specs.declared.answer.Answer.TheVariants.{Receipt, Clean, Findings, Listing, Text, Denied, Unknown, TooLarge, Full, NoMemory, StoreFailed}
-use Rattle.reg_desk.specs.Machine.{Register, decided, Where, OrDenied, OrFound, OrRefused, first_equal, receipt_of, held, IsReply, IsNext}
-use Rattle.reg_desk.specs.Serving.{is_failed, IsAnswer, IsAfter, AddsAsked, register_at}
-use Rattle.reg_desk.specs.Running.{AreFailed, AreAnswers, failing, IsLeft, Runs, IsHeldIn}
+use Rattle.reg_desk.specs.Machine.{Register, decided, OrDenied, OrFound, OrRefused, first_equal, receipt_of, held, IsReply, asked_deposit, AddsAsked, IsNext}
+use Rattle.reg_desk.specs.Serving.{is_failed, IsAnswer, IsAfter, register_at}
+use Rattle.reg_desk.specs.Running.{AreFailed, AreAnswers, failing, Runs, IsHeldIn}
 use Rattle.reg_desk.proofs.Taken.{taken_received}
 
 -- ---- a list that only grew
@@ -51,12 +51,15 @@ get_last (k ∷ state) d = get_last state d
 held_last : (state : List Deposit) (d : Deposit) (n : ℕ) → n ≡ length state + 1 → held n (state ++ d ∷ []) ≡ Some d
 held_last state d n same = let e : n ≡ suc (length state) = omega (arith, same) in subst (λ (k : ℕ). held k (state ++ d ∷ []) ≡ Some d) (sym e) (get_last state d)
 
+adds_front : (request : Asked) (state list : List Deposit) → AddsAsked request state list → IsFront state list
+adds_front (deposit caller project embargo bytes day) state list h = (asked_deposit caller project embargo bytes ∷ [], h)
+adds_front (check caller project bytes day) state list h = absurd h
+adds_front (listing caller project day) state list h = absurd h
+adds_front (extract caller project number groups day) state list h = absurd h
+
 next_front : (register : Register) (request : Asked) (state next : List Deposit) → IsNext register state request next → IsFront state next
-next_front register (deposit caller project embargo bytes day) state next (inl h) = (record { firm = caller.firm; project = project; embargo = embargo; bytes = bytes } ∷ [], h.1)
-next_front register (deposit caller project embargo bytes day) state next (inr h) = front_itself state next h.1
-next_front register (check caller project bytes day) state next h = front_itself state next h
-next_front register (listing caller project day) state next h = front_itself state next h
-next_front register (extract caller project number groups day) state next h = front_itself state next h
+next_front register request state next (inl h) = adds_front request state next h.1
+next_front register request state next (inr h) = front_itself state next h.1
 
 after_front : (register : Register) (request : Asked) (state next : List Deposit) (a : Answer) → is_failed a ≡ false → IsAfter register state request a next → IsFront state next
 unfolding IsAfter
@@ -82,7 +85,7 @@ stands_of (Permit k) register bytes P n e h = refused (nat_lt LIMIT (length byte
     found [] w = w
     found (f ∷ l) w = absurd cc
 
-    refused : (t : Bool) → Where t (Receipt n e ≡ TooLarge) ((l : List Finding) × AreFindings register.given bytes l × OrFound l P (Receipt n e)) → P (Receipt n e)
+    refused : (t : Bool) → MatchBool t (Receipt n e ≡ TooLarge) ((l : List Finding) × AreFindings register.given bytes l × OrFound l P (Receipt n e)) → P (Receipt n e)
     refused true w = absurd cc
     refused false w = found w.0 w.2
 
@@ -129,23 +132,23 @@ receipt_first register embargo count None n e h other = absurd (full (nat_lt cou
     full false h = cc
 
 receipt_held : (register : Register) (caller : Caller) (project : List ℕ) (embargo : ℤ) (bytes : List ℕ) (day : ℤ) (state next : List Deposit) (n : ℕ) (e : ℤ) → IsReply register state (deposit caller project embargo bytes day) (Receipt n e)
-    → IsNext register state (deposit caller project embargo bytes day) next → held n next ≡ Some (record { firm = caller.firm; project = project; embargo = e; bytes = bytes })
+    → IsNext register state (deposit caller project embargo bytes day) next → held n next ≡ Some (asked_deposit caller project e bytes)
 receipt_held register caller project embargo bytes day state next n e is (inl h) =
     let fields = receipt_fields n (length state + 1) e embargo ((taken_received register state caller project embargo bytes day (Receipt n e) is).0 h.0) in
-    ap (held n) h.1 ∙ held_last state (record { firm = caller.firm; project = project; embargo = embargo; bytes = bytes }) n fields.0
-    ∙ ap (λ (x : ℤ). Some (record { firm = caller.firm; project = project; embargo = x; bytes = bytes })) (sym fields.1)
+    ap (held n) h.1 ∙ held_last state (asked_deposit caller project embargo bytes) n fields.0
+    ∙ ap (λ (x : ℤ). Some (asked_deposit caller project x bytes)) (sym fields.1)
 receipt_held register caller project embargo bytes day state next n e is (inr h) =
     let first = first_equal 1 caller.firm project bytes state in
     let stands = stands_of (decided register caller project verbs.Deposit) register bytes (λ r. r ≡ receipt_of register embargo (length state) first) n e is in
     let equal = receipt_first register embargo (length state) first n e stands (λ new. h.0 ((taken_received register state caller project embargo bytes day (Receipt n e) is).1 new)) in
     let at = first_at caller.firm project bytes 1 state n e equal in
     let number : n ≡ suc at.0 = omega (arith, at.1) in
-    ap (held n) h.1 ∙ subst (λ (k : ℕ). held k state ≡ Some (record { firm = caller.firm; project = project; embargo = e; bytes = bytes })) (sym number) at.2
+    ap (held n) h.1 ∙ subst (λ (k : ℕ). held k state ≡ Some (asked_deposit caller project e bytes)) (sym number) at.2
 
 -- ---- the answers to a list
 
 held_then : (state list : List Deposit) (request : Asked) (a : Answer) → IsFront state list → IsHeldIn state request a → IsHeldIn list request a
-held_then state list (deposit caller project embargo bytes day) (Receipt n e) front h = held_front n state list (record { firm = caller.firm; project = project; embargo = e; bytes = bytes }) front h
+held_then state list (deposit caller project embargo bytes day) (Receipt n e) front h = held_front n state list (asked_deposit caller project e bytes) front h
 held_then state list (deposit caller project embargo bytes day) Clean front h = tt
 held_then state list (deposit caller project embargo bytes day) (Findings l) front h = tt
 held_then state list (deposit caller project embargo bytes day) (Listing l) front h = tt
@@ -217,7 +220,7 @@ Lasts register state requests answers last list = IsFront state last × AllZip (
 
 lasts_step : (register : Register) (state : List Deposit) (r : Asked) (requests : List Asked) (a : Answer) (answers : List Answer) (last list : List Deposit) (t : Bool) → is_failed a ≡ t → IsAnswer register state r a → IsFront last list
     → ((next : List Deposit) → AreAnswers register next requests answers last → Lasts register next requests answers last list)
-    → Where t ((last ≡ state) × AreFailed requests answers) ((next : List Deposit) × IsAfter register state r a next × AreAnswers register next requests answers last) → Lasts register state (r ∷ requests) (a ∷ answers) last list
+    → MatchBool t ((last ≡ state) × AreFailed requests answers) ((next : List Deposit) × IsAfter register state r a next × AreAnswers register next requests answers last) → Lasts register state (r ∷ requests) (a ∷ answers) last list
 lasts_step register state r requests a answers last list true fails is front rest w = (front_itself state last w.0, (failed_held list r a (is_store_failed a fails), all_failed list requests answers w.1))
 lasts_step register state r requests a answers last list false lives is front rest w =
     let more = rest w.0 w.2 in
@@ -231,19 +234,11 @@ lasts register state (r ∷ requests) [] last list h front = absurd h
 lasts register state (r ∷ requests) (a ∷ answers) last list h front =
     lasts_step register state r requests a answers last list (is_failed a) refl h.0 front (λ next k. lasts register next requests answers last list k front) h.1
 
-adds_front : (request : Asked) (state list : List Deposit) → AddsAsked request state list → IsFront state list
-unfolding AddsAsked
-adds_front (deposit caller project embargo bytes day) state list h = (record { firm = caller.firm; project = project; embargo = embargo; bytes = bytes } ∷ [], h)
-adds_front (check caller project bytes day) state list h = absurd h
-adds_front (listing caller project day) state list h = absurd h
-adds_front (extract caller project number groups day) state list h = absurd h
-
-left_front : (request : Option Asked) (state list : List Deposit) → IsLeft request state list → IsFront state list
-left_front None state list h = front_itself state list h
-left_front (Some r) state list (inl h) = front_itself state list h
-left_front (Some r) state list (inr h) = adds_front r state list h
+left_front : (requests : List Asked) (answers : List Answer) (state list : List Deposit) → (list ≡ state) ⊎ ((r : Asked) × (failing requests answers ≡ Some r) × AddsAsked r state list) → IsFront state list
+left_front requests answers state list (inl h) = front_itself state list h
+left_front requests answers state list (inr h) = adds_front h.0 state list h.2
 
 pub receipts_last : {K : Type 0} (keep : Ghosts K) (rules : List Rule) (old new : K) (requests : List Asked) (answers : List Answer) → Runs keep rules old new requests answers
     → (list : List Deposit) → keep.may_leave new list → AllZip (IsHeldIn list) requests answers
 receipts_last keep rules old new requests answers runs list may =
-    (lasts (register_at keep rules old) (keep.deposits old) requests answers runs.last list runs.answered (left_front (failing requests answers) runs.last list (runs.left list may))).1
+    (lasts (register_at keep rules old) (keep.deposits old) requests answers runs.last list runs.answered (left_front requests answers runs.last list (runs.left list may))).1

@@ -1,6 +1,6 @@
 -- A listing, number by number.
 use Rattle.std.proofs.Common.{◌≡◌, ◌≢◌, ℕ, zero, suc, ◌+◌, ◌<◌, ◌≤◌, Bool, true, false, cond, Option, Some, None, List, [], ◌∷◌, ◌++◌, drop, get_or, refl, sym, ap, subst, ◌∙◌, inl, inr, ◌⊎◌, arith, append_assoc, append-nil}
-use Rattle.std.specs.Prelude.{ℤ, slice_get, length}
+use Rattle.std.specs.Prelude.{ℤ, slice_get, length, MatchBool}
 use Rattle.std.specs.Str.{bytes_eq}
 use Rattle.std.proofs.Math.Logic.{∥∥₁_map, ∥∥₁_elim}
 use Rattle.std.proofs.Props.{props}
@@ -19,10 +19,10 @@ use Rattle.reg_desk.specs.Asked.{listing}
 use Rattle.reg_desk.specs.declared.answer.Listed.{Listed}
 use Rattle.reg_desk.specs.declared.answer.Answer.{Answer}
 use Rattle.reg_desk.specs.declared.answer.Answer.TheVariants.{Listing, Denied}
-use Rattle.reg_desk.specs.Machine.{Register, decided, IsSeen, Where, IsListing, held}
-use Rattle.reg_desk.specs.Serving.{IsQuiet, AsksStore, IsLineFor, register_at, OnlyReads, Serves, answer_of}
+use Rattle.reg_desk.specs.Machine.{Register, decided, IsSeen, IsListing, held, IsReply}
+use Rattle.reg_desk.specs.Serving.{AsksStore, IsLineFor, register_at, OnlyReads, Serves, answer_of}
 use Rattle.reg_desk.proofs.Drawing.{held_at}
-use Rattle.reg_desk.proofs.Serves.{asks_needs, replies_at_once, refused_serves, replies_serves, permitted_reply, denied_reply, permit_stands}
+use Rattle.reg_desk.proofs.Serves.{asks_of, replies_at_once, refused_serves, replies_serves, permitted_reply, denied_reply, permit_stands}
 
 -- ---- lines for numbers
 
@@ -75,7 +75,7 @@ listed_then register caller project day n d state lines more (Some line) listed 
 listing_step : (register : Register) (caller : Caller) (project : List ℕ) (day : ℤ) (at : ℕ → Option Deposit) (n : ℕ) (d : Deposit) (state : List Deposit) (numbers : List ℕ) (lines : List Listed) (t : Bool) → at n ≡ Some d
     → ((l : List Listed) → AreLines register caller day at numbers l → IsListing register caller project day (n + 1) state l)
     → AreLines register caller day at (cond t (n ∷ numbers) numbers) lines
-    → Where t ((IsSeen register caller day d × ((l : List Listed) × (lines ≡ record { number = n; firm = d.firm; embargo = d.embargo } ∷ l) × IsListing register caller project day (n + 1) state l))
+    → MatchBool t ((IsSeen register caller day d × ((l : List Listed) × (lines ≡ record { number = n; firm = d.firm; embargo = d.embargo } ∷ l) × IsListing register caller project day (n + 1) state l))
     ⊎ ((IsSeen register caller day d → ⊥) × IsListing register caller project day (n + 1) state lines)) (IsListing register caller project day (n + 1) state lines)
 listing_step register caller project day at n d state numbers lines true holds rest h =
     let same : h.0 ≡ d = same_some (at n) h.0 d h.3 holds in
@@ -182,17 +182,18 @@ register_same keep rules old new failed reads =
 abbrev IsListingAnswer : Register → List Deposit → Caller → List ℕ → ℤ → Answer → Type 0
 IsListingAnswer register state caller project day r = (lines : List Listed) × IsListing register caller project day 1 state lines × (r ≡ Listing lines)
 
-listing_asks : (register : Register) (state : List Deposit) (caller : Caller) (project : List ℕ) (day : ℤ) (k : ℕ) → decided register caller project verbs.List ≡ Permit k → AsksStore register state (listing caller project day)
-listing_asks register state caller project day k permit = λ reply is quiet.
-    let lines = permit_stands (decided register caller project verbs.List) k (IsListingAnswer register state caller project day) reply permit is in
-    subst IsQuiet lines.2 quiet
+listing_asks : (register : Register) (state : List Deposit) (caller : Caller) (project : List ℕ) (day : ℤ) (k : ℕ) → decided register caller project verbs.List ≡ Permit k → AsksStore (IsReply register state (listing caller project day))
+listing_asks register state caller project day k permit =
+    asks_of (IsListingAnswer register state caller project day) (IsReply register state (listing caller project day))
+    (λ reply is. permit_stands (decided register caller project verbs.List) k (IsListingAnswer register state caller project day) reply permit is)
+    ((λ n h. let e = h.2 in cc, λ h. let e = h.2 in cc), λ found h. let e = h.2 in cc, λ h. let e = h.2 in cc)
 
 pub listing_denied : {K : Type 0} (keep : Ghosts K) (rules : List Rule) (caller : Caller) (project : List ℕ) (day : ℤ) (old : K) (m : ℕ) → keep.has_failed old ≡ false
     → decided (register_at keep rules old) caller project verbs.List ≡ Deny m → Serves keep rules (listing caller project day) old old (Denied m)
 listing_denied keep rules caller project day old m works deny =
     let register = register_at keep rules old in
     replies_at_once keep rules (listing caller project day) old (Denied m) works refl
-    (denied_reply (decided register caller project verbs.List) m (IsListingAnswer register (keep.deposits old) caller project day) deny) refl
+    (denied_reply (decided register caller project verbs.List) m (IsListingAnswer register (keep.deposits old) caller project day) deny) (inr (λ taken. taken, refl))
 
 pub listing_unread : {K : Type 0} (keep : Ghosts K) (rules : List Rule) (caller : Caller) (project : List ℕ) (day : ℤ) (old new : K) (k : ℕ) (e : KeepError)
     → decided (register_at keep rules old) caller project verbs.List ≡ Permit k → OnlyReads keep old new (is_store e) → e ≢ errors.Full → Serves keep rules (listing caller project day) old new (answer_of e)
@@ -200,7 +201,7 @@ listing_unread keep rules caller project day old new k e permit reads named =
     let register = register_at keep rules old in
     let state = keep.deposits old in
     let asks = listing_asks register state caller project day k permit in
-    refused_serves keep rules (listing caller project day) old new e reads named (asks_needs register state (listing caller project day) asks) (λ s. asks)
+    refused_serves keep rules (listing caller project day) old new e reads named asks.0 (λ s. asks)
 
 pub listing_replies : {K : Type 0} (keep : Ghosts K) (rules : List Rule) (caller : Caller) (project : List ℕ) (day : ℤ) (old new : K) (k : ℕ) (lines : List Listed)
     → decided (register_at keep rules old) caller project verbs.List ≡ Permit k → OnlyReads keep old new false
@@ -212,4 +213,4 @@ listing_replies keep rules caller project day old new k lines permit reads is =
     replies_serves keep rules (listing caller project day) old new (Listing lines) reads refl
     (λ s. ∥∥₁_map (is s) (λ (h : IsListing register caller project day 1 state lines).
     permitted_reply (decided register caller project verbs.List) k (IsListingAnswer register state caller project day) (Listing lines) permit (lines, h, refl)))
-    (λ s. refl) (asks_needs register state (listing caller project day) (listing_asks register state caller project day k permit))
+    (λ s. inr (λ taken. taken, refl)) (listing_asks register state caller project day k permit).0

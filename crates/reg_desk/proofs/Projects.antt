@@ -23,7 +23,7 @@ use Rattle.reg_store.specs.declared.keep.KeptRow.{KeptRow}
 use Rattle.reg_store.specs.declared.keep.ProjectRow.{ProjectRow}
 use Rattle.reg_store.specs.Keep.{OfDeposit}
 use Rattle.reg_desk.specs.Serving.{OnlyReads}
-use Rattle.reg_desk.specs.Shown.{Look, IsPermitted, IsPermittedAt, IsProjectShown, decision_on, facts_on}
+use Rattle.reg_desk.specs.Shown.{Look, IsPermitted, RowAt, IsProjectShown, decision_on, facts_on}
 use Rattle.reg_desk.specs.View.{AreAlike, IsLineOf, IsOpen, IsUnreadable, MayBeSeen, Sees, is_only, plain_lines, plain_row, project_line}
 use Rattle.reg_desk.proofs.Bridges.{HasAt, IsOfProject, at_first, at_later, of_first, of_later, lines_spelled}
 use Rattle.reg_desk.proofs.Clean.{clean_formed, clean_keeps}
@@ -144,8 +144,8 @@ pub open_hidden : (look : Look) (file : CheckedFile) (project : ProjectRow) (may
 open_hidden look file project may clean is law hidden = λ shows.
     let line = its_line file clean project is in
     let same : shows.0 ≡ project.number = one_project file clean shows.0 project.number shows.1 (line.0, line.1, sym line.2.group) in
-    let itself : IsPermittedAt look (file_of file) shows.0 = shows.2 shows.0 (reach_itself (StepAt (file_of file)) shows.0) in
-    let there = subst (IsPermittedAt look (file_of file)) same itself in
+    let itself : RowAt (file_of file) (IsPermitted look) shows.0 = shows.2 shows.0 (reach_itself (StepAt (file_of file)) shows.0) in
+    let there = subst (RowAt (file_of file) (IsPermitted look)) same itself in
     let row : there.0 ≡ line.0 = one_at (data_rows (contents_of file.groups)) project.number there.0 line.0 there.1 line.1 in
     true≢false (sym ((law line.0 line.2).1 (subst (IsPermitted look) row there.2)) ∙ hidden)
 
@@ -170,11 +170,11 @@ only_target row target (step ∷ steps) only has = go (step.0 == row) refl (only
 pub open_shown : (look : Look) (file : CheckedFile) (project : ProjectRow) (may : Bool) → IsClean file → Some project ≡ project_of (kept_rows file.groups) → MayBeSeen look (project_line project) may → may ≡ true → IsOpen look file (Some project.number)
 open_shown look file project may clean is law permitted = λ only.
     let line = its_line file clean project is in
-    let own : IsPermittedAt look (file_of file) project.number = (line.0, line.1, (law line.0 line.2).0 permitted) in
+    let own : RowAt (file_of file) (IsPermitted look) project.number = (line.0, line.1, (law line.0 line.2).0 permitted) in
     (project.number, (line.0, line.1, sym line.2.group), λ m walk. reach only own m walk.0 walk.1)
   where
-    reach : is_only project.number (targets_of project.number file.graph.steps) ≡ true → IsPermittedAt look (file_of file) project.number → (m : ℕ) (rows : List ℕ) → IsWalk (StepAt (file_of file)) project.number rows m → IsPermittedAt look (file_of file) m
-    reach only own m [] same = subst (IsPermittedAt look (file_of file)) same own
+    reach : is_only project.number (targets_of project.number file.graph.steps) ≡ true → RowAt (file_of file) (IsPermitted look) project.number → (m : ℕ) (rows : List ℕ) → IsWalk (StepAt (file_of file)) project.number rows m → RowAt (file_of file) (IsPermitted look) m
+    reach only own m [] same = subst (RowAt (file_of file) (IsPermitted look)) same own
     reach only own m (t ∷ rows) walk =
         let itself : t ≡ project.number = only_target project.number t file.graph.steps only ((clean.graph.steps.exact project.number t).1 walk.0) in
         reach only own m rows (subst (λ (k : ℕ). IsWalk (StepAt (file_of file)) k rows m) itself walk.1)
@@ -199,8 +199,8 @@ alike_permits : (look : Look) → AreAlike look None true → (row : DataRow) �
 alike_permits look alike row = inr ((permit_is (decision_on look (facts_on look row.group row.headings row.fields))).0 (alike (facts_on look row.group row.headings row.fields) (tt, refl, refl)))
 
 -- then each row that another reaches is permitted
-alike_reaches : (look : Look) (file : CheckedFile) → AreAlike look None true → (n m : ℕ) (rows : List ℕ) → IsPermittedAt look (file_of file) n → IsWalk (StepAt (file_of file)) n rows m → IsPermittedAt look (file_of file) m
-alike_reaches look file alike n m [] own same = subst (IsPermittedAt look (file_of file)) same own
+alike_reaches : (look : Look) (file : CheckedFile) → AreAlike look None true → (n m : ℕ) (rows : List ℕ) → RowAt (file_of file) (IsPermitted look) n → IsWalk (StepAt (file_of file)) n rows m → RowAt (file_of file) (IsPermitted look) m
+alike_reaches look file alike n m [] own same = subst (RowAt (file_of file) (IsPermitted look)) same own
 alike_reaches look file alike n m (t ∷ rows) own walk =
     let (r, s, at_r, at_s, step) = walk.0 in
     alike_reaches look file alike t m rows (s, at_s, alike_permits look alike s) walk.1
@@ -215,7 +215,7 @@ alike_shown look file clean alike (Some project) is =
 -- none of these rows may be seen, among them that of PROJ
 alike_hidden : (look : Look) (file : CheckedFile) (named : Option (List ℕ)) → AreAlike look named false → IfSome named (λ name. codes "PROJ" ≡ name) → IsProjectShown look (file_of file) → ⊥
 alike_hidden look file named alike of_project shows =
-    let itself : IsPermittedAt look (file_of file) shows.0 = shows.2 shows.0 (reach_itself (StepAt (file_of file)) shows.0) in
+    let itself : RowAt (file_of file) (IsPermitted look) shows.0 = shows.2 shows.0 (reach_itself (StepAt (file_of file)) shows.0) in
     let row : itself.0 ≡ shows.1.0 = one_at (data_rows (contents_of file.groups)) shows.0 itself.0 shows.1.0 itself.1 shows.1.1 in
     let group : itself.0.group ≡ codes "PROJ" = ap (λ (r : DataRow). r.group) row ∙ shows.1.2 in
     elim itself.2 [

@@ -1,10 +1,11 @@
 -- A list of requests, request by request.
 use Rattle.std.proofs.Common.{◌≡◌, ℕ, zero, suc, ◌<◌, ◌≤◌, length, arith, Bool, true, false, cond, ◌||◌, Option, Some, None, List, [], ◌∷◌, ◌++◌, map, take, get_or, refl, sym, ap, subst, ◌∙◌, inl, inr}
-use Rattle.std.specs.List.{list_any}
+use Rattle.std.specs.List.{list_any, find, zip}
 use Rattle.std.proofs.lemmas.Bool.{true≢false, cases_Bool}
 use Rattle.std.proofs.Props.{props}
 use Rattle.ags_dict.specs.Entries.{Entries}
 use Rattle.std.proofs.Math.Logic.{∥∥₁_map, ∥∥₁_elim}
+use Rattle.std.specs.Prelude.{MatchBool, option_map}
 use Rattle.reg_policy.specs.declared.rule.Rule.{Rule}
 use Rattle.reg_store.specs.Deposit.{Deposit}
 use Rattle.reg_store.specs.declared.keep.Keep.{Ghosts}
@@ -14,9 +15,9 @@ use Rattle.reg_desk.specs.declared.answer.Answer.{Answer}
 use Rattle.reg_desk.specs.declared.answer.Answer.TheVariants.{StoreFailed}
 use Rattle.reg_desk.specs.declared.desk.Desk.{Desk}
 use Rattle.reg_desk.specs.Desks.{AnsweredBy, AreAnsweredBy}
-use Rattle.reg_desk.specs.Machine.{Register, Where}
-use Rattle.reg_desk.specs.Serving.{is_failed, IsAnswer, IsAfter, AddsAsked, register_at, Serves}
-use Rattle.reg_desk.specs.Running.{AreFailed, AreAnswers, failing, IsLeft, Runs}
+use Rattle.reg_desk.specs.Machine.{Register, AddsAsked}
+use Rattle.reg_desk.specs.Serving.{is_failed, IsAnswer, IsAfter, register_at, Serves}
+use Rattle.reg_desk.specs.Running.{AreFailed, AreAnswers, failing, Runs}
 use Rattle.reg_desk.proofs.Bodies.{where_true, where_false, where_else}
 
 abbrev some_fails : List Answer → Bool
@@ -65,8 +66,8 @@ failed_more (q ∷ requests) (a ∷ answers) r h = (h.0, failed_more requests an
 -- behind an answer that failed
 stuck_step : (register : Register) (state : List Deposit) (q : Asked) (b : Answer) (requests : List Asked) (answers : List Answer) (last : List Deposit) (r : Asked) (t : Bool) → (t || some_fails answers) ≡ true
     → ((next : List Deposit) → some_fails answers ≡ true → AreAnswers register next requests answers last → AreAnswers register next (requests ++ r ∷ []) (answers ++ StoreFailed ∷ []) last)
-    → Where t ((last ≡ state) × AreFailed requests answers) ((next : List Deposit) × IsAfter register state q b next × AreAnswers register next requests answers last)
-    → Where t ((last ≡ state) × AreFailed (requests ++ r ∷ []) (answers ++ StoreFailed ∷ [])) ((next : List Deposit) × IsAfter register state q b next × AreAnswers register next (requests ++ r ∷ []) (answers ++ StoreFailed ∷ []) last)
+    → MatchBool t ((last ≡ state) × AreFailed requests answers) ((next : List Deposit) × IsAfter register state q b next × AreAnswers register next requests answers last)
+    → MatchBool t ((last ≡ state) × AreFailed (requests ++ r ∷ []) (answers ++ StoreFailed ∷ [])) ((next : List Deposit) × IsAfter register state q b next × AreAnswers register next (requests ++ r ∷ []) (answers ++ StoreFailed ∷ []) last)
 stuck_step register state q b requests answers last r true e rest w = (w.0, failed_more requests answers r w.1)
 stuck_step register state q b requests answers last r false e rest w = (w.0, w.1, rest w.0 e w.2)
 
@@ -88,16 +89,16 @@ failing_more register state (q ∷ requests) [] last r a h none = absurd h
 failing_more register state (q ∷ requests) (b ∷ answers) last r a h none =
     let b_lives = or_first (is_failed b) (some_fails answers) none in
     let rest = where_else (is_failed b) _ _ b_lives h.1 in
-    skip (is_failed b) b_lives (failing (requests ++ r ∷ []) (answers ++ a ∷ [])) ∙ failing_more register rest.0 requests answers last r a rest.2 (or_second (is_failed b) (some_fails answers) none)
+    skip (is_failed b) b_lives (find (λ p. is_failed p.1) (zip (requests ++ r ∷ []) (answers ++ a ∷ []))) ∙ failing_more register rest.0 requests answers last r a rest.2 (or_second (is_failed b) (some_fails answers) none)
   where
-    skip : (t : Bool) → t ≡ false → (rest : Option Asked) → cond t (Some q) rest ≡ rest
+    skip : (t : Bool) → t ≡ false → (rest : Option (Asked × Answer)) → option_map (λ p. p.0) (cond t (Some (q, b)) rest) ≡ option_map (λ p. p.0) rest
     skip true e rest = absurd (true≢false e)
     skip false e rest = refl
 
 failing_step : (register : Register) (state : List Deposit) (q : Asked) (b : Answer) (requests : List Asked) (answers : List Answer) (last : List Deposit) (r : Asked) (t : Bool) → (t || some_fails answers) ≡ true
     → ((next : List Deposit) → some_fails answers ≡ true → AreAnswers register next requests answers last → failing (requests ++ r ∷ []) (answers ++ StoreFailed ∷ []) ≡ failing requests answers)
-    → Where t ((last ≡ state) × AreFailed requests answers) ((next : List Deposit) × IsAfter register state q b next × AreAnswers register next requests answers last)
-    → cond t (Some q) (failing (requests ++ r ∷ []) (answers ++ StoreFailed ∷ [])) ≡ cond t (Some q) (failing requests answers)
+    → MatchBool t ((last ≡ state) × AreFailed requests answers) ((next : List Deposit) × IsAfter register state q b next × AreAnswers register next requests answers last)
+    → option_map (λ p. p.0) (cond t (Some (q, b)) (find (λ p. is_failed p.1) (zip (requests ++ r ∷ []) (answers ++ StoreFailed ∷ [])))) ≡ option_map (λ p. p.0) (cond t (Some (q, b)) (find (λ p. is_failed p.1) (zip requests answers)))
 failing_step register state q b requests answers last r true e rest w = refl
 failing_step register state q b requests answers last r false e rest w = rest w.0 e w.2
 
@@ -116,9 +117,9 @@ none_failing register state (q ∷ requests) [] last h none = absurd h
 none_failing register state (q ∷ requests) (b ∷ answers) last h none =
     let b_lives = or_first (is_failed b) (some_fails answers) none in
     let rest = where_else (is_failed b) _ _ b_lives h.1 in
-    skip (is_failed b) b_lives (failing requests answers) ∙ none_failing register rest.0 requests answers last rest.2 (or_second (is_failed b) (some_fails answers) none)
+    skip (is_failed b) b_lives (find (λ p. is_failed p.1) (zip requests answers)) ∙ none_failing register rest.0 requests answers last rest.2 (or_second (is_failed b) (some_fails answers) none)
   where
-    skip : (t : Bool) → t ≡ false → (rest : Option Asked) → cond t (Some q) rest ≡ rest
+    skip : (t : Bool) → t ≡ false → (rest : Option (Asked × Answer)) → option_map (λ p. p.0) (cond t (Some (q, b)) rest) ≡ option_map (λ p. p.0) rest
     skip true e rest = absurd (true≢false e)
     skip false e rest = refl
 
@@ -152,7 +153,7 @@ run_begins keep rules old began settled unbroken sticky = record {
   same_limit = refl;
   flag = or_nothing began;
   stuck = λ e. (tt, refl);
-  runs = λ s e. ∣ record { last = keep.deposits old; answered = refl; kept = λ h. refl; left = λ list may. settled old list s (works (keep.has_failed old) e sticky) may; whole = unbroken old s (works (keep.has_failed old) e sticky) } ∣₁;
+  runs = λ s e. ∣ record { last = keep.deposits old; answered = refl; kept = λ h. refl; left = λ list may. inl (settled old list s (works (keep.has_failed old) e sticky) may); whole = unbroken old s (works (keep.has_failed old) e sticky) } ∣₁;
 }
   where
     works : (t : Bool) → began ≡ false → (t ≡ true → began ≡ true) → t ≡ false
@@ -167,19 +168,13 @@ runs_told keep rules old mid new requests answers r a settled register sound non
     let now : keep.deposits mid ≡ runs.last = runs.kept (none_failing (register_at keep rules old) state requests answers runs.last runs.answered none) in
     let told = subst (λ (s : List Deposit). IsAnswer (register_at keep rules old) s r a) now (subst (λ (g : Register). IsAnswer g (keep.deposits mid) r a) register is) in
     let after = subst (λ (s : List Deposit). IsAfter (register_at keep rules old) s r a (keep.deposits new)) now (subst (λ (g : Register). IsAfter g (keep.deposits mid) r a (keep.deposits new)) register (serves.kept sound)) in
-    let no_failing : failing (requests ++ r ∷ []) (answers ++ a ∷ []) ≡ None = failing_more (register_at keep rules old) state requests answers runs.last r a runs.answered none ∙ one_lives (is_failed a) lives in
     record {
       last = keep.deposits new;
       answered = answers_told (register_at keep rules old) state requests answers runs.last (keep.deposits new) r a runs.answered none lives told after;
       kept = λ e. refl;
-      left = λ list may.
-          subst (λ (o : Option Asked). IsLeft o (keep.deposits new) list) (sym no_failing) (settled new list sound (sym (serves.cause sound) ∙ lives) may);
+      left = λ list may. inl (settled new list sound (sym (serves.cause sound) ∙ lives) may);
       whole = λ may. runs.whole (serves.whole sound may);
     }
-  where
-    one_lives : (t : Bool) → t ≡ false → cond t (Some r) None ≡ None
-    one_lives true e = absurd (true≢false e)
-    one_lives false e = refl
 
 runs_fail : {K : Type 0} (keep : Ghosts K) (rules : List Rule) (old mid new : K) (requests : List Asked) (answers : List Answer) (r : Asked) (a : Answer) → Settled keep → register_at keep rules mid ≡ register_at keep rules old
     → keep.is_sound new → keep.has_failed mid ≡ false → some_fails answers ≡ false → is_failed a ≡ true → Serves keep rules r mid new a → IsAnswer (register_at keep rules mid) (keep.deposits mid) r a → Runs keep rules old mid requests answers
@@ -194,14 +189,14 @@ runs_fail keep rules old mid new requests answers r a settled register sound wor
       answered = answers_fail (register_at keep rules old) state requests answers runs.last r a runs.answered none fails told;
       kept = λ e. absurd (some_none (sym this_fails ∙ e));
       left = λ list may.
-          subst (λ (o : Option Asked). IsLeft o runs.last list) (sym this_fails) (elim (serves.crash sound list may) [
+          elim (serves.crash sound list may) [
             | inl was ↦ inl (settled mid list (serves.sound sound) works was ∙ now)
-            | inr adds ↦ inr (subst (λ (s : List Deposit). AddsAsked r s list) now adds)
-          ]);
+            | inr adds ↦ inr (r, this_fails, subst (λ (s : List Deposit). AddsAsked r s list) now adds)
+          ];
       whole = λ may. runs.whole (serves.whole sound may);
     }
   where
-    one_fails : (t : Bool) → t ≡ true → cond t (Some r) None ≡ Some r
+    one_fails : (t : Bool) → t ≡ true → option_map (λ (p : Asked × Answer). p.0) (cond t (Some (r, a)) None) ≡ Some r
     one_fails true e = refl
     one_fails false e = absurd (true≢false (sym e))
 
@@ -217,7 +212,7 @@ runs_stuck keep rules old now requests answers r some runs =
       last = runs.last;
       answered = answers_stuck (register_at keep rules old) state requests answers runs.last r runs.answered some;
       kept = λ e. runs.kept (sym same ∙ e);
-      left = λ list may. subst (λ (o : Option Asked). IsLeft o runs.last list) (sym same) (runs.left list may);
+      left = λ list may. elim (runs.left list may) [ inl e ↦ inl e | inr h ↦ inr (h.0, same ∙ h.1, h.2) ];
       whole = runs.whole;
     }
 

@@ -1,6 +1,6 @@
 -- A body is taken exactly where the reply is the receipt of a new number.
 use Rattle.std.proofs.Common.{◌≡◌, ℕ, suc, ◌+◌, ◌≤◌, ◌<◌, Bool, true, false, cond, Option, Some, None, List, [], ◌∷◌, length, refl, sym, ap, subst, ◌∙◌, arith}
-use Rattle.std.specs.Prelude.{ℤ, nat_lt}
+use Rattle.std.specs.Prelude.{ℤ, nat_lt, MatchBool}
 use Rattle.std.proofs.lemmas.Bool.{cond-true, lt-ltb, le-ltb, ltb-true, ltb-false}
 use Rattle.std.proofs.lemmas.Option.{same_Some}
 use Rattle.ags_rows.specs.declared.finding.Finding.{Finding}
@@ -15,7 +15,7 @@ use Rattle.reg_store.specs.Deposit.{Deposit, is_repeat}
 use Rattle.reg_desk.specs.Asked.{deposit}
 use Rattle.reg_desk.specs.declared.answer.Answer.{Answer}
 use Rattle.reg_desk.specs.declared.answer.Answer.TheVariants.{Receipt, Findings, Denied, TooLarge, Full}
-use Rattle.reg_desk.specs.Machine.{Register, decided, Where, OrDenied, OrFound, OrRefused, first_equal, receipt_of, IsReply, IsTaken}
+use Rattle.reg_desk.specs.Machine.{Register, decided, OrDenied, OrFound, OrRefused, first_equal, receipt_of, IsReply, IsTaken}
 use Rattle.reg_desk.specs.Laws.{TakenIsReceived}
 
 -- what stands of the receipt
@@ -27,17 +27,17 @@ IsReceipt register state caller project embargo bytes r = r ≡ receipt_of regis
 clean_stands : (register : Register) (bytes : List ℕ) (P : Answer → Type 0) (r : Answer) → length bytes ≤ LIMIT → AreFindings register.given bytes [] → OrRefused register bytes P r → P r
 clean_stands register bytes P r small clean h =
     let Found = (found : List Finding) × AreFindings register.given bytes found × OrFound found P r in
-    let found : Found = subst (λ (b : Bool). Where b (r ≡ TooLarge) Found) (le-ltb LIMIT (length bytes) small) h in
+    let found : Found = subst (λ (b : Bool). MatchBool b (r ≡ TooLarge) Found) (le-ltb LIMIT (length bytes) small) h in
     subst (λ (l : List Finding). OrFound l P r) (one_list register.given bytes found.0 [] found.1 clean) found.2
 
 received : (register : Register) (state : List Deposit) (caller : Caller) (project : List ℕ) (embargo : ℤ) (bytes : List ℕ) (day : ℤ) (reply : Answer)
-    → IsReply register state (deposit caller project embargo bytes day) reply → IsTaken register state caller project bytes → reply ≡ Receipt (length state + 1) embargo
+    → IsReply register state (deposit caller project embargo bytes day) reply → IsTaken register state (deposit caller project embargo bytes day) → reply ≡ Receipt (length state + 1) embargo
 received register state caller project embargo bytes day reply h t =
     let stands = IsReceipt register state caller project embargo bytes in
-    let permitted = subst (λ (d : Decision). OrDenied d (OrRefused register bytes stands) reply) t.permitted h in
-    clean_stands register bytes stands reply t.small t.clean permitted
-    ∙ ap (receipt_of register embargo (length state)) t.unheld
-    ∙ cond-true (nat_lt (length state) register.limit) (Receipt (length state + 1) embargo) Full (lt-ltb (length state) register.limit t.room)
+    let permitted = subst (λ (d : Decision). OrDenied d (OrRefused register bytes stands) reply) t.0.1 h in
+    clean_stands register bytes stands reply t.1 t.2 permitted
+    ∙ ap (receipt_of register embargo (length state)) t.3
+    ∙ cond-true (nat_lt (length state) register.limit) (Receipt (length state + 1) embargo) Full (lt-ltb (length state) register.limit t.4)
 
 -- ---- the receipt of a new number
 
@@ -45,7 +45,7 @@ not_denied : (d : Decision) (P : Answer → Type 0) (r : Answer) → OrDenied d 
 not_denied (Permit n) P r h never = (n, refl, h)
 not_denied (Deny n) P r h never = absurd (never n h)
 
-not_where : (t : Bool) (A B : Type 0) → Where t A B → (A → ⊥) → (t ≡ false) × B
+not_where : (t : Bool) (A B : Type 0) → MatchBool t A B → (A → ⊥) → (t ≡ false) × B
 not_where true A B h never = absurd (never h)
 not_where false A B h never = (refl, h)
 
@@ -73,7 +73,8 @@ new_number register embargo count (Some held) low h = let same : held.0 ≡ coun
 new_number register embargo count None low h = (refl, ltb-true count register.limit (room_for (nat_lt count register.limit) (count + 1) embargo h))
 
 taken : (register : Register) (state : List Deposit) (caller : Caller) (project : List ℕ) (embargo : ℤ) (bytes : List ℕ) (day : ℤ) (reply : Answer)
-    → IsReply register state (deposit caller project embargo bytes day) reply → reply ≡ Receipt (length state + 1) embargo → IsTaken register state caller project bytes
+    → IsReply register state (deposit caller project embargo bytes day) reply → reply ≡ Receipt (length state + 1) embargo
+    → IsTaken register state (deposit caller project embargo bytes day)
 taken register state caller project embargo bytes day reply h is =
     let stands = IsReceipt register state caller project embargo bytes in
     let permit = not_denied (decided register caller project verbs.Deposit) (OrRefused register bytes stands) reply h (λ n e. cc) in
@@ -81,14 +82,7 @@ taken register state caller project embargo bytes day reply h is =
     let found = small.1 in
     let clean = not_found found.0 stands reply found.2 (λ l e. cc) in
     let new = new_number register embargo (length state) (first_equal 1 caller.firm project bytes state) (first_held caller.firm project bytes 1 state) (sym clean.1 ∙ is) in
-    record {
-      number = permit.0;
-      permitted = permit.1;
-      small = ltb-false LIMIT (length bytes) small.0;
-      clean = subst (AreFindings register.given bytes) clean.0 found.1;
-      unheld = new.0;
-      room = new.1;
-    }
+    ((permit.0, permit.1), ltb-false LIMIT (length bytes) small.0, subst (AreFindings register.given bytes) clean.0 found.1, new.0, new.1)
 
 pub taken_received : TakenIsReceived
 taken_received register state caller project embargo bytes day reply h =

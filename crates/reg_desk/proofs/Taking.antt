@@ -22,14 +22,14 @@ use Rattle.reg_store.specs.declared.keep.KeptHead.{KeptHead}
 use Rattle.reg_store.specs.declared.keep.KeepError.TheVariants as errors
 use Rattle.reg_desk.specs.Asked.{deposit}
 use Rattle.reg_desk.specs.declared.answer.Answer.{Answer}
-use Rattle.reg_desk.specs.declared.answer.Answer.TheVariants.{Receipt, Denied, TooLarge, Full, NoMemory, StoreFailed}
-use Rattle.reg_desk.specs.Machine.{Register, decided, OrRefused, first_equal, receipt_of, IsReply, IsTaken, IsNext}
-use Rattle.reg_desk.specs.Serving.{IsQuiet, IsFree, AsksStore, NeedsMemory, IsRefusal, AddsAsked, register_at, OnlyReads, Serves, answer_of}
+use Rattle.reg_desk.specs.declared.answer.Answer.TheVariants.{Receipt, Denied, Full}
+use Rattle.reg_desk.specs.Machine.{Register, decided, OrRefused, first_equal, receipt_of, IsReply, IsTaken, asked_deposit, AddsAsked, IsNext}
+use Rattle.reg_desk.specs.Serving.{AsksStore, NeedsMemory, IsRefusal, register_at, OnlyReads, Serves, answer_of}
 use Rattle.reg_desk.proofs.Replies.{reply_same, finds_itself}
 use Rattle.reg_desk.proofs.Firsts.{first_some}
 use Rattle.reg_desk.proofs.Bodies.{refused_none, refusal_serves, small_needs}
 use Rattle.reg_desk.proofs.Drawing.{clean_of, fit_at}
-use Rattle.reg_desk.proofs.Serves.{told_answer, told_after, memory_answer, memory_after, failed_answer, failed_after, asks_needs, owed_never, replies_at_once, refused_serves, replies_serves, permitted_reply, denied_reply}
+use Rattle.reg_desk.proofs.Serves.{told_answer, told_after, memory_answer, memory_after, failed_answer, failed_after, one_owed, asks_of, replies_at_once, refused_serves, replies_serves, permitted_reply, denied_reply}
 
 -- ---- the reply
 
@@ -56,20 +56,23 @@ fine_reply register state caller project embargo bytes day answer fine is =
     let Stands = IsReceipt register state caller project embargo bytes in
     permitted_reply (decided register caller project verbs.Deposit) fine.number (OrRefused register bytes Stands) answer fine.permitted (refused_none register bytes Stands answer fine.small fine.clean is)
 
-receipt_or_full : (t : Bool) (n : ℕ) (e : ℤ) → IsQuiet (cond t (Receipt n e) Full) → ⊥
-receipt_or_full true n e quiet = quiet
-receipt_or_full false n e quiet = quiet
+receipt_asks : (register : Register) (embargo : ℤ) (count : ℕ) (first : Option (ℕ × ℤ)) → AsksStore (λ r. r ≡ receipt_of register embargo count first)
+receipt_asks register embargo count (Some held) = ((λ n e. cc, λ e. cc), λ found e. cc, λ e. cc)
+receipt_asks register embargo count None = full (nat_lt count register.limit)
+  where
+    full : (t : Bool) → AsksStore (λ r. r ≡ cond t (Receipt (count + 1) embargo) Full)
+    full true = ((λ n e. cc, λ e. cc), λ found e. cc, λ e. cc)
+    full false = ((λ n e. cc, λ e. cc), λ found e. cc, λ e. cc)
 
-receipt_not_quiet : (register : Register) (embargo : ℤ) (count : ℕ) (first : Option (ℕ × ℤ)) → IsQuiet (receipt_of register embargo count first) → ⊥
-receipt_not_quiet register embargo count (Some held) quiet = quiet
-receipt_not_quiet register embargo count None quiet = receipt_or_full (nat_lt count register.limit) (count + 1) embargo quiet
-
-fine_asks : (register : Register) (state : List Deposit) (caller : Caller) (project : List ℕ) (embargo : ℤ) (bytes : List ℕ) (day : ℤ) → IsFine register caller project bytes → AsksStore register state (deposit caller project embargo bytes day)
-fine_asks register state caller project embargo bytes day fine = λ reply is quiet.
+fine_asks : (register : Register) (state : List Deposit) (caller : Caller) (project : List ℕ) (embargo : ℤ) (bytes : List ℕ) (day : ℤ) → IsFine register caller project bytes
+    → AsksStore (IsReply register state (deposit caller project embargo bytes day))
+fine_asks register state caller project embargo bytes day fine =
     let request = deposit caller project embargo bytes day in
-    let receipt = receipt_of register embargo (length state) (first_equal 1 caller.firm project bytes state) in
-    let same = reply_same register request state state (finds_itself register request state) reply receipt is (fine_reply register state caller project embargo bytes day receipt fine refl) in
-    receipt_not_quiet register embargo (length state) (first_equal 1 caller.firm project bytes state) (subst IsQuiet same quiet)
+    let first = first_equal 1 caller.firm project bytes state in
+    let receipt = receipt_of register embargo (length state) first in
+    asks_of (IsReceipt register state caller project embargo bytes) (IsReply register state request)
+    (λ reply is. one_owed register state request receipt reply is (fine_reply register state caller project embargo bytes day receipt fine refl))
+    (receipt_asks register embargo (length state) first)
 
 -- ---- what is not taken
 
@@ -84,8 +87,8 @@ receipt_full : (register : Register) (embargo : ℤ) (count : ℕ) (first : Opti
 receipt_full register embargo count first none full =
     ap (λ (t : Bool). cond t (Receipt (count + 1) embargo) Full) (sym (ltb_of count register.limit full)) ∙ ap (receipt_of register embargo count) (sym none)
 
-abbrev fine_of : (register : Register) (state : List Deposit) (caller : Caller) (project bytes : List ℕ) → IsTaken register state caller project bytes → IsFine register caller project bytes
-fine_of register state caller project bytes taken = record { number = taken.number; permitted = taken.permitted; small = taken.small; clean = taken.clean }
+abbrev fine_of : (register : Register) (state : List Deposit) (caller : Caller) (project : List ℕ) (embargo : ℤ) (bytes : List ℕ) (day : ℤ) → IsTaken register state (deposit caller project embargo bytes day) → IsFine register caller project bytes
+fine_of register state caller project embargo bytes day taken = record { number = taken.0.0; permitted = taken.0.1; small = taken.1; clean = taken.2 }
 
 -- a reply that is not the receipt of a new deposit takes nothing
 untaken : (register : Register) (state : List Deposit) (caller : Caller) (project : List ℕ) (embargo : ℤ) (bytes : List ℕ) (day : ℤ) (answer : Answer) → answer ≢ Receipt (length state + 1) embargo
@@ -95,25 +98,16 @@ untaken register state caller project embargo bytes day answer other is =
     inr (
       (λ taken.
           other (reply_same register request state state (finds_itself register request state) answer (Receipt (length state + 1) embargo) is
-          (fine_reply register state caller project embargo bytes day (Receipt (length state + 1) embargo) (fine_of register state caller project bytes taken)
-          (receipt_new register embargo (length state) (first_equal 1 caller.firm project bytes state) taken.unheld taken.room)))),
+          (fine_reply register state caller project embargo bytes day (Receipt (length state + 1) embargo) (fine_of register state caller project embargo bytes day taken)
+          (receipt_new register embargo (length state) (first_equal 1 caller.firm project bytes state) taken.3 taken.4)))),
       refl,
     )
 
 refusal_other : (register : Register) (bytes : List ℕ) (n : ℕ) (e : ℤ) (answer : Answer) → IsRefusal register.given bytes answer → answer ≢ Receipt n e
 refusal_other register bytes n e answer refusal same = subst (IsRefusal register.given bytes) same refusal
 
-receipt_not_free : (register : Register) (state : List Deposit) (caller : Caller) (project : List ℕ) (embargo : ℤ) (bytes : List ℕ) (r : Answer) → IsReceipt register state caller project embargo bytes r → IsFree r → ⊥
-receipt_not_free register state caller project embargo bytes r is free =
-    receipt_never (length state) (first_equal 1 caller.firm project bytes state) (subst IsFree is free)
-  where
-    never : (t : Bool) (n : ℕ) (e : ℤ) → IsFree (cond t (Receipt n e) Full) → ⊥
-    never true n e free = free
-    never false n e free = free
-
-    receipt_never : (count : ℕ) (first : Option (ℕ × ℤ)) → IsFree (receipt_of register embargo count first) → ⊥
-    receipt_never count (Some held) free = free
-    receipt_never count None free = never (nat_lt count register.limit) (count + 1) embargo free
+receipt_needs : (register : Register) (state : List Deposit) (caller : Caller) (project : List ℕ) (embargo : ℤ) (bytes : List ℕ) → NeedsMemory (IsReceipt register state caller project embargo bytes)
+receipt_needs register state caller project embargo bytes = (receipt_asks register embargo (length state) (first_equal 1 caller.firm project bytes state)).0
 
 -- ---- the answers to a deposit
 
@@ -131,14 +125,15 @@ deposit_refused keep rules caller project embargo bytes day old answer k works p
     let register = register_at keep rules old in
     let state = keep.deposits old in
     refusal_serves keep rules (deposit caller project embargo bytes day) old answer (decided register caller project verbs.Deposit) k bytes (IsReceipt register state caller project embargo bytes) works permit refusal
-    (receipt_not_free register state caller project embargo bytes) (λ r h. h) (λ r h. h)
+    (receipt_needs register state caller project embargo bytes) (λ r h. h) (λ r h. h)
     (λ r h is. untaken register state caller project embargo bytes day r (refusal_other register bytes (length state + 1) embargo r h) is)
 
 -- the reply to a body that is permitted and not too large needs memory
-allowed_needs : (register : Register) (state : List Deposit) (caller : Caller) (project : List ℕ) (embargo : ℤ) (bytes : List ℕ) (day : ℤ) → IsAllowed register caller project bytes → NeedsMemory register state (deposit caller project embargo bytes day)
-allowed_needs register state caller project embargo bytes day allowed = λ reply is free.
-    let Stands = IsReceipt register state caller project embargo bytes in
-    small_needs (decided register caller project verbs.Deposit) allowed.number register bytes Stands reply allowed.permitted allowed.small (receipt_not_free register state caller project embargo bytes) is free
+allowed_needs : (register : Register) (state : List Deposit) (caller : Caller) (project : List ℕ) (embargo : ℤ) (bytes : List ℕ) (day : ℤ) → IsAllowed register caller project bytes
+    → NeedsMemory (IsReply register state (deposit caller project embargo bytes day))
+allowed_needs register state caller project embargo bytes day allowed =
+    small_needs (decided register caller project verbs.Deposit) allowed.number register bytes (IsReceipt register state caller project embargo bytes) allowed.permitted allowed.small
+    (receipt_needs register state caller project embargo bytes)
 
 abbrev fine_with : (register : Register) (caller : Caller) (project bytes : List ℕ) → IsAllowed register caller project bytes → AreFindings register.given bytes [] → IsFine register caller project bytes
 fine_with register caller project bytes allowed clean = record { number = allowed.number; permitted = allowed.permitted; small = allowed.small; clean = clean }
@@ -150,8 +145,8 @@ deposit_unread keep rules caller project embargo bytes day old new e allowed cle
     let register = register_at keep rules old in
     let state = keep.deposits old in
     refused_serves keep rules (deposit caller project embargo bytes day) old new e reads named (allowed_needs register state caller project embargo bytes day allowed)
-    (λ s reply is quiet. ∥∥₁_elim (clean s) (Prim.hlevel props) (λ (none : AreFindings register.given bytes []).
-    fine_asks register state caller project embargo bytes day (fine_with register caller project bytes allowed none) reply is quiet))
+    (λ s. ∥∥₁_elim (clean s) (Prim.hlevel props) (λ (none : AreFindings register.given bytes []).
+    fine_asks register state caller project embargo bytes day (fine_with register caller project bytes allowed none)))
 
 -- an equal deposit is held
 pub deposit_repeats : {K : Type 0} (keep : Ghosts K) (rules : List Rule) (caller : Caller) (project : List ℕ) (embargo : ℤ) (bytes : List ℕ) (day : ℤ) (old new : K) (n : ℕ) (e : ℤ)
@@ -164,7 +159,7 @@ deposit_repeats keep rules caller project embargo bytes day old new n e allowed 
     replies_serves keep rules (deposit caller project embargo bytes day) old new (Receipt n e) reads refl
     (λ s. ∥∥₁_map (clean s) (λ (none : AreFindings register.given bytes []).
     fine_reply register state caller project embargo bytes day (Receipt n e) (fine_with register caller project bytes allowed none) (ap (receipt_of register embargo (length state)) (sym (first s)))))
-    (λ s. inr ((λ taken. none_some (first_equal 1 caller.firm project bytes state) (n, e) taken.unheld (first s)), refl))
+    (λ s. inr ((λ taken. none_some (first_equal 1 caller.firm project bytes state) (n, e) taken.3 (first s)), refl))
     (allowed_needs register state caller project embargo bytes day allowed)
   where
     none_some : (o : Option (ℕ × ℤ)) (p : ℕ × ℤ) → o ≡ None → o ≡ Some p → ⊥
@@ -204,20 +199,13 @@ held_clean given firm project bytes state n fit found =
 abbrev pub Appends : {K : Type 0} → Ghosts K → Deposit → K → K → Result ℕ KeepError → Type 0
 Appends keep d old new result = Adds keep.deposits keep.dictionary keep.limit keep.has_failed keep.may_leave keep.may_break keep.is_sound d old new result
 
-abbrev pub asked_deposit : Caller → List ℕ → ℤ → List ℕ → Deposit
-asked_deposit caller project embargo bytes = record { firm = caller.firm; project = project; embargo = embargo; bytes = bytes }
-
-adds_asked : (caller : Caller) (project : List ℕ) (embargo : ℤ) (bytes : List ℕ) (day : ℤ) (state list : List Deposit) → list ≡ state ++ asked_deposit caller project embargo bytes ∷ [] → AddsAsked (deposit caller project embargo bytes day) state list
-unfolding AddsAsked
-adds_asked caller project embargo bytes day state list is = is
-
 may_have_left : {K : Type 0} (keep : Ghosts K) (caller : Caller) (project : List ℕ) (embargo : ℤ) (bytes : List ℕ) (day : ℤ) (old mid new : K) (result : Result ℕ KeepError)
     → OnlyReads keep old mid false → Appends keep (asked_deposit caller project embargo bytes) mid new result → keep.is_sound new → (list : List Deposit) → keep.may_leave new list
     → keep.may_leave old list ⊎ AddsAsked (deposit caller project embargo bytes day) (keep.deposits old) list
 may_have_left keep caller project embargo bytes day old mid new result reads appends s list may =
     elim (appends.crash s list may) [
       | inl was ↦ inl (reads.crash (appends.sound s) list was)
-      | inr is ↦ inr (adds_asked caller project embargo bytes day (keep.deposits old) list (is ∙ ap (λ (l : List Deposit). l ++ asked_deposit caller project embargo bytes ∷ []) (reads.same (appends.sound s) refl)))
+      | inr is ↦ inr (is ∙ ap (λ (l : List Deposit). l ++ asked_deposit caller project embargo bytes ∷ []) (reads.same (appends.sound s) refl))
     ]
 
 no_failure : (t failed : Bool) → t ≡ failed → failed ≡ false → t ≡ true → false ≡ true
@@ -250,9 +238,9 @@ deposit_added keep rules caller project embargo bytes day old mid new n fine rea
           (ap (λ (k : ℕ). Receipt k embargo) (count s) ∙ receipt_new register embargo (length state) (first_equal 1 caller.firm project bytes state) (none s) (has_room s))) ∣₁;
       kept = λ s.
           (told_after register state (keep.deposits new) request (Receipt n embargo) refl).0
-          (inl (record { number = fine.number; permitted = fine.permitted; small = fine.small; clean = fine.clean; unheld = none s; room = has_room s }, new_list s));
-      denied = λ m. owed_never register state request (Denied m) (Receipt n embargo) (λ h. asks (Denied m) h tt);
-      too_large = owed_never register state request TooLarge (Receipt n embargo) (λ h. asks TooLarge h tt);
+          (inl (((fine.number, fine.permitted), fine.small, fine.clean, none s, has_room s), new_list s));
+      denied = λ m h. absurd (asks.0.0 m h);
+      too_large = λ h. absurd (asks.0.1 h);
       crash = may_have_left keep caller project embargo bytes day old mid new (Ok n) reads appends;
       whole = λ s may. reads.whole (appends.sound s) (appends.whole s may);
     }
@@ -281,9 +269,9 @@ deposit_unadded keep rules caller project embargo bytes day old mid new errors.F
           (fine_reply register state caller project embargo bytes day Full fine (receipt_full register embargo (length state) (first_equal 1 caller.firm project bytes state) (none s) (no_room s))) ∣₁;
       kept = λ s.
           (told_after register state (keep.deposits new) request Full refl).0
-          (inr ((λ taken. omega (arith, taken.room, no_room s)), appends.refused s refl ∙ reads.same (appends.sound s) refl));
-      denied = λ m. owed_never register state request (Denied m) Full (λ h. asks (Denied m) h tt);
-      too_large = owed_never register state request TooLarge Full (λ h. asks TooLarge h tt);
+          (inr ((λ taken. omega (arith, taken.4, no_room s)), appends.refused s refl ∙ reads.same (appends.sound s) refl));
+      denied = λ m h. absurd (asks.0.0 m h);
+      too_large = λ h. absurd (asks.0.1 h);
       crash = may_have_left keep caller project embargo bytes day old mid new (Err errors.Full) reads appends;
       whole = λ s may. reads.whole (appends.sound s) (appends.whole s may);
     }
@@ -298,10 +286,10 @@ deposit_unadded keep rules caller project embargo bytes day old mid new errors.N
       same_limit = appends.same_limit ∙ reads.same_limit;
       failure = no_failure (keep.has_failed new) false appends.failing refl;
       cause = λ s. sym appends.failing;
-      answered = λ s. ∣ memory_answer register state request (asks_needs register state request asks) ∣₁;
+      answered = λ s. ∣ memory_answer register state request asks.0 ∣₁;
       kept = λ s. memory_after register state (keep.deposits new) request (appends.refused s refl ∙ reads.same (appends.sound s) refl);
-      denied = λ m. owed_never register state request (Denied m) NoMemory (λ h. asks (Denied m) h tt);
-      too_large = owed_never register state request TooLarge NoMemory (λ h. asks TooLarge h tt);
+      denied = λ m h. absurd (asks.0.0 m h);
+      too_large = λ h. absurd (asks.0.1 h);
       crash = may_have_left keep caller project embargo bytes day old mid new (Err errors.NoMemory) reads appends;
       whole = λ s may. reads.whole (appends.sound s) (appends.whole s may);
     }
@@ -318,8 +306,8 @@ deposit_unadded keep rules caller project embargo bytes day old mid new errors.S
       cause = λ s. sym appends.failing;
       answered = λ s. ∣ failed_answer register state request asks ∣₁;
       kept = λ s. failed_after register state (keep.deposits new) request;
-      denied = λ m. owed_never register state request (Denied m) StoreFailed (λ h. asks (Denied m) h tt);
-      too_large = owed_never register state request TooLarge StoreFailed (λ h. asks TooLarge h tt);
+      denied = λ m h. absurd (asks.0.0 m h);
+      too_large = λ h. absurd (asks.0.1 h);
       crash = may_have_left keep caller project embargo bytes day old mid new (Err errors.Store) reads appends;
       whole = λ s may. reads.whole (appends.sound s) (appends.whole s may);
     }

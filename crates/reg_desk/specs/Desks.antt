@@ -23,10 +23,9 @@ pub record AnsweredBy {K : Type 0} (keep : Ghosts K) (old : Desk K keep) (reques
 -- One answer for each request, in order: each request is answered so by the desk that the one before it left.
 abbrev pub AreAnsweredBy : {K : Type 0} (keep : Ghosts K) → Desk K keep → List Asked → List Answer → Desk K keep → Type 0
 AreAnsweredBy keep old [] [] new = new ≡ old
-AreAnsweredBy keep old [] (answer ∷ answers) new = ⊥
-AreAnsweredBy keep old (request ∷ requests) [] new = ⊥
 AreAnsweredBy {K} keep old (request ∷ requests) (answer ∷ answers) new =
     (next : Desk K keep) × AnsweredBy keep old request answer next × AreAnsweredBy keep next requests answers new
+AreAnsweredBy keep old _ _ new = ⊥
 
 -- where the answer is a text, it is a file without findings under the keep's dictionary
 abbrev pub IsCleanText : {K : Type 0} → Ghosts K → K → Answer → Type 0

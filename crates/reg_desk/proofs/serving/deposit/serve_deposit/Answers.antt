@@ -3,10 +3,11 @@ use Rattle.ags_dict.specs.Entries.{Entries}
 use Rattle.ags_check.specs.Findings.{Findings as AreFindings}
 use Rattle.reg_store.specs.Deposit.{number_of}
 use Rattle.reg_desk.specs.Asked.{deposit}
+use Rattle.reg_desk.specs.Machine.{asked_deposit}
 use Rattle.reg_desk.specs.Serving.{IsRefusal, Serves, register_at}
 use Rattle.reg_desk.proofs.Firsts.{none_number}
 use Rattle.reg_desk.proofs.Serves.{reads_once, still_works}
-use Rattle.reg_desk.proofs.Taking.{IsAllowed, IsFine, Appends, asked_deposit, deposit_denied, deposit_refused, deposit_unread, deposit_repeats, deposit_added, deposit_unadded, found_within, first_found, held_clean}
+use Rattle.reg_desk.proofs.Taking.{IsAllowed, IsFine, Appends, deposit_denied, deposit_refused, deposit_unread, deposit_repeats, deposit_added, deposit_unadded, found_within, first_found, held_clean}
 use Rattle.reg_desk.proofs.serving.deposit.serve_deposit.Goals as goal
 
 pub returns-in-Deny : goal.returns-in-Deny
