@@ -96,7 +96,7 @@ project_first file clean n r p of_project =
     let name : p.group.name ≡ codes "PROJ" = ap (λ (x : DataRow). x.group) p.same ∙ of_project in
     let keeps = (clean_keeps file.given file.bytes (file_of file) clean.file).0 in
     let only = (keeps.groups p.group (p.group_place, p.of_file.0, p.of_file.1)).only_rows p.place p.fields (at_contained p.group.rows p.fields (p.place, p.of_group.0, p.of_group.1)) in
-    (name, nothing_below p.place (λ lt. only.one_project (record { of_group = name; further = lt })))
+    (name, nothing_below p.place (λ lt. only.one_project (name, lt)))
 
 -- and its group stands once
 one_place : (file : CheckedFile) → IsClean file → (i j : ℕ) (g h : Contents) → IsAt (contents_of file.groups) i g → IsAt (contents_of file.groups) j h → g.name ≡ h.name → i < j → ⊥
