@@ -3,7 +3,7 @@ use Rattle.std.proofs.Common.{◌≡◌, ℕ, ◌-◌, cond, List, [], ◌∷◌
 use Rattle.std.specs.Str.{bytes_eq}
 use Rattle.ags_cells.specs.Bytes.{digit}
 use Rattle.ags_cells.specs.CellTypes.{IsListedTypeCode, IsTypeCodeOf}
-use Rattle.ags_cells.specs.Fits.{IsEntryOf, IsEntryUnder}
+use Rattle.ags_cells.specs.Fits.{IsEntryOf, IsOfTypeCode}
 use Rattle.ags_cells.specs.Laws.{OneType, FitsItsTypeCode}
 use Rattle.ags_cells.specs.declared.cell_type.CellType.{CellType}
 use Rattle.ags_cells.specs.declared.cell_type.CellType.TheVariants.{DecimalPlaces, SignificantFigures, Scientific, MoistureContent, YesNo, DegreesMinutesSeconds, DateTime, ElapsedTime, Any}
@@ -71,7 +71,7 @@ one_type code DateTime u h w = listed_type code DateTime u h w
 one_type code ElapsedTime u h w = listed_type code ElapsedTime u h w
 one_type code Any u h w = unlisted_type code u h w
 
-entry_under : (code unit text : List ℕ) (t : CellType) → IsTypeCodeOf code t → IsEntryOf t unit text → IsEntryUnder code unit text
+entry_under : (code unit text : List ℕ) (t : CellType) → IsTypeCodeOf code t → IsEntryOf t unit text → IsOfTypeCode code unit text
 entry_under code unit text t h fact =
     let P : CellType → Type 0 = λ u. IsEntryOf u unit text in
     let of : (u : CellType) → IsListedTypeCode code u → P u = λ u w. subst P (sym (listed_type code u t w h)) fact in
@@ -86,7 +86,7 @@ entry_under code unit text t h fact =
       elapsed_time = λ e. of ElapsedTime e;
     }
 
-entry_of : (code unit text : List ℕ) (t : CellType) → IsTypeCodeOf code t → IsEntryUnder code unit text → IsEntryOf t unit text
+entry_of : (code unit text : List ℕ) (t : CellType) → IsTypeCodeOf code t → IsOfTypeCode code unit text → IsEntryOf t unit text
 entry_of code unit text (DecimalPlaces n) h w = w.decimal n h.0 h.1
 entry_of code unit text (SignificantFigures n) h w = w.significant n h.0 h.1
 entry_of code unit text (Scientific n) h w = w.scientific n h.0 h.1

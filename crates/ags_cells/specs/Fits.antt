@@ -25,7 +25,7 @@ Fits cell_type unit text = (text ≡ []) ⊎ IsEntryOf cell_type unit text
 
 -- the texts under the code of a type but for the null. The unit counts for dates and times alone: hours are 00 to 23 for DT, and of
 -- two to four digits for T. A code that is not listed (ID, PA, PT, PU, X, XN, U, RL and all else) restricts nothing
-pub record IsEntryUnder (code unit text : List ℕ) : Type 0 where
+pub record IsOfTypeCode (code unit text : List ℕ) : Type 0 where
   pub decimal : (n : ℕ) → n ≤ 9 → code ≡ digit n ∷ codes "DP" → Decimal n text
   pub significant : (n : ℕ) → n ≤ 9 → code ≡ digit n ∷ codes "SF" → Significant text
   pub scientific : (n : ℕ) → n ≤ 9 → code ≡ digit n ∷ codes "SCI" → Scientific n text
@@ -37,4 +37,4 @@ pub record IsEntryUnder (code unit text : List ℕ) : Type 0 where
 
 -- the text fits, under the unit, the type whose code a TYPE row has. The null fits every type
 abbrev pub FitsTypeCode : List ℕ → List ℕ → List ℕ → Type 0
-FitsTypeCode code unit text = (text ≡ []) ⊎ IsEntryUnder code unit text
+FitsTypeCode code unit text = (text ≡ []) ⊎ IsOfTypeCode code unit text

@@ -24,13 +24,13 @@ abbrev pub IsOnlyIn : List (List ℕ) → List (List ℕ) → List ℕ → Type 
 IsOnlyIn this that heading = Contains this heading × ¬ (Contains that heading)
 
 -- both are in the order, the one before the other
-abbrev pub AreInOrder : List (List ℕ) → List ℕ → List ℕ → Type 0
-AreInOrder order one other = (first : ℕ) × (second : ℕ) × (place_in order one ≡ Some first) × (place_in order other ≡ Some second) × (first < second)
+abbrev pub StandsBefore : List (List ℕ) → List ℕ → List ℕ → Type 0
+StandsBefore order one other = (first : ℕ) × (second : ℕ) × (place_in order one ≡ Some first) × (place_in order other ≡ Some second) × (first < second)
 
 -- Rule 7: the heading is in the group's order, and an earlier heading of the row stands later in that order.
 abbrev pub IsMisplaced : List (List ℕ) → List (List ℕ) → List ℕ → Type 0
 IsMisplaced order headings heading = (place : ℕ) × (earlier : ℕ) × (other : List ℕ) × At headings place heading
-    × At headings earlier other × (earlier < place) × AreInOrder order heading other
+    × At headings earlier other × (earlier < place) × StandsBefore order heading other
 
 -- the heading begins with the group's name and a low line
 abbrev pub BeginsWithName : List ℕ → List ℕ → Type 0

@@ -3,7 +3,7 @@ use Rattle.std.specs.Prelude.{◌≡◌, ℕ, ◌<◌, ◌≤◌, List, Bool, fa
 use Rattle.ags_rows.specs.Collecting.{At}
 use Rattle.ags_rows.specs.Contents.{place_in}
 use Rattle.ags_dict.specs.Entries.{Entries, order_of, elsewhere}
-use Rattle.ags_check.specs.Header.{AreInOrder, BeginsWithName}
+use Rattle.ags_check.specs.Header.{StandsBefore, BeginsWithName}
 
 -- the later of two places
 abbrev pub later : Option ℕ → Option ℕ → Option ℕ
@@ -26,7 +26,7 @@ IsLatest rank names end (Some latest) =
 
 -- an earlier name of the list stands later in the order than this one, the name at the place
 abbrev pub IsOvertaken : List (List ℕ) → List (List ℕ) → ℕ → List ℕ → Type 0
-IsOvertaken order names place name = (earlier : ℕ) × (other : List ℕ) × (earlier < place) × At names earlier other × AreInOrder order name other
+IsOvertaken order names place name = (earlier : ℕ) × (other : List ℕ) × (earlier < place) × At names earlier other × StandsBefore order name other
 
 -- the heading is in the group's order, it is not in the order given, it is not named for the group, and no other group has it
 pub record IsMisnamedBy (given entries : Entries) (group heading : List ℕ) : Type 0 where
