@@ -23,8 +23,8 @@ IsEntryOf Types.Any unit text = Unit {0}
 abbrev pub Fits : CellType → List ℕ → List ℕ → Type 0
 Fits cell_type unit text = (text ≡ []) ⊎ IsEntryOf cell_type unit text
 
--- the texts under the code of a type but for the null. The unit counts for dates and times alone: hours are 00 to 23 for DT, and of
--- two to four digits for T. A code that is not listed (ID, PA, PT, PU, X, XN, U, RL and all else) restricts nothing
+-- Rule 8: the texts, the null apart, that fit the code of a type. The unit counts for DT and T alone: hours without a date are 00 to 23
+-- for DT, and of two to four digits for T. A code that is not listed (ID, PA, PT, PU, X, XN, U, RL and all else) restricts nothing.
 pub record IsOfTypeCode (code unit text : List ℕ) : Type 0 where
   pub decimal : (n : ℕ) → n ≤ 9 → code ≡ digit n ∷ codes "DP" → Decimal n text
   pub significant : (n : ℕ) → n ≤ 9 → code ≡ digit n ∷ codes "SF" → Significant text
@@ -35,6 +35,6 @@ pub record IsOfTypeCode (code unit text : List ℕ) : Type 0 where
   pub date_time : code ≡ codes "DT" → FitsUnit (TwoDigits 0 23) unit text
   pub elapsed_time : code ≡ codes "T" → FitsUnit (DigitsOf 2 4) unit text
 
--- the text fits, under the unit, the type whose code a TYPE row has. The null fits every type
+-- Rule 8: the text fits, under the unit, the type whose code a TYPE row has. The null fits every type.
 abbrev pub FitsTypeCode : List ℕ → List ℕ → List ℕ → Type 0
 FitsTypeCode code unit text = (text ≡ []) ⊎ IsOfTypeCode code unit text

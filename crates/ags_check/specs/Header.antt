@@ -48,6 +48,6 @@ IsMisnamed given entries group heading = Contains group.headings heading × IsOn
 abbrev pub IsFurtherRow : List ℕ → Contents → ℕ → List (List ℕ) → Type 0
 IsFurtherRow name group place fields = (group.name ≡ name) × (0 < place)
 
--- Rules 11a and 11b: the delimiter and the concatenator, in the first DATA row of TRAN, are no more than one character.
+-- Rules 11a and 11b: in the first DATA row of TRAN the entry under the heading, TRAN_DLIM or TRAN_RCON, has more than one character.
 abbrev pub IsLongSign : List ℕ → Contents → ℕ → List (List ℕ) → Type 0
 IsLongSign heading group place fields = (group.name ≡ codes "TRAN") × (place ≡ 0) × (1 < length (under group.headings fields heading))

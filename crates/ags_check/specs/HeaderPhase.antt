@@ -34,8 +34,8 @@ only_row_rules group =
     ∷ AtRow Rule14 (codes "TRAN") (IsFurtherRow (codes "TRAN") (group_contents group)) group
     ∷ []
 
--- the fourth phase's rules on one group. Rules 9 and 18: the dictionary has no entry for the group. Of such a group only this stands,
--- of the rules that ask the dictionary.
+-- the fourth phase's rules on one group. Rules 9 and 18: the dictionary has no entry for the group; then no other rule that asks the
+-- dictionary stands, since it has no parent either. Rule 10c: its parent group is not in the file.
 abbrev pub group_header_rules : Entries → Entries → List Contents → Code → Group → List (Finding → Type 0)
 group_header_rules given entries file unknown group =
     Notes group.line unknown group.name (has_group entries group.name ≡ false)

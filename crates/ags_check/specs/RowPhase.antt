@@ -23,8 +23,8 @@ unit_and_type_rules file group heading =
     ∷ Notes group.type_line Rule17 heading (IsUnlistedType file (type_over (group_contents group) heading))
     ∷ []
 
--- the rules on an entry, the text under a heading of this unit and type, at its row's line; the subject is the heading.
--- Rule 8: the entry is not null, and does not fit type and unit. Rules 15, 16 and 17: an entry of type PU, PA and PT is not listed.
+-- the rules on an entry, by its line, its heading, that heading's unit and type, and its text; the subject is the heading. Rule 8: it is
+-- not null, and does not fit type and unit. Rules 15, 16 and 17: of type PU, PA and PT, it is not listed in UNIT, ABBR and TYPE.
 abbrev pub data_entry_rules : List Contents → ℕ → List ℕ → List ℕ → List ℕ → List ℕ → List (Finding → Type 0)
 data_entry_rules file line heading unit code text =
     Notes line Rule8 heading ((text ≢ []) × ¬ (FitsTypeCode code unit text))
@@ -37,7 +37,7 @@ data_entry_rules file line heading unit code text =
 abbrev pub data_row_rules : Entries → List Contents → Group → ℕ → Row → List (Finding → Type 0)
 data_row_rules entries file group number row =
     InSome group.headings (λ heading. data_entry_rules file row.line heading
-    (unit_over (group_contents group) heading) (type_over (group_contents group) heading) (entry_of (headed_row group row) heading))
+        (unit_over (group_contents group) heading) (type_over (group_contents group) heading) (entry_of (headed_row group row) heading))
     ∷ InSome group.headings (λ heading. Notes row.line Rule11c heading (IsBrokenLink entries file (headed_row group row) heading) ∷ [])
     ∷ InSome (required_of entries group.name) (λ heading. Notes row.line Rule10b heading (entry_of (headed_row group row) heading ≡ []) ∷ [])
     ∷ Notes row.line Rule10a group.name (RepeatsKey entries file number (headed_row group row))

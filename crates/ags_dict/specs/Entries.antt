@@ -89,7 +89,7 @@ lacks_heading contents = list_any is_incomplete contents
 abbrev pub order_of : Entries → List ℕ → List (List ℕ)
 order_of entries group = map (λ e. e.heading) (filter (λ e. bytes_eq e.group group) entries.headings)
 
--- those whose status, cut at `+`, has this word, in that order
+-- the group's headings whose status, cut at `+`, has this word, in the order of the dictionary
 abbrev pub of_status : Entries → List ℕ → List ℕ → List (List ℕ)
 of_status entries group word = map (λ e. e.heading) (filter (λ e. bytes_eq e.group group && has_part plus word e.status) entries.headings)
 
@@ -113,7 +113,7 @@ elsewhere entries group heading = list_any (λ e. bytes_eq e.heading heading && 
 abbrev pub has_no_parent : List ℕ → Bool
 has_no_parent group = list_any (bytes_eq group) (codes "PROJ" ∷ codes "TRAN" ∷ codes "ABBR" ∷ codes "DICT" ∷ codes "UNIT" ∷ codes "TYPE" ∷ codes "FILE" ∷ [])
 
--- Rule 10c: the parent of a group, as its entry names it: none where that is null or `-`
+-- Rule 10c: the parent that the group's entry names: none where that is null or `-`, where there is no entry, and for the groups above
 abbrev pub parent_of : Entries → List ℕ → Option (List ℕ)
 parent_of entries group = if has_no_parent group then None else option_and_then
     (λ e. if list_any (bytes_eq e.parent) ([] ∷ codes "-" ∷ []) then None else Some e.parent) (find (λ e. bytes_eq e.group group) entries.groups)

@@ -28,11 +28,12 @@ Linked entries separators r s =
 abbrev pub IsFileRow : DataRow → DataRow → Type 0
 IsFileRow r s = (s.group ≡ codes "FILE") × (entry_of r (codes "FILE_FSET") ≢ []) × (entry_of s (codes "FILE_FSET") ≡ entry_of r (codes "FILE_FSET"))
 
--- one step from r to s: s is a parent row of r; or r is in a data group, and one of its record links names s;
--- or r is in a data group other than FILE, and s is a row of FILE with its FILE_FSET
+-- One step from r to s: s is a parent row of r (Rule 10c); or r is in a data group, and one of its record links names s (Rule 11); or r
+-- is in a data group other than FILE, and s is a row of FILE with its FILE_FSET (Rule 20).
 abbrev pub Step : Entries → Separators → DataRow → DataRow → Type 0
 Step entries separators r s = IsParentRow entries r s
-    ⊎ (((is_definition r.group ≡ false) × Linked entries separators r s) ⊎ ((is_definition r.group ≡ false) × (r.group ≢ codes "FILE") × IsFileRow r s))
+    ⊎ (((is_definition r.group ≡ false) × Linked entries separators r s)
+    ⊎ ((is_definition r.group ≡ false) × (r.group ≢ codes "FILE") × IsFileRow r s))
 
 -- row n of the file has a step to row m
 abbrev pub StepAt : DataFile → ℕ → ℕ → Type 0

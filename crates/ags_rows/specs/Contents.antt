@@ -24,7 +24,7 @@ group_contents group = record { name = group.name; headings = group.headings; un
 abbrev pub contents_of : List Group → List Contents
 contents_of groups = map group_contents groups
 
--- where a heading stands first in a HEADING row
+-- the first place of a heading in a list of headings
 abbrev pub place_in : List (List ℕ) → List ℕ → Option ℕ
 place_in headings heading = position (λ h. bytes_eq h heading) headings
 

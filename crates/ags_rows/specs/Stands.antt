@@ -27,7 +27,8 @@ IsBlank content = AllByRecursion (λ b. b ≡ space) content
 abbrev pub LacksDescriptor : List ℕ → Type 0
 LacksDescriptor content = (first : List ℕ) × (fields : List (List ℕ)) × Spells content (first ∷ fields) × ((kind : Descriptor) → first ≢ descriptor_text kind)
 
--- Rules 1, 2a, 6, 5, 3: ASCII alone; CR LF at the end; no CR within; fields spell what is not blank; the first is a descriptor.
+-- Rule 1: a byte is no ASCII. Rule 2a: the line ends with LF alone. Rule 6: a CR stands in it. Rule 5: it is not blank, has no CR, and
+-- no fields spell it. Rule 3: fields spell it, and the first is no descriptor.
 abbrev pub line_rules : ℕ → TextLine → List (Finding → Type 0)
 line_rules number line =
     Notes number Rule1 [] (Any (λ b. ascii_end ≤ b) line.content)
@@ -78,12 +79,14 @@ shape_rules group =
     ∷ Notes group.type_line Rule4 group.name (length group.types ≢ length group.headings)
     ∷ Among group.rows (λ place row. Notes row.line Rule4 group.name (length row.cells ≢ length group.headings)) ∷ []
 
--- A name of no right form; and one that stands at an earlier place of its list as well: the later place is noted, with the name as subject.
+-- A name of a list, noted at this line with the name as subject: under the code `wrong` where its form is not right, under `repeated`
+-- where it stands at an earlier place of the list as well.
 abbrev pub StandsInName : ℕ → Code → Code → (List ℕ → Bool) → List (List ℕ) → ℕ → List ℕ → Finding → Type 0
 StandsInName line wrong repeated is_name names place name =
     OneOf (Notes line wrong name (is_name name ≡ false) ∷ Notes line repeated name (IsRepeat names place name) ∷ [])
 
--- All rules of a group. Rule 19 and P1 are of its name, noted at its GROUP row; Rule 19a and P2 of each heading, noted at its HEADING row.
+-- All rules of a group: its shape; its name (Rule 19, and P1: an earlier group has it), noted at the GROUP row; each heading (Rule 19a,
+-- and P2: it stands earlier in the row), noted at the HEADING row.
 abbrev pub group_rules : List (List ℕ) → ℕ → Group → List (Finding → Type 0)
 group_rules names place group =
     OneOf (shape_rules group)

@@ -38,7 +38,7 @@ pub record Runs {K : Type 0} (keep : Ghosts K) (rules : List Rule) (old new : K)
   pub last : List Deposit
   pub answered : AreAnswers (register_at keep rules old) (keep.deposits old) requests answers last
   pub kept : failing requests answers ≡ None → keep.deposits new ≡ last
-  -- a crash may leave this list; where a request failed, also this list and the one deposit that it asked for
+  -- a crash leaves no list but `last`, or, where a request failed, `last` with the one deposit that it asked for
   pub left : (list : List Deposit) → keep.may_leave new list → (list ≡ last) ⊎ ((r : Asked) × (failing requests answers ≡ Some r) × AddsAsked r last list)
   -- a crash leaves a register of some list, so of one of these
   pub whole : keep.may_break new → ⊥

@@ -80,7 +80,7 @@ IsFirstMatch rules asked decision =
 
 -- ---- the tests of these relations, from which a decision is computed
 
--- what a rule sets is the same as what is asked; what it does not set matches all
+-- what a rule sets passes the test `same` with what is asked; what it does not set matches all
 abbrev pub is_met : {A B : Type 0} → (A → B → Bool) → Option A → B → Bool
 is_met same None asked = true
 is_met same (Some set) asked = same set asked
