@@ -35,14 +35,13 @@ data_entry_rules file line heading unit code text =
 
 -- the rules on a DATA row, by its number in the file. Rule 10b: a REQUIRED entry is null.
 abbrev pub data_row_rules : Entries → List Contents → Group → ℕ → Row → List (Finding → Type 0)
-data_row_rules entries file group number row =
-    InSome group.headings (λ heading. data_entry_rules file row.line heading
-        (unit_over (group_contents group) heading) (type_over (group_contents group) heading) (entry_of (headed_row group row) heading))
-    ∷ InSome group.headings (λ heading. Notes row.line Rule11c heading (IsBrokenLink entries file (headed_row group row) heading) ∷ [])
-    ∷ InSome (required_of entries group.name) (λ heading. Notes row.line Rule10b heading (entry_of (headed_row group row) heading ≡ []) ∷ [])
-    ∷ Notes row.line Rule10a group.name (RepeatsKey entries file number (headed_row group row))
-    ∷ Notes row.line Rule10c group.name (LacksParentRow entries file (headed_row group row))
-    ∷ Notes row.line Rule20 (codes "FILE_FSET") (IsUnlistedFileSet file (headed_row group row))
+data_row_rules entries file group number row = let contents = group_contents group in let stands = headed_row group row in
+    InSome group.headings (λ heading. data_entry_rules file row.line heading (unit_over contents heading) (type_over contents heading) (entry_of stands heading))
+    ∷ InSome group.headings (λ heading. Notes row.line Rule11c heading (IsBrokenLink entries file stands heading) ∷ [])
+    ∷ InSome (required_of entries group.name) (λ heading. Notes row.line Rule10b heading (entry_of stands heading ≡ []) ∷ [])
+    ∷ Notes row.line Rule10a group.name (RepeatsKey entries file number stands)
+    ∷ Notes row.line Rule10c group.name (LacksParentRow entries file stands)
+    ∷ Notes row.line Rule20 (codes "FILE_FSET") (IsUnlistedFileSet file stands)
     ∷ []
 
 -- the rules on one group, whose DATA rows are numbered from `first`
