@@ -187,7 +187,16 @@ def renamed():
         return [[line for line in reach.text_of(item) if "stands for" in line] for item in items]
 
 
+def heads():
+    """What a file of specs/ says of itself stands above its first definition alone; of a file of src/ nothing is added."""
+    with tempfile.TemporaryDirectory() as folder:
+        house = house_with(folder, {})
+        text = reach.part(house, "top", [reach.find_function(house, "top", "law")], set(), [])
+        return [text[text.index(line) + 2:][:2] for line in text if line.startswith(("**low**, [specs/Base", "**low**, [src/"))]
+
+
 CASES += [
+    ("what a file says of itself", heads(), [["```text", "-- The base."], ["```text", "/// A colour."]]),
     ("names that an import has renamed", renamed(), [["-- Form stands for Shape of low"], ["-- colours stands for the variants of Colour of low"]]),
     ("a law over two lines", laws(), (["HasSize", "Shape", "size"], [line for line in TRAIT.split("\n")[2:-1] if line])),
     ("a variant that there is not", variants(), "crates/low/specs/Base.antt:11: Rattle.low.specs.declared.colour.Colour.TheVariants.Blue is not found"),
