@@ -1,9 +1,10 @@
 use ags_cells::{CellType, fits};
+use std::process::Abort;
 
 /// A type's code, a unit, an entry, and whether it fits.
 type Case = (&'static str, &'static str, &'static str, bool);
 
-const NUMBERS: [Case; 33] = [
+const NUMBERS: &[Case] = &[
     ("2DP", "m", "1.5", false),
     ("2DP", "m", "1.50", true),
     ("2DP", "m", "-0.00", true),
@@ -39,7 +40,7 @@ const NUMBERS: [Case; 33] = [
     ("", "", "x", true),
 ];
 
-const TIMES: [Case; 27] = [
+const TIMES: &[Case] = &[
     ("DT", "yyyy", "0000", true),
     ("DT", "yyyy", "9999", true),
     ("DT", "yyyy", "999", false),
@@ -70,7 +71,7 @@ const TIMES: [Case; 27] = [
 ];
 
 /// The codes whose texts are restricted: the null fits each, under any unit.
-const CODES: [&str; 8] = ["2DP", "3SF", "2SCI", "MC", "YN", "DMS", "DT", "T"];
+const CODES: &[&str] = &["2DP", "3SF", "2SCI", "MC", "YN", "DMS", "DT", "T"];
 
 /// Whether an entry fits or not, as it should.
 fn is_as_wanted(case: &Case) -> bool {
@@ -85,12 +86,23 @@ fn is_null_fit(code: &str) -> bool {
         && fits(CellType::of(code.as_bytes()), b"", b"")
 }
 
-#[test]
-fn entries_fit_their_types(rt: HostRuntime) {
-    for case in NUMBERS.iter().chain(TIMES.iter()) {
+/// Asserts of each entry that it fits or not, as it should.
+fn assert_wanted(rt: &impl Abort, cases: &[Case]) {
+    for case in cases {
         assert!(rt; is_as_wanted(case));
     }
-    for code in &CODES {
+}
+
+/// Asserts of each code that the null fits its type.
+fn assert_null_fits(rt: &impl Abort, codes: &[&str]) {
+    for code in codes {
         assert!(rt; is_null_fit(code));
     }
+}
+
+#[test]
+fn entries_fit_their_types(rt: HostRuntime) {
+    assert_wanted(&rt, NUMBERS);
+    assert_wanted(&rt, TIMES);
+    assert_null_fits(&rt, CODES);
 }

@@ -185,7 +185,7 @@ fn said(alloc: Global, dictionary: &Dictionary, group: &[u8]) -> Result<Vec<u8>,
 /// A source, a group, and what is said of it.
 type Said = (Source, &'static [u8], &'static [u8]);
 
-const SAID: [Said; 11] = [
+const SAID: &[Said] = &[
     (
         Source::Mini,
         b"LNMC",
@@ -240,6 +240,13 @@ const SAID: [Said; 11] = [
     (Source::Extended, b"NEWG", b"///LOCA"),
 ];
 
+// A function that names a table carries it to each of its points, so tables are handed out by functions of their own.
+
+/// What is said of groups.
+fn said_of_groups() -> &'static [Said] {
+    SAID
+}
+
 /// Whether a dictionary says what it should.
 fn is_said(alloc: Global, said_of: &Said) -> Result<bool, DictError> {
     let (source, group, want) = said_of;
@@ -249,7 +256,7 @@ fn is_said(alloc: Global, said_of: &Said) -> Result<bool, DictError> {
 
 #[test]
 fn groups(rt: HostRuntime) -> Result<(), Fail> {
-    for said_of in &SAID {
+    for said_of in said_of_groups() {
         assert!(rt; is_said(rt.alloc(), said_of)?);
     }
     Ok(())
@@ -266,7 +273,7 @@ type Asked = (
     bool,
 );
 
-const ASKED: [Asked; 6] = [
+const ASKED: &[Asked] = &[
     (Source::Mini, b"LNMC", b"SPEC_DPTH", Some(3), true, false),
     (Source::Mini, b"LNMC", b"LNMC_MC", Some(4), true, false),
     (Source::Mini, b"SAMP", b"LOCA_ID", Some(0), true, true),
@@ -281,6 +288,11 @@ const ASKED: [Asked; 6] = [
     ),
     (Source::Extended, b"SAMP", b"LOCA_XTRA", None, true, true),
 ];
+
+/// What is asked of groups and headings.
+fn questions_asked() -> &'static [Asked] {
+    ASKED
+}
 
 /// Whether a dictionary answers what it should.
 fn is_answered(alloc: Global, asked: &Asked) -> Result<bool, DictError> {
@@ -306,7 +318,7 @@ fn has_counts(
 
 #[test]
 fn questions(rt: HostRuntime) -> Result<(), Fail> {
-    for asked in &ASKED {
+    for asked in questions_asked() {
         assert!(rt; is_answered(rt.alloc(), asked)?);
     }
     assert!(rt; has_counts(rt.alloc(), Source::Mini, 10, 38)?);
@@ -338,7 +350,7 @@ fn refusal(alloc: Global, source: Source) -> Result<String, AllocError> {
     }
 }
 
-const REFUSALS: [(Source, &str); 8] = [
+const REFUSALS: &[(Source, &str)] = &[
     (Source::File(FILE_A), "no DICT"),
     (Source::File(b""), "2 0 ;"),
     (Source::File(HEADER), "2 1 DICT;"),
@@ -364,9 +376,14 @@ const REFUSALS: [(Source, &str); 8] = [
     (Source::Replaced(b"PROJ_NAME", b"PROJ_NAM\xC3\xA9"), ""),
 ];
 
+/// Sources, and why each is no dictionary: nothing where it is one.
+fn sources() -> &'static [(Source, &'static str)] {
+    REFUSALS
+}
+
 #[test]
 fn refusals(rt: HostRuntime) -> Result<(), Fail> {
-    for (source, want) in &REFUSALS {
+    for (source, want) in sources() {
         assert!(rt; refusal(rt.alloc(), *source)?.as_str() == *want);
     }
     Ok(())

@@ -16,11 +16,11 @@ use crate::check::{check_stream, run_without_words};
 use crate::fault::{Fault, tell};
 use crate::files::{dictionary_in, read_callers, read_path, read_policy};
 use crate::refusal::Refusal;
-use crate::serving::serve;
+use crate::serving::{serve, serve_desk};
 use crate::watched::Watched;
 use crate::words::{Asker, Words, read_words};
 use ags_dict::Dictionary;
-use ags_rows::LIMIT;
+use ags_rows::{LIMIT, READABLE};
 use reg_desk::{Desk, Request};
 use reg_http::{groups_listed, number_of_deposit};
 use reg_policy::{Caller, Callers, Day, Name, NameError, Policy};
@@ -40,12 +40,42 @@ pub struct Session<'c> {
     day: Day,
 }
 
-/// What is asked of the desk.
+/// What is done with a register once it is open.
 #[derive(Drop)]
-enum Task<'t> {
-    Deposit { embargo: Day, bytes: &'t [u8] },
-    List,
-    Extract { number: u32, groups: &'t [&'t [u8]] },
+pub(crate) enum Task<'t> {
+    Deposit {
+        session: &'t Session<'t>,
+        embargo: Day,
+        bytes: &'t [u8],
+    },
+    List {
+        session: &'t Session<'t>,
+    },
+    Extract {
+        session: &'t Session<'t>,
+        number: u32,
+        groups: &'t [&'t [u8]],
+    },
+    Serve {
+        callers: &'t Callers,
+        day: Day,
+        port: u16,
+        connections: u32,
+    },
+}
+
+/// Makes an empty register at a path, and closes it. What names the type of a keep in a file is kept short: it is written out
+/// at each point of a function that holds one.
+fn create_store(
+    rt: &HostRuntime,
+    alloc: Global,
+    store: &str,
+    bytes: &[u8],
+) -> Result<(), CreateError>
+    requires { length bytes.now ≤ READABLE }
+{
+    SqlKeep::create(rt, alloc, store, bytes)?;
+    Ok(())
 }
 
 /// Makes a register.
@@ -60,8 +90,8 @@ fn init<'w, W: Write>(
     if bytes.len() > LIMIT {
         return Err(Refusal::Plain(Fault::DictionaryRefused));
     }
-    match SqlKeep::create(rt, alloc, store, &bytes) {
-        Ok(_) => Ok(tell(out, b"created\n", 0)),
+    match create_store(rt, alloc, store, &bytes) {
+        Ok(()) => Ok(tell(out, b"created\n", 0)),
         Err(CreateError::Dictionary(_)) => Err(Refusal::Plain(Fault::DictionaryRefused)),
         Err(CreateError::NotEmpty) => Err(Refusal::Plain(Fault::StoreNotEmpty)),
         Err(CreateError::Store) => Err(Refusal::Plain(Fault::StoreFailed)),
@@ -170,7 +200,7 @@ pub fn session_of<'c>(
 }
 
 /// The register in the file at a path.
-pub(crate) fn open_store<'w>(
+fn open_store<'w>(
     rt: &HostRuntime,
     alloc: Global,
     store: &'w str,
@@ -230,10 +260,11 @@ fn deposit<'w, W: Write>(
     let embargo = day_or(embargo, Some(session.day))?;
     let bytes = read_path(rt, alloc, file)?;
     let task = Task::Deposit {
+        session: &session,
         embargo,
         bytes: &bytes,
     };
-    ask_store(rt, alloc, asker.store, policy, &session, &task, out)
+    use_store(rt, alloc, asker.store, policy, &task, out)
 }
 
 /// Asks the desk to keep a file, as the one who asks. Refused only where memory for the text of its answer is wanting.
@@ -270,7 +301,8 @@ fn list<'w, W: Write>(
     let policy = read_policy(rt, alloc, asker.policy)?;
     let callers = read_callers(rt, alloc, asker.callers)?;
     let session = session_of(alloc, &callers, asker, today)?;
-    ask_store(rt, alloc, asker.store, policy, &session, &Task::List, out)
+    let task = Task::List { session: &session };
+    use_store(rt, alloc, asker.store, policy, &task, out)
 }
 
 /// Asks the desk for the deposits of a project, as the one who asks.
@@ -316,10 +348,11 @@ fn extract<'w, W: Write>(
     let groups = groups_of(alloc, groups)?;
     let number = number_of_deposit(number.as_bytes()).ok_or(Fault::NumberRefused)?;
     let task = Task::Extract {
+        session: &session,
         number,
         groups: &groups,
     };
-    ask_store(rt, alloc, asker.store, policy, &session, &task, out)
+    use_store(rt, alloc, asker.store, policy, &task, out)
 }
 
 /// Asks the desk for an extract, as the one who asks.
@@ -345,54 +378,64 @@ fn ask_extract<'w, K: Keep, W: Write>(
     ask_desk(alloc, desk, &request, out)
 }
 
-/// Asks the desk of the register in the file at a path, as the one who asks.
-fn ask_store<'w, W: Write>(
+/// Opens the register in the file at a path, and does with it what is asked. Each command that opens one comes here: a keep is
+/// shown to be one at length where its type is named, so that is once over the store of a file, and once over any store.
+pub(crate) fn use_store<'w, W: Write>(
     rt: &HostRuntime,
     alloc: Global,
     store: &'w str,
     policy: Policy,
-    session: &Session<'_>,
     task: &Task<'_>,
     out: &mut Watched<W>,
 ) -> Result<u8, Refusal<'w>> {
     let keep = open_store(rt, alloc, store)?;
-    ask_tables(alloc, keep, policy, session, task, out)
+    use_tables(rt, alloc, keep, policy, task, out)
 }
 
-/// Asks the desk of a keep in tables, of any store: named over the one of a file, `SqlKeep` would have to be shown to be a keep at length.
-fn ask_tables<'w, S: Alter + Drop, W: Write>(
+/// Does what is asked with a keep in tables, of any store.
+fn use_tables<'w, S: Alter + Drop, W: Write>(
+    rt: &HostRuntime,
     alloc: Global,
     keep: SqlKeep<S>,
     policy: Policy,
-    session: &Session<'_>,
     task: &Task<'_>,
     out: &mut Watched<W>,
 ) -> Result<u8, Refusal<'w>>
     requires { keep.has_failed ≡ false }
 {
-    ask_keep(alloc, keep, policy, session, task, out)
+    use_keep(rt, alloc, keep, policy, task, out)
 }
 
-/// Asks the desk of a keep. What speaks of the keep stands here, for any keep: over one in tables it would be proved at each place anew.
-fn ask_keep<'w, K: Keep + Drop, W: Write>(
+/// Does what is asked with a keep.
+fn use_keep<'w, K: Keep + Drop, W: Write>(
+    rt: &HostRuntime,
     alloc: Global,
     keep: K,
     policy: Policy,
-    session: &Session<'_>,
     task: &Task<'_>,
     out: &mut Watched<W>,
 ) -> Result<u8, Refusal<'w>>
     requires { K.has_failed keep ≡ false }
 {
-    let mut desk = Desk::new(keep, policy);
+    let desk = &mut Desk::new(keep, policy);
     match task {
-        Task::Deposit { embargo, bytes } => {
-            ask_deposit(alloc, &mut desk, session, *embargo, bytes, out)
-        }
-        Task::List => ask_list(alloc, &mut desk, session, out),
-        Task::Extract { number, groups } => {
-            ask_extract(alloc, &mut desk, session, *number, groups, out)
-        }
+        Task::Deposit {
+            session,
+            embargo,
+            bytes,
+        } => ask_deposit(alloc, desk, session, *embargo, bytes, out),
+        Task::List { session } => ask_list(alloc, desk, session, out),
+        Task::Extract {
+            session,
+            number,
+            groups,
+        } => ask_extract(alloc, desk, session, *number, groups, out),
+        Task::Serve {
+            callers,
+            day,
+            port,
+            connections,
+        } => serve_desk(rt, alloc, desk, callers, *day, *port, *connections, out),
     }
 }
 

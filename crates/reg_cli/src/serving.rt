@@ -1,8 +1,6 @@
 //! A register that is served over connections.
 
-ghost use Rattle.std.specs.Prelude.{◌≡◌, false};
-
-use crate::commands::{day_or, open_store};
+use crate::commands::{Task, day_or, use_store};
 use crate::fault::Fault;
 use crate::files::{read_callers, read_policy};
 use crate::refusal::Refusal;
@@ -11,9 +9,8 @@ use crate::words::Service;
 use itoa::Buffer;
 use reg_desk::Desk;
 use reg_http::{Tally, serve_one};
-use reg_policy::{Callers, Day, Policy};
-use reg_store::{Keep, SqlKeep};
-use sqlite::Alter;
+use reg_policy::{Callers, Day};
+use reg_store::Keep;
 use std::alloc::Global;
 use std::io::Write;
 use std::net::{Shutdown, TcpListener, TcpStream};
@@ -91,53 +88,31 @@ pub(crate) fn serve<'w, W: Write>(
     let policy = read_policy(rt, alloc, service.policy)?;
     let callers = read_callers(rt, alloc, service.callers)?;
     let day = day_or(service.day, today)?;
-    let keep = open_store(rt, alloc, service.store)?;
-    serve_tables(rt, alloc, keep, policy, &callers, day, service, out)
+    let task = Task::Serve {
+        callers: &callers,
+        day,
+        port: service.port,
+        connections: service.connections,
+    };
+    use_store(rt, alloc, service.store, policy, &task, out)
 }
 
-/// Serves from a keep in tables, of any store: named over the one of a file, `SqlKeep` would have to be shown to be a keep at length.
-fn serve_tables<'w, S: Alter + Drop, W: Write>(
+/// Listens at a port, and serves so many connections over a desk.
+pub(crate) fn serve_desk<'w, K: Keep, W: Write>(
     rt: &HostRuntime,
     alloc: Global,
-    keep: SqlKeep<S>,
-    policy: Policy,
+    desk: &mut Desk<K>,
     callers: &Callers,
     day: Day,
-    service: &Service<'w>,
+    port: u16,
+    connections: u32,
     out: &mut Watched<W>,
-) -> Result<u8, Refusal<'w>>
-    requires { keep.has_failed ≡ false }
-{
-    serve_keep(rt, alloc, keep, policy, callers, day, service, out)
-}
-
-/// Listens, and serves from a keep.
-fn serve_keep<'w, K: Keep + Drop, W: Write>(
-    rt: &HostRuntime,
-    alloc: Global,
-    keep: K,
-    policy: Policy,
-    callers: &Callers,
-    day: Day,
-    service: &Service<'w>,
-    out: &mut Watched<W>,
-) -> Result<u8, Refusal<'w>>
-    requires { K.has_failed keep ≡ false }
-{
-    let mut desk = Desk::new(keep, policy);
-    let Ok(listener) = TcpListener::bind(rt, ("127.0.0.1", service.port)) else {
+) -> Result<u8, Refusal<'w>> {
+    let Ok(listener) = TcpListener::bind(rt, ("127.0.0.1", port)) else {
         return Err(Refusal::CannotListen);
     };
-    if print_port(out, service.port).is_err() {
+    if print_port(out, port).is_err() {
         return Ok(Fault::Stream.status());
     }
-    Ok(serve_on(
-        alloc,
-        &listener,
-        &mut desk,
-        callers,
-        day,
-        service.connections,
-        out,
-    ))
+    Ok(serve_on(alloc, &listener, desk, callers, day, connections, out))
 }

@@ -2,7 +2,8 @@
 
 use crate::tests::{Base, Case, Edit};
 
-pub const CASES: &[Case] = &[
+/// Groups and headings that a dictionary has, and that none has.
+const UNKNOWN: &[Case] = &[
     Case {
         name: "a file of five groups",
         file: Base::A,
@@ -78,6 +79,10 @@ pub const CASES: &[Case] = &[
         }],
         want: "9 27 LOCA_XTRA;",
     },
+];
+
+/// Headings in another's place, and those that a file defines.
+const ORDERS: &[Case] = &[
     Case {
         name: "an unknown heading in place of the KEY heading",
         file: Base::A,
@@ -138,6 +143,10 @@ pub const CASES: &[Case] = &[
         }],
         want: "clean",
     },
+];
+
+/// Groups that a file needs, and their rows; the phases before come first.
+const NEEDED: &[Case] = &[
     Case {
         name: "no group LOCA over SAMP",
         file: Base::B,
@@ -232,3 +241,21 @@ pub const CASES: &[Case] = &[
         want: "2 0 -;",
     },
 ];
+
+// A function that names a table carries it to each of its points, and a long table costs more than its parts: so tables
+// are short, and are handed out by functions of their own.
+
+/// The cases of unknown groups and headings.
+pub fn unknown() -> &'static [Case] {
+    UNKNOWN
+}
+
+/// The cases of headings in another's place.
+pub fn orders() -> &'static [Case] {
+    ORDERS
+}
+
+/// The cases of groups that a file needs.
+pub fn needed() -> &'static [Case] {
+    NEEDED
+}

@@ -2,7 +2,8 @@
 
 use crate::tests::{Base, Case, Edit};
 
-pub const CASES: &[Case] = &[
+/// Entries under their types, and keys.
+const KEYS: &[Case] = &[
     Case {
         name: "a mark, spaces, a quote in a cell and no line end at the end",
         file: Base::A,
@@ -95,6 +96,10 @@ pub const CASES: &[Case] = &[
         }],
         want: "10b 30 LOCA_ID;",
     },
+];
+
+/// Units, types and abbreviations, which a file lists.
+const LISTED: &[Case] = &[
     Case {
         name: "a unit that is not listed",
         file: Base::A,
@@ -200,6 +205,10 @@ pub const CASES: &[Case] = &[
         ],
         want: "clean",
     },
+];
+
+/// Record links and file sets.
+const LINKS: &[Case] = &[
     Case {
         name: "a record link to no row",
         file: Base::C,
@@ -271,3 +280,21 @@ pub const CASES: &[Case] = &[
         want: "clean",
     },
 ];
+
+// A function that names a table carries it to each of its points, and a long table costs more than its parts: so tables
+// are short, and are handed out by functions of their own.
+
+/// The cases of entries and keys.
+pub fn keys() -> &'static [Case] {
+    KEYS
+}
+
+/// The cases of what a file lists.
+pub fn listed() -> &'static [Case] {
+    LISTED
+}
+
+/// The cases of record links and file sets.
+pub fn links() -> &'static [Case] {
+    LINKS
+}

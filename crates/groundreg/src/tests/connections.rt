@@ -1,5 +1,7 @@
 //! Connections that are served, over loopback.
 
+ghost use Rattle.std.specs.Prelude.{◌≡◌, false};
+
 use super::failing_after;
 use super::runs::{answers, enter, leave};
 use ags_rows::vectors::{FILE_A, MINI};
@@ -7,8 +9,8 @@ use reg_cli::{Watched, serve_on};
 use reg_desk::Desk;
 use reg_policy::vectors::{CALLERS, POLICY};
 use reg_policy::{Callers, Day, Policy};
-use reg_store::SqlKeep;
-use sqlite::MemStore;
+use reg_store::{Keep, SqlKeep};
+use sqlite::Alter;
 use std::alloc::Global;
 use std::io;
 use std::io::{Read, Write};
@@ -121,6 +123,12 @@ const CASES: [Case; 3] = [
     },
 ];
 
+/// The cases. A function that names a table carries it to each of its points, so tables are handed out by functions of
+/// their own.
+fn cases() -> &'static [Case] {
+    &CASES
+}
+
 /// A listener that waits for a connection, or does not.
 fn listening(rt: &HostRuntime, waits: bool) -> io::Result<TcpListener> {
     let listener = TcpListener::bind(rt, "127.0.0.1:0")?;
@@ -177,13 +185,6 @@ fn all_replied(alloc: Global, streams: &[TcpStream], peers: &[Peer]) -> io::Resu
     Ok(true)
 }
 
-/// A desk over an empty register in memory.
-fn new_desk(alloc: Global) -> Result<Desk<SqlKeep<MemStore>>, Fail> {
-    let policy = Policy::read(alloc, POLICY)?;
-    let keep = SqlKeep::in_memory(alloc, MINI)?;
-    Ok(Desk::new(keep, policy))
-}
-
 /// Serves so many connections on 2024-05-01, over an empty register in memory: the status of the run.
 fn serve_some<W: Write>(
     alloc: Global,
@@ -191,9 +192,37 @@ fn serve_some<W: Write>(
     count: u32,
     out: &mut W,
 ) -> Result<u8, Fail> {
+    let keep = SqlKeep::in_memory(alloc, MINI)?;
+    serve_tables(alloc, listener, keep, count, out)
+}
+
+/// Serves from a keep in tables, of any store: named over the one in memory, `SqlKeep` would have to be shown to be a keep
+/// at length.
+fn serve_tables<S: Alter + Drop, W: Write>(
+    alloc: Global,
+    listener: &TcpListener,
+    keep: SqlKeep<S>,
+    count: u32,
+    out: &mut W,
+) -> Result<u8, Fail>
+    requires { keep.has_failed ≡ false }
+{
+    serve_keep(alloc, listener, keep, count, out)
+}
+
+/// Serves so many connections on 2024-05-01 from a keep: the status of the run.
+fn serve_keep<K: Keep + Drop, W: Write>(
+    alloc: Global,
+    listener: &TcpListener,
+    keep: K,
+    count: u32,
+    out: &mut W,
+) -> Result<u8, Fail>
+    requires { K.has_failed keep ≡ false }
+{
     let day = Day::read("2024-05-01").ok_or("day")?;
     let callers = Callers::read(alloc, CALLERS)?;
-    let mut desk = new_desk(alloc)?;
+    let mut desk = Desk::new(keep, Policy::read(alloc, POLICY)?);
     let out = &mut Watched::new(out);
     Ok(serve_on(alloc, listener, &mut desk, &callers, day, count, out))
 }
@@ -217,7 +246,7 @@ fn is_served(rt: &HostRuntime, case: &Case) -> Result<bool, Fail> {
 
 #[test]
 fn connections_are_served(rt: HostRuntime) -> Result<(), Fail> {
-    for case in &CASES {
+    for case in cases() {
         assert!(rt; is_served(&rt, case)?);
     }
     Ok(())
@@ -248,6 +277,11 @@ const BEFORE: [(&str, &str); 3] = [
     ("|--day=1", "4 ! day refused"),
 ];
 
+/// More words, and what `serve` with them says of a port that is taken, before there is a register.
+fn before() -> &'static [(&'static str, &'static str)] {
+    &BEFORE
+}
+
 /// Whether `serve` at a port, with more words behind it, answers so.
 fn serves(rt: &HostRuntime, port: u16, more: &str, want: &str) -> Result<bool, Fail> {
     let words = format!(in rt.alloc(); "serve|&|--port={port}|--connections=1{more}")?;
@@ -259,7 +293,7 @@ fn a_port_that_is_taken(rt: HostRuntime) -> Result<(), Fail> {
     enter(&rt, "a_port_that_is_taken")?;
     let listener = listening(&rt, true)?;
     let port = listener.local_addr()?.port();
-    for (more, want) in &BEFORE {
+    for (more, want) in before() {
         assert!(rt; serves(&rt, port, more, want)?);
     }
     assert!(rt; answers(&rt, "init|--store=s|--dictionary=mini", "0 created")?);

@@ -72,6 +72,27 @@ const LAST: [&str; 3] = [
     "init|--store=empty|--dictionary=mini => 0 created",
 ];
 
+/// The commands that open a register. A function that names a table carries it to each of its points, so tables are handed
+/// out by functions of their own.
+fn commands() -> &'static [&'static str] {
+    &COMMANDS
+}
+
+/// The rows that run first.
+fn first() -> &'static [&'static str] {
+    &FIRST
+}
+
+/// The stores, each with its statement, and what each command says of it then.
+fn stores() -> &'static [(&'static str, &'static str, &'static str)] {
+    &STORES
+}
+
+/// The rows that run last.
+fn last() -> &'static [&'static str] {
+    &LAST
+}
+
 /// Runs a statement on the database in a file, if there is one.
 fn change(rt: &HostRuntime, path: &str, statement: &str) -> Result<(), Fail> {
     if statement.is_empty() {
@@ -84,7 +105,7 @@ fn change(rt: &HostRuntime, path: &str, statement: &str) -> Result<(), Fail> {
 
 /// Whether each command that opens a register answers so of a store.
 fn each_says(rt: &HostRuntime, store: &str, want: &str) -> Result<bool, Fail> {
-    for command in &COMMANDS {
+    for command in commands() {
         let words = format!(in rt.alloc(); "{command}|--store={store}")?;
         if !answers(rt, &words, want)? {
             return Ok(false);
@@ -96,12 +117,12 @@ fn each_says(rt: &HostRuntime, store: &str, want: &str) -> Result<bool, Fail> {
 #[test]
 fn stores_that_are_no_register(rt: HostRuntime) -> Result<(), Fail> {
     enter(&rt, "stores_that_are_no_register")?;
-    hold(&rt, &FIRST)?;
-    for (store, statement, want) in &STORES {
+    hold(&rt, first())?;
+    for (store, statement, want) in stores() {
         change(&rt, store, statement)?;
         assert!(rt; each_says(&rt, store, want)?);
     }
-    hold(&rt, &LAST)?;
+    hold(&rt, last())?;
     // Asking for a register that is not there makes no file.
     assert!(rt; !fs::exists(&rt, "gone")?);
     leave(&rt, "stores_that_are_no_register")?;

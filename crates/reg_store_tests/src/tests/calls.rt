@@ -1,16 +1,17 @@
 //! The calls that are asked in turn, over each keep.
 
-ghost use Rattle.std.specs.Prelude.{◌<◌, ◌≤◌};
+ghost use Rattle.std.specs.Prelude.{◌<◌, ◌≡◌, ◌≤◌, false};
 
 use super::files::File;
 use super::{Call, Case, SAME, compared};
 use ags_dict::Dictionary;
 use ags_rows::vectors::MINI;
 use reg_store::{KeepError, PlainKeep, SqlKeep};
+use sqlite::Alter;
 use std::alloc::Global;
 use std::test::Fail;
 
-const CASES: [Case; 21] = [
+static CASES: [Case; 21] = [
     Case {
         call: Call::Sizes,
         want: "0 of 999999, 10 and 38 entries",
@@ -99,7 +100,7 @@ const CASES: [Case; 21] = [
     },
 ];
 
-const FULL: [Case; 4] = [
+static FULL: [Case; 4] = [
     Case {
         call: Call::Take("Delta", "N1", File::A),
         want: "1",
@@ -135,7 +136,7 @@ const PROJECT_OF_OTHER_A: &str =
     "0 \"HEADING\",\"PROJ_ID\",\"PROJ_NAME\" \"DATA\",\"P7\",\"Forth bank\"";
 
 /// What is asked twice, of another deposit, and behind one that was added.
-const AGAIN: [Case; 39] = [
+static AGAIN: [Case; 39] = [
     Case {
         call: Call::Take("Delta", "N1", File::B),
         want: "1",
@@ -312,10 +313,21 @@ fn in_memory(alloc: Global, limit: u32, cases: &[Case]) -> Result<&'static str, 
     }
 }
 
+/// The calls over the tables of a database, of any store: `SqlKeep` is shown to be a keep here, and not at each store at length.
+fn over_tables<S: Alter + Drop>(
+    alloc: Global,
+    mut keep: SqlKeep<S>,
+    cases: &[Case],
+) -> Result<&'static str, KeepError>
+    requires { keep.has_failed ≡ false }
+{
+    compared(alloc, &mut keep, cases)
+}
+
 /// The calls over the tables of a database in memory.
 fn in_tables(alloc: Global, cases: &[Case]) -> Result<&'static str, KeepError> {
     match SqlKeep::in_memory(alloc, MINI) {
-        Ok(mut keep) => compared(alloc, &mut keep, cases),
+        Ok(keep) => over_tables(alloc, keep, cases),
         Err(_) => Err(KeepError::Store),
     }
 }

@@ -1,6 +1,6 @@
 //! Registers that are made, closed and found again, and registers whose tables were changed.
 
-ghost use Rattle.std.specs.Prelude.{◌≡◌, ◌≤◌, false, length};
+ghost use Rattle.std.specs.Prelude.{◌≡◌, false, IfOk, IfSome};
 
 use crate::tests::{take_named, tell_deposit};
 use ags_dict::DictError;
@@ -21,7 +21,7 @@ struct Case {
     want: &'static str,
 }
 
-const CASES: [Case; 13] = [
+static CASES: [Case; 13] = [
     Case {
         file: FILE_A,
         change: "",
@@ -92,7 +92,7 @@ const CASES: [Case; 13] = [
 ];
 
 // Whatever its other tables are, the number comes before what is wrong with them.
-const DAMAGED: [Case; 3] = [
+static DAMAGED: [Case; 3] = [
     Case {
         file: FILE_A,
         change: "UPDATE deposits SET body = x''; UPDATE meta SET num = 7 WHERE name = 'format'",
@@ -110,13 +110,24 @@ const DAMAGED: [Case; 3] = [
     },
 ];
 
-/// The connection of a register that holds one file.
+/// The connection of a register that holds one file, which it takes as its first.
+fn filled<S: Alter + Drop>(
+    alloc: Global,
+    mut keep: SqlKeep<S>,
+    bytes: &[u8],
+) -> Option<Connection<S>>
+    requires { keep.has_failed ≡ false }
+{
+    match take_named(alloc, &mut keep, "Delta", "N1", bytes) {
+        Ok(1) => Some(keep.into_connection()),
+        _ => None,
+    }
+}
+
+/// The connection of a new register that holds one file.
 fn taken_apart(alloc: Global, bytes: &[u8]) -> Option<Connection<MemStore>> {
     match SqlKeep::in_memory(alloc, MINI) {
-        Ok(mut keep) => match take_named(alloc, &mut keep, "Delta", "N1", bytes) {
-            Ok(1) => Some(keep.into_connection()),
-            _ => None,
-        },
+        Ok(keep) => filled(alloc, keep, bytes),
         Err(_) => None,
     }
 }
@@ -262,7 +273,7 @@ struct Visit {
 
 const FOLDER: &str = "reg_store_test";
 
-const VISITS: [Visit; 5] = [
+static VISITS: [Visit; 5] = [
     Visit {
         path: "reg_store_test/a.db",
         act: Act::Create(MINI),
@@ -299,47 +310,70 @@ fn tell_made(refused: &CreateError, told: &mut String) -> Result<(), AllocError>
     write!(told, "{refused}")
 }
 
-fn tell_create(
+/// The register that is made or opened at a path; none where that is refused, which is told. Here alone, and in `tell_visit`, stands the
+/// type of a keep in a file: it is written out at each point of a function that holds one.
+fn visited(
     rt: &HostRuntime,
-    path: &str,
-    bytes: &[u8],
+    visit: &Visit,
     told: &mut String,
-) -> Result<(), KeepError>
-    requires { length bytes.now ≤ READABLE }
+) -> Result<Option<SqlKeep<FileStore<File>>>, AllocError>
+    ensures { IfOk result (λ visited. IfSome visited (λ keep. keep.has_failed ≡ false)) }
 {
-    match SqlKeep::create(rt, rt.alloc(), path, bytes) {
-        Ok(mut keep) => {
-            let number = take_named(rt.alloc(), &mut keep, "Delta", "N1", FILE_A)?;
-            write!(told, "{number}")?;
-            if is_closed(keep.into_connection()) {
-                Ok(())
-            } else {
-                Err(KeepError::Store)
+    match visit.act {
+        Act::Create(bytes) if bytes.len() <= READABLE => {
+            match SqlKeep::create(rt, rt.alloc(), visit.path, bytes) {
+                Ok(keep) => return Ok(Some(keep)),
+                Err(refused) => tell_made(&refused, told)?,
             }
         }
-        Err(refused) => Ok(tell_made(&refused, told)?),
+        Act::Create(_) => {}
+        Act::Open => match SqlKeep::open(rt, rt.alloc(), visit.path) {
+            Ok(keep) => return Ok(Some(keep)),
+            Err(refused) => tell_refused(refused, told)?,
+        },
+    }
+    Ok(None)
+}
+
+/// What a register answers: one that was made takes A, and of one that was opened the first deposit is read.
+fn tell_act<K: Keep>(
+    alloc: Global,
+    keep: &mut K,
+    act: Act,
+    told: &mut String,
+) -> Result<(), KeepError>
+    requires { K.has_failed keep.old ≡ false }
+{
+    match act {
+        Act::Create(_) => {
+            let number = take_named(alloc, keep, "Delta", "N1", FILE_A)?;
+            Ok(write!(told, "{number}")?)
+        }
+        Act::Open => tell_deposit(keep, 1, told),
     }
 }
 
-fn tell_open(rt: &HostRuntime, path: &str, told: &mut String) -> Result<(), KeepError> {
-    match SqlKeep::open(rt, rt.alloc(), path) {
-        Ok(mut keep) => {
-            tell_deposit(&mut keep, 1, told)?;
-            if is_closed(keep.into_connection()) {
-                Ok(())
-            } else {
-                Err(KeepError::Store)
-            }
-        }
-        Err(refused) => Ok(tell_refused(refused, told)?),
-    }
+/// What a register in tables answers, and its connection.
+fn tell_tables<S: Alter + Drop>(
+    alloc: Global,
+    mut keep: SqlKeep<S>,
+    act: Act,
+    told: &mut String,
+) -> Result<Connection<S>, KeepError>
+    requires { keep.has_failed ≡ false }
+{
+    tell_act(alloc, &mut keep, act, told)?;
+    Ok(keep.into_connection())
 }
 
 fn tell_visit(rt: &HostRuntime, visit: &Visit, told: &mut String) -> Result<(), KeepError> {
-    match visit.act {
-        Act::Create(bytes) if bytes.len() <= READABLE => tell_create(rt, visit.path, bytes, told),
-        Act::Create(_) => Ok(()),
-        Act::Open => tell_open(rt, visit.path, told),
+    let Some(keep) = visited(rt, visit, told)? else {
+        return Ok(());
+    };
+    if is_closed(tell_tables(rt.alloc(), keep, visit.act, told)?) {
+        Ok(())
+    } else {
+        Err(KeepError::Store)
     }
 }
 
