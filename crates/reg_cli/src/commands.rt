@@ -14,7 +14,7 @@ ghost use Rattle.reg_cli.specs.Streams.{has_failed, inner_of};
 use crate::answers::answer_report;
 use crate::check::{check_stream, run_without_words};
 use crate::fault::{Fault, tell};
-use crate::files::{dictionary_in, read_callers, read_path, read_policy};
+use crate::files::{dictionary_in, read_path, read_rights};
 use crate::refusal::Refusal;
 use crate::serving::{serve, serve_desk};
 use crate::watched::Watched;
@@ -254,8 +254,7 @@ fn deposit<'w, W: Write>(
     today: Option<Day>,
     out: &mut Watched<W>,
 ) -> Result<u8, Refusal<'w>> {
-    let policy = read_policy(rt, alloc, asker.policy)?;
-    let callers = read_callers(rt, alloc, asker.callers)?;
+    let (policy, callers) = read_rights(rt, alloc, asker.policy, asker.callers)?;
     let session = session_of(alloc, &callers, asker, today)?;
     let embargo = day_or(embargo, Some(session.day))?;
     let bytes = read_path(rt, alloc, file)?;
@@ -298,8 +297,7 @@ fn list<'w, W: Write>(
     today: Option<Day>,
     out: &mut Watched<W>,
 ) -> Result<u8, Refusal<'w>> {
-    let policy = read_policy(rt, alloc, asker.policy)?;
-    let callers = read_callers(rt, alloc, asker.callers)?;
+    let (policy, callers) = read_rights(rt, alloc, asker.policy, asker.callers)?;
     let session = session_of(alloc, &callers, asker, today)?;
     let task = Task::List { session: &session };
     use_store(rt, alloc, asker.store, policy, &task, out)
@@ -342,8 +340,7 @@ fn extract<'w, W: Write>(
     today: Option<Day>,
     out: &mut Watched<W>,
 ) -> Result<u8, Refusal<'w>> {
-    let policy = read_policy(rt, alloc, asker.policy)?;
-    let callers = read_callers(rt, alloc, asker.callers)?;
+    let (policy, callers) = read_rights(rt, alloc, asker.policy, asker.callers)?;
     let session = session_of(alloc, &callers, asker, today)?;
     let groups = groups_of(alloc, groups)?;
     let number = number_of_deposit(number.as_bytes()).ok_or(Fault::NumberRefused)?;

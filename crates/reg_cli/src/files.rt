@@ -93,21 +93,28 @@ pub(crate) fn dictionary_in(alloc: Global, bytes: &[u8]) -> Result<Dictionary, F
 }
 
 /// The policy in the file at a path.
-pub(crate) fn read_policy<'w>(
-    rt: &HostRuntime,
-    alloc: Global,
-    path: &'w str,
-) -> Result<Policy, Refusal<'w>> {
+fn read_policy<'w>(rt: &HostRuntime, alloc: Global, path: &'w str) -> Result<Policy, Refusal<'w>> {
     let bytes = read_path(rt, alloc, path)?;
     Ok(policy_in(alloc, &bytes)?)
 }
 
 /// The callers in the file at a path.
-pub(crate) fn read_callers<'w>(
+fn read_callers<'w>(
     rt: &HostRuntime,
     alloc: Global,
     path: &'w str,
 ) -> Result<Callers, Refusal<'w>> {
     let bytes = read_path(rt, alloc, path)?;
     Ok(callers_in(alloc, &bytes)?)
+}
+
+/// The policy and the callers in the files at two paths.
+pub(crate) fn read_rights<'w>(
+    rt: &HostRuntime,
+    alloc: Global,
+    policy: &'w str,
+    callers: &'w str,
+) -> Result<(Policy, Callers), Refusal<'w>> {
+    let policy = read_policy(rt, alloc, policy)?;
+    Ok((policy, read_callers(rt, alloc, callers)?))
 }

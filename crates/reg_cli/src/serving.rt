@@ -2,7 +2,7 @@
 
 use crate::commands::{Task, day_or, use_store};
 use crate::fault::Fault;
-use crate::files::{read_callers, read_policy};
+use crate::files::read_rights;
 use crate::refusal::Refusal;
 use crate::watched::{StreamFailed, Watched};
 use crate::words::Service;
@@ -85,8 +85,7 @@ pub(crate) fn serve<'w, W: Write>(
     today: Option<Day>,
     out: &mut Watched<W>,
 ) -> Result<u8, Refusal<'w>> {
-    let policy = read_policy(rt, alloc, service.policy)?;
-    let callers = read_callers(rt, alloc, service.callers)?;
+    let (policy, callers) = read_rights(rt, alloc, service.policy, service.callers)?;
     let day = day_or(service.day, today)?;
     let task = Task::Serve {
         callers: &callers,

@@ -111,20 +111,26 @@ fn serve_command<'w>(alloc: Global) -> Result<Command<'w>, AllocError> {
     command(alloc, "serve", &names)?.arg(option(alloc, "day"))
 }
 
+/// Adds the commands that open a register.
+fn with_asking<'w>(alloc: Global, program: Command<'w>) -> Result<Command<'w>, AllocError> {
+    program
+        .subcommand(deposit_command(alloc)?)?
+        .subcommand(extract_command(alloc)?)?
+        .subcommand(asking(alloc, "list")?)?
+        .subcommand(serve_command(alloc)?)
+}
+
 /// All commands.
 fn commands<'w>(alloc: Global) -> Result<Command<'w>, AllocError> {
     let check = command(alloc, "check", &["dictionary"])?;
-    Command::new(alloc, "groundreg")
+    let program = Command::new(alloc, "groundreg")
         .disable_help_flag(true)
         .disable_version_flag(true)
         .disable_help_subcommand(true)
         .subcommand_required(true)
         .subcommand(command(alloc, "init", &["store", "dictionary"])?)?
-        .subcommand(with_word(alloc, check, "file")?)?
-        .subcommand(deposit_command(alloc)?)?
-        .subcommand(extract_command(alloc)?)?
-        .subcommand(asking(alloc, "list")?)?
-        .subcommand(serve_command(alloc)?)
+        .subcommand(with_word(alloc, check, "file")?)?;
+    with_asking(alloc, program)
 }
 
 /// The text that is given under a name.
@@ -195,13 +201,18 @@ fn words_of<'w>(name: &str, given: &ArgMatches<'w>) -> Result<Words<'w>, Fault> 
     }
 }
 
-/// What the words ask, of which the first is the program's name. A request for help is refused as well.
+/// What the words give to a command. A request for help is refused as well.
+fn given_by<'w, S: AsStr>(alloc: Global, words: &'w [S]) -> Result<ArgMatches<'w>, Fault> {
+    match commands(alloc)?.try_get_matches_from(words) {
+        Ok(matches) => Ok(matches),
+        Err(error) if error.kind() == ErrorKind::OutOfMemory => Err(Fault::NoMemory),
+        Err(_) => Err(Fault::WordsRefused),
+    }
+}
+
+/// What the words ask, of which the first is the program's name.
 pub(crate) fn read_words<'w, S: AsStr>(alloc: Global, words: &'w [S]) -> Result<Words<'w>, Fault> {
-    let matches = match commands(alloc)?.try_get_matches_from(words) {
-        Ok(matches) => matches,
-        Err(error) if error.kind() == ErrorKind::OutOfMemory => return Err(Fault::NoMemory),
-        Err(_) => return Err(Fault::WordsRefused),
-    };
+    let matches = given_by(alloc, words)?;
     match matches.subcommand() {
         Some((name, given)) => words_of(name, given),
         None => Err(Fault::WordsRefused),

@@ -1,7 +1,7 @@
 //! Stores that hold no register, or one of another format.
 
 use super::runs::{answers, enter, hold, leave};
-use sqlite::{Connection, params};
+use sqlite::{Alter, Connection, params};
 use std::fs;
 use std::test::Fail;
 
@@ -93,14 +93,23 @@ fn last() -> &'static [&'static str] {
     &LAST
 }
 
+/// Runs a statement on a database of any store, and closes it: named over the one of a file, each of the two would show at
+/// length that this is a store.
+fn run_statement<S: Alter + Drop>(
+    mut connection: Connection<S>,
+    statement: &str,
+) -> Result<(), Fail> {
+    connection.execute(statement, params![])?;
+    Ok(())
+}
+
 /// Runs a statement on the database in a file, if there is one.
 fn change(rt: &HostRuntime, path: &str, statement: &str) -> Result<(), Fail> {
     if statement.is_empty() {
         return Ok(());
     }
-    let mut connection = Connection::open(rt, path)?;
-    connection.execute(statement, params![])?;
-    Ok(())
+    let connection = Connection::open(rt, path)?;
+    run_statement(connection, statement)
 }
 
 /// Whether each command that opens a register answers so of a store.
