@@ -111,26 +111,48 @@ fn serve_command<'w>(alloc: Global) -> Result<Command<'w>, AllocError> {
     command(alloc, "serve", &names)?.arg(option(alloc, "day"))
 }
 
-/// Adds the commands that open a register.
-fn with_asking<'w>(alloc: Global, program: Command<'w>) -> Result<Command<'w>, AllocError> {
-    program
-        .subcommand(deposit_command(alloc)?)?
-        .subcommand(extract_command(alloc)?)?
-        .subcommand(asking(alloc, "list")?)?
-        .subcommand(serve_command(alloc)?)
+fn check_command<'w>(alloc: Global) -> Result<Command<'w>, AllocError> {
+    let check = command(alloc, "check", &["dictionary"])?;
+    with_word(alloc, check, "file")
 }
 
-/// All commands.
-fn commands<'w>(alloc: Global) -> Result<Command<'w>, AllocError> {
-    let check = command(alloc, "check", &["dictionary"])?;
-    let program = Command::new(alloc, "groundreg")
+/// Adds a command, if it was made. The prover writes a command out at each point of a function that holds one, so this is one
+/// call, and few are made in a row.
+fn with_command<'w>(
+    program: Command<'w>,
+    made: Result<Command<'w>, AllocError>,
+) -> Result<Command<'w>, AllocError> {
+    program.subcommand(made?)
+}
+
+/// Adds the commands of those who ask.
+fn with_asking<'w>(alloc: Global, program: Command<'w>) -> Result<Command<'w>, AllocError> {
+    let program = with_command(program, deposit_command(alloc))?;
+    let program = with_command(program, extract_command(alloc))?;
+    with_command(program, asking(alloc, "list"))
+}
+
+/// The program without commands, one of which its words have to name.
+fn program<'w>(alloc: Global) -> Command<'w> {
+    Command::new(alloc, "groundreg")
         .disable_help_flag(true)
         .disable_version_flag(true)
         .disable_help_subcommand(true)
         .subcommand_required(true)
-        .subcommand(command(alloc, "init", &["store", "dictionary"])?)?
-        .subcommand(with_word(alloc, check, "file")?)?;
-    with_asking(alloc, program)
+}
+
+/// Adds the commands that ask no desk.
+fn with_init_and_check<'w>(alloc: Global, program: Command<'w>) -> Result<Command<'w>, AllocError> {
+    let init = command(alloc, "init", &["store", "dictionary"]);
+    let program = with_command(program, init)?;
+    with_command(program, check_command(alloc))
+}
+
+/// The program with all its commands.
+fn commands<'w>(alloc: Global) -> Result<Command<'w>, AllocError> {
+    let program = with_init_and_check(alloc, program(alloc))?;
+    let program = with_asking(alloc, program)?;
+    with_command(program, serve_command(alloc))
 }
 
 /// The text that is given under a name.
