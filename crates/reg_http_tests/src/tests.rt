@@ -36,6 +36,11 @@ fn small_desk(alloc: Global) -> Option<Desk<PlainKeep>> {
     desk_under(alloc, MINI, 1)
 }
 
+/// The callers of the worked examples; none where memory is refused.
+fn known_callers(alloc: Global) -> Option<Callers> {
+    Callers::read(alloc, CALLERS).ok()
+}
+
 /// Whether a connection was served with this status.
 fn has_status(served: &Result<Served, IoFault>, wanted: u16) -> bool {
     match served {
@@ -67,16 +72,21 @@ fn answers(
 }
 
 /// Whether nothing is written, with status 0, where no byte comes.
-fn is_silent(alloc: Global) -> Option<bool> {
-    let mut desk = small_desk(alloc)?;
-    let callers = Callers::read(alloc, CALLERS).ok()?;
+fn is_silent(alloc: Global, desk: &mut Desk<PlainKeep>, callers: &Callers) -> Option<bool> {
     let day = Day::read("2024-05-01")?;
-    Some(answers(alloc, &mut desk, &callers, day, b"", 0, b""))
+    Some(answers(alloc, desk, callers, day, b"", 0, b""))
+}
+
+/// The same at a desk that begins.
+fn begins_silent(alloc: Global) -> Option<bool> {
+    let mut desk = small_desk(alloc)?;
+    let callers = known_callers(alloc)?;
+    is_silent(alloc, &mut desk, &callers)
 }
 
 #[test]
 fn no_byte(rt: HostRuntime) {
-    assert!(rt; is_silent(rt.alloc()).unwrap_or(false));
+    assert!(rt; begins_silent(rt.alloc()).unwrap_or(false));
 }
 
 /// A deposit of the file by Delta.
@@ -155,9 +165,9 @@ fn refused_deposits(alloc: Global) -> Option<u32> {
     let Some(mut desk) = small_desk(alloc) else {
         return Some(0);
     };
-    match Callers::read(alloc, CALLERS) {
-        Ok(callers) => deposits_thrice(alloc, &mut desk, &callers),
-        Err(_) => Some(0),
+    match known_callers(alloc) {
+        Some(callers) => deposits_thrice(alloc, &mut desk, &callers),
+        None => Some(0),
     }
 }
 
@@ -252,9 +262,9 @@ fn refused_lists(alloc: Global) -> Option<u32> {
     let Some(mut desk) = small_desk(alloc) else {
         return Some(0);
     };
-    match Callers::read(alloc, CALLERS) {
-        Ok(callers) => lists_wanting(alloc, &mut desk, &callers),
-        Err(_) => Some(0),
+    match known_callers(alloc) {
+        Some(callers) => lists_wanting(alloc, &mut desk, &callers),
+        None => Some(0),
     }
 }
 
@@ -275,6 +285,12 @@ fn have_statuses(results: &[Result<Served, IoFault>], statuses: &[u16]) -> bool 
     same
 }
 
+/// Whether the first and the last of three connections are written to in one write, and the second is not.
+fn are_written_once<R, W>(connections: &[(Tally<R>, Tally<W>); 3]) -> bool {
+    let [first, second, third] = connections;
+    first.1.calls() == 1 && second.1.calls() == 0 && third.1.calls() == 1
+}
+
 /// Whether a deposit, nothing, and the same deposit are served in a list, each reply in one write.
 fn serves_in_turn(
     alloc: Global,
@@ -292,20 +308,19 @@ fn serves_in_turn(
         (Tally::new(DEPOSIT.chain(FILE_A)), Tally::new(RECEIPT_ALONE)),
     ];
     let results = serve_list(alloc, desk, callers, day, &mut connections)?;
-    let [first, second, third] = &connections;
-    Ok(
-        have_statuses(&results, &[200, 0, 200])
-            && first.1.calls() == 1
-            && second.1.calls() == 0
-            && third.1.calls() == 1,
-    )
+    Ok(have_statuses(&results, &[200, 0, 200]) && are_written_once(&connections))
+}
+
+/// The same on 2024-05-01; none where memory is refused.
+fn serves_on_a_day(alloc: Global, desk: &mut Desk<PlainKeep>, callers: &Callers) -> Option<bool> {
+    serves_in_turn(alloc, desk, callers, Day::read("2024-05-01")?).ok()
 }
 
 /// The same at a desk that begins.
 fn is_served_in_turn(alloc: Global) -> Option<bool> {
     let mut desk = small_desk(alloc)?;
-    let callers = Callers::read(alloc, CALLERS).ok()?;
-    serves_in_turn(alloc, &mut desk, &callers, Day::read("2024-05-01")?).ok()
+    let callers = known_callers(alloc)?;
+    serves_on_a_day(alloc, &mut desk, &callers)
 }
 
 #[test]

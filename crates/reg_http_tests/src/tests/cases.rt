@@ -1,4 +1,5 @@
-//! Requests and their replies, as texts and as bytes.
+//! Requests and their replies, as texts and as bytes. A function that names a table carries it to each of its points, so tables are
+//! handed out by functions of their own.
 
 /// At an empty desk, in turn. Each line is a case: day, token (`-`: no field), the lines of the head, the body (`A` is the
 /// file, `A cut` all but its last byte, `A more` has two bytes behind it, `A bell`, `A delete` and `A quote` have other bytes in
@@ -94,14 +95,14 @@ pub(crate) const AT_A_WIDE_DESK: &str = r#"
 "#;
 
 /// Status, length and body of a reply.
-pub(crate) const NO_ROUTE: [&str; 3] = ["404 Not Found", "20", r#"{"error":"no route"}"#];
+const NO_ROUTE: [&str; 3] = ["404 Not Found", "20", r#"{"error":"no route"}"#];
 
-pub(crate) const BAD_HEAD: [&str; 3] = ["400 Bad Request", "20", r#"{"error":"bad head"}"#];
+const BAD_HEAD: [&str; 3] = ["400 Bad Request", "20", r#"{"error":"bad head"}"#];
 
 const NO_DEPOSIT: [&str; 3] = ["200 OK", "15", r#"{"deposits":[]}"#];
 
 /// Heads as bytes, with the reply.
-pub(crate) const HEADS: [(&[u8], [&str; 3]); 9] = [
+const HEADS: &[(&[u8], [&str; 3]); 9] = &[
     (b"GET /v1/x HTTP/1.2\r\n\r\n", BAD_HEAD),
     (b"GET /v1/projects/N1/deposits HTTP/1.1\r\n", BAD_HEAD),
     (b"GET /v1/x HTTP/1.1\r\nHost : a\r\n\r\n", BAD_HEAD),
@@ -116,13 +117,23 @@ pub(crate) const HEADS: [(&[u8], [&str; 3]); 9] = [
     ),
 ];
 
+/// Those heads.
+pub(crate) fn byte_heads() -> &'static [(&'static [u8], [&'static str; 3])] {
+    HEADS
+}
+
 /// Heads of 32 or 33 fields, and of 8,192 or 8,193 bytes: how long the last field is, how many of one letter stand before it, and the
 /// reply.
-pub(crate) const LONG_HEADS: [(usize, usize, [&str; 3]); 3] = [
+const LONG_HEADS: &[(usize, usize, [&str; 3]); 3] = &[
     (7979, 31, NO_ROUTE),
     (7980, 31, BAD_HEAD),
     (1, 32, BAD_HEAD),
 ];
+
+/// Those heads.
+pub(crate) fn long_heads() -> &'static [(usize, usize, [&'static str; 3])] {
+    LONG_HEADS
+}
 
 /// A body that a case calls by a name: the file up to one place, the bytes between, and the file from another place on.
 #[derive(Clone, Copy)]
@@ -135,7 +146,7 @@ pub(crate) struct Altered {
 
 /// The file, the file without its last byte, the file with two bytes behind it, the file with `lo`, a bell and `ca`, or `lo`, a byte 7f and
 /// `ca`, or `l`, a quote, a byte 01 and a backslash, for the name in its line 26, and nothing.
-pub(crate) const BODIES: [Altered; 7] = [
+const BODIES: &[Altered; 7] = &[
     Altered {
         name: "A",
         end: 543,
@@ -179,3 +190,8 @@ pub(crate) const BODIES: [Altered; 7] = [
         begin: 543,
     },
 ];
+
+/// Those bodies.
+pub(crate) fn bodies() -> &'static [Altered] {
+    BODIES
+}

@@ -2,12 +2,12 @@
 ghost use Rattle.std.specs.Prelude.{◌<◌, ◌≤◌};
 
 use super::cases::{
-    AT_A_DESK, AT_A_FULL_DESK, AT_A_WIDE_DESK, Altered, BODIES, HEADS, LONG_HEADS, WIDE_HEADING,
+    AT_A_DESK, AT_A_FULL_DESK, AT_A_WIDE_DESK, Altered, WIDE_HEADING, bodies, byte_heads,
+    long_heads,
 };
-use super::{answers, desk_under, small_desk};
+use super::{answers, desk_under, known_callers, small_desk};
 use ags_rows::vectors::{FILE_A, MINI};
 use reg_desk::Desk;
-use reg_policy::vectors::CALLERS;
 use reg_policy::{Callers, Day};
 use reg_store::PlainKeep;
 use std::alloc::{AllocError, Global};
@@ -33,7 +33,7 @@ fn push_altered(text: &mut Vec<u8>, altered: &Altered) -> Result<(), AllocError>
 
 /// Adds the body that a case calls by a name, or the text itself where there is none of that name.
 fn push_body(text: &mut Vec<u8>, name: &str) -> Result<(), AllocError> {
-    for altered in &BODIES {
+    for altered in bodies() {
         if altered.name == name {
             return push_altered(text, altered);
         }
@@ -170,7 +170,7 @@ fn are_right(
     desk: &mut Desk<PlainKeep>,
     cases: &str,
 ) -> Result<(), AllocError> {
-    let Ok(callers) = Callers::read(alloc, CALLERS) else {
+    let Some(callers) = known_callers(alloc) else {
         return Err(AllocError);
     };
     for line in cases.lines() {
@@ -221,9 +221,9 @@ fn head_replies(alloc: Global, head: &[u8], parts: [&str; 3]) -> Result<bool, Al
     let Some(mut desk) = small_desk(alloc) else {
         return Err(AllocError);
     };
-    match Callers::read(alloc, CALLERS) {
-        Ok(callers) => replies_so(alloc, &mut desk, &callers, "2024-05-01", head, parts),
-        Err(_) => Err(AllocError),
+    match known_callers(alloc) {
+        Some(callers) => replies_so(alloc, &mut desk, &callers, "2024-05-01", head, parts),
+        None => Err(AllocError),
     }
 }
 
@@ -253,7 +253,7 @@ fn long_head_replies(
 /// Whether the replies of the long heads are theirs.
 fn long_heads_reply(alloc: Global) -> bool {
     let mut right = true;
-    for (last, fields, reply) in &LONG_HEADS {
+    for (last, fields, reply) in long_heads() {
         right = right && long_head_replies(alloc, *fields, *last, *reply).unwrap_or(false);
     }
     right
@@ -262,7 +262,7 @@ fn long_heads_reply(alloc: Global) -> bool {
 #[test]
 fn heads(rt: HostRuntime) {
     let alloc = rt.alloc();
-    for (head, reply) in &HEADS {
+    for (head, reply) in byte_heads() {
         assert!(rt; head_replies(alloc, head, *reply).unwrap_or(false));
     }
     assert!(rt; long_heads_reply(alloc));

@@ -1,9 +1,8 @@
 //! A reader and a writer of one byte a call, which fail.
 
-use super::{RECEIPT, answers, deposit, has_status, small_desk};
+use super::{RECEIPT, answers, deposit, has_status, known_callers, small_desk};
 use reg_desk::Desk;
 use reg_http::{IoFault, Served, Tally, serve_one};
-use reg_policy::vectors::CALLERS;
 use reg_policy::{Callers, Day};
 use reg_store::{Keep, PlainKeep};
 use std::alloc::Global;
@@ -111,12 +110,17 @@ fn read_all(
     Some(true)
 }
 
+/// The same of a deposit.
+fn reads_deposit(alloc: Global, desk: &mut Desk<PlainKeep>, callers: &Callers) -> Option<bool> {
+    let request = deposit(alloc).ok()?;
+    read_all(alloc, desk, callers, &request)
+}
+
 /// The same at a desk that begins.
 fn reads_at_desk(alloc: Global) -> Option<bool> {
     let mut desk = small_desk(alloc)?;
-    let callers = Callers::read(alloc, CALLERS).ok()?;
-    let request = deposit(alloc).ok()?;
-    read_all(alloc, &mut desk, &callers, &request)
+    let callers = known_callers(alloc)?;
+    reads_deposit(alloc, &mut desk, &callers)
 }
 
 #[test]
@@ -149,18 +153,29 @@ fn writes(
     Some(is_write_fault(&served) && slow.taken.as_slice() == first && desk.keep().count() == 1)
 }
 
-/// Whether that is so at a desk that begins, and the request sent again gives the receipt.
-fn writes_twice(alloc: Global, callers: &Callers, request: &[u8], calls: usize) -> Option<bool> {
-    let mut desk = small_desk(alloc)?;
+/// Whether that is so, and the request sent again gives the receipt.
+fn writes_twice(
+    alloc: Global,
+    desk: &mut Desk<PlainKeep>,
+    callers: &Callers,
+    request: &[u8],
+    calls: usize,
+) -> Option<bool> {
     let day = Day::read("2024-05-01")?;
-    let first = writes(alloc, &mut desk, callers, request, calls)?;
-    Some(first && answers(alloc, &mut desk, callers, day, request, 200, RECEIPT))
+    let first = writes(alloc, desk, callers, request, calls)?;
+    Some(first && answers(alloc, desk, callers, day, request, 200, RECEIPT))
+}
+
+/// The same at a desk that begins.
+fn writes_at_desk(alloc: Global, callers: &Callers, request: &[u8], calls: usize) -> Option<bool> {
+    let mut desk = small_desk(alloc)?;
+    writes_twice(alloc, &mut desk, callers, request, calls)
 }
 
 /// The same of each count of calls, before one for each byte of the receipt.
 fn write_all(alloc: Global, callers: &Callers, request: &[u8]) -> Option<bool> {
     for calls in 0..RECEIPT.len() {
-        if !writes_twice(alloc, callers, request, calls)? {
+        if !writes_at_desk(alloc, callers, request, calls)? {
             return None;
         }
     }
@@ -169,7 +184,7 @@ fn write_all(alloc: Global, callers: &Callers, request: &[u8]) -> Option<bool> {
 
 /// The same of a deposit.
 fn writes_deposit(alloc: Global) -> Option<bool> {
-    let callers = Callers::read(alloc, CALLERS).ok()?;
+    let callers = known_callers(alloc)?;
     let request = deposit(alloc).ok()?;
     write_all(alloc, &callers, &request)
 }
