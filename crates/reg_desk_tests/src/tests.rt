@@ -12,8 +12,8 @@ mod refusing;
 use ags_dict::Dictionary;
 use ags_rows::vectors::{FILE_A, FILE_B, FILE_C, MINI};
 use ags_rows::{FindingList, READABLE};
-use bodies::LENGTHS;
-use examples::{EXAMPLES, MOST};
+use bodies::lengths;
+use examples::{MOST, all_examples};
 use reg_desk::{Answer, Desk, Listed, Request};
 use reg_policy::vectors::{CALLERS, POLICY};
 use reg_policy::{Caller, Callers, Day, Name, Policy};
@@ -425,7 +425,7 @@ fn length_of(alloc: Global, body: &Body) -> Result<usize, AllocError> {
 #[test]
 fn bodies_are_as_long_as_they_should_be(rt: HostRuntime) {
     let alloc = rt.alloc();
-    for Length(name, body, length) in &LENGTHS {
+    for Length(name, body, length) in lengths() {
         assert!(rt; length_of(alloc, body).unwrap_or(0) == *length, "{name}");
     }
 }
@@ -433,7 +433,7 @@ fn bodies_are_as_long_as_they_should_be(rt: HostRuntime) {
 #[test]
 fn examples_in_memory(rt: HostRuntime) {
     let alloc = rt.alloc();
-    for example in &EXAMPLES {
+    for example in all_examples() {
         let right = plays_in_memory(alloc, example.limit, example.steps).unwrap_or(false);
         assert!(rt; right, "{}", example.name);
     }
@@ -443,7 +443,7 @@ fn examples_in_memory(rt: HostRuntime) {
 #[test]
 fn examples_in_tables(rt: HostRuntime) {
     let alloc = rt.alloc();
-    for example in &EXAMPLES {
+    for example in all_examples() {
         let right = example.limit < MOST || plays_in_tables(alloc, example.steps).unwrap_or(false);
         assert!(rt; right, "{}", example.name);
     }

@@ -20,7 +20,7 @@ pub const SECOND: Want = Want::Receipt(2, UNTIL);
 /// The first deposit where it is the only one.
 pub const LISTED: Want = Want::Lists(&[Line(1, "Delta", UNTIL)]);
 
-pub const EXAMPLES: [Example; 9] = [
+const EXAMPLES: &[Example; 9] = &[
     Example {
         name: "a deposit that the policy denies",
         limit: MOST,
@@ -209,3 +209,8 @@ pub const EXAMPLES: [Example; 9] = [
         ],
     },
 ];
+
+/// All of them. A function that names a table carries it to each of its points, so a table is handed out by a function of its own.
+pub fn all_examples() -> &'static [Example; 9] {
+    EXAMPLES
+}

@@ -38,6 +38,11 @@ const CALLS: [(&str, Call); 5] = [
     ("reached", Call::Reached),
 ];
 
+/// Those calls. A function that names a table carries it to each of its points, so tables are handed out by functions of their own.
+fn calls_below() -> &'static [(&'static str, Call)] {
+    &CALLS
+}
+
 /// Whether the last group of the second file, which begins behind 831 bytes, is written as it stands there.
 fn writes_last(alloc: Global, groups: &[Group]) -> Result<bool, AllocError> {
     let Some(group) = groups.last() else {
@@ -55,14 +60,15 @@ fn writes_last(alloc: Global, groups: &[Group]) -> Result<bool, AllocError> {
     Ok(text.as_slice() == &FILE_B[831..])
 }
 
-/// Whether the second file is read as 13 DATA rows in 7 groups, and its last group written.
+/// Whether these are 13 DATA rows in 7 groups, and the last group is written.
+fn has_groups(alloc: Global, scan: &Scan<'_>) -> Result<bool, AllocError> {
+    Ok(scan.row_count() == 13 && scan.groups().len() == 7 && writes_last(alloc, scan.groups())?)
+}
+
+/// Whether the second file is read as such rows and groups.
 fn scans(alloc: Global) -> Result<bool, AllocError> {
     match Scan::read(alloc, FILE_B) {
-        Ok(scan) => Ok(
-            scan.row_count() == 13
-                && scan.groups().len() == 7
-                && writes_last(alloc, scan.groups())?,
-        ),
+        Ok(scan) => has_groups(alloc, &scan),
         Err(RowsError::NoMemory) => Err(AllocError),
         Err(RowsError::Findings(_)) => Ok(false),
     }
@@ -71,19 +77,29 @@ fn scans(alloc: Global) -> Result<bool, AllocError> {
 /// The steps between the DATA rows of the second file.
 const STEPS: &[(u32, u32)] = &[(7, 0), (8, 0), (9, 7), (10, 8), (11, 9), (12, 10)];
 
-/// Whether the second file has no finding, and these steps.
+/// Whether these are its 13 DATA rows, and those steps.
+fn has_steps(graph: &Graph) -> bool {
+    graph.rows() == 13 && graph.steps() == STEPS
+}
+
+/// Whether the second file has no finding, and those steps.
 fn is_clean(alloc: Global, mini: &Dictionary) -> Result<bool, AllocError> {
     match check(alloc, mini, FILE_B) {
-        Ok(checked) => Ok(checked.graph().rows() == 13 && checked.graph().steps() == STEPS),
+        Ok(checked) => Ok(has_steps(checked.graph())),
         Err(CheckError::NoMemory) => Err(AllocError),
         Err(CheckError::Findings(_)) => Ok(false),
     }
 }
 
-/// Whether the dictionary is read with 38 headings, and the second file checked under it.
+/// Whether a dictionary has 38 headings, and the second file is checked under it.
+fn checks_under(alloc: Global, mini: &Dictionary) -> Result<bool, AllocError> {
+    Ok(mini.heading_count() == 38 && is_clean(alloc, mini)?)
+}
+
+/// The same of the small dictionary.
 fn checks(alloc: Global) -> Result<bool, AllocError> {
     match Dictionary::read(alloc, MINI) {
-        Ok(mini) => Ok(mini.heading_count() == 38 && is_clean(alloc, &mini)?),
+        Ok(mini) => checks_under(alloc, &mini),
         Err(DictError::NoMemory) => Err(AllocError),
         Err(_) => Ok(false),
     }
@@ -193,7 +209,7 @@ fn is_right(alloc: Global, call: Call) -> Result<bool, AllocError> {
 /// How many of the calls answer want of memory; each other is right.
 fn refused_of(alloc: Global, rt: &impl Abort) -> u32 {
     let mut refused = 0u32;
-    for (name, call) in &CALLS {
+    for (name, call) in calls_below() {
         match is_right(alloc, *call) {
             Ok(right) => assert!(rt; right, "{name}"),
             Err(_) => refused = refused.saturating_add(1),
@@ -277,7 +293,30 @@ fn asks<K: Keep>(alloc: Global, desk: &mut Desk<K>, requests: &[Request]) -> Opt
     }
 }
 
-/// The same of three such runs: Delta deposits the first file, and Echo lists and draws it.
+/// The same of three such runs.
+fn asks_each<K: Keep>(alloc: Global, desk: &mut Desk<K>, requests: &[Request]) -> Option<u32> {
+    let mut refused = 0u32;
+    for _ in 0..3 {
+        refused = refused.saturating_add(asks(alloc, desk, requests)?);
+    }
+    Some(refused)
+}
+
+/// The requests of a run: Delta deposits the first file, and Echo lists and draws it.
+fn three_of<'a>(
+    delta: &'a Caller,
+    echo: &'a Caller,
+    project: &'a Name,
+    day: Day,
+) -> [Request<'a>; 3] {
+    [
+        deposit_of(delta, project, day, FILE_A, day),
+        list_of(echo, project, day),
+        extract_of(echo, project, 1, &[], day),
+    ]
+}
+
+/// How many of the answers to three runs of these are want of memory; none where another is not the machine's.
 fn asks_thrice<K: Keep>(
     alloc: Global,
     desk: &mut Desk<K>,
@@ -287,16 +326,7 @@ fn asks_thrice<K: Keep>(
     let delta = callers.find(b"t-delta")?;
     let echo = callers.find(b"t-echo")?;
     let day = Day::read(UNTIL)?;
-    let requests = [
-        deposit_of(delta, project, day, FILE_A, day),
-        list_of(echo, project, day),
-        extract_of(echo, project, 1, &[], day),
-    ];
-    let mut refused = 0u32;
-    for _ in 0..3 {
-        refused = refused.saturating_add(asks(alloc, desk, &requests)?);
-    }
-    Some(refused)
+    asks_each(alloc, desk, &three_of(delta, echo, project, day))
 }
 
 /// The same of a desk over this keep. Where memory is refused before it begins, nothing is asked.
