@@ -13,7 +13,7 @@ use ags_dict::Dictionary;
 use ags_rows::vectors::{FILE_A, FILE_B, FILE_C, MINI};
 use ags_rows::{FindingList, READABLE};
 use bodies::lengths;
-use examples::{MOST, all_examples};
+use examples::{EXAMPLES, MOST, example_at};
 use reg_desk::{Answer, Desk, Listed, Request};
 use reg_policy::vectors::{CALLERS, POLICY};
 use reg_policy::{Caller, Callers, Day, Name, Policy};
@@ -433,7 +433,8 @@ fn bodies_are_as_long_as_they_should_be(rt: HostRuntime) {
 #[test]
 fn examples_in_memory(rt: HostRuntime) {
     let alloc = rt.alloc();
-    for example in all_examples() {
+    for number in 0..EXAMPLES {
+        let example = example_at(number);
         let right = plays_in_memory(alloc, example.limit, example.steps).unwrap_or(false);
         assert!(rt; right, "{}", example.name);
     }
@@ -443,7 +444,8 @@ fn examples_in_memory(rt: HostRuntime) {
 #[test]
 fn examples_in_tables(rt: HostRuntime) {
     let alloc = rt.alloc();
-    for example in all_examples() {
+    for number in 0..EXAMPLES {
+        let example = example_at(number);
         let right = example.limit < MOST || plays_in_tables(alloc, example.steps).unwrap_or(false);
         assert!(rt; right, "{}", example.name);
     }
