@@ -123,12 +123,6 @@ const CASES: [Case; 3] = [
     },
 ];
 
-/// The cases. A function that names a table carries it to each of its points, so tables are handed out by functions of
-/// their own.
-fn cases() -> &'static [Case] {
-    &CASES
-}
-
 /// A listener that waits for a connection, or does not.
 fn listening(rt: &HostRuntime, waits: bool) -> io::Result<TcpListener> {
     let listener = TcpListener::bind(rt, "127.0.0.1:0")?;
@@ -246,7 +240,7 @@ fn is_served(rt: &HostRuntime, case: &Case) -> Result<bool, Fail> {
 
 #[test]
 fn connections_are_served(rt: HostRuntime) -> Result<(), Fail> {
-    for case in cases() {
+    for case in &CASES {
         assert!(rt; is_served(&rt, case)?);
     }
     Ok(())
@@ -277,11 +271,6 @@ const BEFORE: [(&str, &str); 3] = [
     ("|--day=1", "4 ! day refused"),
 ];
 
-/// More words, and what `serve` with them says of a port that is taken, before there is a register.
-fn before() -> &'static [(&'static str, &'static str)] {
-    &BEFORE
-}
-
 /// Whether `serve` at a port, with more words behind it, answers so.
 fn serves(rt: &HostRuntime, port: u16, more: &str, want: &str) -> Result<bool, Fail> {
     let words = format!(in rt.alloc(); "serve|&|--port={port}|--connections=1{more}")?;
@@ -293,7 +282,7 @@ fn a_port_that_is_taken(rt: HostRuntime) -> Result<(), Fail> {
     enter(&rt, "a_port_that_is_taken")?;
     let listener = listening(&rt, true)?;
     let port = listener.local_addr()?.port();
-    for (more, want) in before() {
+    for (more, want) in &BEFORE {
         assert!(rt; serves(&rt, port, more, want)?);
     }
     assert!(rt; answers(&rt, "init|--store=s|--dictionary=mini", "0 created")?);

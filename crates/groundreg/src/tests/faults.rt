@@ -116,17 +116,6 @@ const DEPTHS: [(usize, PolicyError, CallersError); 3] = [
     (80, PolicyError::Syntax, CallersError::Syntax),
 ];
 
-/// The shapes. A function that names a table carries it to each of its points, so tables are handed out by functions of
-/// their own.
-fn shapes() -> &'static [Shape] {
-    &SHAPES
-}
-
-/// How many levels more, and what both readers answer then.
-fn depths() -> &'static [(usize, PolicyError, CallersError)] {
-    &DEPTHS
-}
-
 /// A shape with so many levels more, behind the name of an array.
 fn nested(alloc: Global, array: &str, shape: &Shape, more: usize) -> Result<String, Fail> {
     let open = shape.open.repeat(alloc, more)?;
@@ -154,7 +143,7 @@ fn callers_say(
 
 /// Whether both readers answer so of a shape with so many levels more, for each number of them.
 fn goes_deep(alloc: Global, shape: &Shape) -> Result<bool, Fail> {
-    for (more, policy, callers) in depths() {
+    for (more, policy, callers) in &DEPTHS {
         if !policy_says(alloc, shape, *more, *policy)? {
             return Ok(false);
         }
@@ -168,7 +157,7 @@ fn goes_deep(alloc: Global, shape: &Shape) -> Result<bool, Fail> {
 /// Values are taken up to 80 deep, and keys of up to 80 parts; what goes deeper is no TOML.
 #[test]
 fn texts_that_go_deep(rt: HostRuntime) -> Result<(), Fail> {
-    for shape in shapes() {
+    for shape in &SHAPES {
         assert!(rt; goes_deep(rt.alloc(), shape)?);
     }
     Ok(())

@@ -30,12 +30,6 @@ const ROWS: [(&[u8], &[u8], u8); 3] = [
     (FILE_A, RECEIPT, 0),
 ];
 
-/// The rows. A function that names a table carries it to each of its points, so tables are handed out by functions of
-/// their own.
-fn rows() -> &'static [(&'static [u8], &'static [u8], u8)] {
-    &ROWS
-}
-
 /// Whether this is printed where a file is deposited, and this the status.
 fn answers<K: Keep>(
     alloc: Global,
@@ -56,7 +50,7 @@ fn all_answered<K: Keep + Drop>(alloc: Global, keep: K, session: &Session<'_>) -
     requires { K.has_failed keep ≡ false }
 {
     let mut desk = Desk::new(keep, Policy::read(alloc, POLICY)?);
-    for row in rows() {
+    for row in &ROWS {
         if !answers(alloc, &mut desk, session, row)? {
             return Ok(false);
         }

@@ -27,12 +27,6 @@ const OPTIONS: [(&str, &str); 5] = [
     ("--token", "--token=t-delta"),
 ];
 
-/// The options that commands share. A function that names a table carries it to each of its points, so tables are handed
-/// out by functions of their own.
-fn shared_options() -> &'static [(&'static str, &'static str); 5] {
-    &OPTIONS
-}
-
 /// Appends those of the options that a row does not name.
 fn push_options<'w>(
     words: &mut Vec<&'w str>,
@@ -50,8 +44,8 @@ fn push_options<'w>(
 /// Appends a word of a row, or what it stands for.
 fn push_word<'w>(words: &mut Vec<&'w str>, row: &str, word: &'w str) -> Result<(), AllocError> {
     match word {
-        "@" => push_options(words, row, shared_options()),
-        "&" => push_options(words, row, &shared_options()[..3]),
+        "@" => push_options(words, row, &OPTIONS),
+        "&" => push_options(words, row, &OPTIONS[..3]),
         _ => Ok(words.push(word)?),
     }
 }
@@ -98,16 +92,11 @@ const FILES: [(&str, &[u8]); 8] = [
     ("open", b"[[rule"),
 ];
 
-/// The files that the rows name, but those four, each with its bytes.
-fn files() -> &'static [(&'static str, &'static [u8])] {
-    &FILES
-}
-
 /// Writes the files that the rows name, into the folder that the test runs in.
 fn write_files(rt: &HostRuntime) -> io::Result<()> {
     fs::write(rt, "q", POLICY)?;
     fs::write(rt, "c", CALLERS)?;
-    for (path, bytes) in files() {
+    for (path, bytes) in &FILES {
         fs::write(rt, *path, *bytes)?;
     }
     Ok(())
@@ -305,14 +294,9 @@ const SCENES: [&[&str]; 7] = [
     &faults::OF_DICTIONARIES_AND_FILES,
 ];
 
-/// The rows of each scene.
-fn scenes() -> &'static [&'static [&'static str]] {
-    &SCENES
-}
-
 #[test]
 fn words_are_done_or_refused(rt: HostRuntime) -> Result<(), Fail> {
-    for rows in scenes() {
+    for rows in &SCENES {
         enter(&rt, "words_are_done_or_refused")?;
         write_long_files(&rt)?;
         hold(&rt, rows)?;

@@ -72,27 +72,6 @@ const LAST: [&str; 3] = [
     "init|--store=empty|--dictionary=mini => 0 created",
 ];
 
-/// The commands that open a register. A function that names a table carries it to each of its points, so tables are handed
-/// out by functions of their own.
-fn commands() -> &'static [&'static str] {
-    &COMMANDS
-}
-
-/// The rows that run first.
-fn first() -> &'static [&'static str] {
-    &FIRST
-}
-
-/// The stores, each with its statement, and what each command says of it then.
-fn stores() -> &'static [(&'static str, &'static str, &'static str)] {
-    &STORES
-}
-
-/// The rows that run last.
-fn last() -> &'static [&'static str] {
-    &LAST
-}
-
 /// Runs a statement on a database of any store, and closes it: named over the one of a file, each of the two would show at
 /// length that this is a store.
 fn run_statement<S: Alter + Drop>(
@@ -114,7 +93,7 @@ fn change(rt: &HostRuntime, path: &str, statement: &str) -> Result<(), Fail> {
 
 /// Whether each command that opens a register answers so of a store.
 fn each_says(rt: &HostRuntime, store: &str, want: &str) -> Result<bool, Fail> {
-    for command in commands() {
+    for command in &COMMANDS {
         let words = format!(in rt.alloc(); "{command}|--store={store}")?;
         if !answers(rt, &words, want)? {
             return Ok(false);
@@ -126,12 +105,12 @@ fn each_says(rt: &HostRuntime, store: &str, want: &str) -> Result<bool, Fail> {
 #[test]
 fn stores_that_are_no_register(rt: HostRuntime) -> Result<(), Fail> {
     enter(&rt, "stores_that_are_no_register")?;
-    hold(&rt, first())?;
-    for (store, statement, want) in stores() {
+    hold(&rt, &FIRST)?;
+    for (store, statement, want) in &STORES {
         change(&rt, store, statement)?;
         assert!(rt; each_says(&rt, store, want)?);
     }
-    hold(&rt, last())?;
+    hold(&rt, &LAST)?;
     // Asking for a register that is not there makes no file.
     assert!(rt; !fs::exists(&rt, "gone")?);
     leave(&rt, "stores_that_are_no_register")?;
