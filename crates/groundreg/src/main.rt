@@ -1,9 +1,6 @@
 //! A register of AGS4 files. Without words it checks a file on standard input, and prints its findings, or `clean`.
 #![tactic(auto)]
 
-#[cfg(test)]
-mod tests;
-
 use jiff::Zoned;
 use jiff::tz::TimeZone;
 use reg_cli::{Fault, Watched, run_words};
