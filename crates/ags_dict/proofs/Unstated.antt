@@ -1,8 +1,8 @@
 -- Adding what restates nothing, a part at a time.
-use Rattle.std.proofs.Common.{◌≡◌, ℕ, ◌+◌, ◌<◌, Bool, List, [], ◌∷◌, ◌++◌, length, get_or, map, take, flat_map, true, false, refl, sym, ap, ◌∙◌, arith, append_assoc, inl, inr}
+use Rattle.std.proofs.Common.{◌≡◌, ℕ, ◌+◌, ◌<◌, ◌≤◌, Bool, List, [], ◌∷◌, ◌++◌, length, get_or, map, take, flat_map, true, false, refl, sym, ap, ◌∙◌, arith, append_assoc, inl, inr}
 use Rattle.std.specs.List.{list_any}
 use Rattle.std.proofs.lemmas.Bool.{cases_Bool}
-use Rattle.std.proofs.lemmas.List.{append-nil, take_more, get_or-map, length-map}
+use Rattle.std.proofs.lemmas.List.{append-nil, take_all, take_more, get_or-map, length-map}
 use Rattle.std.proofs.lemmas.List.Concat.{flat_map-append}
 use Rattle.ags_dict.specs.Entries.{unstated, with_unstated}
 
@@ -36,3 +36,11 @@ restated same old x h = rw h (sym (append-nil old))
 -- one item that it does not have
 pub fresh : {X : Type 0} (same : X → X → Bool) (old : List X) (x : X) → list_any (same x) old ≡ false → old ++ x ∷ [] ≡ with_unstated same old (x ∷ [])
 fresh same old x h = rw h refl
+
+-- the items that all elements of a list give
+pub unstated_all : {X Y : Type 0} (same : X → X → Bool) (f : Y → List X) (ys : List Y) (i : ℕ) (old a : List X) → length ys ≤ i → a ≡ with_unstated same old (flat_map f (take i ys)) → a ≡ with_unstated same old (flat_map f ys)
+unstated_all {X} {Y} same f ys i old a le e = e ∙ ap (λ (l : List Y). with_unstated same old (flat_map f l)) (take_all i ys le)
+
+-- no item
+pub unstated_none : {X : Type 0} (same : X → X → Bool) (old a : List X) → a ≡ old → a ≡ with_unstated same old []
+unstated_none same old a e = e ∙ sym (append-nil old)

@@ -1,6 +1,9 @@
 //! What DICT says of a group, and of a heading of a group.
 
-use ags_rows::Bytes;
+ghost use Rattle.std.specs.Prelude.{◌≡◌, IfOk};
+
+use ags_rows::{Bytes, copy};
+use std::alloc::{AllocError, Global};
 
 /// An entry for a group.
 #[derive(Drop)]
@@ -15,4 +18,23 @@ pub(crate) struct HeadingEntry {
     pub(crate) group: Bytes,
     pub(crate) heading: Bytes,
     pub(crate) status: Bytes,
+}
+
+impl HeadingEntry {
+    /// An entry of these texts, which it keeps.
+    pub(crate) fn of(
+        alloc: Global,
+        group: &[u8],
+        heading: &[u8],
+        status: &[u8],
+    ) -> Result<HeadingEntry, AllocError>
+        ensures { IfOk result (λ entry.
+            entry ≡ record { group = group.now; heading = heading.now; status = status.now }) }
+    {
+        Ok(HeadingEntry {
+            group: copy(alloc, group)?,
+            heading: copy(alloc, heading)?,
+            status: copy(alloc, status)?,
+        })
+    }
 }

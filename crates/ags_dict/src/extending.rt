@@ -43,11 +43,10 @@ fn take_heading_row(
     if under(headings, cells, b"DICT_TYPE") != b"HEADING".as_slice() {
         return Ok(entries);
     }
-    let entry = HeadingEntry {
-        group: copy(alloc, under(headings, cells, b"DICT_GRP"))?,
-        heading: copy(alloc, under(headings, cells, b"DICT_HDNG"))?,
-        status: copy(alloc, under(headings, cells, b"DICT_STAT"))?,
-    };
+    let group = under(headings, cells, b"DICT_GRP");
+    let heading = under(headings, cells, b"DICT_HDNG");
+    let status = under(headings, cells, b"DICT_STAT");
+    let entry = HeadingEntry::of(alloc, group, heading, status)?;
     entries.with_unstated(alloc, entry)
 }
 

@@ -8,7 +8,6 @@ ghost use Rattle.ags_dict.specs.Index.{of_group, is_named, is_of_other, is_headi
 
 use crate::entries::HeadingEntry;
 use crate::places::{PlacesByText, Ranks};
-use ags_rows::copy;
 use std::alloc::{AllocError, Global};
 use std::marker::Model;
 
@@ -164,11 +163,9 @@ impl HeadingEntries {
     {
         let mut copied = HeadingEntries::new(alloc);
         for entry in self.entries.iter() {
-            let entry = HeadingEntry {
-                group: copy(alloc, entry.group.as_slice())?,
-                heading: copy(alloc, entry.heading.as_slice())?,
-                status: copy(alloc, entry.status.as_slice())?,
-            };
+            let group = entry.group.as_slice();
+            let heading = entry.heading.as_slice();
+            let entry = HeadingEntry::of(alloc, group, heading, entry.status.as_slice())?;
             copied = copied.with(alloc, entry)?;
         }
         Ok(copied)

@@ -1,5 +1,6 @@
 -- Findings without a subject, in the order of findings.
-use Rattle.std.proofs.Common.{◌≡◌, ℕ, zero, suc, ◌<◌, List, [], ◌∷◌, map, get_or, length, refl, ap, subst, arith}
+use Rattle.std.proofs.Common.{◌≡◌, ℕ, zero, suc, ◌+◌, ◌<◌, ◌≤◌, List, [], ◌∷◌, ◌++◌, map, get_or, take, length, refl, sym, ap, subst, ◌∙◌, arith}
+use Rattle.std.proofs.lemmas.List.{map-append, take_all, take_more}
 use Rattle.std.specs.Prelude.{Contains}
 use Rattle.std.specs.List.{AllByRecursion}
 use Rattle.std.specs.List.Sorted.{IsStrictlySortedBy}
@@ -8,6 +9,7 @@ use Rattle.std.specs.declared.cmp.Ordering.{Ordering}
 use Rattle.std.specs.declared.cmp.Ordering.TheVariants.{Less}
 use Rattle.std.proofs.lemmas.Map.Lookups.{CmpEqualImpliesEq}
 use Rattle.ags_rows.specs.declared.finding.Finding.{Finding}
+use Rattle.ags_rows.specs.declared.finding.Bare.{Bare}
 use Rattle.ags_rows.specs.FindingLists.{bare_cmp, bare_finding}
 use Rattle.ags_rows.proofs.Files.{finding_exact}
 
@@ -44,3 +46,19 @@ mapped_within f xs ys within y h =
     let one = mapped_at f xs y h.0 h.1 h.2 in
     let there = within one.0 one.1 in
     subst (λ z. Contains (map f ys) z) one.2 (at_mapped f ys one.0 there.0 there.1 there.2)
+
+-- ---- with room for a subject
+
+pub bare_same : (one : Bare) (subject : List ℕ) → subject ≡ [] → record { line = one.line; code = one.code; subject = subject } ≡ bare_finding one
+bare_same one subject none = ap (λ (s : List ℕ). record { line = one.line; code = one.code; subject = s }) none
+
+pub bare_more : (bare : List Bare) (full new : List Finding) (i : ℕ) (d : Bare) (one : Finding) → i < length bare → full ≡ map bare_finding (take i bare) → new ≡ full ++ one ∷ []
+    → one ≡ bare_finding (get_or bare i d) → new ≡ map bare_finding (take (i + 1) bare)
+bare_more bare full new i d one lt e h is =
+    h ∙ ap (λ (x : List Finding). x ++ one ∷ []) e
+    ∙ ap (λ (y : Finding). map bare_finding (take i bare) ++ y ∷ []) is
+    ∙ sym (map-append bare_finding (take i bare) (get_or bare i d ∷ []))
+    ∙ ap (λ (x : List Bare). map bare_finding x) (sym (take_more bare i d lt))
+
+pub bare_done : (bare : List Bare) (full : List Finding) (i : ℕ) → length bare ≤ i → full ≡ map bare_finding (take i bare) → full ≡ map bare_finding bare
+bare_done bare full i le e = e ∙ ap (λ (x : List Bare). map bare_finding x) (take_all i bare le)

@@ -54,9 +54,12 @@ pub fn is_heading_name(name: &[u8]) -> bool
     is_within(name, 9) && has_heading_letters(name)
 }
 
+/// The groups that define what the others use.
+const DEFINITIONS: &[&[u8]] = &[b"TRAN", b"ABBR", b"UNIT", b"TYPE", b"DICT"];
+
 /// Whether the group defines what the others use: TRAN, ABBR, UNIT, TYPE and DICT do.
 pub fn is_definition(group: &[u8]) -> bool
     ensures { result ≡ is_definition group.now }
 {
-    matches!(group, b"TRAN" | b"ABBR" | b"UNIT" | b"TYPE" | b"DICT")
+    DEFINITIONS.contains(&group)
 }

@@ -1,8 +1,9 @@
-use Rattle.std.proofs.Common.{◌≡◌, ◌<◌, length, List, get_or, subst}
+use Rattle.std.proofs.Common.{◌≡◌, ◌<◌, length, List, get_or, map, subst, ap, arith}
+use Rattle.std.proofs.lemmas.List.{length-map}
 use Rattle.ags_rows.specs.declared.rows.Row.{Row}
 use Rattle.ags_rows.specs.Contents.{fields_of}
-use Rattle.ags_dict.specs.Entries.{group_entries, heading_entries, same_group, same_heading}
-use Rattle.ags_dict.proofs.Unstated.{unstated_more}
+use Rattle.ags_dict.specs.Entries.{Entries, group_entries, heading_entries, same_group, same_heading}
+use Rattle.ags_dict.proofs.Unstated.{unstated_none, unstated_more, unstated_all}
 use Rattle.ags_dict.proofs.extending.take_rows.Goals as goal
 
 pub loop-row-preserved : goal.loop-row-preserved
@@ -17,3 +18,21 @@ loop-row-preserved c =
       headings = unstated_more same_heading (heading_entries c.args.group.now.headings) fields_of rows c.loop-row.row-index row _ _ _ below is c.loop-row.invariant.headings
           (rw (c.as_slice-names.ensures, c.as_slice-cells.ensures) at c.in_ok-headings.ensures);
     }
+
+pub loop-row-init : goal.loop-row-init
+loop-row-init c = record {
+  groups = unstated_none same_group c.args.dictionary.groups c.dictionary.inside.groups (ap (λ (d : Entries). d.groups) c.dictionary.view_is);
+  headings = unstated_none same_heading c.args.dictionary.headings c.dictionary.inside.headings (ap (λ (d : Entries). d.headings) c.dictionary.view_is);
+}
+
+pub returns-clause-groups : goal.returns-clause-groups
+returns-clause-groups c =
+    let rows = c.args.group.now.rows in
+    unstated_all same_group (group_entries c.args.group.now.headings) (map fields_of rows) c.loop-row.row-index c.args.dictionary.groups c.loop-row.groups
+    (omega (arith, length-map rows fields_of, ap length c.as_slice-row-items.ensures, c.loop-row-test.false)) c.loop-row.invariant.groups
+
+pub returns-clause-headings : goal.returns-clause-headings
+returns-clause-headings c =
+    let rows = c.args.group.now.rows in
+    unstated_all same_heading (heading_entries c.args.group.now.headings) (map fields_of rows) c.loop-row.row-index c.args.dictionary.headings c.loop-row.headings
+    (omega (arith, length-map rows fields_of, ap length c.as_slice-row-items.ensures, c.loop-row-test.false)) c.loop-row.invariant.headings

@@ -1,9 +1,9 @@
-use Rattle.std.proofs.Common.{◌≡◌, ◌∙◌, false, sym}
+use Rattle.std.proofs.Common.{◌≡◌, ◌∙◌, false, not, sym, ap}
 use Rattle.std.proofs.lemmas.Result.{IfOk-weaker}
 use Rattle.ags_rows.specs.declared.code.Code.TheVariants.{Rule19}
 use Rattle.ags_rows.specs.Names.{is_group_name}
 use Rattle.ags_rows.specs.Collecting.{Adds, Notes}
-use Rattle.ags_rows.proofs.Collecting.{adds_found, adds_clear, two_rules}
+use Rattle.ags_rows.proofs.Collecting.{adds_found, adds_unmet, two_rules}
 use Rattle.ags_rows.proofs.checking.note_name.Goals as goal
 use Rattle.ags_rows.proofs.checking.note_name.Goals.{then-not-is_group_name+in_ok-note, else-not-is_group_name}
 
@@ -14,6 +14,6 @@ returns-clause-noted c =
     let mid = c.if-not-is_group_name.findings in
     let first : Adds (Notes c.args.line Rule19 name (is_group_name name ≡ false)) old mid = elim c.if-not-is_group_name.branch [
       | then-not-is_group_name+in_ok-note w ↦ adds_found (sym c.is_group_name.ensures ∙ w.if-not-is_group_name.true) (w.findings-is ∙ w.in_ok-note.ensures.noted)
-      | else-not-is_group_name w ↦ adds_clear (λ is. absurd (cc (is, c.is_group_name.ensures, w.if-not-is_group_name.false))) w.findings-is
+      | else-not-is_group_name w ↦ adds_unmet (ap not (sym c.is_group_name.ensures ∙ w.if-not-is_group_name.false)) (λ is. ap not is) w.findings-is
     ] in
     IfOk-weaker c.note_repeat.result _ _ (λ _ again. two_rules old mid c.note_repeat.new.findings first again) c.note_repeat.ensures.noted

@@ -7,7 +7,7 @@ use Rattle.ags_rows.specs.Bytes.{ascii_end}
 use Rattle.ags_rows.specs.Lines.{text_line}
 use Rattle.ags_rows.specs.Collecting.{Adds, Notes, OneOf}
 use Rattle.ags_rows.specs.Stands.{byte_rules}
-use Rattle.ags_rows.proofs.Collecting.{adds_found, adds_clear, two_rules, among_more, among_all}
+use Rattle.ags_rows.proofs.Collecting.{adds_found, adds_unmet, two_rules, among_more, among_all}
 use Rattle.ags_rows.proofs.Breaking.{at_line, high_any, any_high, lf_same, same_lf}
 use Rattle.ags_rows.proofs.rows.note_lines.Goals as goal
 use Rattle.ags_rows.proofs.rows.note_lines.Goals.{then-has_high+in_ok-note, else-has_high, then-eq+in_ok-note-2, else-eq}
@@ -22,11 +22,11 @@ loop-i-preserved c =
     let new = c.if-eq.findings in
     let high : Adds (Notes (i + 1) Rule1 [] (Any (λ b. ascii_end ≤ b) line.content)) old mid = elim c.if-has_high.branch [
       | then-has_high+in_ok-note w ↦ adds_found (high_any line.content (sym c.has_high.ensures ∙ w.if-has_high.true)) (w.findings-is ∙ w.in_ok-note.ensures.noted)
-      | else-has_high w ↦ adds_clear (λ h. absurd (cc (any_high line.content h, c.has_high.ensures, w.if-has_high.false))) w.findings-is
+      | else-has_high w ↦ adds_unmet w.if-has_high.false (λ h. c.has_high.ensures ∙ any_high line.content h) w.findings-is
     ] in
     let ending : Adds (Notes (i + 1) Rule2a [] (line.ending ≡ Lf)) mid new = elim c.if-eq.branch [
       | then-eq+in_ok-note-2 w ↦ adds_found (lf_same line.ending (sym c.eq.ensures ∙ w.if-eq.true)) (w.findings-is ∙ w.in_ok-note-2.ensures.noted)
-      | else-eq w ↦ adds_clear (λ e. absurd (cc (same_lf line.ending e, c.eq.ensures, w.if-eq.false))) w.findings-is
+      | else-eq w ↦ adds_unmet w.if-eq.false (λ e. c.eq.ensures ∙ same_lf line.ending e) w.findings-is
     ] in
     among_more (map text_line lines) (λ place line. OneOf (byte_rules (place + 1) line)) i line c.args.findings.now old new
     (at_line lines i _ c.loop-i-test.true) c.loop-i.invariant (two_rules old mid new high ending)

@@ -1,0 +1,8 @@
+use Rattle.std.proofs.Common.{◌∙◌, [], ◌∷◌}
+use Rattle.std.specs.Prelude.{codes}
+use Rattle.ags_rows.proofs.Lemmas.{any_other_way}
+use Rattle.ags_dict.proofs.dictionary.has_no_parent.Goals as goal
+
+pub returns : goal.returns
+returns c =
+    c.contains.ensures.value ∙ any_other_way c.args.group.now (codes "PROJ" ∷ codes "TRAN" ∷ codes "ABBR" ∷ codes "DICT" ∷ codes "UNIT" ∷ codes "TYPE" ∷ codes "FILE" ∷ [])
