@@ -1,5 +1,5 @@
 -- What the rows of the groups of a name have, and what is looked up of it.
-use Rattle.std.proofs.Common.{◌≡◌, ◌≢◌, ℕ, Bool, true, false, not, cond, List, [], ◌∷◌, ◌++◌, map, take, length, get_or, flat_map, ◌+◌, ◌<◌, None, refl, sym, ap, subst, ◌∙◌, inl, inr}
+use Rattle.std.proofs.Common.{◌≡◌, ◌≢◌, ℕ, Bool, true, false, not, cond, List, [], ◌∷◌, ◌++◌, map, take, length, get_or, flat_map, ◌+◌, ◌<◌, None, refl, sym, ap, subst, ◌∙◌, inl, inr, append_assoc}
 use Rattle.std.specs.Prelude.{◌↔◌, ◌&&◌, IsTrue, Contains, codes}
 use Rattle.std.specs.Str.{bytes_eq}
 use Rattle.std.proofs.lemmas.Bool.{true≢false, cond-true}
@@ -159,3 +159,13 @@ unlisted_pair file held separator heading text b has same means = (
             (part.0, r.0, part.1, part.2, true_not (has_pair held heading r.0) (λ e. r.4 (pair_is file held heading r.0 has e))),
       ),
 )
+
+-- ---- what is made of the rows of a group, row after row
+
+pub mapped_more : {X Y Z : Type 0} (f : Y → Z) (g : X → Y) (start out : List Z) (xs : List X) (i : ℕ) (x : X) → i < length xs → x ≡ get_or xs i x
+    → out ≡ start ++ map f (map g (take i xs)) → out ++ f (g x) ∷ [] ≡ start ++ map f (map g (take (i + 1) xs))
+mapped_more f g start out xs i x lt is so_far =
+    ap (λ l. l ++ f (g x) ∷ []) so_far ∙ append_assoc start (map f (map g (take i xs))) (f (g x) ∷ [])
+    ∙ ap (λ l. start ++ l)
+    (ap (λ y. map f (map g (take i xs)) ++ f (g y) ∷ []) is ∙ sym (map-append f (map g (take i xs)) (g (get_or xs i x) ∷ [])) ∙ ap (map f) (sym (map-append g (take i xs) (get_or xs i x ∷ [])))
+    ∙ ap (λ l. map f (map g l)) (sym (take_more xs i x lt)))

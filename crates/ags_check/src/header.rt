@@ -15,7 +15,9 @@ pub(crate) mod only_rows;
 use crate::header::groups::{
     note_absent_group, note_lacking_parent, note_unknown_group, unknown_code,
 };
-use crate::header::headings::{note_absent, note_misnamed, note_misplaced, note_unknown};
+use crate::header::headings::{
+    note_absent_keys, note_absent_required, note_misnamed, note_misplaced, note_unknown,
+};
 use crate::header::only_rows::{note_further_rows, note_long_sign};
 use crate::named_groups::NamedGroups;
 use ags_dict::Dictionary;
@@ -38,14 +40,11 @@ fn note_heading_row(
     let line = group.heading_line;
     let row = Places::of_cells(alloc, group.headings.as_slice())?;
     let headings = row.names();
-    let keys = extended.keys(alloc, name)?;
-    let required = extended.required(alloc, name)?;
     note_unknown(extended, name, headings, line, code, findings)?;
     note_misplaced(extended, name, headings, line, findings)?;
-    note_absent(keys.as_slice(), &row, line, Code::Rule10a, findings)?;
-    note_absent(required.as_slice(), &row, line, Code::Rule10b, findings)?;
-    note_misnamed(given, extended, name, headings, line, findings)?;
-    Ok(())
+    note_absent_keys(alloc, extended, name, &row, line, findings)?;
+    note_absent_required(alloc, extended, name, &row, line, findings)?;
+    note_misnamed(given, extended, name, headings, line, findings)
 }
 
 /// The same, where the dictionary has an entry for the group.
@@ -65,8 +64,7 @@ fn note_known_heading_row(
     if !extended.has_group(group.name.as_slice()) {
         return Ok(());
     }
-    note_heading_row(alloc, given, extended, code, group, findings)?;
-    Ok(())
+    note_heading_row(alloc, given, extended, code, group, findings)
 }
 
 /// What the DATA rows of PROJ and TRAN break.
@@ -76,8 +74,7 @@ fn note_only_rows(group: &Group, findings: &mut NotedFindings) -> Result<(), All
     note_long_sign(group, Code::Rule11a, b"TRAN_DLIM", findings)?;
     note_long_sign(group, Code::Rule11b, b"TRAN_RCON", findings)?;
     note_further_rows(group, Code::Rule13, b"PROJ", findings)?;
-    note_further_rows(group, Code::Rule14, b"TRAN", findings)?;
-    Ok(())
+    note_further_rows(group, Code::Rule14, b"TRAN", findings)
 }
 
 /// What one group breaks.
@@ -97,8 +94,7 @@ fn note_header_rows(
     note_unknown_group(extended, code, group, findings)?;
     note_lacking_parent(extended, file, group, findings)?;
     note_known_heading_row(alloc, given, extended, code, group, findings)?;
-    note_only_rows(group, findings)?;
-    Ok(())
+    note_only_rows(group, findings)
 }
 
 /// What the groups break, one after the other.
@@ -128,8 +124,7 @@ fn note_absent_groups(file: &NamedGroups, findings: &mut NotedFindings) -> Resul
     note_absent_group(file, Code::Rule13, b"PROJ", findings)?;
     note_absent_group(file, Code::Rule14, b"TRAN", findings)?;
     note_absent_group(file, Code::Rule15, b"UNIT", findings)?;
-    note_absent_group(file, Code::Rule17, b"TYPE", findings)?;
-    Ok(())
+    note_absent_group(file, Code::Rule17, b"TYPE", findings)
 }
 
 /// The findings of the fourth phase, in order, each once.

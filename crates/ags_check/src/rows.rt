@@ -119,8 +119,7 @@ fn note_group_entries<'a>(
 {
     let outline = Outline::of(alloc, dictionary, group)?;
     note_columns(listed, &outline, findings)?;
-    note_data_rows(index, listed, &outline, first, findings)?;
-    Ok(())
+    note_data_rows(index, listed, &outline, first, findings)
 }
 
 /// What the UNIT, TYPE and DATA rows of all groups break.

@@ -1,8 +1,9 @@
 -- A text cut at a separator, and the key text of its parts.
-use Rattle.std.proofs.Common.{◌≡◌, ℕ, zero, suc, ◌+◌, ◌<◌, ◌≤◌, Bool, true, false, cond, eqb, List, [], ◌∷◌, ◌++◌, take, drop, length, get_or, flat_map, Some, None, refl, sym, ap, ◌∙◌, append_assoc, arith, position, ◌-◌, ltb, inl, inr}
+use Rattle.std.proofs.Common.{◌≡◌, ◌≢◌, ℕ, zero, suc, ◌+◌, ◌<◌, ◌≤◌, Bool, true, false, cond, eqb, List, [], ◌∷◌, ◌++◌, take, drop, length, get_or, flat_map, Some, None, refl, sym, ap, ◌∙◌, append_assoc, arith, position, ◌-◌, ltb, inl, inr}
 use Rattle.std.proofs.lemmas.List.Quantifiers.{position-Some}
 use Rattle.std.specs.List.{position_or_len}
-use Rattle.std.proofs.lemmas.Bool.{cases_lt, lt-ltb, cond-true}
+use Rattle.std.proofs.lemmas.Bool.{cases_lt, lt-ltb, cond-true, eq-eqb}
+use Rattle.std.proofs.lemmas.Bool.Decides.{eqb_tells}
 use Rattle.std.proofs.lemmas.List.{take_rest}
 use Rattle.std.proofs.lemmas.List.Sums.{fails_before_first}
 use Rattle.ags_rows.specs.Parts.{parts_at}
@@ -54,6 +55,16 @@ part_left s front rest all e so_far =
 -- what a byte of a text that is cut adds to it
 abbrev pub piece_byte : ℕ → ℕ → List ℕ
 piece_byte s b = cond (eqb b s) (end_mark ∷ []) (byte_text b)
+
+-- the separator, and any other byte
+pub piece_end : (s b : ℕ) → b ≡ s → piece_byte s b ≡ end_mark ∷ []
+piece_end s b e = rw (eq-eqb b s e) refl
+
+pub piece_other : (s b : ℕ) → b ≢ s → piece_byte s b ≡ byte_text b
+piece_other s b other = elim (eqb_tells b s) [
+  | inl h ↦ absurd (other h.1)
+  | inr h ↦ rw h.0 refl
+]
 
 -- a list has a first item
 abbrev HasFirst : List (List ℕ) → Type 0

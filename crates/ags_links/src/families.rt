@@ -25,6 +25,14 @@ pub(crate) struct Family<'s, 'd> {
     pub(crate) links: Vec<Option<usize>>,
 }
 
+/// The rows by key, the first row of each key, and the rows of FILE by file set.
+#[derive(Drop)]
+pub(crate) struct KeyedRows {
+    pub(crate) by_key: Lookup,
+    pub(crate) firsts: Vec<u32>,
+    pub(crate) by_file_set: Lookup,
+}
+
 /// Where the names stand among the headings.
 pub(crate) fn places_of(
     alloc: Global,
@@ -111,7 +119,7 @@ pub(crate) fn rows_by_group(alloc: Global, rows: &[PlacedRow<'_, '_>]) -> Result
 }
 
 /// The rows by their groups and key entries.
-pub(crate) fn rows_by_key(
+fn rows_by_key(
     alloc: Global,
     dictionary: &Dictionary,
     rows: &[PlacedRow<'_, '_>],
@@ -133,7 +141,7 @@ pub(crate) fn rows_by_key(
 }
 
 /// For each row the first row of its group with an equal key (Rule 10a).
-pub(crate) fn firsts_of_keys(
+fn firsts_of_keys(
     alloc: Global,
     dictionary: &Dictionary,
     rows: &[PlacedRow<'_, '_>],
@@ -148,7 +156,7 @@ pub(crate) fn firsts_of_keys(
 }
 
 /// The rows of FILE by their FILE_FSET.
-pub(crate) fn rows_by_file_set(
+fn rows_by_file_set(
     alloc: Global,
     dictionary: &Dictionary,
     rows: &[PlacedRow<'_, '_>],
@@ -168,6 +176,29 @@ pub(crate) fn rows_by_file_set(
         }
     }
     rows_by_text(alloc, pairs)
+}
+
+/// The rows by key and by file set.
+pub(crate) fn keyed_rows(
+    alloc: Global,
+    dictionary: &Dictionary,
+    rows: &[PlacedRow<'_, '_>],
+    families: &[Family<'_, '_>],
+) -> Result<KeyedRows, AllocError>
+    requires few { length rows.now < 2 ^ 32 }
+    requires kept { All (HasFamily dictionary.now families.now) rows.now }
+    ensures keyed { IfOk result (λ kept. Finds kept.by_key (HasText (map row_of rows.now) (HasKeyText dictionary.now))) }
+    ensures firsts { IfOk result (λ kept. AreFirstsOfKeys (map row_of rows.now) dictionary.now kept.firsts.items) }
+    ensures filed { IfOk result (λ kept. Finds kept.by_file_set (HasText (map row_of rows.now) HasFileSet)) }
+{
+    let by_key = rows_by_key(alloc, dictionary, rows, families)?;
+    let firsts = firsts_of_keys(alloc, dictionary, rows, &by_key)?;
+    let by_file_set = rows_by_file_set(alloc, dictionary, rows, families)?;
+    Ok(KeyedRows {
+        by_key,
+        firsts,
+        by_file_set,
+    })
 }
 
 /// What is kept for the row's group.

@@ -4,11 +4,10 @@ ghost use Rattle.std.specs.Prelude.{◌≡◌, ◌<◌, ◌↔◌, ℕ, IfOk, Is
 ghost use Rattle.std.specs.List.Sorted.{IsStrictlyIncreasing};
 ghost use Rattle.ags_rows.specs.Contents.{contents_of};
 
-use crate::families::{
-    Family, families, firsts_of_keys, rows_by_file_set, rows_by_group, rows_by_key,
-};
+use crate::families::{Family, families, keyed_rows};
+use crate::listed_parents::listed_parents;
 use crate::lookup::{Lookup, Span, rows_with};
-use crate::parents::{ParentLists, parent_spans, parents, part_of, without_texts};
+use crate::parents::{ParentLists, part_of};
 use crate::placed::{PlacedRow, field, place_rows};
 use crate::separators::{Separators, separators_in};
 use crate::texts::{distinct, link_parts, pieces_text, push_parts};
@@ -88,27 +87,19 @@ impl<'s, 'f, 'd> Index<'s, 'f, 'd> {
         let groups = scan.groups();
         let rows = place_rows(alloc, scan)?;
         let families = families(alloc, groups, dictionary, &rows)?;
-        // the rows by group are let go before more is kept, and the texts once they are looked up
-        let looked_up = {
-            let by_group = rows_by_group(alloc, &rows)?;
-            parents(alloc, groups, dictionary, &rows, &families, &by_group)?
-        };
-        let spans = parent_spans(alloc, &rows, &looked_up)?;
-        let parents = without_texts(alloc, looked_up)?;
-        let by_key = rows_by_key(alloc, dictionary, &rows, &families)?;
-        let firsts = firsts_of_keys(alloc, dictionary, &rows, &by_key)?;
-        let by_file_set = rows_by_file_set(alloc, dictionary, &rows, &families)?;
+        let listed = listed_parents(alloc, groups, dictionary, &rows, &families)?;
+        let keyed = keyed_rows(alloc, dictionary, &rows, &families)?;
         Ok(Index {
             alloc,
             groups,
             dictionary,
             rows,
             families,
-            parents,
-            spans,
-            firsts,
-            by_key,
-            by_file_set,
+            parents: listed.parents,
+            spans: listed.spans,
+            firsts: keyed.firsts,
+            by_key: keyed.by_key,
+            by_file_set: keyed.by_file_set,
             separators: separators_in(groups),
         })
     }
@@ -215,9 +206,7 @@ impl<'s, 'f, 'd> Index<'s, 'f, 'd> {
             self.separators.concatenator,
             field(kept, family.headings.find(heading)),
         )?;
-        // the proof speaks of the list by its name
-        let once = distinct(self.alloc, parts)?;
-        Ok(once)
+        distinct(self.alloc, parts)
     }
 
     /// The parts of the row's record links, each once.
@@ -233,9 +222,7 @@ impl<'s, 'f, 'd> Index<'s, 'f, 'd> {
             kept,
             &family.links,
         )?;
-        // the proof speaks of the list by its name
-        let once = distinct(self.alloc, parts)?;
-        Ok(once)
+        distinct(self.alloc, parts)
     }
 
     /// Whether some part of what stands in the row under a heading, read as a record link (Rule 11), names no row.

@@ -8,6 +8,7 @@ mod families;
 mod graph;
 mod index;
 pub mod laws;
+mod listed_parents;
 mod lookup;
 mod parents;
 mod placed;

@@ -7,13 +7,13 @@ ghost use Rattle.ags_rows.specs.Contents.{place_in};
 ghost use Rattle.ags_links.specs.EntryLists.{IsEntryList};
 ghost use Rattle.ags_links.specs.Families.{HasText, HasGroupName, HasEntries, HasAmong, HasFamily, IsFamily, AreFamilies, AreKept, is_one_of};
 ghost use Rattle.ags_links.specs.Lookups.{Finds, FindsAsked, found};
-ghost use Rattle.ags_links.specs.ParentRows.{AreLinkHeadings, link_names, text_at, IsParentLinks, AreParentLinks, texts_in, AreNumbers, IsAmongUsers, AreUsersBelow, HasUsers, HaveUsers, HasPlaces, IsLookupAt, AreLookups, IsPlacedAt, AreParents, HasLookup, AreParentSpans, AreRowsOf, IsInside, part_of};
+ghost use Rattle.ags_links.specs.ParentRows.{AreLinkHeadings, link_names, text_at, IsParentLinks, AreParentLinks, texts_in, AreNumbers, IsAmongUsers, AreUsersBelow, HasUsers, HaveUsers, HasPlaces, IsLookupAt, AreLookups, IsPlacedAt, AreParents, IsInside, part_of};
 ghost use Rattle.ags_links.specs.Placing.{row_of, ListsTexts};
 
 use crate::candidates::candidates;
 use crate::entry_lists::{EntryLists, entry_lists};
 use crate::families::{Family, family_at, places_of};
-use crate::lookup::{Lookup, Span, all_rows, rows_by_text, rows_with, span_of};
+use crate::lookup::{Lookup, Span, rows_by_text, rows_with};
 use crate::placed::PlacedRow;
 use crate::texts::{names_text, push_entries};
 use ags_dict::Dictionary;
@@ -230,8 +230,7 @@ fn lookup_for<'s>(
         (HasAmong links.now.rows.now (map row_of rows.now) (HasEntries (link_names links.now)))) }
 {
     let numbers = candidates(alloc, dictionary, rows, families, links, lists, row, places)?;
-    let lookup = rows_by_entries(alloc, dictionary, rows, families, &links.headings, &numbers)?;
-    Ok(lookup)
+    rows_by_entries(alloc, dictionary, rows, families, &links.headings, &numbers)
 }
 
 /// The look-up at this place: by the entries that its users ask for, so that for one row it has no more than that needs.
@@ -381,6 +380,42 @@ fn link_places(
     Ok(of_groups)
 }
 
+/// Where each group's link headings stand in its rows, and which look-up it shares with the groups of the same links.
+fn shared_places(
+    alloc: Global,
+    families: &[Family<'_, '_>],
+    links: &[ParentLinks<'_, '_>],
+) -> Result<Vec<LinkPlaces>, AllocError>
+    requires { length families.now ≡ length links.now }
+    ensures { IfOk result (λ of_groups. AreKept links.now of_groups.items (IsPlacedAt families.now (texts_in links.now))) }
+{
+    let texts = texts_of(alloc, links)?;
+    link_places(alloc, families, links, &texts)
+}
+
+/// The look-ups, one for each group, each for the rows that use it.
+fn used_lookups<'s>(
+    alloc: Global,
+    dictionary: &Dictionary,
+    rows: &[PlacedRow<'s, '_>],
+    families: &[Family<'_, '_>],
+    links: &[ParentLinks<'_, 's>],
+    of_groups: &[LinkPlaces],
+) -> Result<Vec<Lookup>, AllocError>
+    requires few { length rows.now < 2 ^ 32 }
+    requires kept { All (HasFamily dictionary.now families.now) rows.now }
+    requires grouped { All (HasPlaces of_groups.now) rows.now }
+    requires numbers { All (AreNumbers (length rows.now)) links.now }
+    requires size { length of_groups.now ≡ length links.now }
+    ensures { IfOk result (λ lookups. AreLookups rows.now of_groups.now links.now lookups.items) }
+{
+    let users = users_of(alloc, rows, of_groups)?;
+    let lists = entry_lists(alloc, dictionary, rows, families, links, &users)?;
+    lookups(
+        alloc, dictionary, rows, families, links, &lists, of_groups, &users,
+    )
+}
+
 /// For each group the rows of its parent group, by their entries under its link headings.
 pub(crate) fn parents(
     alloc: Global,
@@ -397,65 +432,9 @@ pub(crate) fn parents(
     ensures { IfOk result (AreParents dictionary.now rows.now groups.now) }
 {
     let links = all_parent_links(alloc, groups, dictionary, rows, families, by_group)?;
-    let texts = texts_of(alloc, &links)?;
-    let of_groups = link_places(alloc, families, &links, &texts)?;
-    let users = users_of(alloc, rows, &of_groups)?;
-    let lists = entry_lists(alloc, dictionary, rows, families, &links, &users)?;
-    let lookups = lookups(
-        alloc, dictionary, rows, families, &links, &lists, &of_groups, &users,
-    )?;
+    let of_groups = shared_places(alloc, families, &links)?;
+    let lookups = used_lookups(alloc, dictionary, rows, families, &links, &of_groups)?;
     Ok(ParentLookups { of_groups, lookups })
-}
-
-/// Where the parent rows of each row stand in the look-up of its group. Rows that follow one another often belong to rows
-/// that do, so those of a row are looked for first where those of the row before end.
-pub(crate) fn parent_spans(
-    alloc: Global,
-    rows: &[PlacedRow<'_, '_>],
-    parents: &ParentLookups,
-) -> Result<Vec<Span>, AllocError>
-    requires { All (HasLookup parents.now) rows.now }
-    ensures { IfOk result (λ spans. AreParentSpans rows.now parents.now spans.items) }
-{
-    let mut spans = Vec::with_capacity(alloc, rows.len())?;
-    let mut text = Vec::new(alloc);
-    let mut near = 0;
-    for row in rows {
-        let links = &parents.of_groups[row.place];
-        text.clear();
-        push_entries(&mut text, row, &links.places)?;
-        let span = span_of(&parents.lookups[links.lookup], near, &text);
-        spans.push(span)?;
-        near = span.end;
-    }
-    Ok(spans)
-}
-
-/// The rows of each look-up.
-fn rows_alone(alloc: Global, lookups: &[Lookup]) -> Result<Vec<Vec<u32>>, AllocError>
-    ensures { IfOk result (λ lists. AreRowsOf lookups.now lists.items) }
-{
-    let mut lists = Vec::new(alloc);
-    for lookup in lookups {
-        let list = Vec::from_slice(alloc, all_rows(lookup))?;
-        lists.push(list)?;
-    }
-    Ok(lists)
-}
-
-/// The rows of each look-up. The texts that these were found by are let go.
-pub(crate) fn without_texts(
-    alloc: Global,
-    parents: ParentLookups,
-) -> Result<ParentLists, AllocError>
-    ensures groups { IfOk result (λ kept. kept.of_groups ≡ parents.of_groups) }
-    ensures lists { IfOk result (λ kept. AreRowsOf parents.lookups.items kept.lists.items) }
-{
-    let lists = rows_alone(alloc, &parents.lookups)?;
-    Ok(ParentLists {
-        of_groups: parents.of_groups,
-        lists,
-    })
 }
 
 /// The numbers of a span.

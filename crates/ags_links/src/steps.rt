@@ -35,8 +35,7 @@ fn add_links(index: &Index<'_, '_, '_>, row: u32, found: &mut Vec<u32>) -> Resul
     ensures { OnOk result (AddsRows found.old.items found.new.items (IsLinkedAt index.now row)) }
 {
     let parts = index.linked_parts(row)?;
-    add_named(index, &parts, found)?;
-    Ok(())
+    add_named(index, &parts, found)
 }
 
 /// Adds the rows that the row steps to by its record links, if it is in a data group.

@@ -86,8 +86,7 @@ pub(crate) fn push_group_entries(
 {
     let group = row.group;
     push_text(out, group.name.as_slice())?;
-    push_entries(out, row, keys)?;
-    Ok(())
+    push_entries(out, row, keys)
 }
 
 /// A name, then others, as one text.

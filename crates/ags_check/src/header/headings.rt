@@ -1,17 +1,17 @@
 //! What the HEADING row of a group breaks.
 
 ghost use Rattle.std.specs.Prelude.{◌≡◌, ◌↔◌, ◌++◌, ℕ, List, IsTrue, OnOk, None, MatchOption, map};
-ghost use Rattle.ags_rows.specs.declared.code.Code.TheVariants.{Rule7, Rule19b};
+ghost use Rattle.ags_rows.specs.declared.code.Code.TheVariants.{Rule7, Rule10a, Rule10b, Rule19b};
 ghost use Rattle.ags_rows.specs.Collecting.{Adds};
 ghost use Rattle.ags_rows.specs.Contents.{place_in};
-ghost use Rattle.ags_dict.specs.Entries.{order_of};
+ghost use Rattle.ags_dict.specs.Entries.{order_of, keys_of, required_of};
 ghost use Rattle.ags_check.specs.Placing.{AtNames};
 ghost use Rattle.ags_check.specs.Header.{BeginsWithName};
 ghost use Rattle.ags_check.specs.HeaderSteps.{later, is_behind, IsOvertaken, IsMisnamedBy};
 
 use ags_dict::Dictionary;
 use ags_rows::{Code, NotedFindings, Places};
-use std::alloc::AllocError;
+use std::alloc::{AllocError, Global};
 
 /// Rules 9 and 18: notes the headings that are not in the group's order.
 pub(crate) fn note_unknown(
@@ -35,7 +35,7 @@ pub(crate) fn note_unknown(
 }
 
 /// Rules 10a and 10b: notes the listed headings that are not in the row.
-pub(crate) fn note_absent(
+fn note_absent(
     listed: &[&[u8]],
     row: &Places,
     line: u32,
@@ -52,6 +52,40 @@ pub(crate) fn note_absent(
         }
     }
     Ok(())
+}
+
+/// Rule 10a: notes the KEY headings of the group that are not in the row.
+pub(crate) fn note_absent_keys(
+    alloc: Global,
+    dictionary: &Dictionary,
+    group: &[u8],
+    row: &Places,
+    line: u32,
+    findings: &mut NotedFindings,
+) -> Result<(), AllocError>
+    ensures { OnOk result (Adds (AtNames line Rule10a (keys_of dictionary.now group.now)
+        (λ _ name. place_in row.now name ≡ None))
+        findings.old findings.new) }
+{
+    let keys = dictionary.keys(alloc, group)?;
+    note_absent(keys.as_slice(), row, line, Code::Rule10a, findings)
+}
+
+/// Rule 10b: notes the REQUIRED headings of the group that are not in the row.
+pub(crate) fn note_absent_required(
+    alloc: Global,
+    dictionary: &Dictionary,
+    group: &[u8],
+    row: &Places,
+    line: u32,
+    findings: &mut NotedFindings,
+) -> Result<(), AllocError>
+    ensures { OnOk result (Adds (AtNames line Rule10b (required_of dictionary.now group.now)
+        (λ _ name. place_in row.now name ≡ None))
+        findings.old findings.new) }
+{
+    let required = dictionary.required(alloc, group)?;
+    note_absent(required.as_slice(), row, line, Code::Rule10b, findings)
 }
 
 /// The later of two places.

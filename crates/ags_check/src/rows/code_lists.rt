@@ -3,7 +3,7 @@
 ghost use Rattle.std.specs.Prelude.{◌≡◌, ◌≢◌, ◌++◌, ◌↔◌, [], None, true, false, IsTrue, IfOk, OnOk, map, if◌then◌else◌};
 ghost use Rattle.std.specs.Str.{bytes_eq};
 ghost use Rattle.ags_rows.specs.Contents.{place_in, under, group_contents, contents_of};
-ghost use Rattle.ags_check.specs.CodeLists.{listed_texts, abbreviation_in, abbreviations, pair_texts, has_pair, lacks_part};
+ghost use Rattle.ags_check.specs.CodeLists.{listed_texts, abbreviation_in, abbreviations, pair_texts, has_pair, HasPairs, lacks_part};
 ghost use Rattle.ags_check.specs.RowRules.{IsUnlistedUnit, IsUnlistedType, IsUnlistedAbbreviation};
 
 use crate::rows::abbreviations::Abbreviations;
@@ -123,6 +123,17 @@ fn pairs<'a>(
     Ok(pairs)
 }
 
+/// The headings and codes of ABBR, to be looked up.
+fn listed_abbreviations<'a>(
+    alloc: Global,
+    groups: &'a [Group<'_>],
+) -> Result<Abbreviations<'a>, AllocError>
+    ensures { IfOk result (λ listed. HasPairs listed.held (abbreviations (contents_of groups.now))) }
+{
+    let pairs = pairs(alloc, groups)?;
+    Abbreviations::of(alloc, pairs.as_slice())
+}
+
 /// The texts that stand under a heading in the groups of this name, to be looked up.
 fn places<'a>(
     alloc: Global,
@@ -164,12 +175,11 @@ impl<'a> CodeLists<'a> {
     pub(crate) fn of(alloc: Global, groups: &'a [Group<'a>]) -> Result<Self, AllocError>
         ensures { IfOk result (λ listed. listed ≡ contents_of groups.now) }
     {
-        let pairs = pairs(alloc, groups)?;
         Ok(CodeLists {
             groups,
             units: places(alloc, groups, b"UNIT", b"UNIT_UNIT")?,
             types: places(alloc, groups, b"TYPE", b"TYPE_TYPE")?,
-            abbreviations: Abbreviations::of(alloc, pairs.as_slice())?,
+            abbreviations: listed_abbreviations(alloc, groups)?,
             concatenator: separators_in(groups).concatenator,
         })
     }

@@ -1,11 +1,12 @@
 //! What a group's header and the dictionary say of its rows.
 
 ghost use Rattle.std.specs.Prelude.{◌≡◌, ◌≢◌, ◌<◌, ◌↔◌, [], false, IsTrue, IfOk, codes, length};
-ghost use Rattle.ags_rows.specs.Contents.{under};
+ghost use Rattle.ags_rows.specs.Contents.{group_contents, under};
 ghost use Rattle.ags_rows.specs.Names.{is_definition};
-ghost use Rattle.ags_dict.specs.Entries.{keys_of};
+ghost use Rattle.ags_dict.specs.Entries.{keys_of, required_of};
 ghost use Rattle.ags_links.specs.DataRows.{DataRow, IsDataRow};
 ghost use Rattle.ags_links.specs.Indexing.{rows_in};
+ghost use Rattle.ags_check.specs.Columns.{AreColumns};
 ghost use Rattle.ags_check.specs.RowRules.{RepeatsKey, LacksParentRow};
 
 use crate::rows::columns::{Column, columns};
@@ -39,6 +40,21 @@ impl<'a> Model for Outline<'a> {
         o.has_keys o.has_parent o.is_data };
 }
 
+/// What the group says of its REQUIRED headings.
+fn required_columns<'a>(
+    alloc: Global,
+    dictionary: &'a Dictionary,
+    group: &'a Group<'_>,
+    places: &Places<'_>,
+) -> Result<Vec<Column<'a>>, AllocError>
+    requires { places.now ≡ group.now.headings }
+    ensures { IfOk result (λ columns.
+        AreColumns (group_contents group.now) (required_of dictionary.now group.now.name) columns.items) }
+{
+    let required = dictionary.required(alloc, group.name.as_slice())?;
+    columns(alloc, group, places, required.as_slice())
+}
+
 /// Whether the group has KEY headings.
 fn has_keys(alloc: Global, dictionary: &Dictionary, name: &[u8]) -> Result<bool, AllocError>
     ensures { IfOk result (λ has. IsTrue has ↔ (keys_of dictionary.now name.now ≢ [])) }
@@ -65,9 +81,8 @@ impl<'a> Outline<'a> {
     {
         let name = group.name.as_slice();
         let places = Places::of_cells(alloc, group.headings.as_slice())?;
-        let required = dictionary.required(alloc, name)?;
         let own_columns = columns(alloc, group, &places, places.names())?;
-        let required_columns = columns(alloc, group, &places, required.as_slice())?;
+        let required_columns = required_columns(alloc, dictionary, group, &places)?;
         let has_keys = has_keys(alloc, dictionary, name)?;
         Ok(Outline {
             group,

@@ -4,6 +4,7 @@ use Rattle.ags_rows.specs.Contents.{contents_of}
 use Rattle.ags_rows.proofs.Lemmas.{one_more, one_none}
 use Rattle.ags_rows.specs.Collecting.{Notes}
 use Rattle.ags_check.specs.Header.{HasGroup}
+use Rattle.std.proofs.lemmas.Result.{on_ok_weaker}
 use Rattle.ags_check.proofs.header.note_absent_groups.Goals as goal
 
 pub returns : goal.returns
@@ -17,7 +18,8 @@ returns c =
     let transmission = Notes 0 Rule14 (codes "TRAN") (¬ (HasGroup file (codes "TRAN"))) in
     let units = Notes 0 Rule15 (codes "UNIT") (¬ (HasGroup file (codes "UNIT"))) in
     let types = Notes 0 Rule17 (codes "TYPE") (¬ (HasGroup file (codes "TYPE"))) in
+    on_ok_weaker c.note_absent_group-4.result (λ last.
     one_more _ (transmission ∷ units ∷ types ∷ []) a b f c.in_ok-note_absent_group.ensures
     (one_more transmission (units ∷ types ∷ []) b d f c.in_ok-note_absent_group-2.ensures
     (one_more units (types ∷ []) d e f c.in_ok-note_absent_group-3.ensures
-    (one_more types [] e f f c.in_ok-note_absent_group-4.ensures (one_none f))))
+    (one_more types [] e f f last (one_none f))))) c.note_absent_group-4.ensures

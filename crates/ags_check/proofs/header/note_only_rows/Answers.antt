@@ -4,6 +4,7 @@ use Rattle.ags_rows.specs.Contents.{group_contents}
 use Rattle.ags_rows.proofs.Lemmas.{one_more, one_none}
 use Rattle.ags_check.specs.Header.{IsLongSign, IsFurtherRow}
 use Rattle.ags_check.specs.Placing.{AtRow}
+use Rattle.std.proofs.lemmas.Result.{on_ok_weaker}
 use Rattle.ags_check.proofs.header.note_only_rows.Goals as goal
 
 pub returns : goal.returns
@@ -17,7 +18,8 @@ returns c =
     let concatenator = AtRow Rule11b (codes "TRAN_RCON") (IsLongSign (codes "TRAN_RCON") (group_contents group)) group in
     let project = AtRow Rule13 (codes "PROJ") (IsFurtherRow (codes "PROJ") (group_contents group)) group in
     let transmission = AtRow Rule14 (codes "TRAN") (IsFurtherRow (codes "TRAN") (group_contents group)) group in
+    on_ok_weaker c.note_further_rows-2.result (λ last.
     one_more _ (concatenator ∷ project ∷ transmission ∷ []) a b f c.in_ok-note_long_sign.ensures
     (one_more concatenator (project ∷ transmission ∷ []) b d f c.in_ok-note_long_sign-2.ensures
     (one_more project (transmission ∷ []) d e f c.in_ok-note_further_rows.ensures
-    (one_more transmission [] e f f c.in_ok-note_further_rows-2.ensures (one_none f))))
+    (one_more transmission [] e f f last (one_none f))))) c.note_further_rows-2.ensures

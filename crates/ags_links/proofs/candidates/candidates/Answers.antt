@@ -6,9 +6,9 @@ use Rattle.ags_links.specs.declared.families.Family.{Family}
 use Rattle.ags_links.specs.Families.{HasEntries}
 use Rattle.ags_links.specs.ParentRows.{link_names, text_at}
 use Rattle.ags_links.specs.Placing.{row_of}
-use Rattle.ags_links.proofs.Choosing.{all_chosen, chosen_next, chosen_over, first_entry, has_no_text}
+use Rattle.ags_links.proofs.Choosing.{all_chosen, chosen_next, chosen_over, first_entry, has_no_text, none_chosen}
 use Rattle.ags_links.proofs.Heading.{places_named}
-use Rattle.ags_links.proofs.Kept.{texts}
+use Rattle.ags_links.proofs.Kept.{family_below, texts}
 use Rattle.ags_links.proofs.Members.{some_items}
 use Rattle.ags_links.proofs.RowLemmas.{at_map, read_at}
 use Rattle.ags_links.proofs.candidates.candidates.Goals as goal
@@ -47,3 +47,18 @@ loop-place-preserved c =
 
 pub returns : goal.returns
 returns c = all_chosen (map row_of c.args.rows.now) c.args.links.now.rows.now (link_names c.args.links.now) (text_at c.args.places.now c.args.row.now) c.loop-place.chosen.items c.loop-place.place c.loop-place-test.false c.loop-place.invariant
+
+pub bounds-rows-start : goal.bounds-rows-start
+bounds-rows-start c = c.requires.numbers.0 0 0 (some_items c.args.links.now.rows.now c.is_empty.result c.is_empty.ensures c.if-is_empty.false)
+
+pub bounds-families-first : goal.bounds-families-first
+bounds-families-first c =
+    let numbers = c.args.links.now.rows.now in
+    family_below c.args.dictionary.now c.args.families.now c.args.rows.now (get_or numbers 0 0) c.index-rows-start.result c.requires.kept
+    (c.requires.numbers.0 0 0 (some_items numbers c.is_empty.result c.is_empty.ensures c.if-is_empty.false), sym c.index-rows-start.is)
+
+pub loop-place-init : goal.loop-place-init
+loop-place-init c = none_chosen (map row_of c.args.rows.now) c.args.links.now.rows.now (link_names c.args.links.now) (text_at c.args.places.now c.args.row.now) c.new-chosen.result.items c.new-chosen.ensures.items
+
+pub bounds-rows-number : goal.bounds-rows-number
+bounds-rows-number c = c.requires.numbers.0 c.loop-place.place 0 c.loop-place-test.true

@@ -37,3 +37,7 @@ pub returns-clause-turns : goal.returns-clause-turns
 returns-clause-turns c =
     let d = (goal.at.returns-clause-turns c).After-deref-2 in
     c.in_ok-hidden.ensures.turns ∙ ap (turns_of c.in_ok-hidden.hidden.items) (back_is d) ∙ shown_turns c.in_ok-hidden.hidden.items c.args.graph.now.steps ∙ ap (λ ms. hidden_turns ms c.args.graph.now.steps) (sym (marks_are c))
+
+pub returns-clause-rows : goal.returns-clause-rows
+returns-clause-rows c =
+    ap length (marks_are c) ∙ length-map c.in_ok-hidden.hidden.items not ∙ c.in_ok-hidden.ensures.rows ∙ rows_are (goal.at.returns-clause-rows c).After-deref-2

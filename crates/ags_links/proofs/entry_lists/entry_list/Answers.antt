@@ -5,7 +5,7 @@ use Rattle.ags_links.specs.declared.families.Family.{Family}
 use Rattle.ags_links.specs.declared.placed.PlacedRow.{PlacedRow}
 use Rattle.ags_links.specs.EntryLists.{IsEntryUnder}
 use Rattle.ags_links.specs.Placing.{row_of}
-use Rattle.ags_links.proofs.Kept.{kept_family, kept_next}
+use Rattle.ags_links.proofs.Kept.{family_below, kept_all, kept_family, kept_next, kept_none}
 use Rattle.ags_links.proofs.RowLemmas.{one_at, read_at}
 use Rattle.ags_links.proofs.entry_lists.entry_list.Goals as goal
 
@@ -24,3 +24,17 @@ loop-number-preserved c =
     rw c.in_ok-push.ensures.items
     (kept_next (λ place. IsEntryUnder rows heading) numbers i c.loop-number.entries.items n c.field.result c.loop-number-test.true (sym (read_at numbers i 0 c.loop-number-test.true).1) c.loop-number.invariant
     (λ other at. under ∙ ap (λ (r : PlacedRow). entry_of (row_of r) heading) (one_at rows n row other stands at)))
+
+pub loop-number-init : goal.loop-number-init
+loop-number-init c = kept_none (λ place. IsEntryUnder c.args.rows.now c.args.heading.now) c.in_ok-entries.entries.items c.in_ok-entries.ensures.items
+
+pub bounds-rows-number : goal.bounds-rows-number
+bounds-rows-number c = c.requires.below c.loop-number.number-index 0 c.loop-number-test.true
+
+pub bounds-families-row : goal.bounds-families-row
+bounds-families-row c =
+    let number = get_or c.args.numbers.now c.loop-number.number-index 0 in
+    family_below c.args.dictionary.now c.args.families.now c.args.rows.now number c.index-rows-number.result c.requires.kept (c.requires.below c.loop-number.number-index 0 c.loop-number-test.true, sym c.index-rows-number.is)
+
+pub returns : goal.returns
+returns c = kept_all (λ place. IsEntryUnder c.args.rows.now c.args.heading.now) c.args.numbers.now c.loop-number.number-index c.loop-number.entries.items c.loop-number-test.false c.loop-number.invariant

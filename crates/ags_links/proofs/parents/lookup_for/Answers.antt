@@ -1,5 +1,6 @@
 use Rattle.std.proofs.Common.{◌<◌, map, sym, subst, length, All}
 use Rattle.std.specs.List.Sorted.{IsStrictlyIncreasing}
+use Rattle.std.proofs.lemmas.Result.{IfOk-weaker}
 use Rattle.ags_links.specs.Families.{HasAmong, HasEntries}
 use Rattle.ags_links.specs.Lookups.{Finds}
 use Rattle.ags_links.specs.ParentRows.{link_names, text_at}
@@ -20,6 +21,6 @@ pub returns : goal.returns
 returns c =
     let rows = map row_of c.args.rows.now in
     let names = link_names c.args.links.now in
-    let lookup = c.in_ok-lookup.lookup in
+    IfOk-weaker c.rows_by_entries.result _ _ (λ lookup finds.
     chosen_asked rows c.args.links.now.rows.now names (text_at c.args.places.now c.args.row.now) c.in_ok-numbers.numbers.items lookup c.in_ok-numbers.ensures
-    (subst (λ ns. Finds lookup (HasAmong ns rows (HasEntries names))) c.deref-2.ensures.value (subst (λ hs. Finds lookup (HasAmong c.deref-2.result.now rows (HasEntries (texts hs)))) c.deref.ensures.value c.in_ok-lookup.ensures))
+    (subst (λ ns. Finds lookup (HasAmong ns rows (HasEntries names))) c.deref-2.ensures.value (subst (λ hs. Finds lookup (HasAmong c.deref-2.result.now rows (HasEntries (texts hs)))) c.deref.ensures.value finds))) c.rows_by_entries.ensures

@@ -27,3 +27,15 @@ loop-number-preserved c =
           (c.with_user.ensures.below (length rows) (subst (AreUsersBelow (length rows)) (sym c.index-before.ensures) (c.loop-number.invariant.below k.lookup before below)) c.loop-number-test.true)
           c.loop-number.invariant.below;
     }
+
+pub bounds-of_groups-row : goal.bounds-of_groups-row
+bounds-of_groups-row c = (subst (HasPlaces c.args.of_groups.now) (sym c.index-rows-number.is) (c.requires.grouped c.loop-number.number c.index-rows-number.result c.loop-number-test.true)).0
+
+pub returns-clause-size : goal.returns-clause-size
+returns-clause-size c = c.loop-number.invariant.size
+
+pub returns-clause-users : goal.returns-clause-users
+returns-clause-users c = λ lookup d lt n row links used. c.loop-number.invariant.users lookup d n row links lt (omega (arith, used.stands.0, c.loop-number-test.false)) used
+
+pub returns-clause-below : goal.returns-clause-below
+returns-clause-below c = c.loop-number.invariant.below

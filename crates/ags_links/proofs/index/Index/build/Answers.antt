@@ -1,30 +1,59 @@
-use Rattle.std.proofs.Common.{map, subst, sym, All, rules}
+use Rattle.std.proofs.Common.{◌<◌, ◌^◌, ◌∙◌, List, All, length, map, ap, subst, sym}
+use Rattle.ags_rows.specs.Contents.{contents_of}
+use Rattle.ags_links.specs.declared.placed.PlacedRow.{PlacedRow}
+use Rattle.ags_links.specs.DataRows.{data_rows}
+use Rattle.ags_links.specs.Families.{HasFamily, HasFileSet, HasKeyText, HasText, AreFamilies}
 use Rattle.ags_links.specs.Keys.{AreFirstsOfKeys}
-use Rattle.ags_links.specs.ParentRows.{AreParents, AreParentSpans, HasLookup}
+use Rattle.ags_links.specs.Lookups.{Finds}
+use Rattle.ags_links.specs.ParentRows.{AreParentLists}
 use Rattle.ags_links.specs.Placing.{IsPlaced, row_of}
-use Rattle.ags_links.proofs.Inside.{have_lookups}
-use Rattle.ags_links.proofs.Listing.{lists_made}
 use Rattle.ags_links.proofs.index.Index.build.Goals as goal
+use Rattle.ags_links.proofs.index.Index.build.Goals.{In_ok-rows}
 
-pub parent_spans-requires : goal.parent_spans-requires
-parent_spans-requires c =
-    let groups = c.groups-groups.result.now in
-    let rows = c.in_ok-rows.rows.items in
-    let parents = c.in_ok-looked_up.looked_up in
-    let placed : All (IsPlaced groups) rows = search rules in
-    let parented : AreParents c.args.dictionary.now rows groups parents = search rules in
-    subst (All (HasLookup parents)) (sym c.deref-5.ensures.value) (have_lookups groups c.args.dictionary.now rows parents parented placed)
+-- each row stands in its group, among the groups that are handed on
+placed : (c : In_ok-rows) → All (IsPlaced c.groups-groups.result.now) c.in_ok-rows.rows.items
+placed c = subst (λ gs. All (IsPlaced gs) c.in_ok-rows.rows.items) (sym c.groups-groups.ensures) c.in_ok-rows.ensures.placed
+
+pub families-requires : goal.families-requires
+families-requires c = subst (All (IsPlaced c.groups-groups.result.now)) (sym c.deref.ensures.value) (placed (goal.at.families-requires c).In_ok-rows)
+
+pub listed_parents-requires-clause-few : goal.listed_parents-requires-clause-few
+listed_parents-requires-clause-few c = subst (λ (rows : List PlacedRow). length rows < 2 ^ 32) (sym c.deref-2.ensures.value) c.in_ok-rows.ensures.few
+
+pub listed_parents-requires-clause-placed : goal.listed_parents-requires-clause-placed
+listed_parents-requires-clause-placed c = subst (All (IsPlaced c.groups-groups.result.now)) (sym c.deref-2.ensures.value) (placed (goal.at.listed_parents-requires-clause-placed c).In_ok-rows)
+
+pub listed_parents-requires-clause-kept : goal.listed_parents-requires-clause-kept
+listed_parents-requires-clause-kept c =
+    let entries = c.args.dictionary.now in
+    subst (λ families. All (HasFamily entries families) c.deref-2.result.now) (sym c.deref-3.ensures.value)
+    (subst (All (HasFamily entries c.in_ok-families.families.items)) (c.deref.ensures.value ∙ sym c.deref-2.ensures.value) c.in_ok-families.ensures.kept)
+
+pub listed_parents-requires-clause-families : goal.listed_parents-requires-clause-families
+listed_parents-requires-clause-families c = subst (AreFamilies c.args.dictionary.now c.groups-groups.result.now) (sym c.deref-3.ensures.value) c.in_ok-families.ensures.families
+
+pub keyed_rows-requires-clause-few : goal.keyed_rows-requires-clause-few
+keyed_rows-requires-clause-few c = subst (λ (rows : List PlacedRow). length rows < 2 ^ 32) (sym c.deref-4.ensures.value) c.in_ok-rows.ensures.few
+
+pub keyed_rows-requires-clause-kept : goal.keyed_rows-requires-clause-kept
+keyed_rows-requires-clause-kept c =
+    let entries = c.args.dictionary.now in
+    subst (λ families. All (HasFamily entries families) c.deref-4.result.now) (sym c.deref-5.ensures.value)
+    (subst (All (HasFamily entries c.in_ok-families.families.items)) (c.deref.ensures.value ∙ sym c.deref-4.ensures.value) c.in_ok-families.ensures.kept)
 
 pub invariant_of-result : goal.invariant_of-result
-invariant_of-result c = record {
-  placed = search rules;
-  numbered = search rules;
-  few = search rules;
-  families = search rules;
-  parented = lists_made c.groups-groups.result.now c.args.dictionary.now c.in_ok-rows.rows.items c.in_ok-looked_up.looked_up c.in_ok-parents.parents c.in_ok-spans.spans.items (search rules) (search rules)
-      (subst (λ rows. AreParentSpans rows c.in_ok-looked_up.looked_up c.in_ok-spans.spans.items) c.deref-5.ensures.value c.in_ok-spans.ensures) c.in_ok-parents.ensures.groups c.in_ok-parents.ensures.lists;
-  first = subst (λ rows. AreFirstsOfKeys (map row_of rows) c.args.dictionary.now c.in_ok-firsts.firsts.items) c.deref-8.ensures.value c.in_ok-firsts.ensures;
-  keyed = search rules;
-  filed = search rules;
-  separated = search rules;
-}
+invariant_of-result c =
+    let entries = c.args.dictionary.now in
+    let keyed = c.in_ok-keyed.keyed in
+    let listed = c.in_ok-listed.listed in
+    record {
+      placed = placed (goal.at.invariant_of-result c).In_ok-rows;
+      numbered = c.in_ok-rows.ensures.rows ∙ ap (λ gs. data_rows (contents_of gs)) (sym c.groups-groups.ensures);
+      few = c.in_ok-rows.ensures.few;
+      families = c.in_ok-families.ensures.families;
+      parented = subst (λ rows. AreParentLists entries rows listed.parents listed.spans.items) c.deref-2.ensures.value c.in_ok-listed.ensures;
+      first = subst (λ rows. AreFirstsOfKeys (map row_of rows) entries keyed.firsts.items) c.deref-4.ensures.value c.in_ok-keyed.ensures.firsts;
+      keyed = subst (λ rows. Finds keyed.by_key (HasText (map row_of rows) (HasKeyText entries))) c.deref-4.ensures.value c.in_ok-keyed.ensures.keyed;
+      filed = subst (λ rows. Finds keyed.by_file_set (HasText (map row_of rows) HasFileSet)) c.deref-4.ensures.value c.in_ok-keyed.ensures.filed;
+      separated = c.separators_in.ensures;
+    }

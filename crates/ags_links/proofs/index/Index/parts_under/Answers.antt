@@ -1,4 +1,5 @@
 use Rattle.std.proofs.Common.{◌≡◌, ◌++◌, Contains, sym, ap, subst, ◌∙◌}
+use Rattle.std.proofs.lemmas.Result.{IfOk-weaker}
 use Rattle.ags_rows.specs.Contents.{place_in, field_at}
 use Rattle.ags_rows.specs.Parts.{parts_at}
 use Rattle.ags_links.specs.DataRows.{entry_of}
@@ -11,7 +12,7 @@ use Rattle.ags_links.proofs.RowLemmas.{one_at}
 use Rattle.ags_links.proofs.index.Index.parts_under.Goals as goal
 
 pub returns : goal.returns
-returns c = λ r row part.
+returns c = IfOk-weaker c.distinct.result _ _ (λ once lists. λ r row part.
     let file = c.args.self.now in
     let heading = c.args.heading.now in
     let kept = row_of c.kept.result.0.now in
@@ -23,5 +24,5 @@ returns c = λ r row part.
     ∙ ap (λ t. parts_at c.self.inside.separators.concatenator t) entry
     ∙ ap (λ s. parts_at s.concatenator (entry_of kept heading)) (inside_separators c.self.inside.groups.now c.self.inside.dictionary.now c.self.inside.rows.items c.self.inside.families.items c.self.inside.parents c.self.inside.spans.items c.self.inside.firsts.items c.self.inside.by_key c.self.inside.by_file_set c.self.inside.separators c.args.self.now c.self.invariant c.self.view_is)
     ∙ ap (λ q. parts_at separator (entry_of q heading)) is in
-    let same = c.in_ok-once.ensures part in
-    (λ h. subst (λ ps. Contains ps part) cut (same.0 h), λ h. same.1 (subst (λ ps. Contains ps part) (sym cut) h))
+    let same = lists part in
+    (λ h. subst (λ ps. Contains ps part) cut (same.0 h), λ h. same.1 (subst (λ ps. Contains ps part) (sym cut) h))) c.distinct.ensures

@@ -8,7 +8,7 @@ use Rattle.ags_links.specs.ParentRows.{IsParentSpan}
 use Rattle.ags_links.specs.Placing.{row_of}
 use Rattle.ags_links.proofs.Kept.{kept_none, kept_next, kept_all}
 use Rattle.ags_links.proofs.RowLemmas.{one_at}
-use Rattle.ags_links.proofs.parents.parent_spans.Goals as goal
+use Rattle.ags_links.proofs.listed_parents.parent_spans.Goals as goal
 
 pub loop-row-init : goal.loop-row-init
 loop-row-init c = kept_none (λ n. IsParentSpan c.args.parents.now) c.in_ok-spans.spans.items c.in_ok-spans.ensures.items

@@ -2,7 +2,7 @@ use Rattle.std.proofs.Common.{◌≡◌, ◌∙◌, ℕ, Vec, map}
 use Rattle.std.specs.declared.alloc.Global.{Global}
 use Rattle.ags_links.specs.Lookups.{Lookup}
 use Rattle.ags_links.proofs.Kept.{kept_none, kept_next, kept_all}
-use Rattle.ags_links.proofs.parents.rows_alone.Goals as goal
+use Rattle.ags_links.proofs.listed_parents.rows_alone.Goals as goal
 
 -- the list has the rows of the look-up
 abbrev HasRows : ℕ → Lookup → Vec ℕ Global → Type 0

@@ -1,0 +1,14 @@
+use Rattle.std.proofs.Common.{◌<◌, ℕ, take, get_or, arith}
+use Rattle.std.proofs.lemmas.List.{take_more}
+use Rattle.std.proofs.lemmas.List.Elements.{All-push}
+use Rattle.ags_links.proofs.graph.Graph.new.Goals as goal
+
+pub loop-row-init : goal.loop-row-init
+loop-row-init c = λ k d lt. absurd (omega (arith, lt))
+
+pub loop-row-preserved : goal.loop-row-preserved
+loop-row-preserved c =
+    let steps = c.deref-row-items.result.now in
+    let i = c.loop-row.row-index in
+    rw (take_more steps i (0, 0) c.loop-row-test.true)
+    (All-push (λ (p : ℕ × ℕ). (p.0 < c.args.rows) × (p.1 < c.args.rows)) (take i steps) (get_or steps i (0, 0)) c.loop-row.invariant (c.if-row-rows.false, c.if-target-rows.false))
