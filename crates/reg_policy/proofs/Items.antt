@@ -1,13 +1,15 @@
 -- What the accessors of a document say of its keys and of its items.
-use Rattle.std.proofs.Common.{◌≡◌, ℕ, ◌+◌, ◌<◌, ◌≤◌, List, [], ◌∷◌, ◌++◌, Bool, true, ◌&&◌, zero, suc, length, get_or, take, Option, Some, None, Err, String, Global, string_bytes, refl, sym, ap, ◌∙◌, subst, arith}
+use Rattle.std.proofs.Common.{◌≡◌, ℕ, ◌+◌, ◌<◌, ◌≤◌, List, [], ◌∷◌, ◌++◌, Bool, true, ◌&&◌, zero, suc, length, map, get_or, take, Option, Some, None, Result, Ok, Err, Bor, String, Global, string_bytes, refl, sym, ap, ◌∙◌, subst, arith}
+use Rattle.std.proofs.lemmas.Cmp.{nat_list_eq_equiv}
 use Rattle.std.proofs.lemmas.List.{take_more, take_all}
-use Rattle.std.specs.List.{list_all}
+use Rattle.std.specs.List.{list_all, list_any}
+use Rattle.std.specs.Result.{IsErrAnd}
 use Rattle.std.specs.Map.{keys_of}
 use Rattle.toml.specs.Data.{Data, string, integer, float, boolean, datetime, array, table, Items, Members, as_array, as_table, get_member}
 use Rattle.toml.specs.View.{view, items_view, members_view}
 use Rattle.toml.proofs.Lines.{data_of_array, data_of_table}
 use Rattle.toml.specs.declared.value.Value.{Value}
-use Rattle.reg_policy.specs.Documents.{all_items, all_keys, have_known_keys, is_known, Each, InTable, TablesSay}
+use Rattle.reg_policy.specs.Documents.{all_items, all_keys, have_known_keys, is_known_key, is_known, Each, InTable, TablesSay}
 use Rattle.reg_policy.specs.Readers.{Gives}
 use Rattle.reg_policy.specs.declared.document.ReadError.{ReadError}
 use Rattle.reg_policy.specs.declared.document.ReadError.TheVariants.{Syntax, UnknownKey, BadValue, NoMemory}
@@ -29,6 +31,11 @@ no_table P (boolean b) e a h = h
 no_table P (datetime dt) e a h = h
 no_table P (array ds) e a h = h
 no_table P (table ms) e a h = cc
+
+-- a slice of keys has a key as the list of these keys has it
+pub known_in : (known : List (Bor (List ℕ))) (key : List ℕ) → list_any (λ k. bytes_eq k.now key) known ≡ is_known_key (map (λ k. k.now) known) key
+known_in [] key = refl
+known_in (k ∷ known) key = rw (nat_list_eq_equiv.symm k.now key, known_in known key)
 
 -- the keys of a map are those of its members
 pub all_keys-view : (p : List ℕ → Bool) (es : List (String Global × Value)) → list_all (λ k. p (string_bytes k)) (keys_of es) ≡ all_keys p (members_view es)
@@ -85,3 +92,9 @@ refused P Q Syntax h f = h
 refused P Q UnknownKey h f = h
 refused P Q BadValue h f = f h
 refused P Q NoMemory h f = h
+
+-- the same of what a `?` hands on
+pub handed_on : {A B : Type 0} (P : A → Type 0) (Q : B → Type 0) (e : ReadError) (r : Result B ReadError) (Same : ReadError → Type 0) → IsErrAnd r Same
+    → ((f : ReadError) → Same f → f ≡ e) → Gives P (Err e) → (((a : A) → ¬ (P a)) → (b : B) → ¬ (Q b)) → Gives Q r
+handed_on P Q e (Ok b) Same h is bad without = absurd h
+handed_on P Q e (Err f) Same h is bad without = rw (is f h) (refused P Q e bad without)

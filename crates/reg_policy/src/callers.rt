@@ -110,8 +110,8 @@ impl FromTable for Credential {
         "caller"
     }
 
-    fn is_table_key(key: &str) -> bool {
-        key == "token" || key == "firm" || key == "role"
+    fn table_keys() -> &'static [&'static str] {
+        &["token", "firm", "role"]
     }
 
     fn of_table(alloc: Global, table: &Table) -> Result<Credential, ReadError> {

@@ -93,8 +93,15 @@ fn read_parts(text: &[u8]) -> Option<(u16, u8, u8)>
     let [y1, y2, y3, y4, b'-', m1, m2, b'-', d1, d2] = text else {
         return None;
     };
-    let year = 100 * u16::from(number_of(*y1, *y2)?) + u16::from(number_of(*y3, *y4)?);
-    Some((year, number_of(*m1, *m2)?, number_of(*d1, *d2)?))
+    let (Some(century), Some(year), Some(month), Some(day)) = (
+        number_of(*y1, *y2),
+        number_of(*y3, *y4),
+        number_of(*m1, *m2),
+        number_of(*d1, *d2),
+    ) else {
+        return None;
+    };
+    Some((100 * u16::from(century) + u16::from(year), month, day))
 }
 
 /// The number of a day, if the calendar has it.

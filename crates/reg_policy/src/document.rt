@@ -1,5 +1,5 @@
 //! A TOML document whose only key is that of an array of tables: what policies and callers share.
-ghost use Rattle.std.specs.Prelude.{◌≡◌, List, ℕ, Some};
+ghost use Rattle.std.specs.Prelude.{◌≡◌, List, ℕ, Some, map};
 ghost use Rattle.std.specs.Str.{bytes_eq};
 ghost use Rattle.toml.specs.Data.{Members, get_member};
 ghost use Rattle.toml.specs.View.{items_view, table_view, view};
@@ -35,9 +35,9 @@ pub(crate) trait FromTable: Sized + Drop {
     fn array_key() -> &'static str
         ensures { result.now ≡ array_key };
 
-    /// Whether a table of the array may have the key.
-    fn is_table_key(key: &str) -> bool
-        ensures { result ≡ is_known_key table_keys key.now };
+    /// The keys that a table of the array may have.
+    fn table_keys() -> &'static [&'static str]
+        ensures { map (λ key. key.now) result.now ≡ table_keys };
 
     /// What the table says.
     fn of_table(alloc: Global, table: &Table) -> Result<Self, ReadError>
@@ -48,63 +48,77 @@ pub(crate) trait FromTable: Sized + Drop {
 pub(crate) fn read_list<T: FromTable>(alloc: Global, text: &str) -> Result<Vec<T>, ReadError>
     ensures { ReadsList T.array_key T.table_keys T.says text.now result }
 {
-    let document = opened::<T>(alloc, text)?;
+    let document = opened(alloc, text, T::array_key(), T::table_keys())?;
     list_of(alloc, &document)
 }
 
 /// The document that a text is, if it has only keys that it may have.
-fn opened<T: FromTable>(alloc: Global, text: &str) -> Result<Table, ReadError>
-    ensures { Opens T.array_key T.table_keys text.now result }
+fn opened(
+    alloc: Global,
+    text: &str,
+    array_key: &str,
+    table_keys: &[&str],
+) -> Result<Table, ReadError>
+    ensures { Opens array_key.now (map (λ key. key.now) table_keys.now) text.now result }
 {
     let document = match toml::table_from_str(alloc, text) {
         Ok(document) => document,
         Err(error) if error.is_memory() => return Err(ReadError::NoMemory),
         Err(_) => return Err(ReadError::Syntax),
     };
-    if !is_known::<T>(&document) {
+    if !is_known(&document, array_key, table_keys) {
         return Err(ReadError::UnknownKey);
     }
     Ok(document)
 }
 
 /// Whether the document has only keys that it may have.
-fn is_known<T: FromTable>(document: &Table) -> bool
-    ensures { result ≡ is_known T.array_key T.table_keys (table_view document.now) }
+fn is_known(document: &Table, array_key: &str, table_keys: &[&str]) -> bool
+    ensures { result ≡ is_known array_key.now (map (λ key. key.now) table_keys.now) (table_view document.now) }
 {
-    if !has_one_key::<T>(document) {
+    if !has_one_key(document, array_key) {
         return false;
     }
-    match document.get(T::array_key()) {
-        Some(value) => have_known_keys::<T>(value),
+    match document.get(array_key) {
+        Some(value) => have_known_keys(value, table_keys),
         None => true,
     }
 }
 
 /// Whether the document has no key but the array's.
-fn has_one_key<T: FromTable>(document: &Table) -> bool
-    ensures { result ≡ all_keys (λ k. bytes_eq k T.array_key) (table_view document.now) }
+fn has_one_key(document: &Table, array_key: &str) -> bool
+    ensures { result ≡ all_keys (λ key. bytes_eq key array_key.now) (table_view document.now) }
 {
-    document.keys().all(|key| key.as_str() == T::array_key())
+    document.keys().all(|key| key.as_str() == array_key)
 }
 
 /// Whether the tables of the array, if the value is one, have only keys that they may have.
-fn have_known_keys<T: FromTable>(value: &Value) -> bool
-    ensures { result ≡ have_known_keys T.table_keys (Some (view value.now)) }
+fn have_known_keys(value: &Value, table_keys: &[&str]) -> bool
+    ensures { result ≡ have_known_keys (map (λ key. key.now) table_keys.now) (Some (view value.now)) }
 {
     match value.as_array() {
-        Some(items) => items.iter().all(|item| has_known_keys::<T>(item)),
+        Some(items) => items.iter().all(|item| has_known_keys(item, table_keys)),
         None => true,
     }
 }
 
 /// The same of one item, if it is a table.
-fn has_known_keys<T: FromTable>(item: &Value) -> bool
-    ensures { result ≡ has_known_keys T.table_keys (view item.now) }
+fn has_known_keys(item: &Value, table_keys: &[&str]) -> bool
+    ensures { result ≡ has_known_keys (map (λ key. key.now) table_keys.now) (view item.now) }
 {
     match item.as_table() {
-        Some(table) => table.keys().all(|key| T::is_table_key(key.as_str())),
+        Some(table) => table
+            .keys()
+            .all(|key| is_known_key(key.as_str(), table_keys)),
         None => true,
     }
+}
+
+/// Whether a table of the array may have the key.
+fn is_known_key(key: &str, table_keys: &[&str]) -> bool
+    ensures { result ≡ is_known_key (map (λ key. key.now) table_keys.now) key.now }
+{
+    table_keys.contains(&key)
 }
 
 /// What the array of the document lists; no array lists nothing.
@@ -161,5 +175,8 @@ pub(crate) fn string_at<'a>(table: &'a Table, key: &str) -> Result<Option<&'a st
 pub(crate) fn copied(alloc: Global, text: &str) -> Result<Bytes, ReadError>
     ensures { GivesCopy text.now result }
 {
-    copy(alloc, text.as_bytes()).map_err(|_| ReadError::NoMemory)
+    match copy(alloc, text.as_bytes()) {
+        Ok(copy) => Ok(copy),
+        Err(_) => Err(ReadError::NoMemory),
+    }
 }

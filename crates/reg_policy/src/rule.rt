@@ -6,7 +6,7 @@ use crate::{Caller, Decision, Name, RowFacts, Subject, Verb};
 use ags_rows::{Bytes, Cell};
 
 /// What a rule decides where it matches.
-#[derive(Clone, Copy, Debug, PartialEq, Eq)]
+#[derive(Clone, Copy)]
 #[rattlefmt::skip]
 pub(crate) enum Effect { Permit, Deny }
 

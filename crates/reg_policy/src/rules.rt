@@ -26,18 +26,11 @@ impl FromTable for Rule {
         "rule"
     }
 
-    fn is_table_key(key: &str) -> bool {
-        key == "number"
-            || key == "effect"
-            || key == "firm"
-            || key == "role"
-            || key == "project"
-            || key == "verb"
-            || key == "group"
-            || key == "owner"
-            || key == "embargo"
-            || key == "heading"
-            || key == "value"
+    fn table_keys() -> &'static [&'static str] {
+        &[
+            "number", "effect", "firm", "role", "project", "verb", "group", "owner", "embargo",
+            "heading", "value",
+        ]
     }
 
     fn of_table(alloc: Global, table: &Table) -> Result<Rule, ReadError> {
@@ -51,13 +44,13 @@ fn rule_of(alloc: Global, table: &Table) -> Result<Rule, ReadError>
     Ok(Rule {
         number: number_at(table)?,
         effect: effect_at(table)?,
+        verb: verb_at(table)?,
+        own: either_at(table, "owner", "own", "other")?,
+        past: either_at(table, "embargo", "past", "running")?,
         firm: name_at(alloc, table, "firm")?,
         role: name_at(alloc, table, "role")?,
         project: name_at(alloc, table, "project")?,
-        verb: verb_at(table)?,
         group: group_at(alloc, table)?,
-        own: either_at(table, "owner", "own", "other")?,
-        past: either_at(table, "embargo", "past", "running")?,
         entry: entry_at(alloc, table)?,
     })
 }
@@ -134,18 +127,13 @@ fn verb_of(word: &str) -> Option<Verb>
     ensures some { IfSome result (λ v. word.now ≡ verb_text v) }
     ensures none { IsNone result → (v : VerbValue) → word.now ≢ verb_text v }
 {
-    if word == "deposit" {
-        Some(Verb::Deposit)
-    } else if word == "check" {
-        Some(Verb::Check)
-    } else if word == "list" {
-        Some(Verb::List)
-    } else if word == "extract" {
-        Some(Verb::Extract)
-    } else if word == "see" {
-        Some(Verb::See)
-    } else {
-        None
+    match word {
+        "deposit" => Some(Verb::Deposit),
+        "check" => Some(Verb::Check),
+        "list" => Some(Verb::List),
+        "extract" => Some(Verb::Extract),
+        "see" => Some(Verb::See),
+        _ => None,
     }
 }
 

@@ -1,7 +1,7 @@
 use Rattle.std.proofs.Common.{◌≡◌, ◌++◌, ◌∷◌, [], Err, rules}
 use Rattle.toml.specs.View.{items_view, view}
 use Rattle.reg_policy.specs.Documents.{Each, InTable}
-use Rattle.reg_policy.proofs.Items.{each_more, none_each, refused}
+use Rattle.reg_policy.proofs.Items.{each_all, each_more, none_each, refused}
 use Rattle.reg_policy.proofs.document.items_of.Goals as goal
 
 pub returns-in_err-one : goal.returns-in_err-one
@@ -18,3 +18,7 @@ loop-item-preserved g c =
     rw pushed
     (each_more g.T.FromTable.says c.args.items.now c.loop-item.item-index c.item-item.result c.loop-item.listed.items c.in_ok-one.one
     c.loop-item-test.true c.item-item.is c.loop-item.invariant c.in_ok-one.ensures)
+
+pub returns : goal.returns
+returns g c =
+    each_all g.T.FromTable.says c.args.items.now c.loop-item.item-index c.loop-item.listed.items c.loop-item-test.false c.loop-item.invariant
