@@ -3,10 +3,11 @@
 
 use jiff::Zoned;
 use jiff::tz::TimeZone;
-use reg_cli::{Fault, Watched, run_words};
+use reg_cli::run_words;
 use reg_policy::Day;
+use reg_shell::{Fault, Watched};
 use std::env;
-use std::io::ErrorKind;
+use std::io::{ErrorKind, Read, Write};
 use std::process::ExitCode;
 
 /// The words that the program is started with, its name first. A word that is not UTF-8 refuses them.
@@ -24,20 +25,29 @@ fn today(rt: &HostRuntime) -> Option<Day> {
     Day::new(now.date().to_plain().to_unix_epoch_day())
 }
 
-fn main(rt: HostRuntime) -> ExitCode {
-    let mut input = Watched::new(rt.stdin());
-    let mut out = Watched::new(rt.stdout());
-    let mut err = Watched::new(rt.stderr());
-    let status = match words_given(&rt) {
+/// Runs the program over its three streams, of any types: what names the types of the real ones is kept short.
+fn run_program<R: Read + Drop, W: Write + Drop, E: Write + Drop>(
+    rt: &HostRuntime,
+    input: R,
+    out: W,
+    err: E,
+) -> u8 {
+    let mut input = Watched::new(input);
+    let mut out = Watched::new(out);
+    let mut err = Watched::new(err);
+    match words_given(rt) {
         Ok(words) => run_words(
-            &rt,
+            rt,
             words.as_slice(),
-            today(&rt),
+            today(rt),
             &mut input,
             &mut out,
             &mut err,
         ),
         Err(fault) => fault.tell(&mut err),
-    };
-    ExitCode::from(status)
+    }
+}
+
+fn main(rt: HostRuntime) -> ExitCode {
+    ExitCode::from(run_program(&rt, rt.stdin(), rt.stdout(), rt.stderr()))
 }

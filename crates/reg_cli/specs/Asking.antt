@@ -3,14 +3,14 @@ use Rattle.std.specs.Prelude.{◌≡◌, ℕ, List, Option, Result, Ok, Err, Boo
 use Rattle.std.specs.Global.{Global}
 use Rattle.ags_dict.specs.Entries.{Entries}
 use Rattle.ags_dict.specs.Reading.{IsDictionary}
-use Rattle.reg_cli.specs.Answers.{AnswersOn}
+use Rattle.reg_shell.specs.Answers.{AnswersOn}
+use Rattle.reg_shell.specs.Faults.{Tells}
+use Rattle.reg_shell.specs.declared.fault.Fault.TheVariants.{NoMemory}
+use Rattle.reg_shell.specs.declared.refusal.Refusal.{Refusal}
+use Rattle.reg_shell.specs.declared.refusal.Refusal.TheVariants.{Plain}
 use Rattle.reg_desk.specs.Asked.{Asked}
 use Rattle.reg_desk.specs.declared.answer.Answer.{Answer}
-use Rattle.reg_cli.specs.Faults.{Tells}
 use Rattle.reg_cli.specs.Printing.{IsPrinted, status_of}
-use Rattle.reg_cli.specs.declared.fault.Fault.TheVariants.{NoMemory}
-use Rattle.reg_cli.specs.declared.refusal.Refusal.{Refusal}
-use Rattle.reg_cli.specs.declared.refusal.Refusal.TheVariants.{Plain}
 
 -- The answer was printed, or the writer failed, and the run ends with its status; or there was no memory for its text.
 abbrev pub PrintsAnswer : Answer → Option (List ℕ) → Option (List ℕ) → Bool → Bool → Result ℕ Refusal → Type 0

@@ -1,10 +1,4 @@
-pub mod Streams
-pub mod Report
-pub mod Faults
-pub mod Reading
-pub mod Writing
-pub mod Answers
-pub mod Refusals
+pub mod Adopting
 pub mod Printing
 pub mod Asking
 pub mod Sessions

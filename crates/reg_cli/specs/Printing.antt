@@ -2,11 +2,11 @@
 use Rattle.std.specs.Prelude.{◌≡◌, ℕ, ℤ, List, [], ◌∷◌, ◌++◌, codes}
 use Rattle.std.specs.Fmt.{decimal}
 use Rattle.reg_policy.specs.Days.{Writes}
+use Rattle.reg_shell.specs.Report.{report_of}
+use Rattle.reg_shell.specs.declared.report.Report.{Report}
 use Rattle.reg_desk.specs.declared.answer.Answer.{Answer}
 use Rattle.reg_desk.specs.declared.answer.Answer.TheVariants as answers
 use Rattle.reg_desk.specs.declared.answer.Listed.{Listed}
-use Rattle.reg_cli.specs.Report.{report_of}
-use Rattle.reg_cli.specs.declared.report.Report.{Report}
 
 -- a receipt: the number of the deposit, and the first day on which it is no longer under embargo
 abbrev pub IsReceipt : ℕ → ℤ → List ℕ → Type 0

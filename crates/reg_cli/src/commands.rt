@@ -4,33 +4,31 @@ ghost use Rattle.std.specs.Prelude.{◌≡◌, ◌≤◌, Bool, false, IfOk, IfS
 ghost use Rattle.ags_dict.specs.Mini.{mini_entries};
 ghost use Rattle.reg_policy.specs.Callers.{caller_of};
 ghost use Rattle.reg_policy.specs.Days.{day_of};
+ghost use Rattle.reg_shell.specs.Answers.{AnswersOn};
+ghost use Rattle.reg_shell.specs.Streams.{has_failed, inner_of};
 ghost use Rattle.reg_desk.specs.Asked.{asked, deposit, extract, listing, names_in};
 ghost use Rattle.reg_desk.specs.Desks.{AnsweredBy};
-ghost use Rattle.reg_cli.specs.Answers.{AnswersOn};
 ghost use Rattle.reg_cli.specs.Asking.{AsksDesk, ChecksUnder};
 ghost use Rattle.reg_cli.specs.Sessions.{session_caller, session_day, session_project};
-ghost use Rattle.reg_cli.specs.Streams.{has_failed, inner_of};
 
 use crate::answers::answer_report;
-use crate::check::{check_stream, run_without_words};
-use crate::fault::{Fault, tell};
-use crate::files::{dictionary_in, read_path, read_rights};
-use crate::refusal::Refusal;
 use crate::serving::{serve, serve_desk};
-use crate::watched::Watched;
-use crate::words::{Asker, Words, read_words};
+use crate::stores::{create_store, not_made, open_store};
 use ags_dict::Dictionary;
-use ags_rows::{LIMIT, READABLE};
+use ags_rows::LIMIT;
 use reg_desk::{Desk, Request};
 use reg_http::{groups_listed, number_of_deposit};
 use reg_policy::{Caller, Callers, Day, Name, NameError, Policy};
-use reg_store::{CreateError, Keep, SqlKeep};
-use sqlite::{Alter, File, FileStore};
+use reg_shell::{
+    Asker, Fault, Refusal, Watched, Words, check_stream, dictionary_in, read_path, read_rights,
+    read_words, run_without_words, tell,
+};
+use reg_store::Keep;
+use reg_tables::SqlKeep;
+use sqlite::Alter;
 use std::alloc::Global;
 use std::convert::AsStr;
-use std::fs;
-use std::io::{ErrorKind, Read, Write};
-use std::path::Path;
+use std::io::{Read, Write};
 
 /// Who asks, for which project, and on which day.
 #[derive(Drop)]
@@ -64,20 +62,6 @@ pub(crate) enum Task<'t> {
     },
 }
 
-/// Makes an empty register at a path, and closes it. What names the type of a keep in a file is kept short: it is written out
-/// at each point of a function that holds one.
-fn create_store(
-    rt: &HostRuntime,
-    alloc: Global,
-    store: &str,
-    bytes: &[u8],
-) -> Result<(), CreateError>
-    requires { length bytes.now ≤ READABLE }
-{
-    SqlKeep::create(rt, alloc, store, bytes)?;
-    Ok(())
-}
-
 /// Makes a register.
 fn init<'w, W: Write>(
     rt: &HostRuntime,
@@ -92,10 +76,7 @@ fn init<'w, W: Write>(
     }
     match create_store(rt, alloc, store, &bytes) {
         Ok(()) => Ok(tell(out, b"created\n", 0)),
-        Err(CreateError::Dictionary(_)) => Err(Refusal::Plain(Fault::DictionaryRefused)),
-        Err(CreateError::NotEmpty) => Err(Refusal::Plain(Fault::StoreNotEmpty)),
-        Err(CreateError::Store) => Err(Refusal::Plain(Fault::StoreFailed)),
-        Err(CreateError::NoMemory) => Err(Refusal::Plain(Fault::NoMemory)),
+        Err(error) => Err(not_made(error)),
     }
 }
 
@@ -108,8 +89,8 @@ fn check_file<'w, W: Write, E: Write>(
     out: &mut Watched<W>,
     err: &mut Watched<E>,
 ) -> Result<u8, Refusal<'w>>
-    requires out { out.old.failed ≡ false }
-    requires err { err.old.failed ≡ false }
+    requires out { has_failed out.old ≡ false }
+    requires err { has_failed err.old ≡ false }
 {
     let dictionary = read_path(rt, alloc, dictionary)?;
     check_given(alloc, &dictionary, read_path(rt, alloc, file), out, err)
@@ -123,11 +104,12 @@ fn check_given<'w, W: Write, E: Write>(
     out: &mut Watched<W>,
     err: &mut Watched<E>,
 ) -> Result<u8, Refusal<'w>>
-    requires out { out.old.failed ≡ false }
-    requires err { err.old.failed ≡ false }
+    requires out { has_failed out.old ≡ false }
+    requires err { has_failed err.old ≡ false }
     ensures { IfOk result (λ status. ChecksUnder dictionary.now file.entry
-        (W.contents out.old.inner) (W.contents out.new.inner) (E.contents err.old.inner) (E.contents err.new.inner)
-        out.new.failed err.new.failed status) }
+        (W.contents (inner_of out.old)) (W.contents (inner_of out.new))
+        (E.contents (inner_of err.old)) (E.contents (inner_of err.new))
+        (has_failed out.new) (has_failed err.new) status) }
 {
     let dictionary = dictionary_in(alloc, dictionary)?;
     let bytes = file?;
@@ -142,11 +124,12 @@ fn check_bytes<W: Write, E: Write>(
     out: &mut Watched<W>,
     err: &mut Watched<E>,
 ) -> u8
-    requires out { out.old.failed ≡ false }
-    requires err { err.old.failed ≡ false }
+    requires out { has_failed out.old ≡ false }
+    requires err { has_failed err.old ≡ false }
     ensures { (in_failed : Bool) × AnswersOn dictionary.now bytes.now
-        (W.contents out.old.inner) (W.contents out.new.inner) (E.contents err.old.inner) (E.contents err.new.inner)
-        in_failed out.new.failed err.new.failed result }
+        (W.contents (inner_of out.old)) (W.contents (inner_of out.new))
+        (E.contents (inner_of err.old)) (E.contents (inner_of err.new))
+        in_failed (has_failed out.new) (has_failed err.new) result }
 {
     let mut input = Watched::new(bytes);
     check_stream(alloc, dictionary, &mut input, out, err)
@@ -199,37 +182,6 @@ pub fn session_of<'c>(
     })
 }
 
-/// The register in the file at a path.
-fn open_store<'w>(
-    rt: &HostRuntime,
-    alloc: Global,
-    store: &'w str,
-) -> Result<SqlKeep<FileStore<File>>, Refusal<'w>>
-    ensures { IfOk result (λ keep. keep.has_failed ≡ false) }
-{
-    if is_absent(rt, store) {
-        return Err(Refusal::Plain(Fault::NotRegister));
-    }
-    Ok(SqlKeep::open(rt, alloc, store)?)
-}
-
-/// Whether a path names nothing, in a folder that is there. Opening a store would make a file of this name.
-fn is_absent(rt: &HostRuntime, path: &str) -> bool {
-    match fs::symlink_metadata(rt, path) {
-        Err(error) if error.kind() == ErrorKind::NotFound => has_folder(rt, path),
-        _ => false,
-    }
-}
-
-/// Whether the folder of a path is there.
-fn has_folder(rt: &HostRuntime, path: &str) -> bool {
-    match Path::new(path).parent() {
-        Some(folder) if folder.as_str().is_empty() => true,
-        Some(folder) => matches!(fs::metadata(rt, folder), Ok(found) if found.is_dir()),
-        None => false,
-    }
-}
-
 /// Asks the desk, and prints its answer.
 fn ask_desk<'w, K: Keep, W: Write>(
     alloc: Global,
@@ -238,7 +190,8 @@ fn ask_desk<'w, K: Keep, W: Write>(
     out: &mut Watched<W>,
 ) -> Result<u8, Refusal<'w>>
     ensures { AsksDesk (AnsweredBy K.Keep) (asked request.entry.now) desk.old desk.new
-        (W.contents out.old.inner) (W.contents out.new.inner) out.old.failed out.new.failed result }
+        (W.contents (inner_of out.old)) (W.contents (inner_of out.new))
+        (has_failed out.old) (has_failed out.new) result }
 {
     let answer = desk.answer(alloc, request);
     let report = answer_report(alloc, answer)?;
@@ -256,14 +209,28 @@ fn deposit<'w, W: Write>(
 ) -> Result<u8, Refusal<'w>> {
     let (policy, callers) = read_rights(rt, alloc, asker.policy, asker.callers)?;
     let session = session_of(alloc, &callers, asker, today)?;
+    deposit_as(rt, alloc, asker.store, policy, &session, embargo, file, out)
+}
+
+/// Deposits a file as the one who asks.
+fn deposit_as<'w, W: Write>(
+    rt: &HostRuntime,
+    alloc: Global,
+    store: &'w str,
+    policy: Policy,
+    session: &Session<'_>,
+    embargo: Option<&'w str>,
+    file: &'w str,
+    out: &mut Watched<W>,
+) -> Result<u8, Refusal<'w>> {
     let embargo = day_or(embargo, Some(session.day))?;
     let bytes = read_path(rt, alloc, file)?;
     let task = Task::Deposit {
-        session: &session,
+        session,
         embargo,
         bytes: &bytes,
     };
-    use_store(rt, alloc, asker.store, policy, &task, out)
+    use_store(rt, alloc, store, policy, &task, out)
 }
 
 /// Asks the desk to keep a file, as the one who asks. Refused only where memory for the text of its answer is wanting.
@@ -312,7 +279,8 @@ fn ask_list<'w, K: Keep, W: Write>(
 ) -> Result<u8, Refusal<'w>>
     ensures { AsksDesk (AnsweredBy K.Keep)
         (listing session.now.caller.now session.now.project session.now.day) desk.old desk.new
-        (W.contents out.old.inner) (W.contents out.new.inner) out.old.failed out.new.failed result }
+        (W.contents (inner_of out.old)) (W.contents (inner_of out.new))
+        (has_failed out.old) (has_failed out.new) result }
 {
     let request = Request::List {
         caller: session.caller,
@@ -363,7 +331,8 @@ fn ask_extract<'w, K: Keep, W: Write>(
 ) -> Result<u8, Refusal<'w>>
     ensures { AsksDesk (AnsweredBy K.Keep)
         (extract session.now.caller.now session.now.project number (names_in groups.now) session.now.day)
-        desk.old desk.new (W.contents out.old.inner) (W.contents out.new.inner) out.old.failed out.new.failed result }
+        desk.old desk.new (W.contents (inner_of out.old)) (W.contents (inner_of out.new))
+        (has_failed out.old) (has_failed out.new) result }
 {
     let request = Request::Extract {
         caller: session.caller,
@@ -414,7 +383,17 @@ fn use_keep<'w, K: Keep + Drop, W: Write>(
 ) -> Result<u8, Refusal<'w>>
     requires { K.has_failed keep ≡ false }
 {
-    let desk = &mut Desk::new(keep, policy);
+    do_task(rt, alloc, &mut Desk::new(keep, policy), task, out)
+}
+
+/// Does what is asked at a desk.
+fn do_task<'w, K: Keep, W: Write>(
+    rt: &HostRuntime,
+    alloc: Global,
+    desk: &mut Desk<K>,
+    task: &Task<'_>,
+    out: &mut Watched<W>,
+) -> Result<u8, Refusal<'w>> {
     match task {
         Task::Deposit {
             session,
@@ -445,8 +424,8 @@ fn run_command<'w, W: Write, E: Write>(
     out: &mut Watched<W>,
     err: &mut Watched<E>,
 ) -> Result<u8, Refusal<'w>>
-    requires out { out.old.failed ≡ false }
-    requires err { err.old.failed ≡ false }
+    requires out { has_failed out.old ≡ false }
+    requires err { has_failed err.old ≡ false }
 {
     match words {
         Words::Init { store, dictionary } => init(rt, alloc, store, dictionary, out),

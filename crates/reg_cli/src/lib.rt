@@ -1,26 +1,14 @@
-//! What the program `groundreg` does: the check of a file that a stream carries, and the commands of a register.
+//! What the program `groundreg` does: the commands of a register, and without words the check of standard input.
 //!
 //! Words, streams and the day are passed in, so that what is printed, what is said of a fault and the status of a run are
-//! contracts over readers and writers that tell their bytes.
+//! contracts over readers and writers that tell their bytes. What needs no register is `reg_shell`.
 #![tactic(auto)]
 
 mod answers;
-mod check;
 mod commands;
-mod fault;
-mod files;
-mod input;
 mod refusal;
-mod report;
 mod serving;
-mod watched;
-mod words;
+mod stores;
 
-pub use check::run_without_words;
 pub use commands::{Session, ask_deposit, run_words, session_of};
-pub use fault::Fault;
-pub use refusal::Refusal;
-pub use report::{Report, findings_report};
 pub use serving::serve_on;
-pub use watched::Watched;
-pub use words::Asker;

@@ -17,7 +17,8 @@ use examples::{EXAMPLES, MOST, example_at};
 use reg_desk::{Answer, Desk, Listed, Request};
 use reg_policy::vectors::{CALLERS, POLICY};
 use reg_policy::{Caller, Callers, Day, Name, Policy};
-use reg_store::{Keep, PlainKeep, SqlKeep};
+use reg_store::{Keep, PlainKeep};
+use reg_tables::SqlKeep;
 use std::alloc::{AllocError, Global};
 
 /// New lines in place of those from the first to the last.

@@ -8,11 +8,9 @@ ghost use Rattle.reg_store.specs.Fit.{IsFit, IsFileOf, kept_rows as rows_in};
 ghost use Rattle.reg_store.specs.Project.{project_of, targets_of};
 ghost use Rattle.reg_store.specs.PlainLaws.{few_of, fit_of};
 
-use crate::keep::{Keep, KeepError, Kept, KeptHead, KeptRow, ProjectRow};
+use crate::keep::{Keep, KeepError, Kept, KeptHead, KeptRow, MOST, ProjectRow, is_equal};
 use crate::project::{project_in, project_number, targets_in};
-use crate::repeats::is_equal;
 use crate::rows::kept_rows;
-use crate::sql::MOST;
 use ags_check::{CheckError, Checked, check};
 use ags_dict::Dictionary;
 use ags_links::Graph;
@@ -81,7 +79,7 @@ fn kept_of(
 }
 
 /// The head of a deposit, copied.
-fn head_of(kept: &Kept) -> Result<KeptHead, AllocError>
+fn copied_head(kept: &Kept) -> Result<KeptHead, AllocError>
     ensures { IfOk result (IsHeadOf (deposit_of kept.now)) }
 {
     Ok(KeptHead {
@@ -91,8 +89,8 @@ fn head_of(kept: &Kept) -> Result<KeptHead, AllocError>
     })
 }
 
-/// The graph, once more.
-pub(crate) fn copy_graph(alloc: Global, graph: &Graph) -> Result<Graph, AllocError>
+/// A copy of the graph. Refused only where memory for its steps is wanting.
+pub fn copy_graph(alloc: Global, graph: &Graph) -> Result<Graph, AllocError>
     ensures { IfOk result (λ copied. copied ≡ graph.now) }
 {
     let steps = Vec::from_slice(alloc, graph.steps())?;
@@ -263,7 +261,7 @@ impl Keep for PlainKeep {
     }
 
     fn head(&mut self, n: u32) -> Result<KeptHead, KeepError> {
-        let head = head_of(&self.kept[n as usize - 1])?;
+        let head = copied_head(&self.kept[n as usize - 1])?;
         Ok(head)
     }
 

@@ -1,26 +1,16 @@
-//! The row of PROJ of a deposit, and the rows that a row has steps to.
+//! The row of PROJ of a file, and the rows that a row has steps to.
 
-ghost use Rattle.std.specs.Prelude.{◌≡◌, ◌≢◌, ℕ, false, List, take, Ok, IfOk, IfErr};
-ghost use Rattle.sqlite.specs.State.{HasCleanDisk};
-ghost use Rattle.sqlite.specs.Held.{state};
-ghost use Rattle.sqlite.specs.Tree.{IsAscending};
-ghost use Rattle.ags_links.specs.Steps.{IsBefore};
-ghost use Rattle.reg_store.specs.declared.keep.KeptRow.{KeptRow};
-ghost use Rattle.reg_store.specs.Quiet.{IsIdle, IsStill};
-ghost use Rattle.reg_store.specs.Keep.{fails};
+ghost use Rattle.std.specs.Prelude.{◌≡◌, IfOk};
 ghost use Rattle.reg_store.specs.Project.{project_number, project_of, targets_of};
-ghost use Rattle.reg_store.specs.Methods.{HoldsLines, HoldsSteps};
 
-use crate::gathering::take_shown;
-use crate::keep::{KeepError, KeptRow, ProjectRow};
-use crate::readers::{KeptLines, KeptTargets};
-use crate::reading::find_lines;
+use crate::keep::{KeptRow, ProjectRow};
 use ags_rows::copy;
-use sqlite::{Alter, Connection, params};
 use std::alloc::{AllocError, Global};
 
-/// A row of PROJ of copies.
-pub(crate) fn project_row(
+/// A row of PROJ with copies of two texts: the HEADING row of PROJ and the row itself. Its number counts the DATA rows of its file from 0.
+///
+/// Refused only where memory for the copies is wanting.
+pub fn project_row(
     alloc: Global,
     number: u32,
     headings: &[u8],
@@ -35,8 +25,11 @@ pub(crate) fn project_row(
     })
 }
 
-/// The row of PROJ among the rows of a file. More DATA rows before it than can be numbered are want of memory.
-pub(crate) fn project_in(alloc: Global, rows: &[KeptRow]) -> Result<Option<ProjectRow>, AllocError>
+/// The row of PROJ among the rows of a file: its first DATA row of group PROJ, which is the only one where the file has no finding (Rule 13).
+/// It comes with the last HEADING row before it, and its number counts the DATA rows from 0.
+///
+/// Refused only where memory for the copies is wanting, or where more DATA rows stand before it than a `u32` counts.
+pub fn project_in(alloc: Global, rows: &[KeptRow]) -> Result<Option<ProjectRow>, AllocError>
     ensures { IfOk result (λ found. found ≡ project_of rows.now) }
 {
     let mut number: u32 = 0;
@@ -58,8 +51,8 @@ pub(crate) fn project_in(alloc: Global, rows: &[KeptRow]) -> Result<Option<Proje
     Ok(None)
 }
 
-/// The number of the row of PROJ, if there is one.
-pub(crate) fn project_number(found: Option<ProjectRow>) -> Option<u32>
+/// The number of the row of PROJ among the DATA rows of its file, from 0, if there is such a row.
+pub fn project_number(found: Option<ProjectRow>) -> Option<u32>
     ensures { result ≡ project_number found }
 {
     found.map(|row| row.number)
@@ -80,125 +73,4 @@ pub(crate) fn targets_in(
         }
     }
     Ok(targets)
-}
-
-/// The first five rows that are kept of a deposit: where its first group is PROJ, the last of them is the row of PROJ.
-fn find_front<S: Alter>(
-    conn: &mut Connection<S>,
-    alloc: Global,
-    number: u32,
-) -> Result<Vec<KeptRow>, KeepError>
-    requires idle { IsIdle (state S.Store conn.old) }
-    ensures found { HasCleanDisk (state S.Store conn.new) → IfOk result (λ lines. (file : List KeptRow)
-        → HoldsLines (state S.Store conn.old).now number file → lines.items ≡ take 5 file) }
-    ensures named { IfErr result (λ e. e ≢ KeepError.Full) }
-    ensures quiet { IsStill (state S.Store conn.old) (state S.Store conn.new) (fails result) }
-{
-    let mut lines = KeptLines {
-        lines: Vec::new(alloc),
-    };
-    match take_shown(
-        conn,
-        "SELECT seq, grp, kind, line FROM lines WHERE deposit = ?1 AND seq < 5 ORDER BY seq",
-        params![number],
-        &mut lines,
-    ) {
-        Ok(()) => Ok(lines.lines),
-        Err(error) => Err(error),
-    }
-}
-
-/// The row of PROJ of a deposit, if the first rows of its file have it.
-fn front_project<S: Alter>(
-    conn: &mut Connection<S>,
-    alloc: Global,
-    number: u32,
-) -> Result<Option<ProjectRow>, KeepError>
-    requires idle { IsIdle (state S.Store conn.old) }
-    ensures found { HasCleanDisk (state S.Store conn.new) → IfOk result (λ found. (file : List KeptRow)
-        → HoldsLines (state S.Store conn.old).now number file → found ≡ project_of (take 5 file)) }
-    ensures named { IfErr result (λ e. e ≢ KeepError.Full) }
-    ensures quiet { IsStill (state S.Store conn.old) (state S.Store conn.new) (fails result) }
-{
-    match find_front(conn, alloc, number) {
-        Ok(rows) => wanting(project_in(alloc, &rows)),
-        Err(error) => Err(error),
-    }
-}
-
-/// The row of PROJ of a deposit, among all rows of its file.
-fn search_project<S: Alter>(
-    conn: &mut Connection<S>,
-    alloc: Global,
-    number: u32,
-) -> Result<Option<ProjectRow>, KeepError>
-    requires idle { IsIdle (state S.Store conn.old) }
-    ensures found { HasCleanDisk (state S.Store conn.new) → IfOk result (λ found. (file : List KeptRow)
-        → HoldsLines (state S.Store conn.old).now number file → found ≡ project_of file) }
-    ensures named { IfErr result (λ e. e ≢ KeepError.Full) }
-    ensures quiet { IsStill (state S.Store conn.old) (state S.Store conn.new) (fails result) }
-{
-    match find_lines(conn, alloc, number) {
-        Ok(rows) => wanting(project_in(alloc, &rows)),
-        Err(error) => Err(error),
-    }
-}
-
-/// What was read, or that memory is wanting.
-fn wanting(read: Result<Option<ProjectRow>, AllocError>) -> Result<Option<ProjectRow>, KeepError>
-    ensures lives { fails result ≡ false }
-    ensures named { IfErr result (λ e. e ≢ KeepError.Full) }
-    ensures read { IfOk result (λ found. read ≡ Ok found) }
-{
-    match read {
-        Ok(found) => Ok(found),
-        Err(_) => Err(KeepError::NoMemory),
-    }
-}
-
-/// The row of PROJ of a deposit. Where PROJ is the first group of its file no other row is read than the first ones.
-#[tactic(auto, using(crate::specs::Quiet::quiet_then, crate::specs::Quiet::quiet_read, crate::specs::Quiet::idle_then))]
-pub(crate) fn find_project<S: Alter>(
-    conn: &mut Connection<S>,
-    alloc: Global,
-    number: u32,
-) -> Result<Option<ProjectRow>, KeepError>
-    requires idle { IsIdle (state S.Store conn.old) }
-    ensures found { HasCleanDisk (state S.Store conn.new) → IfOk result (λ found. (file : List KeptRow)
-        → HoldsLines (state S.Store conn.old).now number file → found ≡ project_of file) }
-    ensures named { IfErr result (λ e. e ≢ KeepError.Full) }
-    ensures quiet { IsStill (state S.Store conn.old) (state S.Store conn.new) (fails result) }
-{
-    match front_project(conn, alloc, number)? {
-        Some(found) => Ok(Some(found)),
-        None => search_project(conn, alloc, number),
-    }
-}
-
-/// The rows that a row of a deposit has a step to, rising.
-pub(crate) fn find_targets<S: Alter>(
-    conn: &mut Connection<S>,
-    alloc: Global,
-    number: u32,
-    row: u32,
-) -> Result<Vec<u32>, KeepError>
-    requires idle { IsIdle (state S.Store conn.old) }
-    ensures found { HasCleanDisk (state S.Store conn.new) → IfOk result (λ targets. (steps : List (ℕ × ℕ))
-        → IsAscending IsBefore steps → HoldsSteps (state S.Store conn.old).now number steps
-        → targets.items ≡ targets_of row steps) }
-    ensures named { IfErr result (λ e. e ≢ KeepError.Full) }
-    ensures quiet { IsStill (state S.Store conn.old) (state S.Store conn.new) (fails result) }
-{
-    let mut targets = KeptTargets {
-        targets: Vec::new(alloc),
-    };
-    match take_shown(
-        conn,
-        "SELECT target FROM steps WHERE deposit = ?1 AND child = ?2 ORDER BY target",
-        params![number, row],
-        &mut targets,
-    ) {
-        Ok(()) => Ok(targets.targets),
-        Err(error) => Err(error),
-    }
 }

@@ -2,9 +2,10 @@
 
 use super::faults;
 use ags_rows::vectors::{FILE_A, FILE_B, MINI};
-use reg_cli::{Watched, run_words};
+use reg_cli::run_words;
 use reg_policy::Day;
 use reg_policy::vectors::{CALLERS, POLICY};
+use reg_shell::Watched;
 use std::alloc::AllocError;
 use std::io::Read;
 use std::test::Fail;

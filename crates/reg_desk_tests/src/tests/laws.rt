@@ -13,7 +13,8 @@ use ags_rows::vectors::{FILE_A, MINI};
 use reg_desk::{Desk, Request};
 use reg_policy::vectors::CALLERS;
 use reg_policy::{Caller, Callers, Day, Name};
-use reg_store::{Keep, SqlKeep};
+use reg_store::Keep;
+use reg_tables::SqlKeep;
 use std::alloc::{AllocError, Global};
 
 /// Delta deposits the second file, and what Echo got of it; Delta gets that text again.

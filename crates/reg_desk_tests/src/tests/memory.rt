@@ -16,7 +16,8 @@ use reg_policy::{
     Caller, Callers, CallersError, Day, Decision, Name, NameError, Policy, PolicyError, RowFacts,
     Subject,
 };
-use reg_store::{CreateError, Keep, PlainKeep, SqlKeep};
+use reg_store::{Keep, PlainKeep};
+use reg_tables::{CreateError, SqlKeep};
 use std::alloc::{AllocError, Global};
 use std::process::Abort;
 

@@ -1,0 +1,38 @@
+use Rattle.std.proofs.Common.{rules, refl, ◌≡◌, ◌+◌, length, arith}
+use Rattle.reg_shell.proofs.Taking.{takes_start, takes_piece, takes_all, takes_part, takes_within, length-appended}
+use Rattle.reg_shell.proofs.input.read_file.Goals as goal
+
+pub loop-bytes-init : goal.loop-bytes-init
+loop-bytes-init g c = record {
+  within = omega (arith, c.new-bytes.ensures.len);
+  wide = search rules;
+  noted = refl;
+  taken = takes_start _ _ c.new-bytes.ensures.items;
+}
+
+pub returns-in_err-count-clause-taken : goal.returns-in_err-count-clause-taken
+returns-in_err-count-clause-taken g c =
+    takes_within _ c.min-room.result _ _ _ _ c.loop-bytes.invariant.taken c.read_piece.ensures.taken (search rules)
+
+pub returns-then-count-eq0-clause-taken : goal.returns-then-count-eq0-clause-taken
+returns-then-count-eq0-clause-taken g c =
+    takes_within _ c.min-room.result _ _ _ _ c.loop-bytes.invariant.taken c.read_piece.ensures.taken (search rules)
+
+pub returns-then-count-eq0-clause-file : goal.returns-then-count-eq0-clause-file
+returns-then-count-eq0-clause-file g c =
+    takes_all _ _ _ (takes_piece _ _ _ _ _ _ c.loop-bytes.invariant.taken c.in_ok-count.ensures.appended)
+    (c.in_ok-count.ensures.appended.at_end c.if-count-eq0.true)
+
+pub loop-bytes-preserved : goal.loop-bytes-preserved
+loop-bytes-preserved g c =
+    let longer : length c.read_piece.new.bytes.items ≡ length c.loop-bytes.bytes.items + c.in_ok-count.count
+    = length-appended _ _ _ _ _ c.in_ok-count.ensures.appended in
+    record {
+      within = search rules;
+      wide = c.loop-bytes.invariant.wide;
+      noted = search rules;
+      taken = takes_piece _ _ _ _ _ _ c.loop-bytes.invariant.taken c.in_ok-count.ensures.appended;
+    }
+
+pub returns-clause-file : goal.returns-clause-file
+returns-clause-file g c = takes_part _ _ _ _ c.loop-bytes.invariant.taken (search rules)

@@ -1,0 +1,41 @@
+-- The answer of a run to a file, under the entries of a dictionary.
+use Rattle.std.specs.Prelude.{◌≡◌, ℕ, ◌<◌, ◌≤◌, List, [], ◌++◌, length, Option, Result, Ok, Err, Bool, true, false, ⊤}
+use Rattle.std.specs.Io.KnownBytes.{Appends}
+use Rattle.ags_dict.specs.Entries.{Entries}
+use Rattle.ags_check.specs.Findings.{Findings}
+use Rattle.ags_rows.specs.declared.finding.Finding.{Finding}
+use Rattle.reg_shell.specs.declared.fault.Fault.{Fault}
+use Rattle.reg_shell.specs.declared.fault.Fault.TheVariants.{TooLarge, NoMemory, Stream}
+use Rattle.reg_shell.specs.declared.report.Report.{Report}
+use Rattle.reg_shell.specs.Faults.{fault_text, fault_status}
+use Rattle.reg_shell.specs.Reading.{longest_file}
+use Rattle.reg_shell.specs.Report.{report_of}
+
+-- what is printed of a file, what is said of a fault, and the status
+pub data Answers (entries : Entries) (bytes : List ℕ) : List ℕ → List ℕ → ℕ → Type 0 where
+  reported : (found : List Finding) → length bytes ≤ longest_file → Findings entries bytes found
+      → Answers entries bytes (report_of found).text [] (report_of found).status
+  too_large : longest_file < length bytes → Answers entries bytes [] (fault_text TooLarge) (fault_status TooLarge)
+  no_memory : Answers entries bytes [] (fault_text NoMemory) (fault_status NoMemory)
+
+-- Whether the reader and the two writers have failed, what the writers have taken, and the status: no stream failed and
+-- they took all of an answer, the reader failed and they took nothing, or the one that had an answer to take failed and
+-- took a first part of it.
+pub data Outcome (entries : Entries) (bytes : List ℕ) : Bool → Bool → Bool → List ℕ → List ℕ → ℕ → Type 0 where
+  answered : (printed said : List ℕ) (status : ℕ) → Answers entries bytes printed said status → Outcome entries bytes false false false printed said status
+  not_read : Outcome entries bytes true false false [] [] (fault_status Stream)
+  not_printed : (part rest : List ℕ) (status : ℕ) → Answers entries bytes (part ++ rest) [] status → Outcome entries bytes false true false part [] (fault_status Stream)
+  not_said : (part rest : List ℕ) (status : ℕ) → Answers entries bytes [] (part ++ rest) status → Outcome entries bytes false false true [] part (fault_status Stream)
+
+-- the outcome of a run, by what its writers held before and hold after it
+abbrev pub AnswersOn : Entries → List ℕ → Option (List ℕ) → Option (List ℕ) → Option (List ℕ) → Option (List ℕ) → Bool → Bool → Bool → ℕ → Type 0
+AnswersOn entries bytes out out_after err err_after in_failed out_failed err_failed status =
+    (printed said : List ℕ) × Outcome entries bytes in_failed out_failed err_failed printed said status × Appends out out_after printed × Appends err err_after said
+
+-- the report on the file's findings, or why there is none
+abbrev pub ReportsOn : Entries → List ℕ → Result Report Fault → Type 0
+ReportsOn entries bytes (Ok report) = (length bytes ≤ longest_file) × ((found : List Finding) × Findings entries bytes found × (report ≡ report_of found))
+ReportsOn entries bytes (Err TooLarge) = longest_file < length bytes
+ReportsOn entries bytes (Err NoMemory) = ⊤
+ReportsOn entries bytes (Err Stream) = ⊤
+ReportsOn entries bytes (Err fault) = ⊥

@@ -1,0 +1,120 @@
+//! The files that words name.
+
+ghost use Rattle.std.specs.Prelude.{◌≡◌, IfOk, IfSome};
+ghost use Rattle.ags_dict.specs.Reading.{IsDictionary};
+ghost use Rattle.reg_policy.specs.Callers.{HasCallers};
+ghost use Rattle.reg_policy.specs.Rules.{HasRules};
+
+use crate::fault::Fault;
+use crate::refusal::Refusal;
+use ags_dict::{DictError, Dictionary};
+use ags_rows::LIMIT;
+use reg_policy::{Callers, CallersError, Policy, PolicyError};
+use std::alloc::Global;
+use std::io::{ErrorKind, Read};
+use std::str::from_utf8;
+use std::{fs, io};
+
+/// Why the file at a path is not read.
+fn unread<'w>(path: &'w str, error: io::Error) -> Refusal<'w> {
+    match error.kind() {
+        ErrorKind::OutOfMemory => Refusal::Plain(Fault::NoMemory),
+        _ => Refusal::CannotRead(path),
+    }
+}
+
+/// The bytes of the file at a path, of which at most LIMIT and one are read.
+pub fn read_path<'w>(
+    rt: &HostRuntime,
+    alloc: Global,
+    path: &'w str,
+) -> Result<Vec<u8>, Refusal<'w>> {
+    let file = match fs::open(rt, path) {
+        Ok(file) => file,
+        Err(error) => return Err(unread(path, error)),
+    };
+    let mut bytes = Vec::new(alloc);
+    match file.take(LIMIT as u64 + 1).read_to_end(&mut bytes) {
+        Ok(_) => Ok(bytes),
+        Err(error) => Err(unread(path, error)),
+    }
+}
+
+/// The text that bytes are, if they are UTF-8 and not longer than LIMIT.
+fn text_of(bytes: &[u8]) -> Option<&str>
+    ensures { IfSome result (λ text. text.now ≡ bytes.now) }
+{
+    if bytes.len() > LIMIT {
+        return None;
+    }
+    from_utf8(bytes).ok()
+}
+
+/// The policy that bytes are.
+fn policy_in(alloc: Global, bytes: &[u8]) -> Result<Policy, Fault>
+    ensures { IfOk result (λ policy. HasRules bytes.now policy) }
+{
+    let Some(text) = text_of(bytes) else {
+        return Err(Fault::PolicyRefused);
+    };
+    match Policy::read(alloc, text) {
+        Ok(policy) => Ok(policy),
+        Err(PolicyError::NoMemory) => Err(Fault::NoMemory),
+        Err(_) => Err(Fault::PolicyRefused),
+    }
+}
+
+/// The callers that bytes are.
+fn callers_in(alloc: Global, bytes: &[u8]) -> Result<Callers, Fault>
+    ensures { IfOk result (λ callers. HasCallers bytes.now callers) }
+{
+    let Some(text) = text_of(bytes) else {
+        return Err(Fault::CallersRefused);
+    };
+    match Callers::read(alloc, text) {
+        Ok(callers) => Ok(callers),
+        Err(CallersError::NoMemory) => Err(Fault::NoMemory),
+        Err(_) => Err(Fault::CallersRefused),
+    }
+}
+
+/// The dictionary that bytes are.
+pub fn dictionary_in(alloc: Global, bytes: &[u8]) -> Result<Dictionary, Fault>
+    ensures { IfOk result (λ dictionary. IsDictionary bytes.now dictionary) }
+{
+    if bytes.len() > LIMIT {
+        return Err(Fault::DictionaryRefused);
+    }
+    match Dictionary::read(alloc, bytes) {
+        Ok(dictionary) => Ok(dictionary),
+        Err(DictError::NoMemory) => Err(Fault::NoMemory),
+        Err(_) => Err(Fault::DictionaryRefused),
+    }
+}
+
+/// The policy in the file at a path.
+fn read_policy<'w>(rt: &HostRuntime, alloc: Global, path: &'w str) -> Result<Policy, Refusal<'w>> {
+    let bytes = read_path(rt, alloc, path)?;
+    Ok(policy_in(alloc, &bytes)?)
+}
+
+/// The callers in the file at a path.
+fn read_callers<'w>(
+    rt: &HostRuntime,
+    alloc: Global,
+    path: &'w str,
+) -> Result<Callers, Refusal<'w>> {
+    let bytes = read_path(rt, alloc, path)?;
+    Ok(callers_in(alloc, &bytes)?)
+}
+
+/// The policy and the callers in the files at two paths.
+pub fn read_rights<'w>(
+    rt: &HostRuntime,
+    alloc: Global,
+    policy: &'w str,
+    callers: &'w str,
+) -> Result<(Policy, Callers), Refusal<'w>> {
+    let policy = read_policy(rt, alloc, policy)?;
+    Ok((policy, read_callers(rt, alloc, callers)?))
+}

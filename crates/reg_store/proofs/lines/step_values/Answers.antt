@@ -1,6 +1,0 @@
-use Rattle.std.proofs.Common.{rules}
-use Rattle.reg_store.proofs.AddsLemmas.{step_values_more}
-use Rattle.reg_store.proofs.lines.step_values.Goals as goal
-
-pub loop-step-preserved : goal.loop-step-preserved
-loop-step-preserved c = step_values_more c.args.number c.loop-step.step-index c.args.steps.now _ _ _ (search rules) (search rules) c.loop-step.invariant c.in_ok-push_step.ensures

@@ -1,0 +1,293 @@
+-- Tests of what the tables hold.
+use Rattle.std.proofs.Common.{zero, suc, IfErr, ◌⊎◌, inl, inr, ◌≡◌, ◌≢◌, ℕ, ◌+◌, ◌<◌, ◌≤◌, Bool, true, false, IsTrue, List, [], ◌∷◌, length, map, filter, get_or, Option, Some, None, is_some, IfSome, Result, Ok, Err, IfOk, refl, sym, ap, subst, subst₂, ◌∙◌, arith}
+use Rattle.std.proofs.Math.Logic.{∥∥₁_map, ∥∥₁_elim}
+use Rattle.std.proofs.Props.{props}
+use Rattle.std.specs.List.Sorted.{IsPermutation}
+use Rattle.std.specs.Prelude.{ℤ, pos, codes, Contains}
+use Rattle.std.proofs.lemmas.Bool.{cases_lt}
+use Rattle.std.proofs.lemmas.List.{length-map}
+use Rattle.std.proofs.lemmas.List.Sorted.{IsPermutation-sym, IsPermutation-map, Contains-permutation, length_permutation}
+use Rattle.sqlite.specs.declared.types.Value.TheVariants.{Int, Text as Words, Blob as Bytes}
+use Rattle.sqlite.specs.Order.{Row, bytes, column}
+use Rattle.sqlite.proofs.Callers.{one_permutation}
+use Rattle.sqlite.specs.Effect.{Database, IsDatabase}
+use Rattle.ags_rows.specs.declared.TheConstants.{READABLE}
+use Rattle.ags_rows.specs.Contents.{Contents, contents_of}
+use Rattle.ags_rows.specs.Findings.{LooseFindings}
+use Rattle.ags_rows.proofs.Lemmas.{one_loose_list, one_loose_grouping}
+use Rattle.ags_dict.specs.Entries.{has_dict, lacks_heading, standard_entries}
+use Rattle.ags_dict.specs.Reading.{HasContents, IsDictionary, LacksDict, LacksHeading}
+use Rattle.ags_rows.specs.declared.finding.Finding.{Finding}
+use Rattle.ags_dict.specs.Entries.{Entries}
+use Rattle.ags_check.specs.Findings.{CheckedFile, Findings}
+use Rattle.ags_check.proofs.Lemmas.{one_clean_file, one_list}
+use Rattle.reg_store.specs.declared.keep.KeepError.{KeepError}
+use Rattle.reg_tables.specs.declared.heads.DigestedHead.{DigestedHead}
+use Rattle.reg_tables.specs.declared.repeats.Digests.{Digests}
+use Rattle.reg_store.specs.declared.keep.KeptRow.{KeptRow}
+use Rattle.reg_store.specs.Deposit.{Deposit, is_repeat}
+use Rattle.reg_store.specs.Fit.{IsFileOf, IsNamed, kept_rows}
+use Rattle.reg_tables.specs.Rows.{columns_3, deposit_table, given_deposit, line_table, step_table, placed_rows, step_pair, rows_under}
+use Rattle.reg_tables.specs.Tables.{register_schema}
+use Rattle.reg_tables.specs.Register.{deposit_rows, has_number, meta_columns, integer_in, IsRegister}
+use Rattle.reg_tables.specs.RegisterLaws.{rows-length}
+use Rattle.reg_tables.specs.Digests.{AreBelow, HasEqual, HasNoEqual, HoldsDigests, IsFirst, IsNew, is_among, numbers_under, own_digest}
+use Rattle.reg_tables.specs.Heads.{IsDigestedAt, head_of}
+use Rattle.reg_tables.specs.Methods.{same_deposit}
+use Rattle.reg_tables.proofs.RepeatsLemmas.{false_if, same_digest}
+use Rattle.reg_tables.specs.declared.adopting.AdoptError.{AdoptError}
+use Rattle.reg_tables.specs.declared.adopting.AdoptError.TheVariants.{NotRegister, Version, Store, NoMemory}
+use Rattle.reg_tables.specs.Formats.{HasFormat, IsFormatRow}
+use Rattle.reg_tables.specs.Adoption.{Adopts, CountsDeposits, MetaOf, ReadsMeta}
+use Rattle.reg_tables.proofs.RowsLemmas.{numbers_long}
+use Rattle.reg_tables.specs.Adopts.{id_of, number_rows}
+use Rattle.reg_tables.specs.Whole.{AreWhole, Counts, HasMeta, HoldsBody, HoldsFile, IsWhole, Tests, adopts_whole, of_all, whole_at}
+use Rattle.reg_tables.proofs.FormatLemmas.{register_first}
+
+-- the rows that are shown are the table's, and are these where the table holds these
+pub tests_rows : (is : Bool) (rows mine table : List Row) → (IsTrue is → rows ≡ mine) × (rows ≡ mine → IsTrue is) → IsPermutation rows table → (IsPermutation mine table → rows ≡ mine) → Tests is (IsPermutation mine table)
+tests_rows true rows mine table same all found = record { yes = λ _. ∣ subst (λ r. IsPermutation r table) (same.0 refl) all ∣₁; no = λ e. absurd cc }
+tests_rows false rows mine table same all found = record { yes = λ e. absurd cc; no = λ _ holds. absurd (let clash = same.1 (found holds) in cc) }
+
+pub tests_first : (A B : Type 0) → Tests false A → Tests false (A × B)
+tests_first A B first = record { yes = λ e. absurd cc; no = λ e both. first.no refl both.0 }
+
+pub tests_both : (is : Bool) (A B : Type 0) → Tests true A → Tests is B → Tests is (A × B)
+tests_both is A B one two = record { yes = λ e. pair (one.yes refl) (two.yes e); no = λ e both. two.no e both.1 }
+  where
+    pair : ∥ A ∥₁ → ∥ B ∥₁ → ∥ (A × B) ∥₁
+    pair a b = ∥∥₁_elim a (Prim.hlevel props) (λ x. ∥∥₁_map b (λ y. (x, y)))
+
+pub tests_as : (is : Bool) (A B : Type 0) → (A → B) → (B → A) → Tests is A → Tests is B
+tests_as is A B there back test = record { yes = λ e. ∥∥₁_map (test.yes e) there; no = λ e b. test.no e (back b) }
+
+pub counts_by : (db : Database) (rows : List Row) (found : Option ℕ) → IsPermutation rows (map id_of (deposit_table db.trees)) → ((list : List Deposit) → IsPermutation (deposit_rows 1 list) (deposit_table db.trees) → rows ≡ number_rows 1 (length list))
+    → IfSome found (λ count. count ≤ 999999) → IfSome found (λ count. rows ≡ number_rows 1 count) → (found ≡ None → (count : ℕ) → count ≤ 999999 → rows ≡ number_rows 1 count → ⊥) → Counts db found
+counts_by db rows (Some count) all are few some none = (few, subst (λ r. IsPermutation r (map id_of (deposit_table db.trees))) some all)
+counts_by db rows None all are few some none = λ list low holds. none refl (length list) low (are list holds)
+
+-- a second test, after which the tables are as they were
+pub tests_later : (r : Result Bool KeepError) (A : Type 0) (B : Database → Type 0) (old mid : Database) → mid ≡ old → Tests true A → IfOk r (λ is. Tests is (B mid)) → IfOk r (λ is. Tests is (A × B old))
+tests_later (Ok is) A B old mid same one two = tests_both is A (B old) one (subst (λ (db : Database). Tests is (B db)) same two)
+tests_later (Err e) A B old mid same one two = tt
+
+-- the lines and steps of a file, by those that are its
+pub file_tests : (r : Result Bool KeepError) (db : Database) (n : ℕ) (file : CheckedFile) (lines : List KeptRow) (steps : List (ℕ × ℕ)) → lines ≡ kept_rows file.groups → steps ≡ file.graph.steps
+    → IfOk r (λ is. Tests is (IsPermutation (placed_rows 0 lines) (rows_under n (line_table db.trees)) × IsPermutation (map step_pair steps) (rows_under n (step_table db.trees)))) → IfOk r (λ is. Tests is (HoldsFile db n file))
+file_tests (Err e) db n file lines steps lines_are steps_are test = tt
+file_tests (Ok is) db n file lines steps lines_are steps_are test = tests_as is _ (HoldsFile db n file) there back test
+  where
+    Lines : List KeptRow → Type 0
+    Lines all = IsPermutation (placed_rows 0 all) (rows_under n (line_table db.trees))
+
+    Steps : List (ℕ × ℕ) → Type 0
+    Steps all = IsPermutation (map step_pair all) (rows_under n (step_table db.trees))
+
+    there : Lines lines × Steps steps → HoldsFile db n file
+    there both = record { lines = subst Lines lines_are both.0; steps = subst Steps steps_are both.1 }
+
+    back : HoldsFile db n file → Lines lines × Steps steps
+    back held = (subst Lines (sym lines_are) held.lines, subst Steps (sym steps_are) held.steps)
+
+-- a deposit, by the lines and steps of its file
+pub body_tests : (r : Result Bool KeepError) (db : Database) (dictionary : Entries) (n : ℕ) (d : Deposit) (file : CheckedFile) → IsFileOf dictionary d file → IfOk r (λ is. Tests is (HoldsFile db n file)) → IfOk r (λ is. Tests is (HoldsBody db dictionary n d))
+body_tests (Err e) db dictionary n d file its test = tt
+body_tests (Ok is) db dictionary n d file its test = tests_as is (HoldsFile db n file) (HoldsBody db dictionary n d) (λ held. (file, its, held)) back test
+  where
+    back : HoldsBody db dictionary n d → HoldsFile db n file
+    back held = subst (HoldsFile db n) (one_clean_file held.0 file held.1.clean its.clean (held.1.given ∙ sym its.given) (held.1.bytes ∙ sym its.bytes)) held.2
+
+pub whole_tests : (r : Result (Option DigestedHead) KeepError) (db mid : Database) (dictionary : Entries) (n : ℕ) (d : Deposit) (rows : List Row) (digests : Digests) → mid ≡ db → IsPermutation rows (filter (has_number n) (deposit_table db.trees)) → rows ≡ given_deposit n d ∷ [] → IsNamed d
+    → AreBelow digests n → HoldsDigests db n digests → IfOk r (λ found. Tests (is_some found) (HoldsBody mid dictionary n d × IsNew mid (numbers_under digests (own_digest d)) d)) → IfOk r (λ found. Tests (is_some found) (IsWhole db dictionary n))
+whole_tests (Err e) db mid dictionary n d rows digests same found read named below held test = tt
+whole_tests (Ok one) db mid dictionary n d rows digests same found read named below held test =
+    tests_as (is_some one) _ (IsWhole db dictionary n) there back (subst (λ (t : Database). Tests (is_some one) (HoldsBody t dictionary n d × IsNew t numbers d)) same test)
+  where
+    numbers : List ℕ
+    numbers = numbers_under digests (own_digest d)
+
+    row : filter (has_number n) (deposit_table db.trees) ≡ given_deposit n d ∷ []
+    row = one_permutation (given_deposit n d) _ (subst (λ all. IsPermutation all (filter (has_number n) (deposit_table db.trees))) read found)
+
+    -- an equal deposit of a smaller number has the digest
+    first : IsNew db numbers d → IsFirst db n d
+    first none m low high e its = false_if (is_repeat d.firm d.project d.bytes e) (λ yes.
+        (let same_own : own_digest e ≡ own_digest d = same_digest d.firm d.project d.bytes e yes in
+        let among : is_among m numbers ≡ true = ap (is_among m) (ap (numbers_under digests) (sym same_own)) ∙ held m low high e its in
+        none m among e its))
+
+    there : HoldsBody db dictionary n d × IsNew db numbers d → IsWhole db dictionary n
+    there both = record { deposit = d; row = row; named = named; body = both.0; alone = first both.1 }
+
+    back : IsWhole db dictionary n → HoldsBody db dictionary n d × IsNew db numbers d
+    back w =
+        let one : w.deposit ≡ d = same_deposit n w.deposit d _ w.row row in
+        let alone = subst (IsFirst db n) one w.alone in
+        (subst (HoldsBody db dictionary n) one w.body, λ m among e its. (let it = below (own_digest d) m among in alone m it.0 it.1 e its))
+
+-- the row that is shown of a whole deposit is its row
+pub only_shown : (db : Database) (dictionary : Entries) (n : ℕ) (rows : List Row) → IsPermutation rows (filter (has_number n) (deposit_table db.trees)) → (w : IsWhole db dictionary n) → rows ≡ given_deposit n w.deposit ∷ []
+only_shown db dictionary n rows found w = one_permutation (given_deposit n w.deposit) rows (IsPermutation-sym _ _ (subst (λ all. IsPermutation rows all) w.row found))
+
+-- so the head and the digest of what is shown are those of the deposit
+pub head_shown : (r : Result (Option DigestedHead) KeepError) (db : Database) (n : ℕ) (kept : Deposit) (rows : List Row) → IsPermutation rows (filter (has_number n) (deposit_table db.trees)) → rows ≡ given_deposit n kept ∷ []
+    → IfOk r (λ found. IfSome found (λ one. (one.head ≡ head_of kept) × (one.digest ≡ own_digest kept))) → IfOk r (λ found. IfSome found (IsDigestedAt db n))
+head_shown (Err e) db n kept rows found read its = tt
+head_shown (Ok None) db n kept rows found read its = tt
+head_shown (Ok (Some one)) db n kept rows found read its = λ d row.
+    (let alone : rows ≡ given_deposit n d ∷ [] = one_permutation (given_deposit n d) rows (IsPermutation-sym _ _ (subst (λ all. IsPermutation rows all) row found)) in
+    let same : kept ≡ d = same_deposit n kept d rows read alone in
+    (its.0 ∙ ap head_of same, its.1 ∙ ap own_digest same))
+
+-- what is found under the digest tells whether a deposit is new
+pub new_tests : (db : Database) (numbers : List ℕ) (d : Deposit) → HasNoEqual db numbers d.firm d.project d.bytes → Tests true (IsNew db numbers d)
+new_tests db numbers d none = record { yes = λ e. ∣ none ∣₁; no = λ e. absurd cc }
+
+pub old_tests : (db : Database) (numbers : List ℕ) (d : Deposit) (n : ℕ) → HasEqual db d.firm d.project d.bytes n → is_among n numbers ≡ true → Tests false (IsNew db numbers d)
+old_tests db numbers d n has among = record { yes = λ e. absurd cc; no = λ e none. absurd (let clash : true ≡ false = sym has.2 ∙ none n among has.0 has.1 in cc) }
+
+pub tests_true : {is : Bool} {P : Type 0} → is ≡ true → Tests is P → Tests true P
+tests_true {is} {P} e test = subst (λ (b : Bool). Tests b P) e test
+
+pub tests_false : {is : Bool} {P : Type 0} → is ≡ false → Tests is P → Tests false P
+tests_false {is} {P} e test = subst (λ (b : Bool). Tests b P) e test
+
+pub tests_none : (P : Type 0) → (P → ⊥) → Tests false P
+tests_none P none = record { yes = λ e. absurd cc; no = λ e. none }
+
+pub tests_all : (P : ℕ → Type 0) (count : ℕ) → ((k : ℕ) → k < count → ∥ P k ∥₁) → Tests true ((k : ℕ) → k < count → P k)
+tests_all P count each = record { yes = λ e. of_all P count each; no = λ e. absurd cc }
+
+-- the first deposits are whole, and so is the next
+pub whole_more : (old mid : Database) (dictionary : Entries) (at : ℕ) → mid ≡ old → Tests true (IsWhole mid dictionary (at + 1)) → ((k : ℕ) → k < at → ∥ IsWhole old dictionary (k + 1) ∥₁)
+    → (k : ℕ) → k < at + 1 → ∥ IsWhole old dictionary (k + 1) ∥₁
+whole_more old mid dictionary at same test all k low = elim (cases_lt k at) [
+  | inl below ↦ all k (omega arith)
+  | inr up ↦ (let e : at ≡ k = omega (arith, low) in subst (λ (j : ℕ). ∥ IsWhole old dictionary (j + 1) ∥₁) e (subst (λ (db : Database). ∥ IsWhole db dictionary (at + 1) ∥₁) same (test.yes refl)))
+]
+
+-- one deposit is not whole
+pub whole_not : (old mid : Database) (dictionary : Entries) (at count : ℕ) → mid ≡ old → at < count → Tests false (IsWhole mid dictionary (at + 1)) → Tests false (AreWhole old dictionary count)
+whole_not old mid dictionary at count same low test = record { yes = λ e. absurd cc; no = λ e all. test.no refl (subst (λ (db : Database). IsWhole db dictionary (at + 1)) (sym same) (all at low)) }
+
+-- a file with a finding is no file of the register
+pub no_file : (dictionary : Entries) (d : Deposit) (found : List Finding) → Findings dictionary d.bytes found → found ≢ [] → (file : CheckedFile) → IsFileOf dictionary d file → ⊥
+no_file dictionary d found stands some file its =
+    let none : Findings dictionary d.bytes [] = subst₂ (λ (g : Entries) (b : List ℕ). Findings g b []) its.given its.bytes its.clean.file.findings in
+    absurd (some (one_list dictionary d.bytes found [] stands none))
+
+-- a file that is longer than it may be, or that has a finding, is held of no deposit
+pub no_body : (db : Database) (dictionary : Entries) (n : ℕ) (d : Deposit) → ((file : CheckedFile) → IsFileOf dictionary d file → ⊥) → Tests false (HoldsBody db dictionary n d)
+no_body db dictionary n d none = record { yes = λ e. absurd cc; no = λ e held. none held.0 held.1 }
+
+-- ---- meta
+
+-- no bytes are a dictionary and have a finding, or lack DICT or a heading of it
+pub not_dictionary : (text : List ℕ) (found : List Finding) → LooseFindings text found → found ≢ [] → (dictionary : Entries) → IsDictionary text dictionary → ⊥
+not_dictionary text found stands some dictionary reads =
+    let g = reads.1.1 in
+    let none : LooseFindings text [] = (g.0, g.1, g.2) in
+    absurd (some (one_loose_list text found [] stands none))
+
+same_contents : (text : List ℕ) (a b : List Contents) → HasContents text a → HasContents text b → a ≡ b
+same_contents text a b x y = x.2 ∙ ap contents_of (one_loose_grouping text x.0 y.0 x.1 y.1) ∙ sym y.2
+
+pub has_dict_then : (text : List ℕ) → LacksDict text → (dictionary : Entries) → IsDictionary text dictionary → ⊥
+has_dict_then text lacks dictionary reads = let clash : true ≡ false = sym reads.2 ∙ ap has_dict (same_contents text reads.0 lacks.0 reads.1 lacks.1) ∙ lacks.2 in absurd cc
+
+pub has_headings_then : (text : List ℕ) → LacksHeading text → (dictionary : Entries) → IsDictionary text dictionary → ⊥
+has_headings_then text lacks dictionary reads = let clash : true ≡ false = sym lacks.3 ∙ ap lacks_heading (same_contents text lacks.0 reads.0 lacks.1 reads.1) ∙ reads.3 in absurd cc
+
+one_dictionary : (text : List ℕ) (a b : Entries) → IsDictionary text a → IsDictionary text b → a ≡ b
+one_dictionary text a b x y = x.4 ∙ ap standard_entries (same_contents text x.0 y.0 x.1 y.1) ∙ sym y.4
+
+-- the bytes in the rows of meta
+abbrev text_of : List Row → List ℕ
+text_of rows = bytes (column (get_or rows 0 []) 2)
+
+one_text : (rows : List Row) (text other : List ℕ) → rows ≡ meta_columns text → rows ≡ meta_columns other → other ≡ text
+one_text rows text other a b = ap text_of (sym b ∙ a)
+
+pub meta_reads : (r : Result Entries AdoptError) (rows : List Row) (text : List ℕ) → rows ≡ meta_columns text → ((n : ℤ) (row : Row) → Contains rows row → IsFormatRow n row → n ≡ pos 1)
+    → IfOk r (λ dictionary. (length text ≤ READABLE) × IsDictionary text dictionary) → (r ≡ Err NotRegister → (dictionary : Entries) → length text ≤ READABLE → IsDictionary text dictionary → ⊥)
+    → IfErr r (λ e. (e ≡ NotRegister) ⊎ (e ≡ NoMemory)) → ReadsMeta rows r
+meta_reads (Ok dictionary) rows text same formats read refused named = (text, same, read.0, read.1)
+meta_reads (Err NotRegister) rows text same formats read refused named = (
+  λ n has. formats n has.0 has.1 has.2,
+  λ dictionary reads.
+      (let one = one_text rows text reads.0 same reads.1 in
+      refused refl dictionary (subst (λ (t : List ℕ). length t ≤ READABLE) one reads.2) (subst (λ (t : List ℕ). IsDictionary t dictionary) one reads.3)),
+)
+meta_reads (Err (Version n)) rows text same formats read refused (inl e) = absurd cc
+meta_reads (Err (Version n)) rows text same formats read refused (inr e) = absurd cc
+meta_reads (Err Store) rows text same formats read refused (inl e) = absurd cc
+meta_reads (Err Store) rows text same formats read refused (inr e) = absurd cc
+meta_reads (Err NoMemory) rows text same formats read refused named = tt
+
+pub meta_of : (r : Result Entries AdoptError) (db : Database) (rows : List Row) → db.schema ≡ register_schema → IsPermutation rows (map columns_3 (db.trees 0)) → ((text : List ℕ) → IsPermutation (meta_columns text) (map columns_3 (db.trees 0)) → rows ≡ meta_columns text)
+    → ReadsMeta rows r → MetaOf db r
+meta_of (Ok dictionary) db rows schema all found reads = record { text = reads.0; short = reads.2; reads = reads.3; meta = subst (λ rs. IsPermutation rs (map columns_3 (db.trees 0))) reads.1 all }
+meta_of (Err (Version n)) db rows schema all found reads = (reads.0, (register_first db.schema schema, (reads.1.0, Contains-permutation _ _ _ all reads.1.1, reads.1.2)))
+meta_of (Err NotRegister) db rows schema all found reads =
+    (λ n has. reads.0 n (has.1.0, Contains-permutation _ _ _ (IsPermutation-sym _ _ all) has.1.1, has.1.2), λ dictionary meta. reads.1 dictionary (meta.text, found meta.text meta.meta, meta.short, meta.reads))
+meta_of (Err Store) db rows schema all found reads = tt
+meta_of (Err NoMemory) db rows schema all found reads = tt
+
+pub register_meta : (db : Database) (dictionary : Entries) (list : List Deposit) → IsRegister db dictionary list → HasMeta db dictionary
+register_meta db dictionary list r = record { text = r.text; short = r.short; reads = r.reads; meta = r.meta }
+
+-- ---- a register is found
+
+pub finds_whole : (db : Database) (dictionary : Entries) (count : ℕ) → db.schema ≡ register_schema → IsDatabase db → HasMeta db dictionary → Counts db (Some count) → ∥ AreWhole db dictionary count ∥₁ → CountsDeposits db dictionary (Some count)
+finds_whole db dictionary count schema sound meta counts all = ∥∥₁_map all (λ whole. adopts_whole db dictionary count schema sound meta counts whole)
+
+pub finds_none : (db : Database) (dictionary : Entries) (count : ℕ) → Counts db (Some count) → (AreWhole db dictionary count → ⊥) → CountsDeposits db dictionary None
+finds_none db dictionary count counts none list r =
+    let ids = IsPermutation-map id_of _ _ r.deposits in
+    let rows = length_permutation _ _ counts.1 ∙ numbers_long 1 count in
+    let listed = length_permutation _ _ ids ∙ length-map (deposit_rows 1 list) id_of ∙ rows-length 1 list in
+    let same : length list ≡ count = sym listed ∙ rows in
+    none (subst (AreWhole db dictionary) same (whole_at db dictionary list r))
+
+pub meta_adopts : (r : Result Entries AdoptError) (db : Database) (e : AdoptError) → r ≡ Err e → MetaOf db r → Adopts db (Err e)
+meta_adopts (Ok dictionary) db e same meta = absurd cc
+meta_adopts (Err x) db e same meta = go e (subst (λ (y : AdoptError). MetaOf db (Err y)) is meta)
+  where
+    is : x ≡ e
+    is = cc
+
+    go : (y : AdoptError) → MetaOf db (Err y) → Adopts db (Err y)
+    go (Version n) m = m
+    go NotRegister m = (m.0, λ dictionary list r. m.1 dictionary (register_meta db dictionary list r))
+    go Store m = tt
+    go NoMemory m = tt
+
+-- a row of meta is one of the two
+two_rows : (text : List ℕ) (row : Row) → Contains (meta_columns text) row → (row ≡ Words (codes "dictionary") ∷ Int (pos 0) ∷ Bytes text ∷ []) ⊎ (row ≡ Words (codes "format") ∷ Int (pos 1) ∷ Bytes [] ∷ [])
+two_rows text row (zero, low, is) = inl (sym is)
+two_rows text row (suc zero, low, is) = inr (sym is)
+two_rows text row (suc (suc k), low, is) = absurd (omega (arith, low))
+
+one_number : (text : List ℕ) (n : ℤ) (row : Row) → (row ≡ Words (codes "dictionary") ∷ Int (pos 0) ∷ Bytes text ∷ []) ⊎ (row ≡ Words (codes "format") ∷ Int (pos 1) ∷ Bytes [] ∷ []) → IsFormatRow n row → n ≡ pos 1
+one_number text n row (inl e) is = absurd (let names : codes "format" ≡ codes "dictionary" = ap (λ (r : Row). bytes (column r 0)) (sym is.1 ∙ e) in cc)
+one_number text n row (inr e) is = ap (λ (r : Row). integer_in (column r 1)) (sym is.1 ∙ e)
+
+pub one_format_in : (db : Database) (dictionary : Entries) → HasMeta db dictionary → (n : ℤ) → HasFormat db n → n ≡ pos 1
+one_format_in db dictionary meta n has = one_number meta.text n has.1.0 (two_rows meta.text has.1.0 (Contains-permutation _ _ _ (IsPermutation-sym _ _ meta.meta) has.1.1)) has.1.2
+
+first_row : (text : List ℕ) → Contains (meta_columns text) (Words (codes "dictionary") ∷ Int (pos 0) ∷ Bytes text ∷ [])
+first_row text = (0, omega arith, refl)
+
+its_text : (text other : List ℕ) → (◌≡◌ {A = Row} (Words (codes "dictionary") ∷ Int (pos 0) ∷ Bytes text ∷ []) (Words (codes "dictionary") ∷ Int (pos 0) ∷ Bytes other ∷ [])) ⊎ (◌≡◌ {A = Row} (Words (codes "dictionary") ∷ Int (pos 0) ∷ Bytes text ∷ []) (Words (codes "format") ∷ Int (pos 1) ∷ Bytes [] ∷ [])) → text ≡ other
+its_text text other (inl e) = ap (λ (r : Row). bytes (column r 2)) e
+its_text text other (inr e) = absurd (let names : codes "dictionary" ≡ codes "format" = ap (λ (r : Row). bytes (column r 0)) e in cc)
+
+pub one_meta : (db : Database) (a b : Entries) → HasMeta db a → HasMeta db b → a ≡ b
+one_meta db a b x y =
+    let there = Contains-permutation _ _ _ (IsPermutation-sym _ _ y.meta) (Contains-permutation _ _ _ x.meta (first_row x.text)) in
+    let text : x.text ≡ y.text = its_text x.text y.text (two_rows y.text _ there) in
+    one_dictionary y.text a b (subst (λ (t : List ℕ). IsDictionary t a) text x.reads) y.reads
+
+pub none_adopts : (db : Database) (dictionary : Entries) → HasMeta db dictionary → CountsDeposits db dictionary None → Adopts db (Err NotRegister)
+none_adopts db dictionary meta none =
+    (one_format_in db dictionary meta, λ other list r. none list (subst (λ (d : Entries). IsRegister db d list) (one_meta db other dictionary (register_meta db other list r) meta) r))

@@ -1,0 +1,16 @@
+pub mod AddsLemmas
+pub mod QueryLemmas
+pub mod FormatLemmas
+pub mod CreateLemmas
+pub mod OpenLemmas
+pub mod ReadersLemmas
+pub mod ReadsLemmas
+pub mod ReadingLemmas
+pub mod ProjectLemmas
+pub mod RowsLemmas
+pub mod HeadsLemmas
+pub mod RepeatsLemmas
+pub mod RecentLemmas
+pub mod FrontsLemmas
+pub mod ExamineLemmas
+pub mod SchemaLemmas

@@ -1,0 +1,130 @@
+-- What a query of the register leaves of a connection.
+use Rattle.std.proofs.Common.{◌≡◌, refl, ℕ, List, [], Bool, true, false, Option, Some, None, Ok, Err, Result, IfOk, IfErr, OnOk, IsTrue, inl, inr, sym, subst, ◌∙◌, arith}
+use Rattle.sqlite.specs.Order.{Row}
+use Rattle.sqlite.specs.declared.error.Error.{Error}
+use Rattle.sqlite_schema.specs.declared.command.Returning.{Returning}
+use Rattle.sqlite.specs.Clock.{timed}
+use Rattle.sqlite.specs.Tree.{Trees}
+use Rattle.sqlite.specs.Effect.{Database}
+use Rattle.sqlite.specs.Listing.{understood, reads_listing, IsSourceOf}
+use Rattle.sqlite.specs.State.{State, Shown, ShowsRows, IsUnchanged, HasCleanDisk, Survives, CommitsShowing, FailsToQuery, IsNotRun, FailsToShow}
+use Rattle.sqlite.proofs.StateLemmas.{survives_weaker, survives_then}
+use Rattle.sqlite.proofs.Callers.{IsPlain, never_commits, unchanged_then}
+use Rattle.reg_tables.specs.Tables.{register_schema}
+use Rattle.reg_tables.specs.Quiet.{IsAsBefore, IsIdle, IsStill, clean_before}
+
+pub plain_at : (sql : List ℕ) (s : State) → IsPlain (understood register_schema sql) → s.now.schema ≡ register_schema → IsPlain (understood s.now.schema sql)
+plain_at sql s plain has = subst (λ k. IsPlain (understood k sql)) (sym has) plain
+
+-- what is not run leaves what was committed, where that was all
+not_run : (sql : List ℕ) (params : Row) (old new : State) (e : Error) → (IsTrue old.is_open → old.committed ≡ old.now) → IsTrue new.is_open → IsNotRun old new sql params e → IsAsBefore old new
+unfolding IsNotRun
+not_run sql params old new e settled is_open (inl h) = (h.1.0.was_open, h.1.0.now_is, h.1.0.committed_is)
+not_run sql params old new e settled is_open (inr h) = let u = h.3.undone is_open in let was = h.3.was_open is_open in (was, u.0 ∙ settled was, u.1)
+
+-- so does a query that fails
+pub fails_keeps : (sql : List ℕ) (params : Row) (old new : State) (e : Error) → (IsTrue old.is_open → old.committed ≡ old.now) → IsTrue new.is_open → FailsToQuery sql params old new e → IsAsBefore old new
+unfolding FailsToQuery
+fails_keeps sql params old new e settled is_open (inl h) = not_run sql params old new e settled is_open h
+fails_keeps sql params old new e settled is_open (inr h) = shows h.0.returning h.2
+  where
+    shows : (r : Option Returning) → FailsToShow old new sql h.0 (timed params h.0.formats h.1.now) e r → IsAsBefore old new
+    shows None f = (f.3.0.was_open, f.3.0.now_is, f.3.0.committed_is)
+    shows (Some what) (inl f) = (f.1.0.was_open, f.1.0.now_is, f.1.0.committed_is)
+    shows (Some what) (inr f) = let u = f.3.undone is_open in let was = f.3.was_open is_open in (was, u.0 ∙ settled was, u.1)
+
+pub shown_same : (sql : List ℕ) (old new : State) (params : Row) (rows : List Row) → IsPlain (understood old.now.schema sql) → Shown sql params old new rows → IsUnchanged old new
+unfolding Shown
+shown_same sql old new params rows plain h =
+    let none : h.0.returning ≡ None = (subst IsPlain h.1.is plain).0 in
+    (subst (ShowsRows old new sql h.0 (timed params h.0.formats h.1.now) rows) none h.2).3
+
+-- what is shown later of a connection that did not change is shown of it from the start
+pub shown_from : (sql : List ℕ) (params : Row) (old mid new : State) (rows : List Row) → IsPlain (understood old.now.schema sql) → IsUnchanged old mid → Shown sql params mid new rows → Shown sql params old new rows
+unfolding Shown
+shown_from sql params old mid new rows plain same h =
+    let has = same.0.now_is in
+    let none : h.0.returning ≡ None = (subst IsPlain h.1.is (subst (λ (d : Database). IsPlain (understood d.schema sql)) (sym has) plain)).0 in
+    let full = timed params h.0.formats h.1.now in
+    let it = subst (ShowsRows mid new sql h.0 full rows) none h.2 in
+    let source = subst (λ (d : Database). IsSourceOf (reads_listing d.schema sql) d it.0) has it.1 in (
+      h.0,
+      record { is = subst (λ (d : Database). understood d.schema sql ≡ Ok h.0) has h.1.is; whole = h.1.whole; given = h.1.given; now = h.1.now },
+      subst (ShowsRows old new sql h.0 full rows) (sym none) (it.0, source, it.2, unchanged_then old mid new same it.3),
+    )
+
+module _ (sql : List ℕ) (plain : IsPlain (understood register_schema sql)) where
+  pub asks_quietly : (old new : State) (params : Row) → (HasCleanDisk old → old.now.schema ≡ register_schema) → Survives old new (CommitsShowing sql params old) → Survives old new (λ _. ⊥)
+  asks_quietly old new params has s =
+      survives_weaker old new _ _ (λ clean db. never_commits sql params old db (plain_at sql old plain (has (omega (arith, s.clean))))) s
+
+  module _ {X : Type 0} (items : X → List Row) (old new : State) (r : Result X Error) (has : old.now.schema ≡ register_schema) (params : Row) where
+    pub opened_by : IfOk r (λ x. Shown sql params old new (items x)) → OnOk r (IsTrue new.is_open)
+    opened_by h = go r h
+      where
+        go : (s : Result X Error) → IfOk s (λ x. Shown sql params old new (items x)) → OnOk s (IsTrue new.is_open)
+        go (Ok x) h = (shown_same sql old new params (items x) (plain_at sql old plain has) h).0.is_open
+        go (Err e) h = tt
+
+    pub same_by : (IsTrue old.is_open → old.committed ≡ old.now) → IsTrue new.is_open → IfOk r (λ x. Shown sql params old new (items x)) → IfErr r (FailsToQuery sql params old new) → IsAsBefore old new
+    same_by settled is_open ok err = go r ok err
+      where
+        go : (s : Result X Error) → IfOk s (λ x. Shown sql params old new (items x)) → IfErr s (FailsToQuery sql params old new) → IsAsBefore old new
+        go (Ok x) h f = let it = (shown_same sql old new params (items x) (plain_at sql old plain has) h).0 in (it.was_open, it.now_is, it.committed_is)
+        go (Err e) h f = fails_keeps sql params old new e settled is_open f
+
+-- no call, no crash
+pub survives_none : (s : State) → Survives s s (λ _. ⊥)
+survives_none s = record { clean = omega arith; shield = λ is. is; counts = omega arith; limit = refl; closes = λ clean o. inl o; crash = λ clean db may. inl may }
+
+both_open : {a b : Bool} → IsTrue a → IsTrue b → a ≡ b
+both_open p q = p ∙ sym q
+
+-- the query did not fail, or the connection is still open
+pub ok_quiet : (old new : State) → new.in_transaction ≡ false → (HasCleanDisk new → IsTrue new.is_open) → (HasCleanDisk new → IsTrue new.is_open → IsAsBefore old new) → Survives old new (λ _. ⊥) → IsStill old new false
+ok_quiet old new idle is_open stays survives = record {
+  idle = idle;
+  is_open = λ clean _. both_open (is_open clean) (stays clean (is_open clean)).0;
+  same = λ clean _. (let it = stays clean (is_open clean) in (it.1, it.2));
+  still = stays;
+  survives = survives;
+}
+
+-- the connection is known to be open after it: nothing changed
+pub open_quiet : (old mid new : State) → new.in_transaction ≡ false → (HasCleanDisk mid → IsTrue mid.is_open → IsAsBefore old mid) → Survives old mid (λ _. ⊥) → (HasCleanDisk new → IsUnchanged mid new) → Survives mid new (λ _. ⊥) → IsStill old new false
+open_quiet old mid new idle stays survives unchanged probed = record {
+  idle = idle;
+  is_open = λ clean _. both_open (unchanged clean).0.is_open (stays (clean_before mid new probed clean) (unchanged clean).0.was_open).0;
+  same = λ clean _. (let at = (unchanged clean).0 in let was = stays (clean_before mid new probed clean) at.was_open in (at.now_is ∙ was.1, at.committed_is ∙ was.2));
+  still = λ clean _. (let at = (unchanged clean).0 in let was = stays (clean_before mid new probed clean) at.was_open in (was.0, at.now_is ∙ was.1, at.committed_is ∙ was.2));
+  survives = survives_then old mid new _ _ (λ _. ⊥) (λ _ db none. none) (λ _ db none. none) survives probed;
+}
+
+-- the store failed
+pub failed_quiet : (old new : State) → new.in_transaction ≡ false → (HasCleanDisk new → IsTrue new.is_open → IsAsBefore old new) → Survives old new (λ _. ⊥) → IsStill old new true
+failed_quiet old new idle stays survives = record { idle = idle; is_open = λ clean e. absurd cc; same = λ clean e. absurd cc; still = stays; survives = survives }
+
+-- a text that is only prepared leaves it too
+pub probed : {X : Type 0} (P : X → Type 0) (sql : List ℕ) (old new : State) (r : Result X Error) → IfOk r (λ x. P x × IsUnchanged old new) → IfErr r (λ e. (params : Row) → IsNotRun old new sql params e)
+    → (IsTrue old.is_open → old.committed ≡ old.now) → IsTrue new.is_open → IsAsBefore old new
+probed P sql old new (Ok x) ok err settled is_open = (ok.1.0.was_open, ok.1.0.now_is, ok.1.0.committed_is)
+probed P sql old new (Err e) ok err settled is_open = not_run sql [] old new e settled is_open (err [])
+
+-- the connection is asked whether it is open, and it still is: it shows what it showed from the start
+pub still_then : {P Q : Trees → Type 0} (old mid new : State) → (HasCleanDisk old → IsTrue old.is_open → old.committed ≡ old.now) → (HasCleanDisk mid → IsTrue mid.is_open → IsAsBefore old mid) → Survives old mid P
+    → (HasCleanDisk new → IsTrue new.is_open → (IsTrue mid.is_open → mid.committed ≡ mid.now) → IsAsBefore mid new) → Survives mid new Q → HasCleanDisk new → IsTrue new.is_open → IsAsBefore old new
+still_then old mid new settled stays one probe two clean is_open =
+    let early = clean_before mid new two clean in
+    let middle : IsTrue mid.is_open → mid.committed ≡ mid.now = λ o. (let was = stays early o in was.2 ∙ settled (clean_before old mid one early) was.0 ∙ sym was.1) in
+    let next = probe clean is_open middle in
+    let was = stays early next.0 in (was.0, next.1 ∙ was.1, next.2 ∙ was.2)
+
+-- what a change that failed leaves of a connection that showed no more than was committed
+pub undone_still : (old new : State) → (HasCleanDisk new → IsTrue new.is_open → IsTrue old.is_open) → (HasCleanDisk new → IsTrue new.is_open → (new.now ≡ old.committed) × (new.committed ≡ old.committed))
+    → (IsTrue old.is_open → old.committed ≡ old.now) → HasCleanDisk new → IsTrue new.is_open → IsAsBefore old new
+undone_still old new was_open undone settled clean is_open = let was = was_open clean is_open in let it = undone clean is_open in (was, it.0 ∙ settled was, it.1)
+
+pub failed_then : (old mid new : State) → IsIdle old → new.in_transaction ≡ false → (HasCleanDisk mid → IsTrue mid.is_open → IsAsBefore old mid) → Survives old mid (λ _. ⊥)
+    → (HasCleanDisk new → IsTrue new.is_open → (IsTrue mid.is_open → mid.committed ≡ mid.now) → IsAsBefore mid new) → Survives mid new (λ _. ⊥) → IsStill old new true
+failed_then old mid new idle mode stays one probe two =
+    failed_quiet old new mode (still_then old mid new idle.settled stays one probe two) (survives_then old mid new _ _ (λ _. ⊥) (λ _ db none. none) (λ _ db none. none) one two)

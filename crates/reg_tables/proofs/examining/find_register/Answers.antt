@@ -1,0 +1,63 @@
+use Rattle.std.proofs.Common.{rules, ◌≡◌, ◌+◌, true, false, None, Some, Ok, refl, ap, subst}
+use Rattle.sqlite.specs.Effect.{Database}
+use Rattle.sqlite.specs.Held.{state}
+use Rattle.reg_tables.specs.Quiet.{clean_before, idle_then, quiet_then}
+use Rattle.reg_tables.specs.Whole.{AreWhole, Counts, Tests}
+use Rattle.reg_tables.specs.Digests.{HoldsDigests}
+use Rattle.reg_tables.specs.Heads.{HoldsHeads}
+use Rattle.reg_tables.proofs.ExamineLemmas.{finds_none, finds_whole, none_adopts, tests_false, tests_true}
+use Rattle.reg_tables.proofs.examining.find_register.Goals as goal
+
+pub holds_deposits-requires-clause-idle : goal.holds_deposits-requires-clause-idle
+holds_deposits-requires-clause-idle g c = idle_then _ _ c.requires.idle c.in-Ok-Some.ensures.quiet
+
+pub returns-in-Ok-None-clause-refused : goal.returns-in-Ok-None-clause-refused
+returns-in-Ok-None-clause-refused g c clean =
+    let old = state g.S.Store c.args.conn.now in
+    let first = clean_before old (state g.S.Store c.find_count.new.conn) c.in-Ok-None.ensures.quiet.survives clean in
+    let counts : Counts old.now None = subst (Counts old.now) c.in-Ok-None.field-0-is (c.in-Ok-None.ensures.counted clean) in
+    none_adopts old.now c.args.dictionary.now (c.requires.meta first) (λ list r. counts list r.few r.deposits)
+
+pub returns-in-Ok-true-clause-found : goal.returns-in-Ok-true-clause-found
+returns-in-Ok-true-clause-found g c clean =
+    let old = state g.S.Store c.args.conn.now in
+    let mid = state g.S.Store c.find_count.new.conn in
+    let early = clean_before mid (state g.S.Store c.holds_deposits.new.conn) c.holds_deposits.ensures.quiet.survives clean in
+    let first = clean_before old mid c.in-Ok-Some.ensures.quiet.survives early in
+    let count = c.in-Ok-Some.count in
+    let counts : Counts old.now (Some count) = subst (Counts old.now) c.in-Ok-Some.field-0-is (c.in-Ok-Some.ensures.counted early) in
+    let is : c.in-Ok-true.field-0 ≡ true = search rules in
+    let test = subst (λ (db : Database). Tests true (AreWhole db c.args.dictionary.now count)) (c.in-Ok-Some.ensures.quiet.same early refl).0 (tests_true is (c.in-Ok-true.ensures.tested clean)) in
+    finds_whole old.now c.args.dictionary.now count (c.requires.idle.schema first) (c.requires.sound first) (c.requires.meta first) counts (test.yes refl)
+
+pub returns-in-Ok-true-clause-heads : goal.returns-in-Ok-true-clause-heads
+returns-in-Ok-true-clause-heads g c clean =
+    let mid = state g.S.Store c.find_count.new.conn in
+    let early = clean_before mid (state g.S.Store c.holds_deposits.new.conn) c.holds_deposits.ensures.quiet.survives clean in
+    let is : c.in-Ok-true.field-0 ≡ true = search rules in
+    subst (λ (db : Database). HoldsHeads db c.in-Ok-Some.count c.holds_deposits.new.heads.items) (c.in-Ok-Some.ensures.quiet.same early refl).0 (c.in-Ok-true.ensures.heads clean (ap Ok is))
+
+pub returns-in-Ok-true-clause-digests : goal.returns-in-Ok-true-clause-digests
+returns-in-Ok-true-clause-digests g c clean =
+    let mid = state g.S.Store c.find_count.new.conn in
+    let early = clean_before mid (state g.S.Store c.holds_deposits.new.conn) c.holds_deposits.ensures.quiet.survives clean in
+    let is : c.in-Ok-true.field-0 ≡ true = search rules in
+    subst (λ (db : Database). HoldsDigests db (c.in-Ok-Some.count + 1) c.holds_deposits.new.digests) (c.in-Ok-Some.ensures.quiet.same early refl).0 (c.in-Ok-true.ensures.digests clean (ap Ok is))
+
+pub returns-in-Ok-true-clause-quiet : goal.returns-in-Ok-true-clause-quiet
+returns-in-Ok-true-clause-quiet g c = quiet_then _ _ _ _ c.in-Ok-Some.ensures.quiet c.in-Ok-true.ensures.quiet
+
+pub returns-in-Ok-false-clause-refused : goal.returns-in-Ok-false-clause-refused
+returns-in-Ok-false-clause-refused g c clean =
+    let old = state g.S.Store c.args.conn.now in
+    let mid = state g.S.Store c.find_count.new.conn in
+    let early = clean_before mid (state g.S.Store c.holds_deposits.new.conn) c.holds_deposits.ensures.quiet.survives clean in
+    let first = clean_before old mid c.in-Ok-Some.ensures.quiet.survives early in
+    let count = c.in-Ok-Some.count in
+    let counts : Counts old.now (Some count) = subst (Counts old.now) c.in-Ok-Some.field-0-is (c.in-Ok-Some.ensures.counted early) in
+    let is : c.in-Ok-false.field-0 ≡ false = search rules in
+    let test = subst (λ (db : Database). Tests false (AreWhole db c.args.dictionary.now count)) (c.in-Ok-Some.ensures.quiet.same early refl).0 (tests_false is (c.in-Ok-false.ensures.tested clean)) in
+    none_adopts old.now c.args.dictionary.now (c.requires.meta first) (finds_none old.now c.args.dictionary.now count counts (test.no refl))
+
+pub returns-in-Ok-false-clause-quiet : goal.returns-in-Ok-false-clause-quiet
+returns-in-Ok-false-clause-quiet g c = quiet_then _ _ _ _ c.in-Ok-Some.ensures.quiet c.in-Ok-false.ensures.quiet

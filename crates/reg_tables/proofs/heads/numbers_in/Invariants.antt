@@ -1,0 +1,11 @@
+use Rattle.std.proofs.Common.{◌≡◌, ◌+◌, ◌++◌, map, drop}
+use Rattle.reg_tables.specs.Heads.{bare_of}
+use Rattle.reg_store.specs.Deposit.{numbers_from}
+use Rattle.reg_tables.proofs.heads.numbers_in.Given as goal
+
+-- the numbers so far, and those of what is left of the list
+abbrev pub invariant-loop-one : goal.invariant-loop-one
+invariant-loop-one l = record {
+  at : l.number ≡ l.one-index;
+  rest : l.numbers.items ++ numbers_from (l.number + 1) l.project (map bare_of (drop l.one-index l.heads)) ≡ numbers_from 1 l.project (map bare_of l.heads);
+}

@@ -1,0 +1,23 @@
+use Rattle.std.proofs.Common.{arith}
+use Rattle.sqlite.specs.State.{HasCleanDisk}
+use Rattle.sqlite.specs.Files.{file_state}
+use Rattle.reg_tables.proofs.OpenLemmas.{found_schema}
+use Rattle.reg_tables.proofs.opening.SqlKeep+FileStore+FileFrom+F.create_from.Goals as goal
+
+pub returns-in-Ok-make-clause-blank : goal.returns-in-Ok-make-clause-blank
+returns-in-Ok-make-clause-blank g c clean =
+    let was = c.in-Ok-open_from.connection in
+    let early : HasCleanDisk (file_state was) = omega (arith, c.in-Ok-make.ensures.made.clean) in
+    found_schema (file_state was) (c.in-Ok-open_from.ensures.opened early) (c.in-Ok-open_from.ensures.found early) c.in-Ok-make.ensures.blank
+
+pub returns-in-Err-make-clause-not_empty : goal.returns-in-Err-make-clause-not_empty
+returns-in-Err-make-clause-not_empty g c named clean =
+    let was = c.in-Ok-open_from.connection in
+    let early : HasCleanDisk (file_state was) = omega (arith, c.in-Err-make.ensures.left.clean) in
+    found_schema (file_state was) (c.in-Ok-open_from.ensures.opened early) (c.in-Ok-open_from.ensures.found early) (c.in-Err-make.ensures.not_empty named)
+
+pub returns-in-Err-make-clause-vacant : goal.returns-in-Err-make-clause-vacant
+returns-in-Err-make-clause-vacant g c named clean =
+    let was = c.in-Ok-open_from.connection in
+    let early : HasCleanDisk (file_state was) = omega (arith, c.in-Err-make.ensures.left.clean) in
+    found_schema (file_state was) (c.in-Ok-open_from.ensures.opened early) (c.in-Ok-open_from.ensures.found early) (c.in-Err-make.ensures.vacant named)

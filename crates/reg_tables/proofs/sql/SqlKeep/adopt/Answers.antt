@@ -1,0 +1,95 @@
+use Rattle.std.proofs.Common.{rules, ◌≡◌, IsTrue, refl, sym, subst, ◌∙◌}
+use Rattle.sqlite.specs.State.{HasCleanDisk}
+use Rattle.sqlite.specs.Held.{state}
+use Rattle.reg_tables.specs.KeepLaws.{adopted_keeps, adopted_list}
+use Rattle.reg_tables.proofs.SchemaLemmas.{register_is}
+use Rattle.reg_tables.proofs.FormatLemmas.{autocommit_idle, meta_first}
+use Rattle.reg_tables.proofs.FrontsLemmas.{no_fronts}
+use Rattle.reg_tables.proofs.HeadsLemmas.{heads_found}
+use Rattle.reg_tables.proofs.QueryLemmas.{survives_none}
+use Rattle.reg_tables.proofs.RepeatsLemmas.{digested_found}
+use Rattle.reg_tables.proofs.sql.SqlKeep.adopt.Goals as goal
+
+pub examine-requires : goal.examine-requires
+examine-requires g c = record {
+  idle = record {
+    idle = autocommit_idle _ _ c.is_autocommit.ensures.value (search rules);
+    schema = λ clean. register_is c.args.connection.schema (search rules);
+    settled = λ clean is_open. sym (c.is_autocommit.ensures.settled (search rules) is_open);
+  };
+  none = search rules;
+  no_digests = c.new-digests.ensures;
+}
+
+pub refuse_tables-error-requires-clause-mode : goal.refuse_tables-error-requires-clause-mode
+refuse_tables-error-requires-clause-mode g c = autocommit_idle _ _ c.is_autocommit.ensures.value (search rules)
+
+pub refuse_tables-error-requires-clause-meta : goal.refuse_tables-error-requires-clause-meta
+refuse_tables-error-requires-clause-meta g c = meta_first c.args.connection.schema (search rules)
+
+pub invariant_of-result : goal.invariant_of-result
+invariant_of-result g c =
+    let old = state g.S.Store c.args.connection in
+    let new = state g.S.Store c.examine.new.conn in
+    let made = c.in-Ok.ensures in
+    let kept = λ (clean : HasCleanDisk new).
+    (let opened = made.open clean refl in
+    let was : IsTrue old.is_open = subst IsTrue (made.quiet.is_open clean refl) opened in
+    let same = made.quiet.same clean refl in
+    let settled : old.now ≡ old.committed = search (rules, was) in
+    adopted_keeps old new c.in-Ok.dictionary c.in-Ok.count opened same.0 (same.1 ∙ sym settled ∙ sym same.0) (made.adopts clean)) in
+    record {
+      idle = made.quiet.idle;
+      few = made.few;
+      long = made.long;
+      kept = λ _ clean. kept clean;
+      headed = λ _ clean. heads_found new c.in-Ok.dictionary c.in-Ok.count old.now c.examine.new.heads.items (kept clean) (made.quiet.same clean refl).0 (made.heads clean);
+      below = made.below;
+      digested = λ _ clean. digested_found new c.in-Ok.dictionary c.in-Ok.count old.now c.examine.new.digests (kept clean) (made.quiet.same clean refl).0 (made.digests clean);
+      held = λ _ _. c.none.ensures _;
+      fronted = λ _ _. no_fronts c.new.result _ _ c.new.ensures.rows c.new.ensures.alone;
+    }
+
+pub returns-in-Ok-clause-adopted : goal.returns-in-Ok-clause-adopted
+returns-in-Ok-clause-adopted g c clean =
+    let old = state g.S.Store c.args.connection in
+    let new = state g.S.Store c.examine.new.conn in
+    let made = c.in-Ok.ensures in
+    let opened = made.open clean refl in
+    let was : IsTrue old.is_open = subst IsTrue (made.quiet.is_open clean refl) opened in
+    let same = made.quiet.same clean refl in
+    let settled : old.now ≡ old.committed = search (rules, was) in
+    adopted_list old new c.in-Ok.dictionary c.in-Ok.count same.0 (same.1 ∙ sym settled ∙ sym same.0) (made.adopts clean)
+
+pub returns-in-Ok-clause-quiet : goal.returns-in-Ok-clause-quiet
+returns-in-Ok-clause-quiet g c = c.in-Ok.ensures.quiet.survives
+
+pub returns-in-Err-clause-refused : goal.returns-in-Err-clause-refused
+returns-in-Err-clause-refused g c = c.in-Err.ensures.adopts
+
+pub returns-in-Err-clause-same : goal.returns-in-Err-clause-same
+returns-in-Err-clause-same g c = c.in-Err.ensures.quiet.same
+
+pub returns-in-Err-clause-still : goal.returns-in-Err-clause-still
+returns-in-Err-clause-still g c = c.in-Err.ensures.quiet.still
+
+pub returns-in-Err-clause-left : goal.returns-in-Err-clause-left
+returns-in-Err-clause-left g c = c.in-Err.ensures.quiet.survives
+
+pub returns-then-not-is_register-clause-refused : goal.returns-then-not-is_register-clause-refused
+returns-then-not-is_register-clause-refused g c = c.refuse_tables-error.ensures.refused
+
+pub returns-then-not-is_register-clause-same : goal.returns-then-not-is_register-clause-same
+returns-then-not-is_register-clause-same g c = c.refuse_tables-error.ensures.same
+
+pub returns-then-not-is_register-clause-still : goal.returns-then-not-is_register-clause-still
+returns-then-not-is_register-clause-still g c = c.refuse_tables-error.ensures.still
+
+pub returns-then-not-is_register-clause-left : goal.returns-then-not-is_register-clause-left
+returns-then-not-is_register-clause-left g c = c.refuse_tables-error.ensures.crash
+
+pub returns-then-not-has_meta-clause-left : goal.returns-then-not-has_meta-clause-left
+returns-then-not-has_meta-clause-left g c = survives_none (state g.S.Store c.args.connection)
+
+pub returns-then-not-is_autocommit-clause-left : goal.returns-then-not-is_autocommit-clause-left
+returns-then-not-is_autocommit-clause-left g c = survives_none (state g.S.Store c.args.connection)

@@ -1,0 +1,115 @@
+-- The foreign keys leave no rows of a deposit that is not there.
+use Rattle.std.proofs.Common.{◌≡◌, ◌⊎◌, inl, inr, ℕ, pos, List, [], ◌∷◌, map, filter, drop, Bool, true, false, ◌&&◌, ◌||◌, if◌then◌else◌, refl, sym, ap, ◌∙◌}
+use Rattle.std.specs.List.{AllByRecursion, list_any}
+use Rattle.std.specs.Ordering.{is_eq}
+use Rattle.sqlite.specs.declared.types.Value.{Value}
+use Rattle.sqlite.specs.declared.types.Value.TheVariants.{Null, Int, Real, Text as Words, Blob as Bytes}
+use Rattle.sqlite.specs.Order.{Row, column, value_cmp}
+use Rattle.sqlite.specs.Tree.{Trees}
+use Rattle.sqlite.specs.Collation.TheVariants.{Binary}
+use Rattle.sqlite.specs.Ops.{is_null}
+use Rattle.sqlite_schema.specs.declared.schema.Constraint.TheVariants.{ForeignKey}
+use Rattle.sqlite_schema.specs.Rules.{equal, passes}
+use Rattle.sqlite_schema.specs.Names.{same_name}
+use Rattle.sqlite_value.specs.Keys.{first_key, joined}
+use Rattle.sqlite_value.proofs.OrderLemmas.{value_cmp_total}
+use Rattle.sqlite.specs.Ops.{binary}
+use Rattle.reg_tables.specs.Reads.{equal_order, truth_is}
+use Rattle.reg_tables.specs.Register.{has_number}
+use Rattle.reg_tables.specs.Rows.{deposit_columns, deposit_table, columns_3, columns_5, is_of, rows_under}
+use Rattle.reg_tables.specs.Tables.{lines, steps, register_schema}
+
+-- a row of lines has a row of deposits with its number
+pub has_deposit : (trees : Trees) (r : Row) → passes ForeignKey register_schema trees lines r ≡ true → (((is_null (column r 1) || false) || list_any (λ p. equal Binary (column p 0) (column r 1) && true) (trees 2)) && true) ≡ true
+unfolding same_name first_key joined
+has_deposit trees r h = h
+
+-- a row of steps has a row of deposits with its number
+pub step_has_deposit : (trees : Trees) (r : Row) → passes ForeignKey register_schema trees steps r ≡ true → (((is_null (column r 1) || false) || list_any (λ p. equal Binary (column p 0) (column r 1) && true) (trees 2)) && true) ≡ true
+unfolding same_name first_key joined
+step_has_deposit trees r h = h
+
+not_null : (v : Value) (n : ℕ) → is_eq (value_cmp v (Int (pos n))) ≡ true → is_null v ≡ false
+unfolding value_cmp
+not_null Null n h = absurd cc
+not_null (Int m) n h = refl
+not_null (Real x) n h = refl
+not_null (Words t) n h = refl
+not_null (Bytes b) n h = refl
+
+eq_both : (u v : Value) → is_null u ≡ false → is_null v ≡ false → equal Binary u v ≡ is_eq (value_cmp u v)
+unfolding binary
+eq_both Null v p q = absurd cc
+eq_both (Int a) Null p q = absurd cc
+eq_both (Int a) (Int b) p q = truth_is _
+eq_both (Int a) (Real b) p q = truth_is _
+eq_both (Int a) (Words b) p q = truth_is _
+eq_both (Int a) (Bytes b) p q = truth_is _
+eq_both (Real a) Null p q = absurd cc
+eq_both (Real a) (Int b) p q = truth_is _
+eq_both (Real a) (Real b) p q = truth_is _
+eq_both (Real a) (Words b) p q = truth_is _
+eq_both (Real a) (Bytes b) p q = truth_is _
+eq_both (Words a) Null p q = absurd cc
+eq_both (Words a) (Int b) p q = truth_is _
+eq_both (Words a) (Real b) p q = truth_is _
+eq_both (Words a) (Words b) p q = truth_is _
+eq_both (Words a) (Bytes b) p q = truth_is _
+eq_both (Bytes a) Null p q = absurd cc
+eq_both (Bytes a) (Int b) p q = truth_is _
+eq_both (Bytes a) (Real b) p q = truth_is _
+eq_both (Bytes a) (Words b) p q = truth_is _
+eq_both (Bytes a) (Bytes b) p q = truth_is _
+
+null_left : (v : Value) → equal Binary Null v ≡ false
+unfolding binary
+null_left Null = refl
+null_left (Int b) = refl
+null_left (Real b) = refl
+null_left (Words b) = refl
+null_left (Bytes b) = refl
+
+is_null_or : (u : Value) → (u ≡ Null) ⊎ (is_null u ≡ false)
+is_null_or Null = inl refl
+is_null_or (Int a) = inr refl
+is_null_or (Real a) = inr refl
+is_null_or (Words a) = inr refl
+is_null_or (Bytes a) = inr refl
+
+-- a value that does not equal n is not equal to one that does
+apart_from : (u v : Value) (n : ℕ) → is_eq (value_cmp v (Int (pos n))) ≡ true → is_eq (value_cmp u (Int (pos n))) ≡ false → equal Binary u v ≡ false
+apart_from u v n is differ = go (is_null_or u)
+  where
+    tested : (b : Bool) → is_eq (value_cmp u v) ≡ b → b ≡ false
+    tested true e = absurd (let same = value_cmp_total.congr u v (Int (pos n)) (equal_order _ e) in let both = sym is ∙ ap is_eq (sym same) ∙ differ in cc)
+    tested false e = refl
+
+    go : (u ≡ Null) ⊎ (is_null u ≡ false) → equal Binary u v ≡ false
+    go (inl e) = rw e (null_left v)
+    go (inr e) = eq_both u v e (not_null v n is) ∙ tested (is_eq (value_cmp u v)) refl
+
+no_parent : (n : ℕ) (v : Value) (rows : List Row) → is_eq (value_cmp v (Int (pos n))) ≡ true → filter (has_number n) (map deposit_columns rows) ≡ [] → list_any (λ p. equal Binary (column p 0) v && true) rows ≡ false
+no_parent n v [] is none = refl
+no_parent n v (p ∷ rows) is none = go (no_parent n v rows is) (has_number n (deposit_columns p)) refl none
+  where
+    go : (filter (has_number n) (map deposit_columns rows) ≡ [] → list_any (λ p. equal Binary (column p 0) v && true) rows ≡ false) → (b : Bool) → has_number n (deposit_columns p) ≡ b → (if b then deposit_columns p ∷ filter (has_number n) (map deposit_columns rows) else filter (has_number n) (map deposit_columns rows)) ≡ [] → list_any (λ p. equal Binary (column p 0) v && true) (p ∷ rows) ≡ false
+    go more true e h = absurd cc
+    go more false e h = rw (apart_from (column p 0) v n is e) (more h)
+
+-- no row of lines has a number that no deposit has
+pub no_lines : (trees : Trees) (n : ℕ) (rows : List Row) → filter (has_number n) (deposit_table trees) ≡ [] → AllByRecursion (λ r. passes ForeignKey register_schema trees lines r ≡ true) rows → rows_under n (map columns_5 rows) ≡ []
+no_lines trees n [] none keyed = refl
+no_lines trees n (r ∷ rows) none keyed = go (no_lines trees n rows none keyed.1) (is_of n (columns_5 r)) refl
+  where
+    go : rows_under n (map columns_5 rows) ≡ [] → (b : Bool) → is_of n (columns_5 r) ≡ b → map (drop 1) (if b then columns_5 r ∷ filter (is_of n) (map columns_5 rows) else filter (is_of n) (map columns_5 rows)) ≡ []
+    go more true e = absurd (let held = rw (not_null (column r 1) n e, no_parent n (column r 1) (trees 2) e none) at (has_deposit trees r keyed.0) in cc)
+    go more false e = more
+
+-- no row of steps has a number that no deposit has
+pub no_steps : (trees : Trees) (n : ℕ) (rows : List Row) → filter (has_number n) (deposit_table trees) ≡ [] → AllByRecursion (λ r. passes ForeignKey register_schema trees steps r ≡ true) rows → rows_under n (map columns_3 rows) ≡ []
+no_steps trees n [] none keyed = refl
+no_steps trees n (r ∷ rows) none keyed = go (no_steps trees n rows none keyed.1) (is_of n (columns_3 r)) refl
+  where
+    go : rows_under n (map columns_3 rows) ≡ [] → (b : Bool) → is_of n (columns_3 r) ≡ b → map (drop 1) (if b then columns_3 r ∷ filter (is_of n) (map columns_3 rows) else filter (is_of n) (map columns_3 rows)) ≡ []
+    go more true e = absurd (let held = rw (not_null (column r 1) n e, no_parent n (column r 1) (trees 2) e none) at (step_has_deposit trees r keyed.0) in cc)
+    go more false e = more

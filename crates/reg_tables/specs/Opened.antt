@@ -1,0 +1,37 @@
+-- What the opening of a register in files says of what the files held. The image stands for that: their bytes as they were opened.
+use Rattle.std.specs.Prelude.{◌≡◌, List, Err}
+use Rattle.sqlite.specs.Recovery.{Image}
+use Rattle.sqlite.specs.Schema.{Schema}
+use Rattle.sqlite.specs.Tree.{Trees}
+use Rattle.sqlite.specs.Effect.{Database, IsDatabase}
+use Rattle.sqlite.specs.Files.{AreFoundIn, HoldsDatabase}
+use Rattle.ags_dict.specs.Entries.{Entries}
+use Rattle.reg_tables.specs.declared.adopting.AdoptError.{AdoptError}
+use Rattle.reg_store.specs.Deposit.{Deposit}
+use Rattle.reg_tables.specs.Register.{IsRegister}
+use Rattle.reg_tables.specs.Adoption.{Adopts}
+
+-- An open finds these tables: those that the files recover to, or none where the files hold nothing; a database that the files hold is no other.
+pub record FindsTables (image : Image) (trees : Trees) : Type 0 where
+  pub found : AreFoundIn image trees
+  pub only : (held : Trees) → HoldsDatabase image held → trees ≡ held
+
+-- An open finds a register of this list.
+pub record HoldsRegister (image : Image) (dictionary : Entries) (list : List Deposit) : Type 0 where
+  pub db : Database
+  pub found : FindsTables image db.trees
+  pub register : IsRegister db dictionary list
+
+-- An open finds a sound database, and this is what it is answered where it is adopted.
+pub record RefusesFiles (image : Image) (error : AdoptError) : Type 0 where
+  pub db : Database
+  pub sound : IsDatabase db
+  pub found : FindsTables image db.trees
+  pub refused : Adopts db (Err error)
+
+-- An open finds a sound database, and this holds of its tables, indexes and views.
+pub record FindsSchema (image : Image) (Has : Schema → Type 0) : Type 0 where
+  pub db : Database
+  pub sound : IsDatabase db
+  pub found : FindsTables image db.trees
+  pub has : Has db.schema

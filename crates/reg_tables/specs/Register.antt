@@ -1,0 +1,103 @@
+-- A register in tables, and what a connection keeps.
+use Rattle.std.specs.Prelude.{◌≡◌, ℕ, zero, suc, ℤ, ◌+◌, ◌≤◌, pos, Bool, find, unwrap_or, List, [], ◌∷◌, map, length, IsTrue, codes, Option, Some, None, slice_get}
+use Rattle.std.specs.List.{AllByRecursion, AllZip}
+use Rattle.std.specs.Ordering.{is_eq}
+use Rattle.std.specs.List.Sorted.{IsPermutation}
+use Rattle.sqlite.specs.declared.types.Value.{Value}
+use Rattle.sqlite.specs.declared.types.Value.TheVariants.{Int, Text as Words, Blob as Bytes}
+use Rattle.sqlite.specs.Order.{Row, bytes, column, value_cmp}
+use Rattle.sqlite.specs.Tree.{Trees}
+use Rattle.sqlite.specs.Effect.{Database, IsDatabase}
+use Rattle.sqlite.specs.State.{State}
+use Rattle.ags_rows.specs.declared.TheConstants.{READABLE}
+use Rattle.ags_dict.specs.Entries.{Entries}
+use Rattle.ags_dict.specs.Reading.{IsDictionary}
+use Rattle.ags_check.specs.Findings.{CheckedFile}
+use Rattle.reg_store.specs.Deposit.{Deposit}
+use Rattle.reg_tables.specs.Tables.{register_schema}
+use Rattle.reg_tables.specs.Rows.{columns_3, deposit_table, line_table, step_table, placed_rows, step_pair, rows_under}
+use Rattle.reg_store.specs.Fit.{IsFileOf, IsNamed, kept_rows}
+use Rattle.reg_store.specs.Apart.{AreApart}
+
+-- ---- the deposits
+
+-- the deposits as rows, numbered from n
+abbrev pub deposit_rows : ℕ → List Deposit → List Row
+deposit_rows n [] = []
+deposit_rows n (d ∷ more) = (Int (pos n) ∷ Words d.firm ∷ Words d.project ∷ Int d.embargo ∷ Bytes d.bytes ∷ []) ∷ deposit_rows (n + 1) more
+
+-- the number in a value, and 0 in any other
+abbrev pub integer_in : Value → ℤ
+integer_in (Int n) = n
+integer_in _ = pos 0
+
+abbrev pub deposit_in : Row → Deposit
+deposit_in r = record { firm = bytes (column r 2); project = bytes (column r 3); embargo = integer_in (column r 4); bytes = bytes (column r 5) }
+
+-- the row has the number
+abbrev pub has_number : ℕ → Row → Bool
+has_number n r = is_eq (value_cmp (column r 0) (Int (pos n)))
+
+-- the deposit of a number
+abbrev pub deposit_at : List Row → ℕ → Deposit
+deposit_at rows n = deposit_in (unwrap_or (find (has_number n) rows) [])
+
+-- so many deposits, from a number on
+abbrev pub deposits_from : List Row → ℕ → ℕ → List Deposit
+deposits_from rows n zero = []
+deposits_from rows n (suc count) = deposit_at rows n ∷ deposits_from rows (n + 1) count
+
+-- what the table `deposits` says: as many deposits as it has rows, by their numbers from 1
+unfoldable pub deposits_in : Trees → List Deposit
+deposits_in trees = deposits_from (trees 2) 1 (length (trees 2))
+
+-- ---- the rows and steps of a deposit, where there is one
+
+abbrev pub file_lines : Option CheckedFile → List Row
+file_lines None = []
+file_lines (Some file) = placed_rows 0 (kept_rows file.groups)
+
+abbrev pub file_steps : Option CheckedFile → List Row
+file_steps None = []
+file_steps (Some file) = map step_pair file.graph.steps
+
+-- the rows of meta by their columns
+abbrev pub meta_columns : List ℕ → List Row
+meta_columns text = (Words (codes "dictionary") ∷ Int (pos 0) ∷ Bytes text ∷ []) ∷ (Words (codes "format") ∷ Int (pos 1) ∷ Bytes [] ∷ []) ∷ []
+
+-- The tables are a register of this list, under the dictionary that they hold. Rows are compared by their columns, in whatever order they stand;
+-- of the rowids only the number of a deposit counts.
+pub record IsRegister (db : Database) (dictionary : Entries) (list : List Deposit) : Type 0 where
+  pub schema : db.schema ≡ register_schema
+  pub sound : IsDatabase db
+  pub text : List ℕ
+  pub short : length text ≤ READABLE
+  pub reads : IsDictionary text dictionary
+  pub meta : IsPermutation (meta_columns text) (map columns_3 (db.trees 0))
+  pub deposits : IsPermutation (deposit_rows 1 list) (deposit_table db.trees)
+  pub files : List CheckedFile
+  pub each : AllZip (IsFileOf dictionary) list files
+  pub named : AllByRecursion IsNamed list
+  pub apart : AreApart list
+  pub few : length list ≤ 999999
+  -- of each number, the rows of that deposit, and none where there is no such deposit
+  pub lines : (k : ℕ) → IsPermutation (file_lines (slice_get files k)) (rows_under (k + 1) (line_table db.trees))
+  pub steps : (k : ℕ) → IsPermutation (file_steps (slice_get files k)) (rows_under (k + 1) (step_table db.trees))
+
+abbrev pub tables : Trees → Database
+tables trees = record { schema = register_schema; trees = trees }
+
+-- a crash may leave tables that are a register of this list
+abbrev pub LeavesList : (Trees → Type 0) → Entries → List Deposit → Type 0
+LeavesList may_leave dictionary list = (trees : Trees) × may_leave trees × IsRegister (tables trees) dictionary list
+
+-- a crash may leave tables that are a register of no list
+abbrev pub LeavesBroken : (Trees → Type 0) → Entries → Type 0
+LeavesBroken may_leave dictionary = (trees : Trees) × may_leave trees × ((list : List Deposit) → IsRegister (tables trees) dictionary list → ⊥)
+
+-- what a keep that has not failed keeps true of its connection
+pub record KeepsRegister (s : State) (dictionary : Entries) (count : ℕ) : Type 0 where
+  pub is_open : IsTrue s.is_open
+  pub settled : s.committed ≡ s.now
+  pub register : IsRegister s.now dictionary (deposits_in s.committed.trees)
+  pub counted : count ≡ length (deposits_in s.committed.trees)

@@ -1,0 +1,122 @@
+-- Reading back, and a deposit more.
+use Rattle.std.proofs.Common.{◌≡◌, ℕ, suc, ◌+◌, ◌<◌, List, [], ◌∷◌, ◌++◌, map, filter, unwrap_or, get_or, append_assoc, length, length-append, IsTrue, None, slice_get, refl, sym, ap, subst, ◌∙◌, arith}
+use Rattle.std.specs.List.{AllZip}
+use Rattle.std.specs.List.Sorted.{IsPermutation}
+use Rattle.std.proofs.lemmas.Slice.Zip.{AllZip-long}
+use Rattle.sqlite_keyed.proofs.ListLemmas.{all-append, filter-map, slice_get-filter, IsPermutation-filter}
+use Rattle.std.proofs.lemmas.List.Sorted.{length_permutation}
+use Rattle.std.proofs.lemmas.List.{length-map}
+use Rattle.sqlite.proofs.Callers.{one_permutation}
+use Rattle.sqlite.specs.Order.{Row, bytes, column}
+use Rattle.sqlite.specs.Tree.{Trees}
+use Rattle.sqlite.specs.Effect.{Database, IsDatabase}
+use Rattle.sqlite.specs.State.{State}
+use Rattle.ags_dict.specs.Entries.{Entries}
+use Rattle.ags_check.specs.Findings.{CheckedFile}
+use Rattle.reg_store.specs.Deposit.{Deposit, number_of}
+use Rattle.reg_tables.specs.Rows.{given_deposit, deposit_columns, deposit_table, IsMore, columns_3, rows_under, line_table, step_table, placed_rows, line_rows, step_pair, step_rows}
+use Rattle.reg_tables.specs.Inserts.{AddsFile}
+use Rattle.reg_store.specs.Fit.{IsFileOf, IsNamed, kept_rows}
+use Rattle.reg_store.specs.ApartLaws.{apart_push}
+use Rattle.reg_tables.specs.Register.{meta_columns, deposit_rows, integer_in, deposit_in, has_number, deposit_at, deposits_from, deposits_in, file_lines, file_steps, IsRegister, KeepsRegister}
+use Rattle.reg_tables.specs.Pushes.{equal_at, apart_at, deposits_push, own_lines, other_lines, own_steps, other_steps, table_push}
+
+-- a row of deposits, by its columns alone
+abbrev from_columns : Row → Deposit
+from_columns c = record { firm = bytes (column c 1); project = bytes (column c 2); embargo = integer_in (column c 3); bytes = bytes (column c 4) }
+
+-- among the rows of a list one has the number of a deposit
+pub none_before : (n m : ℕ) (list : List Deposit) → n < m → filter (has_number n) (deposit_rows m list) ≡ []
+none_before n m [] low = refl
+none_before n m (d ∷ list) low = rw (apart_at m n (λ e. absurd (omega (arith, e)))) (none_before n (m + 1) list (omega arith))
+
+one_row : (n m : ℕ) (before : List Deposit) (d : Deposit) (after : List Deposit) → n ≡ m + length before → filter (has_number n) (deposit_rows m (before ++ d ∷ after)) ≡ given_deposit n d ∷ []
+one_row n m [] d after e =
+    let same : n ≡ m = omega (arith, e) in
+    subst (λ k. filter (has_number n) (deposit_rows k (d ∷ after)) ≡ given_deposit n d ∷ []) same
+    (rw (equal_at n) (ap (λ more. given_deposit n d ∷ more) (none_before n (n + 1) after (omega arith))))
+one_row n m (x ∷ before) d after e = rw (apart_at m n (λ same. absurd (omega (arith, same, e)))) (one_row n (m + 1) before d after (omega (arith, e)))
+
+its_columns : (n : ℕ) (d : Deposit) (rows : List Row) → map deposit_columns rows ≡ given_deposit n d ∷ [] → deposit_in (unwrap_or (slice_get rows 0) []) ≡ d
+its_columns n d [] h = absurd cc
+its_columns n d (r ∷ rows) h = ap (λ (all : List Row). from_columns (get_or all 0 [])) h
+
+reads_one : (before : List Deposit) (d : Deposit) (after : List Deposit) (rows : List Row) → IsPermutation (deposit_rows 1 (before ++ d ∷ after)) (map deposit_columns rows) → deposit_at rows (1 + length before) ≡ d
+reads_one before d after rows h =
+    let n = 1 + length before in
+    let one : IsPermutation (given_deposit n d ∷ []) (filter (has_number n) (map deposit_columns rows)) =
+    subst (λ all. IsPermutation all (filter (has_number n) (map deposit_columns rows))) (one_row n 1 before d after refl) (IsPermutation-filter (has_number n) _ _ h) in
+    let alone : map deposit_columns (filter (has_number n) rows) ≡ given_deposit n d ∷ [] = sym (filter-map (has_number n) deposit_columns rows) ∙ one_permutation (given_deposit n d) _ one in
+    ap (λ o. deposit_in (unwrap_or o [])) (sym (slice_get-filter (has_number n) rows)) ∙ its_columns n d (filter (has_number n) rows) alone
+
+reads_all : (before rest : List Deposit) (rows : List Row) → IsPermutation (deposit_rows 1 (before ++ rest)) (map deposit_columns rows) → deposits_from rows (1 + length before) (length rest) ≡ rest
+reads_all before [] rows h = refl
+reads_all before (d ∷ rest) rows h =
+    let e : (1 + length before) + 1 ≡ 1 + length (before ++ d ∷ []) = omega (arith, length-append before (d ∷ [])) in
+    let more = reads_all (before ++ d ∷ []) rest rows (subst (λ list. IsPermutation (deposit_rows 1 list) (map deposit_columns rows)) (sym (append_assoc before (d ∷ []) rest)) h) in
+    ap (λ x. x ∷ deposits_from rows ((1 + length before) + 1) (length rest)) (reads_one before d rest rows h) ∙ ap (λ all. d ∷ all) (ap (λ k. deposits_from rows k (length rest)) e ∙ more)
+
+pub rows-length : (n : ℕ) (list : List Deposit) → length (deposit_rows n list) ≡ length list
+rows-length n [] = refl
+rows-length n (d ∷ list) = ap suc (rows-length (n + 1) list)
+
+pub read_back : (trees : Trees) (list : List Deposit) → IsPermutation (deposit_rows 1 list) (deposit_table trees) → deposits_in trees ≡ list
+unfolding deposits_in
+read_back trees list is =
+    let long : length (trees 2) ≡ length list = sym (length-map (trees 2) deposit_columns) ∙ length_permutation _ _ is ∙ rows-length 1 list in
+    ap (deposits_from (trees 2) 1) long ∙ reads_all [] list (trees 2) is
+
+zip_push : {A B : Type 0} (R : A → B → Type 0) (xs : List A) (ys : List B) (x : A) (y : B) → AllZip R xs ys → R x y → AllZip R (xs ++ x ∷ []) (ys ++ y ∷ [])
+zip_push R [] [] x y h r = (r, tt)
+zip_push R [] (b ∷ ys) x y h r = absurd h
+zip_push R (a ∷ xs) [] x y h r = absurd h
+zip_push R (a ∷ xs) (b ∷ ys) x y h r = (h.0, zip_push R xs ys x y h.1 r)
+
+-- what the adding of a deposit needs
+pub record IsReady (dictionary : Entries) (list : List Deposit) (d : Deposit) (file : CheckedFile) : Type 0 where
+  pub its : IsFileOf dictionary d file
+  pub named : IsNamed d
+  pub fresh : number_of d.firm d.project d.bytes list ≡ None
+
+pub register_push : (dictionary : Entries) (old new : Database) (list : List Deposit) (d : Deposit) (file : CheckedFile) (count : ℕ) → IsRegister old dictionary list → count ≡ length list → count < 999999
+    → AddsFile (count + 1) d (kept_rows file.groups) file.graph.steps old new → IsDatabase new → IsReady dictionary list d file → IsRegister new dictionary (list ++ d ∷ [])
+register_push dictionary old new list d file count was counted low put sound ready =
+    let long : length was.files ≡ length list = AllZip-long (IsFileOf dictionary) list was.files was.each in
+    let n : count + 1 ≡ 1 + length list = omega (arith, counted) in
+    let at : length was.files + 1 ≡ count + 1 = omega (arith, counted, long) in
+    record {
+      schema = put.schema;
+      sound = sound;
+      text = was.text;
+      short = was.short;
+      reads = was.reads;
+      meta = subst (λ rows. IsPermutation (meta_columns was.text) (map columns_3 rows)) (sym put.meta) was.meta;
+      deposits = deposits_push list d (deposit_table old.trees) (deposit_table new.trees) was.deposits (subst (λ k. IsMore (deposit_table old.trees) (given_deposit k d ∷ []) (deposit_table new.trees)) n put.deposits);
+      files = was.files ++ file ∷ [];
+      each = zip_push (IsFileOf dictionary) list was.files d file was.each ready.its;
+      named = all-append IsNamed list (d ∷ []) was.named (ready.named, tt);
+      apart = apart_push 1 list d was.apart ready.fresh;
+      few = omega (arith, length-append list (d ∷ []), counted, low);
+      lines = table_push (λ _. file_lines) (λ _. refl) was.files file (line_table old.trees) (line_rows (count + 1) 0 (kept_rows file.groups)) (line_table new.trees)
+          (subst (λ k. rows_under k (line_rows (count + 1) 0 (kept_rows file.groups)) ≡ placed_rows 0 (kept_rows file.groups)) (sym at) (own_lines (count + 1) 0 (kept_rows file.groups)))
+          (λ m differ. other_lines m (count + 1) 0 (kept_rows file.groups) (λ e. differ (at ∙ e))) put.lines was.lines;
+      steps = table_push (λ _. file_steps) (λ _. refl) was.files file (step_table old.trees) (step_rows (count + 1) file.graph.steps) (step_table new.trees)
+          (subst (λ k. rows_under k (step_rows (count + 1) file.graph.steps) ≡ map step_pair file.graph.steps) (sym at) (own_steps (count + 1) file.graph.steps))
+          (λ m differ. other_steps m (count + 1) file.graph.steps (λ e. differ (at ∙ e))) put.steps was.steps;
+    }
+
+pub record Pushed (dictionary : Entries) (old new : State) (count : ℕ) (d : Deposit) : Type 0 where
+  pub kept : KeepsRegister new dictionary (count + 1)
+  pub list : deposits_in new.committed.trees ≡ deposits_in old.committed.trees ++ d ∷ []
+
+pub keeps_push : (dictionary : Entries) (old new : State) (d : Deposit) (file : CheckedFile) (count : ℕ) → KeepsRegister old dictionary count → count < 999999
+    → AddsFile (count + 1) d (kept_rows file.groups) file.graph.steps old.now new.now → IsDatabase new.now → new.committed ≡ new.now → IsTrue new.is_open → IsReady dictionary (deposits_in old.committed.trees) d file
+    → Pushed dictionary old new count d
+keeps_push dictionary old new d file count was low put sound settled is_open ready =
+    let list = deposits_in old.committed.trees in
+    let register = register_push dictionary old.now new.now list d file count was.register was.counted low put sound ready in
+    let read : deposits_in new.committed.trees ≡ list ++ d ∷ [] = ap (λ (db : Database). deposits_in db.trees) settled ∙ read_back new.now.trees (list ++ d ∷ []) register.deposits in
+    record {
+      kept = record { is_open = is_open; settled = settled; register = subst (IsRegister new.now dictionary) (sym read) register; counted = omega (arith, length-append list (d ∷ []), was.counted, ap length read) };
+      list = read;
+    }

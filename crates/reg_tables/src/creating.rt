@@ -1,0 +1,163 @@
+//! The tables of a new register.
+
+ghost use Rattle.std.specs.Prelude.{◌≡◌, ◌≢◌, [], false, IsTrue, IfErr, OnOk, OnErr};
+ghost use Rattle.sqlite.specs.Values.{bound};
+ghost use Rattle.sqlite.specs.Effect.{IsDatabase};
+ghost use Rattle.sqlite.specs.State.{HasCleanDisk, Survives};
+ghost use Rattle.sqlite.specs.Held.{state};
+ghost use Rattle.reg_tables.specs.Tables.{no_schema};
+ghost use Rattle.reg_store.specs.Keep.{fails};
+ghost use Rattle.reg_tables.specs.Quiet.{IsAsBefore, IsSettled, IsUndone};
+ghost use Rattle.reg_tables.specs.Inside.{ChangesInside, CommitsNothing, HasSchema, HasTransaction, Ran};
+ghost use Rattle.reg_tables.specs.Creates.{HasFirst, HasAll, IsNewRegister, LeavesNew};
+
+use crate::queries::{is_memory, is_open};
+use reg_store::KeepError;
+use sqlite::types::ValueRef;
+use sqlite::{Alter, Connection, Error, Transaction, params};
+
+/// Runs a statement inside a transaction. Nothing is committed.
+#[tactic(auto, using(crate::proofs::AddsLemmas::kept_by))]
+fn run<S: Alter>(
+    tx: &mut Transaction<'_, S>,
+    sql: &str,
+    params: &[ValueRef<'_>],
+) -> Result<(), Error>
+    requires inside { HasTransaction (state S.Store tx.old.conn.now) }
+    ensures same_reference { tx.new.conn.ghost_name ≡ tx.old.conn.ghost_name }
+    ensures ran { HasCleanDisk (state S.Store tx.new.conn.now)
+        → OnOk result (Ran sql.now (bound params.now) (state S.Store tx.old.conn.now) (state S.Store tx.new.conn.now)) }
+    ensures kept { CommitsNothing (state S.Store tx.old.conn.now) (state S.Store tx.new.conn.now) }
+    ensures survives { Survives (state S.Store tx.old.conn.now) (state S.Store tx.new.conn.now) (λ _. ⊥) }
+{
+    tx.execute(sql, params)?;
+    Ok(())
+}
+
+#[tactic(auto, using(crate::proofs::AddsLemmas::kept_then))]
+fn create_first<S: Alter>(tx: &mut Transaction<'_, S>) -> Result<(), Error>
+    requires inside { HasTransaction (state S.Store tx.old.conn.now) }
+    requires schema { HasSchema (state S.Store tx.old.conn.now) no_schema }
+    ensures same_reference { tx.new.conn.ghost_name ≡ tx.old.conn.ghost_name }
+    ensures made { ChangesInside result (λ _ db. HasFirst db)
+        (state S.Store tx.old.conn.now) (state S.Store tx.new.conn.now) }
+    ensures kept { CommitsNothing (state S.Store tx.old.conn.now) (state S.Store tx.new.conn.now) }
+    ensures survives { Survives (state S.Store tx.old.conn.now) (state S.Store tx.new.conn.now) (λ _. ⊥) }
+{
+    run(
+        tx,
+        "CREATE TABLE meta (name TEXT NOT NULL PRIMARY KEY, num INTEGER NOT NULL, body BLOB NOT NULL) STRICT",
+        &[],
+    )?;
+    run(
+        tx,
+        "CREATE TABLE deposits (number INTEGER PRIMARY KEY, firm TEXT NOT NULL, project TEXT NOT NULL, embargo INTEGER NOT NULL, body BLOB NOT NULL) STRICT",
+        &[],
+    )
+}
+
+#[tactic(auto, using(crate::proofs::AddsLemmas::kept_then))]
+fn create_second<S: Alter>(tx: &mut Transaction<'_, S>) -> Result<(), Error>
+    requires inside { HasTransaction (state S.Store tx.old.conn.now) }
+    requires first { HasCleanDisk (state S.Store tx.old.conn.now) → HasFirst (state S.Store tx.old.conn.now).now }
+    ensures same_reference { tx.new.conn.ghost_name ≡ tx.old.conn.ghost_name }
+    ensures made { ChangesInside result (λ _ db. HasAll db)
+        (state S.Store tx.old.conn.now) (state S.Store tx.new.conn.now) }
+    ensures kept { CommitsNothing (state S.Store tx.old.conn.now) (state S.Store tx.new.conn.now) }
+    ensures survives { Survives (state S.Store tx.old.conn.now) (state S.Store tx.new.conn.now) (λ _. ⊥) }
+{
+    run(
+        tx,
+        "CREATE TABLE lines (deposit INTEGER NOT NULL REFERENCES deposits (number), seq INTEGER NOT NULL, grp TEXT NOT NULL, kind INTEGER NOT NULL, line BLOB NOT NULL, PRIMARY KEY (deposit, seq)) STRICT",
+        &[],
+    )?;
+    run(
+        tx,
+        "CREATE TABLE steps (deposit INTEGER NOT NULL REFERENCES deposits (number), child INTEGER NOT NULL, target INTEGER NOT NULL, PRIMARY KEY (deposit, child, target)) STRICT",
+        &[],
+    )
+}
+
+#[tactic(auto, using(crate::proofs::AddsLemmas::kept_then))]
+fn make_tables<S: Alter>(tx: &mut Transaction<'_, S>, dictionary: &[u8]) -> Result<(), Error>
+    requires inside { HasTransaction (state S.Store tx.old.conn.now) }
+    requires schema { HasSchema (state S.Store tx.old.conn.now) no_schema }
+    ensures same_reference { tx.new.conn.ghost_name ≡ tx.old.conn.ghost_name }
+    ensures made { ChangesInside result (λ _ db. IsNewRegister dictionary.now db)
+        (state S.Store tx.old.conn.now) (state S.Store tx.new.conn.now) }
+    ensures kept { CommitsNothing (state S.Store tx.old.conn.now) (state S.Store tx.new.conn.now) }
+    ensures survives { Survives (state S.Store tx.old.conn.now) (state S.Store tx.new.conn.now) (λ _. ⊥) }
+{
+    create_first(tx)?;
+    create_second(tx)?;
+    run(
+        tx,
+        "INSERT INTO meta VALUES ('format', 1, x''), ('dictionary', 0, ?1)",
+        params![dictionary],
+    )
+}
+
+#[tactic(auto, using(crate::proofs::AddsLemmas::undone_by, crate::proofs::AddsLemmas::open_before))]
+fn make_all<S: Alter>(conn: &mut Connection<S>, dictionary: &[u8]) -> Result<(), Error>
+    requires mode { conn.old.in_transaction ≡ false }
+    requires schema { HasCleanDisk (state S.Store conn.old) → (state S.Store conn.old).now.schema ≡ no_schema }
+    ensures mode { conn.new.in_transaction ≡ false }
+    ensures open { HasCleanDisk (state S.Store conn.new) → OnOk result (IsTrue (state S.Store conn.new).is_open) }
+    ensures put { HasCleanDisk (state S.Store conn.new)
+        → OnOk result (IsNewRegister dictionary.now (state S.Store conn.new).now) }
+    ensures settled { HasCleanDisk (state S.Store conn.new)
+        → OnOk result ((state S.Store conn.new).committed ≡ (state S.Store conn.new).now) }
+    ensures was_open { HasCleanDisk (state S.Store conn.new) → IsTrue (state S.Store conn.new).is_open
+        → OnErr result (IsTrue (state S.Store conn.old).is_open) }
+    ensures undone { HasCleanDisk (state S.Store conn.new) → IsTrue (state S.Store conn.new).is_open
+        → OnErr result (IsUndone (state S.Store conn.old) (state S.Store conn.new)) }
+    ensures crash { Survives (state S.Store conn.old) (state S.Store conn.new)
+        (LeavesNew (state S.Store conn.old) dictionary.now) }
+{
+    let mut tx = conn.transaction();
+    make_tables(&mut tx, dictionary)?;
+    tx.commit()?;
+    Ok(())
+}
+
+/// Makes the tables of a register in one transaction. Want of memory is answered only where nothing changed.
+#[tactic(auto, using(crate::proofs::QueryLemmas::still_then, crate::proofs::QueryLemmas::undone_still))]
+pub(crate) fn make_register<S: Alter>(
+    conn: &mut Connection<S>,
+    dictionary: &[u8],
+) -> Result<(), KeepError>
+    requires mode { conn.old.in_transaction ≡ false }
+    requires schema { HasCleanDisk (state S.Store conn.old) → (state S.Store conn.old).now.schema ≡ no_schema }
+    ensures mode { conn.new.in_transaction ≡ false }
+    ensures named { IfErr result (λ e. e ≢ KeepError.Full) }
+    ensures open { HasCleanDisk (state S.Store conn.new) → fails result ≡ false
+        → IsTrue (state S.Store conn.new).is_open }
+    ensures put { HasCleanDisk (state S.Store conn.new)
+        → OnOk result (IsNewRegister dictionary.now (state S.Store conn.new).now) }
+    ensures settled { HasCleanDisk (state S.Store conn.new)
+        → OnOk result ((state S.Store conn.new).committed ≡ (state S.Store conn.new).now) }
+    ensures sound { HasCleanDisk (state S.Store conn.new) → OnOk result (IsDatabase (state S.Store conn.new).now) }
+    ensures was_open { HasCleanDisk (state S.Store conn.new) → fails result ≡ false
+        → OnErr result (IsTrue (state S.Store conn.old).is_open) }
+    ensures undone { HasCleanDisk (state S.Store conn.new) → fails result ≡ false
+        → OnErr result (IsUndone (state S.Store conn.old) (state S.Store conn.new)) }
+    ensures still { HasCleanDisk (state S.Store conn.new) → IsTrue (state S.Store conn.new).is_open
+        → IsSettled (state S.Store conn.old)
+        → OnErr result (IsAsBefore (state S.Store conn.old) (state S.Store conn.new)) }
+    ensures crash { Survives (state S.Store conn.old) (state S.Store conn.new)
+        (LeavesNew (state S.Store conn.old) dictionary.now) }
+{
+    match make_all(conn, dictionary) {
+        Ok(()) => {
+            let _schema = conn.schema();
+            Ok(())
+        }
+        Err(error) => {
+            if is_memory(&error) && is_open(conn) {
+                Err(KeepError::NoMemory)
+            } else {
+                Err(KeepError::Store)
+            }
+        }
+    }
+}

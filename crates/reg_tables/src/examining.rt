@@ -1,0 +1,431 @@
+//! A register that is found in a database is examined: its numbers, then deposit by deposit.
+
+ghost use Rattle.std.specs.Prelude.{◌≡◌, ◌≢◌, ◌≤◌, ◌+◌, ◌∷◌, ◌++◌, [], ℕ, List, length, map, true, false, Some, is_some, Ok, Err, IsTrue, IfOk, IfErr, IfSome};
+ghost use Rattle.std.specs.List.Sorted.{IsPermutation};
+ghost use Rattle.sqlite.specs.State.{HasCleanDisk};
+ghost use Rattle.sqlite.specs.Held.{state};
+ghost use Rattle.sqlite.specs.Tree.{IsAscending};
+ghost use Rattle.ags_links.specs.Steps.{IsBefore};
+ghost use Rattle.ags_check.specs.Findings.{IsClean};
+ghost use Rattle.reg_store.specs.Deposit.{Deposit};
+ghost use Rattle.reg_store.specs.Keep.{fails, deposit_of};
+ghost use Rattle.reg_tables.specs.Quiet.{IsIdle, IsStill};
+ghost use Rattle.reg_tables.specs.Rows.{deposit_table};
+ghost use Rattle.reg_tables.specs.Register.{deposit_rows};
+ghost use Rattle.reg_tables.specs.Heads.{HoldsHeads, IsDigestedAt, head_of};
+ghost use Rattle.reg_tables.specs.Digests.{AddsNumber, AreBelow, HoldsDigests, IsNew, numbers_under, own_digest};
+ghost use Rattle.reg_tables.specs.Adopts.{id_of, number_rows as numbered};
+ghost use Rattle.reg_tables.specs.Whole.{AreWhole, Counts, HasMeta, HoldsBody, HoldsFile, IsWhole, Tests};
+ghost use Rattle.reg_tables.specs.Adoption.{Adopts, CountsDeposits, MetaOf, gives_up};
+ghost use Rattle.reg_tables.specs.Methods.{HoldsLines, HoldsSteps};
+ghost use Rattle.sqlite.specs.Effect.{IsDatabase};
+
+use crate::adopting::{AdoptError, are_lines, are_steps, count_numbers, read_meta};
+use crate::heads::{DigestedHead, into_head};
+use crate::lines::few_rows;
+use crate::queries::query;
+use crate::readers::read_deposit;
+use crate::reading::{line_rows, meta_rows, numbered_rows, step_rows};
+use crate::repeats::{Digests, digest_of, find_equal};
+use ags_check::{CheckError, Checked, check};
+use ags_dict::Dictionary;
+use ags_rows::LIMIT;
+use reg_store::{KeepError, Kept, KeptHead, KeptRow};
+use sqlite::{Alter, Connection, Row};
+use std::alloc::Global;
+
+fn number_rows<S: Alter>(conn: &mut Connection<S>) -> Result<Vec<Row>, KeepError>
+    requires idle { IsIdle (state S.Store conn.old) }
+    ensures all { HasCleanDisk (state S.Store conn.new) → IfOk result (λ rows.
+        IsPermutation rows.items (map id_of (deposit_table (state S.Store conn.old).now.trees))) }
+    ensures found { HasCleanDisk (state S.Store conn.new) → IfOk result (λ rows. (list : List Deposit)
+        → IsPermutation (deposit_rows 1 list) (deposit_table (state S.Store conn.old).now.trees)
+        → rows.items ≡ numbered 1 (length list)) }
+    ensures named { IfErr result (λ e. e ≢ KeepError.Full) }
+    ensures quiet { IsStill (state S.Store conn.old) (state S.Store conn.new) (fails result) }
+{
+    query(conn, "SELECT number FROM deposits ORDER BY number", &[])
+}
+
+/// How many deposits there are, if their numbers are those from 1 on.
+pub(crate) fn find_count<S: Alter>(conn: &mut Connection<S>) -> Result<Option<u32>, KeepError>
+    requires idle { IsIdle (state S.Store conn.old) }
+    ensures counted { HasCleanDisk (state S.Store conn.new) → IfOk result (Counts (state S.Store conn.old).now) }
+    ensures few { IfOk result (λ found. IfSome found (λ count. count ≤ 999999)) }
+    ensures named { IfErr result (λ e. e ≢ KeepError.Full) }
+    ensures quiet { IsStill (state S.Store conn.old) (state S.Store conn.new) (fails result) }
+{
+    match number_rows(conn) {
+        Ok(rows) => Ok(count_numbers(&rows)),
+        Err(error) => Err(error),
+    }
+}
+
+/// Whether these are the lines that are kept of a deposit.
+fn holds_lines<S: Alter>(
+    conn: &mut Connection<S>,
+    number: u32,
+    lines: &[KeptRow],
+) -> Result<bool, KeepError>
+    requires idle { IsIdle (state S.Store conn.old) }
+    requires few { length lines.now ≤ 4294967295 }
+    ensures tested { HasCleanDisk (state S.Store conn.new)
+        → IfOk result (λ is. Tests is (HoldsLines (state S.Store conn.old).now number lines.now)) }
+    ensures named { IfErr result (λ e. e ≢ KeepError.Full) }
+    ensures quiet { IsStill (state S.Store conn.old) (state S.Store conn.new) (fails result) }
+{
+    match line_rows(conn, number) {
+        Ok(rows) => Ok(are_lines(&rows, lines)),
+        Err(error) => Err(error),
+    }
+}
+
+/// Whether these are the steps that are kept of a deposit.
+fn holds_steps<S: Alter>(
+    conn: &mut Connection<S>,
+    number: u32,
+    steps: &[(u32, u32)],
+) -> Result<bool, KeepError>
+    requires idle { IsIdle (state S.Store conn.old) }
+    requires rising { IsAscending IsBefore steps.now }
+    ensures tested { HasCleanDisk (state S.Store conn.new)
+        → IfOk result (λ is. Tests is (HoldsSteps (state S.Store conn.old).now number steps.now)) }
+    ensures named { IfErr result (λ e. e ≢ KeepError.Full) }
+    ensures quiet { IsStill (state S.Store conn.old) (state S.Store conn.new) (fails result) }
+{
+    match step_rows(conn, number) {
+        Ok(rows) => Ok(are_steps(&rows, steps)),
+        Err(error) => Err(error),
+    }
+}
+
+/// Whether these are the lines and steps that are kept of a deposit.
+fn holds_file<S: Alter>(
+    conn: &mut Connection<S>,
+    number: u32,
+    lines: &[KeptRow],
+    steps: &[(u32, u32)],
+) -> Result<bool, KeepError>
+    requires idle { IsIdle (state S.Store conn.old) }
+    requires few { length lines.now ≤ 4294967295 }
+    requires rising { IsAscending IsBefore steps.now }
+    ensures tested { HasCleanDisk (state S.Store conn.new) → IfOk result (λ is.
+        Tests is (HoldsLines (state S.Store conn.old).now number lines.now
+        × HoldsSteps (state S.Store conn.old).now number steps.now)) }
+    ensures named { IfErr result (λ e. e ≢ KeepError.Full) }
+    ensures quiet { IsStill (state S.Store conn.old) (state S.Store conn.new) (fails result) }
+{
+    match holds_lines(conn, number, lines) {
+        Ok(true) => holds_steps(conn, number, steps),
+        Ok(false) => Ok(false),
+        Err(error) => Err(error),
+    }
+}
+
+/// Whether the lines and steps that are kept of a deposit are those of this file.
+fn holds_checked<S: Alter>(
+    conn: &mut Connection<S>,
+    alloc: Global,
+    number: u32,
+    file: &Checked<'_>,
+) -> Result<bool, KeepError>
+    requires idle { IsIdle (state S.Store conn.old) }
+    requires clean { IsClean file.now }
+    ensures tested { HasCleanDisk (state S.Store conn.new)
+        → IfOk result (λ is. Tests is (HoldsFile (state S.Store conn.old).now number file.now)) }
+    ensures named { IfErr result (λ e. e ≢ KeepError.Full) }
+    ensures quiet { IsStill (state S.Store conn.old) (state S.Store conn.new) (fails result) }
+{
+    match few_rows(alloc, file.scan().groups()) {
+        Ok(lines) => holds_file(conn, number, lines.as_slice(), file.graph().steps()),
+        Err(_) => Err(KeepError::NoMemory),
+    }
+}
+
+/// Whether the deposit has no finding and is not too long, and the lines and steps of its file are those that are kept of it.
+fn holds_body<S: Alter>(
+    conn: &mut Connection<S>,
+    alloc: Global,
+    dictionary: &Dictionary,
+    number: u32,
+    kept: &Kept,
+) -> Result<bool, KeepError>
+    requires idle { IsIdle (state S.Store conn.old) }
+    ensures tested { HasCleanDisk (state S.Store conn.new) → IfOk result (λ is.
+        Tests is (HoldsBody (state S.Store conn.old).now dictionary.now number (deposit_of kept.now))) }
+    ensures named { IfErr result (λ e. e ≢ KeepError.Full) }
+    ensures quiet { IsStill (state S.Store conn.old) (state S.Store conn.new) (fails result) }
+{
+    let bytes = kept.bytes.as_slice();
+    if bytes.len() > LIMIT {
+        return Ok(false);
+    }
+    match check(alloc, dictionary, bytes) {
+        Ok(file) => holds_checked(conn, alloc, number, &file),
+        Err(CheckError::Findings(_found)) => Ok(false),
+        Err(CheckError::NoMemory) => Err(KeepError::NoMemory),
+    }
+}
+
+/// Whether no deposit of these numbers is equal to this one.
+fn is_new<S: Alter>(
+    conn: &mut Connection<S>,
+    alloc: Global,
+    numbers: &[u32],
+    kept: &Kept,
+) -> Result<bool, KeepError>
+    requires idle { IsIdle (state S.Store conn.old) }
+    ensures tested { HasCleanDisk (state S.Store conn.new)
+        → IfOk result (λ is. Tests is (IsNew (state S.Store conn.old).now numbers.now (deposit_of kept.now))) }
+    ensures named { IfErr result (λ e. e ≢ KeepError.Full) }
+    ensures quiet { IsStill (state S.Store conn.old) (state S.Store conn.new) (fails result) }
+{
+    match find_equal(
+        conn,
+        alloc,
+        numbers,
+        &kept.firm,
+        &kept.project,
+        kept.bytes.as_slice(),
+    ) {
+        Ok(Some(_number)) => Ok(false),
+        Ok(None) => Ok(true),
+        Err(error) => Err(error),
+    }
+}
+
+/// Whether the deposit has no finding, its lines and steps are kept, and none of these numbers is that of an equal one.
+fn holds_kept<S: Alter>(
+    conn: &mut Connection<S>,
+    alloc: Global,
+    dictionary: &Dictionary,
+    number: u32,
+    kept: &Kept,
+    numbers: &[u32],
+) -> Result<bool, KeepError>
+    requires idle { IsIdle (state S.Store conn.old) }
+    ensures tested { HasCleanDisk (state S.Store conn.new) → IfOk result (λ is.
+        Tests is (HoldsBody (state S.Store conn.old).now dictionary.now number (deposit_of kept.now)
+        × IsNew (state S.Store conn.old).now numbers.now (deposit_of kept.now))) }
+    ensures named { IfErr result (λ e. e ≢ KeepError.Full) }
+    ensures quiet { IsStill (state S.Store conn.old) (state S.Store conn.new) (fails result) }
+{
+    match holds_body(conn, alloc, dictionary, number, kept) {
+        Ok(true) => is_new(conn, alloc, numbers, kept),
+        Ok(false) => Ok(false),
+        Err(error) => Err(error),
+    }
+}
+
+/// The head of a deposit with its digest, if the deposit is whole. The digests are those of the numbers below.
+fn kept_head<S: Alter>(
+    conn: &mut Connection<S>,
+    alloc: Global,
+    dictionary: &Dictionary,
+    number: u32,
+    kept: Kept,
+    digests: &Digests,
+) -> Result<Option<DigestedHead>, KeepError>
+    requires idle { IsIdle (state S.Store conn.old) }
+    ensures tested { HasCleanDisk (state S.Store conn.new) → IfOk result (λ found. Tests (is_some found)
+        (HoldsBody (state S.Store conn.old).now dictionary.now number (deposit_of kept)
+        × IsNew (state S.Store conn.old).now (numbers_under digests.now (own_digest (deposit_of kept))) (deposit_of kept))) }
+    ensures head { IfOk result (λ found. IfSome found (λ one.
+        (one.head ≡ head_of (deposit_of kept)) × (one.digest ≡ own_digest (deposit_of kept)))) }
+    ensures named { IfErr result (λ e. e ≢ KeepError.Full) }
+    ensures quiet { IsStill (state S.Store conn.old) (state S.Store conn.new) (fails result) }
+{
+    let digest = digest_of(&kept.firm, &kept.project, kept.bytes.as_slice());
+    match holds_kept(conn, alloc, dictionary, number, &kept, digests.of(&digest)) {
+        Ok(true) => Ok(Some(DigestedHead {
+            head: into_head(kept),
+            digest,
+        })),
+        Ok(false) => Ok(None),
+        Err(error) => Err(error),
+    }
+}
+
+/// The head of a number's deposit with its digest, if that deposit is whole. The digests are those of the numbers below.
+fn whole_head<S: Alter>(
+    conn: &mut Connection<S>,
+    alloc: Global,
+    dictionary: &Dictionary,
+    number: u32,
+    digests: &Digests,
+) -> Result<Option<DigestedHead>, KeepError>
+    requires idle { IsIdle (state S.Store conn.old) }
+    requires below { AreBelow digests.now number }
+    requires digested { HasCleanDisk (state S.Store conn.old)
+        → HoldsDigests (state S.Store conn.old).now number digests.now }
+    ensures tested { HasCleanDisk (state S.Store conn.new)
+        → IfOk result (λ found. Tests (is_some found) (IsWhole (state S.Store conn.old).now dictionary.now number)) }
+    ensures head { HasCleanDisk (state S.Store conn.new)
+        → IfOk result (λ found. IfSome found (IsDigestedAt (state S.Store conn.old).now number)) }
+    ensures named { IfErr result (λ e. e ≢ KeepError.Full) }
+    ensures quiet { IsStill (state S.Store conn.old) (state S.Store conn.new) (fails result) }
+{
+    let rows = match numbered_rows(conn, number) {
+        Ok(rows) => rows,
+        Err(error) => return Err(error),
+    };
+    match read_deposit(alloc, number, &rows) {
+        Ok(kept) => kept_head(conn, alloc, dictionary, number, kept, digests),
+        Err(KeepError::Store) => Ok(None),
+        Err(error) => Err(error),
+    }
+}
+
+/// Whether the deposit of a number is whole. Its head and its digest are then put into the lists, which are those of the numbers below.
+fn holds_deposit<S: Alter>(
+    conn: &mut Connection<S>,
+    alloc: Global,
+    dictionary: &Dictionary,
+    number: u32,
+    heads: &mut Vec<KeptHead>,
+    digests: &mut Digests,
+) -> Result<bool, KeepError>
+    requires idle { IsIdle (state S.Store conn.old) }
+    requires below { AreBelow digests.old number }
+    requires digested { HasCleanDisk (state S.Store conn.old)
+        → HoldsDigests (state S.Store conn.old).now number digests.old }
+    ensures tested { HasCleanDisk (state S.Store conn.new)
+        → IfOk result (λ is. Tests is (IsWhole (state S.Store conn.old).now dictionary.now number)) }
+    ensures put { result ≡ Ok true → (one : DigestedHead) × (heads.new.items ≡ heads.old.items ++ one.head ∷ [])
+        × AddsNumber digests.old digests.new one.digest number
+        × (HasCleanDisk (state S.Store conn.new) → IsDigestedAt (state S.Store conn.old).now number one) }
+    ensures named { IfErr result (λ e. e ≢ KeepError.Full) }
+    ensures quiet { IsStill (state S.Store conn.old) (state S.Store conn.new) (fails result) }
+{
+    match whole_head(conn, alloc, dictionary, number, digests) {
+        Ok(Some(one)) => {
+            let DigestedHead { head, digest } = one;
+            heads.push(head)?;
+            digests.add(alloc, digest, number)?;
+            Ok(true)
+        }
+        Ok(None) => Ok(false),
+        Err(error) => Err(error),
+    }
+}
+
+/// Whether the deposits from 1 to the count are whole. Their heads and digests are put into the lists.
+pub(crate) fn holds_deposits<S: Alter>(
+    conn: &mut Connection<S>,
+    alloc: Global,
+    dictionary: &Dictionary,
+    count: u32,
+    heads: &mut Vec<KeptHead>,
+    digests: &mut Digests,
+) -> Result<bool, KeepError>
+    requires idle { IsIdle (state S.Store conn.old) }
+    requires none { heads.old.items ≡ [] }
+    requires no_digests { (digest : List ℕ) → numbers_under digests.old digest ≡ [] }
+    ensures tested { HasCleanDisk (state S.Store conn.new)
+        → IfOk result (λ is. Tests is (AreWhole (state S.Store conn.old).now dictionary.now count)) }
+    ensures long { result ≡ Ok true → length heads.new.items ≡ count }
+    ensures heads { HasCleanDisk (state S.Store conn.new) → result ≡ Ok true
+        → HoldsHeads (state S.Store conn.old).now count heads.new.items }
+    ensures below { result ≡ Ok true → AreBelow digests.new (count + 1) }
+    ensures digests { HasCleanDisk (state S.Store conn.new) → result ≡ Ok true
+        → HoldsDigests (state S.Store conn.old).now (count + 1) digests.new }
+    ensures named { IfErr result (λ e. e ≢ KeepError.Full) }
+    ensures quiet { IsStill (state S.Store conn.old) (state S.Store conn.new) (fails result) }
+{
+    for at in 0..count {
+        match holds_deposit(conn, alloc, dictionary, at + 1, heads, digests) {
+            Ok(true) => {}
+            Ok(false) => return Ok(false),
+            Err(error) => return Err(error),
+        }
+    }
+    Ok(true)
+}
+
+/// How many deposits the register has, if the tables are one. The dictionary is that of its meta; heads and digests are put into the lists.
+fn find_register<S: Alter>(
+    conn: &mut Connection<S>,
+    alloc: Global,
+    dictionary: &Dictionary,
+    heads: &mut Vec<KeptHead>,
+    digests: &mut Digests,
+) -> Result<u32, AdoptError>
+    requires idle { IsIdle (state S.Store conn.old) }
+    requires meta { HasCleanDisk (state S.Store conn.old) → HasMeta (state S.Store conn.old).now dictionary.now }
+    requires sound { HasCleanDisk (state S.Store conn.old) → IsDatabase (state S.Store conn.old).now }
+    requires none { heads.old.items ≡ [] }
+    requires no_digests { (digest : List ℕ) → numbers_under digests.old digest ≡ [] }
+    ensures found { HasCleanDisk (state S.Store conn.new)
+        → IfOk result (λ count. CountsDeposits (state S.Store conn.old).now dictionary.now (Some count)) }
+    ensures refused { HasCleanDisk (state S.Store conn.new)
+        → IfErr result (λ e. Adopts (state S.Store conn.old).now (Err e)) }
+    ensures few { IfOk result (λ count. count ≤ 999999) }
+    ensures long { IfOk result (λ count. length heads.new.items ≡ count) }
+    ensures heads { HasCleanDisk (state S.Store conn.new)
+        → IfOk result (λ count. HoldsHeads (state S.Store conn.old).now count heads.new.items) }
+    ensures below { IfOk result (λ count. AreBelow digests.new (count + 1)) }
+    ensures digests { HasCleanDisk (state S.Store conn.new)
+        → IfOk result (λ count. HoldsDigests (state S.Store conn.old).now (count + 1) digests.new) }
+    ensures quiet { IsStill (state S.Store conn.old) (state S.Store conn.new) (gives_up result) }
+{
+    let count = match find_count(conn) {
+        Ok(Some(count)) => count,
+        Ok(None) => return Err(AdoptError::NotRegister),
+        Err(error) => return Err(AdoptError::from(error)),
+    };
+    match holds_deposits(conn, alloc, dictionary, count, heads, digests) {
+        Ok(true) => Ok(count),
+        Ok(false) => Err(AdoptError::NotRegister),
+        Err(error) => Err(AdoptError::from(error)),
+    }
+}
+
+/// The dictionary of the register, if meta is that of format 1.
+fn find_dictionary<S: Alter>(
+    conn: &mut Connection<S>,
+    alloc: Global,
+) -> Result<Dictionary, AdoptError>
+    requires idle { IsIdle (state S.Store conn.old) }
+    ensures read { HasCleanDisk (state S.Store conn.new) → MetaOf (state S.Store conn.old).now result }
+    ensures open { HasCleanDisk (state S.Store conn.new) → gives_up result ≡ false
+        → IsTrue (state S.Store conn.new).is_open }
+    ensures quiet { IsStill (state S.Store conn.old) (state S.Store conn.new) (gives_up result) }
+{
+    match meta_rows(conn) {
+        Ok(rows) => read_meta(alloc, &rows),
+        Err(error) => Err(AdoptError::from(error)),
+    }
+}
+
+/// The dictionary of the register and how many deposits it has, if the tables are one. Heads and digests are put into the lists.
+pub(crate) fn examine<S: Alter>(
+    conn: &mut Connection<S>,
+    alloc: Global,
+    heads: &mut Vec<KeptHead>,
+    digests: &mut Digests,
+) -> Result<(Dictionary, u32), AdoptError>
+    requires idle { IsIdle (state S.Store conn.old) }
+    requires none { heads.old.items ≡ [] }
+    requires no_digests { (digest : List ℕ) → numbers_under digests.old digest ≡ [] }
+    ensures adopts { HasCleanDisk (state S.Store conn.new) → Adopts (state S.Store conn.old).now result }
+    ensures few { IfOk result (λ found. found.1 ≤ 999999) }
+    ensures long { IfOk result (λ found. length heads.new.items ≡ found.1) }
+    ensures heads { HasCleanDisk (state S.Store conn.new)
+        → IfOk result (λ found. HoldsHeads (state S.Store conn.old).now found.1 heads.new.items) }
+    ensures below { IfOk result (λ found. AreBelow digests.new (found.1 + 1)) }
+    ensures digests { HasCleanDisk (state S.Store conn.new)
+        → IfOk result (λ found. HoldsDigests (state S.Store conn.old).now (found.1 + 1) digests.new) }
+    ensures open { HasCleanDisk (state S.Store conn.new) → gives_up result ≡ false
+        → IsTrue (state S.Store conn.new).is_open }
+    ensures quiet { IsStill (state S.Store conn.old) (state S.Store conn.new) (gives_up result) }
+{
+    let dictionary = match find_dictionary(conn, alloc) {
+        Ok(dictionary) => dictionary,
+        Err(error) => return Err(error),
+    };
+    let _schema = conn.schema();
+    match find_register(conn, alloc, &dictionary, heads, digests) {
+        Ok(count) => Ok((dictionary, count)),
+        Err(error) => Err(error),
+    }
+}

@@ -1,0 +1,90 @@
+//! The rows of an answer, read one at a time.
+
+ghost use Rattle.std.specs.Prelude.{◌≡◌, ◌≢◌, ◌++◌, ◌∷◌, [], List, false, IsTrue, IfOk, IfErr, OnOk};
+ghost use Rattle.sqlite.specs.Order.{Row as Values};
+ghost use Rattle.sqlite.specs.Values.{bound};
+ghost use Rattle.sqlite.specs.State.{HasCleanDisk, Survives, Shown};
+ghost use Rattle.sqlite.specs.Held.{state};
+ghost use Rattle.sqlite.specs.Given.{IsPlain};
+ghost use Rattle.sqlite.specs.Listing.{understood};
+ghost use Rattle.reg_tables.specs.Tables.{register_schema};
+ghost use Rattle.reg_tables.specs.Quiet.{IsAsBefore, IsIdle, IsStill};
+ghost use Rattle.reg_store.specs.Keep.{fails};
+
+use crate::queries::{is_memory, is_open};
+use reg_store::KeepError;
+use sqlite::types::ValueRef;
+use sqlite::{Alter, Connection, Error, Row};
+
+/// What the rows of an answer are read into.
+pub(crate) trait Gather {
+    // What was taken so far is what these rows say.
+    ghost holds: { Self → List Values → Type 0 };
+
+    /// Takes the next row.
+    fn take(&mut self, row: &Row) -> Result<(), KeepError>
+        ensures taken { OnOk result ((rows : List Values) → holds self.old rows
+            → holds self.new (rows ++ row.now ∷ [])) }
+        ensures named { IfErr result (λ e. e ≢ KeepError.Full) };
+}
+
+/// Takes each row of an answer. The outer error is the database's, the inner that of a row.
+fn take_each<S: Alter, G: Gather>(
+    conn: &mut Connection<S>,
+    sql: &str,
+    params: &[ValueRef<'_>],
+    into: &mut G,
+) -> Result<Result<(), KeepError>, Error>
+    requires plain { IsPlain (understood register_schema sql.now) }
+    requires idle { IsIdle (state S.Store conn.old) }
+    requires empty { G.holds into.old [] }
+    ensures mode { conn.new.in_transaction ≡ false }
+    ensures open { HasCleanDisk (state S.Store conn.new) → OnOk result (IsTrue (state S.Store conn.new).is_open) }
+    ensures same { HasCleanDisk (state S.Store conn.new) → IsTrue (state S.Store conn.new).is_open
+        → IsAsBefore (state S.Store conn.old) (state S.Store conn.new) }
+    ensures shown { HasCleanDisk (state S.Store conn.new) → IfOk result (λ taken. OnOk taken ((rows : List Values)
+        × Shown sql.now (bound params.now) (state S.Store conn.old) (state S.Store conn.new) rows
+        × G.holds into.new rows)) }
+    ensures named { IfOk result (λ taken. IfErr taken (λ e. e ≢ KeepError.Full)) }
+    ensures crash { Survives (state S.Store conn.old) (state S.Store conn.new) (λ _. ⊥) }
+{
+    let mut rows = conn.query(sql, params)?;
+    'rows: for _ in 0..u64::MAX {
+        let Some(row) = rows.next()? else {
+            return Ok(Ok(()));
+        };
+        if let Err(error) = into.take(row) {
+            return Ok(Err(error));
+        }
+    }
+    Ok(Err(KeepError::Store))
+}
+
+/// Takes each row that a query of the register shows. Want of memory is answered only where the connection is known to be open.
+#[tactic(auto, using(crate::proofs::QueryLemmas::failed_quiet, crate::proofs::QueryLemmas::failed_then))]
+pub(crate) fn take_shown<S: Alter, G: Gather>(
+    conn: &mut Connection<S>,
+    sql: &str,
+    params: &[ValueRef<'_>],
+    into: &mut G,
+) -> Result<(), KeepError>
+    requires plain { IsPlain (understood register_schema sql.now) }
+    requires idle { IsIdle (state S.Store conn.old) }
+    requires empty { G.holds into.old [] }
+    ensures shown { HasCleanDisk (state S.Store conn.new) → OnOk result ((rows : List Values)
+        × Shown sql.now (bound params.now) (state S.Store conn.old) (state S.Store conn.new) rows
+        × G.holds into.new rows) }
+    ensures named { IfErr result (λ e. e ≢ KeepError.Full) }
+    ensures quiet { IsStill (state S.Store conn.old) (state S.Store conn.new) (fails result) }
+{
+    match take_each(conn, sql, params, into) {
+        Ok(taken) => taken,
+        Err(error) => {
+            if is_memory(&error) && is_open(conn) {
+                Err(KeepError::NoMemory)
+            } else {
+                Err(KeepError::Store)
+            }
+        }
+    }
+}

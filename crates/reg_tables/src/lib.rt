@@ -1,0 +1,27 @@
+//! Kept deposits in tables: a keep over a database of SQLite.
+#![tactic(auto)]
+
+mod adopting;
+mod creating;
+mod examining;
+mod fronts;
+mod gathering;
+mod heads;
+mod lines;
+mod opening;
+mod project;
+mod queries;
+mod readers;
+mod reading;
+mod recalling;
+mod recent;
+mod repeats;
+mod schema;
+mod sql;
+mod statements;
+mod values;
+mod versions;
+
+pub use adopting::AdoptError;
+pub use opening::CreateError;
+pub use sql::SqlKeep;

@@ -1,0 +1,287 @@
+//! The rows of the tables `lines` and `steps`.
+
+ghost use Rattle.std.specs.Prelude.{◌≡◌, ◌+◌, ◌<◌, ◌≤◌, ◌^◌, [], ◌∷◌, ◌++◌, length, IfOk, IsTrue, OnOk};
+ghost use Rattle.sqlite.specs.State.{HasCleanDisk, Survives};
+ghost use Rattle.sqlite.specs.Held.{state};
+ghost use Rattle.reg_tables.specs.Tables.{register_schema};
+ghost use Rattle.sqlite.specs.Values.{bound};
+ghost use Rattle.reg_store.specs.Fit.{kept_rows as rows_in};
+ghost use Rattle.reg_tables.specs.Rows.{joined, line_row, line_rows, step_row, step_rows};
+ghost use Rattle.reg_tables.specs.Inserts.{AddsLines, AddsSteps};
+ghost use Rattle.reg_tables.specs.Inside.{ChangesInside, CommitsNothing, HasSchema, HasTransaction};
+
+use ags_rows::Group;
+use reg_store::{KeptRow, kept_rows};
+use sqlite::types::ValueRef;
+use sqlite::{Alter, Error, ErrorCode, Transaction, params};
+use std::alloc::{AllocError, Global};
+
+/// How many rows one statement adds, while there are so many.
+const TOGETHER: usize = 8;
+
+/// The rows of a file, as many as a table of lines can number.
+pub(crate) fn few_rows(alloc: Global, groups: &[Group]) -> Result<Vec<KeptRow>, AllocError>
+    ensures rows { IfOk result (λ rows. rows.items ≡ rows_in groups.now) }
+    ensures few { IfOk result (λ rows. length rows.items < 4294967296) }
+{
+    let rows = kept_rows(alloc, groups)?;
+    if rows.len() >= 4_294_967_296 {
+        return Err(AllocError);
+    }
+    Ok(rows)
+}
+
+/// Adds one row of a file. Nothing is committed.
+#[tactic(auto, using(crate::proofs::AddsLemmas::kept_by, crate::proofs::AddsLemmas::kept_same))]
+fn insert_line<S: Alter>(
+    tx: &mut Transaction<'_, S>,
+    number: u32,
+    at: u32,
+    row: &KeptRow,
+) -> Result<(), Error>
+    requires inside { HasTransaction (state S.Store tx.old.conn.now) }
+    requires schema { HasSchema (state S.Store tx.old.conn.now) register_schema }
+    ensures same_reference { tx.new.conn.ghost_name ≡ tx.old.conn.ghost_name }
+    ensures put { ChangesInside result (AddsLines (line_row number at row.now ∷ []))
+        (state S.Store tx.old.conn.now) (state S.Store tx.new.conn.now) }
+    ensures kept { CommitsNothing (state S.Store tx.old.conn.now) (state S.Store tx.new.conn.now) }
+    ensures survives { Survives (state S.Store tx.old.conn.now) (state S.Store tx.new.conn.now) (λ _. ⊥) }
+{
+    let Ok(group) = std::str::from_utf8(row.group.as_slice()) else {
+        return Err(Error::SqliteFailure(ErrorCode::TypeMismatch));
+    };
+    tx.execute(
+        "INSERT INTO lines VALUES (?1, ?2, ?3, ?4, ?5)",
+        params![number, at, group, u32::from(row.kind), row.line.as_slice()],
+    )?;
+    Ok(())
+}
+
+/// Appends the values of a row of a file.
+fn push_line<'r>(
+    values: &mut Vec<ValueRef<'r>>,
+    number: u32,
+    at: u32,
+    row: &'r KeptRow,
+) -> Result<(), Error>
+    ensures { OnOk result (bound values.new.items ≡ bound values.old.items ++ line_row number at row.now) }
+{
+    let Ok(group) = std::str::from_utf8(row.group.as_slice()) else {
+        return Err(Error::SqliteFailure(ErrorCode::TypeMismatch));
+    };
+    values.extend_from_slice(params![number, at, group, u32::from(row.kind), row.line.as_slice()])?;
+    Ok(())
+}
+
+/// The values of rows of a file, of which the first stands at this place.
+fn line_values<'r>(
+    alloc: Global,
+    number: u32,
+    from: u32,
+    rows: &'r [KeptRow],
+) -> Result<Vec<ValueRef<'r>>, Error>
+    requires { from + length rows.now ≤ 2 ^ 32 }
+    ensures { IfOk result (λ values. bound values.items ≡ joined (line_rows number from rows.now)) }
+{
+    let mut values = Vec::new(alloc);
+    for (i, row) in rows.iter().enumerate() {
+        push_line(&mut values, number, from + i as u32, row)?;
+    }
+    Ok(values)
+}
+
+/// Adds eight rows of a file, of which the first stands at this place. Nothing is committed.
+#[tactic(auto, using(crate::proofs::AddsLemmas::kept_by, crate::proofs::AddsLemmas::kept_same))]
+fn insert_eight_lines<S: Alter>(
+    alloc: Global,
+    tx: &mut Transaction<'_, S>,
+    number: u32,
+    from: u32,
+    rows: &[KeptRow],
+) -> Result<(), Error>
+    requires eight { length rows.now ≡ 8 }
+    requires few { from + 8 ≤ 2 ^ 32 }
+    requires inside { HasTransaction (state S.Store tx.old.conn.now) }
+    requires schema { HasSchema (state S.Store tx.old.conn.now) register_schema }
+    ensures same_reference { tx.new.conn.ghost_name ≡ tx.old.conn.ghost_name }
+    ensures put { ChangesInside result (AddsLines (line_rows number from rows.now))
+        (state S.Store tx.old.conn.now) (state S.Store tx.new.conn.now) }
+    ensures kept { CommitsNothing (state S.Store tx.old.conn.now) (state S.Store tx.new.conn.now) }
+    ensures survives { Survives (state S.Store tx.old.conn.now) (state S.Store tx.new.conn.now) (λ _. ⊥) }
+{
+    let values = line_values(alloc, number, from, rows)?;
+    tx.execute(
+        "INSERT INTO lines VALUES (?1, ?2, ?3, ?4, ?5), (?6, ?7, ?8, ?9, ?10), (?11, ?12, ?13, ?14, ?15), (?16, ?17, ?18, ?19, ?20), (?21, ?22, ?23, ?24, ?25), (?26, ?27, ?28, ?29, ?30), (?31, ?32, ?33, ?34, ?35), (?36, ?37, ?38, ?39, ?40)",
+        &values,
+    )?;
+    Ok(())
+}
+
+/// Adds rows of a file, of which the first stands at this place, one by one. Nothing is committed.
+fn insert_each_line<S: Alter>(
+    tx: &mut Transaction<'_, S>,
+    number: u32,
+    from: u32,
+    rows: &[KeptRow],
+) -> Result<(), Error>
+    requires few { from + length rows.now ≤ 2 ^ 32 }
+    requires inside { HasTransaction (state S.Store tx.old.conn.now) }
+    requires is_open { HasCleanDisk (state S.Store tx.old.conn.now) → IsTrue (state S.Store tx.old.conn.now).is_open }
+    requires schema { HasSchema (state S.Store tx.old.conn.now) register_schema }
+    ensures same_reference { tx.new.conn.ghost_name ≡ tx.old.conn.ghost_name }
+    ensures put { ChangesInside result (AddsLines (line_rows number from rows.now))
+        (state S.Store tx.old.conn.now) (state S.Store tx.new.conn.now) }
+    ensures kept { CommitsNothing (state S.Store tx.old.conn.now) (state S.Store tx.new.conn.now) }
+    ensures survives { Survives (state S.Store tx.old.conn.now) (state S.Store tx.new.conn.now) (λ _. ⊥) }
+{
+    for (i, row) in rows.iter().enumerate() {
+        insert_line(tx, number, from + i as u32, row)?;
+    }
+    Ok(())
+}
+
+/// Adds the rows of a file, in their order. Nothing is committed.
+#[tactic(auto, using(crate::proofs::AddsLemmas::kept_then))]
+pub(crate) fn insert_lines<S: Alter>(
+    alloc: Global,
+    tx: &mut Transaction<'_, S>,
+    number: u32,
+    rows: &[KeptRow],
+) -> Result<(), Error>
+    requires few { length rows.now < 2 ^ 32 }
+    requires inside { HasTransaction (state S.Store tx.old.conn.now) }
+    requires is_open { HasCleanDisk (state S.Store tx.old.conn.now) → IsTrue (state S.Store tx.old.conn.now).is_open }
+    requires schema { HasSchema (state S.Store tx.old.conn.now) register_schema }
+    ensures same_reference { tx.new.conn.ghost_name ≡ tx.old.conn.ghost_name }
+    ensures put { ChangesInside result (AddsLines (line_rows number 0 rows.now))
+        (state S.Store tx.old.conn.now) (state S.Store tx.new.conn.now) }
+    ensures kept { CommitsNothing (state S.Store tx.old.conn.now) (state S.Store tx.new.conn.now) }
+    ensures survives { Survives (state S.Store tx.old.conn.now) (state S.Store tx.new.conn.now) (λ _. ⊥) }
+{
+    for part in 0..rows.len() / TOGETHER {
+        let at = part * TOGETHER;
+        insert_eight_lines(alloc, tx, number, at as u32, &rows[at..at + TOGETHER])?;
+    }
+    let at = rows.len() / TOGETHER * TOGETHER;
+    insert_each_line(tx, number, at as u32, &rows[at..])
+}
+
+/// Adds one step. Nothing is committed.
+#[tactic(auto, using(crate::proofs::AddsLemmas::kept_by))]
+fn insert_step<S: Alter>(
+    tx: &mut Transaction<'_, S>,
+    number: u32,
+    step: (u32, u32),
+) -> Result<(), Error>
+    requires inside { HasTransaction (state S.Store tx.old.conn.now) }
+    requires schema { HasSchema (state S.Store tx.old.conn.now) register_schema }
+    ensures same_reference { tx.new.conn.ghost_name ≡ tx.old.conn.ghost_name }
+    ensures put { ChangesInside result (AddsSteps (step_row number step ∷ []))
+        (state S.Store tx.old.conn.now) (state S.Store tx.new.conn.now) }
+    ensures kept { CommitsNothing (state S.Store tx.old.conn.now) (state S.Store tx.new.conn.now) }
+    ensures survives { Survives (state S.Store tx.old.conn.now) (state S.Store tx.new.conn.now) (λ _. ⊥) }
+{
+    tx.execute(
+        "INSERT INTO steps VALUES (?1, ?2, ?3)",
+        params![number, step.0, step.1],
+    )?;
+    Ok(())
+}
+
+/// Appends the values of a step.
+fn push_step(
+    values: &mut Vec<ValueRef<'static>>,
+    number: u32,
+    step: (u32, u32),
+) -> Result<(), Error>
+    ensures { OnOk result (bound values.new.items ≡ bound values.old.items ++ step_row number step) }
+{
+    values.extend_from_slice(params![number, step.0, step.1])?;
+    Ok(())
+}
+
+/// The values of steps.
+fn step_values(
+    alloc: Global,
+    number: u32,
+    steps: &[(u32, u32)],
+) -> Result<Vec<ValueRef<'static>>, Error>
+    ensures { IfOk result (λ values. bound values.items ≡ joined (step_rows number steps.now)) }
+{
+    let mut values = Vec::new(alloc);
+    for step in steps {
+        push_step(&mut values, number, *step)?;
+    }
+    Ok(values)
+}
+
+/// Adds eight steps. Nothing is committed.
+#[tactic(auto, using(crate::proofs::AddsLemmas::kept_by, crate::proofs::AddsLemmas::kept_same))]
+fn insert_eight_steps<S: Alter>(
+    alloc: Global,
+    tx: &mut Transaction<'_, S>,
+    number: u32,
+    steps: &[(u32, u32)],
+) -> Result<(), Error>
+    requires eight { length steps.now ≡ 8 }
+    requires inside { HasTransaction (state S.Store tx.old.conn.now) }
+    requires schema { HasSchema (state S.Store tx.old.conn.now) register_schema }
+    ensures same_reference { tx.new.conn.ghost_name ≡ tx.old.conn.ghost_name }
+    ensures put { ChangesInside result (AddsSteps (step_rows number steps.now))
+        (state S.Store tx.old.conn.now) (state S.Store tx.new.conn.now) }
+    ensures kept { CommitsNothing (state S.Store tx.old.conn.now) (state S.Store tx.new.conn.now) }
+    ensures survives { Survives (state S.Store tx.old.conn.now) (state S.Store tx.new.conn.now) (λ _. ⊥) }
+{
+    let values = step_values(alloc, number, steps)?;
+    tx.execute(
+        "INSERT INTO steps VALUES (?1, ?2, ?3), (?4, ?5, ?6), (?7, ?8, ?9), (?10, ?11, ?12), (?13, ?14, ?15), (?16, ?17, ?18), (?19, ?20, ?21), (?22, ?23, ?24)",
+        &values,
+    )?;
+    Ok(())
+}
+
+/// Adds steps one by one. Nothing is committed.
+fn insert_each_step<S: Alter>(
+    tx: &mut Transaction<'_, S>,
+    number: u32,
+    steps: &[(u32, u32)],
+) -> Result<(), Error>
+    requires inside { HasTransaction (state S.Store tx.old.conn.now) }
+    requires is_open { HasCleanDisk (state S.Store tx.old.conn.now) → IsTrue (state S.Store tx.old.conn.now).is_open }
+    requires schema { HasSchema (state S.Store tx.old.conn.now) register_schema }
+    ensures same_reference { tx.new.conn.ghost_name ≡ tx.old.conn.ghost_name }
+    ensures put { ChangesInside result (AddsSteps (step_rows number steps.now))
+        (state S.Store tx.old.conn.now) (state S.Store tx.new.conn.now) }
+    ensures kept { CommitsNothing (state S.Store tx.old.conn.now) (state S.Store tx.new.conn.now) }
+    ensures survives { Survives (state S.Store tx.old.conn.now) (state S.Store tx.new.conn.now) (λ _. ⊥) }
+{
+    for step in steps {
+        insert_step(tx, number, *step)?;
+    }
+    Ok(())
+}
+
+/// Adds the steps of a file. Nothing is committed.
+#[tactic(auto, using(crate::proofs::AddsLemmas::kept_then))]
+pub(crate) fn insert_steps<S: Alter>(
+    alloc: Global,
+    tx: &mut Transaction<'_, S>,
+    number: u32,
+    steps: &[(u32, u32)],
+) -> Result<(), Error>
+    requires inside { HasTransaction (state S.Store tx.old.conn.now) }
+    requires is_open { HasCleanDisk (state S.Store tx.old.conn.now) → IsTrue (state S.Store tx.old.conn.now).is_open }
+    requires schema { HasSchema (state S.Store tx.old.conn.now) register_schema }
+    ensures same_reference { tx.new.conn.ghost_name ≡ tx.old.conn.ghost_name }
+    ensures put { ChangesInside result (AddsSteps (step_rows number steps.now))
+        (state S.Store tx.old.conn.now) (state S.Store tx.new.conn.now) }
+    ensures kept { CommitsNothing (state S.Store tx.old.conn.now) (state S.Store tx.new.conn.now) }
+    ensures survives { Survives (state S.Store tx.old.conn.now) (state S.Store tx.new.conn.now) (λ _. ⊥) }
+{
+    for part in 0..steps.len() / TOGETHER {
+        let at = part * TOGETHER;
+        insert_eight_steps(alloc, tx, number, &steps[at..at + TOGETHER])?;
+    }
+    let at = steps.len() / TOGETHER * TOGETHER;
+    insert_each_step(tx, number, &steps[at..])
+}

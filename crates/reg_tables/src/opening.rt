@@ -1,0 +1,355 @@
+//! Registers that are made, and found, in databases.
+
+ghost use Rattle.std.specs.Prelude.{◌≡◌, ◌≢◌, ◌≤◌, ◌⊎◌, [], false, length, None, Ok, Err, IfOk, IfErr, IfSome, IsTrue};
+ghost use Rattle.sqlite.specs.State.{HasCleanDisk, Survives};
+ghost use Rattle.sqlite.specs.Held.{state};
+ghost use Rattle.sqlite.specs.Steps.{over_memory};
+ghost use Rattle.sqlite.specs.Files.{file_state};
+ghost use Rattle.sqlite.specs.WalFiles.{image_at};
+ghost use Rattle.ags_dict.specs.Entries.{Entries};
+ghost use Rattle.ags_dict.specs.Reading.{IsDictionary, ReadsDictionary};
+ghost use Rattle.reg_tables.specs.Tables.{no_schema, register_schema};
+ghost use Rattle.reg_tables.specs.Creates.{IsNewRegister, LeavesNew};
+ghost use Rattle.reg_tables.specs.Making.{RefusesBytes};
+ghost use Rattle.reg_tables.specs.Quiet.{IsAsBefore, ShowsTheSame};
+ghost use Rattle.reg_tables.specs.Register.{IsRegister, deposits_in};
+ghost use Rattle.reg_tables.specs.Adoption.{Adopts, is_store_failure};
+ghost use Rattle.reg_tables.specs.Opened.{FindsSchema, HoldsRegister, RefusesFiles};
+
+use crate::adopting::AdoptError;
+use crate::creating::make_register;
+use crate::examining::examine;
+use crate::fronts::Fronts;
+use crate::queries::is_memory;
+use crate::recent::Recent;
+use crate::repeats::Digests;
+use crate::schema::{is_register, is_vacant};
+use crate::sql::SqlKeep;
+use crate::versions::{has_meta, refuse_tables};
+use ags_dict::{DictError, Dictionary};
+use ags_rows::READABLE;
+use reg_store::KeepError;
+use sqlite::{Alter, Connection, File, FileFrom, FileStore, MemStore, Start, Unknown};
+use std::alloc::Global;
+use thiserror::Error;
+
+/// Why a register is not made.
+#[derive(Debug, Drop, Error)]
+pub enum CreateError {
+    /// The bytes are no dictionary.
+    #[error("not a dictionary")]
+    Dictionary(DictError),
+    /// A table, an index or a view is there.
+    #[error("the store is not empty")]
+    NotEmpty,
+    /// The database failed: a crash leaves what it left before, or an empty register where there was no table.
+    #[error("the store failed")]
+    Store,
+    /// Memory is wanting.
+    #[error("out of memory")]
+    NoMemory,
+}
+
+fn read_dictionary(alloc: Global, bytes: &[u8]) -> Result<Dictionary, CreateError>
+    requires { length bytes.now ≤ READABLE }
+    ensures read { IfOk result (λ dictionary. ReadsDictionary bytes.now (Ok dictionary)) }
+    ensures refused { IfErr result (RefusesBytes bytes.now) }
+    ensures named { IfErr result (λ e. (e ≢ CreateError.NotEmpty) × (e ≢ CreateError.Store)) }
+{
+    match Dictionary::read(alloc, bytes) {
+        Ok(dictionary) => Ok(dictionary),
+        Err(DictError::NoMemory) => Err(CreateError::NoMemory),
+        Err(error) => Err(CreateError::Dictionary(error)),
+    }
+}
+
+impl<S: Alter> SqlKeep<S> {
+    /// An empty register under a dictionary that was read.
+    fn make(
+        alloc: Global,
+        mut connection: Connection<S>,
+        dictionary: Dictionary,
+        bytes: &[u8],
+    ) -> Result<SqlKeep<S>, (CreateError, Connection<S>)>
+        requires short { length bytes.now ≤ READABLE }
+        requires read { IsDictionary bytes.now dictionary }
+        ensures empty { IfOk result (λ k. HasCleanDisk (state S.Store k.connection)
+            → deposits_in (state S.Store k.connection).committed.trees ≡ []) }
+        ensures dictionary { IfOk result (λ k. k.dictionary ≡ dictionary) }
+        ensures register { IfOk result (λ k. HasCleanDisk (state S.Store k.connection)
+            → IsNewRegister bytes.entry.now (state S.Store k.connection).now) }
+        ensures blank { IfOk result (λ _. (state S.Store connection).now.schema ≡ no_schema) }
+        ensures refused { IfErr result (λ e. RefusesBytes bytes.entry.now e.0) }
+        ensures working { IfOk result (λ k. k.has_failed ≡ false) }
+        ensures not_empty { IfErr result (λ e. e.0 ≡ CreateError.NotEmpty
+            → (state S.Store connection).now.schema ≢ no_schema) }
+        ensures vacant { IfErr result (λ e. e.0 ≡ CreateError.Store
+            → (state S.Store connection).now.schema ≡ no_schema) }
+        ensures made { IfOk result (λ k. Survives (state S.Store connection) (state S.Store k.connection)
+            (LeavesNew (state S.Store connection) bytes.entry.now)) }
+        ensures left { IfErr result (λ e. Survives (state S.Store connection) (state S.Store e.1)
+            (LeavesNew (state S.Store connection) bytes.entry.now)) }
+        ensures same { IfErr result (λ e. e.0 ≢ CreateError.Store → HasCleanDisk (state S.Store e.1)
+            → ShowsTheSame (state S.Store connection) (state S.Store e.1)) }
+        ensures still { IfErr result (λ e. HasCleanDisk (state S.Store e.1) → IsTrue (state S.Store e.1).is_open
+            → IsAsBefore (state S.Store connection) (state S.Store e.1)) }
+    {
+        if !is_vacant(connection.schema()) {
+            return Err((CreateError::NotEmpty, connection));
+        }
+        if !connection.is_autocommit() {
+            return Err((CreateError::Store, connection));
+        }
+        let made = make_register(&mut connection, bytes);
+        match made {
+            Ok(()) => Ok(SqlKeep {
+                connection,
+                dictionary,
+                count: 0,
+                heads: Vec::new(alloc),
+                digests: Digests::new(alloc),
+                recent: Recent::none(),
+                fronts: Fronts::new(alloc),
+                has_failed: false,
+                alloc,
+            }),
+            Err(KeepError::NoMemory) => Err((CreateError::NoMemory, connection)),
+            Err(_) => Err((CreateError::Store, connection)),
+        }
+    }
+
+    /// An empty register in a database that had no table, under the dictionary that the bytes are.
+    ///
+    /// The bytes are looked at first, then whether there is a table. A connection in a transaction is answered `Store`. One that comes back open shows
+    /// the tables from before. A crash within the call leaves what it left before, or an empty register where there was no table.
+    pub fn create_in(
+        alloc: Global,
+        connection: Connection<S>,
+        bytes: &[u8],
+    ) -> Result<SqlKeep<S>, (CreateError, Connection<S>)>
+        requires short { length bytes.now ≤ READABLE }
+        ensures empty { IfOk result (λ k. HasCleanDisk (state S.Store k.connection)
+            → deposits_in (state S.Store k.connection).committed.trees ≡ []) }
+        ensures dictionary { IfOk result (λ k. ReadsDictionary bytes.now (Ok k.dictionary)) }
+        ensures register { IfOk result (λ k. HasCleanDisk (state S.Store k.connection)
+            → IsNewRegister bytes.now (state S.Store k.connection).now) }
+        ensures blank { IfOk result (λ _. (state S.Store connection).now.schema ≡ no_schema) }
+        ensures refused { IfErr result (λ e. RefusesBytes bytes.now e.0) }
+        ensures working { IfOk result (λ k. k.has_failed ≡ false) }
+        ensures not_empty { IfErr result (λ e. e.0 ≡ CreateError.NotEmpty
+            → (state S.Store connection).now.schema ≢ no_schema) }
+        ensures vacant { IfErr result (λ e. e.0 ≡ CreateError.Store
+            → (state S.Store connection).now.schema ≡ no_schema) }
+        ensures made { IfOk result (λ k. Survives (state S.Store connection) (state S.Store k.connection)
+            (LeavesNew (state S.Store connection) bytes.now)) }
+        ensures left { IfErr result (λ e. Survives (state S.Store connection) (state S.Store e.1)
+            (LeavesNew (state S.Store connection) bytes.now)) }
+        ensures same { IfErr result (λ e. e.0 ≢ CreateError.Store → HasCleanDisk (state S.Store e.1)
+            → ShowsTheSame (state S.Store connection) (state S.Store e.1)) }
+        ensures still { IfErr result (λ e. HasCleanDisk (state S.Store e.1) → IsTrue (state S.Store e.1).is_open
+            → IsAsBefore (state S.Store connection) (state S.Store e.1)) }
+    {
+        match read_dictionary(alloc, bytes) {
+            Ok(dictionary) => SqlKeep::make(alloc, connection, dictionary, bytes),
+            Err(error) => Err((error, connection)),
+        }
+    }
+
+    /// The register that a database holds: each kept body is checked anew, and its lines and steps are compared.
+    ///
+    /// A connection in a transaction is answered `Store`, where its tables are not refused first. One that comes back open shows the tables from before.
+    pub fn adopt(
+        alloc: Global,
+        mut connection: Connection<S>,
+    ) -> Result<SqlKeep<S>, (AdoptError, Connection<S>)>
+        ensures adopted { IfOk result (λ k. HasCleanDisk (state S.Store k.connection)
+            → ∥ IsRegister (state S.Store connection).now k.dictionary
+            (deposits_in (state S.Store k.connection).committed.trees) ∥₁) }
+        ensures working { IfOk result (λ k. k.has_failed ≡ false) }
+        ensures quiet { IfOk result (λ k. Survives (state S.Store connection) (state S.Store k.connection) (λ _. ⊥)) }
+        ensures refused { IfErr result (λ e. HasCleanDisk (state S.Store e.1)
+            → Adopts (state S.Store connection).now (Err e.0)) }
+        ensures same { IfErr result (λ e. HasCleanDisk (state S.Store e.1) → is_store_failure e.0 ≡ false
+            → ShowsTheSame (state S.Store connection) (state S.Store e.1)) }
+        ensures still { IfErr result (λ e. HasCleanDisk (state S.Store e.1) → IsTrue (state S.Store e.1).is_open
+            → IsAsBefore (state S.Store connection) (state S.Store e.1)) }
+        ensures left { IfErr result (λ e. Survives (state S.Store connection) (state S.Store e.1) (λ _. ⊥)) }
+    {
+        if !has_meta(connection.schema()) {
+            return Err((AdoptError::NotRegister, connection));
+        }
+        if !connection.is_autocommit() {
+            return Err((AdoptError::Store, connection));
+        }
+        if !is_register(connection.schema()) {
+            let error = refuse_tables(&mut connection);
+            return Err((error, connection));
+        }
+        let mut heads = Vec::new(alloc);
+        let mut digests = Digests::new(alloc);
+        match examine(&mut connection, alloc, &mut heads, &mut digests) {
+            Ok((dictionary, count)) => Ok(SqlKeep {
+                connection,
+                dictionary,
+                count,
+                heads,
+                digests,
+                recent: Recent::none(),
+                fronts: Fronts::new(alloc),
+                has_failed: false,
+                alloc,
+            }),
+            Err(error) => Err((error, connection)),
+        }
+    }
+}
+
+impl SqlKeep<MemStore> {
+    /// An empty register in memory, under the dictionary that the bytes are.
+    pub fn in_memory(alloc: Global, bytes: &[u8]) -> Result<SqlKeep<MemStore>, CreateError>
+        requires short { length bytes.now ≤ READABLE }
+        ensures empty { IfOk result (λ k. deposits_in (state over_memory k.connection).committed.trees ≡ []) }
+        ensures dictionary { IfOk result (λ k. ReadsDictionary bytes.now (Ok k.dictionary)) }
+        ensures register { IfOk result (λ k. IsNewRegister bytes.now (state over_memory k.connection).now) }
+        ensures refused { IfErr result (RefusesBytes bytes.now) }
+        ensures named { IfErr result (λ e. e ≢ CreateError.NotEmpty) }
+        ensures working { IfOk result (λ k. k.has_failed ≡ false) }
+    {
+        let dictionary = read_dictionary(alloc, bytes)?;
+        let Ok(connection) = Connection::open_in_memory(alloc) else {
+            return Err(CreateError::NoMemory);
+        };
+        match SqlKeep::make(alloc, connection, dictionary, bytes) {
+            Ok(keep) => Ok(keep),
+            Err((error, _connection)) => Err(error),
+        }
+    }
+}
+
+/// Closes the connection that comes with a refusal.
+fn close<F: Start>(_connection: Option<Connection<FileStore<FileFrom<F>>>>) {}
+
+impl SqlKeep<FileStore<File>> {
+    /// An empty register in the database at a path.
+    ///
+    /// It is `create_from` with `Unknown`, so no clause says what the file held.
+    pub fn create(
+        rt: &HostRuntime,
+        alloc: Global,
+        path: &str,
+        bytes: &[u8],
+    ) -> Result<SqlKeep<FileStore<File>>, CreateError>
+        requires short { length bytes.now ≤ READABLE }
+        ensures empty { IfOk result (λ k. HasCleanDisk (file_state k.connection)
+            → deposits_in (file_state k.connection).committed.trees ≡ []) }
+        ensures dictionary { IfOk result (λ k. ReadsDictionary bytes.now (Ok k.dictionary)) }
+        ensures register { IfOk result (λ k. HasCleanDisk (file_state k.connection)
+            → IsNewRegister bytes.now (file_state k.connection).now) }
+        ensures refused { IfErr result (RefusesBytes bytes.now) }
+        ensures working { IfOk result (λ k. k.has_failed ≡ false) }
+    {
+        match SqlKeep::create_from(rt, alloc, path, bytes, Unknown) {
+            Ok(keep) => Ok(keep),
+            Err((error, connection)) => {
+                close(connection);
+                Err(error)
+            }
+        }
+    }
+
+    /// The register that the database at a path holds.
+    ///
+    /// It is `open_from` with `Unknown`, of which no clause says anything where the file is not empty.
+    pub fn open(
+        rt: &HostRuntime,
+        alloc: Global,
+        path: &str,
+    ) -> Result<SqlKeep<FileStore<File>>, AdoptError>
+        ensures working { IfOk result (λ k. k.has_failed ≡ false) }
+    {
+        match SqlKeep::open_from(rt, alloc, path, Unknown) {
+            Ok(keep) => Ok(keep),
+            Err((error, connection)) => {
+                close(connection);
+                Err(error)
+            }
+        }
+    }
+}
+
+impl<F: Start> SqlKeep<FileStore<FileFrom<F>>> {
+    /// An empty register in the database at a path that had no table, where `F` stands for what its files held.
+    ///
+    /// The bytes are looked at first. A file that cannot be opened is `Store`, or `NoMemory`; `NotEmpty` comes with the connection that was opened.
+    pub fn create_from(
+        rt: &HostRuntime,
+        alloc: Global,
+        path: &str,
+        bytes: &[u8],
+        start: F,
+    ) -> Result<
+        SqlKeep<FileStore<FileFrom<F>>>,
+        (CreateError, Option<Connection<FileStore<FileFrom<F>>>>),
+    >
+        requires short { length bytes.now ≤ READABLE }
+        ensures empty { IfOk result (λ k. HasCleanDisk (file_state k.connection)
+            → deposits_in (file_state k.connection).committed.trees ≡ []) }
+        ensures dictionary { IfOk result (λ k. ReadsDictionary bytes.now (Ok k.dictionary)) }
+        ensures register { IfOk result (λ k. HasCleanDisk (file_state k.connection)
+            → IsNewRegister bytes.now (file_state k.connection).now) }
+        ensures blank { IfOk result (λ k. HasCleanDisk (file_state k.connection)
+            → FindsSchema (image_at F.Start) (λ schema. schema ≡ no_schema)) }
+        ensures refused { IfErr result (λ e. RefusesBytes bytes.now e.0) }
+        ensures working { IfOk result (λ k. k.has_failed ≡ false) }
+        ensures not_empty { IfErr result (λ e. e.0 ≡ CreateError.NotEmpty → IfSome e.1 (λ c. HasCleanDisk (file_state c)
+            → FindsSchema (image_at F.Start) (λ schema. schema ≢ no_schema))) }
+        ensures vacant { IfErr result (λ e. e.0 ≡ CreateError.Store → IfSome e.1 (λ c. HasCleanDisk (file_state c)
+            → FindsSchema (image_at F.Start) (λ schema. schema ≡ no_schema))) }
+        ensures unopened { IfErr result (λ e. e.1 ≡ None → e.0 ≢ CreateError.NotEmpty) }
+    {
+        let dictionary = match read_dictionary(alloc, bytes) {
+            Ok(dictionary) => dictionary,
+            Err(error) => return Err((error, None)),
+        };
+        let connection = match Connection::open_from(rt, path, false, start) {
+            Ok(connection) => connection,
+            Err((error, _left)) if is_memory(&error) => return Err((CreateError::NoMemory, None)),
+            Err(_) => return Err((CreateError::Store, None)),
+        };
+        match SqlKeep::make(alloc, connection, dictionary, bytes) {
+            Ok(keep) => Ok(keep),
+            Err((error, connection)) => Err((error, Some(connection))),
+        }
+    }
+
+    /// The register that the database at a path holds, where `F` stands for what its files held.
+    ///
+    /// A file that cannot be opened is `Store`, or `NoMemory`; every other refusal comes with the connection that was opened.
+    pub fn open_from(
+        rt: &HostRuntime,
+        alloc: Global,
+        path: &str,
+        start: F,
+    ) -> Result<
+        SqlKeep<FileStore<FileFrom<F>>>,
+        (AdoptError, Option<Connection<FileStore<FileFrom<F>>>>),
+    >
+        ensures adopted { IfOk result (λ k. HasCleanDisk (file_state k.connection)
+            → ∥ HoldsRegister (image_at F.Start) k.dictionary
+            (deposits_in (file_state k.connection).committed.trees) ∥₁) }
+        ensures working { IfOk result (λ k. k.has_failed ≡ false) }
+        ensures refused { IfErr result (λ e.
+            IfSome e.1 (λ c. HasCleanDisk (file_state c) → RefusesFiles (image_at F.Start) e.0)) }
+        ensures unopened { IfErr result (λ e. e.1 ≡ None → (e.0 ≡ AdoptError.Store) ⊎ (e.0 ≡ AdoptError.NoMemory)) }
+    {
+        let connection = match Connection::open_from(rt, path, false, start) {
+            Ok(connection) => connection,
+            Err((error, _left)) if is_memory(&error) => return Err((AdoptError::NoMemory, None)),
+            Err(_) => return Err((AdoptError::Store, None)),
+        };
+        match SqlKeep::adopt(alloc, connection) {
+            Ok(keep) => Ok(keep),
+            Err((error, connection)) => Err((error, Some(connection))),
+        }
+    }
+}

@@ -1,0 +1,80 @@
+//! One query.
+
+ghost use Rattle.std.specs.Prelude.{◌≡◌, ◌≢◌, ◌↔◌, false, IsTrue, IfOk, IfErr, OnOk};
+ghost use Rattle.sqlite.specs.Values.{bound};
+ghost use Rattle.sqlite.specs.State.{HasCleanDisk, Survives, IsUnchanged, Shown};
+ghost use Rattle.sqlite.specs.Held.{state};
+ghost use Rattle.sqlite.specs.Given.{IsPlain};
+ghost use Rattle.sqlite.specs.Listing.{understood};
+ghost use Rattle.reg_tables.specs.Tables.{register_schema};
+ghost use Rattle.reg_tables.specs.Quiet.{IsAsBefore, IsIdle, IsSettled, IsStill};
+ghost use Rattle.reg_store.specs.Keep.{fails};
+
+use reg_store::KeepError;
+use sqlite::types::ValueRef;
+use sqlite::{Alter, Connection, Error, ErrorCode, Row};
+
+/// Whether memory is wanting.
+pub(crate) fn is_memory(error: &Error) -> bool
+    ensures { IsTrue result ↔ (error.now ≡ Error.SqliteFailure ErrorCode.OutOfMemory) }
+{
+    matches!(error, Error::SqliteFailure(ErrorCode::OutOfMemory))
+}
+
+/// Whether the connection is known to be open. An answer of want of memory alone does not say it.
+pub(crate) fn is_open<S: Alter>(conn: &mut Connection<S>) -> bool
+    ensures known { HasCleanDisk (state S.Store conn.new) → IsTrue result
+        → IsUnchanged (state S.Store conn.old) (state S.Store conn.new) }
+    ensures still { HasCleanDisk (state S.Store conn.new) → IsTrue (state S.Store conn.new).is_open
+        → IsSettled (state S.Store conn.old) → IsAsBefore (state S.Store conn.old) (state S.Store conn.new) }
+    ensures mode { conn.old.in_transaction ≡ false → conn.new.in_transaction ≡ false }
+    ensures crash { Survives (state S.Store conn.old) (state S.Store conn.new) (λ _. ⊥) }
+{
+    conn.prepare("SELECT 1").is_ok()
+}
+
+fn ask<S: Alter>(
+    conn: &mut Connection<S>,
+    sql: &str,
+    params: &[ValueRef<'_>],
+) -> Result<Vec<Row>, Error>
+    requires plain { IsPlain (understood register_schema sql.now) }
+    requires idle { IsIdle (state S.Store conn.old) }
+    ensures mode { conn.new.in_transaction ≡ false }
+    ensures open { HasCleanDisk (state S.Store conn.new) → OnOk result (IsTrue (state S.Store conn.new).is_open) }
+    ensures same { HasCleanDisk (state S.Store conn.new) → IsTrue (state S.Store conn.new).is_open
+        → IsAsBefore (state S.Store conn.old) (state S.Store conn.new) }
+    ensures shown { HasCleanDisk (state S.Store conn.new) → IfOk result (λ rows.
+        Shown sql.now (bound params.now) (state S.Store conn.old) (state S.Store conn.new) rows.items) }
+    ensures crash { Survives (state S.Store conn.old) (state S.Store conn.new) (λ _. ⊥) }
+{
+    conn.query_all(sql, params)
+}
+
+/// The rows that a query of the register shows. Want of memory is answered only where the connection is known to be open.
+#[tactic(auto, using(crate::proofs::QueryLemmas::failed_quiet, crate::proofs::QueryLemmas::failed_then))]
+pub(crate) fn query<S: Alter>(
+    conn: &mut Connection<S>,
+    sql: &str,
+    params: &[ValueRef<'_>],
+) -> Result<Vec<Row>, KeepError>
+    requires plain { IsPlain (understood register_schema sql.now) }
+    requires idle { IsIdle (state S.Store conn.old) }
+    ensures shown { HasCleanDisk (state S.Store conn.new) → IfOk result (λ rows.
+        Shown sql.now (bound params.now) (state S.Store conn.old) (state S.Store conn.new) rows.items) }
+    ensures open { HasCleanDisk (state S.Store conn.new) → fails result ≡ false
+        → IsTrue (state S.Store conn.new).is_open }
+    ensures named { IfErr result (λ e. e ≢ KeepError.Full) }
+    ensures quiet { IsStill (state S.Store conn.old) (state S.Store conn.new) (fails result) }
+{
+    match ask(conn, sql, params) {
+        Ok(rows) => Ok(rows),
+        Err(error) => {
+            if is_memory(&error) && is_open(conn) {
+                Err(KeepError::NoMemory)
+            } else {
+                Err(KeepError::Store)
+            }
+        }
+    }
+}

@@ -1,0 +1,247 @@
+//! What the rows of an answer are.
+
+ghost use Rattle.std.specs.Prelude.{◌≡◌, ◌≢◌, ◌<◌, ◌^◌, ◌∷◌, [], ℕ, ℤ, pos, List, Err, length, map, filter, IsTrue, IfOk, IfErr};
+ghost use Rattle.sqlite.specs.Order.{Row as Values, column};
+ghost use Rattle.sqlite.specs.declared.types.Value.TheVariants.{Int, Text as Words, Blob};
+ghost use Rattle.reg_policy.specs.Names.{is_name};
+ghost use Rattle.reg_policy.specs.Days.{is_day_number};
+ghost use Rattle.reg_store.specs.Deposit.{Deposit};
+ghost use Rattle.reg_store.specs.Keep.{deposit_of};
+ghost use Rattle.reg_tables.specs.Rows.{given_deposit, placed_row, placed_rows, step_pair};
+ghost use Rattle.reg_tables.specs.DataCount.{is_shown_data};
+ghost use Rattle.reg_store.specs.Fit.{IsNamed};
+ghost use Rattle.reg_tables.specs.ReadsProject.{target_cell};
+
+use crate::gathering::Gather;
+use crate::reading::read_error;
+use ags_rows::{Bytes, Sequence};
+use reg_policy::{Day, Name, NameError};
+use reg_store::{KeepError, Kept, KeptRow};
+use sqlite::Row;
+use std::alloc::Global;
+
+fn read_number(row: &Row, at: usize) -> Result<u32, KeepError>
+    ensures named { IfErr result (λ e. e ≢ KeepError.Full) }
+    ensures read { IfOk result (λ n. column row.now at ≡ Int (pos n)) }
+    ensures other { result ≡ Err KeepError.Store → at < length row.now → (n : ℕ) → n < 2 ^ 32
+        → column row.now at ≡ Int (pos n) → ⊥ }
+{
+    match row.get(at) {
+        Ok(number) => Ok(number),
+        Err(error) => Err(read_error(&error)),
+    }
+}
+
+fn read_bytes(row: &Row, at: usize) -> Result<Bytes, KeepError>
+    ensures named { IfErr result (λ e. e ≢ KeepError.Full) }
+    ensures read { IfOk result (λ bytes. column row.now at ≡ Blob bytes) }
+    ensures other { result ≡ Err KeepError.Store → at < length row.now → (bytes : List ℕ)
+        → column row.now at ≡ Blob bytes → ⊥ }
+{
+    let read: Vec<u8> = match row.get(at) {
+        Ok(read) => read,
+        Err(error) => return Err(read_error(&error)),
+    };
+    Ok(Sequence::from_vec(read))
+}
+
+fn read_text(row: &Row, at: usize) -> Result<Bytes, KeepError>
+    ensures named { IfErr result (λ e. e ≢ KeepError.Full) }
+    ensures read { IfOk result (λ text. column row.now at ≡ Words text) }
+{
+    let read: String = match row.get(at) {
+        Ok(read) => read,
+        Err(error) => return Err(read_error(&error)),
+    };
+    Ok(Sequence::from_vec(read.into_bytes()))
+}
+
+fn read_name(alloc: Global, row: &Row, at: usize) -> Result<Name, KeepError>
+    ensures named { IfErr result (λ e. e ≢ KeepError.Full) }
+    ensures read { IfOk result (λ name. column row.now at ≡ Words name) }
+    ensures is_name { IfOk result (λ name. IsTrue (is_name name)) }
+    ensures other { result ≡ Err KeepError.Store → at < length row.now → (name : List ℕ) → IsTrue (is_name name)
+        → column row.now at ≡ Words name → ⊥ }
+{
+    let text: String = match row.get(at) {
+        Ok(text) => text,
+        Err(error) => return Err(read_error(&error)),
+    };
+    match Name::read(alloc, text.as_str()) {
+        Ok(name) => Ok(name),
+        Err(NameError::BadName) => Err(KeepError::Store),
+        Err(NameError::NoMemory) => Err(KeepError::NoMemory),
+    }
+}
+
+fn read_day(row: &Row, at: usize) -> Result<Day, KeepError>
+    ensures named { IfErr result (λ e. e ≢ KeepError.Full) }
+    ensures read { IfOk result (λ day. column row.now at ≡ Int day) }
+    ensures is_day { IfOk result (λ day. IsTrue (is_day_number day)) }
+    ensures other { result ≡ Err KeepError.Store → at < length row.now → (n : ℤ) → IsTrue (is_day_number n)
+        → column row.now at ≡ Int n → ⊥ }
+{
+    let number: i32 = match row.get(at) {
+        Ok(number) => number,
+        Err(error) => return Err(read_error(&error)),
+    };
+    match Day::new(number) {
+        Some(day) => Ok(day),
+        None => Err(KeepError::Store),
+    }
+}
+
+/// The one row of an answer.
+fn only_row<'a>(rows: &'a [Row], width: usize) -> Result<&'a Row, KeepError>
+    ensures named { IfErr result (λ e. e ≢ KeepError.Full) }
+    ensures only { IfOk result (λ row. rows.now ≡ row.now ∷ []) }
+    ensures wide { IfOk result (λ row. length row.now ≡ width) }
+    ensures other { result ≡ Err KeepError.Store → (row : Values) → rows.now ≡ row ∷ [] → length row ≡ width → ⊥ }
+{
+    if rows.len() != 1 {
+        return Err(KeepError::Store);
+    }
+    let row = &rows[0];
+    if row.column_count() != width {
+        return Err(KeepError::Store);
+    }
+    Ok(row)
+}
+
+/// The deposit of a number, which is the one row of the answer.
+pub(crate) fn read_deposit(alloc: Global, number: u32, rows: &[Row]) -> Result<Kept, KeepError>
+    ensures named { IfErr result (λ e. e ≢ KeepError.Full) }
+    ensures read { IfOk result (λ kept. rows.now ≡ given_deposit number (deposit_of kept) ∷ []) }
+    ensures is_named { IfOk result (λ kept. IsNamed (deposit_of kept)) }
+    ensures other { result ≡ Err KeepError.Store → (d : Deposit) → IsNamed d
+        → rows.now ≡ given_deposit number d ∷ [] → ⊥ }
+{
+    let row = match only_row(rows, 5) {
+        Ok(row) => row,
+        Err(error) => return Err(error),
+    };
+    if read_number(row, 0)? != number {
+        return Err(KeepError::Store);
+    }
+    Ok(Kept {
+        firm: read_name(alloc, row, 1)?,
+        project: read_name(alloc, row, 2)?,
+        embargo: read_day(row, 3)?,
+        bytes: read_bytes(row, 4)?,
+    })
+}
+
+fn read_placed(at: usize, row: &Row) -> Result<KeptRow, KeepError>
+    ensures named { IfErr result (λ e. e ≢ KeepError.Full) }
+    ensures read { IfOk result (λ line. row.now ≡ placed_row at line) }
+{
+    if row.column_count() != 4 {
+        return Err(KeepError::Store);
+    }
+    if read_number(row, 0)? as usize != at {
+        return Err(KeepError::Store);
+    }
+    let kind = read_number(row, 2)?;
+    if kind > 4 {
+        return Err(KeepError::Store);
+    }
+    Ok(KeptRow {
+        group: read_text(row, 1)?,
+        kind: kind as u8,
+        line: read_bytes(row, 3)?,
+    })
+}
+
+/// The rows of a file, from place 0 on.
+#[derive(Drop)]
+pub(crate) struct KeptLines {
+    pub lines: Vec<KeptRow>,
+}
+
+impl Gather for KeptLines {
+    ghost holds = { λ it rows. rows ≡ placed_rows 0 it.lines.items };
+
+    fn take(&mut self, row: &Row) -> Result<(), KeepError> {
+        let line = read_placed(self.lines.len(), row)?;
+        if self.lines.push(line).is_err() {
+            return Err(KeepError::NoMemory);
+        }
+        Ok(())
+    }
+}
+
+/// How many of a file's rows are DATA rows.
+#[derive(Drop)]
+pub(crate) struct DataCount {
+    pub count: u32,
+}
+
+impl Gather for DataCount {
+    ghost holds = { λ it rows. it.count ≡ length (filter is_shown_data rows) };
+
+    fn take(&mut self, row: &Row) -> Result<(), KeepError> {
+        if read_number(row, 2)? == 4 {
+            match self.count.checked_add(1) {
+                Some(count) => self.count = count,
+                None => return Err(KeepError::Store),
+            }
+        }
+        Ok(())
+    }
+}
+
+fn read_step(row: &Row) -> Result<(u32, u32), KeepError>
+    ensures named { IfErr result (λ e. e ≢ KeepError.Full) }
+    ensures read { IfOk result (λ step. row.now ≡ step_pair step) }
+{
+    if row.column_count() != 2 {
+        return Err(KeepError::Store);
+    }
+    Ok((read_number(row, 0)?, read_number(row, 1)?))
+}
+
+/// The steps of a file.
+#[derive(Drop)]
+pub(crate) struct KeptSteps {
+    pub steps: Vec<(u32, u32)>,
+}
+
+impl Gather for KeptSteps {
+    ghost holds = { λ it rows. rows ≡ map step_pair it.steps.items };
+
+    fn take(&mut self, row: &Row) -> Result<(), KeepError> {
+        let step = read_step(row)?;
+        if self.steps.push(step).is_err() {
+            return Err(KeepError::NoMemory);
+        }
+        Ok(())
+    }
+}
+
+fn read_target(row: &Row) -> Result<u32, KeepError>
+    ensures named { IfErr result (λ e. e ≢ KeepError.Full) }
+    ensures read { IfOk result (λ target. row.now ≡ target_cell target) }
+{
+    if row.column_count() != 1 {
+        return Err(KeepError::Store);
+    }
+    read_number(row, 0)
+}
+
+/// The rows that a row has a step to.
+#[derive(Drop)]
+pub(crate) struct KeptTargets {
+    pub targets: Vec<u32>,
+}
+
+impl Gather for KeptTargets {
+    ghost holds = { λ it rows. rows ≡ map target_cell it.targets.items };
+
+    fn take(&mut self, row: &Row) -> Result<(), KeepError> {
+        let target = read_target(row)?;
+        if self.targets.push(target).is_err() {
+            return Err(KeepError::NoMemory);
+        }
+        Ok(())
+    }
+}

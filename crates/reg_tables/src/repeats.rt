@@ -1,0 +1,152 @@
+//! The digests of a register's deposits, which stand in memory, and the repeats that they tell.
+
+ghost use Rattle.std.specs.Prelude.{◌≡◌, ◌≢◌, ◌∷◌, ◌++◌, [], ℕ, List, None, Ok, true, IfOk, IfErr, IfSome, OnOk, IsSome, if◌then◌else◌};
+ghost use Rattle.std.specs.Str.{bytes_eq};
+ghost use Rattle.sqlite.specs.State.{HasCleanDisk};
+ghost use Rattle.sqlite.specs.Held.{state};
+ghost use Rattle.reg_store.specs.Deposit.{Deposit, is_repeat};
+ghost use Rattle.reg_store.specs.Keep.{fails};
+ghost use Rattle.reg_tables.specs.Quiet.{IsIdle, IsStill};
+ghost use Rattle.reg_tables.specs.Digests.{AddsNumber, HasEqual, HasNoEqual, IsRowOf, digest_of as digest, found_at, is_among, numbers_under};
+
+use crate::reading::find_deposit;
+use reg_policy::Name;
+use reg_store::{KeepError, is_equal};
+use sha2::{Digest, Sha256};
+use sqlite::{Alter, Connection};
+use std::alloc::{AllocError, Global};
+use std::collections::BTreeMap;
+
+/// For each digest, the numbers of the deposits that have it.
+#[derive(Drop)]
+pub(crate) struct Digests {
+    pub(crate) held: BTreeMap<[u8; 32], Vec<u32>>,
+}
+
+impl Digests {
+    /// No digests.
+    pub(crate) fn new(alloc: Global) -> Digests
+        ensures { (other : List ℕ) → numbers_under result other ≡ [] }
+    {
+        Digests {
+            held: BTreeMap::new(alloc),
+        }
+    }
+
+    /// The numbers that stand under a digest.
+    pub(crate) fn of(&self, digest: &[u8; 32]) -> &[u32]
+        ensures { result.now ≡ numbers_under self.now digest.now }
+    {
+        match self.held.get(digest) {
+            Some(numbers) => numbers.as_slice(),
+            None => &[],
+        }
+    }
+
+    /// The numbers of a digest with one more, for which there is room from then on.
+    pub(crate) fn make_room(
+        &mut self,
+        alloc: Global,
+        digest: &[u8; 32],
+        number: u32,
+    ) -> Result<Vec<u32>, AllocError>
+        ensures same { (other : List ℕ) → numbers_under self.new other ≡ numbers_under self.old other }
+        ensures more { IfOk result (λ numbers. numbers.items ≡ numbers_under self.old digest.now ++ number ∷ []) }
+        ensures room { OnOk result (IsSome (found_at self.new digest.now)) }
+    {
+        let mut numbers = Vec::from_slice(alloc, self.of(digest))?;
+        numbers.push(number)?;
+        if !self.held.contains_key(digest) {
+            self.held.insert(*digest, Vec::new(alloc))?;
+        }
+        Ok(numbers)
+    }
+
+    /// Puts the numbers of a digest in the place of those that stand under it. There is room.
+    pub(crate) fn note(&mut self, digest: [u8; 32], numbers: Vec<u32>)
+        requires { IsSome (found_at self.old digest) }
+        ensures { (other : List ℕ) → numbers_under self.new other
+            ≡ (if bytes_eq digest other then numbers.items else numbers_under self.old other) }
+    {
+        match self.held.insert(digest, numbers) {
+            Ok(_before) => {}
+            Err(_) => unreachable!(),
+        }
+    }
+
+    /// One number more under a digest.
+    pub(crate) fn add(
+        &mut self,
+        alloc: Global,
+        digest: [u8; 32],
+        number: u32,
+    ) -> Result<(), AllocError>
+        ensures { OnOk result (AddsNumber self.old self.new digest number) }
+    {
+        let numbers = self.make_room(alloc, &digest, number)?;
+        self.note(digest, numbers);
+        Ok(())
+    }
+}
+
+/// The digest of a deposit.
+pub(crate) fn digest_of(firm: &Name, project: &Name, bytes: &[u8]) -> [u8; 32]
+    ensures { result ≡ digest firm.now project.now bytes.now }
+{
+    let mut hasher = Sha256::new();
+    hasher.update(firm.text());
+    hasher.update("\n");
+    hasher.update(project.text());
+    hasher.update("\n");
+    hasher.update(bytes);
+    hasher.finalize()
+}
+
+/// Whether the deposit of a number is equal, byte by byte.
+fn is_equal_to<S: Alter>(
+    conn: &mut Connection<S>,
+    alloc: Global,
+    number: u32,
+    firm: &Name,
+    project: &Name,
+    bytes: &[u8],
+) -> Result<bool, KeepError>
+    requires idle { IsIdle (state S.Store conn.old) }
+    ensures equal { HasCleanDisk (state S.Store conn.new) → IfOk result (λ is.
+        (d : Deposit) × IsRowOf (state S.Store conn.old).now number d × (is ≡ is_repeat firm.now project.now bytes.now d)) }
+    ensures named { IfErr result (λ e. e ≢ KeepError.Full) }
+    ensures quiet { IsStill (state S.Store conn.old) (state S.Store conn.new) (fails result) }
+{
+    match find_deposit(conn, alloc, number) {
+        Ok(kept) => Ok(is_equal(&kept, firm, project, bytes)),
+        Err(error) => Err(error),
+    }
+}
+
+/// The first of these numbers whose deposit is equal, byte by byte.
+pub(crate) fn find_equal<S: Alter>(
+    conn: &mut Connection<S>,
+    alloc: Global,
+    numbers: &[u32],
+    firm: &Name,
+    project: &Name,
+    bytes: &[u8],
+) -> Result<Option<u32>, KeepError>
+    requires idle { IsIdle (state S.Store conn.old) }
+    ensures equal { HasCleanDisk (state S.Store conn.new)
+        → IfOk result (λ found. IfSome found (HasEqual (state S.Store conn.old).now firm.now project.now bytes.now)) }
+    ensures among { IfOk result (λ found. IfSome found (λ n. is_among n numbers.now ≡ true)) }
+    ensures none { HasCleanDisk (state S.Store conn.new) → result ≡ Ok None
+        → HasNoEqual (state S.Store conn.old).now numbers.now firm.now project.now bytes.now }
+    ensures named { IfErr result (λ e. e ≢ KeepError.Full) }
+    ensures quiet { IsStill (state S.Store conn.old) (state S.Store conn.new) (fails result) }
+{
+    for number in numbers {
+        match is_equal_to(conn, alloc, *number, firm, project, bytes) {
+            Ok(true) => return Ok(Some(*number)),
+            Ok(false) => {}
+            Err(error) => return Err(error),
+        }
+    }
+    Ok(None)
+}

@@ -1,0 +1,291 @@
+//! Stops at each call of a store: a register is made and two files are deposited, over disks of which one refuses every call
+//! from some call on. What was not synced is lost then, and the register is opened again.
+
+ghost use Rattle.std.specs.Prelude.{◌≡◌, false, IfSome, IsTrue};
+
+use crate::tests::{take_named, tell_deposit};
+use ags_rows::vectors::{FILE_A, FILE_B, MINI};
+use reg_store::{Keep, KeepError};
+use reg_tables::{AdoptError, CreateError, SqlKeep};
+use sqlite::{Alter, Connection, FileStore, Files, Options};
+use sqlite_disk::{Crash, Fuse, Memory};
+use std::alloc::{AllocError, Global};
+use std::test::Fail;
+
+/// A disk in memory that refuses each call after so many.
+type Stopping = Fuse<Memory>;
+
+/// A database over disks that stop.
+type Stoppable = Connection<FileStore<Stopping>>;
+
+/// A file of a register.
+#[derive(Clone, Copy)]
+enum File {
+    Log,
+    Database,
+}
+
+/// Where a run stopped.
+#[derive(Clone, Copy)]
+enum Stage {
+    /// The register was being made.
+    Making,
+    /// The first file was being deposited.
+    First,
+    /// The second file was being deposited.
+    Second,
+    /// The register was being closed.
+    Closing,
+    /// Nothing stopped.
+    Ended,
+}
+
+/// More calls of one file than a whole run makes.
+const MANY: u64 = 2_000;
+
+/// Few pages stay in memory: with `Options::new` a test would take too long. Where the database file stops, the log is copied into it often.
+fn options(file: File) -> Options {
+    let checkpoint_frames = match file {
+        File::Log => 1_000,
+        File::Database => 4,
+    };
+    Options {
+        cache_pages: 16,
+        spill_pages: 64,
+        checkpoint_frames,
+        seed: 7,
+    }
+}
+
+/// Whether a file of Delta for N1 is taken, under this number. A store that stopped is the one reason why not; where there is another, or
+/// another number, nothing is answered.
+fn is_taken<K: Keep>(alloc: Global, keep: &mut K, number: u32, bytes: &[u8]) -> Option<bool>
+    requires { K.has_failed keep.old ≡ false }
+    ensures { IfSome result (λ taken. IsTrue taken → K.has_failed keep.new ≡ false) }
+{
+    match take_named(alloc, keep, "Delta", "N1", bytes) {
+        Ok(found) if found == number => Some(true),
+        Err(KeepError::Store) => Some(false),
+        _ => None,
+    }
+}
+
+/// Sends both files, up to the first that is not taken.
+fn send_both<K: Keep>(alloc: Global, keep: &mut K) -> Option<Stage>
+    requires { K.has_failed keep.old ≡ false }
+    ensures { IfSome result (λ stage. stage ≡ Stage.Closing → K.has_failed keep.new ≡ false) }
+{
+    if !is_taken(alloc, keep, 1, FILE_A)? {
+        return Some(Stage::First);
+    }
+    if !is_taken(alloc, keep, 2, FILE_B)? {
+        return Some(Stage::Second);
+    }
+    Some(Stage::Closing)
+}
+
+/// An empty database over new files, of which one refuses each call after so many; else these files.
+fn started(alloc: Global, file: File, calls: u64) -> Result<Stoppable, Files<Stopping>> {
+    let (log_calls, database_calls) = match file {
+        File::Log => (calls, u64::MAX),
+        File::Database => (u64::MAX, calls),
+    };
+    let files = Files {
+        log: Fuse::new(Memory::new(alloc), log_calls),
+        db: Fuse::new(Memory::new(alloc), database_calls),
+    };
+    match Connection::open_files(alloc, files, options(file)) {
+        Ok(connection) => Ok(connection),
+        Err((_, left)) => Err(left.into_files()),
+    }
+}
+
+/// The files of a database that is closed, and the stage that a run then stopped in: that before, or none where all went well.
+fn closed(stage: Stage, connection: Stoppable) -> (Stage, Files<Stopping>) {
+    match connection.close_files() {
+        Ok(files) => (after_closing(stage), files),
+        Err((_, store)) => (stage, store.close()),
+    }
+}
+
+/// A run that got as far as its closing has ended where the closing went well.
+fn after_closing(stage: Stage) -> Stage {
+    match stage {
+        Stage::Closing => Stage::Ended,
+        _ => stage,
+    }
+}
+
+/// Both files are deposited in a register, up to the first call that is refused.
+fn filled<S: Alter + Drop>(alloc: Global, mut keep: SqlKeep<S>) -> Option<(Stage, Connection<S>)>
+    requires { keep.has_failed ≡ false }
+{
+    let stage = send_both(alloc, &mut keep)?;
+    Some((stage, keep.into_connection()))
+}
+
+/// A register is made and filled, up to the first call that is refused.
+fn made<S: Alter + Drop>(
+    alloc: Global,
+    connection: Connection<S>,
+) -> Option<(Stage, Connection<S>)> {
+    match SqlKeep::create_in(alloc, connection, MINI) {
+        Ok(keep) => filled(alloc, keep),
+        Err((CreateError::Store, connection)) => Some((Stage::Making, connection)),
+        Err(_) => None,
+    }
+}
+
+/// The same from the opening of the files to their closing. Where a call is refused otherwise than by the stop, nothing is answered.
+fn run(alloc: Global, file: File, calls: u64) -> Option<(Stage, Files<Stopping>)> {
+    match started(alloc, file, calls) {
+        Ok(connection) => {
+            let (stage, connection) = made(alloc, connection)?;
+            Some(closed(stage, connection))
+        }
+        Err(files) => Some((Stage::Making, files)),
+    }
+}
+
+/// The database that the files hold once the machine has lost what was not synced.
+fn opened_again(alloc: Global, file: File, files: Files<Stopping>) -> Option<Stoppable> {
+    let Files { mut log, mut db } = files;
+    log.crash();
+    db.crash();
+    match Connection::open_files(alloc, Files { log, db }, options(file)) {
+        Ok(connection) => Some(connection),
+        Err(_) => None,
+    }
+}
+
+/// Whether a register may hold so many deposits after a stop: what was answered with a receipt, and at most the file that stopped.
+fn may_hold(stage: Stage, count: u32) -> bool {
+    match stage {
+        Stage::Making => count == 0,
+        Stage::First => count <= 1,
+        Stage::Second => 1 <= count && count <= 2,
+        Stage::Closing | Stage::Ended => count == 2,
+    }
+}
+
+/// Whether both files are taken, under the number that each has, or the next.
+fn takes_both<K: Keep>(alloc: Global, keep: &mut K) -> bool
+    requires { K.has_failed keep.old ≡ false }
+    ensures { IsTrue result → K.has_failed keep.new ≡ false }
+{
+    match send_both(alloc, keep) {
+        Some(Stage::Closing) => keep.count() == 2,
+        _ => false,
+    }
+}
+
+/// Both deposits, one a line.
+fn tell_both<K: Keep>(keep: &mut K, told: &mut String) -> Result<(), KeepError>
+    requires { K.has_failed keep.old ≡ false }
+{
+    tell_deposit(keep, 1, told)?;
+    told.push('\n')?;
+    tell_deposit(keep, 2, told)
+}
+
+/// Whether exactly the two files are held.
+fn holds_both<K: Keep>(alloc: Global, keep: &mut K) -> bool
+    requires { K.has_failed keep.old ≡ false }
+{
+    let mut told = String::new(alloc);
+    match tell_both(keep, &mut told) {
+        Ok(()) => told.as_str() == "Delta N1 19875 A\nDelta N1 19875 B",
+        Err(_) => false,
+    }
+}
+
+/// Whether a register holds what it may after a stop, and takes the files that are sent again.
+fn is_whole<K: Keep>(alloc: Global, stage: Stage, keep: &mut K) -> bool
+    requires { K.has_failed keep.old ≡ false }
+{
+    may_hold(stage, keep.count()) && takes_both(alloc, keep) && holds_both(alloc, keep)
+}
+
+/// Makes the register anew in tables that are none, which the making alone may leave.
+fn is_made_anew<S: Alter + Drop>(alloc: Global, stage: Stage, connection: Connection<S>) -> bool {
+    match SqlKeep::create_in(alloc, connection, MINI) {
+        Ok(mut keep) => matches!(stage, Stage::Making) && is_whole(alloc, stage, &mut keep),
+        Err(_) => false,
+    }
+}
+
+/// Whether what a stop left is as it may be: opens it, and looks at it.
+fn is_left_well<S: Alter + Drop>(alloc: Global, stage: Stage, connection: Connection<S>) -> bool {
+    match SqlKeep::adopt(alloc, connection) {
+        Ok(mut keep) => is_whole(alloc, stage, &mut keep),
+        Err((AdoptError::NotRegister, connection)) => is_made_anew(alloc, stage, connection),
+        Err(_) => false,
+    }
+}
+
+/// The stage in which a run stops, where it leaves what it may.
+fn stage_of(alloc: Global, file: File, calls: u64) -> Option<Stage> {
+    let (stage, files) = run(alloc, file, calls)?;
+    let connection = opened_again(alloc, file, files)?;
+    if is_left_well(alloc, stage, connection) {
+        Some(stage)
+    } else {
+        None
+    }
+}
+
+/// The letter of a stage, and `x` where a run left what it may not.
+fn letter(stage: Option<Stage>) -> char {
+    match stage {
+        Some(Stage::Making) => 'M',
+        Some(Stage::First) => 'F',
+        Some(Stage::Second) => 'S',
+        Some(Stage::Closing) => 'C',
+        Some(Stage::Ended) => '.',
+        None => 'x',
+    }
+}
+
+/// The letters of runs with ever more calls of a file, up to the first run that ended or left what it may not.
+fn letters(alloc: Global, file: File) -> Result<String, AllocError> {
+    let mut letters = String::new(alloc);
+    for calls in 0..MANY {
+        let letter = letter(stage_of(alloc, file, calls));
+        letters.push(letter)?;
+        if letter == '.' || letter == 'x' {
+            return Ok(letters);
+        }
+    }
+    Ok(letters)
+}
+
+/// Some runs stop in each stage, at least so many, before one ends.
+const LEAST: [&str; 5] = ["MMMMM", "FF", "SS", "C", "."];
+
+/// Whether some runs stop in each stage, and one ends.
+fn has_all(letters: &str) -> bool {
+    for some in &LEAST {
+        if !letters.contains(*some) {
+            return false;
+        }
+    }
+    true
+}
+
+/// How many runs stopped: each but the last, which ended.
+fn stops(letters: &str) -> usize {
+    letters.len().saturating_sub(1)
+}
+
+#[test]
+fn stops_of_a_store(rt: HostRuntime) -> Result<(), Fail> {
+    let log = letters(rt.alloc(), File::Log)?;
+    assert!(rt; has_all(log.as_str()), "{log}");
+    let database = letters(rt.alloc(), File::Database)?;
+    assert!(rt; has_all(database.as_str()), "{database}");
+    let of_log = stops(log.as_str());
+    println!(rt; "{of_log} stops of the log")?;
+    let of_database = stops(database.as_str());
+    println!(rt; "{of_database} stops of the database file")?;
+    Ok(())
+}
