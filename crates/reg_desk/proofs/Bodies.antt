@@ -1,10 +1,13 @@
 -- Bodies that are handed in: what they are refused for, and what a check is answered.
-use Rattle.std.proofs.Common.{◌≡◌, ◌≢◌, ℕ, ◌<◌, ◌≤◌, Bool, true, false, List, [], ◌∷◌, refl, sym, inl, inr, arith}
+use Rattle.std.proofs.Common.{◌≡◌, ◌≢◌, ℕ, ◌<◌, ◌≤◌, Bool, true, false, List, [], ◌∷◌, refl, sym, subst, inl, inr, ◌⊎◌, arith}
 use Rattle.std.specs.Prelude.{ℤ, nat_lt, length, MatchBool}
 use Rattle.std.proofs.lemmas.Bool.{true≢false, cases_Bool, ltb-true, lt-ltb}
 use Rattle.ags_rows.specs.declared.finding.Finding.{Finding}
 use Rattle.ags_rows.specs.declared.TheConstants.{LIMIT}
+use Rattle.ags_dict.specs.Entries.{Entries}
 use Rattle.ags_check.specs.Findings.{Findings as AreFindings}
+use Rattle.ags_check.specs.declared.checking.CheckError.{CheckError}
+use Rattle.ags_check.specs.declared.checking.CheckError.TheVariants as errors
 use Rattle.reg_policy.specs.declared.rule.Rule.{Rule}
 use Rattle.reg_policy.specs.declared.callers.Caller.{Caller}
 use Rattle.reg_policy.specs.declared.subject.Decision.{Decision}
@@ -97,6 +100,12 @@ refusal_serves keep rules request old Unknown d k bytes Stands works permit refu
 refusal_serves keep rules request old Full d k bytes Stands works permit refusal needs to from next = absurd refusal
 refusal_serves keep rules request old StoreFailed d k bytes Stands works permit refusal needs to from next = absurd refusal
 
+-- what a check ends with is a refusal of the body
+pub refusal_is : (given : Entries) (bytes : List ℕ) (error : CheckError) (answer : Answer) → length bytes ≤ LIMIT → ((found : List Finding) → error ≡ errors.Findings found → AreFindings given bytes found × (found ≢ []))
+    → ((found : List Finding) → error ≡ errors.Findings found → answer ≡ Findings found) → (error ≡ errors.NoMemory → answer ≡ NoMemory) → IsRefusal given bytes answer
+refusal_is given bytes (errors.Findings found) answer le has told memory = subst (IsRefusal given bytes) (sym (told found refl)) (le, (has found refl).0, (has found refl).1)
+refusal_is given bytes errors.NoMemory answer le has told memory = subst (IsRefusal given bytes) (sym (memory refl)) le
+
 -- ---- a check
 
 abbrev IsCleanAnswer : Answer → Type 0
@@ -112,15 +121,25 @@ check_denied keep rules caller project bytes day old m works deny =
     replies_at_once keep rules (check caller project bytes day) old (Denied m) works refl
     (denied_reply (decided register caller project verbs.Check) m (OrRefused register bytes IsCleanAnswer) deny) (inr (λ taken. taken, refl))
 
-pub check_refused : {K : Type 0} (keep : Ghosts K) (rules : List Rule) (caller : Caller) (project bytes : List ℕ) (day : ℤ) (old : K) (answer : Answer) (k : ℕ) → keep.has_failed old ≡ false
+check_refused : {K : Type 0} (keep : Ghosts K) (rules : List Rule) (caller : Caller) (project bytes : List ℕ) (day : ℤ) (old : K) (answer : Answer) (k : ℕ) → keep.has_failed old ≡ false
     → decided (register_at keep rules old) caller project verbs.Check ≡ Permit k → IsRefusal (keep.dictionary old) bytes answer → Serves keep rules (check caller project bytes day) old old answer
 check_refused keep rules caller project bytes day old answer k works permit refusal =
     refusal_serves keep rules (check caller project bytes day) old answer (decided (register_at keep rules old) caller project verbs.Check) k bytes IsCleanAnswer works permit refusal clean_needs
     (λ r h. h) (λ r h. h) (λ r h is. inr (λ taken. taken, refl))
 
-pub check_clean : {K : Type 0} (keep : Ghosts K) (rules : List Rule) (caller : Caller) (project bytes : List ℕ) (day : ℤ) (old : K) (k : ℕ) → keep.has_failed old ≡ false
+check_clean : {K : Type 0} (keep : Ghosts K) (rules : List Rule) (caller : Caller) (project bytes : List ℕ) (day : ℤ) (old : K) (k : ℕ) → keep.has_failed old ≡ false
     → decided (register_at keep rules old) caller project verbs.Check ≡ Permit k → length bytes ≤ LIMIT → AreFindings (keep.dictionary old) bytes [] → Serves keep rules (check caller project bytes day) old old Clean
 check_clean keep rules caller project bytes day old k works permit le are =
     let register = register_at keep rules old in
     replies_at_once keep rules (check caller project bytes day) old Clean works refl
     (permitted_reply (decided register caller project verbs.Check) k (OrRefused register bytes IsCleanAnswer) Clean permit (refused_none register bytes IsCleanAnswer Clean le are refl)) (inr (λ taken. taken, refl))
+
+-- the body is refused, or it has no finding
+pub check_answered : {K : Type 0} (keep : Ghosts K) (rules : List Rule) (caller : Caller) (project bytes : List ℕ) (day : ℤ) (old : K) (given : Entries) (answer : Answer) (k : ℕ) → keep.has_failed old ≡ false
+    → decided (register_at keep rules old) caller project verbs.Check ≡ Permit k → given ≡ keep.dictionary old → IsRefusal given bytes answer ⊎ ((answer ≡ Clean) × (length bytes ≤ LIMIT) × AreFindings given bytes [])
+    → Serves keep rules (check caller project bytes day) old old answer
+check_answered keep rules caller project bytes day old given answer k works permit same (inl refusal) =
+    check_refused keep rules caller project bytes day old answer k works permit (subst (λ (e : Entries). IsRefusal e bytes answer) same refusal)
+check_answered keep rules caller project bytes day old given answer k works permit same (inr clean) =
+    subst (Serves keep rules (check caller project bytes day) old old) (sym clean.0)
+    (check_clean keep rules caller project bytes day old k works permit clean.1 (subst (λ (e : Entries). AreFindings e bytes []) same clean.2))

@@ -79,19 +79,6 @@ pub clean_of : (given : Entries) (d : Deposit) (file : CheckedFile) → IsFileOf
 clean_of given d file is =
     subst (λ (b : List ℕ). IsCleanFile given b (file_of file)) is.bytes (subst (λ (g : Entries). IsCleanFile g file.bytes (file_of file)) is.given is.clean.file)
 
--- the rows and steps are those of each file that the deposit can be
-abbrev pub IsViewAt : Entries → Deposit → List KeptRow → Wiring → Type 0
-IsViewAt given d rows graph = (file : CheckedFile) → IsFileOf given d file → IsViewOf rows graph file
-
--- so a reading that finds no such file does not fail
-pub reading_lives : {X : Type 0} (given : Entries) (d : Deposit) (rows : List KeptRow) (graph : Wiring) (r : Result X KeepError) → IsFit given d → IsViewAt given d rows graph
-    → (r ≡ Err errors.Store → (file : CheckedFile) → IsViewOf rows graph file → ⊥) → fails r ≡ false
-reading_lives given d rows graph (Ok x) fit view broken = refl
-reading_lives given d rows graph (Err errors.Full) fit view broken = refl
-reading_lives given d rows graph (Err errors.NoMemory) fit view broken = refl
-reading_lives given d rows graph (Err errors.Store) fit view broken =
-    absurd (∥∥₁_elim fit (Prim.hlevel props) (λ (f : (file : CheckedFile) × IsFileOf given d file). broken refl f.0 (view f.0 f.1)))
-
 -- calls that read a keep, and then something that was answered by what was read
 pub reads_answered : {K : Type 0} (keep : Ghosts K) (old new : K) (failed : Bool) → OnlyReads keep old new false → (keep.is_sound new → failed ≡ false) → OnlyReads keep old new failed
 reads_answered keep old new failed reads lives = record {
@@ -105,35 +92,22 @@ reads_answered keep old new failed reads lives = record {
   whole = reads.whole;
 }
 
--- what a keep tells of the deposit of a number
-pub record IsViewed (given : Entries) (state : List Deposit) (number : ℕ) (head : KeptHead) (rows : List KeptRow) (graph : Wiring) : Type 0 where
+-- what a keep tells of the deposit of a number by its head
+pub record IsHeaded (given : Entries) (state : List Deposit) (number : ℕ) (head : KeptHead) : Type 0 where
   pub kept : Deposit
+  pub place : slice_get state (number - 1) ≡ Some kept
   pub holds : held number state ≡ Some kept
   pub of_head : IsHeadOf kept head
   pub fit : IsFit given kept
-  pub view : IsViewAt given kept rows graph
 
--- by its head, and by its rows and steps after that
-pub viewed : {K : Type 0} (keep : Ghosts K) (old mid new : K) (number : ℕ) (head : KeptHead) (rows shown : List KeptRow) (graph : Wiring) → shown ≡ rows
-    → (keep.is_sound old → (0 < number) × (number ≤ length (keep.deposits old))) → (keep.is_sound old → All (IsFit (keep.dictionary old)) (keep.deposits old))
-    → OnlyReads keep old mid false → OnlyReads keep mid new false
-    → (keep.is_sound mid → (d : Deposit) → slice_get (keep.deposits old) (number - 1) ≡ Some d → IsHeadOf d head)
-    → (keep.is_sound new → (d : Deposit) (file : CheckedFile) → slice_get (keep.deposits mid) (number - 1) ≡ Some d → IsFileOf (keep.dictionary mid) d file → IsViewOf rows graph file)
-    → keep.is_sound new → IsViewed (keep.dictionary old) (keep.deposits old) number head shown graph
-viewed keep old mid new number head rows shown graph same within fit first then read seen s =
-    let s1 = then.sound s in
-    let s0 = first.sound s1 in
+pub headed : {K : Type 0} (keep : Ghosts K) (old mid : K) (number : ℕ) (head : KeptHead) → (keep.is_sound old → (0 < number) × (number ≤ length (keep.deposits old))) → (keep.is_sound old → All (IsFit (keep.dictionary old)) (keep.deposits old))
+    → OnlyReads keep old mid false → (keep.is_sound mid → (d : Deposit) → slice_get (keep.deposits old) (number - 1) ≡ Some d → IsHeadOf d head) → keep.is_sound mid
+    → IsHeaded (keep.dictionary old) (keep.deposits old) number head
+headed keep old mid number head within fit first read s =
+    let s0 = first.sound s in
     let place = within s0 in
     let d = held_at (keep.deposits old) number place.0 place.1 in
-    record {
-      kept = d.0;
-      holds = d.2;
-      of_head = read s1 d.0 d.1;
-      fit = fit_at (keep.dictionary old) (keep.deposits old) (number - 1) d.0 (fit s0) d.1;
-      view = λ file is.
-          subst (λ (r : List KeptRow). IsViewOf r graph file) (sym same)
-          (seen s d.0 file (ap (λ (l : List Deposit). slice_get l (number - 1)) (first.same s1 refl) ∙ d.1) (subst (λ (e : Entries). IsFileOf e d.0 file) (sym first.same_dictionary) is));
-    }
+    record { kept = d.0; place = d.1; holds = d.2; of_head = read s d.0 d.1; fit = fit_at (keep.dictionary old) (keep.deposits old) (number - 1) d.0 (fit s0) d.1 }
 
 -- ---- what is drawn
 
@@ -146,15 +120,16 @@ drawn_of register caller groups day project d file None is same hidden =
     let clean = clean_of register.given d file is in
     where_true (bytes_eq d.project project) _ _ same (inr ((λ seen. hidden (subst (IsProjectShown (look_at register caller day d)) (one_file register.given d.bytes seen.0 (file_of file) seen.1 clean) seen.2)), refl))
 
-pub view_drawn : (register : Register) (state : List Deposit) (caller : Caller) (project : List ℕ) (number : ℕ) (groups : List (List ℕ)) (day : ℤ) (head : KeptHead) (rows : List KeptRow) (graph : Wiring) (text : Option (List ℕ))
-    → IsViewed register.given state number head rows graph → bytes_eq head.project project ≡ true
-    → ((file : CheckedFile) → IsViewOf rows graph file → IsExtractOf (look_on register.rules caller head day) (file_of file) groups text)
+-- by its head, and by its files
+pub head_drawn : (register : Register) (state : List Deposit) (caller : Caller) (project : List ℕ) (number : ℕ) (groups : List (List ℕ)) (day : ℤ) (head : KeptHead) (text : Option (List ℕ))
+    → IsHeaded register.given state number head → bytes_eq head.project project ≡ true
+    → OfDeposit register.given state number (λ file. IsExtractOf (look_on register.rules caller head day) (file_of file) groups text)
     → ∥ IsDrawnFrom register caller project groups day (held number state) (text_answer text) ∥₁
-view_drawn register state caller project number groups day head rows graph text v same drawn =
-    ∥∥₁_map v.fit (λ (f : (file : CheckedFile) × IsFileOf register.given v.kept file).
-    let is = subst (λ (look : Look). IsExtractOf look (file_of f.0) groups text) (look_same register caller day v.kept head v.of_head) (drawn f.0 (v.view f.0 f.1)) in
-    subst (λ (o : Option Deposit). IsDrawnFrom register caller project groups day o (text_answer text)) (sym v.holds)
-    (drawn_of register caller groups day project v.kept f.0 text f.1 (ap (λ (p : List ℕ). bytes_eq p project) (sym v.of_head.project) ∙ same) is))
+head_drawn register state caller project number groups day head text h same drawn =
+    ∥∥₁_map h.fit (λ (f : (file : CheckedFile) × IsFileOf register.given h.kept file).
+    let is = subst (λ (look : Look). IsExtractOf look (file_of f.0) groups text) (look_same register caller day h.kept head h.of_head) (drawn h.kept f.0 h.place f.1) in
+    subst (λ (o : Option Deposit). IsDrawnFrom register caller project groups day o (text_answer text)) (sym h.holds)
+    (drawn_of register caller groups day project h.kept f.0 text f.1 (ap (λ (p : List ℕ). bytes_eq p project) (sym h.of_head.project) ∙ same) is))
 
 -- no deposit has the number
 pub unheld_drawn : (register : Register) (state : List Deposit) (caller : Caller) (project : List ℕ) (number : ℕ) (groups : List (List ℕ)) (day : ℤ) → (number ≡ 0) ⊎ (length state < number)
@@ -229,23 +204,6 @@ extract_replies keep rules caller project number groups day old new k answer per
 
 same_kept : (o : Option Deposit) (d e : Deposit) → o ≡ Some d → o ≡ Some e → d ≡ e
 same_kept o d e a b = cc
-
--- what a keep tells of the deposit of a number by its head
-pub record IsHeaded (given : Entries) (state : List Deposit) (number : ℕ) (head : KeptHead) : Type 0 where
-  pub kept : Deposit
-  pub place : slice_get state (number - 1) ≡ Some kept
-  pub holds : held number state ≡ Some kept
-  pub of_head : IsHeadOf kept head
-  pub fit : IsFit given kept
-
-pub headed : {K : Type 0} (keep : Ghosts K) (old mid : K) (number : ℕ) (head : KeptHead) → (keep.is_sound old → (0 < number) × (number ≤ length (keep.deposits old))) → (keep.is_sound old → All (IsFit (keep.dictionary old)) (keep.deposits old))
-    → OnlyReads keep old mid false → (keep.is_sound mid → (d : Deposit) → slice_get (keep.deposits old) (number - 1) ≡ Some d → IsHeadOf d head) → keep.is_sound mid
-    → IsHeaded (keep.dictionary old) (keep.deposits old) number head
-headed keep old mid number head within fit first read s =
-    let s0 = first.sound s in
-    let place = within s0 in
-    let d = held_at (keep.deposits old) number place.0 place.1 in
-    record { kept = d.0; place = d.1; holds = d.2; of_head = read s d.0 d.1; fit = fit_at (keep.dictionary old) (keep.deposits old) (number - 1) d.0 (fit s0) d.1 }
 
 -- a reading of what is kept of a deposit does not fail the store
 pub kept_lives : {K X : Type 0} (keep : Ghosts K) (old : K) (number : ℕ) (r : Result X KeepError) → (0 < number) × (number ≤ length (keep.deposits old)) → All (IsFit (keep.dictionary old)) (keep.deposits old)

@@ -1,5 +1,5 @@
 -- The body, from what came with the head and what was read.
-use Rattle.std.proofs.Common.{◌≡◌, ℕ, ◌+◌, ◌<◌, ◌≤◌, inl, inr, List, [], ◌∷◌, ◌++◌, length, take, Option, Some, None, refl, sym, ap, ◌∙◌, arith, append_assoc, length-append, Ok, Err}
+use Rattle.std.proofs.Common.{◌≡◌, ℕ, ◌+◌, ◌<◌, ◌≤◌, inl, inr, List, [], ◌∷◌, ◌++◌, length, take, Option, Some, None, refl, sym, ap, subst, ◌∙◌, arith, append_assoc, length-append, Ok, Err}
 use Rattle.std.proofs.lemmas.List.{take-append-le, append-nil, length-take-le, take_all}
 use Rattle.std.proofs.Math.Seq.{take-append_seam}
 use Rattle.std.specs.Prelude.{IfSome, Vec}
@@ -79,3 +79,17 @@ ReadsBody-short (Some xs) (Some ys) early body n filled read under long end =
           let all = length-take-le n early fits in
           absurd (omega (arith, all, count, front, parts))
     ]
+
+-- the front of the body, and the bytes of one read more
+pub HasRead-more : (u v w : Option (List ℕ)) (early before after bytes : List ℕ) (n : ℕ) → HasRead u v early n before → Consumes v w bytes → after ≡ before ++ bytes → HasRead u w early n after
+HasRead-more u v w early before after bytes n read taken grown = record {
+  more = read.more ++ bytes;
+  front_is = grown ∙ ap (λ t. t ++ bytes) read.front_is ∙ append_assoc (take n early) read.more bytes;
+  taken = Consumes-then u v w read.more bytes read.taken taken;
+}
+
+-- a front as long as the body is the body
+pub ReadsBody-all : (old new : Option (List ℕ)) (early : List ℕ) (n : ℕ) (body : Vec ℕ Global) → HasRead old new early n body.items → length body.items ≡ n
+    → IfSome old (λ left. ReadsBody (early ++ left) n (Ok body))
+ReadsBody-all old new early n body read long =
+    ReadsBody-whole old new early n body (subst (λ (t : List ℕ). HasRead old new early n t) (sym (take_all n body.items (omega arith))) read) long

@@ -1,6 +1,6 @@
 -- The text of a line, and that of a list of lines.
 use Rattle.std.proofs.Common.{◌≡◌, ℕ, ◌+◌, suc, ◌<◌, ◌≤◌, List, [], ◌∷◌, ◌++◌, Bool, true, false, refl, ap, sym, subst, ◌∙◌, append_assoc, append-nil, length, get_or, map, take, codes, arith, decimal}
-use Rattle.std.specs.Prelude.{nat_lt}
+use Rattle.std.specs.Prelude.{nat_lt, Result, Ok, Err, OnOk, is_ok, if◌then◌else◌}
 use Rattle.std.specs.List.{AllZip}
 use Rattle.std.proofs.lemmas.Bool.Decides.{nat_tests}
 use Rattle.std.proofs.lemmas.List.{take_more, take_all, map-append, length-map, length-take-le}
@@ -67,10 +67,24 @@ list_closed name ds = append_assoc (codes "{" ++ quoted name) (codes ":[" ++ ite
 quoted_plain : (s rest : List ℕ) → escape s ≡ s → quoted s ++ rest ≡ 34 ∷ (s ++ 34 ∷ rest)
 quoted_plain s rest plain = ap (λ t. 34 ∷ t) (append_assoc (escape s) (34 ∷ []) rest ∙ ap (λ t. t ++ 34 ∷ rest) plain)
 
--- seven pieces, one behind the other
-pub pieces : (o a b c d e f g o1 o2 o3 o4 o5 o6 o7 : List ℕ) → o1 ≡ o ++ a → o2 ≡ o1 ++ b → o3 ≡ o2 ++ c → o4 ≡ o3 ++ d → o5 ≡ o4 ++ e → o6 ≡ o5 ++ f → o7 ≡ o6 ++ g
-    → o7 ≡ o ++ (a ++ (b ++ (c ++ (d ++ (e ++ (f ++ g))))))
-pieces o a b c d e f g o1 o2 o3 o4 o5 o6 o7 e1 e2 e3 e4 e5 e6 e7 = rw (e7, e6, e5, e4, e3, e2, e1) (simp append_assoc)
+-- where the last piece was written, it stands behind the others
+pub last_piece : {T E P : Type 0} (r : Result T E) (new grown same : List ℕ) → new ≡ (if is_ok r then grown else same) → (new ≡ grown → P) → OnOk r P
+last_piece (Ok t) new grown same is next = next is
+last_piece (Err e) new grown same is next = tt
+
+-- five pieces, one behind the other
+pub five_pieces : (o a b c d e o1 o2 o3 o4 o5 : List ℕ) → o1 ≡ o ++ a → o2 ≡ o1 ++ b → o3 ≡ o2 ++ c → o4 ≡ o3 ++ d → o5 ≡ o4 ++ e → o5 ≡ ((((o ++ a) ++ b) ++ c) ++ d) ++ e
+five_pieces o a b c d e o1 o2 o3 o4 o5 e1 e2 e3 e4 e5 = rw (e5, e4, e3, e2, e1) refl
+
+-- the pieces of a finding, one behind the other
+pub finding_pieces : (o a b c d e f g o1 o2 o3 o4 o5 o6 : List ℕ) → o1 ≡ (o ++ a) ++ b → o2 ≡ o1 ++ c → o3 ≡ o2 ++ d → o4 ≡ o3 ++ e → o5 ≡ o4 ++ f → o6 ≡ o5 ++ g
+    → o6 ≡ o ++ (a ++ (b ++ (c ++ (d ++ (e ++ (f ++ g))))))
+finding_pieces o a b c d e f g o1 o2 o3 o4 o5 o6 e1 e2 e3 e4 e5 e6 = rw (e6, e5, e4, e3, e2, e1) (simp append_assoc)
+
+-- those of a deposit
+pub listed_pieces : (o a b c d e f g o1 o2 o3 o4 o5 : List ℕ) → o1 ≡ (o ++ a) ++ b → o2 ≡ (o1 ++ c) ++ d → o3 ≡ o2 ++ e → o4 ≡ o3 ++ f → o5 ≡ o4 ++ g
+    → o5 ≡ o ++ (a ++ (b ++ (c ++ (d ++ (e ++ (f ++ g))))))
+listed_pieces o a b c d e f g o1 o2 o3 o4 o5 e1 e2 e3 e4 e5 = rw (e5, e4, e3, e2, e1) (simp append_assoc)
 
 -- the text of a deposit
 pub listed_text : (day : List ℕ) (l : Listed) → escape day ≡ day → escape l.firm ≡ l.firm

@@ -29,6 +29,7 @@ use Rattle.reg_desk.specs.declared.answer.Answer.{Answer}
 use Rattle.reg_http.specs.declared.serve.Served.{Served}
 use Rattle.reg_http.specs.declared.serve.IoFault.{IoFault}
 use Rattle.reg_http.specs.declared.serve.IoFault.TheVariants as fault
+use Rattle.reg_http.specs.declared.body.BodyFault.TheVariants as ended
 
 -- nothing was written
 Appends-none : (u : Option (List ℕ)) → Appends u u []
@@ -224,6 +225,15 @@ untold_read answers a day body request d e u w (Err fault.Write) long is way ok 
     let whole = take_all a.length body (omega arith) in
     (body, inl (omega arith, subst P (is ∙ ap (λ t. asked_of a t day) (sym whole)) way))
 untold_read answers a day body request d e u w (Err fault.Read) long is way ok = (body, tt)
+
+-- the body ended early, and that was written
+pub short_asked : {D : Type 0} (answers : D → Asked → Answer → D → Type 0) (left : Option (List ℕ)) (early : List ℕ) (a : Asking) (day : ℤ) (d : D) (u w : Option (List ℕ)) (result : Result Served IoFault)
+    → IfSome left (λ rest. ReadsBody (early ++ rest) a.length (Err ended.Short)) → Written u w (rendered ShortBody) (status_of ShortBody) result
+    → IfSome left (λ rest. ServesAsked answers a day (early ++ rest) d d u w result)
+short_asked answers None early a day d u w result short written = tt
+short_asked answers (Some rest) early a day d u w (Ok s) short written = inr (inl (short, refl, written))
+short_asked answers (Some rest) early a day d u w (Err fault.Write) short written = inr (inl (short, refl, written))
+short_asked answers (Some rest) early a day d u w (Err fault.Read) short written = tt
 
 -- the reply to an answer was written
 pub serve_reply : (answer : Answer) (text given : List ℕ) (status : ℕ) (u w : Option (List ℕ)) (r : Result Served IoFault) → IsRendered answer text → given ≡ text

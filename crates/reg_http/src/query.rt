@@ -1,11 +1,12 @@
 //! The parameters of a request.
-ghost use Rattle.std.specs.Prelude.{◌≡◌, ◌<◌, [], ◌∷◌, Ok, IfOk, IfSome, MatchOption, codes, length, true, false};
+ghost use Rattle.std.specs.Prelude.{◌≡◌, ◌<◌, [], ◌∷◌, Ok, Err, IfOk, IfErr, IfSome, OnOk, MatchOption, codes, length, true, false, if◌then◌else◌};
 ghost use Rattle.std.specs.List.{list_all};
+ghost use Rattle.std.specs.Str.{bytes_eq};
 ghost use Rattle.std.specs.Cow.{cow_str_bytes};
 ghost use Rattle.form_urlencoded.specs.Form.{raw_pairs, split};
 ghost use Rattle.ags_rows.specs.Bytes.{comma};
 ghost use Rattle.ags_rows.specs.Names.{is_group_name};
-ghost use Rattle.reg_http.specs.Agree.{Agrees, and_then};
+ghost use Rattle.reg_http.specs.Agree.{Agrees, and_then, is_want_of_memory};
 ghost use Rattle.reg_desk.specs.Asked.{names_in};
 ghost use Rattle.reg_http.specs.Numbers.{deposit_number};
 ghost use Rattle.reg_http.specs.Queries.{embargo_in, extract_in, groups_in, no_pairs, project_in, sought_in, decoded, value_of};
@@ -41,6 +42,23 @@ fn decoded<'b>(alloc: Global, encoded: &'b [u8]) -> Result<CowStr<'b>, Refusal>
     }
 }
 
+/// The value of a parameter, if it is the one of this name.
+fn value_in<'b>(
+    alloc: Global,
+    key: &[u8],
+    value: &'b [u8],
+    name: &str,
+) -> Result<CowStr<'b>, Refusal>
+    ensures { Agrees cow_str_bytes (if bytes_eq (decoded key.now) name.now then Ok (decoded value.now)
+        else Err Refusal.BadParameter) result }
+{
+    let key = decoded(alloc, key)?;
+    if key.as_bytes() != name.as_bytes() {
+        return Err(Refusal::BadParameter);
+    }
+    decoded(alloc, value)
+}
+
 /// The value of the parameter of this name, if it is given. Any other parameter is refused, and a second one of this name.
 fn value_of<'b>(alloc: Global, query: &'b [u8], name: &str) -> Result<Option<CowStr<'b>>, Refusal>
     ensures { Agrees text_at (value_of name.now (raw_pairs query.now)) result }
@@ -52,11 +70,10 @@ fn value_of<'b>(alloc: Global, query: &'b [u8], name: &str) -> Result<Option<Cow
     if pairs.next().is_some() {
         return Err(Refusal::BadParameter);
     }
-    let key = decoded(alloc, key)?;
-    if key.as_bytes() != name.as_bytes() {
-        return Err(Refusal::BadParameter);
+    match value_in(alloc, key, value, name) {
+        Ok(value) => Ok(Some(value)),
+        Err(refusal) => Err(refusal),
     }
-    Ok(Some(decoded(alloc, value)?))
 }
 
 fn has_no_pairs(query: &[u8]) -> bool
@@ -127,6 +144,22 @@ fn are_group_names(groups: &[&[u8]]) -> bool
     true
 }
 
+/// Refuses a text that lists what is no group.
+fn check_groups(alloc: Global, text: &[u8]) -> Result<(), Refusal>
+    ensures fine { OnOk result (list_all is_group_name (groups_in text.now) ≡ true) }
+    ensures refused { IfErr result (λ refusal. is_want_of_memory refusal ≡ false
+        → (refusal ≡ Refusal.BadParameter) × (list_all is_group_name (groups_in text.now) ≡ false)) }
+{
+    let Ok(groups) = groups_of(alloc, text) else {
+        return Err(Refusal::OutOfMemory);
+    };
+    if are_group_names(&groups) {
+        Ok(())
+    } else {
+        Err(Refusal::BadParameter)
+    }
+}
+
 fn seeks_groups<'b>(
     alloc: Global,
     number: u32,
@@ -135,12 +168,7 @@ fn seeks_groups<'b>(
     ensures { Agrees sought_at (extract_in number (text_at text.entry)) result }
 {
     if let Some(text) = &text {
-        let Ok(groups) = groups_of(alloc, text.as_bytes()) else {
-            return Err(Refusal::OutOfMemory);
-        };
-        if !are_group_names(&groups) {
-            return Err(Refusal::BadParameter);
-        }
+        check_groups(alloc, text.as_bytes())?;
     }
     Ok(Seeks::Extract(number, text))
 }
@@ -160,8 +188,10 @@ fn seeks_embargo<'b>(day: Day, text: Option<CowStr<'b>>) -> Result<Seeks<'b>, Re
 fn seeks_deposit<'b>(alloc: Global, query: &'b [u8], day: Day) -> Result<Seeks<'b>, Refusal>
     ensures { Agrees sought_at (and_then (value_of (codes "embargo") (raw_pairs query.now)) (embargo_in day)) result }
 {
-    let text = value_of(alloc, query, "embargo")?;
-    seeks_embargo(day, text)
+    match value_of(alloc, query, "embargo") {
+        Ok(text) => seeks_embargo(day, text),
+        Err(refusal) => Err(refusal),
+    }
 }
 
 fn seeks_extract<'b>(alloc: Global, number: &str, query: &'b [u8]) -> Result<Seeks<'b>, Refusal>
@@ -169,8 +199,10 @@ fn seeks_extract<'b>(alloc: Global, number: &str, query: &'b [u8]) -> Result<See
         (λ n. and_then (value_of (codes "groups") (raw_pairs query.now)) (extract_in n))) result }
 {
     let number = deposit_number(number.as_bytes())?;
-    let text = value_of(alloc, query, "groups")?;
-    seeks_groups(alloc, number, text)
+    match value_of(alloc, query, "groups") {
+        Ok(text) => seeks_groups(alloc, number, text),
+        Err(refusal) => Err(refusal),
+    }
 }
 
 /// What the parameters of route and query ask.

@@ -1,5 +1,6 @@
 //! The text of a reply.
-ghost use Rattle.std.specs.Prelude.{◌≡◌, IfOk, string_bytes};
+ghost use Rattle.std.specs.Prelude.{◌≡◌, ◌++◌, IfOk, OnOk, codes, decimal, string_bytes};
+ghost use Rattle.reg_desk.specs.View.{line_end};
 ghost use Rattle.reg_http.specs.Replies.{phrase_of, reply_front, reply_text};
 
 use http::StatusCode;
@@ -15,6 +16,32 @@ fn phrase_of(status: StatusCode) -> &'static str
     }
 }
 
+/// Appends the status line.
+fn push_status(text: &mut String, status: StatusCode) -> Result<(), AllocError>
+    ensures { OnOk result (string_bytes text.new ≡ string_bytes text.old
+        ++ codes "HTTP/1.1 " ++ decimal status ++ codes " " ++ phrase_of status ++ line_end) }
+{
+    let code = status.as_u16();
+    text.push_str("HTTP/1.1 ")?;
+    write!(text, "{code}")?;
+    text.push_str(" ")?;
+    text.push_str(phrase_of(status))?;
+    text.push_str("\r\n")
+}
+
+/// Appends the fields, and the empty line behind them.
+fn push_fields(text: &mut String, kind: &str, length: usize) -> Result<(), AllocError>
+    ensures { OnOk result (string_bytes text.new ≡ string_bytes text.old
+        ++ codes "Content-Type: " ++ kind.now ++ codes "\r\nContent-Length: " ++ decimal length
+        ++ codes "\r\nConnection: close\r\n\r\n") }
+{
+    text.push_str("Content-Type: ")?;
+    text.push_str(kind)?;
+    text.push_str("\r\nContent-Length: ")?;
+    write!(text, "{length}")?;
+    text.push_str("\r\nConnection: close\r\n\r\n")
+}
+
 /// The reply up to its body.
 fn reply_front(
     alloc: Global,
@@ -24,21 +51,9 @@ fn reply_front(
 ) -> Result<String, AllocError>
     ensures { IfOk result (λ text. string_bytes text ≡ reply_front status kind.now length) }
 {
-    let code = status.as_u16();
-    let phrase = phrase_of(status);
     let mut text = String::new(alloc);
-    text.push_str("HTTP/1.1 ")?;
-    write!(text, "{code}")?;
-    text.push_str(" ")?;
-    text.push_str(phrase)?;
-    text.push_str("\r\n")?;
-    text.push_str("Content-Type: ")?;
-    text.push_str(kind)?;
-    text.push_str("\r\n")?;
-    text.push_str("Content-Length: ")?;
-    write!(text, "{length}")?;
-    text.push_str("\r\n")?;
-    text.push_str("Connection: close\r\n\r\n")?;
+    push_status(&mut text, status)?;
+    push_fields(&mut text, kind, length)?;
     Ok(text)
 }
 

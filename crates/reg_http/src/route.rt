@@ -2,7 +2,7 @@
 ghost use Rattle.std.specs.Prelude.{◌≡◌, IfOk, [], unwrap_or};
 ghost use Rattle.matchit.specs.Params.{walk, named, AllText};
 ghost use Rattle.reg_http.specs.Agree.{Agrees};
-ghost use Rattle.reg_http.specs.Routes.{page_in, has_body, kind_in, method_of, table};
+ghost use Rattle.reg_http.specs.Routes.{check_route, deposit_route, deposits_route, page_in, has_body, kind_in, method_of, table};
 ghost use Rattle.reg_http.specs.Views.{found_page};
 
 use crate::refusal::Refusal;
@@ -37,32 +37,44 @@ pub(crate) struct Page {
     pub(crate) get: Option<Kind>,
 }
 
+/// The page of the route for checks.
+fn check_page() -> Page
+    ensures { result ≡ check_route.value }
+{
+    Page {
+        post: Some(Kind::Check),
+        get: None,
+    }
+}
+
+/// The page of the route for the deposits of a project.
+fn deposits_page() -> Page
+    ensures { result ≡ deposits_route.value }
+{
+    Page {
+        post: Some(Kind::Deposit),
+        get: Some(Kind::List),
+    }
+}
+
+/// The page of the route for one deposit.
+fn deposit_page() -> Page
+    ensures { result ≡ deposit_route.value }
+{
+    Page {
+        post: None,
+        get: Some(Kind::Extract),
+    }
+}
+
 /// The router of the register: the table of routes, methods and kinds.
 fn router(alloc: Global) -> Result<Router<Page>, InsertError>
     ensures { IfOk result (λ routes. routes ≡ table) }
 {
     let mut routes = Router::new(alloc);
-    routes.insert(
-        "/v1/projects/{project}/check",
-        Page {
-            post: Some(Kind::Check),
-            get: None,
-        },
-    )?;
-    routes.insert(
-        "/v1/projects/{project}/deposits",
-        Page {
-            post: Some(Kind::Deposit),
-            get: Some(Kind::List),
-        },
-    )?;
-    routes.insert(
-        "/v1/projects/{project}/deposits/{number}",
-        Page {
-            post: None,
-            get: Some(Kind::Extract),
-        },
-    )?;
+    routes.insert("/v1/projects/{project}/check", check_page())?;
+    routes.insert("/v1/projects/{project}/deposits", deposits_page())?;
+    routes.insert("/v1/projects/{project}/deposits/{number}", deposit_page())?;
     Ok(routes)
 }
 
@@ -100,13 +112,11 @@ pub(crate) struct Found<'p> {
     pub(crate) number: &'p str,
 }
 
-/// The page of a path.
-pub(crate) fn find<'p>(alloc: Global, path: &'p str) -> Result<Found<'p>, Refusal>
+/// The page of a path, by the table.
+fn found_in<'p>(routes: &Router<Page>, path: &'p str) -> Result<Found<'p>, Refusal>
+    requires { routes.now ≡ table }
     ensures { Agrees found_page (page_in path.now) result }
 {
-    let Ok(routes) = router(alloc) else {
-        return Err(Refusal::OutOfMemory);
-    };
     match routes.at(path) {
         Ok(found) => Ok(Found {
             page: *found.value,
@@ -114,6 +124,16 @@ pub(crate) fn find<'p>(alloc: Global, path: &'p str) -> Result<Found<'p>, Refusa
             number: part(&found.params, "number"),
         }),
         Err(_) => Err(Refusal::NoRoute),
+    }
+}
+
+/// The page of a path.
+pub(crate) fn find<'p>(alloc: Global, path: &'p str) -> Result<Found<'p>, Refusal>
+    ensures { Agrees found_page (page_in path.now) result }
+{
+    match router(alloc) {
+        Ok(routes) => found_in(&routes, path),
+        Err(_) => Err(Refusal::OutOfMemory),
     }
 }
 

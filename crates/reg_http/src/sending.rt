@@ -69,18 +69,24 @@ fn write_comma(out: &mut Vec<u8>, place: usize) -> Result<(), AllocError>
     Ok(())
 }
 
+/// Writes a text, behind what stands before it.
+fn write_behind(out: &mut Vec<u8>, before: &[u8], text: &[u8]) -> Result<(), AllocError>
+    ensures { OnOk result (out.new.items ≡ out.old.items ++ before.now ++ text.now) }
+{
+    out.extend_from_slice(before)?;
+    out.extend_from_slice(text)
+}
+
 /// Writes a finding of a list.
 fn write_finding(out: &mut Vec<u8>, finding: FindingRef<'_>) -> Result<(), AllocError>
     ensures { OnOk result (out.new.items ≡ out.old.items ++ compact_text (finding_data (finding_of finding.entry))) }
 {
-    out.extend_from_slice(b"{\"code\":\"")?;
-    out.extend_from_slice(finding.code.text())?;
+    write_behind(out, b"{\"code\":\"", finding.code.text())?;
     out.extend_from_slice(b"\",\"line\":")?;
     write_number(out, finding.line)?;
     out.extend_from_slice(b",\"subject\":\"")?;
     write_subject(out, finding.subject)?;
-    out.extend_from_slice(b"\"}")?;
-    Ok(())
+    out.extend_from_slice(b"\"}")
 }
 
 /// The body that lists findings.
@@ -103,14 +109,11 @@ fn write_listed(out: &mut Vec<u8>, listed: &Listed) -> Result<(), AllocError>
 {
     let day = listed.embargo.text();
     let firm = listed.firm.text();
-    out.extend_from_slice(b"{\"embargo\":\"")?;
-    out.extend_from_slice(&day)?;
-    out.extend_from_slice(b"\",\"firm\":\"")?;
-    out.extend_from_slice(firm.as_bytes())?;
+    write_behind(out, b"{\"embargo\":\"", &day)?;
+    write_behind(out, b"\",\"firm\":\"", firm.as_bytes())?;
     out.extend_from_slice(b"\",\"number\":")?;
     write_number(out, listed.number)?;
-    out.extend_from_slice(b"}")?;
-    Ok(())
+    out.extend_from_slice(b"}")
 }
 
 /// The body of a listing.

@@ -1,38 +1,42 @@
 //! Bodies that are handed in: what they are refused for, and the check of one.
 
-ghost use Rattle.std.specs.Prelude.{◌≡◌, ◌≤◌, ℤ, [], false, length, IfOk, IfErr, OnOk};
+ghost use Rattle.std.specs.Prelude.{◌≡◌, ◌≤◌, ◌⊎◌, ℤ, List, [], false, length};
+ghost use Rattle.ags_rows.specs.declared.finding.Finding.{Finding};
 ghost use Rattle.ags_check.specs.Findings.{Findings as AreFindings};
 ghost use Rattle.reg_desk.specs.Asked.{check as asks_check};
 ghost use Rattle.reg_desk.specs.Serving.{IsRefusal, Serves};
 
 use crate::answer::Answer;
 use crate::serving::decide_request;
-use ags_check::{CheckError, Checked, check};
+use ags_check::{CheckError, check};
 use ags_dict::Dictionary;
 use ags_rows::LIMIT;
 use reg_policy::{Caller, Decision, Name, Policy, Verb};
 use reg_store::Keep;
 use std::alloc::Global;
 
-/// A body that is not too large and has no finding, or what is answered of it.
-pub(super) fn read_body<'a>(
-    alloc: Global,
-    dictionary: &Dictionary,
-    bytes: &'a [u8],
-) -> Result<Checked<'a>, Answer>
-    ensures short { OnOk result (length bytes.now ≤ LIMIT) }
-    ensures bytes { IfOk result (λ checked. checked.bytes ≡ bytes.now) }
-    ensures given { IfOk result (λ checked. checked.given ≡ dictionary.now) }
-    ensures clean { OnOk result (AreFindings dictionary.now bytes.now []) }
-    ensures refused { IfErr result (IsRefusal dictionary.now bytes.now) }
+/// The answer to a body that its check refuses.
+pub(super) fn refusal_of(error: CheckError) -> Answer
+    ensures findings { (found : List Finding) → error ≡ CheckError.Findings found → result ≡ Answer.Findings found }
+    ensures memory { error ≡ CheckError.NoMemory → result ≡ Answer.NoMemory }
+{
+    match error {
+        CheckError::Findings(found) => Answer::Findings(found),
+        CheckError::NoMemory => Answer::NoMemory,
+    }
+}
+
+/// What the check of a body is answered: Clean where it is not too large and has no finding.
+fn check_body(alloc: Global, dictionary: &Dictionary, bytes: &[u8]) -> Answer
+    ensures { IsRefusal dictionary.now bytes.now result
+        ⊎ ((result ≡ Answer.Clean) × (length bytes.now ≤ LIMIT) × AreFindings dictionary.now bytes.now []) }
 {
     if bytes.len() > LIMIT {
-        return Err(Answer::TooLarge);
+        return Answer::TooLarge;
     }
     match check(alloc, dictionary, bytes) {
-        Ok(checked) => Ok(checked),
-        Err(CheckError::Findings(found)) => Err(Answer::Findings(found)),
-        Err(CheckError::NoMemory) => Err(Answer::NoMemory),
+        Err(error) => refusal_of(error),
+        Ok(_checked) => Answer::Clean,
     }
 }
 
@@ -51,11 +55,7 @@ pub(super) fn serve_check<K: Keep>(
         (asks_check caller.now project.now bytes.now day) keep.old keep.new result }
 {
     match decide_request(policy, caller, project, Verb::Check) {
-        Decision::Deny(rule) => return Answer::Denied(rule),
-        Decision::Permit(_rule) => {}
-    }
-    match read_body(alloc, keep.dictionary(), bytes) {
-        Err(answer) => answer,
-        Ok(_checked) => Answer::Clean,
+        Decision::Deny(rule) => Answer::Denied(rule),
+        Decision::Permit(_rule) => check_body(alloc, keep.dictionary(), bytes),
     }
 }

@@ -1,31 +1,20 @@
 //! A deposit: taken once, with a receipt.
 
-ghost use Rattle.std.specs.Prelude.{◌≡◌, ◌≢◌, ◌≤◌, ℤ, Some, None, Err, IfOk, IfSome, false, length};
-ghost use Rattle.reg_store.specs.Deposit.{number_of};
+ghost use Rattle.std.specs.Prelude.{◌≡◌, ◌≢◌, ◌≤◌, ℕ, ℤ, List, Some, None, Err, IfOk, IfSome, false, length};
+ghost use Rattle.reg_policy.specs.declared.rule.Rule.{Rule};
 ghost use Rattle.reg_store.specs.Keep.{fails};
 ghost use Rattle.reg_desk.specs.Asked.{deposit as asks_deposit};
-ghost use Rattle.reg_desk.specs.Machine.{first_equal};
-ghost use Rattle.reg_desk.specs.Serving.{OnlyReads, Serves};
+ghost use Rattle.reg_desk.specs.Machine.{decided, first_equal};
+ghost use Rattle.reg_desk.specs.Serving.{OnlyReads, Serves, register_at};
 
 use crate::answer::Answer;
-use crate::serving::body::read_body;
+use crate::serving::body::refusal_of;
 use crate::serving::{decide_request, refused};
+use ags_check::{Checked, check};
 use ags_rows::LIMIT;
 use reg_policy::{Caller, Day, Decision, Name, Policy, Verb};
 use reg_store::{Keep, KeepError};
 use std::alloc::Global;
-
-/// The number of the deposit that is held already, if the keep knows it without asking its store. The body was checked when it came.
-fn recalled<K: Keep>(keep: &K, firm: &Name, project: &Name, bytes: &[u8]) -> Option<u32>
-    ensures short { IfSome result (λ _. length bytes.now ≤ LIMIT) }
-    ensures held { K.is_sound keep.now → K.has_failed keep.now ≡ false → IfSome result (λ n.
-        number_of firm.now project.now bytes.now (K.deposits keep.now) ≡ Some n) }
-{
-    if bytes.len() > LIMIT {
-        return None;
-    }
-    keep.recall(firm, project, bytes)
-}
 
 /// The number and the embargo of the deposit that is held already: the first that is equal in firm, project and bytes.
 #[tactic(auto, using(crate::proofs::Firsts::none_held))]
@@ -61,6 +50,81 @@ fn receipt(number: u32, held: Option<Day>, asked: Day) -> Answer
     }
 }
 
+/// What a deposit is answered that the policy permits and whose body has no finding.
+#[tactic(none)]
+fn serve_checked<K: Keep>(
+    keep: &mut K,
+    caller: &Caller,
+    project: &Name,
+    embargo: Day,
+    checked: &Checked<'_>,
+) -> Answer
+    requires working { K.has_failed keep.old ≡ false }
+    requires dictionary { checked.now.given ≡ K.dictionary keep.old }
+    requires short { length checked.now.bytes ≤ LIMIT }
+    ensures { (rules : List Rule) (number : ℕ) (day : ℤ)
+        → decided (register_at K.Keep rules keep.old) caller.now project.now Verb.Deposit ≡ Decision.Permit number
+        → Serves K.Keep rules (asks_deposit caller.now project.now embargo checked.now.bytes day) keep.old keep.new result }
+{
+    match held_already(keep, &caller.firm, project, checked.bytes()) {
+        Err(error) => refused(error),
+        Ok(Some((number, until))) => receipt(number, Some(until), embargo),
+        Ok(None) => match keep.add(&caller.firm, project, embargo, checked) {
+            Err(error) => refused(error),
+            Ok(number) => receipt(number, None, embargo),
+        },
+    }
+}
+
+/// What a deposit is answered that the policy permits, whose body is not too large and not known to be held.
+#[tactic(none)]
+fn serve_small<K: Keep>(
+    alloc: Global,
+    keep: &mut K,
+    caller: &Caller,
+    project: &Name,
+    embargo: Day,
+    bytes: &[u8],
+) -> Answer
+    requires working { K.has_failed keep.old ≡ false }
+    requires short { length bytes.now ≤ LIMIT }
+    ensures { (rules : List Rule) (number : ℕ) (day : ℤ)
+        → decided (register_at K.Keep rules keep.old) caller.now project.now Verb.Deposit ≡ Decision.Permit number
+        → Serves K.Keep rules (asks_deposit caller.now project.now embargo bytes.now day) keep.old keep.new result }
+{
+    match check(alloc, keep.dictionary(), bytes) {
+        Err(error) => refusal_of(error),
+        Ok(checked) => serve_checked(keep, caller, project, embargo, &checked),
+    }
+}
+
+/// What a deposit is answered that the policy permits. One that the keep recalls was checked when it came.
+#[tactic(none)]
+fn serve_permitted<K: Keep>(
+    alloc: Global,
+    keep: &mut K,
+    caller: &Caller,
+    project: &Name,
+    embargo: Day,
+    bytes: &[u8],
+) -> Answer
+    requires { K.has_failed keep.old ≡ false }
+    ensures { (rules : List Rule) (number : ℕ) (day : ℤ)
+        → decided (register_at K.Keep rules keep.old) caller.now project.now Verb.Deposit ≡ Decision.Permit number
+        → Serves K.Keep rules (asks_deposit caller.now project.now embargo bytes.now day) keep.old keep.new result }
+{
+    if bytes.len() > LIMIT {
+        return Answer::TooLarge;
+    }
+    match keep.recall(&caller.firm, project, bytes) {
+        None => serve_small(alloc, keep, caller, project, embargo, bytes),
+        Some(number) => match keep.head(number) {
+            Err(error) => refused(error),
+            Ok(head) => receipt(number, Some(head.embargo), embargo),
+        },
+    }
+}
+
 /// What a deposit is answered.
 #[tactic(none)]
 pub(super) fn serve_deposit<K: Keep>(
@@ -77,25 +141,7 @@ pub(super) fn serve_deposit<K: Keep>(
         (asks_deposit caller.now project.now embargo bytes.now day) keep.old keep.new result }
 {
     match decide_request(policy, caller, project, Verb::Deposit) {
-        Decision::Deny(rule) => return Answer::Denied(rule),
-        Decision::Permit(_rule) => {}
-    }
-    if let Some(number) = recalled(keep, &caller.firm, project, bytes) {
-        return match keep.head(number) {
-            Err(error) => refused(error),
-            Ok(head) => receipt(number, Some(head.embargo), embargo),
-        };
-    }
-    let checked = match read_body(alloc, keep.dictionary(), bytes) {
-        Err(answer) => return answer,
-        Ok(checked) => checked,
-    };
-    match held_already(keep, &caller.firm, project, bytes) {
-        Err(error) => refused(error),
-        Ok(Some((number, until))) => receipt(number, Some(until), embargo),
-        Ok(None) => match keep.add(&caller.firm, project, embargo, &checked) {
-            Err(error) => refused(error),
-            Ok(number) => receipt(number, None, embargo),
-        },
+        Decision::Deny(rule) => Answer::Denied(rule),
+        Decision::Permit(_rule) => serve_permitted(alloc, keep, caller, project, embargo, bytes),
     }
 }

@@ -4,7 +4,7 @@ ghost use Rattle.std.specs.Prelude.{◌≡◌, ◌≢◌, ◌-◌, ◌<◌, ◌�
 ghost use Rattle.ags_check.specs.Findings.{CheckedFile};
 ghost use Rattle.reg_store.specs.Deposit.{Deposit};
 ghost use Rattle.reg_store.specs.Fit.{IsFileOf};
-ghost use Rattle.reg_store.specs.Keep.{fails};
+ghost use Rattle.reg_store.specs.Keep.{OfDeposit, fails};
 ghost use Rattle.reg_desk.specs.Asked.{extract as asks_extract, names_in};
 ghost use Rattle.ags_check.specs.Findings.{file_of};
 ghost use Rattle.reg_desk.specs.Machine.{IsDrawnFrom, held};
@@ -57,6 +57,26 @@ pub(super) fn read_view<K: Keep>(
     Ok((rows, graph))
 }
 
+/// The text of the deposit's extract, if its row of PROJ is shown.
+fn draw_held<K: Keep>(
+    alloc: Global,
+    keep: &mut K,
+    looking: &Looking,
+    number: u32,
+    groups: &[&[u8]],
+) -> Result<Option<Vec<u8>>, KeepError>
+    requires working { K.has_failed keep.old ≡ false }
+    requires number { K.is_sound keep.old → (0 < number) × (number ≤ length (K.deposits keep.old)) }
+    ensures reads { OnlyReads K.Keep keep.old keep.new (fails result) }
+    ensures drawn { K.is_sound keep.new → IfOk result (λ text.
+        OfDeposit (K.dictionary keep.old) (K.deposits keep.old) number (λ file.
+        IsExtractOf (look_of looking.now) (file_of file) (names_in groups.now) (option_map (λ t. t.items) text))) }
+    ensures named { result ≢ Err KeepError.Full }
+{
+    let (rows, graph) = read_view(keep, number)?;
+    extract(alloc, looking, groups, &rows, &graph)
+}
+
 /// The text of the extract of a deposit of the project, if its row of PROJ is shown.
 fn draw<K: Keep>(
     alloc: Global,
@@ -82,9 +102,8 @@ fn draw<K: Keep>(
     if !is_same(&head.project, project) {
         return Ok(None);
     }
-    let (rows, graph) = read_view(keep, number)?;
     let looking = looking_at(policy, caller, &head, day);
-    extract(alloc, &looking, groups, &rows, &graph)
+    draw_held(alloc, keep, &looking, number, groups)
 }
 
 /// What an extract is answered.

@@ -2,7 +2,7 @@
 
 ghost use Rattle.std.specs.Prelude.{◌≡◌, ◌≢◌, ◌<◌, ◌≤◌, false, length, Some, Err, IfOk};
 ghost use Rattle.reg_store.specs.Keep.{fails};
-ghost use Rattle.reg_store.specs.Deposit.{Deposit};
+ghost use Rattle.reg_store.specs.Deposit.{Deposit, numbers_from};
 ghost use Rattle.reg_desk.specs.Alike.{AreAlikeBy};
 ghost use Rattle.reg_desk.specs.Asked.{listing as asks_listing};
 ghost use Rattle.reg_desk.specs.Machine.{IsListing, held};
@@ -169,6 +169,33 @@ fn listed<K: Keep>(
     }))
 }
 
+/// The lines of the deposits whose row of PROJ is shown, of these numbers, which are those of the project.
+fn lines_at<K: Keep>(
+    alloc: Global,
+    keep: &mut K,
+    lister: &Lister,
+    numbers: &[u32],
+) -> Result<Vec<Listed>, KeepError>
+    requires working { K.has_failed keep.old ≡ false }
+    requires numbers { K.is_sound keep.old
+        → numbers.now ≡ numbers_from 1 lister.now.project.now (K.deposits keep.old) }
+    requires alike { AreAlikeBy lister.now.policy.now lister.now.caller.now lister.now.project.now lister.now.alike }
+    ensures reads { OnlyReads K.Keep keep.old keep.new (fails result) }
+    ensures listed { K.is_sound keep.new → IfOk result (λ lines.
+        ∥ IsListing (register_at K.Keep lister.now.policy.now keep.old)
+        lister.now.caller.now lister.now.project.now lister.now.day 1 (K.deposits keep.old) lines.items ∥₁) }
+    ensures named { result ≢ Err KeepError.Full }
+{
+    let mut lines = Vec::new(alloc);
+    for number in numbers {
+        match listed(alloc, keep, lister, *number)? {
+            Some(line) => lines.push(line)?,
+            None => {}
+        }
+    }
+    Ok(lines)
+}
+
 /// The lines of the project's deposits whose row of PROJ is shown.
 fn lines_of<K: Keep>(
     alloc: Global,
@@ -195,14 +222,7 @@ fn lines_of<K: Keep>(
         day,
         alike: AlikeByStanding::of(policy, caller, project),
     };
-    let mut lines = Vec::new(alloc);
-    for number in &numbers {
-        match listed(alloc, keep, &lister, *number)? {
-            Some(line) => lines.push(line)?,
-            None => {}
-        }
-    }
-    Ok(lines)
+    lines_at(alloc, keep, &lister, &numbers)
 }
 
 /// What a list is answered.

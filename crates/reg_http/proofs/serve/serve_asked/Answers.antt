@@ -2,7 +2,7 @@ use Rattle.std.proofs.Common.{ap, ◌∙◌}
 use Rattle.reg_http.specs.Asks.{asked_of}
 use Rattle.reg_desk.specs.Desks.{AnsweredBy}
 use Rattle.reg_http.specs.Views.{asking_at}
-use Rattle.reg_http.proofs.ServeLemmas.{serve_read, untold_read}
+use Rattle.reg_http.proofs.ServeLemmas.{serve_read, short_asked, untold_read}
 use Rattle.reg_http.proofs.serve.serve_asked.Goals as goal
 
 pub returns-clause-served : goal.returns-clause-served
@@ -16,3 +16,8 @@ returns-clause-untold g c =
     let request = c.request_of-request.ensures ∙ ap (λ t. asked_of (asking_at c.args.ask.now) t c.args.day) c.deref.ensures.value in
     untold_read (AnsweredBy g.K.Keep) _ _ c.in-Ok.body.items _ c.args.desk.now c.serve_request.new.desk _ _ _
     c.in-Ok.ensures.fits request c.serve_request.ensures.served c.serve_request.ensures.no_read
+
+pub returns-in-Err-Short-clause-served : goal.returns-in-Err-Short-clause-served
+returns-in-Err-Short-clause-served g c =
+    let short = rw c.in-Err-Short.field-0-is at c.in-Err-Short.ensures.body in
+    short_asked (AnsweredBy g.K.Keep) _ _ (asking_at c.args.ask.now) c.args.day c.args.desk.now _ _ c.refuse.result short c.refuse.ensures.written

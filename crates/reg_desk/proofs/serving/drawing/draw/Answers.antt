@@ -6,9 +6,10 @@ use Rattle.reg_desk.specs.Asked.{names_in}
 use Rattle.ags_check.specs.Findings.{file_of}
 use Rattle.reg_desk.specs.Shown.{Look}
 use Rattle.reg_desk.specs.View.{IsExtractOf}
-use Rattle.reg_desk.specs.Serving.{register_at}
-use Rattle.reg_desk.proofs.Serves.{reads_once, reads_more}
-use Rattle.reg_desk.proofs.Drawing.{headed, viewed, reading_lives, reads_answered, view_drawn, other_drawn, unheld_drawn}
+use Rattle.reg_desk.specs.Serving.{look_on, register_at}
+use Rattle.reg_desk.proofs.Serves.{reads_once, reads_more, still_works}
+use Rattle.reg_desk.proofs.Drawing.{headed, head_drawn, other_drawn, unheld_drawn}
+use Rattle.reg_desk.proofs.Projects.{of_file_before, within_after}
 use Rattle.reg_desk.proofs.serving.drawing.draw.Goals as goal
 use Rattle.reg_desk.proofs.serving.drawing.draw.Goals.{then-number-eq0-via-then-number-eq0, then-number-eq0-via-else-number-eq0+then-number-count}
 
@@ -28,28 +29,29 @@ returns-then-not-is_same-clause-drawn g c = λ s.
     ∣ other_drawn (register_at g.K.Keep c.args.policy.now c.args.keep.now) (g.K.Keep.deposits c.args.keep.now) c.args.caller.now c.args.project.now c.args.number (names_in c.args.groups.now) c.args.day h.kept c.in_ok-head.head h.holds h.of_head
     (sym c.is_same.ensures ∙ c.if-not-is_same.true) ∣₁
 
+pub draw_held-requires-clause-working : goal.draw_held-requires-clause-working
+draw_held-requires-clause-working g c = still_works g.K.Keep c.args.keep.now c.head.new.self (reads_once g.K.Keep c.args.keep.now c.head.new.self _ c.in_ok-head.ensures.leaves)
+
+pub draw_held-requires-clause-number : goal.draw_held-requires-clause-number
+draw_held-requires-clause-number g c =
+    within_after g.K.Keep c.args.keep.now c.head.new.self c.args.number (reads_once g.K.Keep c.args.keep.now c.head.new.self _ c.in_ok-head.ensures.leaves)
+    (λ s0. (omega (arith, c.if-number-eq0.false), omega (arith, c.if-number-count.false, c.count.ensures s0 c.requires)))
+
 pub returns-clause-reads : goal.returns-clause-reads
 returns-clause-reads g c =
-    let first = reads_once g.K.Keep c.args.keep.now c.head.new.self _ c.in_ok-head.ensures.leaves in
-    let then = c.in_ok-rows.ensures.reads in
-    reads_answered g.K.Keep _ _ (fails c.extract.result) (reads_more g.K.Keep _ c.head.new.self _ _ first then)
-    (λ s.
-    let v = viewed g.K.Keep c.args.keep.now c.head.new.self c.read_view.new.keep c.args.number c.in_ok-head.head c.in_ok-rows.rows.items c.deref.result.now c.in_ok-rows.graph c.deref.ensures.value
-    (λ s0. (omega (arith, c.if-number-eq0.false), omega (arith, c.if-number-count.false, c.count.ensures s0 c.requires))) (λ s0. g.met.K.Keep.fit c.args.keep.now s0 c.requires)
-    first then c.in_ok-head.ensures.read c.in_ok-rows.ensures.seen s in
-    reading_lives (g.K.Keep.dictionary c.args.keep.now) v.kept c.deref.result.now c.in_ok-rows.graph c.extract.result v.fit v.view c.extract.ensures.broken)
+    reads_more g.K.Keep c.args.keep.now c.head.new.self c.draw_held.new.keep (fails c.draw_held.result) (reads_once g.K.Keep c.args.keep.now c.head.new.self _ c.in_ok-head.ensures.leaves) c.draw_held.ensures.reads
 
 pub returns-clause-drawn : goal.returns-clause-drawn
 returns-clause-drawn g c = λ s.
-    let first = reads_once g.K.Keep c.args.keep.now c.head.new.self _ c.in_ok-head.ensures.leaves in
-    let then = c.in_ok-rows.ensures.reads in
-    let v = viewed g.K.Keep c.args.keep.now c.head.new.self c.read_view.new.keep c.args.number c.in_ok-head.head c.in_ok-rows.rows.items c.deref.result.now c.in_ok-rows.graph c.deref.ensures.value
-    (λ s0. (omega (arith, c.if-number-eq0.false), omega (arith, c.if-number-count.false, c.count.ensures s0 c.requires))) (λ s0. g.met.K.Keep.fit c.args.keep.now s0 c.requires)
-    first then c.in_ok-head.ensures.read c.in_ok-rows.ensures.seen s in
-    let register = register_at g.K.Keep c.args.policy.now c.args.keep.now in
-    let state = g.K.Keep.deposits c.args.keep.now in
+    let K = g.K.Keep in
+    let keep = c.args.keep.now in
+    let first = reads_once K keep c.head.new.self _ c.in_ok-head.ensures.leaves in
+    let s1 = c.draw_held.ensures.reads.sound s in
+    let h = headed K keep c.head.new.self c.args.number c.in_ok-head.head (λ s0. (omega (arith, c.if-number-eq0.false), omega (arith, c.if-number-count.false, c.count.ensures s0 c.requires)))
+    (λ s0. g.met.K.Keep.fit keep s0 c.requires) first c.in_ok-head.ensures.read s1 in
     let groups = names_in c.args.groups.now in
-    IfOk-weaker c.extract.result _ _ (λ (text : Option (Vec ℕ Global)) drawn.
-    view_drawn register state c.args.caller.now c.args.project.now c.args.number groups c.args.day c.in_ok-head.head c.deref.result.now c.in_ok-rows.graph (option_map (λ (t : Vec ℕ Global). t.items) text) v
+    IfOk-weaker c.draw_held.result _ _ (λ (text : Option (Vec ℕ Global)) drawn.
+    head_drawn (register_at K c.args.policy.now keep) (K.deposits keep) c.args.caller.now c.args.project.now c.args.number groups c.args.day c.in_ok-head.head (option_map (λ (t : Vec ℕ Global). t.items) text) h
     (sym c.is_same.ensures ∙ c.if-not-is_same.false)
-    (λ file view. subst (λ (look : Look). IsExtractOf look (file_of file) groups (option_map (λ (t : Vec ℕ Global). t.items) text)) c.looking_at-looking.ensures (drawn file view))) c.extract.ensures.drawn
+    (of_file_before K keep c.head.new.self c.args.number (λ file. IsExtractOf (look_on c.args.policy.now c.args.caller.now c.in_ok-head.head c.args.day) (file_of file) groups (option_map (λ (t : Vec ℕ Global). t.items) text)) first s1
+    (λ d file at is. subst (λ (look : Look). IsExtractOf look (file_of file) groups (option_map (λ (t : Vec ℕ Global). t.items) text)) c.looking_at-looking.ensures (drawn d file at is)))) (c.draw_held.ensures.drawn s)

@@ -1,77 +1,14 @@
-use Rattle.std.proofs.Common.{◌≡◌, ◌∙◌, arith, vec_len, sym, ap, subst, refl, ◌+◌, ◌<◌, ◌≤◌, List, length, drop, get_or, Some, false, Vec, Global}
+use Rattle.std.proofs.Common.{◌≡◌, ◌∙◌, arith, vec_len, sym, ap, subst, refl, List, length, Vec, Global}
 use Rattle.std.proofs.lemmas.Bool.{eqb-true}
-use Rattle.std.proofs.lemmas.Result.{err_from_is_err_and}
-use Rattle.reg_store.specs.Deposit.{Deposit}
-use Rattle.reg_store.specs.Keep.{fails, is_store}
+use Rattle.std.proofs.lemmas.Result.{IfOk-weaker}
+use Rattle.reg_store.specs.Deposit.{Deposit, numbers_from}
+use Rattle.reg_store.specs.Keep.{fails}
 use Rattle.reg_desk.specs.declared.answer.Listed.{Listed}
-use Rattle.reg_desk.specs.Machine.{IsListing, Register, held}
-use Rattle.reg_desk.specs.Serving.{IsLineFor, OnlyReads, register_at}
+use Rattle.reg_desk.specs.Machine.{IsListing, Register}
+use Rattle.reg_desk.specs.Serving.{register_at}
 use Rattle.reg_desk.proofs.Serves.{reads_once, reads_more, still_works}
-use Rattle.reg_desk.proofs.Listings.{SoFar, put_line, lines_begin, lines_none, number_named, number_within, number_step, lines_whole, register_same}
+use Rattle.reg_desk.proofs.Listings.{lines_none, register_same}
 use Rattle.reg_desk.proofs.serving.listing.lines_of.Goals as goal
-use Rattle.reg_desk.proofs.serving.listing.lines_of.Goals.{in-Some+in_ok-push-in-Some, in-None}
-
-pub loop-number-init : goal.loop-number-init
-loop-number-init g c =
-    let items = c.deref-number-items.result.now in
-    let register = register_at g.K.Keep c.args.policy.now c.args.keep.now in
-    let state = g.K.Keep.deposits c.args.keep.now in
-    record {
-      reads = reads_once g.K.Keep c.args.keep.now c.numbers.new.self _ c.in_ok-numbers.ensures.leaves;
-      numbers = λ s. c.deref-number-items.ensures.value ∙ c.in_ok-numbers.ensures.numbers s;
-      so_far = λ s.
-          subst (λ (l : List Listed). ∥ SoFar register c.args.caller.now c.args.day (λ k. held k state) items items l ∥₁) (sym c.new-lines.ensures.items)
-          ∣ lines_begin register c.args.caller.now c.args.day (λ k. held k state) items ∣₁;
-    }
-
-pub listed-requires-clause-working : goal.listed-requires-clause-working
-listed-requires-clause-working g c = still_works g.K.Keep c.args.keep.now c.loop-number.keep c.loop-number.invariant.reads
-
-pub listed-requires-clause-number : goal.listed-requires-clause-number
-listed-requires-clause-number g c = λ s.
-    let items = c.deref-number-items.result.now in
-    let n = get_or items c.loop-number.number-index 0 in
-    subst (λ (l : List Deposit). (0 < n) × (n ≤ length l)) (sym (c.loop-number.invariant.reads.same s refl))
-    (number_within c.args.project.now (g.K.Keep.deposits c.args.keep.now) items c.loop-number.number-index (c.loop-number.invariant.numbers s) c.loop-number-test.true)
-
-pub listed-requires-clause-project : goal.listed-requires-clause-project
-listed-requires-clause-project g c = λ s d holds.
-    let reads = c.loop-number.invariant.reads in
-    let items = c.deref-number-items.result.now in
-    number_named c.args.project.now (g.K.Keep.deposits c.args.keep.now) items c.loop-number.number-index (c.loop-number.invariant.numbers s) c.loop-number-test.true d
-    (ap (held (get_or items c.loop-number.number-index 0)) (sym (reads.same s refl)) ∙ holds)
-
-pub returns-in_err-line-clause-reads : goal.returns-in_err-line-clause-reads
-returns-in_err-line-clause-reads g c =
-    let p = err_from_is_err_and c.from_residual-in_err-line.result c.from_residual-in_err-line.ensures.1 in
-    subst (OnlyReads g.K.Keep c.args.keep.now c.listed.new.keep) (sym (ap fails p.1 ∙ ap is_store p.2))
-    (reads_more g.K.Keep c.args.keep.now c.loop-number.keep c.listed.new.keep (is_store c.in_err-line.field-0.0) c.loop-number.invariant.reads c.in_err-line.ensures.reads)
-
-pub loop-number-preserved : goal.loop-number-preserved
-loop-number-preserved g c =
-    let items = c.deref-number-items.result.now in
-    let i = c.loop-number.number-index in
-    let n = get_or items i 0 in
-    let register = register_at g.K.Keep c.args.policy.now c.args.keep.now in
-    let state = g.K.Keep.deposits c.args.keep.now in
-    let was = c.loop-number.invariant in
-    record {
-      reads = reads_more g.K.Keep c.args.keep.now c.loop-number.keep c.listed.new.keep false was.reads c.in_ok-line.ensures.reads;
-      numbers = λ s. was.numbers (c.in_ok-line.ensures.reads.sound s);
-      so_far = λ s.
-          let s1 = c.in_ok-line.ensures.reads.sound s in
-          let seen : (d : Deposit) → held n state ≡ Some d → ∥ IsLineFor register c.args.caller.now c.args.day n d c.in_ok-line.field-0 ∥₁ = λ d holds.
-          subst (λ (r : Register). ∥ IsLineFor r c.args.caller.now c.args.day n d c.in_ok-line.field-0 ∥₁) (register_same g.K.Keep c.args.policy.now c.args.keep.now c.loop-number.keep false was.reads)
-          (c.in_ok-line.ensures.seen s d (ap (held n) (was.reads.same s1 refl) ∙ holds)) in
-          let same : put_line c.loop-number.lines.items c.in_ok-line.field-0 ≡ c.match-branch-3.lines.items =
-          elim c.match-branch-3.branch [
-            | in-Some+in_ok-push-in-Some w ↦ ap (put_line c.loop-number.lines.items) w.in-Some.is ∙ sym (ap (λ (v : Vec Listed Global). v.items) w.lines-is ∙ w.in_ok-push-in-Some.ensures.items)
-            | in-None w ↦ ap (put_line c.loop-number.lines.items) w.in-None.is ∙ sym (ap (λ (v : Vec Listed Global). v.items) w.lines-is)
-          ] in
-          subst (λ (l : List Listed). ∥ SoFar register c.args.caller.now c.args.day (λ k. held k state) items (drop (i + 1) items) l ∥₁) same
-          (number_step register c.args.caller.now c.args.day state items i c.loop-number.lines.items c.in_ok-line.field-0 c.loop-number-test.true
-          (number_within c.args.project.now state items i (was.numbers s1) c.loop-number-test.true) seen (was.so_far s1));
-    }
 
 pub returns-then-is_empty-clause-reads : goal.returns-then-is_empty-clause-reads
 returns-then-is_empty-clause-reads g c = reads_once g.K.Keep c.args.keep.now c.numbers.new.self _ c.in_ok-numbers.ensures.leaves
@@ -85,10 +22,25 @@ returns-then-is_empty-clause-listed g c = λ s.
     subst (λ (l : List Listed). ∥ IsListing register c.args.caller.now c.args.project.now c.args.day 1 (g.K.Keep.deposits c.args.keep.now) l ∥₁) (sym c.new.ensures.items)
     (lines_none register c.args.caller.now c.args.project.now c.args.day (g.K.Keep.deposits c.args.keep.now) numbers.items empty (c.in_ok-numbers.ensures.numbers s))
 
+pub lines_at-requires-clause-working : goal.lines_at-requires-clause-working
+lines_at-requires-clause-working g c = still_works g.K.Keep c.args.keep.now c.numbers.new.self (reads_once g.K.Keep c.args.keep.now c.numbers.new.self _ c.in_ok-numbers.ensures.leaves)
+
+pub lines_at-requires-clause-numbers : goal.lines_at-requires-clause-numbers
+lines_at-requires-clause-numbers g c = λ s.
+    let leaves = c.in_ok-numbers.ensures.leaves in
+    c.deref.ensures.value ∙ c.in_ok-numbers.ensures.numbers s ∙ ap (numbers_from 1 c.args.project.now) (sym (leaves.same s refl))
+
 pub returns-clause-reads : goal.returns-clause-reads
-returns-clause-reads g c = c.loop-number.invariant.reads
+returns-clause-reads g c =
+    reads_more g.K.Keep c.args.keep.now c.numbers.new.self c.lines_at.new.keep (fails c.lines_at.result) (reads_once g.K.Keep c.args.keep.now c.numbers.new.self _ c.in_ok-numbers.ensures.leaves) c.lines_at.ensures.reads
 
 pub returns-clause-listed : goal.returns-clause-listed
 returns-clause-listed g c = λ s.
-    lines_whole (register_at g.K.Keep c.args.policy.now c.args.keep.now) c.args.caller.now c.args.project.now c.args.day (g.K.Keep.deposits c.args.keep.now) c.deref-number-items.result.now c.loop-number.number-index c.loop-number.lines.items
-    c.loop-number-test.false (c.loop-number.invariant.numbers s) (c.loop-number.invariant.so_far s)
+    let K = g.K.Keep in
+    let keep = c.args.keep.now in
+    let mid = c.numbers.new.self in
+    let first = reads_once K keep mid _ c.in_ok-numbers.ensures.leaves in
+    let s1 = c.lines_at.ensures.reads.sound s in
+    IfOk-weaker c.lines_at.result _ _ (λ (lines : Vec Listed Global) is.
+    subst (λ (r : Register). ∥ IsListing r c.args.caller.now c.args.project.now c.args.day 1 (K.deposits keep) lines.items ∥₁) (register_same K c.args.policy.now keep mid _ first)
+    (subst (λ (l : List Deposit). ∥ IsListing (register_at K c.args.policy.now mid) c.args.caller.now c.args.project.now c.args.day 1 l lines.items ∥₁) (first.same s1 refl) is)) (c.lines_at.ensures.listed s)

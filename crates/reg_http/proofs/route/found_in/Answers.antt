@@ -1,0 +1,15 @@
+use Rattle.std.proofs.Common.{arith}
+use Rattle.matchit.specs.Router.{RouteOf}
+use Rattle.reg_http.specs.declared.route.Page.{Page}
+use Rattle.reg_http.proofs.RouteWalk.{found_is}
+use Rattle.reg_http.proofs.route.found_in.Goals as goal
+
+pub returns-in-Ok : goal.returns-in-Ok
+returns-in-Ok c =
+    let p = c.in-Ok.found.params in
+    let r : RouteOf Page = record { pattern = p.pattern.now; text = p.text.now; names = p.names.now; value = c.in-Ok.found.value.now } in
+    let e = c.in-Ok.ensures in
+    let project = rw e.path at c.part.ensures in
+    let number = rw e.path at c.part-in-Ok.ensures in
+    let found = rw c.requires at e.found in
+    found_is c.args.path.now r _ _ c.utf8.path (λ k. omega (arith, c.type_inv.path k)) found project number
