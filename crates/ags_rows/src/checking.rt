@@ -1,7 +1,8 @@
 //! What stands against the groups of a file.
 
-ghost use Rattle.std.specs.Prelude.{◌≢◌, ◌∷◌, [], length, OnOk, IfOk};
+ghost use Rattle.std.specs.Prelude.{◌≢◌, ◌∷◌, List, [], length, OnOk, IsErrOf};
 ghost use Rattle.ags_rows.specs.declared.code.Code.TheVariants.{Rule4, Rule19, Rule19a, P1, P2};
+ghost use Rattle.ags_rows.specs.declared.finding.Finding.{Finding};
 ghost use Rattle.ags_rows.specs.Names.{is_group_name, is_heading_name};
 ghost use Rattle.ags_rows.specs.Collecting.{OneOf, Among, Notes, Adds};
 ghost use Rattle.ags_rows.specs.Stands.{shape_rules, StandsInName, StandsInGroups};
@@ -9,9 +10,10 @@ ghost use Rattle.ags_rows.specs.Findings.{AreExactly};
 ghost use Rattle.ags_rows.specs.Parsing.{IsMet, MeetsAlso, met_rules};
 
 use crate::code::Code;
-use crate::finding::{FindingList, NotedFindings};
+use crate::finding::NotedFindings;
 use crate::names::{is_group_name, is_heading_name};
-use crate::rows::Group;
+use crate::rows::{Group, Row};
+use crate::scanning::{RowsError, none_noted};
 use std::alloc::{AllocError, Global};
 use std::collections::BTreeMap;
 
@@ -33,18 +35,35 @@ fn note_repeat<'g>(
     Ok(())
 }
 
-/// Notes rows of a group with another number of items than its HEADING row (Rule 4).
-fn note_widths(group: &Group, findings: &mut NotedFindings) -> Result<(), AllocError>
-    ensures { OnOk result (Adds (Among group.now.rows (λ place row.
-        Notes row.line Rule4 group.now.name (length row.cells ≢ length group.now.headings)))
+/// Notes a row with another number of items than the HEADING row (Rule 4).
+fn note_width(
+    line: u32,
+    items: usize,
+    width: usize,
+    name: &[u8],
+    findings: &mut NotedFindings,
+) -> Result<(), AllocError>
+    ensures { OnOk result (Adds (Notes line Rule4 name.now (items ≢ width)) findings.old findings.new) }
+{
+    if items != width {
+        findings.note(line, Code::Rule4, name)?;
+    }
+    Ok(())
+}
+
+/// Notes DATA rows with another number of items than the HEADING row (Rule 4).
+fn note_widths(
+    rows: &[Row],
+    width: usize,
+    name: &[u8],
+    findings: &mut NotedFindings,
+) -> Result<(), AllocError>
+    ensures { OnOk result (Adds (Among rows.now (λ place row.
+        Notes row.line Rule4 name.now (length row.cells ≢ width)))
         findings.old findings.new) }
 {
-    let width = group.headings.len();
-    let name = group.name.as_slice();
-    for row in group.rows.as_slice() {
-        if row.cells.len() != width {
-            findings.note(row.line, Code::Rule4, name)?;
-        }
+    for row in rows {
+        note_width(row.line, row.cells.len(), width, name, findings)?;
     }
     Ok(())
 }
@@ -61,13 +80,9 @@ fn note_shape(group: &Group, findings: &mut NotedFindings) -> Result<(), AllocEr
     if group.headings.is_empty() {
         findings.note(group.heading_line, Code::Rule4, name)?;
     }
-    if group.units.len() != width {
-        findings.note(group.unit_line, Code::Rule4, name)?;
-    }
-    if group.types.len() != width {
-        findings.note(group.type_line, Code::Rule4, name)?;
-    }
-    note_widths(group, findings)
+    note_width(group.unit_line, group.units.len(), width, name, findings)?;
+    note_width(group.type_line, group.types.len(), width, name, findings)?;
+    note_widths(group.rows.as_slice(), width, name, findings)
 }
 
 /// Notes a name that no group may have, and one that an earlier group has (Rule 19, P1).
@@ -159,11 +174,13 @@ fn note_groups(
     Ok(())
 }
 
-/// The findings of the third phase: each group.
-pub(crate) fn group_findings(alloc: Global, groups: &[Group]) -> Result<FindingList, AllocError>
-    ensures { IfOk result (λ found. AreExactly (StandsInGroups groups.now) found) }
+/// Nothing, or the findings of the third phase: each group.
+pub(crate) fn check_groups(alloc: Global, groups: &[Group]) -> Result<(), RowsError>
+    ensures none { OnOk result (AreExactly (StandsInGroups groups.now) []) }
+    ensures findings { (found : List Finding) → IsErrOf result (RowsError.Findings found)
+        → (found ≢ []) × AreExactly (StandsInGroups groups.now) found }
 {
     let mut findings = NotedFindings::new(alloc);
     note_groups(alloc, groups, &mut findings)?;
-    Ok(findings.in_order())
+    none_noted(findings)
 }

@@ -1,11 +1,11 @@
 //! The fields of a line.
+use crate::tests::push_text;
 use ags_rows::{Cell, cells};
 use std::alloc::{AllocError, Global};
-use std::fmt::Write;
 use std::test::Fail;
 
 /// A line, and its fields.
-const LINES: [(&[u8], &str); 11] = [
+static LINES: [(&[u8], &str); 11] = [
     (b"\"a\" , \"b\"", "a;b;"),
     (b"\"a\"b", "none"),
     (b"  \"a\"  ", "a;"),
@@ -23,8 +23,8 @@ const LINES: [(&[u8], &str); 11] = [
 fn joined(alloc: Global, fields: &[Cell]) -> Result<String, AllocError> {
     let mut text = String::new(alloc);
     for field in fields {
-        let field = String::from_utf8_lossy(alloc, field.as_slice())?;
-        write!(text, "{field};")?;
+        push_text(&mut text, field.as_slice())?;
+        text.push(';')?;
     }
     Ok(text)
 }

@@ -1,13 +1,13 @@
+use crate::tests::{Read, scan};
 use ags_rows::vectors::{FILE_A, FILE_B, FILE_C, MINI};
 use ags_rows::{
-    Cell, Descriptor, Group, READABLE, Row, Scan, Sequence, cells, quote, write_group, write_line,
-    write_row,
+    Cell, Descriptor, Group, Row, Scan, Sequence, cells, quote, write_group, write_line, write_row,
 };
 use std::alloc::{AllocError, Global};
 use std::test::Fail;
 
 /// The dictionary's groups: name, parent, and headings with status (`K` is KEY, `R` REQUIRED, `O` OTHER), each field as a row spells it.
-const DICTIONARY: [(&str, &str, &str); 10] = [
+static DICTIONARY: [(&str, &str, &str); 10] = [
     (
         r#""PROJ""#,
         r#""-""#,
@@ -104,28 +104,27 @@ fn push_headings(
     Ok(())
 }
 
-/// The DATA rows of the dictionary: of each group its own row, then one of each heading.
-fn dictionary_rows(alloc: Global) -> Result<Vec<Row<'static>>, AllocError> {
-    let mut rows = Vec::new(alloc);
+/// Appends the DATA rows of the dictionary: of each group its own row, then one of each heading.
+fn push_dictionary(rows: &mut Vec<Row<'static>>, alloc: Global) -> Result<(), AllocError> {
     for (group, parent, headings) in &DICTIONARY {
         let fields = [r#""GROUP""#, group, EMPTY, EMPTY, parent];
-        push_row(&mut rows, alloc, 0, &fields)?;
-        push_headings(&mut rows, alloc, group, headings)?;
+        push_row(rows, alloc, 0, &fields)?;
+        push_headings(rows, alloc, group, headings)?;
     }
-    Ok(rows)
+    Ok(())
 }
 
 /// A group's name, and the lines of its headings, units and types, without their descriptors.
 type Header = (&'static [u8], &'static str, &'static str, &'static str);
 
-const DICT: Header = (
+static DICT: Header = (
     b"DICT",
     r#""DICT_TYPE","DICT_GRP","DICT_HDNG","DICT_STAT","DICT_PGRP""#,
     r#""","","","","""#,
     r#""X","X","X","X","X""#,
 );
 
-const LOCA: Header = (b"LOCA", r#""LOCA_ID""#, EMPTY, r#""ID""#);
+static LOCA: Header = (b"LOCA", r#""LOCA_ID""#, EMPTY, r#""ID""#);
 
 /// Appends a group of this header and these rows.
 fn push_group(
@@ -148,27 +147,36 @@ fn push_group(
     )
 }
 
-/// Whether the dictionary is written as MINI.
-fn is_dictionary_written(alloc: Global) -> Result<bool, AllocError> {
-    let rows = dictionary_rows(alloc)?;
+/// Whether a group is written as this text.
+fn is_written(
+    alloc: Global,
+    header: &Header,
+    rows: &[Row],
+    want: &[u8],
+) -> Result<bool, AllocError> {
     let mut text = Vec::new(alloc);
-    push_group(&mut text, alloc, &DICT, rows.as_slice())?;
-    Ok(rows.len() == 48 && text.as_slice() == MINI)
+    push_group(&mut text, alloc, header, rows)?;
+    Ok(text.as_slice() == want)
 }
 
-/// Whether the last group of file A is written as it stands there.
-fn is_loca_written(alloc: Global) -> Result<bool, AllocError> {
+/// Whether the dictionary is written as this text.
+fn is_dictionary_written(alloc: Global, want: &[u8]) -> Result<bool, AllocError> {
+    let mut rows = Vec::new(alloc);
+    push_dictionary(&mut rows, alloc)?;
+    Ok(rows.len() == 48 && is_written(alloc, &DICT, rows.as_slice(), want)?)
+}
+
+/// Whether the last group of file A is written as this text.
+fn is_loca_written(alloc: Global, want: &[u8]) -> Result<bool, AllocError> {
     let mut rows = Vec::new(alloc);
     push_row(&mut rows, alloc, 30, &[r#""BH1""#])?;
-    let mut text = Vec::new(alloc);
-    push_group(&mut text, alloc, &LOCA, rows.as_slice())?;
-    Ok(text.as_slice() == &FILE_A[468..])
+    is_written(alloc, &LOCA, rows.as_slice(), want)
 }
 
 #[test]
 fn written_groups(rt: HostRuntime) -> Result<(), Fail> {
-    assert!(rt; is_dictionary_written(rt.alloc())?);
-    assert!(rt; is_loca_written(rt.alloc())?);
+    assert!(rt; is_dictionary_written(rt.alloc(), MINI)?);
+    assert!(rt; is_loca_written(rt.alloc(), &FILE_A[468..])?);
     Ok(())
 }
 
@@ -212,16 +220,12 @@ fn push_groups(text: &mut Vec<u8>, groups: &[Group]) -> Result<(), AllocError> {
     Ok(())
 }
 
-/// The groups of a file, written again.
-fn written_again(alloc: Global, bytes: &[u8]) -> Result<Vec<u8>, AllocError> {
-    let mut text = Vec::new(alloc);
-    if bytes.len() > READABLE {
-        return Ok(text);
+/// Appends the groups of a file, or nothing where it is not read.
+fn push_file(text: &mut Vec<u8>, alloc: Global, bytes: &[u8]) -> Result<(), AllocError> {
+    match scan(alloc, bytes, Read::Strictly) {
+        Ok(scan) => push_groups(text, scan.groups()),
+        Err(_error) => Ok(()),
     }
-    if let Ok(scan) = Scan::read(alloc, bytes) {
-        push_groups(&mut text, scan.groups())?;
-    }
-    Ok(text)
 }
 
 /// How many line ends bytes have.
@@ -236,7 +240,7 @@ fn line_count(bytes: &[u8]) -> usize {
 }
 
 /// A file, its length and its number of lines.
-const FILES: [(&[u8], usize, usize); 4] = [
+static FILES: [(&[u8], usize, usize); 4] = [
     (MINI, 2262, 52),
     (FILE_A, 543, 30),
     (FILE_B, 1048, 47),
@@ -250,7 +254,8 @@ fn is_written_again(
     length: usize,
     lines: usize,
 ) -> Result<bool, AllocError> {
-    let text = written_again(alloc, file)?;
+    let mut text = Vec::new(alloc);
+    push_file(&mut text, alloc, file)?;
     Ok(file.len() == length && line_count(file) == lines && text.as_slice() == file)
 }
 
@@ -278,24 +283,24 @@ fn push_fields(text: &mut Vec<u8>, alloc: Global, line: &[u8]) -> Result<(), All
     Ok(())
 }
 
-/// A field, a row and a line, written one behind the other.
-fn spelled_out(alloc: Global) -> Result<Vec<u8>, AllocError> {
-    let mut text = Vec::new(alloc);
-    quote(&mut text, b"a\"b")?;
-    push_fields(&mut text, alloc, b"\"a\" , \"b\"")?;
+/// Appends a field, a row and a line, one behind the other.
+fn push_spelled(text: &mut Vec<u8>, alloc: Global) -> Result<(), AllocError> {
+    quote(text, b"a\"b")?;
+    push_fields(text, alloc, b"\"a\" , \"b\"")?;
     write_line(
-        &mut text,
+        text,
         Descriptor::Group,
         cells_of(alloc, r#""LOCA""#)?.as_slice(),
-    )?;
-    Ok(text)
+    )
 }
 
 const SPELLED: &[u8] = b"\"a\"\"b\"\"DATA\",\"a\",\"b\"\r\n\"GROUP\",\"LOCA\"";
 
 #[test]
 fn spelled(rt: HostRuntime) -> Result<(), Fail> {
-    assert!(rt; spelled_out(rt.alloc())?.as_slice() == SPELLED);
+    let mut text = Vec::new(rt.alloc());
+    push_spelled(&mut text, rt.alloc())?;
+    assert!(rt; text.as_slice() == SPELLED);
     Ok(())
 }
 
@@ -335,13 +340,18 @@ fn is_group_or_nothing(alloc: Global, cells: Vec<Cell<'static>>) -> bool {
     }
 }
 
+/// Whether three cells are written, in a row and in a group, or nothing.
+fn are_cells_or_nothing(alloc: Global, cells: Vec<Cell<'static>>) -> bool {
+    cells.len() == 3
+        && is_row_or_nothing(alloc, cells.as_slice())
+        && is_group_or_nothing(alloc, cells)
+}
+
 /// Run with each allocation refused in turn by `conformance/refused_tests`.
 #[test]
 fn unchanged_on_want_of_memory(rt: HostRuntime) {
     assert!(rt; is_field_or_nothing(rt.alloc()));
     if let Ok(cells) = cells_of(rt.alloc(), BOREHOLE) {
-        assert!(rt; cells.len() == 3);
-        assert!(rt; is_row_or_nothing(rt.alloc(), cells.as_slice()));
-        assert!(rt; is_group_or_nothing(rt.alloc(), cells));
+        assert!(rt; are_cells_or_nothing(rt.alloc(), cells));
     }
 }

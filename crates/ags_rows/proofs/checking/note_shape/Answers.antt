@@ -1,11 +1,28 @@
-use Rattle.std.proofs.Common.{◌≡◌, ◌≢◌, ℕ, List, [], ◌∷◌, ◌++◌, length, sym, ap, ◌∙◌}
+use Rattle.std.proofs.Common.{◌≡◌, ◌≢◌, ℕ, List, [], ◌∷◌, ◌++◌, length, ap, subst, ◌∙◌}
 use Rattle.std.proofs.lemmas.Result.{IfOk-weaker}
 use Rattle.ags_rows.specs.declared.code.Code.TheVariants.{Rule2, Rule4}
-use Rattle.ags_rows.specs.Collecting.{Adds, Notes}
-use Rattle.ags_rows.proofs.Collecting.{found_at, adds_found, adds_clear, adds_unmet, five_rules}
+use Rattle.ags_rows.specs.declared.finding.Finding.{Finding}
+use Rattle.ags_rows.specs.declared.rows.Row.{Row}
+use Rattle.ags_rows.specs.Collecting.{Adds, Among, Notes}
+use Rattle.ags_rows.proofs.Collecting.{found_at, adds_found, adds_unmet, five_rules}
 use Rattle.ags_rows.proofs.Repeats.{empties, empty}
 use Rattle.ags_rows.proofs.checking.note_shape.Goals as goal
-use Rattle.ags_rows.proofs.checking.note_shape.Goals.{then-is_empty+in_ok-note, else-is_empty, then-is_empty-2+in_ok-note-2, else-is_empty-2, then-len-width+in_ok-note-3, else-len-width, then-len-width-2+in_ok-note-4, else-len-width-2}
+use Rattle.ags_rows.proofs.checking.note_shape.Goals.{then-is_empty+in_ok-note, else-is_empty, then-is_empty-2+in_ok-note-2, else-is_empty-2}
+
+-- a row, in other words
+same_width : (line : ℕ) (name other : List ℕ) (m n v w : ℕ) (old new : List Finding) → name ≡ other → m ≡ n → v ≡ w → Adds (Notes line Rule4 name (m ≢ v)) old new → Adds (Notes line Rule4 other (n ≢ w)) old new
+same_width line name other m n v w old new named items width h =
+    subst (λ (k : ℕ). Adds (Notes line Rule4 other (n ≢ k)) old new) width
+    (subst (λ (k : ℕ). Adds (Notes line Rule4 other (k ≢ v)) old new) items
+    (subst (λ (l : List ℕ). Adds (Notes line Rule4 l (m ≢ v)) old new) named h))
+
+-- rows, in other words
+same_widths : (rows others : List Row) (name other : List ℕ) (v w : ℕ) (old new : List Finding) → rows ≡ others → name ≡ other → v ≡ w
+    → Adds (Among rows (λ place row. Notes row.line Rule4 name (length row.cells ≢ v))) old new → Adds (Among others (λ place row. Notes row.line Rule4 other (length row.cells ≢ w))) old new
+same_widths rows others name other v w old new listed named width h =
+    subst (λ (k : ℕ). Adds (Among others (λ place row. Notes row.line Rule4 other (length row.cells ≢ k))) old new) width
+    (subst (λ (l : List ℕ). Adds (Among others (λ place row. Notes row.line Rule4 l (length row.cells ≢ v))) old new) named
+    (subst (λ (l : List Row). Adds (Among l (λ place row. Notes row.line Rule4 name (length row.cells ≢ v))) old new) listed h))
 
 pub returns : goal.returns
 returns c =
@@ -14,8 +31,9 @@ returns c =
     let old = c.args.findings.now in
     let one = c.if-is_empty.findings in
     let two = c.if-is_empty-2.findings in
-    let three = c.if-len-width.findings in
-    let four = c.if-len-width-2.findings in
+    let three = c.note_width.new.findings in
+    let four = c.note_width-2.new.findings in
+    let five = c.note_widths.new.findings in
     let bare : Adds (Notes group.line Rule2 group.name (group.rows ≡ [])) old one = elim c.if-is_empty.branch [
       | then-is_empty+in_ok-note w ↦ adds_found (empties group.rows _ c.is_empty.ensures w.if-is_empty.true) (w.findings-is ∙ w.in_ok-note.ensures.noted ∙ ap (λ (name : List ℕ). old ++ found_at group.line Rule2 name ∷ []) is)
       | else-is_empty w ↦ adds_unmet w.if-is_empty.false (λ e. empty group.rows _ c.is_empty.ensures e) w.findings-is
@@ -24,12 +42,7 @@ returns c =
       | then-is_empty-2+in_ok-note-2 w ↦ adds_found (empties group.headings _ c.is_empty-2.ensures w.if-is_empty-2.true) (w.findings-is ∙ w.in_ok-note-2.ensures.noted ∙ ap (λ (name : List ℕ). one ++ found_at group.heading_line Rule4 name ∷ []) is)
       | else-is_empty-2 w ↦ adds_unmet w.if-is_empty-2.false (λ e. empty group.headings _ c.is_empty-2.ensures e) w.findings-is
     ] in
-    let units : Adds (Notes group.unit_line Rule4 group.name (length group.units ≢ length group.headings)) two three = elim c.if-len-width.branch [
-      | then-len-width+in_ok-note-3 w ↦ adds_found (λ e. w.if-len-width.true (c.len.ensures ∙ e ∙ sym c.len-width.ensures)) (w.findings-is ∙ w.in_ok-note-3.ensures.noted ∙ ap (λ (name : List ℕ). two ++ found_at group.unit_line Rule4 name ∷ []) is)
-      | else-len-width w ↦ adds_clear (λ ne. ne (sym c.len.ensures ∙ w.if-len-width.false ∙ c.len-width.ensures)) w.findings-is
-    ] in
-    let types : Adds (Notes group.type_line Rule4 group.name (length group.types ≢ length group.headings)) three four = elim c.if-len-width-2.branch [
-      | then-len-width-2+in_ok-note-4 w ↦ adds_found (λ e. w.if-len-width-2.true (c.len-2.ensures ∙ e ∙ sym c.len-width.ensures)) (w.findings-is ∙ w.in_ok-note-4.ensures.noted ∙ ap (λ (name : List ℕ). three ++ found_at group.type_line Rule4 name ∷ []) is)
-      | else-len-width-2 w ↦ adds_clear (λ ne. ne (sym c.len-2.ensures ∙ w.if-len-width-2.false ∙ c.len-width.ensures)) w.findings-is
-    ] in
-    IfOk-weaker c.note_widths.result _ _ (λ _ rows. five_rules old one two three four c.note_widths.new.findings bare without units types rows) c.note_widths.ensures
+    let units = same_width group.unit_line _ group.name _ (length group.units) _ (length group.headings) two three is c.len.ensures c.len-width.ensures c.in_ok-note_width.ensures in
+    let types = same_width group.type_line _ group.name _ (length group.types) _ (length group.headings) three four is c.len-2.ensures c.len-width.ensures c.in_ok-note_width-2.ensures in
+    IfOk-weaker c.note_widths.result _ _ (λ _ rows. five_rules old one two three four five bare without units types
+    (same_widths _ group.rows _ group.name _ (length group.headings) four five c.as_slice.ensures is c.len-width.ensures rows)) c.note_widths.ensures

@@ -1,56 +1,38 @@
-use Rattle.std.proofs.Common.{◌≡◌, ◌≢◌, List, [], refl, subst, inl, inr}
-use Rattle.ags_rows.specs.declared.TheConstants.{READABLE}
+use Rattle.std.proofs.Common.{◌≡◌, List, [], refl, subst, inl, inr, Err, ap}
+use Rattle.std.proofs.lemmas.Result.{IfOk-weaker}
+use Rattle.ags_rows.specs.declared.scanning.RowsError.TheVariants as RowsError
 use Rattle.ags_rows.specs.declared.rows.FileRow.{FileRow}
 use Rattle.ags_rows.specs.declared.rows.Group.{Group}
-use Rattle.ags_rows.specs.declared.finding.Finding.{Finding}
-use Rattle.ags_rows.specs.Groups.{Groups}
-use Rattle.ags_rows.specs.Stands.{StandsInOrder, StandsInGroups}
-use Rattle.ags_rows.specs.Findings.{AreExactly, FirstFound, GroupsOrNone}
+use Rattle.ags_rows.specs.Stands.{StandsInOrder}
+use Rattle.ags_rows.specs.Findings.{AreExactly, FirstFound}
 use Rattle.ags_rows.specs.Parsing.{later_phases}
-use Rattle.ags_rows.proofs.Files.{is_nil, is_some}
 use Rattle.ags_rows.proofs.Collecting.{none_listed}
 use Rattle.ags_rows.proofs.Cuts.{none_clear}
 use Rattle.ags_rows.proofs.Once.{same_cutting}
-use Rattle.ags_rows.proofs.FewRows.{counted_within}
 use Rattle.ags_rows.proofs.scanning.read_groups.Goals as goal
 
-pub groups-requires : goal.groups-requires
-groups-requires c =
-    let lists = subst (λ (r : List FileRow). AreExactly (StandsInOrder r) c.in_ok-found.found) c.as_slice.ensures.value c.in_ok-found.ensures in
-    let clear = none_clear c.args.rows.items (none_listed c.in_ok-found.found lists (is_nil c.in_ok-found.found c.if-not-is_empty.ensures)) in
-    record { order = clear.0; named = clear.1 }
+pub clean_groups-requires : goal.clean_groups-requires
+clean_groups-requires c =
+    let lists = subst (λ (r : List FileRow). AreExactly (StandsInOrder r) []) c.as_slice.ensures.value c.in-Ok.ensures.none in
+    let clear = none_clear c.args.rows.items (none_listed [] lists refl) in
+    record { few = c.requires; order = clear.0; named = clear.1 }
 
-pub returns-then-not-is_empty-clause-findings : goal.returns-then-not-is_empty-clause-findings
-returns-then-not-is_empty-clause-findings c = λ found is.
-    let same : c.in_ok-found.found ≡ found = cc in
-    let lists = subst (λ (r : List FileRow). AreExactly (StandsInOrder r) c.in_ok-found.found) c.as_slice.ensures.value c.in_ok-found.ensures in
-    let some = is_some c.in_ok-found.found c.if-not-is_empty.ensures in
-    subst (λ (l : List Finding). (l ≢ []) × ((groups : List Group) → GroupsOrNone c.args.rows.items groups → FirstFound (later_phases c.args.rows.items groups) l)) same (some, λ groups cut. inl (lists, some))
+pub returns-in-Ok-clause-groups : goal.returns-in-Ok-clause-groups
+returns-in-Ok-clause-groups c =
+    let lists = subst (λ (r : List FileRow). AreExactly (StandsInOrder r) []) c.as_slice.ensures.value c.in-Ok.ensures.none in
+    IfOk-weaker c.clean_groups.result _ _ (λ scan h. (h.0, inr (none_listed [] lists refl, inr (none_listed [] h.1 refl, refl)))) c.clean_groups.ensures.groups
 
-pub returns-then-not-is_empty-2-clause-findings : goal.returns-then-not-is_empty-2-clause-findings
-returns-then-not-is_empty-2-clause-findings c = λ found is.
-    let same : c.in_ok-found-2.found ≡ found = cc in
+pub returns-in-Ok-clause-findings : goal.returns-in-Ok-clause-findings
+returns-in-Ok-clause-findings c = λ found is.
     let rows = c.args.rows.items in
-    let held = c.from_vec-held.result in
-    let lists = subst (λ (r : List FileRow). AreExactly (StandsInOrder r) c.in_ok-found.found) c.as_slice.ensures.value c.in_ok-found.ensures in
-    let clear = none_listed c.in_ok-found.found lists (is_nil c.in_ok-found.found c.if-not-is_empty.ensures) in
-    let cut : Groups rows held = rw c.from_vec-held.ensures c.in_ok-groups.ensures in
-    let third = subst (λ (g : List Group). AreExactly (StandsInGroups g) c.in_ok-found-2.found) c.as_slice-2.ensures c.in_ok-found-2.ensures in
-    let some = is_some c.in_ok-found-2.found c.if-not-is_empty-2.ensures in
-    let first : FirstFound (later_phases rows held) c.in_ok-found-2.found = inr (clear, inl (third, some)) in
-    subst (λ (l : List Finding). (l ≢ []) × ((groups : List Group) → GroupsOrNone rows groups → FirstFound (later_phases rows groups) l)) same
-    (some, λ groups other. subst (λ (g : List Group). FirstFound (later_phases rows g) c.in_ok-found-2.found) (same_cutting rows held groups (inl cut) other) first)
+    let h = c.clean_groups.ensures.findings found is in
+    let lists = subst (λ (r : List FileRow). AreExactly (StandsInOrder r) []) c.as_slice.ensures.value c.in-Ok.ensures.none in
+    let first : FirstFound (later_phases rows h.1) found = inr (none_listed [] lists refl, inl (h.3, h.0)) in
+    (h.0, λ groups other. subst (λ (g : List Group). FirstFound (later_phases rows g) found) (same_cutting rows h.1 groups (inl h.2) other) first)
 
-pub returns-clause-groups : goal.returns-clause-groups
-returns-clause-groups c =
-    let held = c.from_vec-held.result in
-    let lists = subst (λ (r : List FileRow). AreExactly (StandsInOrder r) c.in_ok-found.found) c.as_slice.ensures.value c.in_ok-found.ensures in
-    let clear = none_listed c.in_ok-found.found lists (is_nil c.in_ok-found.found c.if-not-is_empty.ensures) in
-    let cut : Groups c.args.rows.items held = rw c.from_vec-held.ensures c.in_ok-groups.ensures in
-    let third = subst (λ (g : List Group). AreExactly (StandsInGroups g) c.in_ok-found-2.found) c.as_slice-2.ensures c.in_ok-found-2.ensures in
-    (cut, inr (clear, inr (none_listed c.in_ok-found-2.found third (is_nil c.in_ok-found-2.found c.if-not-is_empty-2.ensures), refl)))
-
-pub invariant_of-result : goal.invariant_of-result
-invariant_of-result c =
-    let cut : Groups c.args.rows.items c.from_vec-held.result = rw c.from_vec-held.ensures c.in_ok-groups.ensures in
-    counted_within c.args.rows.items c.from_vec-held.result READABLE cut c.requires
+pub returns-clause-findings : goal.returns-clause-findings
+returns-clause-findings c = λ found is.
+    let same : c.in-Err.error ≡ RowsError.Findings found = cc in
+    let h = c.in-Err.ensures.findings found (ap (λ e. Err e) same) in
+    let lists = subst (λ (r : List FileRow). AreExactly (StandsInOrder r) found) c.as_slice.ensures.value h.1 in
+    (h.0, λ groups cut. inl (lists, h.0))

@@ -1,21 +1,25 @@
+use Rattle.std.proofs.Common.{◌≡◌, Err, ap}
 use Rattle.std.proofs.lemmas.Result.{IfOk-weaker}
+use Rattle.ags_rows.specs.declared.scanning.RowsError.TheVariants as RowsError
+use Rattle.ags_rows.specs.declared.TheConstants.{READABLE}
 use Rattle.ags_rows.specs.Stands.{StandsInSpelling}
-use Rattle.ags_rows.proofs.Files.{is_nil}
-use Rattle.ags_rows.proofs.Collecting.{none_listed}
-use Rattle.ags_rows.proofs.FirstPhase.{later_groups, later_found}
+use Rattle.ags_rows.proofs.FirstPhase.{few_rows, found_first, found_later, groups_later}
 use Rattle.ags_rows.proofs.scanning.Scan.read_loose.Goals as goal
 
-pub returns-clause-groups : goal.returns-clause-groups
-returns-clause-groups c =
-    let file = c.in_ok-rows.ensures.file in
-    let clear = none_listed c.in_ok-rows.found file.3 (is_nil c.in_ok-rows.found c.if-not-is_empty.ensures) in
-    IfOk-weaker c.read_groups.result _ _ (λ groups h.
-    let later = later_groups c.args.bytes.now (StandsInSpelling file.0.lines) file.0 _ groups file.1 file.2 clear h in
-    (file.0, file.1, later.0, later.1, later.2)) c.read_groups.ensures.groups
+pub read_groups-requires : goal.read_groups-requires
+read_groups-requires c = few_rows StandsInSpelling c.args.bytes.now c.in-Ok.rows.items _ READABLE c.in-Ok.ensures.rows c.requires
 
-pub returns-clause-findings : goal.returns-clause-findings
-returns-clause-findings c = λ found is.
-    let file = c.in_ok-rows.ensures.file in
-    let clear = none_listed c.in_ok-rows.found file.3 (is_nil c.in_ok-rows.found c.if-not-is_empty.ensures) in
+pub returns-in-Ok-clause-groups : goal.returns-in-Ok-clause-groups
+returns-in-Ok-clause-groups c =
+    IfOk-weaker c.read_groups.result _ _ (λ groups h. groups_later StandsInSpelling c.args.bytes.now c.in-Ok.rows.items groups c.in-Ok.ensures.rows h) c.read_groups.ensures.groups
+
+pub returns-in-Ok-clause-findings : goal.returns-in-Ok-clause-findings
+returns-in-Ok-clause-findings c = λ found is.
     let h = c.read_groups.ensures.findings found is in
-    ((file.0, file.1, later_found c.args.bytes.now (StandsInSpelling file.0.lines) file.0 _ found file.1 file.2 clear h.1), h.0)
+    (found_later StandsInSpelling c.args.bytes.now c.in-Ok.rows.items found c.in-Ok.ensures.rows h.1, h.0)
+
+pub returns-in-Err-clause-findings : goal.returns-in-Err-clause-findings
+returns-in-Err-clause-findings c = λ found is.
+    let same : c.in-Err.error ≡ RowsError.Findings found = cc in
+    let h = c.in-Err.ensures.findings found (ap (λ e. Err e) same) in
+    (found_first StandsInSpelling c.args.bytes.now h.1 found h.0 h.2, h.0)
