@@ -115,10 +115,8 @@ fn check_rows(alloc: Global, dictionary: &Dictionary, scan: &Scan) -> Result<Gra
     ensures clear { OnOk result (IsClear (entry_rules dictionary.now scan.now)) }
     ensures findings { HasFindings result (AreExactly (OneOf (entry_rules dictionary.now scan.now))) }
 {
-    match Index::build(alloc, scan, dictionary) {
-        Ok(index) => check_indexed(alloc, dictionary, scan, &index),
-        Err(_) => Err(CheckError::NoMemory),
-    }
+    let index = Index::build(alloc, scan, dictionary)?;
+    check_indexed(alloc, dictionary, scan, &index)
 }
 
 /// The steps between the rows, if the groups break nothing of the last two phases, or all findings of the first of them that has any.
@@ -152,16 +150,8 @@ pub fn check<'a>(
     ensures findings { HasFindings result (Findings dictionary.now bytes.now) }
 {
     // the groups are lent, so that few places hold what is proved of them
-    let scan = match read(alloc, bytes) {
-        Ok(scan) => scan,
-        Err(e) => return Err(e),
-    };
-    let extended = match dictionary.extend(alloc, &scan) {
-        Ok(extended) => extended,
-        Err(_) => return Err(CheckError::NoMemory),
-    };
-    match check_groups(alloc, dictionary, &extended, &scan) {
-        Ok(graph) => Ok(Checked::of(dictionary, bytes, scan, extended, graph)),
-        Err(e) => Err(e),
-    }
+    let scan = read(alloc, bytes)?;
+    let extended = dictionary.extend(alloc, &scan)?;
+    let graph = check_groups(alloc, dictionary, &extended, &scan)?;
+    Ok(Checked::of(dictionary, bytes, scan, extended, graph))
 }

@@ -1,14 +1,17 @@
 use Rattle.std.proofs.Common.{◌≡◌, Err, ap}
+use Rattle.std.proofs.lemmas.Result.{err_from_is_err_and}
 use Rattle.ags_check.specs.declared.checking.CheckError.TheVariants as CheckError
 use Rattle.ags_check.proofs.Whole.{groups_found, clean}
 use Rattle.ags_check.proofs.checking.check.Goals as goal
 
 pub of-requires : goal.of-requires
 of-requires c =
-    clean c.args.dictionary.now c.in-Ok-extend.extended c.args.bytes.now c.in-Ok.scan c.in-Ok-check_groups.graph c.in-Ok.ensures.groups c.in-Ok-extend.ensures c.in-Ok-check_groups.ensures.headers c.in-Ok-check_groups.ensures.rows c.in-Ok-check_groups.ensures.graph
+    clean c.args.dictionary.now c.in_ok-extended.extended c.args.bytes.now c.in_ok-scan.scan c.in_ok-graph.graph c.in_ok-scan.ensures.groups c.in_ok-extended.ensures c.in_ok-graph.ensures.headers c.in_ok-graph.ensures.rows c.in_ok-graph.ensures.graph
 
-pub returns-clause-findings : goal.returns-clause-findings
-returns-clause-findings c = λ found is.
-    let same : c.in-Err-check_groups.e ≡ CheckError.Findings found = cc in
-    let these = c.in-Err-check_groups.ensures.findings found (ap (λ e. Err e) same) in
-    (groups_found c.args.dictionary.now c.in-Ok-extend.extended c.args.bytes.now c.in-Ok.scan found c.in-Ok.ensures.groups c.in-Ok-extend.ensures these.0, these.1)
+pub returns-in_err-graph-clause-findings : goal.returns-in_err-graph-clause-findings
+returns-in_err-graph-clause-findings c = λ found is.
+    let p = err_from_is_err_and c.from_residual-in_err-graph.result c.from_residual-in_err-graph.ensures.1 in
+    let same : p.0 ≡ c.in_err-graph.field-0.0 = p.2 in
+    let of_callee : c.in_err-graph.field-0.0 ≡ CheckError.Findings found = cc in
+    let these = c.in_err-graph.ensures.findings found (ap (λ e. Err e) of_callee) in
+    (groups_found c.args.dictionary.now c.in_ok-extended.extended c.args.bytes.now c.in_ok-scan.scan found c.in_ok-scan.ensures.groups c.in_ok-extended.ensures these.0, these.1)
