@@ -1,9 +1,10 @@
 //! Reading a dictionary.
 
-ghost use Rattle.std.specs.Prelude.{◌≡◌, ◌≤◌, length};
+ghost use Rattle.std.specs.Prelude.{◌≡◌, ◌≤◌, ℕ, List, length};
 ghost use Rattle.std.specs.List.{list_any};
 ghost use Rattle.std.specs.Str.{bytes_eq};
 ghost use Rattle.ags_rows.specs.Contents.{group_contents, contents_of};
+ghost use Rattle.ags_rows.specs.Findings.{LooseGroups};
 ghost use Rattle.ags_dict.specs.declared.reading.DictError.TheVariants.{NoMemory};
 ghost use Rattle.ags_dict.specs.Entries.{has_dict, has_dict_headings, is_incomplete, lacks_heading};
 ghost use Rattle.ags_dict.specs.Reading.{ReadsDictionary};
@@ -85,25 +86,32 @@ fn lacks_heading(groups: &[Group]) -> bool
     groups.iter().any(|group| is_incomplete(group))
 }
 
+/// The dictionary that these groups are.
+fn of_groups(alloc: Global, groups: &[Group]) -> Result<Dictionary, DictError>
+    ensures { (bytes : List ℕ) → LooseGroups bytes groups.now → ReadsDictionary bytes result }
+{
+    if !has_dict(groups) {
+        return Err(DictError::NoDict);
+    }
+    if lacks_heading(groups) {
+        return Err(DictError::MissingHeading);
+    }
+    match take_contents(alloc, groups, Dictionary::empty(alloc)) {
+        Ok(dictionary) => Ok(dictionary),
+        Err(_) => Err(DictError::NoMemory),
+    }
+}
+
 impl Dictionary {
     /// The dictionary that a file is.
     pub fn read(alloc: Global, bytes: &[u8]) -> Result<Dictionary, DictError>
         requires { length bytes.now ≤ READABLE }
         ensures reads { ReadsDictionary bytes.now result }
     {
-        let scan = match Scan::read_loose(alloc, bytes) {
-            Ok(scan) => scan,
-            Err(RowsError::Findings(found)) => return Err(DictError::NotDictionary(found)),
-            Err(RowsError::NoMemory) => return Err(DictError::NoMemory),
-        };
-        let groups = scan.groups();
-        if !has_dict(groups) {
-            return Err(DictError::NoDict);
+        match Scan::read_loose(alloc, bytes) {
+            Ok(scan) => of_groups(alloc, scan.groups()),
+            Err(RowsError::Findings(found)) => Err(DictError::NotDictionary(found)),
+            Err(RowsError::NoMemory) => Err(DictError::NoMemory),
         }
-        if lacks_heading(groups) {
-            return Err(DictError::MissingHeading);
-        }
-        let none = Dictionary::empty(alloc);
-        Ok(take_contents(alloc, groups, none)?)
     }
 }
