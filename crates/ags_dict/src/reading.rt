@@ -51,14 +51,24 @@ impl From<AllocError> for DictError {
 pub fn has_dict(groups: &[Group]) -> bool
     ensures { result ≡ has_dict (contents_of groups.now) }
 {
-    groups.iter().any(|group| is_dict(group))
+    for group in groups {
+        if is_dict(group) {
+            return true;
+        }
+    }
+    false
 }
 
 /// Whether a HEADING row has a heading.
 fn has(headings: &[Cell], wanted: &[u8]) -> bool
     ensures { result ≡ list_any (λ h. bytes_eq h wanted.now) headings.now }
 {
-    headings.iter().any(|h| h.as_slice() == wanted)
+    for heading in headings {
+        if heading.as_slice() == wanted {
+            return true;
+        }
+    }
+    false
 }
 
 /// Whether a HEADING row has the headings that make entries.
@@ -83,7 +93,12 @@ fn is_incomplete(group: &Group) -> bool
 fn lacks_heading(groups: &[Group]) -> bool
     ensures { result ≡ lacks_heading (contents_of groups.now) }
 {
-    groups.iter().any(|group| is_incomplete(group))
+    for group in groups {
+        if is_incomplete(group) {
+            return true;
+        }
+    }
+    false
 }
 
 /// The dictionary that these groups are.
