@@ -64,15 +64,9 @@ fn note_data_row<'a>(
         findings.old findings.new) }
 {
     let name = outline.name();
-    if let Err(e) = note_entries(listed, outline, row, findings) {
-        return Err(e);
-    }
-    if let Err(e) = note_links(index, outline, row, number, findings) {
-        return Err(e);
-    }
-    if let Err(e) = note_lacking(outline, row, findings) {
-        return Err(e);
-    }
+    note_entries(listed, outline, row, findings)?;
+    note_links(index, outline, row, number, findings)?;
+    note_lacking(outline, row, findings)?;
     if outline.repeats_key(index, number)? {
         findings.note(row.line, Code::Rule10a, name)?;
     }

@@ -1,6 +1,7 @@
-use Rattle.std.proofs.Common.{◌≡◌, Err, ap}
+use Rattle.std.proofs.Common.{◌≡◌, Err, ap, subst, sym}
 use Rattle.std.proofs.lemmas.Result.{err_from_is_err_and}
 use Rattle.ags_check.specs.declared.checking.CheckError.TheVariants as CheckError
+use Rattle.ags_check.specs.Findings.{CheckedFile, IsClean}
 use Rattle.ags_check.proofs.Whole.{groups_found, clean}
 use Rattle.ags_check.proofs.checking.check.Goals as goal
 
@@ -15,3 +16,14 @@ returns-in_err-graph-clause-findings c = λ found is.
     let of_callee : c.in_err-graph.field-0.0 ≡ CheckError.Findings found = cc in
     let these = c.in_err-graph.ensures.findings found (ap (λ e. Err e) of_callee) in
     (groups_found c.args.dictionary.now c.in_ok-extended.extended c.args.bytes.now c.in_ok-scan.scan found c.in_ok-scan.ensures.groups c.in_ok-extended.ensures these.0, these.1)
+
+pub returns-clause-bytes : goal.returns-clause-bytes
+returns-clause-bytes c = ap (λ (f : CheckedFile). f.bytes) c.of.ensures
+
+pub returns-clause-given : goal.returns-clause-given
+returns-clause-given c = ap (λ (f : CheckedFile). f.given) c.of.ensures
+
+pub returns-clause-clean : goal.returns-clause-clean
+returns-clause-clean c =
+    subst IsClean (sym c.of.ensures)
+    (clean c.args.dictionary.now c.in_ok-extended.extended c.args.bytes.now c.in_ok-scan.scan c.in_ok-graph.graph c.in_ok-scan.ensures.groups c.in_ok-extended.ensures c.in_ok-graph.ensures.headers c.in_ok-graph.ensures.rows c.in_ok-graph.ensures.graph)

@@ -46,7 +46,7 @@ returns c =
     IfOk-weaker c.note_unlisted_file_set.result _ _ (λ _ set.
     row_noted file.entries file.contents group c.args.number row f0 f1 f2 f3 f4 f5 f6
     (subst (λ (l : List Contents). Adds (InSome group.headings (entry_rules_in l row.line (group_contents group) (fields_of row))) f0 f1) c.requires.listed
-    c.in_default.ensures)
-    c.in_default-note_links.ensures
-    (subst (λ (e : Entries). Adds (InSome (required_of e group.name) (λ heading. Notes row.line Rule10b heading (entry_of r heading ≡ []) ∷ [])) f2 f3) c.requires.entries c.in_default-note_lacking.ensures)
+    c.in_ok-note_entries.ensures)
+    c.in_ok-note_links.ensures
+    (subst (λ (e : Entries). Adds (InSome (required_of e group.name) (λ heading. Notes row.line Rule10b heading (entry_of r heading ≡ []) ∷ [])) f2 f3) c.requires.entries c.in_ok-note_lacking.ensures)
     key parent set) c.note_unlisted_file_set.ensures
