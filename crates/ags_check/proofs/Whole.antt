@@ -1,16 +1,19 @@
 -- From the findings of the phases to the findings of a file.
-use Rattle.std.proofs.Common.{◌≡◌, ◌≢◌, ℕ, List, [], ◌++◌, length, take, false, eqb, refl, subst, sym, ap, ◌∙◌, inl, inr}
+use Rattle.std.proofs.Common.{◌≡◌, ◌≢◌, ℕ, List, [], ◌++◌, length, take, false, eqb, refl, subst, sym, ap, ◌∙◌, inl, inr, Result, Ok}
+use Rattle.std.specs.Prelude.{IfOk, OnOk}
 use Rattle.std.proofs.Math.Seq.{take-append_seam}
+use Rattle.std.proofs.lemmas.Result.{on_ok_weaker}
 use Rattle.std.proofs.lemmas.Bool.{eqb-false}
 use Rattle.ags_rows.specs.declared.finding.Finding.{Finding}
 use Rattle.ags_rows.specs.declared.rows.Group.{Group}
 use Rattle.ags_rows.specs.Contents.{Contents, contents_of}
 use Rattle.ags_rows.specs.Findings.{FileParts, phases, AreExactly, FirstFound, FileGroups}
-use Rattle.ags_rows.proofs.Lemmas.{found_late, same_file, one_first_found}
+use Rattle.ags_rows.proofs.Lemmas.{found_late, none_listed, same_file, one_first_found}
 use Rattle.ags_dict.specs.declared.entries.GroupEntry.{GroupEntry}
 use Rattle.ags_dict.specs.declared.entries.HeadingEntry.{HeadingEntry}
 use Rattle.ags_dict.specs.Entries.{Entries, extended}
-use Rattle.ags_check.specs.Findings.{dictionary_phases, IsClear, Findings, CheckedFile, IsClean, first_entries}
+use Rattle.ags_check.specs.Findings.{dictionary_phases, IsClear, Findings, HasFindings, CheckedFile, IsClean, first_entries}
+use Rattle.ags_check.specs.declared.checking.CheckError.{CheckError}
 use Rattle.ags_check.specs.HeaderPhase.{header_rules}
 use Rattle.ags_check.specs.RowPhase.{entry_rules}
 use Rattle.ags_links.specs.DataRows.{DataFile}
@@ -89,3 +92,18 @@ one_list given bytes found others h k =
     let all : FileParts → List (Finding → Type 0) = λ file. phases file ++ dictionary_phases given (extended given (contents_of file.groups)) file.groups in
     let same = same_file bytes k.0 h.0 k.1 h.1 in
     one_first_found (all h.0) found others h.2 (subst (λ (file : FileParts). FirstFound (all file) others) same k.2)
+
+-- ---- what one phase finds
+
+pub clear_where : {E : Type 0} (rules : List (Finding → Type 0)) (lists : Result (List Finding) E) → IfOk lists (AreExactly (OneOf rules)) → lists ≡ Ok [] → IsClear rules
+clear_where {E} rules lists are none = none_listed [] (subst (λ (l : Result (List Finding) E). IfOk l (AreExactly (OneOf rules))) none are) refl
+
+pub clear_phase : {E T F : Type 0} (rules : List (Finding → Type 0)) (lists : Result (List Finding) E) (checked : Result T F) → IfOk lists (AreExactly (OneOf rules)) → OnOk checked (lists ≡ Ok [])
+    → OnOk checked (IsClear rules)
+clear_phase rules lists checked are clear = on_ok_weaker checked (clear_where rules lists are) clear
+
+pub found_phase : {E T : Type 0} (rules : List (Finding → Type 0)) (lists : Result (List Finding) E) (checked : Result T CheckError) → IfOk lists (AreExactly (OneOf rules))
+    → HasFindings checked (λ found. lists ≡ Ok found) → HasFindings checked (AreExactly (OneOf rules))
+found_phase {E} rules lists checked are has = λ found is.
+    let these = has found is in
+    (subst (λ (l : Result (List Finding) E). IfOk l (AreExactly (OneOf rules))) these.0 are, these.1)

@@ -1,18 +1,17 @@
 //! Checking a file.
 
-ghost use Rattle.std.specs.Prelude.{◌≡◌, ◌≤◌, length, IfOk, OnOk};
+ghost use Rattle.std.specs.Prelude.{◌≡◌, ◌≤◌, [], length, Ok, IfOk, OnOk};
 ghost use Rattle.ags_rows.specs.Collecting.{OneOf};
 ghost use Rattle.ags_rows.specs.Contents.{contents_of};
-ghost use Rattle.ags_rows.specs.Findings.{AreExactly, RowFindings, FileGroups};
+ghost use Rattle.ags_rows.specs.Findings.{AreExactly, FirstFound, RowFindings, FileGroups};
 ghost use Rattle.ags_check.specs.declared.checking.CheckError.TheVariants.{NoMemory};
 ghost use Rattle.ags_links.specs.Steps.{IsGraphOf};
-ghost use Rattle.ags_check.specs.Findings.{IsClear, Findings, HasFindings, IsClean};
+ghost use Rattle.ags_check.specs.Findings.{IsClear, Findings, HasFindings, IsClean, dictionary_phases};
 ghost use Rattle.ags_check.specs.HeaderPhase.{header_rules};
 ghost use Rattle.ags_check.specs.RowPhase.{entry_rules};
 
 use crate::checked::Checked;
 use crate::header::header_findings;
-use crate::named_groups::NamedGroups;
 use crate::rows::entry_findings;
 use ags_dict::Dictionary;
 use ags_links::{Graph, Index};
@@ -62,6 +61,18 @@ fn read<'a>(alloc: Global, bytes: &'a [u8]) -> Result<Scan<'a>, CheckError>
     }
 }
 
+/// Whether a phase has no finding, or all its findings.
+fn phase(found: Result<FindingList, AllocError>) -> Result<(), CheckError>
+    ensures clear { OnOk result (found ≡ Ok []) }
+    ensures findings { HasFindings result (λ all. found ≡ Ok all) }
+{
+    match found {
+        Ok(found) if found.is_empty() => Ok(()),
+        Ok(found) => Err(CheckError::Findings(found)),
+        Err(_) => Err(CheckError::NoMemory),
+    }
+}
+
 /// Whether the groups break nothing of the fourth phase, or all its findings.
 fn check_headers(
     alloc: Global,
@@ -72,12 +83,7 @@ fn check_headers(
     ensures clear { OnOk result (IsClear (header_rules given.now extended.now scan.now)) }
     ensures findings { HasFindings result (AreExactly (OneOf (header_rules given.now extended.now scan.now))) }
 {
-    let file = NamedGroups::of(alloc, scan.groups())?;
-    let found = header_findings(alloc, given, extended, &file)?;
-    if !found.is_empty() {
-        return Err(CheckError::Findings(found));
-    }
-    Ok(())
+    phase(header_findings(alloc, given, extended, scan.groups()))
 }
 
 /// The steps between the rows of an index, if these break nothing of the fifth phase, or all its findings.
@@ -93,12 +99,13 @@ fn check_indexed(
     ensures clear { OnOk result (IsClear (entry_rules dictionary.now scan.now)) }
     ensures findings { HasFindings result (AreExactly (OneOf (entry_rules dictionary.now scan.now))) }
 {
-    let of_rows = entry_findings(alloc, dictionary, index, scan.groups())?;
-    if !of_rows.is_empty() {
-        return Err(CheckError::Findings(of_rows));
+    if let Err(e) = phase(entry_findings(alloc, dictionary, index, scan.groups())) {
+        return Err(e);
     }
-    let graph = Graph::of(alloc, index)?;
-    Ok(graph)
+    match Graph::of(alloc, index) {
+        Ok(graph) => Ok(graph),
+        Err(_) => Err(CheckError::NoMemory),
+    }
 }
 
 /// The steps between the rows, if these break nothing of the fifth phase, or all its findings. The index is lent, so that one place drops
@@ -110,6 +117,24 @@ fn check_rows(alloc: Global, dictionary: &Dictionary, scan: &Scan) -> Result<Gra
 {
     let index = Index::build(alloc, scan, dictionary)?;
     check_indexed(alloc, dictionary, scan, &index)
+}
+
+/// The steps between the rows, if the groups break nothing of the last two phases, or all findings of the first of them that has any.
+fn check_groups(
+    alloc: Global,
+    given: &Dictionary,
+    extended: &Dictionary,
+    scan: &Scan,
+) -> Result<Graph, CheckError>
+    ensures graph { IfOk result (IsGraphOf (record { contents = contents_of scan.now; entries = extended.now })) }
+    ensures headers { OnOk result (IsClear (header_rules given.now extended.now scan.now)) }
+    ensures rows { OnOk result (IsClear (entry_rules extended.now scan.now)) }
+    ensures findings { HasFindings result (FirstFound (dictionary_phases given.now extended.now scan.now)) }
+{
+    if let Err(e) = check_headers(alloc, given, extended, scan) {
+        return Err(e);
+    }
+    check_rows(alloc, extended, scan)
 }
 
 /// The file, if it breaks no rule under the dictionary, or all findings of the first phase that has any.
@@ -124,9 +149,9 @@ pub fn check<'a>(
     ensures clean { IfOk result IsClean }
     ensures findings { HasFindings result (Findings dictionary.now bytes.now) }
 {
+    // the groups are lent, so that few places hold what is proved of them
     let scan = read(alloc, bytes)?;
     let extended = dictionary.extend(alloc, &scan)?;
-    check_headers(alloc, dictionary, &extended, &scan)?;
-    let graph = check_rows(alloc, &extended, &scan)?;
+    let graph = check_groups(alloc, dictionary, &extended, &scan)?;
     Ok(Checked::of(dictionary, bytes, scan, extended, graph))
 }

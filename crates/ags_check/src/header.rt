@@ -24,6 +24,30 @@ use ags_dict::Dictionary;
 use ags_rows::{Code, FindingList, Group, NotedFindings, Places};
 use std::alloc::{AllocError, Global};
 
+/// What the HEADING row of a group breaks: these are its headings, where the dictionary knows the group.
+fn note_headings(
+    alloc: Global,
+    given: &Dictionary,
+    extended: &Dictionary,
+    code: Code,
+    group: &Group,
+    row: &Places,
+    findings: &mut NotedFindings,
+) -> Result<(), AllocError>
+    requires { row.now ≡ group.now.headings }
+    ensures { OnOk result (Adds (OneOf (heading_row_rules given.now extended.now code group.now))
+        findings.old findings.new) }
+{
+    let name = group.name.as_slice();
+    let line = group.heading_line;
+    let headings = row.names();
+    note_unknown(extended, name, headings, line, code, findings)?;
+    note_misplaced(extended, name, headings, line, findings)?;
+    note_absent_keys(alloc, extended, name, row, line, findings)?;
+    note_absent_required(alloc, extended, name, row, line, findings)?;
+    note_misnamed(given, extended, name, headings, line, findings)
+}
+
 /// What the HEADING row of a group breaks, where the dictionary knows the group.
 fn note_heading_row(
     alloc: Global,
@@ -36,15 +60,8 @@ fn note_heading_row(
     ensures { OnOk result (Adds (OneOf (heading_row_rules given.now extended.now code group.now))
         findings.old findings.new) }
 {
-    let name = group.name.as_slice();
-    let line = group.heading_line;
     let row = Places::of_cells(alloc, group.headings.as_slice())?;
-    let headings = row.names();
-    note_unknown(extended, name, headings, line, code, findings)?;
-    note_misplaced(extended, name, headings, line, findings)?;
-    note_absent_keys(alloc, extended, name, &row, line, findings)?;
-    note_absent_required(alloc, extended, name, &row, line, findings)?;
-    note_misnamed(given, extended, name, headings, line, findings)
+    note_headings(alloc, given, extended, code, group, &row, findings)
 }
 
 /// The same, where the dictionary has an entry for the group.
@@ -127,18 +144,45 @@ fn note_absent_groups(file: &NamedGroups, findings: &mut NotedFindings) -> Resul
     note_absent_group(file, Code::Rule17, b"TYPE", findings)
 }
 
+/// What the groups break, and what the file lacks.
+fn note_file(
+    alloc: Global,
+    given: &Dictionary,
+    extended: &Dictionary,
+    file: &NamedGroups,
+    findings: &mut NotedFindings,
+) -> Result<(), AllocError>
+    ensures { OnOk result (Adds (OneOf (header_rules given.now extended.now file.now)) findings.old findings.new) }
+{
+    let code = unknown_code(file.groups());
+    note_all_header_rows(alloc, given, extended, file, code, findings)?;
+    note_absent_groups(file, findings)
+}
+
+/// The same, of these groups.
+fn note_groups(
+    alloc: Global,
+    given: &Dictionary,
+    extended: &Dictionary,
+    groups: &[Group],
+    findings: &mut NotedFindings,
+) -> Result<(), AllocError>
+    ensures { OnOk result (Adds (OneOf (header_rules given.now extended.now groups.now)) findings.old findings.new) }
+{
+    let file = NamedGroups::of(alloc, groups)?;
+    note_file(alloc, given, extended, &file, findings)
+}
+
 /// The findings of the fourth phase, in order, each once.
 pub(crate) fn header_findings(
     alloc: Global,
     given: &Dictionary,
     extended: &Dictionary,
-    file: &NamedGroups,
+    groups: &[Group],
 ) -> Result<FindingList, AllocError>
-    ensures { IfOk result (AreExactly (OneOf (header_rules given.now extended.now file.now))) }
+    ensures { IfOk result (AreExactly (OneOf (header_rules given.now extended.now groups.now))) }
 {
     let mut findings = NotedFindings::new(alloc);
-    let code = unknown_code(file.groups());
-    note_all_header_rows(alloc, given, extended, file, code, &mut findings)?;
-    note_absent_groups(file, &mut findings)?;
+    note_groups(alloc, given, extended, groups, &mut findings)?;
     Ok(findings.in_order())
 }

@@ -122,6 +122,30 @@ fn note_group_entries<'a>(
     note_data_rows(index, listed, &outline, first, findings)
 }
 
+/// What the UNIT, TYPE and DATA rows of all groups break, where the file lists this.
+fn note_groups<'a>(
+    alloc: Global,
+    dictionary: &'a Dictionary,
+    index: &Index,
+    listed: &CodeLists<'a>,
+    groups: &'a [Group<'a>],
+    findings: &mut NotedFindings,
+) -> Result<(), AllocError>
+    requires contents { index.now.contents ≡ contents_of groups.now }
+    requires entries { dictionary.now ≡ index.now.entries }
+    requires listed { listed.now ≡ index.now.contents }
+    requires few { length (rows_in index.now) < 2 ^ 32 }
+    ensures { OnOk result (Adds (OneOf (entry_rules dictionary.now groups.now)) findings.old findings.new) }
+{
+    let mut first = 0;
+    for group in groups {
+        let size = group.rows.len();
+        note_group_entries(alloc, dictionary, index, listed, group, first, findings)?;
+        first += size as u32;
+    }
+    Ok(())
+}
+
 /// What the UNIT, TYPE and DATA rows of all groups break.
 fn note_all_entries<'a>(
     alloc: Global,
@@ -136,13 +160,7 @@ fn note_all_entries<'a>(
     ensures { OnOk result (Adds (OneOf (entry_rules dictionary.now groups.now)) findings.old findings.new) }
 {
     let listed = CodeLists::of(alloc, groups)?;
-    let mut first = 0;
-    for group in groups {
-        let size = group.rows.len();
-        note_group_entries(alloc, dictionary, index, &listed, group, first, findings)?;
-        first += size as u32;
-    }
-    Ok(())
+    note_groups(alloc, dictionary, index, &listed, groups, findings)
 }
 
 /// The findings of the fifth phase, in order, each once.

@@ -20,6 +20,18 @@ pub(crate) struct HeadingEntry {
     pub(crate) status: Bytes,
 }
 
+impl GroupEntry {
+    /// An entry of these texts, which it keeps.
+    pub(crate) fn of(alloc: Global, group: &[u8], parent: &[u8]) -> Result<GroupEntry, AllocError>
+        ensures { IfOk result (λ entry. entry ≡ record { group = group.now; parent = parent.now }) }
+    {
+        Ok(GroupEntry {
+            group: copy(alloc, group)?,
+            parent: copy(alloc, parent)?,
+        })
+    }
+}
+
 impl HeadingEntry {
     /// An entry of these texts, which it keeps.
     pub(crate) fn of(

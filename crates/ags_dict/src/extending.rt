@@ -8,7 +8,7 @@ use crate::dictionary::Dictionary;
 use crate::entries::{GroupEntry, HeadingEntry};
 use crate::groups::GroupEntries;
 use crate::headings::HeadingEntries;
-use ags_rows::{Cell, Group, Scan, copy, under};
+use ags_rows::{Cell, Group, Scan, under};
 use std::alloc::{AllocError, Global};
 
 /// The entries with the group entry of a row of DICT, if it makes a new one.
@@ -23,10 +23,9 @@ fn take_group_row(
     if under(headings, cells, b"DICT_TYPE") != b"GROUP".as_slice() {
         return Ok(entries);
     }
-    let entry = GroupEntry {
-        group: copy(alloc, under(headings, cells, b"DICT_GRP"))?,
-        parent: copy(alloc, under(headings, cells, b"DICT_PGRP"))?,
-    };
+    let group = under(headings, cells, b"DICT_GRP");
+    let parent = under(headings, cells, b"DICT_PGRP");
+    let entry = GroupEntry::of(alloc, group, parent)?;
     entries.with_unstated(alloc, entry)
 }
 

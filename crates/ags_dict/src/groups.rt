@@ -7,7 +7,6 @@ ghost use Rattle.ags_dict.specs.Index.{is_for};
 
 use crate::entries::GroupEntry;
 use crate::places::PlacesByText;
-use ags_rows::copy;
 use std::alloc::{AllocError, Global};
 use std::marker::Model;
 
@@ -96,9 +95,8 @@ impl GroupEntries {
     {
         let mut copied = GroupEntries::new(alloc);
         for entry in self.entries.iter() {
-            let group = copy(alloc, entry.group.as_slice())?;
-            let parent = copy(alloc, entry.parent.as_slice())?;
-            copied = copied.with(alloc, GroupEntry { group, parent })?;
+            let entry = GroupEntry::of(alloc, entry.group.as_slice(), entry.parent.as_slice())?;
+            copied = copied.with(alloc, entry)?;
         }
         Ok(copied)
     }

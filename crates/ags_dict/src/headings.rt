@@ -1,10 +1,12 @@
 //! The entries for headings of groups.
 
-ghost use Rattle.std.specs.Prelude.{◌≡◌, [], ◌∷◌, ◌++◌, IfOk, length, option_copied, slice_get, map, not, ◌&&◌};
+ghost use Rattle.std.specs.Prelude.{◌≡◌, ℕ, List, [], ◌∷◌, ◌++◌, IfOk, OnOk, length, option_copied, slice_get, map, not, ◌&&◌, Some, None, if◌then◌else◌};
+ghost use Rattle.std.specs.Option.{option_or};
+ghost use Rattle.std.specs.Str.{bytes_eq};
 ghost use Rattle.std.specs.List.{filter, find, list_any};
 ghost use Rattle.ags_rows.specs.Contents.{place_in};
 ghost use Rattle.ags_dict.specs.Entries.{same_heading, with_unstated};
-ghost use Rattle.ags_dict.specs.Index.{of_group, is_named, is_of_other, is_heading};
+ghost use Rattle.ags_dict.specs.Index.{places_at, rank_at, of_group, is_named, is_of_other, is_heading};
 
 use crate::entries::HeadingEntry;
 use crate::places::{PlacesByText, Ranks};
@@ -31,6 +33,29 @@ impl Model for HeadingEntries {
     ghost view = { λ h. h.entries.items };
 
     ghost invariant = { λ h. FindsHeadings h.entries.items h.by_group h.by_heading h.ranks };
+}
+
+/// Notes at which place an entry for a heading of a group stands.
+fn note_place(
+    alloc: Global,
+    group: &[u8],
+    heading: &[u8],
+    place: usize,
+    by_group: &mut PlacesByText,
+    by_heading: &mut PlacesByText,
+    ranks: &mut Ranks,
+) -> Result<(), AllocError>
+    ensures groups { OnOk result ((other : List ℕ) → places_at by_group.new other ≡ (if bytes_eq group.now other
+        then places_at by_group.old other ++ place ∷ [] else places_at by_group.old other)) }
+    ensures headings { OnOk result ((other : List ℕ) → places_at by_heading.new other ≡ (if bytes_eq heading.now other
+        then places_at by_heading.old other ++ place ∷ [] else places_at by_heading.old other)) }
+    ensures orders { OnOk result ((g h : List ℕ) → rank_at ranks.new g h ≡ option_or (rank_at ranks.old g h)
+        (if bytes_eq group.now g && bytes_eq heading.now h
+        then Some (length (places_at by_group.old group.now)) else None)) }
+{
+    ranks.note(alloc, group, heading, by_group.of(group).len())?;
+    by_group.note(alloc, group, place)?;
+    by_heading.note(alloc, heading, place)
 }
 
 impl HeadingEntries {
@@ -128,11 +153,15 @@ impl HeadingEntries {
             mut by_heading,
             mut ranks,
         } = self;
-        let group = entry.group.as_slice();
-        let heading = entry.heading.as_slice();
-        ranks.note(alloc, group, heading, by_group.of(group).len())?;
-        by_group.note(alloc, group, entries.len())?;
-        by_heading.note(alloc, heading, entries.len())?;
+        note_place(
+            alloc,
+            entry.group.as_slice(),
+            entry.heading.as_slice(),
+            entries.len(),
+            &mut by_group,
+            &mut by_heading,
+            &mut ranks,
+        )?;
         entries.push(entry)?;
         Ok(HeadingEntries {
             entries,

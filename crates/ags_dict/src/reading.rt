@@ -1,9 +1,10 @@
 //! Reading a dictionary.
 
-ghost use Rattle.std.specs.Prelude.{◌≡◌, ◌≤◌, length};
+ghost use Rattle.std.specs.Prelude.{◌≡◌, ◌≤◌, ℕ, List, length};
 ghost use Rattle.std.specs.List.{list_any};
 ghost use Rattle.std.specs.Str.{bytes_eq};
 ghost use Rattle.ags_rows.specs.Contents.{group_contents, contents_of};
+ghost use Rattle.ags_rows.specs.Findings.{LooseGroups};
 ghost use Rattle.ags_dict.specs.declared.reading.DictError.TheVariants.{NoMemory};
 ghost use Rattle.ags_dict.specs.Entries.{has_dict, has_dict_headings, is_incomplete, lacks_heading};
 ghost use Rattle.ags_dict.specs.Reading.{ReadsDictionary};
@@ -50,14 +51,24 @@ impl From<AllocError> for DictError {
 pub fn has_dict(groups: &[Group]) -> bool
     ensures { result ≡ has_dict (contents_of groups.now) }
 {
-    groups.iter().any(|group| is_dict(group))
+    for group in groups {
+        if is_dict(group) {
+            return true;
+        }
+    }
+    false
 }
 
 /// Whether a HEADING row has a heading.
 fn has(headings: &[Cell], wanted: &[u8]) -> bool
     ensures { result ≡ list_any (λ h. bytes_eq h wanted.now) headings.now }
 {
-    headings.iter().any(|h| h.as_slice() == wanted)
+    for heading in headings {
+        if heading.as_slice() == wanted {
+            return true;
+        }
+    }
+    false
 }
 
 /// Whether a HEADING row has the headings that make entries.
@@ -82,7 +93,28 @@ fn is_incomplete(group: &Group) -> bool
 fn lacks_heading(groups: &[Group]) -> bool
     ensures { result ≡ lacks_heading (contents_of groups.now) }
 {
-    groups.iter().any(|group| is_incomplete(group))
+    for group in groups {
+        if is_incomplete(group) {
+            return true;
+        }
+    }
+    false
+}
+
+/// The dictionary that these groups are.
+fn of_groups(alloc: Global, groups: &[Group]) -> Result<Dictionary, DictError>
+    ensures { (bytes : List ℕ) → LooseGroups bytes groups.now → ReadsDictionary bytes result }
+{
+    if !has_dict(groups) {
+        return Err(DictError::NoDict);
+    }
+    if lacks_heading(groups) {
+        return Err(DictError::MissingHeading);
+    }
+    match take_contents(alloc, groups, Dictionary::empty(alloc)) {
+        Ok(dictionary) => Ok(dictionary),
+        Err(_) => Err(DictError::NoMemory),
+    }
 }
 
 impl Dictionary {
@@ -91,19 +123,10 @@ impl Dictionary {
         requires { length bytes.now ≤ READABLE }
         ensures reads { ReadsDictionary bytes.now result }
     {
-        let scan = match Scan::read_loose(alloc, bytes) {
-            Ok(scan) => scan,
-            Err(RowsError::Findings(found)) => return Err(DictError::NotDictionary(found)),
-            Err(RowsError::NoMemory) => return Err(DictError::NoMemory),
-        };
-        let groups = scan.groups();
-        if !has_dict(groups) {
-            return Err(DictError::NoDict);
+        match Scan::read_loose(alloc, bytes) {
+            Ok(scan) => of_groups(alloc, scan.groups()),
+            Err(RowsError::Findings(found)) => Err(DictError::NotDictionary(found)),
+            Err(RowsError::NoMemory) => Err(DictError::NoMemory),
         }
-        if lacks_heading(groups) {
-            return Err(DictError::MissingHeading);
-        }
-        let none = Dictionary::empty(alloc);
-        Ok(take_contents(alloc, groups, none)?)
     }
 }

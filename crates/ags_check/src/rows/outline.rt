@@ -71,19 +71,20 @@ fn is_without_file(file_set: &[u8], has_file: bool) -> bool
 }
 
 impl<'a> Outline<'a> {
-    /// What is said of this group's rows.
-    pub(crate) fn of(
+    /// What is said of this group's rows, where its headings stand at these places.
+    fn placed(
         alloc: Global,
         dictionary: &'a Dictionary,
         group: &'a Group<'a>,
+        places: &Places<'a>,
     ) -> Result<Self, AllocError>
+        requires { places.now ≡ group.now.headings }
         ensures { IfOk result (λ outline. outline ≡ record { group = group.now; entries = dictionary.now }) }
     {
         let name = group.name.as_slice();
-        let places = Places::of_cells(alloc, group.headings.as_slice())?;
-        let own_columns = columns(alloc, group, &places, places.names())?;
-        let required_columns = required_columns(alloc, dictionary, group, &places)?;
         let has_keys = has_keys(alloc, dictionary, name)?;
+        let own_columns = columns(alloc, group, places, places.names())?;
+        let required_columns = required_columns(alloc, dictionary, group, places)?;
         Ok(Outline {
             group,
             dictionary,
@@ -94,6 +95,18 @@ impl<'a> Outline<'a> {
             has_parent: dictionary.parent(name).is_some(),
             is_data: !is_definition(name),
         })
+    }
+
+    /// What is said of this group's rows.
+    pub(crate) fn of(
+        alloc: Global,
+        dictionary: &'a Dictionary,
+        group: &'a Group<'a>,
+    ) -> Result<Self, AllocError>
+        ensures { IfOk result (λ outline. outline ≡ record { group = group.now; entries = dictionary.now }) }
+    {
+        let places = Places::of_cells(alloc, group.headings.as_slice())?;
+        Outline::placed(alloc, dictionary, group, &places)
     }
 
     /// The group's name.

@@ -1,31 +1,29 @@
 use Rattle.std.proofs.Common.{◌≡◌, Err, ap, subst, sym}
 use Rattle.std.proofs.lemmas.Result.{err_from_is_err_and}
 use Rattle.ags_check.specs.declared.checking.CheckError.TheVariants as CheckError
-use Rattle.ags_check.specs.Findings.{IsClean}
-use Rattle.ags_check.proofs.Whole.{headers_found, entries_found, clean}
+use Rattle.ags_check.specs.Findings.{CheckedFile, IsClean}
+use Rattle.ags_check.proofs.Whole.{groups_found, clean}
 use Rattle.ags_check.proofs.checking.check.Goals as goal
 
-pub returns-in_err-check_headers-clause-findings : goal.returns-in_err-check_headers-clause-findings
-returns-in_err-check_headers-clause-findings c = λ found is.
-    let p = err_from_is_err_and c.from_residual-in_err-check_headers.result c.from_residual-in_err-check_headers.ensures.1 in
-    let same : p.0 ≡ c.in_err-check_headers.field-0.0 = p.2 in
-    let of_callee : c.in_err-check_headers.field-0.0 ≡ CheckError.Findings found = cc in
-    let h = c.in_err-check_headers.ensures.findings found (ap (λ e. Err e) of_callee) in
-    (headers_found c.args.dictionary.now c.in_ok-extended.extended c.args.bytes.now c.in_ok-scan.scan found c.in_ok-scan.ensures.groups c.in_ok-extended.ensures h.0 h.1, h.1)
+pub of-requires : goal.of-requires
+of-requires c =
+    clean c.args.dictionary.now c.in_ok-extended.extended c.args.bytes.now c.in_ok-scan.scan c.in_ok-graph.graph c.in_ok-scan.ensures.groups c.in_ok-extended.ensures c.in_ok-graph.ensures.headers c.in_ok-graph.ensures.rows c.in_ok-graph.ensures.graph
 
 pub returns-in_err-graph-clause-findings : goal.returns-in_err-graph-clause-findings
 returns-in_err-graph-clause-findings c = λ found is.
     let p = err_from_is_err_and c.from_residual-in_err-graph.result c.from_residual-in_err-graph.ensures.1 in
     let same : p.0 ≡ c.in_err-graph.field-0.0 = p.2 in
     let of_callee : c.in_err-graph.field-0.0 ≡ CheckError.Findings found = cc in
-    let h = c.in_err-graph.ensures.findings found (ap (λ e. Err e) of_callee) in
-    (entries_found c.args.dictionary.now c.in_ok-extended.extended c.args.bytes.now c.in_ok-scan.scan found c.in_ok-scan.ensures.groups c.in_ok-extended.ensures c.in_ok-check_headers.ensures.clear h.0 h.1, h.1)
+    let these = c.in_err-graph.ensures.findings found (ap (λ e. Err e) of_callee) in
+    (groups_found c.args.dictionary.now c.in_ok-extended.extended c.args.bytes.now c.in_ok-scan.scan found c.in_ok-scan.ensures.groups c.in_ok-extended.ensures these.0, these.1)
 
-pub of-requires : goal.of-requires
-of-requires c =
-    clean c.args.dictionary.now c.in_ok-extended.extended c.args.bytes.now c.in_ok-scan.scan c.in_ok-graph.graph c.in_ok-scan.ensures.groups c.in_ok-extended.ensures c.in_ok-check_headers.ensures.clear c.in_ok-graph.ensures.clear c.in_ok-graph.ensures.graph
+pub returns-clause-bytes : goal.returns-clause-bytes
+returns-clause-bytes c = ap (λ (f : CheckedFile). f.bytes) c.of.ensures
+
+pub returns-clause-given : goal.returns-clause-given
+returns-clause-given c = ap (λ (f : CheckedFile). f.given) c.of.ensures
 
 pub returns-clause-clean : goal.returns-clause-clean
 returns-clause-clean c =
     subst IsClean (sym c.of.ensures)
-    (clean c.args.dictionary.now c.in_ok-extended.extended c.args.bytes.now c.in_ok-scan.scan c.in_ok-graph.graph c.in_ok-scan.ensures.groups c.in_ok-extended.ensures c.in_ok-check_headers.ensures.clear c.in_ok-graph.ensures.clear c.in_ok-graph.ensures.graph)
+    (clean c.args.dictionary.now c.in_ok-extended.extended c.args.bytes.now c.in_ok-scan.scan c.in_ok-graph.graph c.in_ok-scan.ensures.groups c.in_ok-extended.ensures c.in_ok-graph.ensures.headers c.in_ok-graph.ensures.rows c.in_ok-graph.ensures.graph)

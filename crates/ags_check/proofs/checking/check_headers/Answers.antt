@@ -1,20 +1,18 @@
-use Rattle.std.proofs.Common.{◌≡◌, List, [], subst, ◌∙◌}
-use Rattle.ags_rows.specs.declared.finding.Finding.{Finding}
+use Rattle.std.proofs.Common.{List, subst}
+use Rattle.std.specs.Prelude.{IfOk}
 use Rattle.ags_rows.specs.declared.rows.Group.{Group}
 use Rattle.ags_rows.specs.Collecting.{OneOf}
 use Rattle.ags_rows.specs.Findings.{AreExactly}
-use Rattle.ags_rows.proofs.Lemmas.{none_listed, is_nil}
 use Rattle.ags_check.specs.HeaderPhase.{header_rules}
-use Rattle.ags_check.proofs.Whole.{some_found}
+use Rattle.ags_check.proofs.Whole.{clear_phase, found_phase}
 use Rattle.ags_check.proofs.checking.check_headers.Goals as goal
 
-pub returns-then-not-is_empty-clause-findings : goal.returns-then-not-is_empty-clause-findings
-returns-then-not-is_empty-clause-findings c = λ found is.
-    let same : c.in_ok-found.found ≡ found = cc in
-    let lists = subst (λ (groups : List Group). AreExactly (OneOf (header_rules c.args.given.now c.args.extended.now groups)) c.in_ok-found.found) (c.in_ok-file.ensures ∙ c.groups.ensures) c.in_ok-found.ensures in
-    subst (λ (l : List Finding). AreExactly (OneOf (header_rules c.args.given.now c.args.extended.now c.args.scan.now)) l × (l ≡ [] → ⊥)) same (lists, some_found c.in_ok-found.found c.if-not-is_empty.ensures)
-
-pub returns-clause-clear : goal.returns-clause-clear
-returns-clause-clear c =
-    let lists = subst (λ (groups : List Group). AreExactly (OneOf (header_rules c.args.given.now c.args.extended.now groups)) c.in_ok-found.found) (c.in_ok-file.ensures ∙ c.groups.ensures) c.in_ok-found.ensures in
-    none_listed c.in_ok-found.found lists (is_nil c.in_ok-found.found c.if-not-is_empty.ensures)
+pub returns : goal.returns
+returns c =
+    let rules = header_rules c.args.given.now c.args.extended.now c.args.scan.now in
+    let lists : IfOk c.header_findings.result (AreExactly (OneOf rules)) =
+    subst (λ (groups : List Group). IfOk c.header_findings.result (AreExactly (OneOf (header_rules c.args.given.now c.args.extended.now groups)))) c.groups.ensures c.header_findings.ensures in
+    record {
+      clear = clear_phase rules c.header_findings.result c.phase.result lists c.phase.ensures.clear;
+      findings = found_phase rules c.header_findings.result c.phase.result lists c.phase.ensures.findings;
+    }

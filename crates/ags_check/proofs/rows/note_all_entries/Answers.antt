@@ -1,75 +1,8 @@
-use Rattle.std.proofs.Common.{◌≡◌, ◌+◌, ◌≤◌, List, ℕ, [], refl, sym, ap, subst, length, arith}
-use Rattle.std.proofs.lemmas.Option.{slice_get_read}
-use Rattle.ags_rows.specs.declared.rows.Group.{Group}
-use Rattle.ags_rows.specs.Collecting.{Adds, At, OneOf}
-use Rattle.ags_rows.specs.Contents.{Contents, contents_of}
-use Rattle.ags_rows.proofs.Lemmas.{among_more, among_all, one_more, one_none}
-use Rattle.ags_dict.specs.Entries.{Entries}
-use Rattle.ags_links.specs.DataRows.{data_rows}
-use Rattle.ags_check.specs.Columns.{RowsStand}
-use Rattle.ags_links.specs.DataRows.{rows_before}
-use Rattle.ags_check.specs.RowPhase.{entry_rules_of}
-use Rattle.ags_check.proofs.Numbering.{group_stands, group_few, group_next}
+use Rattle.std.proofs.Common.{◌∙◌, sym}
 use Rattle.ags_check.proofs.rows.note_all_entries.Goals as goal
 
--- the rows of the group at a place stand from a number on, as the index has them
-stands : (groups : List Group) (contents : List Contents) (i first : ℕ) (group : Group) → contents ≡ contents_of groups → first ≡ rows_before (contents_of groups) i → At groups i group
-    → RowsStand (data_rows contents) first group
-stands groups contents i first group same is at =
-    subst (λ (c : List Contents). RowsStand (data_rows c) first group) (sym same)
-    (subst (λ (n : ℕ). RowsStand (data_rows (contents_of groups)) n group) (sym is) (group_stands groups i group at))
-
-few : (groups : List Group) (contents : List Contents) (i first : ℕ) (group : Group) → contents ≡ contents_of groups → first ≡ rows_before (contents_of groups) i → At groups i group
-    → first + length group.rows ≤ length (data_rows contents)
-few groups contents i first group same is at = omega (arith, is, group_few groups i group at, ap (λ (c : List Contents). length (data_rows c)) same)
-
-pub note_group_entries-requires-clause-rows : goal.note_group_entries-requires-clause-rows
-note_group_entries-requires-clause-rows c =
-    stands c.args.groups.now c.args.index.now.contents c.loop-group.group-index c.loop-group.first c.group-item.result c.requires.contents c.loop-group.invariant.first
-    (slice_get_read c.args.groups.now _ c.loop-group.group-index c.group-item.result refl c.loop-group-test.true c.group-item.is)
-
-pub note_group_entries-requires-clause-few : goal.note_group_entries-requires-clause-few
-note_group_entries-requires-clause-few c =
-    let h = few c.args.groups.now c.args.index.now.contents c.loop-group.group-index c.loop-group.first c.group-item.result c.requires.contents c.loop-group.invariant.first
-    (slice_get_read c.args.groups.now _ c.loop-group.group-index c.group-item.result refl c.loop-group-test.true c.group-item.is) in
-    omega (arith, h, c.requires.few)
-
-pub overflow_cast-first : goal.overflow_cast-first
-overflow_cast-first c =
-    let h = few c.args.groups.now c.args.index.now.contents c.loop-group.group-index c.loop-group.first c.group-item.result c.requires.contents c.loop-group.invariant.first
-    (slice_get_read c.args.groups.now _ c.loop-group.group-index c.group-item.result refl c.loop-group-test.true c.group-item.is) in
-    omega (arith, h, c.requires.few, c.len-size.ensures)
-
-pub overflow_add-first : goal.overflow_add-first
-overflow_add-first c =
-    let h = few c.args.groups.now c.args.index.now.contents c.loop-group.group-index c.loop-group.first c.group-item.result c.requires.contents c.loop-group.invariant.first
-    (slice_get_read c.args.groups.now _ c.loop-group.group-index c.group-item.result refl c.loop-group-test.true c.group-item.is) in
-    omega (arith, h, c.requires.few, c.len-size.ensures)
-
-pub loop-group-preserved : goal.loop-group-preserved
-loop-group-preserved c =
-    let groups = c.args.groups.now in
-    let contents = contents_of groups in
-    let i = c.loop-group.group-index in
-    let group = c.group-item.result in
-    let at : At groups i group = slice_get_read groups _ i group refl c.loop-group-test.true c.group-item.is in
-    let mid = c.loop-group.findings in
-    let new = c.note_group_entries.new.findings in
-    record {
-      first = omega (arith, c.loop-group.invariant.first, c.len-size.ensures, group_next groups i group at);
-      noted =
-          among_more groups (λ place g f. OneOf (entry_rules_of c.args.dictionary.now contents (rows_before contents place) g) f) i group c.args.findings.now mid new at c.loop-group.invariant.noted
-          (subst (λ (n : ℕ). Adds (OneOf (entry_rules_of c.args.dictionary.now contents n group)) mid new) c.loop-group.invariant.first
-          (subst (λ (l : List Contents). Adds (OneOf (entry_rules_of c.args.dictionary.now l c.loop-group.first group)) mid new) c.requires.contents
-          (subst (λ (e : Entries). Adds (OneOf (entry_rules_of e c.args.index.now.contents c.loop-group.first group)) mid new) (sym c.requires.entries) c.in_ok-note_group_entries.ensures)));
-    }
+pub note_groups-requires-clause-listed : goal.note_groups-requires-clause-listed
+note_groups-requires-clause-listed c = c.in_ok-listed.ensures ∙ sym c.requires.contents
 
 pub returns : goal.returns
-returns c =
-    let groups = c.args.groups.now in
-    let contents = contents_of groups in
-    let old = c.args.findings.now in
-    let new = c.loop-group.findings in
-    one_more _ [] old new new
-    (among_all groups (λ place g f. OneOf (entry_rules_of c.args.dictionary.now contents (rows_before contents place) g) f) c.loop-group.group-index old new (omega (arith, c.loop-group-test.false)) c.loop-group.invariant.noted)
-    (one_none new)
+returns c = c.note_groups.ensures

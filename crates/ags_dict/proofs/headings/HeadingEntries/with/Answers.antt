@@ -13,24 +13,24 @@ pub invariant_of-result : goal.invariant_of-result
 invariant_of-result c =
     let entries = c.self.inside.entries.items in
     let e = c.args.entry in
-    let group = c.as_slice-group.result.now in
-    let heading = c.as_slice-heading.result.now in
-    let rank = length c.of.result.now in
+    let group = c.as_slice.result.now in
+    let heading = c.as_slice-2.result.now in
+    let rank = length (places_at c.self.inside.by_group group) in
     let ranked : rank ≡ length (filter (of_group e.group) entries) =
-    ap length c.of.ensures ∙ ap (λ (g : List ℕ). length (places_at c.self.inside.by_group g)) c.as_slice-group.ensures
+    ap (λ (g : List ℕ). length (places_at c.self.inside.by_group g)) c.as_slice.ensures
     ∙ places_length (of_group e.group) entries (places_at c.self.inside.by_group e.group) (c.self.invariant.groups e.group) in
     let kept = λ (g h : List ℕ). λ (a b : List ℕ). option_or (rank_at c.self.inside.ranks g h) (cond (bytes_eq a g && bytes_eq b h) (Some rank) None) in
     record {
       groups =
-          noted of_group entries c.push.new.self.items e (places_at c.self.inside.by_group) (places_at c.note-2.new.self) group c.len.result
-          (λ text. ap (λ (n : List ℕ). bytes_eq n text) (sym c.as_slice-group.ensures)) (c.len.ensures ∙ c.self.inside.entries.ok.0) c.in_ok-push.ensures.items
-          c.in_ok-note-2.ensures c.self.invariant.groups;
+          noted of_group entries c.push.new.self.items e (places_at c.self.inside.by_group) (places_at c.note_place.new.by_group) group c.len.result
+          (λ text. ap (λ (n : List ℕ). bytes_eq n text) (sym c.as_slice.ensures)) (c.len.ensures ∙ c.self.inside.entries.ok.0) c.in_ok-push.ensures.items
+          c.in_ok-note_place.ensures.groups c.self.invariant.groups;
       headings =
-          noted is_named entries c.push.new.self.items e (places_at c.self.inside.by_heading) (places_at c.note-3.new.self) heading c.len-2.result
-          (λ text. ap (λ (n : List ℕ). bytes_eq n text) (sym c.as_slice-heading.ensures)) (c.len-2.ensures ∙ c.self.inside.entries.ok.0) c.in_ok-push.ensures.items
-          c.in_ok-note-3.ensures c.self.invariant.headings;
+          noted is_named entries c.push.new.self.items e (places_at c.self.inside.by_heading) (places_at c.note_place.new.by_heading) heading c.len.result
+          (λ text. ap (λ (n : List ℕ). bytes_eq n text) (sym c.as_slice-2.ensures)) (c.len.ensures ∙ c.self.inside.entries.ok.0) c.in_ok-push.ensures.items
+          c.in_ok-note_place.ensures.headings c.self.invariant.headings;
       orders = λ g h.
-          c.in_ok-note.ensures g h ∙ ap (λ (a : List ℕ). kept g h a heading) c.as_slice-group.ensures ∙ ap (λ (b : List ℕ). kept g h e.group b) c.as_slice-heading.ensures
+          c.in_ok-note_place.ensures.orders g h ∙ ap (λ (a : List ℕ). kept g h a heading) c.as_slice.ensures ∙ ap (λ (b : List ℕ). kept g h e.group b) c.as_slice-2.ensures
           ∙ ap (λ (o : Option ℕ). option_or o (cond (bytes_eq e.group g && bytes_eq e.heading h) (Some rank) None)) (c.self.invariant.orders g h)
           ∙ sym (ordered entries e g h rank ranked)
           ∙ ap (λ (l : List HeadingEntry). place_in (map (λ (e : HeadingEntry). e.heading) (filter (of_group g) l)) h) (sym c.in_ok-push.ensures.items);
