@@ -1,18 +1,22 @@
 -- Changes, one after the other.
 use Rattle.std.proofs.Common.{◌≡◌, ℕ, suc, ◌+◌, ◌<◌, ◌≤◌, drop, List, [], ◌∷◌, ◌++◌, map, length, take, get_or, append_assoc, append-nil, IsTrue, Result, Ok, Err, inl, inr, refl, sym, ap, subst, subst₂, ◌∙◌, arith}
+use Rattle.std.proofs.Math.Logic.{∥∥₁_elim}
 use Rattle.std.proofs.Math.Seq.{take-add, take-suc}
+use Rattle.std.proofs.Props.{props}
 use Rattle.std.proofs.lemmas.List.{map-append, length-take-le, take_all}
 use Rattle.std.specs.List.Sorted.{IsPermutation}
 use Rattle.std.proofs.lemmas.List.Sorted.{IsPermutation-refl, IsPermutation-trans, IsPermutation-append_left}
 use Rattle.sqlite.specs.Order.{Row}
 use Rattle.sqlite.specs.declared.error.Error.{Error}
 use Rattle.sqlite.specs.State.{State, KeepsCommit, IsUnchanged, IsRolledBack, ExecutesInside}
+use Rattle.ags_dict.specs.Entries.{Entries}
 use Rattle.reg_store.specs.declared.keep.KeptRow.{KeptRow}
 use Rattle.reg_tables.specs.Tables.{register_schema}
 use Rattle.reg_store.specs.Deposit.{Deposit}
 use Rattle.reg_tables.specs.Rows.{columns_5, columns_3, joined, line_row, line_rows, step_row, step_rows, IsMore}
 use Rattle.reg_tables.specs.Inserts.{AddsDeposit, AddsLines, AddsSteps, AddsFile}
 use Rattle.reg_tables.specs.Inside.{Inside}
+use Rattle.reg_tables.specs.Register.{KeepsRegister}
 use Rattle.reg_tables.specs.Late.{bare, IsBare, SetsBody, bare_in, whole_in}
 
 pub more_none : (old : List Row) → IsMore old [] old
@@ -188,3 +192,8 @@ step_values_more n at steps step old new low is before grown =
     let whole = ap (step_rows n) (taken steps step at low is) ∙ map-append (step_row n) (take at steps) (step ∷ []) in
     grown ∙ ap (λ xs. xs ++ step_row n step) before
     ∙ sym (ap joined whole ∙ joined-append (step_rows n (take at steps)) (step_row n step ∷ []) ∙ ap (λ xs. joined (step_rows n (take at steps)) ++ xs) (append-nil (step_row n step)))
+
+-- ---- the keep is open
+
+pub opened_at : {s : State} {dictionary : Entries} {count : ℕ} → ∥ KeepsRegister s dictionary count ∥₁ → IsTrue s.is_open
+opened_at {s} {dictionary} {count} kept = ∥∥₁_elim kept (Prim.hlevel props) (λ (k : KeepsRegister s dictionary count). k.is_open)

@@ -77,6 +77,9 @@ module _ (sql : List ℕ) (plain : IsPlain (understood register_schema sql)) whe
 pub survives_none : (s : State) → Survives s s (λ _. ⊥)
 survives_none s = record { clean = omega arith; shield = λ is. is; counts = omega arith; limit = refl; closes = λ clean o. inl o; crash = λ clean db may. inl may }
 
+pub survives_same : {P : Trees → Type 0} (s : State) → Survives s s P
+survives_same s = record { clean = omega arith; shield = λ is. is; counts = omega arith; limit = refl; closes = λ clean o. inl o; crash = λ clean db may. inl may }
+
 both_open : {a b : Bool} → IsTrue a → IsTrue b → a ≡ b
 both_open p q = p ∙ sym q
 

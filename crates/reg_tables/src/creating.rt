@@ -1,38 +1,19 @@
 //! The tables of a new register.
 
 ghost use Rattle.std.specs.Prelude.{◌≡◌, ◌≢◌, [], false, IsTrue, IfErr, OnOk, OnErr};
-ghost use Rattle.sqlite.specs.Values.{bound};
 ghost use Rattle.sqlite.specs.Effect.{IsDatabase};
 ghost use Rattle.sqlite.specs.State.{HasCleanDisk, Survives};
 ghost use Rattle.sqlite.specs.Held.{state};
 ghost use Rattle.reg_tables.specs.Tables.{no_schema};
 ghost use Rattle.reg_store.specs.Keep.{fails};
 ghost use Rattle.reg_tables.specs.Quiet.{IsAsBefore, IsSettled, IsUndone};
-ghost use Rattle.reg_tables.specs.Inside.{ChangesInside, CommitsNothing, HasSchema, HasTransaction, Ran};
+ghost use Rattle.reg_tables.specs.Inside.{ChangesInside, CommitsNothing, HasSchema, HasTransaction};
 ghost use Rattle.reg_tables.specs.Creates.{HasFirst, HasAll, IsNewRegister, LeavesNew};
 
 use crate::queries::{is_memory, is_open};
+use crate::running::run;
 use reg_store::KeepError;
-use sqlite::types::ValueRef;
 use sqlite::{Alter, Connection, Error, Transaction, params};
-
-/// Runs a statement inside a transaction. Nothing is committed.
-#[tactic(auto, using(crate::proofs::AddsLemmas::kept_by))]
-fn run<S: Alter>(
-    tx: &mut Transaction<'_, S>,
-    sql: &str,
-    params: &[ValueRef<'_>],
-) -> Result<(), Error>
-    requires inside { HasTransaction (state S.Store tx.old.conn.now) }
-    ensures same_reference { tx.new.conn.ghost_name ≡ tx.old.conn.ghost_name }
-    ensures ran { HasCleanDisk (state S.Store tx.new.conn.now)
-        → OnOk result (Ran sql.now (bound params.now) (state S.Store tx.old.conn.now) (state S.Store tx.new.conn.now)) }
-    ensures kept { CommitsNothing (state S.Store tx.old.conn.now) (state S.Store tx.new.conn.now) }
-    ensures survives { Survives (state S.Store tx.old.conn.now) (state S.Store tx.new.conn.now) (λ _. ⊥) }
-{
-    tx.execute(sql, params)?;
-    Ok(())
-}
 
 #[tactic(auto, using(crate::proofs::AddsLemmas::kept_then))]
 fn create_first<S: Alter>(tx: &mut Transaction<'_, S>) -> Result<(), Error>

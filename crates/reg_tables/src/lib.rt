@@ -1,6 +1,7 @@
 //! Kept deposits in tables: a keep over a database of SQLite.
 #![tactic(auto)]
 
+mod adding;
 mod adopting;
 mod creating;
 mod examining;
@@ -16,6 +17,7 @@ mod reading;
 mod recalling;
 mod recent;
 mod repeats;
+mod running;
 mod schema;
 mod sql;
 mod statements;

@@ -10,6 +10,7 @@ ghost use Rattle.reg_tables.specs.Rows.{joined, line_row, line_rows, step_row, s
 ghost use Rattle.reg_tables.specs.Inserts.{AddsLines, AddsSteps};
 ghost use Rattle.reg_tables.specs.Inside.{ChangesInside, CommitsNothing, HasSchema, HasTransaction};
 
+use crate::running::run;
 use ags_rows::Group;
 use reg_store::{KeptRow, kept_rows};
 use sqlite::types::ValueRef;
@@ -32,7 +33,7 @@ pub(crate) fn few_rows(alloc: Global, groups: &[Group]) -> Result<Vec<KeptRow>, 
 }
 
 /// Adds one row of a file. Nothing is committed.
-#[tactic(auto, using(crate::proofs::AddsLemmas::kept_by, crate::proofs::AddsLemmas::kept_same))]
+#[tactic(auto, using(crate::proofs::AddsLemmas::kept_same))]
 fn insert_line<S: Alter>(
     tx: &mut Transaction<'_, S>,
     number: u32,
@@ -50,11 +51,11 @@ fn insert_line<S: Alter>(
     let Ok(group) = std::str::from_utf8(row.group.as_slice()) else {
         return Err(Error::SqliteFailure(ErrorCode::TypeMismatch));
     };
-    tx.execute(
+    run(
+        tx,
         "INSERT INTO lines VALUES (?1, ?2, ?3, ?4, ?5)",
         params![number, at, group, u32::from(row.kind), row.line.as_slice()],
-    )?;
-    Ok(())
+    )
 }
 
 /// Appends the values of a row of a file.
@@ -91,7 +92,7 @@ fn line_values<'r>(
 }
 
 /// Adds eight rows of a file, of which the first stands at this place. Nothing is committed.
-#[tactic(auto, using(crate::proofs::AddsLemmas::kept_by, crate::proofs::AddsLemmas::kept_same))]
+#[tactic(auto, using(crate::proofs::AddsLemmas::kept_same))]
 fn insert_eight_lines<S: Alter>(
     alloc: Global,
     tx: &mut Transaction<'_, S>,
@@ -110,11 +111,11 @@ fn insert_eight_lines<S: Alter>(
     ensures survives { Survives (state S.Store tx.old.conn.now) (state S.Store tx.new.conn.now) (λ _. ⊥) }
 {
     let values = line_values(alloc, number, from, rows)?;
-    tx.execute(
+    run(
+        tx,
         "INSERT INTO lines VALUES (?1, ?2, ?3, ?4, ?5), (?6, ?7, ?8, ?9, ?10), (?11, ?12, ?13, ?14, ?15), (?16, ?17, ?18, ?19, ?20), (?21, ?22, ?23, ?24, ?25), (?26, ?27, ?28, ?29, ?30), (?31, ?32, ?33, ?34, ?35), (?36, ?37, ?38, ?39, ?40)",
         &values,
-    )?;
-    Ok(())
+    )
 }
 
 /// Adds rows of a file, of which the first stands at this place, one by one. Nothing is committed.
@@ -167,7 +168,6 @@ pub(crate) fn insert_lines<S: Alter>(
 }
 
 /// Adds one step. Nothing is committed.
-#[tactic(auto, using(crate::proofs::AddsLemmas::kept_by))]
 fn insert_step<S: Alter>(
     tx: &mut Transaction<'_, S>,
     number: u32,
@@ -181,11 +181,11 @@ fn insert_step<S: Alter>(
     ensures kept { CommitsNothing (state S.Store tx.old.conn.now) (state S.Store tx.new.conn.now) }
     ensures survives { Survives (state S.Store tx.old.conn.now) (state S.Store tx.new.conn.now) (λ _. ⊥) }
 {
-    tx.execute(
+    run(
+        tx,
         "INSERT INTO steps VALUES (?1, ?2, ?3)",
         params![number, step.0, step.1],
-    )?;
-    Ok(())
+    )
 }
 
 /// Appends the values of a step.
@@ -216,7 +216,7 @@ fn step_values(
 }
 
 /// Adds eight steps. Nothing is committed.
-#[tactic(auto, using(crate::proofs::AddsLemmas::kept_by, crate::proofs::AddsLemmas::kept_same))]
+#[tactic(auto, using(crate::proofs::AddsLemmas::kept_same))]
 fn insert_eight_steps<S: Alter>(
     alloc: Global,
     tx: &mut Transaction<'_, S>,
@@ -233,11 +233,11 @@ fn insert_eight_steps<S: Alter>(
     ensures survives { Survives (state S.Store tx.old.conn.now) (state S.Store tx.new.conn.now) (λ _. ⊥) }
 {
     let values = step_values(alloc, number, steps)?;
-    tx.execute(
+    run(
+        tx,
         "INSERT INTO steps VALUES (?1, ?2, ?3), (?4, ?5, ?6), (?7, ?8, ?9), (?10, ?11, ?12), (?13, ?14, ?15), (?16, ?17, ?18), (?19, ?20, ?21), (?22, ?23, ?24)",
         &values,
-    )?;
-    Ok(())
+    )
 }
 
 /// Adds steps one by one. Nothing is committed.

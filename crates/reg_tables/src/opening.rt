@@ -1,26 +1,28 @@
 //! Registers that are made, and found, in databases.
 
-ghost use Rattle.std.specs.Prelude.{◌≡◌, ◌≢◌, ◌≤◌, ◌⊎◌, [], false, length, None, Ok, Err, IfOk, IfErr, IfSome, IsTrue};
+ghost use Rattle.std.specs.Prelude.{◌≡◌, ◌≢◌, ◌≤◌, ◌⊎◌, [], false, length, None, Ok, Err, IfOk, IfErr, IfSome, IsTrue, OnOk, OnErr};
 ghost use Rattle.sqlite.specs.State.{HasCleanDisk, Survives};
 ghost use Rattle.sqlite.specs.Held.{state};
+ghost use Rattle.sqlite.specs.Effect.{IsDatabase};
 ghost use Rattle.sqlite.specs.Steps.{over_memory};
-ghost use Rattle.sqlite.specs.Files.{file_state};
+ghost use Rattle.sqlite.specs.Files.{file_state, IsOpened};
+ghost use Rattle.sqlite.specs.Start.{FindsIn};
 ghost use Rattle.sqlite.specs.WalFiles.{image_at};
 ghost use Rattle.ags_dict.specs.Entries.{Entries};
 ghost use Rattle.ags_dict.specs.Reading.{IsDictionary, ReadsDictionary};
 ghost use Rattle.reg_tables.specs.Tables.{no_schema, register_schema};
 ghost use Rattle.reg_tables.specs.Creates.{IsNewRegister, LeavesNew};
-ghost use Rattle.reg_tables.specs.Making.{RefusesBytes};
+ghost use Rattle.reg_tables.specs.Making.{AreDictionary, RefusesBytes};
 ghost use Rattle.reg_tables.specs.Quiet.{IsAsBefore, ShowsTheSame};
 ghost use Rattle.reg_tables.specs.Register.{IsRegister, deposits_in};
 ghost use Rattle.reg_tables.specs.Adoption.{Adopts, is_store_failure};
 ghost use Rattle.reg_tables.specs.Opened.{FindsSchema, HoldsRegister, RefusesFiles};
 
-use crate::adopting::AdoptError;
+use crate::adopting::{AdoptError, discard};
 use crate::creating::make_register;
 use crate::examining::examine;
 use crate::fronts::Fronts;
-use crate::queries::is_memory;
+use crate::reading::read_error;
 use crate::recent::Recent;
 use crate::repeats::Digests;
 use crate::schema::{is_register, is_vacant};
@@ -63,6 +65,40 @@ fn read_dictionary(alloc: Global, bytes: &[u8]) -> Result<Dictionary, CreateErro
     }
 }
 
+/// Makes the tables of a register in a database without a table, an index and a view.
+fn fill<S: Alter>(conn: &mut Connection<S>, bytes: &[u8]) -> Result<(), CreateError>
+    requires { AreDictionary bytes.now }
+    ensures mode { OnOk result (conn.new.in_transaction ≡ false) }
+    ensures open { HasCleanDisk (state S.Store conn.new) → OnOk result (IsTrue (state S.Store conn.new).is_open) }
+    ensures put { HasCleanDisk (state S.Store conn.new)
+        → OnOk result (IsNewRegister bytes.now (state S.Store conn.new).now) }
+    ensures settled { HasCleanDisk (state S.Store conn.new)
+        → OnOk result ((state S.Store conn.new).committed ≡ (state S.Store conn.new).now) }
+    ensures sound { HasCleanDisk (state S.Store conn.new) → OnOk result (IsDatabase (state S.Store conn.new).now) }
+    ensures blank { OnOk result ((state S.Store conn.old).now.schema ≡ no_schema) }
+    ensures refused { IfErr result (RefusesBytes bytes.now) }
+    ensures not_empty { IfErr result (λ e. e ≡ CreateError.NotEmpty → (state S.Store conn.old).now.schema ≢ no_schema) }
+    ensures vacant { IfErr result (λ e. e ≡ CreateError.Store → (state S.Store conn.old).now.schema ≡ no_schema) }
+    ensures same { IfErr result (λ e. e ≢ CreateError.Store → HasCleanDisk (state S.Store conn.new)
+        → ShowsTheSame (state S.Store conn.old) (state S.Store conn.new)) }
+    ensures still { OnErr result (HasCleanDisk (state S.Store conn.new) → IsTrue (state S.Store conn.new).is_open
+        → IsAsBefore (state S.Store conn.old) (state S.Store conn.new)) }
+    ensures crash { Survives (state S.Store conn.old) (state S.Store conn.new)
+        (LeavesNew (state S.Store conn.old) bytes.now) }
+{
+    if !is_vacant(conn.schema()) {
+        return Err(CreateError::NotEmpty);
+    }
+    if !conn.is_autocommit() {
+        return Err(CreateError::Store);
+    }
+    match make_register(conn, bytes) {
+        Ok(()) => Ok(()),
+        Err(KeepError::NoMemory) => Err(CreateError::NoMemory),
+        Err(_) => Err(CreateError::Store),
+    }
+}
+
 impl<S: Alter> SqlKeep<S> {
     /// An empty register under a dictionary that was read.
     fn make(
@@ -94,14 +130,7 @@ impl<S: Alter> SqlKeep<S> {
         ensures still { IfErr result (λ e. HasCleanDisk (state S.Store e.1) → IsTrue (state S.Store e.1).is_open
             → IsAsBefore (state S.Store connection) (state S.Store e.1)) }
     {
-        if !is_vacant(connection.schema()) {
-            return Err((CreateError::NotEmpty, connection));
-        }
-        if !connection.is_autocommit() {
-            return Err((CreateError::Store, connection));
-        }
-        let made = make_register(&mut connection, bytes);
-        match made {
+        match fill(&mut connection, bytes) {
             Ok(()) => Ok(SqlKeep {
                 connection,
                 dictionary,
@@ -113,8 +142,10 @@ impl<S: Alter> SqlKeep<S> {
                 has_failed: false,
                 alloc,
             }),
-            Err(KeepError::NoMemory) => Err((CreateError::NoMemory, connection)),
-            Err(_) => Err((CreateError::Store, connection)),
+            Err(error) => {
+                discard(dictionary);
+                Err((error, connection))
+            }
         }
     }
 
@@ -215,8 +246,12 @@ impl SqlKeep<MemStore> {
         ensures named { IfErr result (λ e. e ≢ CreateError.NotEmpty) }
         ensures working { IfOk result (λ k. k.has_failed ≡ false) }
     {
-        let dictionary = read_dictionary(alloc, bytes)?;
+        let dictionary = match read_dictionary(alloc, bytes) {
+            Ok(dictionary) => dictionary,
+            Err(error) => return Err(error),
+        };
         let Ok(connection) = Connection::open_in_memory(alloc) else {
+            discard(dictionary);
             return Err(CreateError::NoMemory);
         };
         match SqlKeep::make(alloc, connection, dictionary, bytes) {
@@ -277,6 +312,21 @@ impl SqlKeep<FileStore<File>> {
     }
 }
 
+/// Opens the database at a path, where `F` stands for what its files held.
+fn connect<F: Start>(
+    rt: &HostRuntime,
+    path: &str,
+    start: F,
+) -> Result<Connection<FileStore<FileFrom<F>>>, KeepError>
+    ensures opened { IfOk result (λ c. HasCleanDisk (file_state c) → IsOpened c) }
+    ensures found { IfOk result (λ c. HasCleanDisk (file_state c) → FindsIn (image_at F.Start) (file_state c)) }
+{
+    match Connection::open_from(rt, path, false, start) {
+        Ok(connection) => Ok(connection),
+        Err((error, _left)) => Err(read_error(&error)),
+    }
+}
+
 impl<F: Start> SqlKeep<FileStore<FileFrom<F>>> {
     /// An empty register in the database at a path that had no table, where `F` stands for what its files held.
     ///
@@ -311,14 +361,18 @@ impl<F: Start> SqlKeep<FileStore<FileFrom<F>>> {
             Ok(dictionary) => dictionary,
             Err(error) => return Err((error, None)),
         };
-        let connection = match Connection::open_from(rt, path, false, start) {
-            Ok(connection) => connection,
-            Err((error, _left)) if is_memory(&error) => return Err((CreateError::NoMemory, None)),
-            Err(_) => return Err((CreateError::Store, None)),
-        };
-        match SqlKeep::make(alloc, connection, dictionary, bytes) {
-            Ok(keep) => Ok(keep),
-            Err((error, connection)) => Err((error, Some(connection))),
+        match connect(rt, path, start) {
+            Ok(connection) => match SqlKeep::make(alloc, connection, dictionary, bytes) {
+                Ok(keep) => Ok(keep),
+                Err((error, connection)) => Err((error, Some(connection))),
+            },
+            Err(error) => {
+                discard(dictionary);
+                match error {
+                    KeepError::NoMemory => Err((CreateError::NoMemory, None)),
+                    _ => Err((CreateError::Store, None)),
+                }
+            }
         }
     }
 
@@ -342,14 +396,13 @@ impl<F: Start> SqlKeep<FileStore<FileFrom<F>>> {
             IfSome e.1 (λ c. HasCleanDisk (file_state c) → RefusesFiles (image_at F.Start) e.0)) }
         ensures unopened { IfErr result (λ e. e.1 ≡ None → (e.0 ≡ AdoptError.Store) ⊎ (e.0 ≡ AdoptError.NoMemory)) }
     {
-        let connection = match Connection::open_from(rt, path, false, start) {
-            Ok(connection) => connection,
-            Err((error, _left)) if is_memory(&error) => return Err((AdoptError::NoMemory, None)),
-            Err(_) => return Err((AdoptError::Store, None)),
-        };
-        match SqlKeep::adopt(alloc, connection) {
-            Ok(keep) => Ok(keep),
-            Err((error, connection)) => Err((error, Some(connection))),
+        match connect(rt, path, start) {
+            Ok(connection) => match SqlKeep::adopt(alloc, connection) {
+                Ok(keep) => Ok(keep),
+                Err((error, connection)) => Err((error, Some(connection))),
+            },
+            Err(KeepError::NoMemory) => Err((AdoptError::NoMemory, None)),
+            Err(_) => Err((AdoptError::Store, None)),
         }
     }
 }

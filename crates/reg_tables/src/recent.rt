@@ -65,6 +65,13 @@ impl Recent {
         }
     }
 
+    /// Lets go of what was read.
+    pub(crate) fn clear(&mut self)
+        ensures { (db : Database) → HoldsRecent db self.new }
+    {
+        *self = Recent::none();
+    }
+
     /// The rows of a deposit, if they stand here.
     pub(crate) fn rows_of(&self, number: u32) -> Option<&[KeptRow]>
         ensures held { (db : Database) → HoldsRecent db self.now

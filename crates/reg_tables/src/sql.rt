@@ -1,7 +1,6 @@
 //! A keep over a database.
 
 ghost use Rattle.std.specs.Prelude.{◌≡◌, ◌<◌, ◌≤◌, ◌+◌, length, pos, false, IfOk, IsTrue};
-ghost use Rattle.reg_policy.specs.Days.{is_day_number};
 ghost use Rattle.reg_store.specs.Keep.{fails, is_store as store_error};
 ghost use Rattle.reg_tables.specs.KeepLaws.{few_at, fit_at, remains_at, settled_at, stays_at, unbroken_at};
 ghost use Rattle.sqlite.specs.State.{HasCleanDisk};
@@ -12,15 +11,14 @@ ghost use Rattle.reg_tables.specs.Heads.{AreHeads};
 ghost use Rattle.reg_tables.specs.Recent.{HoldsRecent};
 ghost use Rattle.reg_tables.specs.Register.{deposits_in, LeavesBroken, LeavesList, KeepsRegister};
 
+use crate::adding::add_checked;
 use crate::fronts::Fronts;
 use crate::heads::{head_in, make_room, numbers_in};
-use crate::lines::few_rows;
 use crate::project::{find_project, find_targets};
 use crate::reading::find_deposit;
 use crate::recalling::{find_graph, find_rows};
 use crate::recent::Recent;
 use crate::repeats::{Digests, digest_of, find_equal};
-use crate::statements::{Filed, add_file};
 use ags_check::Checked;
 use ags_dict::Dictionary;
 use ags_links::Graph;
@@ -66,15 +64,16 @@ impl<S: Alter> SqlKeep<S> {
     {
         let SqlKeep {
             connection,
-            dictionary: _,
+            dictionary,
             count: _,
-            heads: _,
-            digests: _,
-            recent: _,
-            fronts: _,
+            heads,
+            digests,
+            recent,
+            fronts,
             has_failed: _,
             alloc: _,
         } = self;
+        let_go(dictionary, heads, digests, recent, fronts);
         connection
     }
 }
@@ -131,27 +130,25 @@ impl<S: Alter> Keep for SqlKeep<S> {
             return Err(KeepError::Full);
         }
         let number = self.count + 1;
-        let rows = few_rows(self.alloc, checked.scan().groups())?;
         let room = make_room(&mut self.heads, firm, project, embargo);
         let Ok(head) = room else {
             return Err(KeepError::NoMemory);
         };
-        let body = checked.bytes();
-        let digest = digest_of(firm, project, body);
+        let digest = digest_of(firm, project, checked.bytes());
         let noted = self.digests.make_room(self.alloc, &digest, number);
         let Ok(numbers) = noted else {
             return Err(KeepError::NoMemory);
         };
-        let filed = Filed {
+        self.recent.clear();
+        let added = add_checked(
+            self.alloc,
+            &mut self.connection,
             number,
-            firm: firm.text(),
-            project: project.text(),
-            embargo: stored_day(embargo),
-            body,
-        };
-        self.recent = Recent::none();
-        let steps = checked.graph().steps();
-        let added = add_file(self.alloc, &mut self.connection, filed, &rows, steps);
+            firm,
+            project,
+            embargo,
+            checked,
+        );
         match added {
             Ok(()) => {
                 self.heads.push_reserved(head);
@@ -252,6 +249,15 @@ impl<S: Alter> Keep for SqlKeep<S> {
     ghost few = { λ k clean works. few_at (k.kept works clean) };
 }
 
+/// Lets go of what stands in memory.
+fn let_go(
+    _dictionary: Dictionary,
+    _heads: Vec<KeptHead>,
+    _digests: Digests,
+    _recent: Recent,
+    _fronts: Fronts,
+) {}
+
 fn is_store_error(error: &KeepError) -> bool
     ensures { result ≡ store_error error.now }
 {
@@ -262,12 +268,4 @@ fn is_store<T>(outcome: &Result<T, KeepError>) -> bool
     ensures { result ≡ fails outcome.now }
 {
     matches!(outcome, Err(KeepError::Store))
-}
-
-/// The number of a day.
-fn stored_day(day: Day) -> u32
-    ensures number { pos result ≡ day }
-    ensures is_day { IsTrue (is_day_number day) }
-{
-    day.number() as u32
 }

@@ -15,6 +15,7 @@ ghost use Rattle.reg_tables.specs.Quiet.{IsUndone};
 
 use crate::lines::{insert_lines, insert_steps};
 use crate::queries::{is_memory, is_open};
+use crate::running::run;
 use reg_store::{KeepError, KeptRow};
 use sqlite::{Alter, Connection, Error, Transaction, params};
 use std::alloc::Global;
@@ -30,7 +31,6 @@ pub(crate) struct Filed<'a> {
 }
 
 /// Adds a deposit without its body, rows and steps. Nothing is committed.
-#[tactic(auto, using(crate::proofs::AddsLemmas::kept_by))]
 fn insert_deposit<S: Alter>(tx: &mut Transaction<'_, S>, filed: Filed<'_>) -> Result<(), Error>
     requires inside { HasTransaction (state S.Store tx.old.conn.now) }
     requires schema { HasSchema (state S.Store tx.old.conn.now) register_schema }
@@ -41,7 +41,8 @@ fn insert_deposit<S: Alter>(tx: &mut Transaction<'_, S>, filed: Filed<'_>) -> Re
     ensures survives { Survives (state S.Store tx.old.conn.now) (state S.Store tx.new.conn.now) (λ _. ⊥) }
 {
     let empty: &[u8] = &[];
-    tx.execute(
+    run(
+        tx,
         "INSERT INTO deposits VALUES (?1, ?2, ?3, ?4, ?5)",
         params![
             filed.number,
@@ -50,14 +51,12 @@ fn insert_deposit<S: Alter>(tx: &mut Transaction<'_, S>, filed: Filed<'_>) -> Re
             filed.embargo,
             empty
         ],
-    )?;
-    Ok(())
+    )
 }
 
 /// Sets the body of a deposit that was added without it. Nothing is committed.
 ///
 /// The foreign keys of lines and steps read the deposit's whole row, so they read a short one until now.
-#[tactic(auto, using(crate::proofs::AddsLemmas::kept_by))]
 fn set_body<S: Alter>(tx: &mut Transaction<'_, S>, filed: Filed<'_>) -> Result<(), Error>
     requires inside { HasTransaction (state S.Store tx.old.conn.now) }
     requires schema { HasSchema (state S.Store tx.old.conn.now) register_schema }
@@ -71,11 +70,11 @@ fn set_body<S: Alter>(tx: &mut Transaction<'_, S>, filed: Filed<'_>) -> Result<(
     ensures kept { CommitsNothing (state S.Store tx.old.conn.now) (state S.Store tx.new.conn.now) }
     ensures survives { Survives (state S.Store tx.old.conn.now) (state S.Store tx.new.conn.now) (λ _. ⊥) }
 {
-    tx.execute(
+    run(
+        tx,
         "UPDATE deposits SET body = ?2 WHERE number = ?1",
         params![filed.number, filed.body],
-    )?;
-    Ok(())
+    )
 }
 
 /// Adds a deposit with its rows and steps, its body last. Nothing is committed.

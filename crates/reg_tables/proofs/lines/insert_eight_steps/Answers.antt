@@ -1,4 +1,5 @@
 use Rattle.std.proofs.Common.{rules, arith, ◌≡◌}
+use Rattle.std.proofs.lemmas.Result.{on_ok_weaker}
 use Rattle.sqlite.specs.State.{HasCleanDisk}
 use Rattle.sqlite.specs.Held.{state}
 use Rattle.sqlite.specs.Values.{bound}
@@ -9,14 +10,7 @@ use Rattle.reg_tables.proofs.lines.insert_eight_steps.Goals as goal
 pub returns-clause-put : goal.returns-clause-put
 returns-clause-put g c clean =
     let old = state g.S.Store c.args.tx.now.conn.now in
-    let new = state g.S.Store c.execute.new.self.conn.now in
-    let first : HasCleanDisk old = omega (arith, c.execute.ensures.survives.clean) in
-    let one = c.in_ok-execute.ensures.runs clean (c.requires.inside first) in
+    let new = state g.S.Store c.run.new.tx.conn.now in
+    let first : HasCleanDisk old = omega (arith, c.run.ensures.survives.clean) in
     let given : bound c.deref.result.now ≡ joined (step_rows c.args.number c.args.steps.now) = search rules in
-    let ran = rw given at one.0 in
-    record {
-      change = puts_eight_steps old new c.args.number c.args.steps.now c.in_ok-execute.field-0 c.requires.eight (c.requires.schema first) ran;
-      goes_on = one.1.mode;
-      is_open = one.1.is_open;
-      committed = one.1.committed_is;
-    }
+    on_ok_weaker c.run.result (λ one. record { change = puts_eight_steps old new c.args.number c.args.steps.now one.count c.requires.eight (c.requires.schema first) one.ran; goes_on = one.goes_on; is_open = one.is_open; committed = one.committed }) (rw given at (c.run.ensures.ran clean))

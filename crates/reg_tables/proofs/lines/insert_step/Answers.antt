@@ -1,4 +1,5 @@
 use Rattle.std.proofs.Common.{arith}
+use Rattle.std.proofs.lemmas.Result.{on_ok_weaker}
 use Rattle.sqlite.specs.State.{HasCleanDisk}
 use Rattle.sqlite.specs.Held.{state}
 use Rattle.reg_tables.specs.Inserts.{puts_step}
@@ -7,13 +8,6 @@ use Rattle.reg_tables.proofs.lines.insert_step.Goals as goal
 pub returns-clause-put : goal.returns-clause-put
 returns-clause-put g c clean =
     let old = state g.S.Store c.args.tx.now.conn.now in
-    let new = state g.S.Store c.execute.new.self.conn.now in
-    let first : HasCleanDisk old = omega (arith, c.execute.ensures.survives.clean) in
-    let one = c.in_ok-execute.ensures.runs clean (c.requires.inside first) in
-    let ran = rw (c.params-to_sql.ensures, c.params-to_sql-2.ensures, c.params-to_sql-3.ensures) at one.0 in
-    record {
-      change = puts_step old new c.args.number c.args.step c.in_ok-execute.field-0 (c.requires.schema first) ran;
-      goes_on = one.1.mode;
-      is_open = one.1.is_open;
-      committed = one.1.committed_is;
-    }
+    let new = state g.S.Store c.run.new.tx.conn.now in
+    let first : HasCleanDisk old = omega (arith, c.run.ensures.survives.clean) in
+    on_ok_weaker c.run.result (λ one. record { change = puts_step old new c.args.number c.args.step one.count (c.requires.schema first) one.ran; goes_on = one.goes_on; is_open = one.is_open; committed = one.committed }) (rw (c.params-to_sql.ensures, c.params-to_sql-2.ensures, c.params-to_sql-3.ensures) at (c.run.ensures.ran clean))

@@ -6,18 +6,18 @@ use Rattle.reg_tables.proofs.opening.SqlKeep+FileStore+FileFrom+F.create_from.Go
 
 pub returns-in-Ok-make-clause-blank : goal.returns-in-Ok-make-clause-blank
 returns-in-Ok-make-clause-blank g c clean =
-    let was = c.in-Ok-open_from.connection in
+    let was = c.in-Ok-connect.connection in
     let early : HasCleanDisk (file_state was) = omega (arith, c.in-Ok-make.ensures.made.clean) in
-    found_schema (file_state was) (c.in-Ok-open_from.ensures.opened early) (c.in-Ok-open_from.ensures.found early) c.in-Ok-make.ensures.blank
+    found_schema (file_state was) (c.in-Ok-connect.ensures.opened early) (c.in-Ok-connect.ensures.found early) c.in-Ok-make.ensures.blank
 
 pub returns-in-Err-make-clause-not_empty : goal.returns-in-Err-make-clause-not_empty
 returns-in-Err-make-clause-not_empty g c named clean =
-    let was = c.in-Ok-open_from.connection in
+    let was = c.in-Ok-connect.connection in
     let early : HasCleanDisk (file_state was) = omega (arith, c.in-Err-make.ensures.left.clean) in
-    found_schema (file_state was) (c.in-Ok-open_from.ensures.opened early) (c.in-Ok-open_from.ensures.found early) (c.in-Err-make.ensures.not_empty named)
+    found_schema (file_state was) (c.in-Ok-connect.ensures.opened early) (c.in-Ok-connect.ensures.found early) (c.in-Err-make.ensures.not_empty named)
 
 pub returns-in-Err-make-clause-vacant : goal.returns-in-Err-make-clause-vacant
 returns-in-Err-make-clause-vacant g c named clean =
-    let was = c.in-Ok-open_from.connection in
+    let was = c.in-Ok-connect.connection in
     let early : HasCleanDisk (file_state was) = omega (arith, c.in-Err-make.ensures.left.clean) in
-    found_schema (file_state was) (c.in-Ok-open_from.ensures.opened early) (c.in-Ok-open_from.ensures.found early) (c.in-Err-make.ensures.vacant named)
+    found_schema (file_state was) (c.in-Ok-connect.ensures.opened early) (c.in-Ok-connect.ensures.found early) (c.in-Err-make.ensures.vacant named)

@@ -1,4 +1,4 @@
-use Rattle.std.proofs.Common.{rules, ◌≡◌, List, Some, slice_get, refl, sym, subst}
+use Rattle.std.proofs.Common.{rules, ◌≡◌, List, Some, slice_get, refl, subst}
 use Rattle.sqlite.specs.Held.{state}
 use Rattle.reg_tables.proofs.CreateLemmas.{new_list, new_keeps}
 use Rattle.reg_tables.proofs.FrontsLemmas.{no_fronts}
@@ -7,35 +7,58 @@ use Rattle.reg_store.specs.Deposit.{Deposit}
 use Rattle.reg_tables.proofs.RepeatsLemmas.{none_below}
 use Rattle.reg_tables.proofs.sql.SqlKeep.make.Goals as goal
 
-pub invariant_of-result-clause-kept : goal.invariant_of-result-clause-kept
-invariant_of-result-clause-kept g c works clean =
+pub fill-requires : goal.fill-requires
+fill-requires g c = (c.args.dictionary, c.requires.read)
+
+pub invariant_of-result : goal.invariant_of-result
+invariant_of-result g c =
+    let new = state g.S.Store c.fill.new.conn in
     let made = c.in-Ok.ensures in
-    new_keeps c.args.bytes.now c.args.dictionary (state g.S.Store c.make_register-made.new.conn) (made.put clean) (made.sound clean) (made.open clean refl) (made.settled clean) c.requires.short c.requires.read
+    record {
+      idle = made.mode;
+      few = search rules;
+      long = search rules;
+      kept = λ _ clean. new_keeps c.args.bytes.now c.args.dictionary new (made.put clean) (made.sound clean) (made.open clean) (made.settled clean) c.requires.short c.requires.read;
+      headed = λ _ clean. no_heads _ _ (search rules) (new_list c.args.bytes.now new (made.put clean) (made.settled clean));
+      below = none_below c.new-in-Ok.result 1 c.new-in-Ok.ensures;
+      digested = λ _ clean k d at. absurd (let none = subst (λ (all : List Deposit). slice_get all k ≡ Some d) (new_list c.args.bytes.now new (made.put clean) (made.settled clean)) at in cc);
+      held = λ _ _. c.none.ensures new.now;
+      fronted = λ _ _. no_fronts c.new-in-Ok-2.result _ _ c.new-in-Ok-2.ensures.rows c.new-in-Ok-2.ensures.alone;
+    }
 
-pub invariant_of-result-clause-headed : goal.invariant_of-result-clause-headed
-invariant_of-result-clause-headed g c works clean =
+pub returns-in-Ok : goal.returns-in-Ok
+returns-in-Ok g c =
+    let new = state g.S.Store c.fill.new.conn in
     let made = c.in-Ok.ensures in
-    no_heads _ _ (search rules) (new_list c.args.bytes.now (state g.S.Store c.make_register-made.new.conn) (made.put clean) (made.settled clean))
+    record {
+      empty = λ clean. new_list c.args.bytes.now new (made.put clean) (made.settled clean);
+      dictionary = refl;
+      register = made.put;
+      blank = made.blank;
+      refused = tt;
+      working = refl;
+      not_empty = tt;
+      vacant = tt;
+      made = c.fill.ensures.crash;
+      left = tt;
+      same = tt;
+      still = tt;
+    }
 
-pub invariant_of-result-clause-below : goal.invariant_of-result-clause-below
-invariant_of-result-clause-below g c = none_below c.new-in-Ok.result 1 c.new-in-Ok.ensures
-
-pub invariant_of-result-clause-digested : goal.invariant_of-result-clause-digested
-invariant_of-result-clause-digested g c works clean k d at =
-    let made = c.in-Ok.ensures in
-    let empty = new_list c.args.bytes.now (state g.S.Store c.make_register-made.new.conn) (made.put clean) (made.settled clean) in
-    absurd (let none = subst (λ (all : List Deposit). slice_get all k ≡ Some d) empty at in cc)
-
-pub invariant_of-result-clause-held : goal.invariant_of-result-clause-held
-invariant_of-result-clause-held g c works clean = c.none.ensures (state g.S.Store c.make_register-made.new.conn).now
-
-pub invariant_of-result-clause-fronted : goal.invariant_of-result-clause-fronted
-invariant_of-result-clause-fronted g c works clean = no_fronts c.new-in-Ok-2.result _ _ c.new-in-Ok-2.ensures.rows c.new-in-Ok-2.ensures.alone
-
-pub returns-in-Ok-clause-empty : goal.returns-in-Ok-clause-empty
-returns-in-Ok-clause-empty g c clean =
-    let made = c.in-Ok.ensures in
-    new_list c.args.bytes.now (state g.S.Store c.make_register-made.new.conn) (made.put clean) (made.settled clean)
-
-pub returns : goal.returns
-returns g c = record { empty = tt; dictionary = tt; register = tt; blank = tt; refused = (c.args.dictionary, c.requires.read); working = tt; not_empty = λ e. absurd cc; vacant = λ _. search rules; made = tt; left = c.make_register-made.ensures.crash; same = λ other. absurd (other refl); still = λ clean is_open. c.in-Err.ensures.still clean is_open (λ o. sym (c.is_autocommit.ensures.settled (search rules) o)) }
+pub returns-in-Err : goal.returns-in-Err
+returns-in-Err g c =
+    let fault = c.in-Err.ensures in
+    record {
+      empty = tt;
+      dictionary = tt;
+      register = tt;
+      blank = tt;
+      refused = fault.refused;
+      working = tt;
+      not_empty = fault.not_empty;
+      vacant = fault.vacant;
+      made = tt;
+      left = c.fill.ensures.crash;
+      same = fault.same;
+      still = fault.still;
+    }

@@ -1,0 +1,70 @@
+//! A checked file as a deposit of the tables.
+
+ghost use Rattle.std.specs.Prelude.{◌≡◌, ◌≢◌, pos, false, IsTrue, IfErr, OnOk, OnErr};
+ghost use Rattle.sqlite.specs.Effect.{IsDatabase};
+ghost use Rattle.sqlite.specs.State.{HasCleanDisk, Survives};
+ghost use Rattle.sqlite.specs.Held.{state};
+ghost use Rattle.reg_policy.specs.Days.{is_day_number};
+ghost use Rattle.reg_store.specs.Fit.{IsNamed, kept_rows};
+ghost use Rattle.reg_store.specs.Keep.{fails};
+ghost use Rattle.reg_tables.specs.Inserts.{AddsFile};
+ghost use Rattle.reg_tables.specs.KeepLaws.{PutsOf};
+ghost use Rattle.reg_tables.specs.Quiet.{IsIdle, IsUndone};
+ghost use Rattle.reg_tables.specs.Rows.{deposit_from};
+
+use crate::lines::few_rows;
+use crate::statements::{Filed, add_file};
+use ags_check::Checked;
+use reg_policy::{Day, Name};
+use reg_store::KeepError;
+use sqlite::{Alter, Connection};
+use std::alloc::Global;
+
+/// The number of a day.
+fn stored_day(day: Day) -> u32
+    ensures number { pos result ≡ day }
+    ensures is_day { IsTrue (is_day_number day) }
+{
+    day.number() as u32
+}
+
+/// Adds a checked file under a number, with its rows and steps. Want of memory is answered only where nothing changed.
+pub(crate) fn add_checked<S: Alter>(
+    alloc: Global,
+    conn: &mut Connection<S>,
+    number: u32,
+    firm: &Name,
+    project: &Name,
+    embargo: Day,
+    checked: &Checked<'_>,
+) -> Result<(), KeepError>
+    requires idle { IsIdle (state S.Store conn.old) }
+    requires is_open { HasCleanDisk (state S.Store conn.old) → IsTrue (state S.Store conn.old).is_open }
+    ensures mode { conn.new.in_transaction ≡ false }
+    ensures named { IfErr result (λ e. e ≢ KeepError.Full) }
+    ensures fit { IsNamed (deposit_from firm.now project.now embargo checked.now.bytes) }
+    ensures open { HasCleanDisk (state S.Store conn.new) → fails result ≡ false
+        → IsTrue (state S.Store conn.new).is_open }
+    ensures put { HasCleanDisk (state S.Store conn.new) → OnOk result (AddsFile number
+        (deposit_from firm.now project.now embargo checked.now.bytes) (kept_rows checked.now.groups) checked.now.graph.steps
+        (state S.Store conn.old).now (state S.Store conn.new).now) }
+    ensures settled { HasCleanDisk (state S.Store conn.new)
+        → OnOk result ((state S.Store conn.new).committed ≡ (state S.Store conn.new).now) }
+    ensures sound { HasCleanDisk (state S.Store conn.new) → OnOk result (IsDatabase (state S.Store conn.new).now) }
+    ensures undone { HasCleanDisk (state S.Store conn.new) → fails result ≡ false
+        → OnErr result (IsUndone (state S.Store conn.old) (state S.Store conn.new)) }
+    ensures crash { Survives (state S.Store conn.old) (state S.Store conn.new) (PutsOf (state S.Store conn.old) number
+        (deposit_from firm.now project.now embargo checked.now.bytes) (kept_rows checked.now.groups) checked.now.graph.steps) }
+{
+    let filed = Filed {
+        number,
+        firm: firm.text(),
+        project: project.text(),
+        embargo: stored_day(embargo),
+        body: checked.bytes(),
+    };
+    match few_rows(alloc, checked.scan().groups()) {
+        Ok(rows) => add_file(alloc, conn, filed, &rows, checked.graph().steps()),
+        Err(_) => Err(KeepError::NoMemory),
+    }
+}
