@@ -1,6 +1,6 @@
 //! The calls of a keep, as their answers are printed: the same over each keep.
 
-ghost use Rattle.std.specs.Prelude.{◌≡◌, ◌<◌, ◌≤◌, false, length, IfOk, IsTrue, OnOk};
+ghost use Rattle.std.specs.Prelude.{◌≡◌, ◌<◌, ◌≤◌, false, length, IsTrue, OnOk};
 
 mod calls;
 mod files;
@@ -15,6 +15,8 @@ use ags_rows::LIMIT;
 use ags_rows::vectors::{FILE_A, FILE_B};
 use reg_policy::{Day, Name};
 use reg_store::{Keep, KeepError, Kept, KeptRow, ProjectRow};
+use reg_tables::SqlKeep;
+use sqlite::{Alter, Connection};
 use std::alloc::{AllocError, Global};
 use std::fmt::Write;
 
@@ -44,28 +46,31 @@ struct Case {
     want: &'static str,
 }
 
+/// What is asked of a keep, whichever it is.
+pub(crate) trait Ask {
+    /// What is answered.
+    type Answer;
+
+    fn ask<K: Keep>(self, alloc: Global, keep: &mut K) -> Self::Answer
+        requires { K.has_failed keep.old ≡ false };
+}
+
+/// Asks it of a keep in tables, of any store: the answer, and the connection. `SqlKeep` is shown to be a keep here alone, since that is long.
+pub(crate) fn ask_tables<S: Alter + Drop, A: Ask>(
+    alloc: Global,
+    mut keep: SqlKeep<S>,
+    asked: A,
+) -> (A::Answer, Connection<S>)
+    requires { keep.has_failed ≡ false }
+{
+    let answer = asked.ask(alloc, &mut keep);
+    (answer, keep.into_connection())
+}
+
 /// A name of the tests. One that is none counts as want of memory, which no test expects.
 fn name(alloc: Global, text: &str) -> Result<Name, KeepError> {
     match Name::read(alloc, text) {
         Ok(name) => Ok(name),
-        Err(_) => Err(KeepError::NoMemory),
-    }
-}
-
-/// A file of the tests, checked. One that is too long or has findings counts as want of memory, which no test expects.
-fn checked<'b>(
-    alloc: Global,
-    dictionary: &Dictionary,
-    bytes: &'b [u8],
-) -> Result<Checked<'b>, KeepError>
-    ensures given { IfOk result (λ checked. checked.given ≡ dictionary.now) }
-    ensures short { IfOk result (λ checked. length checked.bytes ≤ LIMIT) }
-{
-    if bytes.len() > LIMIT {
-        return Err(KeepError::NoMemory);
-    }
-    match check(alloc, dictionary, bytes) {
-        Ok(checked) => Ok(checked),
         Err(_) => Err(KeepError::NoMemory),
     }
 }
@@ -83,7 +88,6 @@ fn take<K: Keep>(
     keep: &mut K,
     firm: &Name,
     project: &Name,
-    embargo: Day,
     checked: &Checked<'_>,
 ) -> Result<u32, KeepError>
     requires working { K.has_failed keep.old ≡ false }
@@ -94,14 +98,14 @@ fn take<K: Keep>(
     if let Some(held) = keep.find(firm, project, checked.bytes())? {
         return Ok(held);
     }
-    match keep.add(firm, project, embargo, checked) {
+    match keep.add(firm, project, free_from()?, checked) {
         Ok(number) => Ok(number),
         Err(KeepError::Full) => Ok(0),
         Err(refused) => Err(refused),
     }
 }
 
-/// Takes the file of a firm for a project.
+/// Takes the file of a firm for a project. One that is too long or has findings counts as want of memory, which no test expects.
 pub(crate) fn take_file<K: Keep>(
     alloc: Global,
     keep: &mut K,
@@ -112,9 +116,13 @@ pub(crate) fn take_file<K: Keep>(
     requires { K.has_failed keep.old ≡ false }
     ensures { OnOk result (K.has_failed keep.new ≡ false) }
 {
-    let embargo = free_from()?;
-    let checked = checked(alloc, keep.dictionary(), bytes)?;
-    take(keep, firm, project, embargo, &checked)
+    if bytes.len() > LIMIT {
+        return Err(KeepError::NoMemory);
+    }
+    match check(alloc, keep.dictionary(), bytes) {
+        Ok(checked) => take(keep, firm, project, &checked),
+        Err(_) => Err(KeepError::NoMemory),
+    }
 }
 
 /// Takes the file of a firm for a project, both by name.

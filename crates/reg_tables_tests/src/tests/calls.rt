@@ -3,12 +3,11 @@
 ghost use Rattle.std.specs.Prelude.{◌<◌, ◌≡◌, ◌≤◌, false};
 
 use super::files::File;
-use super::{Call, Case, SAME, compared};
+use super::{Ask, Call, Case, SAME, ask_tables, compared};
 use ags_dict::Dictionary;
 use ags_rows::vectors::MINI;
-use reg_store::{KeepError, PlainKeep};
+use reg_store::{Keep, KeepError, PlainKeep};
 use reg_tables::SqlKeep;
-use sqlite::Alter;
 use std::alloc::Global;
 use std::test::Fail;
 
@@ -314,46 +313,72 @@ fn in_memory(alloc: Global, limit: u32, cases: &[Case]) -> Result<&'static str, 
     }
 }
 
-/// The calls over the tables of a database, of any store: `SqlKeep` is shown to be a keep here, and not at each store at length.
-fn over_tables<S: Alter + Drop>(
-    alloc: Global,
-    mut keep: SqlKeep<S>,
-    cases: &[Case],
-) -> Result<&'static str, KeepError>
-    requires { keep.has_failed ≡ false }
-{
-    compared(alloc, &mut keep, cases)
+/// The calls over a keep.
+struct Compare<'a>(&'a [Case]);
+
+impl<'a> Ask for Compare<'a> {
+    type Answer = Result<&'static str, KeepError>;
+
+    fn ask<K: Keep>(self, alloc: Global, keep: &mut K) -> Result<&'static str, KeepError> {
+        let Compare(cases) = self;
+        compared(alloc, keep, cases)
+    }
 }
 
 /// The calls over the tables of a database in memory.
 fn in_tables(alloc: Global, cases: &[Case]) -> Result<&'static str, KeepError> {
     match SqlKeep::in_memory(alloc, MINI) {
-        Ok(keep) => over_tables(alloc, keep, cases),
+        Ok(keep) => ask_tables(alloc, keep, Compare(cases)).0,
         Err(_) => Err(KeepError::Store),
     }
 }
 
+/// Fails with the first answer that was not given, if there is one.
+fn hold(first: &'static str) -> Result<(), Fail> {
+    if first == SAME {
+        Ok(())
+    } else {
+        Err(Fail::new(first))
+    }
+}
+
+/// Each call is answered as wanted over a keep in memory of at most so many deposits.
+fn hold_within(alloc: Global, limit: u32, cases: &[Case]) -> Result<(), Fail>
+    requires least { 0 < limit }
+    requires most { limit ≤ 999999 }
+{
+    hold(in_memory(alloc, limit, cases)?)
+}
+
+/// The same over a keep in memory of as many deposits as there may be. A test that gave the number would show what it asks in sight of
+/// all its cases.
+fn hold_in_memory(alloc: Global, cases: &[Case]) -> Result<(), Fail> {
+    hold_within(alloc, 999_999, cases)
+}
+
+/// The same over a keep in memory of one deposit.
+fn hold_in_one_place(alloc: Global, cases: &[Case]) -> Result<(), Fail> {
+    hold_within(alloc, 1, cases)
+}
+
+/// The same over the tables of a database in memory.
+fn hold_in_tables(alloc: Global, cases: &[Case]) -> Result<(), Fail> {
+    hold(in_tables(alloc, cases)?)
+}
+
 #[test]
 fn calls_in_memory(rt: HostRuntime) -> Result<(), Fail> {
-    let many = in_memory(rt.alloc(), 999_999, &CASES)?;
-    assert!(rt; many == SAME, "{many}");
-    let few = in_memory(rt.alloc(), 1, &FULL)?;
-    assert!(rt; few == SAME, "{few}");
-    Ok(())
+    hold_in_memory(rt.alloc(), &CASES)?;
+    hold_in_one_place(rt.alloc(), &FULL)
 }
 
 #[test]
 fn calls_in_tables(rt: HostRuntime) -> Result<(), Fail> {
-    let found = in_tables(rt.alloc(), &CASES)?;
-    assert!(rt; found == SAME, "{found}");
-    Ok(())
+    hold_in_tables(rt.alloc(), &CASES)
 }
 
 #[test]
 fn calls_again(rt: HostRuntime) -> Result<(), Fail> {
-    let plain = in_memory(rt.alloc(), 999_999, &AGAIN)?;
-    assert!(rt; plain == SAME, "{plain}");
-    let found = in_tables(rt.alloc(), &AGAIN)?;
-    assert!(rt; found == SAME, "{found}");
-    Ok(())
+    hold_in_memory(rt.alloc(), &AGAIN)?;
+    hold_in_tables(rt.alloc(), &AGAIN)
 }

@@ -2,7 +2,7 @@
 
 ghost use Rattle.std.specs.Prelude.{◌≡◌, false, IfOk, IfSome};
 
-use crate::tests::{take_named, tell_deposit};
+use crate::tests::{Ask, ask_tables, take_named, tell_deposit};
 use ags_dict::DictError;
 use ags_rows::vectors::{FILE_A, FILE_B, MINI};
 use ags_rows::{LIMIT, READABLE};
@@ -111,16 +111,24 @@ static DAMAGED: [Case; 3] = [
     },
 ];
 
+/// A file is taken: its number.
+struct Take<'a>(&'a [u8]);
+
+impl<'a> Ask for Take<'a> {
+    type Answer = Result<u32, KeepError>;
+
+    fn ask<K: Keep>(self, alloc: Global, keep: &mut K) -> Result<u32, KeepError> {
+        let Take(bytes) = self;
+        take_named(alloc, keep, "Delta", "N1", bytes)
+    }
+}
+
 /// The connection of a register that holds one file, which it takes as its first.
-fn filled<S: Alter + Drop>(
-    alloc: Global,
-    mut keep: SqlKeep<S>,
-    bytes: &[u8],
-) -> Option<Connection<S>>
+fn filled<S: Alter + Drop>(alloc: Global, keep: SqlKeep<S>, bytes: &[u8]) -> Option<Connection<S>>
     requires { keep.has_failed ≡ false }
 {
-    match take_named(alloc, &mut keep, "Delta", "N1", bytes) {
-        Ok(1) => Some(keep.into_connection()),
+    match ask_tables(alloc, keep, Take(bytes)) {
+        (Ok(1), connection) => Some(connection),
         _ => None,
     }
 }
@@ -147,6 +155,18 @@ fn tell_refused(refused: AdoptError, told: &mut String) -> Result<(), AllocError
     write!(told, "{refused}")
 }
 
+/// How many deposits there are and may be, and the first one, are added to a text.
+struct TellRegister<'a>(&'a mut String);
+
+impl<'a> Ask for TellRegister<'a> {
+    type Answer = Result<(), KeepError>;
+
+    fn ask<K: Keep>(self, _alloc: Global, keep: &mut K) -> Result<(), KeepError> {
+        let TellRegister(told) = self;
+        tell_register(keep, told)
+    }
+}
+
 /// What adopting answers.
 fn tell_adopted<S: Alter + Drop>(
     alloc: Global,
@@ -154,7 +174,7 @@ fn tell_adopted<S: Alter + Drop>(
     told: &mut String,
 ) -> Result<(), KeepError> {
     match SqlKeep::adopt(alloc, connection) {
-        Ok(mut keep) => tell_register(&mut keep, told),
+        Ok(keep) => ask_tables(alloc, keep, TellRegister(told)).0,
         Err((refused, _connection)) => Ok(tell_refused(refused, told)?),
     }
 }
@@ -233,12 +253,16 @@ fn is_answered_long(alloc: Global, length: usize, want: &str) -> bool {
     tell_long(alloc, length, &mut told).is_ok() && told.as_str() == want
 }
 
+fn is_no_dictionary(refused: &CreateError) -> bool {
+    matches!(refused, CreateError::Dictionary(DictError::NoDict))
+}
+
 /// Whether bytes that are no dictionary are refused as such.
 fn refuses_no_dictionary(alloc: Global) -> bool {
-    matches!(
-        SqlKeep::in_memory(alloc, FILE_A),
-        Err(CreateError::Dictionary(DictError::NoDict))
-    )
+    match SqlKeep::in_memory(alloc, FILE_A) {
+        Ok(_) => false,
+        Err(refused) => is_no_dictionary(&refused),
+    }
 }
 
 #[test]
@@ -311,8 +335,8 @@ fn tell_made(refused: &CreateError, told: &mut String) -> Result<(), AllocError>
     write!(told, "{refused}")
 }
 
-/// The register that is made or opened at a path; none where that is refused, which is told. Here alone, and in `tell_visit`, stands the
-/// type of a keep in a file: it is written out at each point of a function that holds one.
+/// The register that is made or opened at a path; none where that is refused, which is told. Here alone, in `tell_visit` and in
+/// `tell_file` stands the type of a keep in a file: it is written out at each point of a function that holds one.
 fn visited(
     rt: &HostRuntime,
     visit: &Visit,
@@ -336,45 +360,68 @@ fn visited(
     Ok(None)
 }
 
-/// What a register answers: one that was made takes A, and of one that was opened the first deposit is read.
-fn tell_act<K: Keep>(
-    alloc: Global,
-    keep: &mut K,
-    act: Act,
-    told: &mut String,
-) -> Result<(), KeepError>
-    requires { K.has_failed keep.old ≡ false }
-{
-    match act {
-        Act::Create(_) => {
-            let number = take_named(alloc, keep, "Delta", "N1", FILE_A)?;
-            Ok(write!(told, "{number}")?)
-        }
-        Act::Open => tell_deposit(keep, 1, told),
+/// A is taken, and its number is added to a text.
+struct TellTaken<'a>(&'a mut String);
+
+impl<'a> Ask for TellTaken<'a> {
+    type Answer = Result<(), KeepError>;
+
+    fn ask<K: Keep>(self, alloc: Global, keep: &mut K) -> Result<(), KeepError> {
+        let TellTaken(told) = self;
+        let number = take_named(alloc, keep, "Delta", "N1", FILE_A)?;
+        Ok(write!(told, "{number}")?)
     }
 }
 
-/// What a register in tables answers, and its connection.
+/// The first deposit is added to a text.
+struct TellFirst<'a>(&'a mut String);
+
+impl<'a> Ask for TellFirst<'a> {
+    type Answer = Result<(), KeepError>;
+
+    fn ask<K: Keep>(self, _alloc: Global, keep: &mut K) -> Result<(), KeepError> {
+        let TellFirst(told) = self;
+        tell_deposit(keep, 1, told)
+    }
+}
+
+/// What a register in tables answers, and its connection: one that was made takes A, and of one that was opened the first deposit is read.
 fn tell_tables<S: Alter + Drop>(
     alloc: Global,
-    mut keep: SqlKeep<S>,
+    keep: SqlKeep<S>,
     act: Act,
     told: &mut String,
-) -> Result<Connection<S>, KeepError>
+) -> (Result<(), KeepError>, Connection<S>)
     requires { keep.has_failed ≡ false }
 {
-    tell_act(alloc, &mut keep, act, told)?;
-    Ok(keep.into_connection())
+    match act {
+        Act::Create(_) => ask_tables(alloc, keep, TellTaken(told)),
+        Act::Open => ask_tables(alloc, keep, TellFirst(told)),
+    }
+}
+
+/// What a register in a file answers, which is closed then.
+fn tell_file(
+    alloc: Global,
+    keep: SqlKeep<FileStore<File>>,
+    act: Act,
+    told: &mut String,
+) -> Result<(), KeepError>
+    requires { keep.has_failed ≡ false }
+{
+    let (answer, connection) = tell_tables(alloc, keep, act, told);
+    if is_closed(connection) {
+        answer
+    } else {
+        Err(KeepError::Store)
+    }
 }
 
 fn tell_visit(rt: &HostRuntime, visit: &Visit, told: &mut String) -> Result<(), KeepError> {
-    let Some(keep) = visited(rt, visit, told)? else {
-        return Ok(());
-    };
-    if is_closed(tell_tables(rt.alloc(), keep, visit.act, told)?) {
-        Ok(())
-    } else {
-        Err(KeepError::Store)
+    match visited(rt, visit, told) {
+        Ok(Some(keep)) => tell_file(rt.alloc(), keep, visit.act, told),
+        Ok(None) => Ok(()),
+        Err(refused) => Err(KeepError::from(refused)),
     }
 }
 

@@ -3,7 +3,7 @@
 
 ghost use Rattle.std.specs.Prelude.{◌≡◌, false, IfSome, IsTrue};
 
-use crate::tests::{take_named, tell_deposit};
+use crate::tests::{Ask, ask_tables, take_named, tell_deposit};
 use ags_rows::vectors::{FILE_A, FILE_B, MINI};
 use reg_store::{Keep, KeepError};
 use reg_tables::{AdoptError, CreateError, SqlKeep};
@@ -84,6 +84,18 @@ fn send_both<K: Keep>(alloc: Global, keep: &mut K) -> Option<Stage>
     Some(Stage::Closing)
 }
 
+/// Both files are sent: where that stopped.
+struct SendBoth;
+
+impl Ask for SendBoth {
+    type Answer = Option<Stage>;
+
+    fn ask<K: Keep>(self, alloc: Global, keep: &mut K) -> Option<Stage> {
+        let SendBoth = self;
+        send_both(alloc, keep)
+    }
+}
+
 /// An empty database over new files, of which one refuses each call after so many; else these files.
 fn started(alloc: Global, file: File, calls: u64) -> Result<Stoppable, Files<Stopping>> {
     let (log_calls, database_calls) = match file {
@@ -101,7 +113,7 @@ fn started(alloc: Global, file: File, calls: u64) -> Result<Stoppable, Files<Sto
 }
 
 /// The files of a database that is closed, and the stage that a run then stopped in: that before, or none where all went well.
-fn closed(stage: Stage, connection: Stoppable) -> (Stage, Files<Stopping>) {
+fn closed(stage: Option<Stage>, connection: Stoppable) -> (Option<Stage>, Files<Stopping>) {
     match connection.close_files() {
         Ok(files) => (after_closing(stage), files),
         Err((_, store)) => (stage, store.close()),
@@ -109,52 +121,22 @@ fn closed(stage: Stage, connection: Stoppable) -> (Stage, Files<Stopping>) {
 }
 
 /// A run that got as far as its closing has ended where the closing went well.
-fn after_closing(stage: Stage) -> Stage {
+fn after_closing(stage: Option<Stage>) -> Option<Stage> {
     match stage {
-        Stage::Closing => Stage::Ended,
+        Some(Stage::Closing) => Some(Stage::Ended),
         _ => stage,
     }
 }
 
-/// Both files are deposited in a register, up to the first call that is refused.
-fn filled<S: Alter + Drop>(alloc: Global, mut keep: SqlKeep<S>) -> Option<(Stage, Connection<S>)>
-    requires { keep.has_failed ≡ false }
-{
-    let stage = send_both(alloc, &mut keep)?;
-    Some((stage, keep.into_connection()))
-}
-
-/// A register is made and filled, up to the first call that is refused.
+/// A register is made and filled, up to the first call that is refused. Where one is refused otherwise than by the stop, no stage is answered.
 fn made<S: Alter + Drop>(
     alloc: Global,
     connection: Connection<S>,
-) -> Option<(Stage, Connection<S>)> {
+) -> (Option<Stage>, Connection<S>) {
     match SqlKeep::create_in(alloc, connection, MINI) {
-        Ok(keep) => filled(alloc, keep),
-        Err((CreateError::Store, connection)) => Some((Stage::Making, connection)),
-        Err(_) => None,
-    }
-}
-
-/// The same from the opening of the files to their closing. Where a call is refused otherwise than by the stop, nothing is answered.
-fn run(alloc: Global, file: File, calls: u64) -> Option<(Stage, Files<Stopping>)> {
-    match started(alloc, file, calls) {
-        Ok(connection) => {
-            let (stage, connection) = made(alloc, connection)?;
-            Some(closed(stage, connection))
-        }
-        Err(files) => Some((Stage::Making, files)),
-    }
-}
-
-/// The database that the files hold once the machine has lost what was not synced.
-fn opened_again(alloc: Global, file: File, files: Files<Stopping>) -> Option<Stoppable> {
-    let Files { mut log, mut db } = files;
-    log.crash();
-    db.crash();
-    match Connection::open_files(alloc, Files { log, db }, options(file)) {
-        Ok(connection) => Some(connection),
-        Err(_) => None,
+        Ok(keep) => ask_tables(alloc, keep, SendBoth),
+        Err((CreateError::Store, connection)) => (Some(Stage::Making), connection),
+        Err((_, connection)) => (None, connection),
     }
 }
 
@@ -206,31 +188,106 @@ fn is_whole<K: Keep>(alloc: Global, stage: Stage, keep: &mut K) -> bool
     may_hold(stage, keep.count()) && takes_both(alloc, keep) && holds_both(alloc, keep)
 }
 
-/// Makes the register anew in tables that are none, which the making alone may leave.
-fn is_made_anew<S: Alter + Drop>(alloc: Global, stage: Stage, connection: Connection<S>) -> bool {
-    match SqlKeep::create_in(alloc, connection, MINI) {
-        Ok(mut keep) => matches!(stage, Stage::Making) && is_whole(alloc, stage, &mut keep),
-        Err(_) => false,
+/// A register is looked at after a stop in a stage: that stage, where it is whole.
+struct LookAt(Stage);
+
+impl Ask for LookAt {
+    type Answer = Option<Stage>;
+
+    fn ask<K: Keep>(self, alloc: Global, keep: &mut K) -> Option<Stage> {
+        let LookAt(stage) = self;
+        if is_whole(alloc, stage, keep) {
+            Some(stage)
+        } else {
+            None
+        }
     }
 }
 
-/// Whether what a stop left is as it may be: opens it, and looks at it.
-fn is_left_well<S: Alter + Drop>(alloc: Global, stage: Stage, connection: Connection<S>) -> bool {
+/// Makes the register anew in tables that are none, which the making alone may leave.
+fn made_anew<S: Alter + Drop>(
+    alloc: Global,
+    stage: Stage,
+    connection: Connection<S>,
+) -> (Option<Stage>, Connection<S>) {
+    if !matches!(stage, Stage::Making) {
+        return (None, connection);
+    }
+    match SqlKeep::create_in(alloc, connection, MINI) {
+        Ok(keep) => ask_tables(alloc, keep, LookAt(stage)),
+        Err((_, connection)) => (None, connection),
+    }
+}
+
+/// Opens what a stop left, and looks at it: the stage, where it is as it may be.
+fn looked_at<S: Alter + Drop>(
+    alloc: Global,
+    stage: Stage,
+    connection: Connection<S>,
+) -> (Option<Stage>, Connection<S>) {
     match SqlKeep::adopt(alloc, connection) {
-        Ok(mut keep) => is_whole(alloc, stage, &mut keep),
-        Err((AdoptError::NotRegister, connection)) => is_made_anew(alloc, stage, connection),
-        Err(_) => false,
+        Ok(keep) => ask_tables(alloc, keep, LookAt(stage)),
+        Err((AdoptError::NotRegister, connection)) => made_anew(alloc, stage, connection),
+        Err((_, connection)) => (None, connection),
+    }
+}
+
+/// What is done with a database.
+enum Step {
+    /// A register is made in it and filled.
+    Make,
+    /// It is what a stop in this stage left, and is looked at.
+    LookAt(Stage),
+}
+
+/// Does a step over any store.
+fn stepped<S: Alter + Drop>(
+    alloc: Global,
+    connection: Connection<S>,
+    step: Step,
+) -> (Option<Stage>, Connection<S>) {
+    match step {
+        Step::Make => made(alloc, connection),
+        Step::LookAt(stage) => looked_at(alloc, stage, connection),
+    }
+}
+
+/// Does a step over disks that stop. They are shown to be a store here alone, since that is long.
+fn stepped_on_disks(
+    alloc: Global,
+    connection: Stoppable,
+    step: Step,
+) -> (Option<Stage>, Stoppable) {
+    stepped(alloc, connection, step)
+}
+
+/// A register is made and filled, from the opening of the files to their closing.
+fn run(alloc: Global, file: File, calls: u64) -> (Option<Stage>, Files<Stopping>) {
+    match started(alloc, file, calls) {
+        Ok(connection) => {
+            let (stage, connection) = stepped_on_disks(alloc, connection, Step::Make);
+            closed(stage, connection)
+        }
+        Err(files) => (Some(Stage::Making), files),
+    }
+}
+
+/// The stage in which a run stopped, where the files hold what they may once the machine has lost what was not synced.
+fn left(alloc: Global, file: File, stage: Stage, files: Files<Stopping>) -> Option<Stage> {
+    let Files { mut log, mut db } = files;
+    log.crash();
+    db.crash();
+    match Connection::open_files(alloc, Files { log, db }, options(file)) {
+        Ok(connection) => stepped_on_disks(alloc, connection, Step::LookAt(stage)).0,
+        Err(_) => None,
     }
 }
 
 /// The stage in which a run stops, where it leaves what it may.
 fn stage_of(alloc: Global, file: File, calls: u64) -> Option<Stage> {
-    let (stage, files) = run(alloc, file, calls)?;
-    let connection = opened_again(alloc, file, files)?;
-    if is_left_well(alloc, stage, connection) {
-        Some(stage)
-    } else {
-        None
+    match run(alloc, file, calls) {
+        (Some(stage), files) => left(alloc, file, stage, files),
+        (None, _) => None,
     }
 }
 
@@ -277,15 +334,21 @@ fn stops(letters: &str) -> usize {
     letters.len().saturating_sub(1)
 }
 
+/// How many runs stopped. It fails with their letters where none stopped in some stage, or none ended.
+fn stops_at(alloc: Global, file: File) -> Result<usize, Fail> {
+    let letters = letters(alloc, file)?;
+    if has_all(letters.as_str()) {
+        Ok(stops(letters.as_str()))
+    } else {
+        Err(Fail::new(letters))
+    }
+}
+
 #[test]
 fn stops_of_a_store(rt: HostRuntime) -> Result<(), Fail> {
-    let log = letters(rt.alloc(), File::Log)?;
-    assert!(rt; has_all(log.as_str()), "{log}");
-    let database = letters(rt.alloc(), File::Database)?;
-    assert!(rt; has_all(database.as_str()), "{database}");
-    let of_log = stops(log.as_str());
+    let of_log = stops_at(rt.alloc(), File::Log)?;
     println!(rt; "{of_log} stops of the log")?;
-    let of_database = stops(database.as_str());
+    let of_database = stops_at(rt.alloc(), File::Database)?;
     println!(rt; "{of_database} stops of the database file")?;
     Ok(())
 }
