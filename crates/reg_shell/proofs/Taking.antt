@@ -1,8 +1,11 @@
 -- What is taken from a reader by one call after another.
-use Rattle.std.proofs.Common.{◌≡◌, ℕ, ◌+◌, ◌≤◌, ◌<◌, ◌++◌, ◌||◌, Bool, true, false, [], List, length, Option, None, Some, IfSome, take, refl, sym, ap, subst, ◌∙◌, arith, append-nil, append_assoc, length-append}
+use Rattle.std.proofs.Common.{◌≡◌, ℕ, ◌+◌, ◌≤◌, ◌<◌, ◌++◌, ◌||◌, Bool, true, false, [], List, length, Option, None, Some, Result, Err, Vec, IfSome, inl, inr, take, refl, sym, ap, subst, ◌∙◌, arith, append-nil, append_assoc, length-append}
 use Rattle.std.specs.Io.KnownBytes.{Appends, Consumes, IsAtEnd, Keeps}
 use Rattle.std.proofs.lemmas.Grind.{common_steps}
-use Rattle.reg_shell.specs.Reading.{Appended, TakesAtMost}
+use Rattle.std.specs.Global.{Global}
+use Rattle.reg_shell.specs.declared.fault.Fault.{Fault}
+use Rattle.reg_shell.specs.Faults.{is_stream, is_stream_fault}
+use Rattle.reg_shell.specs.Reading.{Appended, IsOfReading, ReadsFile, TakesAtMost}
 
 -- nothing was taken
 pub takes_none : (known : Option (List ℕ)) → Consumes known known []
@@ -99,3 +102,16 @@ appends_read count old new buf before after one end few joined = record {
   taken = one;
   at_end = end;
 }
+
+-- a fault of a read leaves open what the file is
+pub reads_fault : (known : Option (List ℕ)) (result : Result (Vec ℕ Global) Fault) (said fault : Fault) → result ≡ Err said → said ≡ fault → IsOfReading fault
+    → IfSome known (λ all. ReadsFile all result)
+reads_fault None result said fault is same one = tt
+reads_fault (Some all) result said fault is same (inl e) = subst (λ r. ReadsFile all r) (sym (is ∙ ap (λ f. Err f) (same ∙ e))) tt
+reads_fault (Some all) result said fault is same (inr e) = subst (λ r. ReadsFile all r) (sym (is ∙ ap (λ f. Err f) (same ∙ e))) tt
+
+-- whether a call has failed: as before the loop, and then by one that ended with this fault
+pub notes_fault : (old mid new : Bool) (result : Result (Vec ℕ Global) Fault) (said fault : Fault) → result ≡ Err said → said ≡ fault
+    → new ≡ (mid || is_stream fault) → mid ≡ old → new ≡ (old || is_stream_fault result)
+notes_fault old mid new result said fault is same one kept =
+    subst (λ r. new ≡ (old || is_stream_fault r)) (sym (is ∙ ap (λ f. Err f) same)) (notes_call old mid new (is_stream fault) one kept)

@@ -1,5 +1,6 @@
 use Rattle.std.proofs.Common.{rules, refl, ◌≡◌, ◌+◌, length, arith}
-use Rattle.reg_shell.proofs.Taking.{takes_start, takes_piece, takes_all, takes_part, takes_within, takes_nothing, takes_few, notes_call, notes_none, notes_kept, length-appended}
+use Rattle.std.proofs.lemmas.Result.{err_from_is_err_and}
+use Rattle.reg_shell.proofs.Taking.{takes_start, takes_piece, takes_all, takes_part, takes_within, takes_nothing, takes_few, reads_fault, notes_call, notes_fault, notes_none, notes_kept, length-appended}
 use Rattle.reg_shell.proofs.input.read_file.Goals as goal
 
 pub loop-bytes-init : goal.loop-bytes-init
@@ -13,6 +14,16 @@ loop-bytes-init g c = record {
 pub returns-in_err-count-clause-taken : goal.returns-in_err-count-clause-taken
 returns-in_err-count-clause-taken g c =
     takes_within _ c.min-room.result _ _ _ _ c.loop-bytes.invariant.taken c.read_piece.ensures.taken (search rules)
+
+pub returns-in_err-count-clause-file : goal.returns-in_err-count-clause-file
+returns-in_err-count-clause-file g c =
+    let p = err_from_is_err_and c.from_residual-in_err-count.result c.from_residual-in_err-count.ensures.1 in
+    reads_fault _ _ p.0 _ p.1 p.2 c.in_err-count.ensures.fault
+
+pub returns-in_err-count-clause-noted : goal.returns-in_err-count-clause-noted
+returns-in_err-count-clause-noted g c =
+    let p = err_from_is_err_and c.from_residual-in_err-count.result c.from_residual-in_err-count.ensures.1 in
+    notes_fault _ _ _ _ p.0 _ p.1 p.2 c.in_err-count.ensures.noted c.loop-bytes.invariant.noted
 
 pub returns-then-count-eq0-clause-taken : goal.returns-then-count-eq0-clause-taken
 returns-then-count-eq0-clause-taken g c =
