@@ -1,10 +1,10 @@
 //! The words of the command line.
 
-ghost use Rattle.std.specs.Prelude.{◌≤◌, IfOk};
+ghost use Rattle.std.specs.Prelude.{◌≤◌, IfSome};
 
 use crate::fault::Fault;
 use clap::error::ErrorKind;
-use clap::{Arg, ArgAction, ArgMatches, Command};
+use clap::{Arg, ArgAction, ArgMatches, Command, Error};
 use std::alloc::{AllocError, Global};
 use std::convert::AsStr;
 
@@ -60,208 +60,251 @@ pub enum Words<'w> {
 /// The greatest number of connections that `serve` serves.
 const MOST_CONNECTIONS: u32 = 1_000_000;
 
+/// What a command does.
+enum Task {
+    Init,
+    Check,
+    Deposit,
+    Extract,
+    List,
+    Serve,
+}
+
+/// A word of a command, by the name under which it is read.
+enum Word {
+    /// An option that has to be given.
+    Required(&'static str),
+    /// An option that may be left out.
+    Optional(&'static str),
+    /// A word without an option's name.
+    Plain(&'static str),
+}
+
+/// A command's name, and the words behind it.
+struct Form {
+    name: &'static str,
+    task: Task,
+    words: &'static [Word],
+}
+
+static FORMS: [Form; 6] = [
+    Form {
+        name: "init",
+        task: Task::Init,
+        words: &[Word::Required("store"), Word::Required("dictionary")],
+    },
+    Form {
+        name: "check",
+        task: Task::Check,
+        words: &[Word::Required("dictionary"), Word::Plain("file")],
+    },
+    Form {
+        name: "deposit",
+        task: Task::Deposit,
+        words: &[
+            Word::Required("store"),
+            Word::Required("policy"),
+            Word::Required("callers"),
+            Word::Required("token"),
+            Word::Required("project"),
+            Word::Optional("day"),
+            Word::Optional("embargo"),
+            Word::Plain("file"),
+        ],
+    },
+    Form {
+        name: "extract",
+        task: Task::Extract,
+        words: &[
+            Word::Required("store"),
+            Word::Required("policy"),
+            Word::Required("callers"),
+            Word::Required("token"),
+            Word::Required("project"),
+            Word::Optional("day"),
+            Word::Optional("groups"),
+            Word::Plain("number"),
+        ],
+    },
+    Form {
+        name: "list",
+        task: Task::List,
+        words: &[
+            Word::Required("store"),
+            Word::Required("policy"),
+            Word::Required("callers"),
+            Word::Required("token"),
+            Word::Required("project"),
+            Word::Optional("day"),
+        ],
+    },
+    Form {
+        name: "serve",
+        task: Task::Serve,
+        words: &[
+            Word::Required("store"),
+            Word::Required("policy"),
+            Word::Required("callers"),
+            Word::Required("port"),
+            Word::Required("connections"),
+            Word::Optional("day"),
+        ],
+    },
+];
+
+/// The form of the command that has this name.
+fn form_of(name: &str) -> Option<&'static Form> {
+    for form in &FORMS {
+        if form.name == name {
+            return Some(form);
+        }
+    }
+    None
+}
+
 fn option<'w>(alloc: Global, name: &'w str) -> Arg<'w> {
     Arg::new(alloc, name).long(name).action(ArgAction::Set)
 }
 
-fn with_required<'w>(
-    alloc: Global,
-    command: Command<'w>,
-    names: &[&'w str],
-) -> Result<Command<'w>, AllocError> {
-    let mut command = command;
-    for name in names {
-        command = command.arg(option(alloc, name).required(true))?;
+fn argument<'w>(alloc: Global, word: &Word) -> Arg<'w> {
+    match word {
+        Word::Required(name) => option(alloc, name).required(true),
+        Word::Optional(name) => option(alloc, name),
+        Word::Plain(name) => Arg::new(alloc, name).required(true).action(ArgAction::Set),
+    }
+}
+
+/// The command of a form. The prover writes it out at each point of a function that holds one, and at most where it is handed
+/// on, so few functions do.
+fn command<'w>(alloc: Global, form: &Form) -> Result<Command<'w>, AllocError> {
+    let mut command = Command::new(alloc, form.name)
+        .disable_help_flag(true)
+        .disable_version_flag(true);
+    for word in form.words {
+        command = command.arg(argument(alloc, word))?;
     }
     Ok(command)
 }
 
-fn with_word<'w>(
-    alloc: Global,
-    command: Command<'w>,
-    name: &'w str,
-) -> Result<Command<'w>, AllocError> {
-    command.arg(Arg::new(alloc, name).required(true).action(ArgAction::Set))
-}
-
-/// A command with these options, all of them required.
-fn command<'w>(alloc: Global, name: &'w str, names: &[&'w str]) -> Result<Command<'w>, AllocError> {
-    let command = Command::new(alloc, name).disable_help_flag(true);
-    with_required(alloc, command, names)
-}
-
-/// A command of someone who asks.
-fn asking<'w>(alloc: Global, name: &'w str) -> Result<Command<'w>, AllocError> {
-    let names = ["store", "policy", "callers", "token", "project"];
-    command(alloc, name, &names)?.arg(option(alloc, "day"))
-}
-
-fn deposit_command<'w>(alloc: Global) -> Result<Command<'w>, AllocError> {
-    let command = asking(alloc, "deposit")?.arg(option(alloc, "embargo"))?;
-    with_word(alloc, command, "file")
-}
-
-fn extract_command<'w>(alloc: Global) -> Result<Command<'w>, AllocError> {
-    let command = asking(alloc, "extract")?.arg(option(alloc, "groups"))?;
-    with_word(alloc, command, "number")
-}
-
-fn serve_command<'w>(alloc: Global) -> Result<Command<'w>, AllocError> {
-    let names = ["store", "policy", "callers", "port", "connections"];
-    command(alloc, "serve", &names)?.arg(option(alloc, "day"))
-}
-
-fn check_command<'w>(alloc: Global) -> Result<Command<'w>, AllocError> {
-    let check = command(alloc, "check", &["dictionary"])?;
-    with_word(alloc, check, "file")
-}
-
-/// Adds a command, if it was made. The prover writes a command out at each point of a function that holds one, so this is one
-/// call, and few are made in a row.
-fn with_command<'w>(
-    program: Command<'w>,
-    made: Result<Command<'w>, AllocError>,
-) -> Result<Command<'w>, AllocError> {
-    program.subcommand(made?)
-}
-
-/// Adds the commands of those who ask.
-fn with_asking<'w>(alloc: Global, program: Command<'w>) -> Result<Command<'w>, AllocError> {
-    let program = with_command(program, deposit_command(alloc))?;
-    let program = with_command(program, extract_command(alloc))?;
-    with_command(program, asking(alloc, "list"))
-}
-
-/// The program without commands, one of which its words have to name.
-fn program<'w>(alloc: Global) -> Command<'w> {
-    Command::new(alloc, "groundreg")
-        .disable_help_flag(true)
-        .disable_version_flag(true)
-        .disable_help_subcommand(true)
-        .subcommand_required(true)
-}
-
-/// Adds the commands that ask no desk.
-fn with_init_and_check<'w>(alloc: Global, program: Command<'w>) -> Result<Command<'w>, AllocError> {
-    let init = command(alloc, "init", &["store", "dictionary"]);
-    let program = with_command(program, init)?;
-    with_command(program, check_command(alloc))
-}
-
-/// The program with all its commands.
-fn commands<'w>(alloc: Global) -> Result<Command<'w>, AllocError> {
-    let program = with_init_and_check(alloc, program(alloc))?;
-    let program = with_asking(alloc, program)?;
-    with_command(program, serve_command(alloc))
-}
-
 /// The text that is given under a name.
-fn text<'w>(given: &ArgMatches<'w>, name: &str) -> Result<&'w str, Fault> {
-    given.get_str(name).ok_or(Fault::WordsRefused)
+fn text<'w>(given: &ArgMatches<'w>, name: &str) -> Option<&'w str> {
+    given.get_str(name)
 }
 
 /// The number that digits give under a name, from 1 to `most`.
-fn number(given: &ArgMatches<'_>, name: &str, most: u32) -> Result<u32, Fault>
-    ensures { IfOk result (λ number. (1 ≤ number) × (number ≤ most)) }
+fn number(given: &ArgMatches<'_>, name: &str, most: u32) -> Option<u32>
+    ensures { IfSome result (λ number. (1 ≤ number) × (number ≤ most)) }
 {
     let digits = text(given, name)?;
     if !digits.bytes().all(|b| b.is_ascii_digit()) {
-        return Err(Fault::WordsRefused);
+        return None;
     }
     match digits.parse::<u32>() {
-        Ok(number) if (1..=most).contains(&number) => Ok(number),
-        _ => Err(Fault::WordsRefused),
+        Ok(number) if (1..=most).contains(&number) => Some(number),
+        _ => None,
     }
 }
 
-/// The texts that each command of a policy gives: store, policy and callers.
-fn rights_in<'w>(given: &ArgMatches<'w>) -> Result<(&'w str, &'w str, &'w str), Fault> {
-    let store = text(given, "store")?;
-    let policy = text(given, "policy")?;
-    Ok((store, policy, text(given, "callers")?))
-}
-
-fn asker_in<'w>(given: &ArgMatches<'w>) -> Result<Asker<'w>, Fault> {
-    let (store, policy, callers) = rights_in(given)?;
-    Ok(Asker {
-        store,
-        policy,
-        callers,
+fn asker_in<'w>(given: &ArgMatches<'w>) -> Option<Asker<'w>> {
+    Some(Asker {
+        store: text(given, "store")?,
+        policy: text(given, "policy")?,
+        callers: text(given, "callers")?,
         token: text(given, "token")?,
         project: text(given, "project")?,
-        day: given.get_str("day"),
+        day: text(given, "day"),
     })
 }
 
-fn service_in<'w>(given: &ArgMatches<'w>) -> Result<Service<'w>, Fault> {
-    let (store, policy, callers) = rights_in(given)?;
-    Ok(Service {
-        store,
-        policy,
-        callers,
-        day: given.get_str("day"),
+fn service_in<'w>(given: &ArgMatches<'w>) -> Option<Service<'w>> {
+    Some(Service {
+        store: text(given, "store")?,
+        policy: text(given, "policy")?,
+        callers: text(given, "callers")?,
+        day: text(given, "day"),
         port: number(given, "port", 65_535)? as u16,
         connections: number(given, "connections", MOST_CONNECTIONS)?,
     })
 }
 
-fn init_words<'w>(given: &ArgMatches<'w>) -> Result<Words<'w>, Fault> {
-    Ok(Words::Init {
+fn init_words<'w>(given: &ArgMatches<'w>) -> Option<Words<'w>> {
+    Some(Words::Init {
         store: text(given, "store")?,
         dictionary: text(given, "dictionary")?,
     })
 }
 
-fn check_words<'w>(given: &ArgMatches<'w>) -> Result<Words<'w>, Fault> {
-    Ok(Words::Check {
+fn check_words<'w>(given: &ArgMatches<'w>) -> Option<Words<'w>> {
+    Some(Words::Check {
         dictionary: text(given, "dictionary")?,
         file: text(given, "file")?,
     })
 }
 
-fn deposit_words<'w>(given: &ArgMatches<'w>) -> Result<Words<'w>, Fault> {
-    Ok(Words::Deposit {
+fn deposit_words<'w>(given: &ArgMatches<'w>) -> Option<Words<'w>> {
+    Some(Words::Deposit {
         asker: asker_in(given)?,
-        embargo: given.get_str("embargo"),
+        embargo: text(given, "embargo"),
         file: text(given, "file")?,
     })
 }
 
-fn extract_words<'w>(given: &ArgMatches<'w>) -> Result<Words<'w>, Fault> {
-    Ok(Words::Extract {
+fn extract_words<'w>(given: &ArgMatches<'w>) -> Option<Words<'w>> {
+    Some(Words::Extract {
         asker: asker_in(given)?,
-        groups: given.get_str("groups"),
+        groups: text(given, "groups"),
         number: text(given, "number")?,
     })
 }
 
+fn list_words<'w>(given: &ArgMatches<'w>) -> Option<Words<'w>> {
+    Some(Words::List(asker_in(given)?))
+}
+
+fn serve_words<'w>(given: &ArgMatches<'w>) -> Option<Words<'w>> {
+    Some(Words::Serve(service_in(given)?))
+}
+
 /// What a command's own words give.
-fn words_of<'w>(name: &str, given: &ArgMatches<'w>) -> Result<Words<'w>, Fault> {
-    match name {
-        "init" => init_words(given),
-        "check" => check_words(given),
-        "deposit" => deposit_words(given),
-        "extract" => extract_words(given),
-        "list" => Ok(Words::List(asker_in(given)?)),
-        "serve" => Ok(Words::Serve(service_in(given)?)),
-        _ => Err(Fault::WordsRefused),
+fn words_of<'w>(task: &Task, given: &ArgMatches<'w>) -> Option<Words<'w>> {
+    match task {
+        Task::Init => init_words(given),
+        Task::Check => check_words(given),
+        Task::Deposit => deposit_words(given),
+        Task::Extract => extract_words(given),
+        Task::List => list_words(given),
+        Task::Serve => serve_words(given),
     }
 }
 
-/// What the words give to a command. A request for help is refused as well.
-fn given_by<'w, S: AsStr>(alloc: Global, words: &'w [S]) -> Result<ArgMatches<'w>, Fault> {
-    match commands(alloc)?.try_get_matches_from(words) {
-        Ok(matches) => Ok(matches),
-        Err(error) if error.kind() == ErrorKind::OutOfMemory => Err(Fault::NoMemory),
-        Err(_) => Err(Fault::WordsRefused),
+fn fault_of(error: Error) -> Fault {
+    match error.kind() {
+        ErrorKind::OutOfMemory => Fault::NoMemory,
+        _ => Fault::WordsRefused,
     }
+}
+
+/// What the words give to a command, whose name is the first. A request for help is refused as well.
+fn given_by<'w, S: AsStr>(
+    alloc: Global,
+    form: &Form,
+    words: &'w [S],
+) -> Result<ArgMatches<'w>, Fault> {
+    let command = command(alloc, form)?;
+    command.try_get_matches_from(words).map_err(fault_of)
 }
 
 /// What the words ask, of which the first is the program's name.
 pub fn read_words<'w, S: AsStr>(alloc: Global, words: &'w [S]) -> Result<Words<'w>, Fault> {
-    let matches = given_by(alloc, words)?;
-    match matches.subcommand() {
-        Some((name, given)) => words_of(name, given),
-        None => Err(Fault::WordsRefused),
-    }
+    let [_program, words @ ..] = words else {
+        return Err(Fault::WordsRefused);
+    };
+    let [name, ..] = words else {
+        return Err(Fault::WordsRefused);
+    };
+    let Some(form) = form_of(name.as_str()) else {
+        return Err(Fault::WordsRefused);
+    };
+    let given = given_by(alloc, form, words)?;
+    words_of(&form.task, &given).ok_or(Fault::WordsRefused)
 }
