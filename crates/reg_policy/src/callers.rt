@@ -128,10 +128,8 @@ impl FromTable for Credential {
 fn token_at(alloc: Global, table: &Table) -> Result<Bytes, ReadError>
     ensures { Gives (IsText is_token (get_member (codes "token") (table_view table.now))) result }
 {
-    let text = match string_at(table, "token") {
-        Ok(Some(text)) => text,
-        Ok(None) => return Err(ReadError::BadValue),
-        Err(error) => return Err(error),
+    let Some(text) = string_at(table, "token")? else {
+        return Err(ReadError::BadValue);
     };
     if !is_token(text.as_bytes()) {
         return Err(ReadError::BadValue);
@@ -142,10 +140,8 @@ fn token_at(alloc: Global, table: &Table) -> Result<Bytes, ReadError>
 fn caller_name_at(alloc: Global, table: &Table, key: &str) -> Result<Name, ReadError>
     ensures { Gives (IsText is_name (get_member key.now (table_view table.now))) result }
 {
-    let text = match string_at(table, key) {
-        Ok(Some(text)) => text,
-        Ok(None) => return Err(ReadError::BadValue),
-        Err(error) => return Err(error),
+    let Some(text) = string_at(table, key)? else {
+        return Err(ReadError::BadValue);
     };
     match Name::read(alloc, text) {
         Ok(name) => Ok(name),

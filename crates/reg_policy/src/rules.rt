@@ -80,11 +80,10 @@ fn integer_at(table: &Table, key: &str) -> Option<i64>
 fn effect_at(table: &Table) -> Result<Effect, ReadError>
     ensures { Gives (IsEffect (get_member (codes "effect") (table_view table.now))) result }
 {
-    match string_at(table, "effect") {
-        Ok(Some("permit")) => Ok(Effect::Permit),
-        Ok(Some("deny")) => Ok(Effect::Deny),
-        Ok(_) => Err(ReadError::BadValue),
-        Err(error) => Err(error),
+    match string_at(table, "effect")? {
+        Some("permit") => Ok(Effect::Permit),
+        Some("deny") => Ok(Effect::Deny),
+        _ => Err(ReadError::BadValue),
     }
 }
 
@@ -92,19 +91,17 @@ fn effect_at(table: &Table) -> Result<Effect, ReadError>
 fn word_at<'a>(table: &'a Table, key: &str) -> Result<Option<&'a str>, ReadError>
     ensures { GivesWord (get_member key.now (table_view table.now)) result }
 {
-    match string_at(table, key) {
-        Ok(Some("*")) => Ok(None),
-        text => text,
+    match string_at(table, key)? {
+        Some("*") => Ok(None),
+        text => Ok(text),
     }
 }
 
 fn name_at(alloc: Global, table: &Table, key: &str) -> Result<Option<Name>, ReadError>
     ensures { Gives (Sets (IsWord is_name) (get_member key.now (table_view table.now))) result }
 {
-    let word = match word_at(table, key) {
-        Ok(Some(word)) => word,
-        Ok(None) => return Ok(None),
-        Err(error) => return Err(error),
+    let Some(word) = word_at(table, key)? else {
+        return Ok(None);
     };
     match Name::read(alloc, word) {
         Ok(name) => Ok(Some(name)),
@@ -116,10 +113,8 @@ fn name_at(alloc: Global, table: &Table, key: &str) -> Result<Option<Name>, Read
 fn verb_at(table: &Table) -> Result<Option<Verb>, ReadError>
     ensures { Gives (Sets IsVerb (get_member (codes "verb") (table_view table.now))) result }
 {
-    let word = match word_at(table, "verb") {
-        Ok(Some(word)) => word,
-        Ok(None) => return Ok(None),
-        Err(error) => return Err(error),
+    let Some(word) = word_at(table, "verb")? else {
+        return Ok(None);
     };
     match verb_of(word) {
         Some(verb) => Ok(Some(verb)),
@@ -158,10 +153,8 @@ fn group_at(alloc: Global, table: &Table) -> Result<Option<Bytes>, ReadError>
 fn either_at(table: &Table, key: &str, word: &str, other: &str) -> Result<Option<bool>, ReadError>
     ensures { Gives (Sets (IsEither word.now other.now) (get_member key.now (table_view table.now))) result }
 {
-    let text = match word_at(table, key) {
-        Ok(Some(text)) => text,
-        Ok(None) => return Ok(None),
-        Err(error) => return Err(error),
+    let Some(text) = word_at(table, key)? else {
+        return Ok(None);
     };
     if text == word {
         Ok(Some(true))
