@@ -1,6 +1,6 @@
 -- How a connection goes, from how its steps went.
 use Rattle.std.proofs.Common.{◌≡◌, ℕ, ℤ, true, false, ◌+◌, ◌<◌, ◌≤◌, ◌⊎◌, inl, inr, List, [], ◌∷◌, ◌++◌, length, take, drop, Option, Some, None, Result, Ok, Err, refl, sym, ap, ◌∙◌, arith, length-append, subst}
-use Rattle.std.specs.Prelude.{IfSome, Vec}
+use Rattle.std.specs.Prelude.{IfSome, Vec, ⊤}
 use Rattle.std.specs.declared.alloc.Global.{Global}
 use Rattle.std.specs.Io.KnownBytes.{Appends, Consumes}
 use Rattle.std.proofs.lemmas.List.{append-nil, length-take-le, take_all}
@@ -235,6 +235,28 @@ short_asked answers (Some rest) early a day d u w (Ok s) short written = inr (in
 short_asked answers (Some rest) early a day d u w (Err fault.Write) short written = inr (inl (short, refl, written))
 short_asked answers (Some rest) early a day d u w (Err fault.Read) short written = tt
 
+module _ {D : Type 0} (answers : D → Asked → Answer → D → Type 0) (a : Asking) (day : ℤ) (d : D) (u w : Option (List ℕ)) where
+  -- memory ran out before the desk was asked, and that was written
+  spent : (all : List ℕ) (result : Result Served IoFault) → Written u w (rendered OutOfMemory) (status_of OutOfMemory) result → ServesAsked answers a day all d d u w result
+  spent all (Ok s) written = inr (inr (refl, written))
+  spent all (Err fault.Write) written = inr (inr (refl, written))
+  spent all (Err fault.Read) written = tt
+
+  pub spent_asked : (left : Option (List ℕ)) (early : List ℕ) (result : Result Served IoFault) → Written u w (rendered OutOfMemory) (status_of OutOfMemory) result
+      → IfSome left (λ rest. ServesAsked answers a day (early ++ rest) d d u w result)
+  spent_asked None early result written = tt
+  spent_asked (Some rest) early result written = spent (early ++ rest) result written
+
+  pub untold_spent : (result : Result Served IoFault) → Written u w (rendered OutOfMemory) (status_of OutOfMemory) result → (all : List ℕ) × ServesAsked answers a day all d d u w result
+  untold_spent result written = ([], spent [] result written)
+
+  -- a body ended early, and that was written
+  pub untold_short : (result : Result Served IoFault) → 0 < a.length → Written u w (rendered ShortBody) (status_of ShortBody) result
+      → (all : List ℕ) × ServesAsked answers a day all d d u w result
+  untold_short (Ok s) some written = ([], inr (inl (some, refl, written)))
+  untold_short (Err fault.Write) some written = ([], inr (inl (some, refl, written)))
+  untold_short (Err fault.Read) some written = ([], tt)
+
 -- the reply to an answer was written
 pub serve_reply : (answer : Answer) (text given : List ℕ) (status : ℕ) (u w : Option (List ℕ)) (r : Result Served IoFault) → IsRendered answer text → given ≡ text
     → status ≡ answer_status answer → Written u w given status r → ServesAnswer answer u w r
@@ -242,6 +264,16 @@ serve_reply answer text given status u w r is same line written =
     let P : List ℕ → Type 0 = λ t. Written u w t (answer_status answer) r in
     let Q : ℕ → Type 0 = λ s. Written u w given s r in
     inl (text, is, subst P same (subst Q line written))
+
+-- where a read failed nothing is said of what came
+pub nothing_said : (old : Option (List ℕ)) → IfSome old (λ bytes. ⊤)
+nothing_said None = tt
+nothing_said (Some bytes) = tt
+
+-- nothing was written, whatever came
+pub silent_same : (old : Option (List ℕ)) (P : Type 0) → P → IfSome old (λ bytes. bytes ≡ [] → P)
+silent_same None P same = tt
+silent_same (Some bytes) P same = λ none. same
 
 -- where no byte comes, there is neither a bad head nor a head
 pub silent_bad : (old : Option (List ℕ)) (P : Type 0) → IfSome old (λ bytes. (0 < length bytes) × HasNoHead bytes) → IfSome old (λ bytes. bytes ≡ [] → P)

@@ -72,9 +72,18 @@ fn router(alloc: Global) -> Result<Router<Page>, InsertError>
     ensures { IfOk result (λ routes. routes ≡ table) }
 {
     let mut routes = Router::new(alloc);
-    routes.insert("/v1/projects/{project}/check", check_page())?;
-    routes.insert("/v1/projects/{project}/deposits", deposits_page())?;
-    routes.insert("/v1/projects/{project}/deposits/{number}", deposit_page())?;
+    match routes.insert("/v1/projects/{project}/check", check_page()) {
+        Ok(()) => {}
+        Err(error) => return Err(error),
+    }
+    match routes.insert("/v1/projects/{project}/deposits", deposits_page()) {
+        Ok(()) => {}
+        Err(error) => return Err(error),
+    }
+    match routes.insert("/v1/projects/{project}/deposits/{number}", deposit_page()) {
+        Ok(()) => {}
+        Err(error) => return Err(error),
+    }
     Ok(routes)
 }
 

@@ -1,8 +1,8 @@
-use Rattle.std.proofs.Common.{ap, ◌∙◌}
+use Rattle.std.proofs.Common.{[], ap, ◌∙◌}
 use Rattle.reg_http.specs.Asks.{asked_of}
 use Rattle.reg_desk.specs.Desks.{AnsweredBy}
 use Rattle.reg_http.specs.Views.{asking_at}
-use Rattle.reg_http.proofs.ServeLemmas.{serve_read, short_asked, untold_read}
+use Rattle.reg_http.proofs.ServeLemmas.{nothing_said, serve_read, short_asked, spent_asked, untold_read, untold_short, untold_spent}
 use Rattle.reg_http.proofs.serve.serve_asked.Goals as goal
 
 pub returns-clause-served : goal.returns-clause-served
@@ -21,3 +21,26 @@ pub returns-in-Err-Short-clause-served : goal.returns-in-Err-Short-clause-served
 returns-in-Err-Short-clause-served g c =
     let short = rw c.in-Err-Short.field-0-is at c.in-Err-Short.ensures.body in
     short_asked (AnsweredBy g.K.Keep) _ _ (asking_at c.args.ask.now) c.args.day c.args.desk.now _ _ c.refuse.result short c.refuse.ensures.written
+
+pub returns-in-Err-Short-clause-untold : goal.returns-in-Err-Short-clause-untold
+returns-in-Err-Short-clause-untold g c =
+    let some = rw c.in-Err-Short.field-0-is at c.in-Err-Short.ensures.fits in
+    untold_short (AnsweredBy g.K.Keep) (asking_at c.args.ask.now) c.args.day c.args.desk.now _ _ c.refuse.result some c.refuse.ensures.written
+
+pub returns-in-Err-Read-clause-served : goal.returns-in-Err-Read-clause-served
+returns-in-Err-Read-clause-served g c = nothing_said _
+
+pub returns-in-Err-Read-clause-untold : goal.returns-in-Err-Read-clause-untold
+returns-in-Err-Read-clause-untold g c = ([], tt)
+
+pub returns-in-Err-Memory-clause-served : goal.returns-in-Err-Memory-clause-served
+returns-in-Err-Memory-clause-served g c = spent_asked (AnsweredBy g.K.Keep) (asking_at c.args.ask.now) c.args.day c.args.desk.now _ _ _ _ _ c.refuse-in-Err-Memory.ensures.written
+
+pub returns-in-Err-Memory-clause-untold : goal.returns-in-Err-Memory-clause-untold
+returns-in-Err-Memory-clause-untold g c = untold_spent (AnsweredBy g.K.Keep) (asking_at c.args.ask.now) c.args.day c.args.desk.now _ _ _ c.refuse-in-Err-Memory.ensures.written
+
+pub returns-in_default-clause-served : goal.returns-in_default-clause-served
+returns-in_default-clause-served g c = spent_asked (AnsweredBy g.K.Keep) (asking_at c.args.ask.now) c.args.day c.args.desk.now _ _ _ _ _ c.refuse-in_default.ensures.written
+
+pub returns-in_default-clause-untold : goal.returns-in_default-clause-untold
+returns-in_default-clause-untold g c = untold_spent (AnsweredBy g.K.Keep) (asking_at c.args.ask.now) c.args.day c.args.desk.now _ _ _ c.refuse-in_default.ensures.written
