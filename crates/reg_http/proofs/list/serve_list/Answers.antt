@@ -1,5 +1,6 @@
-use Rattle.std.proofs.Common.{arith, subst, ap, get_or, rules}
+use Rattle.std.proofs.Common.{◌+◌, ◌∙◌, arith, subst, ap, get_or}
 use Rattle.reg_http.specs.Tallies.{IsFresh}
+use Rattle.reg_desk.specs.Desks.{AnsweredBy}
 use Rattle.reg_http.proofs.ListLemmas.{SoFar-next, SoFar-end, fresh_at}
 use Rattle.reg_http.proofs.list.serve_list.Goals as goal
 
@@ -26,8 +27,12 @@ loop-connection-preserved g c =
     let now = c.loop-connection.connections in
     let i = c.loop-connection.connection-index in
     let item = ap (λ x. get_or now i x) c.connection-item.is in
+    let next =
+    SoFar-next (AnsweredBy g.K.Keep) g.R.Read.remaining g.W.Write.contents c.args.callers.now c.args.day c.args.connections.now now c.loop-connection.results.items c.push.new.self.items i
+    c.args.desk.now c.loop-connection.desk c.serve_pair-served.new.desk (get_or now i c.connection-item.result) c.serve_pair-served.new.connection c.serve_pair-served.result
+    so (omega arith) item c.in-Ok.ensures.items c.serve_pair-served.ensures in
     record {
-      so_far = SoFar-next _ _ _ _ _ _ _ _ _ _ _ _ _ _ _ _ so (omega arith) item c.in-Ok.ensures.items c.serve_pair-served.ensures;
-      count = search rules;
-      room = search rules;
+      so_far = next;
+      count = c.in-Ok.ensures.len ∙ ap (λ k. k + 1) c.loop-connection.invariant.count;
+      room = omega (arith, next.same_length, so.same_length, c.loop-connection.invariant.room, c.in-Ok.ensures.capacity);
     }
