@@ -72,18 +72,9 @@ fn router(alloc: Global) -> Result<Router<Page>, InsertError>
     ensures { IfOk result (λ routes. routes ≡ table) }
 {
     let mut routes = Router::new(alloc);
-    match routes.insert("/v1/projects/{project}/check", check_page()) {
-        Ok(()) => {}
-        Err(error) => return Err(error),
-    }
-    match routes.insert("/v1/projects/{project}/deposits", deposits_page()) {
-        Ok(()) => {}
-        Err(error) => return Err(error),
-    }
-    match routes.insert("/v1/projects/{project}/deposits/{number}", deposit_page()) {
-        Ok(()) => {}
-        Err(error) => return Err(error),
-    }
+    routes.insert("/v1/projects/{project}/check", check_page())?;
+    routes.insert("/v1/projects/{project}/deposits", deposits_page())?;
+    routes.insert("/v1/projects/{project}/deposits/{number}", deposit_page())?;
     Ok(routes)
 }
 
