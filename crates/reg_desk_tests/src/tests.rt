@@ -14,11 +14,13 @@ use ags_rows::vectors::{FILE_A, FILE_B, FILE_C, MINI};
 use ags_rows::{FindingList, READABLE};
 use bodies::lengths;
 use examples::{EXAMPLES, MOST, example_at};
+use laws::tells;
+use memory::is_refused_once;
 use reg_desk::{Answer, Desk, Listed, Request};
 use reg_policy::vectors::{CALLERS, POLICY};
 use reg_policy::{Caller, Callers, Day, Name, Policy};
 use reg_store::{Keep, PlainKeep};
-use reg_tables::SqlKeep;
+use reg_tables::{CreateError, SqlKeep};
 use std::alloc::{AllocError, Global};
 
 /// New lines in place of those from the first to the last.
@@ -93,6 +95,17 @@ pub struct Example {
     pub steps: &'static [Step],
 }
 
+/// What is played at a desk that begins.
+#[derive(Clone, Copy)]
+pub enum Play {
+    /// These steps are asked in turn.
+    Steps(&'static [Step]),
+    /// Three runs are asked, where memory may be refused once.
+    Runs,
+    /// Four requests are asked behind a deposit of this body.
+    Told(&'static Body),
+}
+
 /// The bytes of a file.
 fn file_bytes(file: File) -> &'static [u8] {
     match file {
@@ -152,12 +165,15 @@ fn name_of(answer: &Answer) -> &'static str {
     }
 }
 
+/// Whether a day has this text.
+fn is_day(day: Day, text: &str) -> bool {
+    day.text().as_slice() == text.as_bytes()
+}
+
 /// Whether it is the receipt of this number, until this day under embargo.
 fn is_receipt(answer: &Answer, receipt: u32, until: &str) -> bool {
     match answer {
-        Answer::Receipt { number, embargo } => {
-            *number == receipt && embargo.text().as_slice() == until.as_bytes()
-        }
+        Answer::Receipt { number, embargo } => *number == receipt && is_day(*embargo, until),
         _ => false,
     }
 }
@@ -189,18 +205,27 @@ fn is_finding(answer: &Answer, code: &str, line: u32) -> bool {
 
 /// Whether the deposit of a listing is this.
 fn is_line(listed: &Listed, line: &Line) -> bool {
-    listed.number == line.0
-        && listed.firm.text() == line.1
-        && listed.embargo.text().as_slice() == line.2.as_bytes()
+    listed.number == line.0 && listed.firm.text() == line.1 && is_day(listed.embargo, line.2)
+}
+
+/// Whether the deposit at a place is this.
+fn is_line_at(listed: &[Listed], place: usize, line: &Line) -> bool {
+    match listed.get(place) {
+        Some(listed) => is_line(listed, line),
+        None => false,
+    }
 }
 
 /// Whether the deposits are these.
 fn are_lines(listed: &[Listed], lines: &[Line]) -> bool {
-    let mut same = listed.len() == lines.len();
-    for (listed, line) in listed.iter().zip(lines) {
-        same = same && is_line(listed, line);
+    let mut count = 0usize;
+    for line in lines {
+        if !is_line_at(listed, count, line) {
+            return false;
+        }
+        count = count.saturating_add(1);
     }
-    same
+    listed.len() == count
 }
 
 /// Whether it lists these deposits.
@@ -231,14 +256,28 @@ fn is_wanted(alloc: Global, answer: &Answer, want: &Want) -> Result<bool, AllocE
     }
 }
 
+/// Whether the answer at a place is what is wanted.
+fn is_wanted_at(
+    alloc: Global,
+    answers: &[Answer],
+    place: usize,
+    want: &Want,
+) -> Result<bool, AllocError> {
+    match answers.get(place) {
+        Some(answer) => is_wanted(alloc, answer, want),
+        None => Ok(false),
+    }
+}
+
 /// How many answers are wanted before the first that is not.
 fn count_wanted(alloc: Global, answers: &[Answer], wants: &[Want]) -> Result<usize, AllocError> {
     let mut count = 0usize;
-    for (answer, want) in answers.iter().zip(wants) {
-        if !is_wanted(alloc, answer, want)? {
-            return Ok(count);
+    for want in wants {
+        match is_wanted_at(alloc, answers, count, want) {
+            Ok(true) => count = count.saturating_add(1),
+            Ok(false) => return Ok(count),
+            Err(error) => return Err(error),
         }
-        count = count.saturating_add(1);
     }
     Ok(count)
 }
@@ -354,17 +393,31 @@ fn hold<K: Keep>(
     alloc: Global,
     desk: &mut Desk<K>,
     callers: &Callers,
+    project: &Name,
     steps: &[Step],
 ) -> Result<bool, AllocError> {
-    let Ok(project) = Name::read(alloc, "N1") else {
-        return Err(AllocError);
-    };
     for step in steps {
-        if !holds(alloc, desk, callers, &project, step)? {
-            return Ok(false);
+        match holds(alloc, desk, callers, project, step) {
+            Ok(true) => {}
+            other => return other,
         }
     }
     Ok(true)
+}
+
+/// Whether a desk answers as it should what is played, for this project.
+fn answers<K: Keep>(
+    alloc: Global,
+    desk: &mut Desk<K>,
+    callers: &Callers,
+    project: &Name,
+    play: Play,
+) -> Result<bool, AllocError> {
+    match play {
+        Play::Steps(steps) => hold(alloc, desk, callers, project, steps),
+        Play::Runs => Ok(is_refused_once(alloc, desk, callers, project)),
+        Play::Told(body) => tells(alloc, desk, callers, project, body),
+    }
 }
 
 /// A desk over this keep.
@@ -377,13 +430,43 @@ fn desk_over<K: Keep + Drop>(alloc: Global, keep: K) -> Result<Desk<K>, AllocErr
     }
 }
 
-/// Whether a desk over this keep answers these steps as it should.
-fn plays<K: Keep + Drop>(alloc: Global, keep: K, steps: &[Step]) -> Result<bool, AllocError>
+/// Whether a desk over this keep answers as it should what is played, for this project.
+fn plays_for<K: Keep + Drop>(
+    alloc: Global,
+    keep: K,
+    callers: &Callers,
+    project: &Name,
+    play: Play,
+) -> Result<bool, AllocError>
     requires { K.has_failed keep ≡ false }
 {
-    let mut desk = desk_over(alloc, keep)?;
+    match desk_over(alloc, keep) {
+        Ok(mut desk) => answers(alloc, &mut desk, callers, project, play),
+        Err(error) => Err(error),
+    }
+}
+
+/// The same where callers are read before, for project N1.
+fn plays_of<K: Keep + Drop>(
+    alloc: Global,
+    keep: K,
+    callers: &Callers,
+    play: Play,
+) -> Result<bool, AllocError>
+    requires { K.has_failed keep ≡ false }
+{
+    match Name::read(alloc, "N1") {
+        Ok(project) => plays_for(alloc, keep, callers, &project, play),
+        Err(_) => Err(AllocError),
+    }
+}
+
+/// Whether a desk over this keep answers as it should what is played. Where memory is refused before it begins, nothing is asked.
+fn plays<K: Keep + Drop>(alloc: Global, keep: K, play: Play) -> Result<bool, AllocError>
+    requires { K.has_failed keep ≡ false }
+{
     match Callers::read(alloc, CALLERS) {
-        Ok(callers) => hold(alloc, &mut desk, &callers, steps),
+        Ok(callers) => plays_of(alloc, keep, &callers, play),
         Err(_) => Err(AllocError),
     }
 }
@@ -399,22 +482,30 @@ fn memory_of(alloc: Global, limit: u32) -> Option<PlainKeep> {
     }
 }
 
-/// Whether a desk over a keep in memory that may hold so many deposits answers these steps as it should.
-fn plays_in_memory(alloc: Global, limit: u32, steps: &[Step]) -> Result<bool, AllocError> {
+/// Whether a desk over a keep in memory that may hold so many deposits answers as it should what is played.
+fn plays_in_memory(alloc: Global, limit: u32, play: Play) -> Result<bool, AllocError> {
     match memory_of(alloc, limit) {
-        Some(keep) => plays(alloc, keep, steps),
+        Some(keep) => plays(alloc, keep, play),
         None => Err(AllocError),
     }
 }
 
-/// Whether a desk over tables answers these steps as it should.
-fn plays_in_tables(alloc: Global, steps: &[Step]) -> Result<bool, AllocError> {
+/// Want of memory, where no tables were made for that.
+fn unmade(error: CreateError) -> Result<bool, AllocError> {
+    match error {
+        CreateError::NoMemory => Err(AllocError),
+        _ => Ok(false),
+    }
+}
+
+/// Whether a desk over tables answers as it should what is played. `SqlKeep` is shown to be a keep here alone.
+fn plays_in_tables(alloc: Global, play: Play) -> Result<bool, AllocError> {
     if MINI.len() > READABLE {
         return Ok(false);
     }
     match SqlKeep::in_memory(alloc, MINI) {
-        Ok(keep) => plays(alloc, keep, steps),
-        Err(_) => Err(AllocError),
+        Ok(keep) => plays(alloc, keep, play),
+        Err(error) => unmade(error),
     }
 }
 
@@ -436,7 +527,9 @@ fn examples_in_memory(rt: HostRuntime) {
     let alloc = rt.alloc();
     for number in 0..EXAMPLES {
         let example = example_at(number);
-        let right = plays_in_memory(alloc, example.limit, example.steps).unwrap_or(false);
+        let right = plays_in_memory(alloc, example.limit, Play::Steps(example.steps)).unwrap_or(
+            false,
+        );
         assert!(rt; right, "{}", example.name);
     }
 }
@@ -447,7 +540,8 @@ fn examples_in_tables(rt: HostRuntime) {
     let alloc = rt.alloc();
     for number in 0..EXAMPLES {
         let example = example_at(number);
-        let right = example.limit < MOST || plays_in_tables(alloc, example.steps).unwrap_or(false);
+        let right = example.limit < MOST
+            || plays_in_tables(alloc, Play::Steps(example.steps)).unwrap_or(false);
         assert!(rt; right, "{}", example.name);
     }
 }

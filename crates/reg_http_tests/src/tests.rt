@@ -13,6 +13,7 @@ use reg_http::{IoFault, Served, Tally, serve_list, serve_one};
 use reg_policy::vectors::{CALLERS, POLICY};
 use reg_policy::{Callers, Day, Policy};
 use reg_store::{Keep, PlainKeep};
+use slow::{reads_deposit, writes_twice};
 use std::alloc::{AllocError, Global};
 use std::io;
 use std::io::{ErrorKind, Read, Write};
@@ -49,6 +50,34 @@ fn has_status(served: &Result<Served, IoFault>, wanted: u16) -> bool {
     }
 }
 
+/// Serves one connection, and counts the calls of its reader. `serve_one` is called here alone, over type parameters.
+fn serve_counted<K: Keep, R: Read + Drop, W: Write + Drop>(
+    alloc: Global,
+    desk: &mut Desk<K>,
+    callers: &Callers,
+    day: Day,
+    reader: R,
+    writer: W,
+) -> (u64, Result<Served, IoFault>) {
+    let mut reader = Tally::new(reader);
+    let mut writer = Tally::new(writer);
+    let served = serve_one(alloc, desk, callers, day, &mut reader, &mut writer);
+    (reader.calls(), served)
+}
+
+/// Serves one connection.
+fn serve<K: Keep, R: Read + Drop, W: Write + Drop>(
+    alloc: Global,
+    desk: &mut Desk<K>,
+    callers: &Callers,
+    day: Day,
+    reader: R,
+    writer: W,
+) -> Result<Served, IoFault> {
+    let (_calls, served) = serve_counted(alloc, desk, callers, day, reader, writer);
+    served
+}
+
 /// Whether a request on this day is answered by this status and reply, and nothing else is written.
 fn answers(
     alloc: Global,
@@ -60,33 +89,68 @@ fn answers(
     reply: &[u8],
 ) -> bool {
     let mut written = Vec::new(alloc);
-    let served = serve_one(
-        alloc,
-        desk,
-        callers,
-        day,
-        &mut Tally::new(request),
-        &mut Tally::new(&mut written),
-    );
+    let served = serve(alloc, desk, callers, day, request, &mut written);
     has_status(&served, status) && written.as_slice() == reply
 }
 
-/// Whether nothing is written, with status 0, where no byte comes.
-fn is_silent(alloc: Global, desk: &mut Desk<PlainKeep>, callers: &Callers) -> Option<bool> {
-    let day = Day::read("2024-05-01")?;
-    Some(answers(alloc, desk, callers, day, b"", 0, b""))
+/// What is asked of a desk that begins.
+#[derive(Clone, Copy)]
+enum Play<'a> {
+    /// A connection without a byte.
+    Silence,
+    /// Three equal deposits, where memory may be refused once.
+    Deposits,
+    /// Two lists of two equal deposits, where memory may be refused once.
+    Lists,
+    /// A list of a deposit, nothing, and the same deposit.
+    Turns,
+    /// Deposits over readers that fail.
+    Reads,
+    /// This deposit over a writer that fails at the call after so many others.
+    Writes(&'a [u8], usize),
 }
 
-/// The same at a desk that begins.
-fn begins_silent(alloc: Global) -> Option<bool> {
-    let mut desk = small_desk(alloc)?;
-    let callers = known_callers(alloc)?;
-    is_silent(alloc, &mut desk, &callers)
+/// Whether a desk that begins answers as it should what is asked.
+fn is_played(
+    alloc: Global,
+    desk: &mut Desk<PlainKeep>,
+    callers: &Callers,
+    day: Day,
+    play: Play<'_>,
+) -> bool {
+    match play {
+        Play::Silence => answers(alloc, desk, callers, day, b"", 0, b""),
+        Play::Deposits => are_refused_once(alloc, desk, callers, day),
+        Play::Lists => are_lists_refused_once(alloc, desk, callers, day),
+        Play::Turns => serves_in_turn(alloc, desk, callers, day),
+        Play::Reads => reads_deposit(alloc, desk, callers, day),
+        Play::Writes(request, calls) => writes_twice(alloc, desk, callers, day, request, calls),
+    }
 }
 
+/// The same at the small desk; none where memory is refused before.
+fn plays_for(alloc: Global, callers: &Callers, day: Day, play: Play<'_>) -> Option<bool> {
+    match small_desk(alloc) {
+        Some(mut desk) => Some(is_played(alloc, &mut desk, callers, day, play)),
+        None => None,
+    }
+}
+
+/// The same by the callers of the worked examples, on 2024-05-01.
+fn plays(alloc: Global, play: Play<'_>) -> Option<bool> {
+    let Some(day) = Day::read("2024-05-01") else {
+        return Some(false);
+    };
+    match known_callers(alloc) {
+        Some(callers) => plays_for(alloc, &callers, day, play),
+        None => None,
+    }
+}
+
+/// Nothing is written, with status 0, where no byte comes.
 #[test]
 fn no_byte(rt: HostRuntime) {
-    assert!(rt; begins_silent(rt.alloc()).unwrap_or(false));
+    assert!(rt; plays(rt.alloc(), Play::Silence).unwrap_or(false));
 }
 
 /// A deposit of the file by Delta.
@@ -138,20 +202,24 @@ fn deposits(
     let Ok(mut written) = Vec::with_capacity(alloc, 256) else {
         return Some(false);
     };
-    let served = serve_one(
+    let served = serve(
         alloc,
         desk,
         callers,
         day,
-        &mut Tally::new(DEPOSIT.chain(FILE_A)),
-        &mut Tally::new(&mut written),
+        DEPOSIT.chain(FILE_A),
+        &mut written,
     );
     was_wanting(&served, &written)
 }
 
 /// For how many of three equal deposits memory was wanting.
-fn deposits_thrice(alloc: Global, desk: &mut Desk<PlainKeep>, callers: &Callers) -> Option<u32> {
-    let day = Day::read("2024-05-01")?;
+fn deposits_thrice(
+    alloc: Global,
+    desk: &mut Desk<PlainKeep>,
+    callers: &Callers,
+    day: Day,
+) -> Option<u32> {
     let mut refused = 0u32;
     for _ in 0..3 {
         let wanting = deposits(alloc, desk, callers, day)?;
@@ -160,23 +228,21 @@ fn deposits_thrice(alloc: Global, desk: &mut Desk<PlainKeep>, callers: &Callers)
     Some(refused)
 }
 
-/// The same at a desk that begins.
-fn refused_deposits(alloc: Global) -> Option<u32> {
-    let Some(mut desk) = small_desk(alloc) else {
-        return Some(0);
-    };
-    match known_callers(alloc) {
-        Some(callers) => deposits_thrice(alloc, &mut desk, &callers),
-        None => Some(0),
-    }
+/// Whether it was for one at most.
+fn are_refused_once(
+    alloc: Global,
+    desk: &mut Desk<PlainKeep>,
+    callers: &Callers,
+    day: Day,
+) -> bool {
+    deposits_thrice(alloc, desk, callers, day).unwrap_or(u32::MAX) <= 1
 }
 
 /// With memory, and where `conformance/refused_tests` refuses one growth: of three equal deposits one at most is answered 503 then, and
-/// each other as ever.
+/// each other as ever. Where memory is refused before, nothing is asked.
 #[test]
 fn memory_is_refused_once(rt: HostRuntime) {
-    let refused = refused_deposits(rt.alloc()).unwrap_or(u32::MAX);
-    assert!(rt; refused <= 1);
+    assert!(rt; plays(rt.alloc(), Play::Deposits).unwrap_or(true));
 }
 
 /// Takes one of two texts, and that in one write.
@@ -249,22 +315,18 @@ fn list_wanting(
     }
 }
 
-/// The same of two such lists.
-fn lists_wanting(alloc: Global, desk: &mut Desk<PlainKeep>, callers: &Callers) -> Option<u32> {
-    let day = Day::read("2024-05-01")?;
-    let first = list_wanting(alloc, desk, callers, day)?;
-    let second = list_wanting(alloc, desk, callers, day)?;
-    Some(first.saturating_add(second))
-}
-
-/// The same at a desk that begins.
-fn refused_lists(alloc: Global) -> Option<u32> {
-    let Some(mut desk) = small_desk(alloc) else {
-        return Some(0);
-    };
-    match known_callers(alloc) {
-        Some(callers) => lists_wanting(alloc, &mut desk, &callers),
-        None => Some(0),
+/// Whether of two such lists memory was wanting once at most.
+fn are_lists_refused_once(
+    alloc: Global,
+    desk: &mut Desk<PlainKeep>,
+    callers: &Callers,
+    day: Day,
+) -> bool {
+    let first = list_wanting(alloc, desk, callers, day);
+    let second = list_wanting(alloc, desk, callers, day);
+    match (first, second) {
+        (Some(first), Some(second)) => first.saturating_add(second) <= 1,
+        _ => false,
     }
 }
 
@@ -272,17 +334,17 @@ fn refused_lists(alloc: Global) -> Option<u32> {
 /// once at most, for the list whole or for one of the four answers, and each other answer is as ever.
 #[test]
 fn memory_is_refused_once_in_a_list(rt: HostRuntime) {
-    let refused = refused_lists(rt.alloc()).unwrap_or(u32::MAX);
-    assert!(rt; refused <= 1);
+    assert!(rt; plays(rt.alloc(), Play::Lists).unwrap_or(true));
 }
 
-/// Whether these answers have these statuses.
-fn have_statuses(results: &[Result<Served, IoFault>], statuses: &[u16]) -> bool {
-    let mut same = results.len() == statuses.len();
-    for (served, status) in results.iter().zip(statuses) {
-        same = same && has_status(served, *status);
+/// Whether these are three answers: the first and the last have status 200, and the second 0.
+fn are_in_turn(results: &[Result<Served, IoFault>]) -> bool {
+    match results {
+        [first, second, third] => {
+            has_status(first, 200) && has_status(second, 0) && has_status(third, 200)
+        }
+        _ => false,
     }
-    same
 }
 
 /// Whether the first and the last of three connections are written to in one write, and the second is not.
@@ -292,12 +354,7 @@ fn are_written_once<R, W>(connections: &[(Tally<R>, Tally<W>); 3]) -> bool {
 }
 
 /// Whether a deposit, nothing, and the same deposit are served in a list, each reply in one write.
-fn serves_in_turn(
-    alloc: Global,
-    desk: &mut Desk<PlainKeep>,
-    callers: &Callers,
-    day: Day,
-) -> Result<bool, AllocError> {
+fn serves_in_turn(alloc: Global, desk: &mut Desk<PlainKeep>, callers: &Callers, day: Day) -> bool {
     let nothing = b"".as_slice();
     let mut connections = [
         (Tally::new(DEPOSIT.chain(FILE_A)), Tally::new(RECEIPT_ALONE)),
@@ -307,23 +364,13 @@ fn serves_in_turn(
         ),
         (Tally::new(DEPOSIT.chain(FILE_A)), Tally::new(RECEIPT_ALONE)),
     ];
-    let results = serve_list(alloc, desk, callers, day, &mut connections)?;
-    Ok(have_statuses(&results, &[200, 0, 200]) && are_written_once(&connections))
-}
-
-/// The same on 2024-05-01; none where memory is refused.
-fn serves_on_a_day(alloc: Global, desk: &mut Desk<PlainKeep>, callers: &Callers) -> Option<bool> {
-    serves_in_turn(alloc, desk, callers, Day::read("2024-05-01")?).ok()
-}
-
-/// The same at a desk that begins.
-fn is_served_in_turn(alloc: Global) -> Option<bool> {
-    let mut desk = small_desk(alloc)?;
-    let callers = known_callers(alloc)?;
-    serves_on_a_day(alloc, &mut desk, &callers)
+    match serve_list(alloc, desk, callers, day, &mut connections) {
+        Ok(results) => are_in_turn(&results) && are_written_once(&connections),
+        Err(_) => false,
+    }
 }
 
 #[test]
 fn connections_in_turn(rt: HostRuntime) {
-    assert!(rt; is_served_in_turn(rt.alloc()).unwrap_or(false));
+    assert!(rt; plays(rt.alloc(), Play::Turns).unwrap_or(false));
 }

@@ -1,10 +1,12 @@
 //! The desk over a keep that fails.
 
+ghost use Rattle.std.specs.Prelude.{◌≡◌, false};
+
 use super::bodies::B_SHOWN;
 use super::examples::{EXAMPLES, FIRST, LISTED, MOST, UNTIL, example_at};
 use super::refusing::Refusing;
 use super::{
-    Step, Want, check_of, count_wanted, deposit_of, desk_over, extract_of, list_of, memory_of,
+    Play, Want, check_of, count_wanted, deposit_of, desk_over, extract_of, list_of, memory_of,
     name_of, plays,
 };
 use ags_rows::vectors::{FILE_A, FILE_B};
@@ -15,10 +17,10 @@ use reg_store::Keep;
 use std::alloc::{AllocError, Global};
 use std::io;
 
-/// Whether a desk over a keep that gives no body answers these steps as it should.
-fn plays_without_bodies(alloc: Global, steps: &[Step]) -> Result<bool, AllocError> {
+/// Whether a desk over a keep that gives no body answers as it should what is played.
+fn plays_without_bodies(alloc: Global, play: Play) -> Result<bool, AllocError> {
     match memory_of(alloc, MOST) {
-        Some(keep) => plays(alloc, Refusing::new(keep, u32::MAX), steps),
+        Some(keep) => plays(alloc, Refusing::new(keep, u32::MAX), play),
         None => Err(AllocError),
     }
 }
@@ -30,7 +32,7 @@ fn examples_without_bodies(rt: HostRuntime) {
     for number in 0..EXAMPLES {
         let example = example_at(number);
         let right = example.limit < MOST
-            || plays_without_bodies(alloc, example.steps).unwrap_or(false);
+            || plays_without_bodies(alloc, Play::Steps(example.steps)).unwrap_or(false);
         assert!(rt; right, "{}", example.name);
     }
 }
@@ -80,38 +82,47 @@ fn have_failed(answers: &[Answer]) -> bool {
 
 /// How many answers come before the first that the store failed; none where one of them is not that of a whole run, or one from
 /// there on is another.
-fn answered_before(alloc: Global, answers: &[Answer]) -> Result<Option<usize>, AllocError> {
-    let before = count_wanted(alloc, answers, whole())?;
+fn answered_before(alloc: Global, answers: &[Answer]) -> Option<usize> {
+    let before = count_wanted(alloc, answers, whole()).ok()?;
     match answers.get(before..) {
-        Some(behind) if have_failed(behind) => Ok(Some(before)),
-        _ => Ok(None),
+        Some(behind) if have_failed(behind) => Some(before),
+        _ => None,
     }
 }
 
-/// The same of a run, and none also where the keep does not hold the one deposit that was answered.
-fn stop_at(
-    alloc: Global,
-    desk: &mut Desk<Refusing>,
-    requests: &[Request],
-) -> Result<Option<usize>, AllocError> {
-    let answers = desk.run(alloc, requests)?;
-    let before = answered_before(alloc, &answers)?;
-    let held = u32::from(before != Some(0));
-    if answers.len() == requests.len() && desk.keep().count() == held {
-        Ok(before)
+/// The same of a run.
+fn run_before<K: Keep>(alloc: Global, desk: &mut Desk<K>, requests: &[Request]) -> Option<usize> {
+    match desk.run(alloc, requests) {
+        Ok(answers) if answers.len() == requests.len() => answered_before(alloc, &answers),
+        _ => None,
+    }
+}
+
+/// The same, and none also where the keep does not hold the one deposit that was answered.
+fn stop_at<K: Keep>(alloc: Global, desk: &mut Desk<K>, requests: &[Request]) -> Option<usize> {
+    let before = run_before(alloc, desk, requests)?;
+    if desk.keep().count() == u32::from(before > 0) {
+        Some(before)
     } else {
-        Ok(None)
+        None
+    }
+}
+
+/// The same of a desk over this keep.
+fn stop_over<K: Keep + Drop>(alloc: Global, keep: K, requests: &[Request]) -> Option<usize>
+    requires { K.has_failed keep ≡ false }
+{
+    match desk_over(alloc, keep) {
+        Ok(mut desk) => stop_at(alloc, &mut desk, requests),
+        Err(_) => None,
     }
 }
 
 /// The same over a keep that answers so many calls.
-fn stop_of(alloc: Global, requests: &[Request], calls: u32) -> Result<Option<usize>, AllocError> {
+fn stop_of(alloc: Global, requests: &[Request], calls: u32) -> Option<usize> {
     match memory_of(alloc, MOST) {
-        Some(keep) => {
-            let mut desk = desk_over(alloc, Refusing::new(keep, calls))?;
-            stop_at(alloc, &mut desk, requests)
-        }
-        None => Err(AllocError),
+        Some(keep) => stop_over(alloc, Refusing::new(keep, calls), requests),
+        None => None,
     }
 }
 
@@ -121,7 +132,7 @@ fn stops_of(alloc: Global, requests: &[Request]) -> Option<([bool; 8], u32)> {
     let mut stops = [false; 8];
     let mut failed = 0u32;
     for calls in 0..64 {
-        let before = stop_of(alloc, requests, calls).unwrap_or(None)?;
+        let before = stop_of(alloc, requests, calls)?;
         let stop = stops.get_mut(before)?;
         *stop = true;
         failed = failed.saturating_add(u32::from(before < 7));
@@ -131,10 +142,16 @@ fn stops_of(alloc: Global, requests: &[Request]) -> Option<([bool; 8], u32)> {
 
 /// The same of seven requests by Delta and Echo.
 fn seven_stops(alloc: Global, callers: &Callers, project: &Name) -> Option<([bool; 8], u32)> {
-    let delta = callers.find(b"t-delta")?;
-    let echo = callers.find(b"t-echo")?;
-    let requests = seven_of(delta, echo, project, Day::read(UNTIL)?);
-    stops_of(alloc, &requests)
+    match (
+        callers.find(b"t-delta"),
+        callers.find(b"t-echo"),
+        Day::read(UNTIL),
+    ) {
+        (Some(delta), Some(echo), Some(day)) => {
+            stops_of(alloc, &seven_of(delta, echo, project, day))
+        }
+        _ => None,
+    }
 }
 
 /// The same where callers and project are read.

@@ -1,20 +1,15 @@
 //! Cases that meet the premises of the laws on extracts and on hidden rows, over each keep. All is asked on 2024-06-01.
 
-ghost use Rattle.std.specs.Prelude.{◌≡◌, ◌≤◌, false};
-
 use super::bodies::{A, B, B_SHOWN, B_TESTED, B_WETTER};
 use super::examples::{FIRST, LISTED, MOST, SECOND, UNTIL};
 use super::{
-    Ask, Body, Step, Want, count_wanted, deposit_of, desk_over, extract_of, holds, list_of,
-    memory_of, plays_in_memory, plays_in_tables,
+    Ask, Body, Play, Step, Want, count_wanted, deposit_of, extract_of, holds, list_of,
+    plays_in_memory, plays_in_tables,
 };
-use ags_rows::READABLE;
-use ags_rows::vectors::{FILE_A, MINI};
+use ags_rows::vectors::FILE_A;
 use reg_desk::{Desk, Request};
-use reg_policy::vectors::CALLERS;
 use reg_policy::{Caller, Callers, Day, Name};
 use reg_store::Keep;
-use reg_tables::SqlKeep;
 use std::alloc::{AllocError, Global};
 
 /// Delta deposits the second file, and what Echo got of it; Delta gets that text again.
@@ -37,8 +32,9 @@ fn drawn_twice() -> &'static [Step] {
 #[test]
 fn extracts_of_extracts(rt: HostRuntime) {
     let alloc = rt.alloc();
-    assert!(rt; plays_in_memory(alloc, MOST, drawn_twice()).unwrap_or(false));
-    assert!(rt; plays_in_tables(alloc, drawn_twice()).unwrap_or(false));
+    let play = Play::Steps(drawn_twice());
+    assert!(rt; plays_in_memory(alloc, MOST, play).unwrap_or(false));
+    assert!(rt; plays_in_tables(alloc, play).unwrap_or(false));
 }
 
 /// Echo's list, a deposit by Foxtrot, and Echo's extracts of the first two deposits.
@@ -65,7 +61,7 @@ fn told() -> &'static [Want] {
 }
 
 /// Whether four requests in turn are answered so.
-fn tells<K: Keep>(
+fn tells_each<K: Keep>(
     alloc: Global,
     desk: &mut Desk<K>,
     requests: &[Request],
@@ -80,50 +76,31 @@ fn tells_four<K: Keep>(
     desk: &mut Desk<K>,
     callers: &Callers,
     project: &Name,
-) -> Option<bool> {
-    let echo = callers.find(b"t-echo")?;
-    let foxtrot = callers.find(b"t-foxtrot")?;
-    let day = Day::read(UNTIL)?;
-    tells(alloc, desk, &four_of(echo, foxtrot, project, day)).ok()
+) -> Result<bool, AllocError> {
+    match (
+        callers.find(b"t-echo"),
+        callers.find(b"t-foxtrot"),
+        Day::read(UNTIL),
+    ) {
+        (Some(echo), Some(foxtrot), Some(day)) => {
+            tells_each(alloc, desk, &four_of(echo, foxtrot, project, day))
+        }
+        _ => Ok(false),
+    }
 }
 
-/// The same once Delta has a receipt for this body.
-fn tells_behind<K: Keep>(
+/// Whether they are once Delta has a receipt for this body.
+pub fn tells<K: Keep>(
     alloc: Global,
     desk: &mut Desk<K>,
     callers: &Callers,
+    project: &Name,
     body: &Body,
-) -> Option<bool> {
+) -> Result<bool, AllocError> {
     let step = Step("t-delta", UNTIL, Ask::Deposit(*body, UNTIL), FIRST);
-    let project = Name::read(alloc, "N1").ok()?;
-    if !holds(alloc, desk, callers, &project, &step).ok()? {
-        return None;
-    }
-    tells_four(alloc, desk, callers, &project)
-}
-
-/// The same of a desk over this keep.
-fn tells_over<K: Keep + Drop>(alloc: Global, keep: K, body: &Body) -> Option<bool>
-    requires { K.has_failed keep ≡ false }
-{
-    let mut desk = desk_over(alloc, keep).ok()?;
-    let callers = Callers::read(alloc, CALLERS).ok()?;
-    tells_behind(alloc, &mut desk, &callers, body)
-}
-
-/// The same of a desk over a keep in memory.
-fn tells_in_memory(alloc: Global, body: &Body) -> Option<bool> {
-    tells_over(alloc, memory_of(alloc, MOST)?, body)
-}
-
-/// The same of a desk over tables.
-fn tells_in_tables(alloc: Global, body: &Body) -> Option<bool> {
-    if MINI.len() > READABLE {
-        return None;
-    }
-    match SqlKeep::in_memory(alloc, MINI) {
-        Ok(keep) => tells_over(alloc, keep, body),
-        Err(_) => None,
+    match holds(alloc, desk, callers, project, &step) {
+        Ok(true) => tells_four(alloc, desk, callers, project),
+        other => other,
     }
 }
 
@@ -140,7 +117,7 @@ fn bodies() -> &'static [Body] {
 fn hidden_rows_are_not_told(rt: HostRuntime) {
     let alloc = rt.alloc();
     for body in bodies() {
-        assert!(rt; tells_in_memory(alloc, body).unwrap_or(false));
-        assert!(rt; tells_in_tables(alloc, body).unwrap_or(false));
+        assert!(rt; plays_in_memory(alloc, MOST, Play::Told(body)).unwrap_or(false));
+        assert!(rt; plays_in_tables(alloc, Play::Told(body)).unwrap_or(false));
     }
 }

@@ -1,15 +1,16 @@
 //! Memory that is refused to one growth, by `conformance/refused_tests`: want of memory is answered then, once, and by the same call with
 //! memory what should be.
 
-ghost use Rattle.std.specs.Prelude.{◌≡◌, ◌≤◌, false};
-
 use super::examples::UNTIL;
-use super::{Line, deposit_of, desk_over, extract_of, is_listing, is_receipt, list_of, name_of};
+use super::{
+    Line, Play, deposit_of, extract_of, is_listing, is_receipt, list_of, name_of, plays,
+    plays_in_tables,
+};
 use ags_check::{CheckError, check};
 use ags_dict::{DictError, Dictionary};
 use ags_links::{Graph, reached, shown};
 use ags_rows::vectors::{FILE_A, FILE_B, MINI};
-use ags_rows::{Cell, Group, READABLE, RowsError, Scan, cells, write_group};
+use ags_rows::{Cell, Group, RowsError, Scan, cells, write_group};
 use reg_desk::{Answer, Desk, Request};
 use reg_policy::vectors::{CALLERS, POLICY};
 use reg_policy::{
@@ -17,7 +18,6 @@ use reg_policy::{
     Subject,
 };
 use reg_store::{Keep, PlainKeep};
-use reg_tables::{CreateError, SqlKeep};
 use std::alloc::{AllocError, Global};
 use std::process::Abort;
 
@@ -324,57 +324,46 @@ fn asks_thrice<K: Keep>(
     callers: &Callers,
     project: &Name,
 ) -> Option<u32> {
-    let delta = callers.find(b"t-delta")?;
-    let echo = callers.find(b"t-echo")?;
-    let day = Day::read(UNTIL)?;
-    asks_each(alloc, desk, &three_of(delta, echo, project, day))
+    match (
+        callers.find(b"t-delta"),
+        callers.find(b"t-echo"),
+        Day::read(UNTIL),
+    ) {
+        (Some(delta), Some(echo), Some(day)) => {
+            asks_each(alloc, desk, &three_of(delta, echo, project, day))
+        }
+        _ => None,
+    }
 }
 
-/// The same of a desk over this keep. Where memory is refused before it begins, nothing is asked.
-fn asks_over<K: Keep + Drop>(alloc: Global, keep: K) -> Option<u32>
-    requires { K.has_failed keep ≡ false }
-{
-    let Ok(mut desk) = desk_over(alloc, keep) else {
-        return Some(0);
-    };
-    let Ok(callers) = Callers::read(alloc, CALLERS) else {
-        return Some(0);
-    };
-    match Name::read(alloc, "N1") {
-        Ok(project) => asks_thrice(alloc, &mut desk, &callers, &project),
-        Err(_) => Some(0),
+/// Whether memory is refused to one answer or run at most, and each other is the machine's.
+pub fn is_refused_once<K: Keep>(
+    alloc: Global,
+    desk: &mut Desk<K>,
+    callers: &Callers,
+    project: &Name,
+) -> bool {
+    match asks_thrice(alloc, desk, callers, project) {
+        Some(refused) => refused <= 1,
+        None => false,
     }
 }
 
 /// The same over a keep in memory.
-fn asks_memory(alloc: Global) -> Option<u32> {
+fn asks_memory(alloc: Global) -> Result<bool, AllocError> {
     match Dictionary::read(alloc, MINI) {
-        Ok(mini) => asks_over(alloc, PlainKeep::new(alloc, mini)),
-        Err(_) => Some(0),
+        Ok(mini) => plays(alloc, PlainKeep::new(alloc, mini), Play::Runs),
+        Err(_) => Err(AllocError),
     }
 }
 
-/// The same over tables.
-fn asks_tables(alloc: Global) -> Option<u32> {
-    if MINI.len() > READABLE {
-        return None;
-    }
-    match SqlKeep::in_memory(alloc, MINI) {
-        Ok(keep) => asks_over(alloc, keep),
-        Err(CreateError::NoMemory) => Some(0),
-        Err(_) => None,
-    }
-}
-
-/// Memory is refused to one answer or run at most.
+/// Memory is refused to one answer or run at most. Where it is refused before, nothing is asked.
 #[test]
 fn runs_in_memory(rt: HostRuntime) {
-    let refused = asks_memory(rt.alloc()).unwrap_or(u32::MAX);
-    assert!(rt; refused <= 1);
+    assert!(rt; asks_memory(rt.alloc()).unwrap_or(true));
 }
 
 #[test]
 fn runs_in_tables(rt: HostRuntime) {
-    let refused = asks_tables(rt.alloc()).unwrap_or(u32::MAX);
-    assert!(rt; refused <= 1);
+    assert!(rt; plays_in_tables(rt.alloc(), Play::Runs).unwrap_or(true));
 }

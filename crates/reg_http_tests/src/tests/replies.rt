@@ -134,6 +134,22 @@ fn code_of(status: &str) -> Option<u16> {
 }
 
 /// Whether a request is answered by the reply of this status, length and body.
+fn replies_on(
+    alloc: Global,
+    desk: &mut Desk<PlainKeep>,
+    callers: &Callers,
+    day: Day,
+    request: &[u8],
+    parts: [&str; 3],
+) -> Result<bool, AllocError> {
+    let Some(status) = code_of(parts[0]) else {
+        return Ok(false);
+    };
+    let reply = reply_of(alloc, parts)?;
+    Ok(answers(alloc, desk, callers, day, request, status, &reply))
+}
+
+/// The same on a day of this text.
 fn replies_so(
     alloc: Global,
     desk: &mut Desk<PlainKeep>,
@@ -142,11 +158,10 @@ fn replies_so(
     request: &[u8],
     parts: [&str; 3],
 ) -> Result<bool, AllocError> {
-    let (Some(day), Some(status)) = (Day::read(day), code_of(parts[0])) else {
-        return Ok(false);
-    };
-    let reply = reply_of(alloc, parts)?;
-    Ok(answers(alloc, desk, callers, day, request, status, &reply))
+    match Day::read(day) {
+        Some(day) => replies_on(alloc, desk, callers, day, request, parts),
+        None => Ok(false),
+    }
 }
 
 /// Whether the case of a line is answered as it says, where it has one.
@@ -168,13 +183,14 @@ fn are_right(
     alloc: Global,
     rt: &impl Abort,
     desk: &mut Desk<PlainKeep>,
+    callers: &Callers,
     cases: &str,
 ) -> Result<(), AllocError> {
-    let Some(callers) = known_callers(alloc) else {
-        return Err(AllocError);
-    };
     for line in cases.lines() {
-        assert!(rt; is_right(alloc, desk, &callers, line)?, "{line}");
+        match is_right(alloc, desk, callers, line) {
+            Ok(right) => assert!(rt; right, "{line}"),
+            Err(error) => return Err(error),
+        }
     }
     Ok(())
 }
@@ -183,6 +199,7 @@ fn are_right(
 fn are_right_at(
     alloc: Global,
     rt: &impl Abort,
+    callers: &Callers,
     dictionary: &[u8],
     most: u32,
     cases: &str,
@@ -191,7 +208,7 @@ fn are_right_at(
     requires most { most ≤ 999999 }
 {
     match desk_under(alloc, dictionary, most) {
-        Some(mut desk) => are_right(alloc, rt, &mut desk, cases),
+        Some(mut desk) => are_right(alloc, rt, &mut desk, callers, cases),
         None => Err(AllocError),
     }
 }
@@ -200,20 +217,29 @@ fn are_right_at(
 fn are_right_under(
     alloc: Global,
     rt: &impl Abort,
+    callers: &Callers,
     line: &[u8],
     cases: &str,
 ) -> Result<(), AllocError> {
     let mut wide = Vec::from_slice(alloc, MINI)?;
     wide.extend_from_slice(line)?;
-    are_right_at(alloc, rt, &wide, 1, cases)
+    are_right_at(alloc, rt, callers, &wide, 1, cases)
+}
+
+/// The tables of requests.
+fn tables_are_right(alloc: Global, rt: &impl Abort, callers: &Callers) -> Result<(), AllocError> {
+    are_right_at(alloc, rt, callers, MINI, 999_999, AT_A_DESK)?;
+    are_right_at(alloc, rt, callers, MINI, 1, AT_A_FULL_DESK)?;
+    are_right_under(alloc, rt, callers, WIDE_HEADING, AT_A_WIDE_DESK)
 }
 
 #[test]
 fn replies(rt: HostRuntime) -> Result<(), AllocError> {
     let alloc = rt.alloc();
-    are_right_at(alloc, &rt, MINI, 999_999, AT_A_DESK)?;
-    are_right_at(alloc, &rt, MINI, 1, AT_A_FULL_DESK)?;
-    are_right_under(alloc, &rt, WIDE_HEADING, AT_A_WIDE_DESK)
+    match known_callers(alloc) {
+        Some(callers) => tables_are_right(alloc, &rt, &callers),
+        None => Err(AllocError),
+    }
 }
 
 /// Whether what the reader gives is answered by this reply, at a desk that begins.

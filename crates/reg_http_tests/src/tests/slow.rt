@@ -1,8 +1,8 @@
 //! A reader and a writer of one byte a call, which fail.
 
-use super::{RECEIPT, answers, deposit, has_status, known_callers, small_desk};
+use super::{Play, RECEIPT, answers, deposit, has_status, plays, serve, serve_counted};
 use reg_desk::Desk;
-use reg_http::{IoFault, Served, Tally, serve_one};
+use reg_http::{IoFault, Served};
 use reg_policy::{Callers, Day};
 use reg_store::{Keep, PlainKeep};
 use std::alloc::Global;
@@ -63,36 +63,39 @@ fn is_write_fault(served: &Result<Served, IoFault>) -> bool {
     }
 }
 
-/// Whether a deposit ends as it should over a reader that fails at the call after so many others: with fewer calls than bytes nothing
-/// is written and nothing is held. The reader is asked once more than it answers at most.
+/// Whether a deposit ends as it should over a reader that answers as many calls as bytes, or fewer: then nothing is written and nothing
+/// is held.
+fn is_read(served: &Result<Served, IoFault>, written: &[u8], held: u32, whole: bool) -> bool {
+    if whole {
+        has_status(served, 200) && held == 1
+    } else {
+        is_read_fault(served) && written.is_empty() && held == 0
+    }
+}
+
+/// Whether that is so over a reader that fails at the call after so many others. The reader is asked once more than it answers at most.
 fn reads(
     alloc: Global,
     desk: &mut Desk<PlainKeep>,
     callers: &Callers,
+    day: Day,
     request: &[u8],
     calls: usize,
-) -> Option<bool> {
+) -> bool {
     let mut slow = Slow {
         given: request,
         taken: Vec::new(alloc),
         calls,
     };
     let mut written = Vec::new(alloc);
-    let mut reader = Tally::new(&mut slow);
-    let served = serve_one(
-        alloc,
-        desk,
-        callers,
-        Day::read("2024-05-01")?,
-        &mut reader,
-        &mut Tally::new(&mut written),
-    );
-    let few = reader.calls() <= (calls as u64).saturating_add(1);
-    if calls < request.len() {
-        Some(few && is_read_fault(&served) && written.is_empty() && desk.keep().count() == 0)
-    } else {
-        Some(few && has_status(&served, 200) && desk.keep().count() == 1)
-    }
+    let (asked, served) = serve_counted(alloc, desk, callers, day, &mut slow, &mut written);
+    asked <= (calls as u64).saturating_add(1)
+        && is_read(
+            &served,
+            &written,
+            desk.keep().count(),
+            calls >= request.len(),
+        )
 }
 
 /// The same of each count of calls, up to one for each byte.
@@ -100,32 +103,41 @@ fn read_all(
     alloc: Global,
     desk: &mut Desk<PlainKeep>,
     callers: &Callers,
+    day: Day,
     request: &[u8],
-) -> Option<bool> {
+) -> bool {
     for calls in 0..=request.len() {
-        if !reads(alloc, desk, callers, request, calls)? {
-            return None;
+        if !reads(alloc, desk, callers, day, request, calls) {
+            return false;
         }
     }
-    Some(true)
+    true
 }
 
 /// The same of a deposit.
-fn reads_deposit(alloc: Global, desk: &mut Desk<PlainKeep>, callers: &Callers) -> Option<bool> {
-    let request = deposit(alloc).ok()?;
-    read_all(alloc, desk, callers, &request)
-}
-
-/// The same at a desk that begins.
-fn reads_at_desk(alloc: Global) -> Option<bool> {
-    let mut desk = small_desk(alloc)?;
-    let callers = known_callers(alloc)?;
-    reads_deposit(alloc, &mut desk, &callers)
+pub fn reads_deposit(
+    alloc: Global,
+    desk: &mut Desk<PlainKeep>,
+    callers: &Callers,
+    day: Day,
+) -> bool {
+    match deposit(alloc) {
+        Ok(request) => read_all(alloc, desk, callers, day, &request),
+        Err(_) => false,
+    }
 }
 
 #[test]
 fn reads_fail(rt: HostRuntime) {
-    assert!(rt; reads_at_desk(rt.alloc()).unwrap_or(false));
+    assert!(rt; plays(rt.alloc(), Play::Reads).unwrap_or(false));
+}
+
+/// Whether these are so many first bytes of the receipt.
+fn is_front(taken: &[u8], calls: usize) -> bool {
+    match RECEIPT.get(..calls) {
+        Some(first) => taken == first,
+        None => false,
+    }
 }
 
 /// Whether a deposit over a writer that fails at the call after so many others has its first bytes written, and is held.
@@ -133,63 +145,51 @@ fn writes(
     alloc: Global,
     desk: &mut Desk<PlainKeep>,
     callers: &Callers,
+    day: Day,
     request: &[u8],
     calls: usize,
-) -> Option<bool> {
+) -> bool {
     let mut slow = Slow {
         given: b"",
         taken: Vec::new(alloc),
         calls,
     };
-    let served = serve_one(
-        alloc,
-        desk,
-        callers,
-        Day::read("2024-05-01")?,
-        &mut Tally::new(request),
-        &mut Tally::new(&mut slow),
-    );
-    let first = RECEIPT.get(..calls)?;
-    Some(is_write_fault(&served) && slow.taken.as_slice() == first && desk.keep().count() == 1)
+    let served = serve(alloc, desk, callers, day, request, &mut slow);
+    is_write_fault(&served) && is_front(&slow.taken, calls) && desk.keep().count() == 1
 }
 
 /// Whether that is so, and the request sent again gives the receipt.
-fn writes_twice(
+pub fn writes_twice(
     alloc: Global,
     desk: &mut Desk<PlainKeep>,
     callers: &Callers,
+    day: Day,
     request: &[u8],
     calls: usize,
-) -> Option<bool> {
-    let day = Day::read("2024-05-01")?;
-    let first = writes(alloc, desk, callers, request, calls)?;
-    Some(first && answers(alloc, desk, callers, day, request, 200, RECEIPT))
+) -> bool {
+    writes(alloc, desk, callers, day, request, calls)
+        && answers(alloc, desk, callers, day, request, 200, RECEIPT)
 }
 
-/// The same at a desk that begins.
-fn writes_at_desk(alloc: Global, callers: &Callers, request: &[u8], calls: usize) -> Option<bool> {
-    let mut desk = small_desk(alloc)?;
-    writes_twice(alloc, &mut desk, callers, request, calls)
-}
-
-/// The same of each count of calls, before one for each byte of the receipt.
-fn write_all(alloc: Global, callers: &Callers, request: &[u8]) -> Option<bool> {
+/// The same at a desk that begins, of each count of calls before one for each byte of the receipt.
+fn write_all(alloc: Global, request: &[u8]) -> bool {
     for calls in 0..RECEIPT.len() {
-        if !writes_at_desk(alloc, callers, request, calls)? {
-            return None;
+        if !plays(alloc, Play::Writes(request, calls)).unwrap_or(false) {
+            return false;
         }
     }
-    Some(true)
+    true
 }
 
 /// The same of a deposit.
-fn writes_deposit(alloc: Global) -> Option<bool> {
-    let callers = known_callers(alloc)?;
-    let request = deposit(alloc).ok()?;
-    write_all(alloc, &callers, &request)
+fn writes_deposit(alloc: Global) -> bool {
+    match deposit(alloc) {
+        Ok(request) => write_all(alloc, &request),
+        Err(_) => false,
+    }
 }
 
 #[test]
 fn writes_fail(rt: HostRuntime) {
-    assert!(rt; writes_deposit(rt.alloc()).unwrap_or(false));
+    assert!(rt; writes_deposit(rt.alloc()));
 }
