@@ -5,7 +5,6 @@ pub use Rattle.ags_rows.proofs.Collecting.{none_is, before_or_at, some_same}
 pub use Rattle.ags_rows.proofs.Written.{all_at}
 pub use Rattle.ags_rows.proofs.WellFormed.{all_from_at, once_apart, once_from}
 -- Findings that are added rule by rule and element by element, sorted at the end, and of the first phase that has any.
-pub use Rattle.ags_rows.proofs.Files.{is_nil}
 pub use Rattle.ags_rows.proofs.Collecting.{adds_none, adds_same, adds_found, adds_clear, adds_unmet, among_none, among_more, among_all, one_none, one_more, one_rule, two_rules, three_rules, listed, none_listed, found_late}
 pub use Rattle.ags_rows.proofs.WellFormed.{clear_first}
 -- A file has one cutting into rows and groups, and one list of findings.
