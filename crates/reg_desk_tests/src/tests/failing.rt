@@ -5,10 +5,8 @@ ghost use Rattle.std.specs.Prelude.{◌≡◌, false};
 use super::bodies::B_SHOWN;
 use super::examples::{EXAMPLES, FIRST, LISTED, MOST, UNTIL, example_at};
 use super::refusing::Refusing;
-use super::{
-    Play, Want, check_of, count_wanted, deposit_of, desk_over, extract_of, list_of, memory_of,
-    name_of, plays,
-};
+use super::wanted::{count_wanted, name_of};
+use super::{Play, Want, check_of, deposit_of, desk_over, extract_of, list_of, memory_of, plays};
 use ags_rows::vectors::{FILE_A, FILE_B};
 use reg_desk::{Answer, Desk, Request};
 use reg_policy::vectors::CALLERS;

@@ -2,9 +2,10 @@
 
 use super::bodies::{A, B, B_SHOWN, B_TESTED, B_WETTER};
 use super::examples::{FIRST, LISTED, MOST, SECOND, UNTIL};
+use super::wanted::count_wanted;
 use super::{
-    Ask, Body, Play, Step, Want, count_wanted, deposit_of, extract_of, holds, list_of,
-    plays_in_memory, plays_in_tables,
+    Ask, Body, Play, Step, Want, deposit_of, extract_of, holds, list_of, plays_in_memory,
+    plays_in_tables,
 };
 use ags_rows::vectors::FILE_A;
 use reg_desk::{Desk, Request};

@@ -2,10 +2,8 @@
 //! memory what should be.
 
 use super::examples::UNTIL;
-use super::{
-    Line, Play, deposit_of, extract_of, is_listing, is_receipt, list_of, name_of, plays,
-    plays_in_tables,
-};
+use super::wanted::{is_listing, is_receipt, name_of};
+use super::{Line, Play, deposit_of, extract_of, list_of, plays, plays_in_tables};
 use ags_check::{CheckError, check};
 use ags_dict::{DictError, Dictionary};
 use ags_links::{Graph, reached, shown};
