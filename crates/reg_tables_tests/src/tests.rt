@@ -1,6 +1,6 @@
 //! The calls of a keep, as their answers are printed: the same over each keep.
 
-ghost use Rattle.std.specs.Prelude.{◌≡◌, ◌<◌, ◌≤◌, false, length, IsTrue, OnOk};
+ghost use Rattle.std.specs.Prelude.{◌≡◌, ◌<◌, ◌≤◌, false, length, IfOk, IsTrue, OnOk};
 
 mod calls;
 mod files;
@@ -11,11 +11,11 @@ use crate::tests::files::{File, bytes_of};
 use ags_check::{Checked, check};
 use ags_dict::Dictionary;
 use ags_links::Graph;
-use ags_rows::LIMIT;
 use ags_rows::vectors::{FILE_A, FILE_B};
+use ags_rows::{LIMIT, READABLE};
 use reg_policy::{Day, Name};
 use reg_store::{Keep, KeepError, Kept, KeptRow, ProjectRow};
-use reg_tables::SqlKeep;
+use reg_tables::{CreateError, SqlKeep};
 use sqlite::{Alter, Connection};
 use std::alloc::{AllocError, Global};
 use std::fmt::Write;
@@ -65,6 +65,26 @@ pub(crate) fn ask_tables<S: Alter + Drop, A: Ask>(
 {
     let answer = asked.ask(alloc, &mut keep);
     (answer, keep.into_connection())
+}
+
+/// What is asked of the making of a register, whichever store it is in.
+pub(crate) trait AskMade {
+    /// What is answered.
+    type Answer;
+
+    fn ask_made<S: Alter + Drop>(
+        self,
+        alloc: Global,
+        made: Result<SqlKeep<S>, CreateError>,
+    ) -> Self::Answer
+        requires { IfOk made (λ keep. keep.has_failed ≡ false) };
+}
+
+/// Asks it of a new register in memory. Memory is shown to be a store here alone, since that is long.
+pub(crate) fn ask_in_memory<A: AskMade>(alloc: Global, dictionary: &[u8], asked: A) -> A::Answer
+    requires { length dictionary.now ≤ READABLE }
+{
+    asked.ask_made(alloc, SqlKeep::in_memory(alloc, dictionary))
 }
 
 /// A name of the tests. One that is none counts as want of memory, which no test expects.

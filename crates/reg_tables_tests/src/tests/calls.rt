@@ -3,11 +3,12 @@
 ghost use Rattle.std.specs.Prelude.{◌<◌, ◌≡◌, ◌≤◌, false};
 
 use super::files::File;
-use super::{Ask, Call, Case, SAME, ask_tables, compared};
+use super::{Ask, AskMade, Call, Case, SAME, ask_in_memory, ask_tables, compared};
 use ags_dict::Dictionary;
 use ags_rows::vectors::MINI;
 use reg_store::{Keep, KeepError, PlainKeep};
-use reg_tables::SqlKeep;
+use reg_tables::{CreateError, SqlKeep};
+use sqlite::Alter;
 use std::alloc::Global;
 use std::test::Fail;
 
@@ -325,12 +326,25 @@ impl<'a> Ask for Compare<'a> {
     }
 }
 
+impl<'a> AskMade for Compare<'a> {
+    type Answer = Result<&'static str, KeepError>;
+
+    fn ask_made<S: Alter + Drop>(
+        self,
+        alloc: Global,
+        made: Result<SqlKeep<S>, CreateError>,
+    ) -> Result<&'static str, KeepError> {
+        let Compare(cases) = self;
+        match made {
+            Ok(keep) => ask_tables(alloc, keep, Compare(cases)).0,
+            Err(_) => Err(KeepError::Store),
+        }
+    }
+}
+
 /// The calls over the tables of a database in memory.
 fn in_tables(alloc: Global, cases: &[Case]) -> Result<&'static str, KeepError> {
-    match SqlKeep::in_memory(alloc, MINI) {
-        Ok(keep) => ask_tables(alloc, keep, Compare(cases)).0,
-        Err(_) => Err(KeepError::Store),
-    }
+    ask_in_memory(alloc, MINI, Compare(cases))
 }
 
 /// Fails with the first answer that was not given, if there is one.

@@ -2,13 +2,14 @@
 
 ghost use Rattle.std.specs.Prelude.{◌≡◌, false, IfOk, IfSome};
 
-use crate::tests::{Ask, ask_tables, take_named, tell_deposit};
+use crate::tests::{Ask, AskMade, ask_in_memory, ask_tables, take_named, tell_deposit};
 use ags_dict::DictError;
 use ags_rows::vectors::{FILE_A, FILE_B, MINI};
 use ags_rows::{LIMIT, READABLE};
 use reg_store::{Keep, KeepError};
 use reg_tables::{AdoptError, CreateError, SqlKeep};
-use sqlite::{Alter, Connection, File, FileStore, MemStore, params};
+use sqlite::{Alter, Connection, File, FileStore, params};
+use sqlite_disk::Disk;
 use std::alloc::{AllocError, Global};
 use std::fmt::Write;
 use std::fs;
@@ -133,14 +134,6 @@ fn filled<S: Alter + Drop>(alloc: Global, keep: SqlKeep<S>, bytes: &[u8]) -> Opt
     }
 }
 
-/// The connection of a new register that holds one file.
-fn taken_apart(alloc: Global, bytes: &[u8]) -> Option<Connection<MemStore>> {
-    match SqlKeep::in_memory(alloc, MINI) {
-        Ok(keep) => filled(alloc, keep, bytes),
-        Err(_) => None,
-    }
-}
-
 /// How many deposits a register holds and may hold, and its first one.
 fn tell_register<K: Keep>(keep: &mut K, told: &mut String) -> Result<(), KeepError>
     requires { K.has_failed keep.old ≡ false }
@@ -179,24 +172,90 @@ fn tell_adopted<S: Alter + Drop>(
     }
 }
 
-/// What the statements answer, and then adopting.
-fn tell_changed(
-    alloc: Global,
-    mut connection: Connection<MemStore>,
-    change: &str,
+/// What changes the tables of a register.
+#[derive(Clone, Copy)]
+enum Change<'a> {
+    /// These statements, which may be refused.
+    Batch(&'a str),
+    /// The body of the one deposit becomes this.
+    Body(&'a [u8]),
+}
+
+/// What the statements answer where they are refused.
+fn run_batch<S: Alter + Drop>(
+    connection: &mut Connection<S>,
+    batch: &str,
     told: &mut String,
 ) -> Result<(), KeepError> {
-    if connection.execute_batch(change).is_err() {
+    if connection.execute_batch(batch).is_err() {
         told.push_str("refused, ")?;
     }
+    Ok(())
+}
+
+/// Whether the body of the one deposit becomes this.
+fn has_body<S: Alter + Drop>(connection: &mut Connection<S>, body: &[u8]) -> bool {
+    let changed = connection.execute("UPDATE deposits SET body = ?1", params![body]);
+    matches!(changed, Ok(1))
+}
+
+fn change_tables<S: Alter + Drop>(
+    connection: &mut Connection<S>,
+    change: Change<'_>,
+    told: &mut String,
+) -> Result<(), KeepError> {
+    match change {
+        Change::Batch(batch) => run_batch(connection, batch, told),
+        Change::Body(body) if has_body(connection, body) => Ok(()),
+        Change::Body(_) => Err(KeepError::Store),
+    }
+}
+
+/// What the change answers, and then adopting.
+fn tell_changed<S: Alter + Drop>(
+    alloc: Global,
+    mut connection: Connection<S>,
+    change: Change<'_>,
+    told: &mut String,
+) -> Result<(), KeepError> {
+    change_tables(&mut connection, change, told)?;
     tell_adopted(alloc, connection, told)
 }
 
-fn tell_case(alloc: Global, case: &Case, told: &mut String) -> Result<(), KeepError> {
-    match taken_apart(alloc, case.file) {
-        Some(connection) => tell_changed(alloc, connection, case.change, told),
-        None => Err(KeepError::Store),
+/// A register that was made takes a file, its tables are changed, and what adopting them answers is added to a text.
+struct TellChanged<'a, 'c> {
+    file: &'a [u8],
+    change: Change<'c>,
+    told: &'a mut String,
+}
+
+impl<'a, 'c> AskMade for TellChanged<'a, 'c> {
+    type Answer = Result<(), KeepError>;
+
+    fn ask_made<S: Alter + Drop>(
+        self,
+        alloc: Global,
+        made: Result<SqlKeep<S>, CreateError>,
+    ) -> Result<(), KeepError> {
+        let TellChanged { file, change, told } = self;
+        let Ok(keep) = made else {
+            return Err(KeepError::Store);
+        };
+        match filled(alloc, keep, file) {
+            Some(connection) => tell_changed(alloc, connection, change, told),
+            None => Err(KeepError::Store),
+        }
     }
+}
+
+fn tell_case(alloc: Global, case: &Case, told: &mut String) -> Result<(), KeepError> {
+    let change = Change::Batch(case.change);
+    let asked = TellChanged {
+        file: case.file,
+        change,
+        told,
+    };
+    ask_in_memory(alloc, MINI, asked)
 }
 
 /// Whether the change and adopting answer so.
@@ -219,32 +278,16 @@ fn long_body(alloc: Global, length: usize) -> Result<Vec<u8>, AllocError> {
     Ok(body)
 }
 
-/// Whether the body of the one deposit becomes this.
-fn has_body(connection: &mut Connection<MemStore>, body: &[u8]) -> bool {
-    let changed = connection.execute("UPDATE deposits SET body = ?1", params![body]);
-    matches!(changed, Ok(1))
-}
-
-/// What adopting answers where the one kept body is this.
-fn tell_with_body(
-    alloc: Global,
-    mut connection: Connection<MemStore>,
-    body: &[u8],
-    told: &mut String,
-) -> Result<(), KeepError> {
-    if !has_body(&mut connection, body) {
-        return Err(KeepError::Store);
-    }
-    tell_adopted(alloc, connection, told)
-}
-
 /// What adopting answers where the kept body is so long.
 fn tell_long(alloc: Global, length: usize, told: &mut String) -> Result<(), KeepError> {
     let body = long_body(alloc, length)?;
-    match taken_apart(alloc, FILE_A) {
-        Some(connection) => tell_with_body(alloc, connection, body.as_slice(), told),
-        None => Err(KeepError::Store),
-    }
+    let change = Change::Body(body.as_slice());
+    let asked = TellChanged {
+        file: FILE_A,
+        change,
+        told,
+    };
+    ask_in_memory(alloc, MINI, asked)
 }
 
 /// Whether adopting answers so where the kept body is so long.
@@ -257,12 +300,32 @@ fn is_no_dictionary(refused: &CreateError) -> bool {
     matches!(refused, CreateError::Dictionary(DictError::NoDict))
 }
 
+/// Whether the making is refused for a dictionary that is none.
+struct IsNoDictionary;
+
+impl AskMade for IsNoDictionary {
+    type Answer = bool;
+
+    fn ask_made<S: Alter + Drop>(
+        self,
+        _alloc: Global,
+        made: Result<SqlKeep<S>, CreateError>,
+    ) -> bool {
+        let IsNoDictionary = self;
+        match made {
+            Ok(keep) => {
+                // What lets a whole register go takes the prover longer.
+                let _ = keep.into_connection();
+                false
+            }
+            Err(refused) => is_no_dictionary(&refused),
+        }
+    }
+}
+
 /// Whether bytes that are no dictionary are refused as such.
 fn refuses_no_dictionary(alloc: Global) -> bool {
-    match SqlKeep::in_memory(alloc, FILE_A) {
-        Ok(_) => false,
-        Err(refused) => is_no_dictionary(&refused),
-    }
+    ask_in_memory(alloc, FILE_A, IsNoDictionary)
 }
 
 #[test]
@@ -327,7 +390,7 @@ static VISITS: [Visit; 5] = [
 ];
 
 /// Whether the database of a file could be closed.
-fn is_closed(connection: Connection<FileStore<File>>) -> bool {
+fn is_closed<D: Disk + Drop>(connection: Connection<FileStore<D>>) -> bool {
     connection.close().is_ok()
 }
 
@@ -335,8 +398,8 @@ fn tell_made(refused: &CreateError, told: &mut String) -> Result<(), AllocError>
     write!(told, "{refused}")
 }
 
-/// The register that is made or opened at a path; none where that is refused, which is told. Here alone, in `tell_visit` and in
-/// `tell_file` stands the type of a keep in a file: it is written out at each point of a function that holds one.
+/// The register that is made or opened at a path; none where that is refused, which is told. Here alone and in `tell_visit`
+/// stands the type of a keep in a file: it is written out at each point of a function that holds one.
 fn visited(
     rt: &HostRuntime,
     visit: &Visit,
@@ -400,10 +463,10 @@ fn tell_tables<S: Alter + Drop>(
     }
 }
 
-/// What a register in a file answers, which is closed then.
-fn tell_file(
+/// What a register in a file answers, which is closed then. It may be on any disk.
+fn tell_file<D: Disk + Drop>(
     alloc: Global,
-    keep: SqlKeep<FileStore<File>>,
+    keep: SqlKeep<FileStore<D>>,
     act: Act,
     told: &mut String,
 ) -> Result<(), KeepError>

@@ -8,15 +8,9 @@ use ags_rows::vectors::{FILE_A, FILE_B, MINI};
 use reg_store::{Keep, KeepError};
 use reg_tables::{AdoptError, CreateError, SqlKeep};
 use sqlite::{Alter, Connection, FileStore, Files, Options};
-use sqlite_disk::{Crash, Fuse, Memory};
+use sqlite_disk::{Crash, Disk, Fuse, Memory};
 use std::alloc::{AllocError, Global};
 use std::test::Fail;
-
-/// A disk in memory that refuses each call after so many.
-type Stopping = Fuse<Memory>;
-
-/// A database over disks that stop.
-type Stoppable = Connection<FileStore<Stopping>>;
 
 /// A file of a register.
 #[derive(Clone, Copy)]
@@ -96,24 +90,11 @@ impl Ask for SendBoth {
     }
 }
 
-/// An empty database over new files, of which one refuses each call after so many; else these files.
-fn started(alloc: Global, file: File, calls: u64) -> Result<Stoppable, Files<Stopping>> {
-    let (log_calls, database_calls) = match file {
-        File::Log => (calls, u64::MAX),
-        File::Database => (u64::MAX, calls),
-    };
-    let files = Files {
-        log: Fuse::new(Memory::new(alloc), log_calls),
-        db: Fuse::new(Memory::new(alloc), database_calls),
-    };
-    match Connection::open_files(alloc, files, options(file)) {
-        Ok(connection) => Ok(connection),
-        Err((_, left)) => Err(left.into_files()),
-    }
-}
-
 /// The files of a database that is closed, and the stage that a run then stopped in: that before, or none where all went well.
-fn closed(stage: Option<Stage>, connection: Stoppable) -> (Option<Stage>, Files<Stopping>) {
+fn closed<D: Disk + Drop>(
+    stage: Option<Stage>,
+    connection: Connection<FileStore<D>>,
+) -> (Option<Stage>, Files<D>) {
     match connection.close_files() {
         Ok(files) => (after_closing(stage), files),
         Err((_, store)) => (stage, store.close()),
@@ -252,43 +233,72 @@ fn stepped<S: Alter + Drop>(
     }
 }
 
-/// Does a step over disks that stop. They are shown to be a store here alone, since that is long.
-fn stepped_on_disks(
+/// Does a step over files, which are shown to be a store here alone, since that is long.
+fn stepped_on_files<D: Disk + Drop>(
     alloc: Global,
-    connection: Stoppable,
+    connection: Connection<FileStore<D>>,
     step: Step,
-) -> (Option<Stage>, Stoppable) {
+) -> (Option<Stage>, Connection<FileStore<D>>) {
     stepped(alloc, connection, step)
 }
 
 /// A register is made and filled, from the opening of the files to their closing.
-fn run(alloc: Global, file: File, calls: u64) -> (Option<Stage>, Files<Stopping>) {
-    match started(alloc, file, calls) {
+fn run<D: Disk + Drop>(alloc: Global, file: File, files: Files<D>) -> (Option<Stage>, Files<D>)
+    requires log { IsTrue (D.Disk.is_usable files.log) }
+    requires db { IsTrue (D.Disk.is_usable files.db) }
+{
+    match Connection::open_files(alloc, files, options(file)) {
         Ok(connection) => {
-            let (stage, connection) = stepped_on_disks(alloc, connection, Step::Make);
+            let (stage, connection) = stepped_on_files(alloc, connection, Step::Make);
             closed(stage, connection)
         }
-        Err(files) => (Some(Stage::Making), files),
+        Err((_, left)) => (Some(Stage::Making), left.into_files()),
     }
 }
 
 /// The stage in which a run stopped, where the files hold what they may once the machine has lost what was not synced.
-fn left(alloc: Global, file: File, stage: Stage, files: Files<Stopping>) -> Option<Stage> {
+fn left<D: Crash + Drop>(
+    alloc: Global,
+    file: File,
+    stage: Stage,
+    files: Files<D>,
+) -> Option<Stage> {
     let Files { mut log, mut db } = files;
     log.crash();
     db.crash();
     match Connection::open_files(alloc, Files { log, db }, options(file)) {
-        Ok(connection) => stepped_on_disks(alloc, connection, Step::LookAt(stage)).0,
+        Ok(connection) => {
+            let (found, connection) = stepped_on_files(alloc, connection, Step::LookAt(stage));
+            // A connection that is let go takes the prover longer than one that is closed.
+            let _ = closed(None, connection);
+            found
+        }
         Err(_) => None,
     }
 }
 
-/// The stage in which a run stops, where it leaves what it may.
-fn stage_of(alloc: Global, file: File, calls: u64) -> Option<Stage> {
-    match run(alloc, file, calls) {
+/// The stage in which a run over new files stops, where it leaves what it may.
+fn stage_over<D: Crash + Drop>(alloc: Global, file: File, files: Files<D>) -> Option<Stage>
+    requires log { IsTrue (D.Disk.is_usable files.log) }
+    requires db { IsTrue (D.Disk.is_usable files.db) }
+{
+    match run(alloc, file, files) {
         (Some(stage), files) => left(alloc, file, stage, files),
         (None, _) => None,
     }
+}
+
+/// The same over files in memory, of which one refuses each call after so many. Here alone a disk is named.
+fn stage_of(alloc: Global, file: File, calls: u64) -> Option<Stage> {
+    let (log_calls, database_calls) = match file {
+        File::Log => (calls, u64::MAX),
+        File::Database => (u64::MAX, calls),
+    };
+    let files = Files {
+        log: Fuse::new(Memory::new(alloc), log_calls),
+        db: Fuse::new(Memory::new(alloc), database_calls),
+    };
+    stage_over(alloc, file, files)
 }
 
 /// The letter of a stage, and `x` where a run left what it may not.
