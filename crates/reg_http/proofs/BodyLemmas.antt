@@ -60,24 +60,26 @@ ReadsBody-whole (Some xs) (Some ys) early n body read long =
     let whole = body_whole n early read.more ys (sym (ap length is) ∙ long) in
     rw read.taken (whole.0, is ∙ whole.1)
 
-pub ReadsBody-short : (old new : Option (List ℕ)) (early body : List ℕ) (n filled : ℕ) → HasRead old new early n (take filled body)
-    → filled < n → length body ≡ n → IsAtEnd new → IfSome old (λ left. ReadsBody (early ++ left) n (Err fault.Short))
-ReadsBody-short None new early body n filled read under long end = tt
-ReadsBody-short (Some xs) None early body n filled read under long end = absurd read.taken
-ReadsBody-short (Some xs) (Some ys) early body n filled read under long end =
-    let count = length-take-le filled body (omega arith) in
+-- a body whose bytes ended early: no byte came, and the reader is at its end
+pub ReadsBody-short : (u v w : Option (List ℕ)) (early body bytes : List ℕ) (n : ℕ) → HasRead u v early n body → Consumes v w bytes → length bytes ≡ 0
+    → length body < n → IsAtEnd w → IfSome u (λ left. ReadsBody (early ++ left) n (Err fault.Short))
+ReadsBody-short None v w early body bytes n read last none under end = tt
+ReadsBody-short (Some xs) None w early body bytes n read last none under end = absurd read.taken
+ReadsBody-short (Some xs) (Some ys) None early body bytes n read last none under end = absurd last
+ReadsBody-short (Some xs) (Some ys) (Some zs) early body bytes n read last none under end =
     let front = ap length read.front_is in
     let parts = length-append (take n early) read.more in
     let sum = length-append early xs in
     let left = ap length read.taken ∙ length-append read.more ys in
-    let none = ap length end in
+    let rest = ap length last ∙ length-append bytes zs in
+    let gone = ap length end in
     elim (cases_lt (length early) n) [
       | inl over ↦
           let all = ap length (take_all n early (omega arith)) in
-          omega (arith, all, count, front, parts, sum, left, none)
+          omega (arith, all, front, parts, sum, left, rest, none, gone)
       | inr fits ↦
           let all = length-take-le n early fits in
-          absurd (omega (arith, all, count, front, parts))
+          absurd (omega (arith, all, front, parts))
     ]
 
 -- the front of the body, and the bytes of one read more

@@ -1,6 +1,6 @@
-use Rattle.std.proofs.Common.{◌≡◌, ◌++◌, take, arith, rules}
+use Rattle.std.proofs.Common.{◌≡◌, ◌++◌, length, take, Some, ap, arith, rules}
 use Rattle.reg_http.specs.Tallies.{inner_of}
-use Rattle.reg_http.proofs.BodyLemmas.{HasRead-more, ReadsBody-all}
+use Rattle.reg_http.proofs.BodyLemmas.{HasRead-more, ReadsBody-all, ReadsBody-short}
 use Rattle.reg_http.proofs.body.receive_body.Goals as goal
 
 pub reads-preserved : goal.reads-preserved
@@ -22,3 +22,15 @@ reads-preserved g c =
 
 pub returns-clause-body : goal.returns-clause-body
 returns-clause-body g c = ReadsBody-all _ _ c.args.early.now c.args.length c.reads.body c.reads.invariant.read (omega arith)
+
+pub returns-then-count-eq0-clause-body : goal.returns-then-count-eq0-clause-body
+returns-then-count-eq0-clause-body g c =
+    let i = c.reads.invariant in
+    let read = c.in-Some.ensures in
+    let bytes = take c.in-Some.count c.read_chunk.new.chunk in
+    let none : length bytes ≡ 0 = ap (λ k. length (take k c.read_chunk.new.chunk)) c.if-count-eq0.true in
+    ReadsBody-short _ _ _ c.args.early.now c.reads.body.items bytes c.args.length i.read read.filled.1 none (omega arith)
+    (read.at_end (ap Some c.if-count-eq0.true) (omega arith))
+
+pub returns-then-count-eq0-clause-fits : goal.returns-then-count-eq0-clause-fits
+returns-then-count-eq0-clause-fits g c = omega arith
