@@ -13,16 +13,18 @@ mod wanted;
 use ags_dict::Dictionary;
 use ags_rows::READABLE;
 use ags_rows::vectors::{FILE_A, FILE_B, FILE_C, MINI};
-use bodies::lengths;
-use examples::{EXAMPLES, MOST, example_at};
+use bodies::LENGTHS;
+use examples::{EXAMPLES, MOST, UNTIL};
 use laws::tells;
 use memory::is_refused_once;
+use refusing::Refusing;
 use reg_desk::{Answer, Desk, Request};
 use reg_policy::vectors::{CALLERS, POLICY};
 use reg_policy::{Caller, Callers, Day, Name, Policy};
 use reg_store::{Keep, PlainKeep};
 use reg_tables::{CreateError, SqlKeep};
 use std::alloc::{AllocError, Global};
+use std::process::Abort;
 use wanted::is_wanted;
 
 /// New lines in place of those from the first to the last.
@@ -95,6 +97,17 @@ pub struct Example {
     pub name: &'static str,
     pub limit: u32,
     pub steps: &'static [Step],
+}
+
+/// The keep of a desk that begins.
+#[derive(Clone, Copy)]
+pub enum Over {
+    /// In memory.
+    Memory,
+    /// In memory, and gives no body.
+    NoBodies,
+    /// In tables.
+    Tables,
 }
 
 /// What is played at a desk that begins.
@@ -245,6 +258,18 @@ fn request_at<'a>(
     request_of(caller, project, Day::read(step.1)?, &step.2, bytes)
 }
 
+/// Two callers by their tokens, and 2024-06-01; none where one of them is nobody's.
+fn two_of<'a>(
+    callers: &'a Callers,
+    first: &[u8],
+    second: &[u8],
+) -> Option<(&'a Caller, &'a Caller, Day)> {
+    match (callers.find(first), callers.find(second), Day::read(UNTIL)) {
+        (Some(first), Some(second), Some(day)) => Some((first, second, day)),
+        _ => None,
+    }
+}
+
 /// Whether a step is answered as it should be.
 fn holds<K: Keep>(
     alloc: Global,
@@ -343,13 +368,25 @@ fn plays<K: Keep + Drop>(alloc: Global, keep: K, play: Play) -> Result<bool, All
     }
 }
 
-/// A keep in memory that may hold so many deposits; none where no keep may hold so many.
+/// A keep in memory under a dictionary that may hold so many deposits.
+fn keep_under(alloc: Global, dictionary: Dictionary, limit: u32) -> PlainKeep
+    requires least { 0 < limit }
+    requires most { limit ≤ 999999 }
+{
+    if limit == MOST {
+        PlainKeep::new(alloc, dictionary)
+    } else {
+        PlainKeep::with_limit(alloc, dictionary, limit)
+    }
+}
+
+/// The same under the small dictionary; none where no keep may hold so many.
 fn memory_of(alloc: Global, limit: u32) -> Option<PlainKeep> {
-    if limit == 0 || limit > 999_999 {
+    if limit == 0 || limit > MOST {
         return None;
     }
     match Dictionary::read(alloc, MINI) {
-        Ok(mini) => Some(PlainKeep::with_limit(alloc, mini, limit)),
+        Ok(mini) => Some(keep_under(alloc, mini, limit)),
         Err(_) => None,
     }
 }
@@ -358,6 +395,14 @@ fn memory_of(alloc: Global, limit: u32) -> Option<PlainKeep> {
 fn plays_in_memory(alloc: Global, limit: u32, play: Play) -> Result<bool, AllocError> {
     match memory_of(alloc, limit) {
         Some(keep) => plays(alloc, keep, play),
+        None => Err(AllocError),
+    }
+}
+
+/// The same over a keep that gives no body.
+fn plays_without_bodies(alloc: Global, play: Play) -> Result<bool, AllocError> {
+    match memory_of(alloc, MOST) {
+        Some(keep) => plays(alloc, Refusing::new(keep, u32::MAX), play),
         None => Err(AllocError),
     }
 }
@@ -386,34 +431,41 @@ fn length_of(alloc: Global, body: &Body) -> Result<usize, AllocError> {
     Ok(bytes_of(alloc, body)?.len())
 }
 
+/// Whether a desk over such a keep answers as it should what is played. None but a keep in memory has a limit of its own: with another limit
+/// nothing is asked.
+fn plays_over(alloc: Global, over: Over, limit: u32, play: Play) -> Result<bool, AllocError> {
+    match over {
+        Over::Memory => plays_in_memory(alloc, limit, play),
+        Over::NoBodies if limit == MOST => plays_without_bodies(alloc, play),
+        Over::Tables if limit == MOST => plays_in_tables(alloc, play),
+        _ => Ok(true),
+    }
+}
+
+/// The examples over such a keep.
+fn examples_over(alloc: Global, rt: &impl Abort, over: Over) {
+    for example in &EXAMPLES {
+        let play = Play::Steps(example.steps);
+        let right = plays_over(alloc, over, example.limit, play).unwrap_or(false);
+        assert!(rt; right, "{}", example.name);
+    }
+}
+
 #[test]
 fn bodies_are_as_long_as_they_should_be(rt: HostRuntime) {
     let alloc = rt.alloc();
-    for Length(name, body, length) in lengths() {
+    for Length(name, body, length) in &LENGTHS {
         assert!(rt; length_of(alloc, body).unwrap_or(0) == *length, "{name}");
     }
 }
 
 #[test]
 fn examples_in_memory(rt: HostRuntime) {
-    let alloc = rt.alloc();
-    for number in 0..EXAMPLES {
-        let example = example_at(number);
-        let right = plays_in_memory(alloc, example.limit, Play::Steps(example.steps)).unwrap_or(
-            false,
-        );
-        assert!(rt; right, "{}", example.name);
-    }
+    examples_over(rt.alloc(), &rt, Over::Memory);
 }
 
 /// Tables hold as many deposits as may be, so an example with a smaller limit is none of theirs.
 #[test]
 fn examples_in_tables(rt: HostRuntime) {
-    let alloc = rt.alloc();
-    for number in 0..EXAMPLES {
-        let example = example_at(number);
-        let right = example.limit < MOST
-            || plays_in_tables(alloc, Play::Steps(example.steps)).unwrap_or(false);
-        assert!(rt; right, "{}", example.name);
-    }
+    examples_over(rt.alloc(), &rt, Over::Tables);
 }

@@ -304,15 +304,10 @@ pub const C_SHOWN: Body = Body {
 };
 
 /// Bodies whose lengths are told.
-const LENGTHS: &[Length; 5] = &[
+pub static LENGTHS: [Length; 5] = [
     Length("the first file", A, 543),
     Length("as long as may be", A_LONGEST, 4_194_304),
     Length("one space more", A_TOO_LONG, 4_194_305),
     Length("what is shown of the second file", B_SHOWN, 956),
     Length("its first borehole", B_BOREHOLE, 626),
 ];
-
-/// Those bodies. A function that names a table carries it to each of its points, so a table is handed out by a function of its own.
-pub fn lengths() -> &'static [Length] {
-    LENGTHS
-}

@@ -20,262 +20,193 @@ pub const SECOND: Want = Want::Receipt(2, UNTIL);
 /// The first deposit where it is the only one.
 pub const LISTED: Want = Want::Lists(&[Line(1, "Delta", UNTIL)]);
 
-const DENIED: &Example = &Example {
-    name: "a deposit that the policy denies",
-    limit: MOST,
-    steps: &[
-        Step("t-gamma", SENT, Ask::Deposit(A, UNTIL), Want::Denied(5)),
-        Step("t-echo", SENT, Ask::Deposit(A, UNTIL), Want::Denied(0)),
-        Step("t-delta", SENT, Ask::List, Want::Lists(&[])),
-        Step("t-delta", SENT, Ask::Deposit(A, UNTIL), FIRST),
-    ],
-};
-
-/// A deposit that the policy denies.
-fn denied() -> &'static Example {
-    DENIED
-}
-
-const REFUSED: &Example = &Example {
-    name: "a body that is refused",
-    limit: MOST,
-    steps: &[
-        Step("t-delta", SENT, Ask::Check(A), Want::Says("clean")),
-        Step(
-            "t-delta",
-            SENT,
-            Ask::Check(A_UNENDED),
-            Want::Finding("2b", 29),
-        ),
-        Step(
-            "t-delta",
-            SENT,
-            Ask::Deposit(A_UNENDED, UNTIL),
-            Want::Finding("2b", 29),
-        ),
-        Step(
-            "t-delta",
-            SENT,
-            Ask::Check(A_TOO_LONG),
-            Want::Says("too large"),
-        ),
-        Step(
-            "t-delta",
-            SENT,
-            Ask::Deposit(A_TOO_LONG, UNTIL),
-            Want::Says("too large"),
-        ),
-        Step("t-delta", SENT, Ask::Deposit(A_LONGEST, UNTIL), FIRST),
-    ],
-};
-
-/// A body that is refused.
-fn refused() -> &'static Example {
-    REFUSED
-}
-
-const REPEATED: &Example = &Example {
-    name: "a deposit that is repeated",
-    limit: MOST,
-    steps: &[
-        Step("t-delta", SENT, Ask::Deposit(A, UNTIL), FIRST),
-        Step("t-delta", SENT, Ask::Deposit(A, "2030-01-01"), FIRST),
-        Step("t-foxtrot", SENT, Ask::Deposit(A, UNTIL), SECOND),
-    ],
-};
-
-/// A deposit that is repeated.
-fn repeated() -> &'static Example {
-    REPEATED
-}
-
-const FULL: &Example = &Example {
-    name: "a register of one deposit",
-    limit: 1,
-    steps: &[
-        Step("t-delta", SENT, Ask::Deposit(A, UNTIL), FIRST),
-        Step(
-            "t-delta",
-            SENT,
-            Ask::Deposit(A_OTHER, UNTIL),
-            Want::Says("full"),
-        ),
-        Step("t-delta", SENT, Ask::Deposit(A, UNTIL), FIRST),
-    ],
-};
-
-/// A register of one deposit.
-fn full() -> &'static Example {
-    FULL
-}
-
-const HIDDEN: &Example = &Example {
-    name: "rows that are hidden, and what is asked",
-    limit: MOST,
-    steps: &[
-        Step("t-delta", SENT, Ask::Deposit(B, UNTIL), FIRST),
-        Step("t-echo", UNTIL, Ask::Extract(1, &[]), Want::Gives(B_SHOWN)),
-        Step("t-delta", UNTIL, Ask::Extract(1, &[]), Want::Gives(B)),
-        Step(
-            "t-echo",
-            UNTIL,
-            Ask::Extract(1, &[b"LNMC"]),
-            Want::Gives(B_SHOWN),
-        ),
-        Step(
-            "t-echo",
-            UNTIL,
-            Ask::Extract(1, &[b"LOCA"]),
-            Want::Gives(B_BOREHOLE),
-        ),
-        Step("t-echo", UNTIL, Ask::Check(B), Want::Says("clean")),
-        Step("t-echo", UNTIL, Ask::Check(B_SHOWN), Want::Says("clean")),
-        Step("t-echo", UNTIL, Ask::Check(B_BOREHOLE), Want::Says("clean")),
-    ],
-};
-
-/// Rows that are hidden, and what is asked.
-fn hidden() -> &'static Example {
-    HIDDEN
-}
-
-const RING: &Example = &Example {
-    name: "a ring of record links",
-    limit: MOST,
-    steps: &[
-        Step("t-delta", SENT, Ask::Deposit(C, UNTIL), FIRST),
-        Step("t-echo", UNTIL, Ask::Extract(1, &[]), Want::Gives(C_SHOWN)),
-        Step("t-delta", UNTIL, Ask::Extract(1, &[]), Want::Gives(C)),
-        Step("t-echo", UNTIL, Ask::Check(C), Want::Says("clean")),
-        Step("t-echo", UNTIL, Ask::Check(C_SHOWN), Want::Says("clean")),
-    ],
-};
-
-/// A ring of record links.
-fn ring() -> &'static Example {
-    RING
-}
-
-const EMBARGO: &Example = &Example {
-    name: "an embargo",
-    limit: MOST,
-    steps: &[
-        Step("t-delta", SENT, Ask::Deposit(A, UNTIL), FIRST),
-        Step("t-echo", UNTIL, Ask::Extract(1, &[]), Want::Gives(A)),
-        Step(
-            "t-echo",
-            "2024-05-31",
-            Ask::Extract(1, &[]),
-            Want::Says("unknown"),
-        ),
-        Step(
-            "t-echo",
-            "2024-05-31",
-            Ask::Extract(999, &[]),
-            Want::Says("unknown"),
-        ),
-        Step("t-echo", "2024-05-31", Ask::List, Want::Lists(&[])),
-        Step(
-            "t-delta",
-            "2024-05-31",
-            Ask::Extract(1, &[]),
-            Want::Gives(A),
-        ),
-        Step("t-delta", "2024-05-31", Ask::List, LISTED),
-        Step("t-echo", UNTIL, Ask::List, LISTED),
-    ],
-};
-
-/// An embargo.
-fn embargo() -> &'static Example {
-    EMBARGO
-}
-
-const SPACED: &Example = &Example {
-    name: "a file that is spelled with spaces",
-    limit: MOST,
-    steps: &[
-        Step("t-delta", SENT, Ask::Deposit(A_SPACED, UNTIL), FIRST),
-        Step("t-echo", UNTIL, Ask::Extract(1, &[]), Want::Gives(A_PLAIN)),
-    ],
-};
-
-/// A file that is spelled with spaces.
-fn spaced() -> &'static Example {
-    SPACED
-}
-
-const REACHED: &Example = &Example {
-    name: "what the row of PROJ reaches, and PROJ as the last group",
-    limit: MOST,
-    steps: &[
-        Step("t-delta", SENT, Ask::Deposit(B_LINKED_HIDDEN, UNTIL), FIRST),
-        Step("t-delta", SENT, Ask::Deposit(B_LINKED, UNTIL), SECOND),
-        Step(
-            "t-delta",
-            SENT,
-            Ask::Deposit(B_FILED, UNTIL),
-            Want::Receipt(3, UNTIL),
-        ),
-        Step(
-            "t-delta",
-            SENT,
-            Ask::Deposit(A_PROJECT_LAST, UNTIL),
-            Want::Receipt(4, UNTIL),
-        ),
-        Step(
-            "t-delta",
-            SENT,
-            Ask::Deposit(B_LINKED_TO_ITSELF, UNTIL),
-            Want::Receipt(5, UNTIL),
-        ),
-        Step(
-            "t-echo",
-            UNTIL,
-            Ask::List,
-            Want::Lists(&[
-                Line(2, "Delta", UNTIL),
-                Line(3, "Delta", UNTIL),
-                Line(4, "Delta", UNTIL),
-                Line(5, "Delta", UNTIL),
-            ]),
-        ),
-        Step("t-echo", SENT, Ask::List, Want::Lists(&[])),
-        Step(
-            "t-delta",
-            SENT,
-            Ask::List,
-            Want::Lists(&[
-                Line(1, "Delta", UNTIL),
-                Line(2, "Delta", UNTIL),
-                Line(3, "Delta", UNTIL),
-                Line(4, "Delta", UNTIL),
-                Line(5, "Delta", UNTIL),
-            ]),
-        ),
-    ],
-};
-
-/// What the row of PROJ reaches, and PROJ as the last group.
-fn reached() -> &'static Example {
-    REACHED
-}
-
-/// How many examples there are.
-pub const EXAMPLES: u32 = 9;
-
-/// The example of a number from 0 to 8. A function that names a table carries it to each of its points, so each example is handed out by
-/// a function of its own.
-pub fn example_at(number: u32) -> &'static Example {
-    match number {
-        0 => denied(),
-        1 => refused(),
-        2 => repeated(),
-        3 => full(),
-        4 => hidden(),
-        5 => ring(),
-        6 => embargo(),
-        7 => spaced(),
-        _ => reached(),
-    }
-}
+/// The examples.
+pub static EXAMPLES: [Example; 9] = [
+    Example {
+        name: "a deposit that the policy denies",
+        limit: MOST,
+        steps: &[
+            Step("t-gamma", SENT, Ask::Deposit(A, UNTIL), Want::Denied(5)),
+            Step("t-echo", SENT, Ask::Deposit(A, UNTIL), Want::Denied(0)),
+            Step("t-delta", SENT, Ask::List, Want::Lists(&[])),
+            Step("t-delta", SENT, Ask::Deposit(A, UNTIL), FIRST),
+        ],
+    },
+    Example {
+        name: "a body that is refused",
+        limit: MOST,
+        steps: &[
+            Step("t-delta", SENT, Ask::Check(A), Want::Says("clean")),
+            Step(
+                "t-delta",
+                SENT,
+                Ask::Check(A_UNENDED),
+                Want::Finding("2b", 29),
+            ),
+            Step(
+                "t-delta",
+                SENT,
+                Ask::Deposit(A_UNENDED, UNTIL),
+                Want::Finding("2b", 29),
+            ),
+            Step(
+                "t-delta",
+                SENT,
+                Ask::Check(A_TOO_LONG),
+                Want::Says("too large"),
+            ),
+            Step(
+                "t-delta",
+                SENT,
+                Ask::Deposit(A_TOO_LONG, UNTIL),
+                Want::Says("too large"),
+            ),
+            Step("t-delta", SENT, Ask::Deposit(A_LONGEST, UNTIL), FIRST),
+        ],
+    },
+    Example {
+        name: "a deposit that is repeated",
+        limit: MOST,
+        steps: &[
+            Step("t-delta", SENT, Ask::Deposit(A, UNTIL), FIRST),
+            Step("t-delta", SENT, Ask::Deposit(A, "2030-01-01"), FIRST),
+            Step("t-foxtrot", SENT, Ask::Deposit(A, UNTIL), SECOND),
+        ],
+    },
+    Example {
+        name: "a register of one deposit",
+        limit: 1,
+        steps: &[
+            Step("t-delta", SENT, Ask::Deposit(A, UNTIL), FIRST),
+            Step(
+                "t-delta",
+                SENT,
+                Ask::Deposit(A_OTHER, UNTIL),
+                Want::Says("full"),
+            ),
+            Step("t-delta", SENT, Ask::Deposit(A, UNTIL), FIRST),
+        ],
+    },
+    Example {
+        name: "rows that are hidden, and what is asked",
+        limit: MOST,
+        steps: &[
+            Step("t-delta", SENT, Ask::Deposit(B, UNTIL), FIRST),
+            Step("t-echo", UNTIL, Ask::Extract(1, &[]), Want::Gives(B_SHOWN)),
+            Step("t-delta", UNTIL, Ask::Extract(1, &[]), Want::Gives(B)),
+            Step(
+                "t-echo",
+                UNTIL,
+                Ask::Extract(1, &[b"LNMC"]),
+                Want::Gives(B_SHOWN),
+            ),
+            Step(
+                "t-echo",
+                UNTIL,
+                Ask::Extract(1, &[b"LOCA"]),
+                Want::Gives(B_BOREHOLE),
+            ),
+            Step("t-echo", UNTIL, Ask::Check(B), Want::Says("clean")),
+            Step("t-echo", UNTIL, Ask::Check(B_SHOWN), Want::Says("clean")),
+            Step("t-echo", UNTIL, Ask::Check(B_BOREHOLE), Want::Says("clean")),
+        ],
+    },
+    Example {
+        name: "a ring of record links",
+        limit: MOST,
+        steps: &[
+            Step("t-delta", SENT, Ask::Deposit(C, UNTIL), FIRST),
+            Step("t-echo", UNTIL, Ask::Extract(1, &[]), Want::Gives(C_SHOWN)),
+            Step("t-delta", UNTIL, Ask::Extract(1, &[]), Want::Gives(C)),
+            Step("t-echo", UNTIL, Ask::Check(C), Want::Says("clean")),
+            Step("t-echo", UNTIL, Ask::Check(C_SHOWN), Want::Says("clean")),
+        ],
+    },
+    Example {
+        name: "an embargo",
+        limit: MOST,
+        steps: &[
+            Step("t-delta", SENT, Ask::Deposit(A, UNTIL), FIRST),
+            Step("t-echo", UNTIL, Ask::Extract(1, &[]), Want::Gives(A)),
+            Step(
+                "t-echo",
+                "2024-05-31",
+                Ask::Extract(1, &[]),
+                Want::Says("unknown"),
+            ),
+            Step(
+                "t-echo",
+                "2024-05-31",
+                Ask::Extract(999, &[]),
+                Want::Says("unknown"),
+            ),
+            Step("t-echo", "2024-05-31", Ask::List, Want::Lists(&[])),
+            Step(
+                "t-delta",
+                "2024-05-31",
+                Ask::Extract(1, &[]),
+                Want::Gives(A),
+            ),
+            Step("t-delta", "2024-05-31", Ask::List, LISTED),
+            Step("t-echo", UNTIL, Ask::List, LISTED),
+        ],
+    },
+    Example {
+        name: "a file that is spelled with spaces",
+        limit: MOST,
+        steps: &[
+            Step("t-delta", SENT, Ask::Deposit(A_SPACED, UNTIL), FIRST),
+            Step("t-echo", UNTIL, Ask::Extract(1, &[]), Want::Gives(A_PLAIN)),
+        ],
+    },
+    Example {
+        name: "what the row of PROJ reaches, and PROJ as the last group",
+        limit: MOST,
+        steps: &[
+            Step("t-delta", SENT, Ask::Deposit(B_LINKED_HIDDEN, UNTIL), FIRST),
+            Step("t-delta", SENT, Ask::Deposit(B_LINKED, UNTIL), SECOND),
+            Step(
+                "t-delta",
+                SENT,
+                Ask::Deposit(B_FILED, UNTIL),
+                Want::Receipt(3, UNTIL),
+            ),
+            Step(
+                "t-delta",
+                SENT,
+                Ask::Deposit(A_PROJECT_LAST, UNTIL),
+                Want::Receipt(4, UNTIL),
+            ),
+            Step(
+                "t-delta",
+                SENT,
+                Ask::Deposit(B_LINKED_TO_ITSELF, UNTIL),
+                Want::Receipt(5, UNTIL),
+            ),
+            Step(
+                "t-echo",
+                UNTIL,
+                Ask::List,
+                Want::Lists(&[
+                    Line(2, "Delta", UNTIL),
+                    Line(3, "Delta", UNTIL),
+                    Line(4, "Delta", UNTIL),
+                    Line(5, "Delta", UNTIL),
+                ]),
+            ),
+            Step("t-echo", SENT, Ask::List, Want::Lists(&[])),
+            Step(
+                "t-delta",
+                SENT,
+                Ask::List,
+                Want::Lists(&[
+                    Line(1, "Delta", UNTIL),
+                    Line(2, "Delta", UNTIL),
+                    Line(3, "Delta", UNTIL),
+                    Line(4, "Delta", UNTIL),
+                    Line(5, "Delta", UNTIL),
+                ]),
+            ),
+        ],
+    },
+];

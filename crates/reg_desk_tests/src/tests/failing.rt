@@ -3,36 +3,25 @@
 ghost use Rattle.std.specs.Prelude.{◌≡◌, false};
 
 use super::bodies::B_SHOWN;
-use super::examples::{EXAMPLES, FIRST, LISTED, MOST, UNTIL, example_at};
+use super::examples::{FIRST, LISTED, MOST};
 use super::refusing::Refusing;
-use super::wanted::{count_wanted, name_of};
-use super::{Play, Want, check_of, deposit_of, desk_over, extract_of, list_of, memory_of, plays};
+use super::wanted::count_wanted;
+use super::{
+    Over, Want, check_of, deposit_of, desk_over, examples_over, extract_of, list_of, memory_of,
+    two_of,
+};
 use ags_rows::vectors::{FILE_A, FILE_B};
 use reg_desk::{Answer, Desk, Request};
 use reg_policy::vectors::CALLERS;
 use reg_policy::{Caller, Callers, Day, Name};
 use reg_store::Keep;
-use std::alloc::{AllocError, Global};
+use std::alloc::Global;
 use std::io;
-
-/// Whether a desk over a keep that gives no body answers as it should what is played.
-fn plays_without_bodies(alloc: Global, play: Play) -> Result<bool, AllocError> {
-    match memory_of(alloc, MOST) {
-        Some(keep) => plays(alloc, Refusing::new(keep, u32::MAX), play),
-        None => Err(AllocError),
-    }
-}
 
 /// No body is read for a listing or an extract.
 #[test]
 fn examples_without_bodies(rt: HostRuntime) {
-    let alloc = rt.alloc();
-    for number in 0..EXAMPLES {
-        let example = example_at(number);
-        let right = example.limit < MOST
-            || plays_without_bodies(alloc, Play::Steps(example.steps)).unwrap_or(false);
-        assert!(rt; right, "{}", example.name);
-    }
+    examples_over(rt.alloc(), &rt, Over::NoBodies);
 }
 
 /// The requests of a run.
@@ -54,7 +43,7 @@ fn seven_of<'a>(
 }
 
 /// What they are answered where the store does not fail.
-const WHOLE: &[Want; 7] = &[
+static WHOLE: [Want; 7] = [
     FIRST,
     LISTED,
     Want::Gives(B_SHOWN),
@@ -64,26 +53,16 @@ const WHOLE: &[Want; 7] = &[
     Want::Gives(B_SHOWN),
 ];
 
-/// Those answers. A function that names a table carries it to each of its points, so a table is handed out by a function of its own.
-fn whole() -> &'static [Want] {
-    WHOLE
-}
-
-/// Whether the store failed at each of these answers.
-fn have_failed(answers: &[Answer]) -> bool {
-    let mut failed = true;
-    for answer in answers {
-        failed = failed && name_of(answer) == "store failed";
-    }
-    failed
-}
+/// What they are answered once it has failed.
+static FAILED: [Want; 7] = [Want::Says("store failed"); 7];
 
 /// How many answers come before the first that the store failed; none where one of them is not that of a whole run, or one from
 /// there on is another.
 fn answered_before(alloc: Global, answers: &[Answer]) -> Option<usize> {
-    let before = count_wanted(alloc, answers, whole()).ok()?;
-    match answers.get(before..) {
-        Some(behind) if have_failed(behind) => Some(before),
+    let before = count_wanted(alloc, answers, &WHOLE).ok()?;
+    let behind = answers.get(before..)?;
+    match count_wanted(alloc, behind, &FAILED) {
+        Ok(failed) if failed == behind.len() => Some(before),
         _ => None,
     }
 }
@@ -140,15 +119,9 @@ fn stops_of(alloc: Global, requests: &[Request]) -> Option<([bool; 8], u32)> {
 
 /// The same of seven requests by Delta and Echo.
 fn seven_stops(alloc: Global, callers: &Callers, project: &Name) -> Option<([bool; 8], u32)> {
-    match (
-        callers.find(b"t-delta"),
-        callers.find(b"t-echo"),
-        Day::read(UNTIL),
-    ) {
-        (Some(delta), Some(echo), Some(day)) => {
-            stops_of(alloc, &seven_of(delta, echo, project, day))
-        }
-        _ => None,
+    match two_of(callers, b"t-delta", b"t-echo") {
+        Some((delta, echo, day)) => stops_of(alloc, &seven_of(delta, echo, project, day)),
+        None => None,
     }
 }
 

@@ -4,20 +4,20 @@ use super::bodies::{A, B, B_SHOWN, B_TESTED, B_WETTER};
 use super::examples::{FIRST, LISTED, MOST, SECOND, UNTIL};
 use super::wanted::count_wanted;
 use super::{
-    Ask, Body, Play, Step, Want, deposit_of, extract_of, holds, list_of, plays_in_memory,
-    plays_in_tables,
+    Ask, Body, Over, Play, Step, Want, deposit_of, extract_of, holds, list_of, plays_over, two_of,
 };
 use ags_rows::vectors::FILE_A;
 use reg_desk::{Desk, Request};
 use reg_policy::{Caller, Callers, Day, Name};
 use reg_store::Keep;
 use std::alloc::{AllocError, Global};
+use std::process::Abort;
 
 /// Delta deposits the second file, and what Echo got of it; Delta gets that text again.
 ///
 /// `extracts_are_clean`: both answers are texts. `extract_of_an_extract`: the second deposit is the text of an extract of a file
 /// without findings, and every row of it is shown to Delta, whose it is.
-const DRAWN_TWICE: &[Step] = &[
+static DRAWN_TWICE: [Step; 5] = [
     Step("t-delta", UNTIL, Ask::Deposit(B, UNTIL), FIRST),
     Step("t-echo", UNTIL, Ask::Extract(1, &[]), Want::Gives(B_SHOWN)),
     Step("t-echo", UNTIL, Ask::Check(B_SHOWN), Want::Says("clean")),
@@ -25,17 +25,15 @@ const DRAWN_TWICE: &[Step] = &[
     Step("t-delta", UNTIL, Ask::Extract(2, &[]), Want::Gives(B_SHOWN)),
 ];
 
-/// Those steps. A function that names a table carries it to each of its points, so tables are handed out by functions of their own.
-fn drawn_twice() -> &'static [Step] {
-    DRAWN_TWICE
+/// What is played over a keep in memory, and over tables.
+fn plays_twice(alloc: Global, rt: &impl Abort, play: Play) {
+    assert!(rt; plays_over(alloc, Over::Memory, MOST, play).unwrap_or(false));
+    assert!(rt; plays_over(alloc, Over::Tables, MOST, play).unwrap_or(false));
 }
 
 #[test]
 fn extracts_of_extracts(rt: HostRuntime) {
-    let alloc = rt.alloc();
-    let play = Play::Steps(drawn_twice());
-    assert!(rt; plays_in_memory(alloc, MOST, play).unwrap_or(false));
-    assert!(rt; plays_in_tables(alloc, play).unwrap_or(false));
+    plays_twice(rt.alloc(), &rt, Play::Steps(&DRAWN_TWICE));
 }
 
 /// Echo's list, a deposit by Foxtrot, and Echo's extracts of the first two deposits.
@@ -54,12 +52,7 @@ fn four_of<'a>(
 }
 
 /// What they are answered.
-const TOLD: &[Want; 4] = &[LISTED, SECOND, Want::Gives(B_SHOWN), Want::Gives(A)];
-
-/// Those answers.
-fn told() -> &'static [Want] {
-    TOLD
-}
+static TOLD: [Want; 4] = [LISTED, SECOND, Want::Gives(B_SHOWN), Want::Gives(A)];
 
 /// Whether four requests in turn are answered so.
 fn tells_each<K: Keep>(
@@ -68,7 +61,7 @@ fn tells_each<K: Keep>(
     requests: &[Request],
 ) -> Result<bool, AllocError> {
     let answers = desk.run(alloc, requests)?;
-    Ok(answers.len() == 4 && count_wanted(alloc, &answers, told())? == 4)
+    Ok(answers.len() == 4 && count_wanted(alloc, &answers, &TOLD)? == 4)
 }
 
 /// Whether those four requests are.
@@ -78,15 +71,11 @@ fn tells_four<K: Keep>(
     callers: &Callers,
     project: &Name,
 ) -> Result<bool, AllocError> {
-    match (
-        callers.find(b"t-echo"),
-        callers.find(b"t-foxtrot"),
-        Day::read(UNTIL),
-    ) {
-        (Some(echo), Some(foxtrot), Some(day)) => {
+    match two_of(callers, b"t-echo", b"t-foxtrot") {
+        Some((echo, foxtrot, day)) => {
             tells_each(alloc, desk, &four_of(echo, foxtrot, project, day))
         }
-        _ => Ok(false),
+        None => Ok(false),
     }
 }
 
@@ -106,19 +95,12 @@ pub fn tells<K: Keep>(
 }
 
 /// The second file, with another result in a hidden row, with one hidden row more, and without its hidden rows.
-const BODIES: &[Body; 4] = &[B, B_WETTER, B_TESTED, B_SHOWN];
-
-/// Those bodies.
-fn bodies() -> &'static [Body] {
-    BODIES
-}
+static BODIES: [Body; 4] = [B, B_WETTER, B_TESTED, B_SHOWN];
 
 /// `no_leak`: these bodies have no finding; Echo is shown the same of each, and no request brings any of them.
 #[test]
 fn hidden_rows_are_not_told(rt: HostRuntime) {
-    let alloc = rt.alloc();
-    for body in bodies() {
-        assert!(rt; plays_in_memory(alloc, MOST, Play::Told(body)).unwrap_or(false));
-        assert!(rt; plays_in_tables(alloc, Play::Told(body)).unwrap_or(false));
+    for body in &BODIES {
+        plays_twice(rt.alloc(), &rt, Play::Told(body));
     }
 }

@@ -1,9 +1,11 @@
 //! Memory that is refused to one growth, by `conformance/refused_tests`: want of memory is answered then, once, and by the same call with
 //! memory what should be.
 
-use super::examples::UNTIL;
+ghost use Rattle.std.specs.Prelude.{◌≡◌};
+
+use super::examples::{MOST, UNTIL};
 use super::wanted::{is_listing, is_receipt, name_of};
-use super::{Line, Play, deposit_of, extract_of, list_of, plays, plays_in_tables};
+use super::{Line, Over, Play, deposit_of, extract_of, list_of, plays_over, two_of};
 use ags_check::{CheckError, check};
 use ags_dict::{DictError, Dictionary};
 use ags_links::{Graph, reached, shown};
@@ -15,7 +17,7 @@ use reg_policy::{
     Caller, Callers, CallersError, Day, Decision, Name, NameError, Policy, PolicyError, RowFacts,
     Subject,
 };
-use reg_store::{Keep, PlainKeep};
+use reg_store::Keep;
 use std::alloc::{AllocError, Global};
 use std::process::Abort;
 
@@ -29,7 +31,7 @@ enum Call {
     Reached,
 }
 
-const CALLS: [(&str, Call); 5] = [
+static CALLS: [(&str, Call); 5] = [
     ("scan", Call::Scan),
     ("dictionary", Call::Dictionary),
     ("callers", Call::Callers),
@@ -37,70 +39,76 @@ const CALLS: [(&str, Call); 5] = [
     ("reached", Call::Reached),
 ];
 
-/// Those calls. A function that names a table carries it to each of its points, so tables are handed out by functions of their own.
-fn calls_below() -> &'static [(&'static str, Call)] {
-    &CALLS
+/// What a call that is refused answers: want of memory where that is why, and else that it is not right.
+fn refused_for(memory: bool) -> Result<bool, AllocError> {
+    if memory { Err(AllocError) } else { Ok(false) }
 }
 
-/// Whether the last group of the second file, which begins behind 831 bytes, is written as it stands there.
-fn writes_last(alloc: Global, groups: &[Group]) -> Result<bool, AllocError> {
-    let Some(group) = groups.last() else {
-        return Ok(false);
-    };
-    let mut text = Vec::new(alloc);
+/// Writes a group as a file has it.
+fn write(text: &mut Vec<u8>, group: &Group) -> Result<(), AllocError> {
     write_group(
-        &mut text,
+        text,
         group.name.as_slice(),
         group.headings.as_slice(),
         group.units.as_slice(),
         group.types.as_slice(),
         group.rows.as_slice(),
-    )?;
+    )
+}
+
+/// Whether this group is written as the last of the second file, which begins behind 831 bytes.
+fn is_last(alloc: Global, group: &Group) -> Result<bool, AllocError> {
+    let mut text = Vec::new(alloc);
+    write(&mut text, group)?;
     Ok(text.as_slice() == &FILE_B[831..])
 }
 
 /// Whether these are 13 DATA rows in 7 groups, and the last group is written.
 fn has_groups(alloc: Global, scan: &Scan<'_>) -> Result<bool, AllocError> {
-    Ok(scan.row_count() == 13 && scan.groups().len() == 7 && writes_last(alloc, scan.groups())?)
+    match scan.groups() {
+        [_, _, _, _, _, _, last] if scan.row_count() == 13 => is_last(alloc, last),
+        _ => Ok(false),
+    }
 }
 
 /// Whether the second file is read as such rows and groups.
 fn scans(alloc: Global) -> Result<bool, AllocError> {
     match Scan::read(alloc, FILE_B) {
         Ok(scan) => has_groups(alloc, &scan),
-        Err(RowsError::NoMemory) => Err(AllocError),
-        Err(RowsError::Findings(_)) => Ok(false),
+        Err(error) => refused_for(matches!(error, RowsError::NoMemory)),
     }
 }
 
 /// The steps between the DATA rows of the second file.
-const STEPS: &[(u32, u32)] = &[(7, 0), (8, 0), (9, 7), (10, 8), (11, 9), (12, 10)];
+static STEPS: [(u32, u32); 6] = [(7, 0), (8, 0), (9, 7), (10, 8), (11, 9), (12, 10)];
 
 /// Whether these are its 13 DATA rows, and those steps.
 fn has_steps(graph: &Graph) -> bool {
-    graph.rows() == 13 && graph.steps() == STEPS
+    graph.rows() == 13 && graph.steps() == STEPS.as_slice()
 }
 
 /// Whether the second file has no finding, and those steps.
 fn is_clean(alloc: Global, mini: &Dictionary) -> Result<bool, AllocError> {
     match check(alloc, mini, FILE_B) {
         Ok(checked) => Ok(has_steps(checked.graph())),
-        Err(CheckError::NoMemory) => Err(AllocError),
-        Err(CheckError::Findings(_)) => Ok(false),
+        Err(error) => refused_for(matches!(error, CheckError::NoMemory)),
     }
 }
 
 /// Whether a dictionary has 38 headings, and the second file is checked under it.
 fn checks_under(alloc: Global, mini: &Dictionary) -> Result<bool, AllocError> {
-    Ok(mini.heading_count() == 38 && is_clean(alloc, mini)?)
+    if mini.heading_count() == 38 {
+        is_clean(alloc, mini)
+    } else {
+        Ok(false)
+    }
 }
 
 /// The same of the small dictionary.
 fn checks(alloc: Global) -> Result<bool, AllocError> {
     match Dictionary::read(alloc, MINI) {
         Ok(mini) => checks_under(alloc, &mini),
-        Err(DictError::NoMemory) => Err(AllocError),
-        Err(_) => Ok(false),
+        Err(error) => refused_for(matches!(error, DictError::NoMemory)),
     }
 }
 
@@ -142,8 +150,7 @@ fn hides(
 fn decides_in(alloc: Global, caller: &Caller, project: &Name) -> Result<bool, AllocError> {
     match Policy::read(alloc, POLICY) {
         Ok(policy) => hides(alloc, &policy, caller, project),
-        Err(PolicyError::NoMemory) => Err(AllocError),
-        Err(_) => Ok(false),
+        Err(error) => refused_for(error == PolicyError::NoMemory),
     }
 }
 
@@ -151,47 +158,64 @@ fn decides_in(alloc: Global, caller: &Caller, project: &Name) -> Result<bool, Al
 fn decides(alloc: Global, caller: &Caller) -> Result<bool, AllocError> {
     match Name::read(alloc, "N1") {
         Ok(project) => decides_in(alloc, caller, &project),
-        Err(NameError::NoMemory) => Err(AllocError),
-        Err(_) => Ok(false),
+        Err(error) => refused_for(error == NameError::NoMemory),
     }
 }
 
-/// Whether Delta is a contractor.
-fn is_delta(caller: &Caller) -> bool {
-    caller.firm.text() == "Delta" && caller.role.text() == "contractor"
+/// Whether Delta is a contractor, and the policy decides of its requests.
+fn is_known(alloc: Global, delta: &Caller) -> Result<bool, AllocError> {
+    if delta.firm.text() == "Delta" && delta.role.text() == "contractor" {
+        decides(alloc, delta)
+    } else {
+        Ok(false)
+    }
 }
 
-/// Whether the callers are read with Delta, a contractor, and the policy decides of its requests.
+/// The same where Delta is among these callers.
+fn knows_delta(alloc: Global, callers: &Callers) -> Result<bool, AllocError> {
+    match callers.find(b"t-delta") {
+        Some(delta) => is_known(alloc, delta),
+        None => Ok(false),
+    }
+}
+
+/// The same of the callers that are read.
 fn knows(alloc: Global) -> Result<bool, AllocError> {
     match Callers::read(alloc, CALLERS) {
-        Ok(callers) => match callers.find(b"t-delta") {
-            Some(delta) => Ok(is_delta(delta) && decides(alloc, delta)?),
-            None => Ok(false),
-        },
-        Err(CallersError::NoMemory) => Err(AllocError),
-        Err(_) => Ok(false),
+        Ok(callers) => knows_delta(alloc, &callers),
+        Err(error) => refused_for(error == CallersError::NoMemory),
     }
 }
 
 /// Two rows that lead to each other, and one that leads to them.
-const RING: &[(u32, u32)] = &[(0, 1), (1, 0), (2, 0)];
+static RING: [(u32, u32); 3] = [(0, 1), (1, 0), (2, 0)];
 
-/// Whether none of them is shown where the second is not permitted.
-fn hides_ring(alloc: Global) -> Result<bool, AllocError> {
-    let Some(ring) = Graph::new(3, Vec::from_slice(alloc, RING)?) else {
-        return Ok(false);
-    };
-    let (marks, _turns) = shown(alloc, &ring, &[true, false, true])?;
-    Ok(marks.as_slice() == [false, false, false].as_slice())
+/// Whether these are the marks.
+fn are_marks(
+    walked: Result<(Vec<bool>, u128), AllocError>,
+    wanted: &[bool],
+) -> Result<bool, AllocError> {
+    let (marks, _turns) = walked?;
+    Ok(marks.as_slice() == wanted)
 }
 
-/// Whether the last reaches all of them.
-fn reaches_ring(alloc: Global) -> Result<bool, AllocError> {
-    let Some(ring) = Graph::new(3, Vec::from_slice(alloc, RING)?) else {
-        return Ok(false);
-    };
-    let (marks, _turns) = reached(alloc, &ring, &[false, false, true])?;
-    Ok(marks.as_slice() == [true, true, true].as_slice())
+/// Whether none of them is shown where the second is not permitted, or whether the last reaches all of them.
+fn walks(alloc: Global, ring: &Graph, call: Call) -> Result<bool, AllocError>
+    requires { ring.now.rows ≡ 3 }
+{
+    match call {
+        Call::Shown => are_marks(shown(alloc, ring, &[true, false, true]), &[false; 3]),
+        _ => are_marks(reached(alloc, ring, &[false, false, true]), &[true; 3]),
+    }
+}
+
+/// The same where those rows and steps are taken.
+fn walks_ring(alloc: Global, call: Call) -> Result<bool, AllocError> {
+    let steps = Vec::from_slice(alloc, RING.as_slice())?;
+    match Graph::new(3, steps) {
+        Some(ring) => walks(alloc, &ring, call),
+        None => Ok(false),
+    }
 }
 
 /// Whether the call answers as it should.
@@ -200,15 +224,14 @@ fn is_right(alloc: Global, call: Call) -> Result<bool, AllocError> {
         Call::Scan => scans(alloc),
         Call::Dictionary => checks(alloc),
         Call::Callers => knows(alloc),
-        Call::Shown => hides_ring(alloc),
-        Call::Reached => reaches_ring(alloc),
+        _ => walks_ring(alloc, call),
     }
 }
 
 /// How many of the calls answer want of memory; each other is right.
 fn refused_of(alloc: Global, rt: &impl Abort) -> u32 {
     let mut refused = 0u32;
-    for (name, call) in calls_below() {
+    for (name, call) in &CALLS {
         match is_right(alloc, *call) {
             Ok(right) => assert!(rt; right, "{name}"),
             Err(_) => refused = refused.saturating_add(1),
@@ -237,68 +260,58 @@ fn is_extract(answer: &Answer, held: bool) -> bool {
     }
 }
 
-/// Whether it is want of memory.
-fn is_refused(answer: &Answer) -> bool {
-    name_of(answer) == "out of memory"
-}
-
 /// The first file's deposit in a listing.
-const ONE: &[Line] = &[Line(1, "Delta", UNTIL)];
+static ONE: [Line; 1] = [Line(1, "Delta", UNTIL)];
 
 /// Whether it lists that, where it is held, and else none.
 fn is_listed(answer: &Answer, held: bool) -> bool {
-    if held {
-        is_listing(answer, ONE)
+    is_listing(answer, if held { &ONE } else { &[] })
+}
+
+/// 0 where an answer is the machine's, 1 where it is want of memory, and else 2.
+fn fault_of(answer: &Answer, right: bool) -> u32 {
+    if right {
+        0
+    } else if name_of(answer) == "out of memory" {
+        1
     } else {
-        is_listing(answer, &[])
+        2
     }
 }
 
-/// 1 where it is want of memory, 0 where it is the machine's, and else none.
-fn want_of(answer: &Answer, right: bool) -> Option<u32> {
-    if is_refused(answer) {
-        Some(1)
-    } else if right {
-        Some(0)
-    } else {
-        None
-    }
-}
-
-/// How many of the answers to a deposit, a list and an extract are want of memory; none where another is not the machine's.
-fn wants_of(deposit: &Answer, listing: &Answer, extract: &Answer, held: bool) -> Option<u32> {
-    let taken = want_of(deposit, is_receipt(deposit, 1, UNTIL))?;
+/// The sum of these for the answers to a deposit, a list and an extract.
+fn faults_of(deposit: &Answer, listing: &Answer, extract: &Answer, held: bool) -> u32 {
+    let taken = fault_of(deposit, is_receipt(deposit, 1, UNTIL));
     let held = held || taken == 0;
-    let listed = want_of(listing, is_listed(listing, held))?;
-    let drawn = want_of(extract, is_extract(extract, held))?;
-    Some(taken.saturating_add(listed).saturating_add(drawn))
+    taken
+        .saturating_add(fault_of(listing, is_listed(listing, held)))
+        .saturating_add(fault_of(extract, is_extract(extract, held)))
 }
 
 /// The same of a run.
-fn wants(answers: &[Answer], held: bool) -> Option<u32> {
+fn faults(answers: &[Answer], held: bool) -> u32 {
     match answers {
-        [deposit, listing, extract] => wants_of(deposit, listing, extract, held),
-        _ => None,
+        [deposit, listing, extract] => faults_of(deposit, listing, extract, held),
+        _ => 2,
     }
 }
 
 /// The same of a run that is asked. Where it is refused memory itself, nothing was asked.
-fn asks<K: Keep>(alloc: Global, desk: &mut Desk<K>, requests: &[Request]) -> Option<u32> {
+fn asks<K: Keep>(alloc: Global, desk: &mut Desk<K>, requests: &[Request]) -> u32 {
     let held = desk.keep().count();
     match desk.run(alloc, requests) {
-        Ok(answers) => wants(&answers, held == 1),
-        Err(_) if desk.keep().count() == held => Some(1),
-        Err(_) => None,
+        Ok(answers) => faults(&answers, held == 1),
+        Err(_) => u32::from(desk.keep().count() != held).saturating_add(1),
     }
 }
 
 /// The same of three such runs.
-fn asks_each<K: Keep>(alloc: Global, desk: &mut Desk<K>, requests: &[Request]) -> Option<u32> {
-    let mut refused = 0u32;
+fn asks_thrice<K: Keep>(alloc: Global, desk: &mut Desk<K>, requests: &[Request]) -> u32 {
+    let mut faults = 0u32;
     for _ in 0..3 {
-        refused = refused.saturating_add(asks(alloc, desk, requests)?);
+        faults = faults.saturating_add(asks(alloc, desk, requests));
     }
-    Some(refused)
+    faults
 }
 
 /// The requests of a run: Delta deposits the first file, and Echo lists and draws it.
@@ -315,25 +328,6 @@ fn three_of<'a>(
     ]
 }
 
-/// How many of the answers to three runs of these are want of memory; none where another is not the machine's.
-fn asks_thrice<K: Keep>(
-    alloc: Global,
-    desk: &mut Desk<K>,
-    callers: &Callers,
-    project: &Name,
-) -> Option<u32> {
-    match (
-        callers.find(b"t-delta"),
-        callers.find(b"t-echo"),
-        Day::read(UNTIL),
-    ) {
-        (Some(delta), Some(echo), Some(day)) => {
-            asks_each(alloc, desk, &three_of(delta, echo, project, day))
-        }
-        _ => None,
-    }
-}
-
 /// Whether memory is refused to one answer or run at most, and each other is the machine's.
 pub fn is_refused_once<K: Keep>(
     alloc: Global,
@@ -341,27 +335,21 @@ pub fn is_refused_once<K: Keep>(
     callers: &Callers,
     project: &Name,
 ) -> bool {
-    match asks_thrice(alloc, desk, callers, project) {
-        Some(refused) => refused <= 1,
+    match two_of(callers, b"t-delta", b"t-echo") {
+        Some((delta, echo, day)) => {
+            asks_thrice(alloc, desk, &three_of(delta, echo, project, day)) <= 1
+        }
         None => false,
-    }
-}
-
-/// The same over a keep in memory.
-fn asks_memory(alloc: Global) -> Result<bool, AllocError> {
-    match Dictionary::read(alloc, MINI) {
-        Ok(mini) => plays(alloc, PlainKeep::new(alloc, mini), Play::Runs),
-        Err(_) => Err(AllocError),
     }
 }
 
 /// Memory is refused to one answer or run at most. Where it is refused before, nothing is asked.
 #[test]
 fn runs_in_memory(rt: HostRuntime) {
-    assert!(rt; asks_memory(rt.alloc()).unwrap_or(true));
+    assert!(rt; plays_over(rt.alloc(), Over::Memory, MOST, Play::Runs).unwrap_or(true));
 }
 
 #[test]
 fn runs_in_tables(rt: HostRuntime) {
-    assert!(rt; plays_in_tables(rt.alloc(), Play::Runs).unwrap_or(true));
+    assert!(rt; plays_over(rt.alloc(), Over::Tables, MOST, Play::Runs).unwrap_or(true));
 }
