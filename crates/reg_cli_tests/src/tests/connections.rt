@@ -66,7 +66,7 @@ Connection: close\r\n\
 \r\n\
 {\"error\":\"too large\"}";
 
-const CASES: [Case; 3] = [
+static CASES: [Case; 3] = [
     Case {
         waits: true,
         peers: &[
@@ -132,22 +132,37 @@ fn listening(rt: &HostRuntime, waits: bool) -> io::Result<TcpListener> {
     Ok(listener)
 }
 
-/// Sends what a peer sends. One that does not go on says that it has sent all.
-fn send(stream: &mut TcpStream, peer: &Peer) -> io::Result<()> {
-    for part in peer.sends {
+/// Writes what a peer sends.
+fn write_parts<W: Write>(stream: &mut W, parts: &[&[u8]]) -> io::Result<()> {
+    for part in parts {
         stream.write_all(part)?;
     }
-    if peer.goes_on {
-        stream.write_all(&[b'x'; 20_000])
-    } else {
-        stream.shutdown(Shutdown::Write)
+    Ok(())
+}
+
+/// Writes what a peer sends, and more behind it where it goes on.
+fn write_sent<W: Write>(stream: &mut W, alloc: Global, peer: &Peer) -> io::Result<()> {
+    write_parts(stream, peer.sends)?;
+    if !peer.goes_on {
+        return Ok(());
     }
+    let more = "x".repeat(alloc, 20_000)?;
+    stream.write_all(more.as_bytes())
+}
+
+/// Sends what a peer sends. One that does not go on says that it has sent all.
+fn send(alloc: Global, stream: &mut TcpStream, peer: &Peer) -> io::Result<()> {
+    write_sent(stream, alloc, peer)?;
+    if peer.goes_on {
+        return Ok(());
+    }
+    stream.shutdown(Shutdown::Write)
 }
 
 /// The connection of a peer.
 fn connected(rt: &HostRuntime, listener: &TcpListener, peer: &Peer) -> io::Result<TcpStream> {
     let mut stream = TcpStream::connect(rt, listener.local_addr()?)?;
-    send(&mut stream, peer)?;
+    send(rt.alloc(), &mut stream, peer)?;
     Ok(stream)
 }
 
@@ -181,6 +196,15 @@ fn all_replied(alloc: Global, streams: &[TcpStream], peers: &[Peer]) -> io::Resu
     Ok(true)
 }
 
+/// So many connections that are served on a day, for these callers.
+#[derive(Drop)]
+struct Service<'s> {
+    listener: &'s TcpListener,
+    callers: &'s Callers,
+    day: Day,
+    count: u32,
+}
+
 /// Serves so many connections on 2024-05-01, over an empty register in memory: the status of the run.
 fn serve_some<W: Write>(
     alloc: Global,
@@ -188,39 +212,69 @@ fn serve_some<W: Write>(
     count: u32,
     out: &mut W,
 ) -> Result<u8, Fail> {
+    let day = Day::read("2024-05-01").ok_or("day")?;
+    let callers = Callers::read(alloc, CALLERS)?;
+    let policy = Policy::read(alloc, POLICY)?;
+    let service = Service {
+        listener,
+        callers: &callers,
+        day,
+        count,
+    };
+    serve_memory(alloc, &service, policy, out)
+}
+
+/// Serves over an empty register in memory. Here alone its type stands.
+fn serve_memory<W: Write>(
+    alloc: Global,
+    service: &Service<'_>,
+    policy: Policy,
+    out: &mut W,
+) -> Result<u8, Fail> {
     let keep = SqlKeep::in_memory(alloc, MINI)?;
-    serve_tables(alloc, listener, keep, count, out)
+    Ok(serve_tables(alloc, service, keep, policy, out))
 }
 
 /// Serves from a keep in tables, of any store: named over the one in memory, `SqlKeep` would have to be shown to be a keep
 /// at length.
 fn serve_tables<S: Alter + Drop, W: Write>(
     alloc: Global,
-    listener: &TcpListener,
+    service: &Service<'_>,
     keep: SqlKeep<S>,
-    count: u32,
+    policy: Policy,
     out: &mut W,
-) -> Result<u8, Fail>
+) -> u8
     requires { keep.has_failed ≡ false }
 {
-    serve_keep(alloc, listener, keep, count, out)
+    serve_keep(alloc, service, keep, policy, out)
 }
 
-/// Serves so many connections on 2024-05-01 from a keep: the status of the run.
+/// Serves from a keep: the status of the run.
 fn serve_keep<K: Keep + Drop, W: Write>(
     alloc: Global,
-    listener: &TcpListener,
+    service: &Service<'_>,
     keep: K,
-    count: u32,
+    policy: Policy,
     out: &mut W,
-) -> Result<u8, Fail>
+) -> u8
     requires { K.has_failed keep ≡ false }
 {
-    let day = Day::read("2024-05-01").ok_or("day")?;
-    let callers = Callers::read(alloc, CALLERS)?;
-    let mut desk = Desk::new(keep, Policy::read(alloc, POLICY)?);
-    let out = &mut Watched::new(out);
-    Ok(serve_on(alloc, listener, &mut desk, &callers, day, count, out))
+    let desk = &mut Desk::new(keep, policy);
+    let Service {
+        listener,
+        callers,
+        day,
+        count,
+    } = service;
+    serve_on(
+        alloc,
+        listener,
+        desk,
+        callers,
+        *day,
+        *count,
+        &mut Watched::new(out),
+    )
 }
 
 /// Whether a listener is served with status 0 and these lines.
@@ -230,14 +284,24 @@ fn prints(alloc: Global, listener: &TcpListener, count: u32, want: &[u8]) -> Res
     Ok((status == 0) & (printed.as_slice() == want))
 }
 
+/// Whether a listener to which these are connected is served as a case says.
+fn holds(
+    alloc: Global,
+    listener: &TcpListener,
+    streams: &[TcpStream],
+    case: &Case,
+) -> Result<bool, Fail> {
+    if !prints(alloc, listener, case.count, case.printed)? {
+        return Ok(false);
+    }
+    Ok(all_replied(alloc, streams, case.peers)?)
+}
+
 /// Whether a case is served as it says.
 fn is_served(rt: &HostRuntime, case: &Case) -> Result<bool, Fail> {
     let listener = listening(rt, case.waits)?;
     let streams = all_connected(rt, &listener, case.peers)?;
-    if !prints(rt.alloc(), &listener, case.count, case.printed)? {
-        return Ok(false);
-    }
-    Ok(all_replied(rt.alloc(), streams.as_slice(), case.peers)?)
+    holds(rt.alloc(), &listener, streams.as_slice(), case)
 }
 
 #[test]
@@ -267,7 +331,7 @@ fn a_line_that_is_not_written(rt: HostRuntime) -> Result<(), Fail> {
 }
 
 /// What `serve` says of a port that is taken, before there is a register.
-const BEFORE: [(&str, &str); 3] = [
+static BEFORE: [(&str, &str); 3] = [
     ("", "4 ! not a register"),
     ("|--store=junk", "5 ! store failed"),
     ("|--day=1", "4 ! day refused"),
@@ -279,16 +343,29 @@ fn serves(rt: &HostRuntime, port: u16, more: &str, want: &str) -> Result<bool, F
     Ok(answers(rt, &words, want)?)
 }
 
+/// Whether `serve` at a port answers so before there is a register.
+fn serves_none(rt: &HostRuntime, port: u16) -> Result<bool, Fail> {
+    for (more, want) in &BEFORE {
+        if !serves(rt, port, more, want)? {
+            return Ok(false);
+        }
+    }
+    Ok(true)
+}
+
+/// Whether `serve` at a port that is taken answers so, before there is a register and then.
+fn says_taken(rt: &HostRuntime, port: u16) -> Result<bool, Fail> {
+    Ok(
+        serves_none(rt, port)?
+            && answers(rt, "init|--store=s|--dictionary=mini", "0 created")?
+            && serves(rt, port, "", "6 ! cannot listen")?,
+    )
+}
+
 #[test]
 fn a_port_that_is_taken(rt: HostRuntime) -> Result<(), Fail> {
     enter(&rt, "a_port_that_is_taken")?;
     let listener = listening(&rt, true)?;
-    let port = listener.local_addr()?.port();
-    for (more, want) in &BEFORE {
-        assert!(rt; serves(&rt, port, more, want)?);
-    }
-    assert!(rt; answers(&rt, "init|--store=s|--dictionary=mini", "0 created")?);
-    assert!(rt; serves(&rt, port, "", "6 ! cannot listen")?);
-    leave(&rt, "a_port_that_is_taken")?;
-    Ok(())
+    assert!(rt; says_taken(&rt, listener.local_addr()?.port())?);
+    Ok(leave(&rt, "a_port_that_is_taken")?)
 }

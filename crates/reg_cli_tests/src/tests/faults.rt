@@ -88,7 +88,7 @@ struct Shape {
 }
 
 /// Arrays in arrays, tables in tables, and a key of parts.
-const SHAPES: [Shape; 3] = [
+static SHAPES: [Shape; 3] = [
     Shape {
         start: " = [",
         open: "[",
@@ -110,7 +110,7 @@ const SHAPES: [Shape; 3] = [
 ];
 
 /// How many levels more, and what both readers answer of each shape.
-const DEPTHS: [(usize, PolicyError, CallersError); 3] = [
+static DEPTHS: [(usize, PolicyError, CallersError); 3] = [
     (1, PolicyError::BadValue, CallersError::BadValue),
     (79, PolicyError::BadValue, CallersError::BadValue),
     (80, PolicyError::Syntax, CallersError::Syntax),

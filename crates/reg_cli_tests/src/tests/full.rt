@@ -15,7 +15,7 @@ use std::test::Fail;
 
 const RECEIPT: &[u8] = b"receipt 1 2024-06-01\n";
 
-const DELTA: Asker<'static> = Asker {
+static DELTA: Asker<'static> = Asker {
     store: "",
     policy: "",
     callers: "",
@@ -25,7 +25,7 @@ const DELTA: Asker<'static> = Asker {
 };
 
 /// Files, what is printed where they are deposited one after the other, and the statuses.
-const ROWS: [(&[u8], &[u8], u8); 3] = [
+static ROWS: [(&[u8], &[u8], u8); 3] = [
     (FILE_A, RECEIPT, 0),
     (FILE_B, b"full\n", 5),
     (FILE_A, RECEIPT, 0),
@@ -46,23 +46,38 @@ fn answers<K: Keep>(
     Ok((status == *ended) & (printed.as_slice() == *want))
 }
 
-/// Whether a desk over this keep answers as the rows say.
-fn all_answered<K: Keep + Drop>(alloc: Global, keep: K, session: &Session<'_>) -> Result<bool, Fail>
-    requires { K.has_failed keep ≡ false }
-{
-    let mut desk = Desk::new(keep, Policy::read(alloc, POLICY)?);
+/// Whether a desk answers as the rows say.
+fn all_answered<K: Keep>(
+    alloc: Global,
+    desk: &mut Desk<K>,
+    session: &Session<'_>,
+) -> Result<bool, Fail> {
     for row in &ROWS {
-        if !answers(alloc, &mut desk, session, row)? {
+        if !answers(alloc, desk, session, row)? {
             return Ok(false);
         }
     }
     Ok(true)
 }
 
+/// Whether a desk over this keep answers so.
+fn keep_answers<K: Keep + Drop>(
+    alloc: Global,
+    keep: K,
+    policy: Policy,
+    session: &Session<'_>,
+) -> Result<bool, Fail>
+    requires { K.has_failed keep ≡ false }
+{
+    all_answered(alloc, &mut Desk::new(keep, policy), session)
+}
+
 /// Whether a register of one deposit answers so.
 fn full_answers(alloc: Global, session: &Session<'_>) -> Result<bool, Fail> {
+    let policy = Policy::read(alloc, POLICY)?;
     let dictionary = Dictionary::read(alloc, MINI)?;
-    all_answered(alloc, PlainKeep::with_limit(alloc, dictionary, 1), session)
+    let keep = PlainKeep::with_limit(alloc, dictionary, 1);
+    keep_answers(alloc, keep, policy, session)
 }
 
 #[test]

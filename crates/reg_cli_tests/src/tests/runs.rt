@@ -6,8 +6,7 @@ use reg_cli::run_words;
 use reg_policy::Day;
 use reg_policy::vectors::{CALLERS, POLICY};
 use reg_shell::Watched;
-use std::alloc::AllocError;
-use std::io::Read;
+use std::alloc::{AllocError, Global};
 use std::test::Fail;
 use std::{env, fs, io};
 
@@ -20,7 +19,7 @@ struct Ran {
 }
 
 /// The options that commands share. In a row `@` stands for those of them that the row does not name, and `&` for those of `serve`.
-const OPTIONS: [(&str, &str); 5] = [
+static OPTIONS: [(&str, &str); 5] = [
     ("--store", "--store=s"),
     ("--policy", "--policy=q"),
     ("--callers", "--callers=c"),
@@ -82,7 +81,7 @@ fn run(rt: &HostRuntime, words: &[&str]) -> Ran {
 }
 
 /// The files that the rows name, but the policy, the callers and those that are too long.
-const FILES: [(&str, &[u8]); 8] = [
+static FILES: [(&str, &[u8]); 8] = [
     ("mini", MINI),
     ("a", FILE_A),
     ("b", FILE_B),
@@ -93,22 +92,33 @@ const FILES: [(&str, &[u8]); 8] = [
     ("open", b"[[rule"),
 ];
 
+/// Writes a file.
+fn write_file(rt: &HostRuntime, path: &str, bytes: &[u8]) -> io::Result<()> {
+    fs::write(rt, path, bytes)
+}
+
 /// Writes the files that the rows name, into the folder that the test runs in.
 fn write_files(rt: &HostRuntime) -> io::Result<()> {
-    fs::write(rt, "q", POLICY)?;
-    fs::write(rt, "c", CALLERS)?;
+    write_file(rt, "q", POLICY.as_bytes())?;
+    write_file(rt, "c", CALLERS.as_bytes())?;
     for (path, bytes) in &FILES {
-        fs::write(rt, *path, *bytes)?;
+        write_file(rt, path, bytes)?;
     }
     Ok(())
 }
 
-/// Writes a file of one byte more than is taken: a text, and spaces behind it.
+/// One byte more than is taken: a text, and spaces behind it.
+fn long(alloc: Global, text: &[u8]) -> Result<Vec<u8>, AllocError> {
+    let spaces = " ".repeat(alloc, 4_194_305_usize.saturating_sub(text.len()))?;
+    let mut bytes = Vec::from_slice(alloc, text)?;
+    bytes.extend_from_slice(spaces.as_bytes())?;
+    Ok(bytes)
+}
+
+/// Writes a file of one byte more than is taken.
 fn write_long(rt: &HostRuntime, path: &str, text: &[u8]) -> io::Result<()> {
-    let mut file = fs::create(rt, path)?;
-    let mut bytes = text.chain(io::repeat(b' ')).take(4_194_305);
-    io::copy(&mut bytes, &mut file)?;
-    Ok(())
+    let bytes = long(rt.alloc(), text)?;
+    write_file(rt, path, bytes.as_slice())
 }
 
 /// Writes the files that are too long.
@@ -285,7 +295,7 @@ const IN_ANY_ORDER: [&str; 16] = [
 ];
 
 /// Rows that run one after the other, each of these in a folder of its own.
-const SCENES: [&[&str]; 7] = [
+static SCENES: [&[&str]; 7] = [
     &REGISTER,
     &REFUSED,
     &IN_ANY_ORDER,
@@ -295,13 +305,18 @@ const SCENES: [&[&str]; 7] = [
     &faults::OF_DICTIONARIES_AND_FILES,
 ];
 
+/// Runs rows in a folder of their own.
+fn hold_alone(rt: &HostRuntime, folder: &str, rows: &[&str]) -> Result<(), Fail> {
+    enter(rt, folder)?;
+    write_long_files(rt)?;
+    hold(rt, rows)?;
+    Ok(leave(rt, folder)?)
+}
+
 #[test]
 fn words_are_done_or_refused(rt: HostRuntime) -> Result<(), Fail> {
     for rows in &SCENES {
-        enter(&rt, "words_are_done_or_refused")?;
-        write_long_files(&rt)?;
-        hold(&rt, rows)?;
-        leave(&rt, "words_are_done_or_refused")?;
+        hold_alone(&rt, "words_are_done_or_refused", rows)?;
     }
     Ok(())
 }

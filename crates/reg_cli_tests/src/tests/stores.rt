@@ -6,7 +6,7 @@ use std::fs;
 use std::test::Fail;
 
 /// The commands that open a register, each with all its words.
-const COMMANDS: [&str; 4] = [
+static COMMANDS: [&str; 4] = [
     "deposit|@|a",
     "extract|@|1",
     "list|@",
@@ -14,13 +14,13 @@ const COMMANDS: [&str; 4] = [
 ];
 
 /// What is done first: `s` is a register.
-const FIRST: [&str; 2] = [
+static FIRST: [&str; 2] = [
     "init|--store=s|--dictionary=mini => 0 created",
     "deposit|@|a => 0 receipt 1 2024-05-01",
 ];
 
 /// Stores, each with a statement that is run on it first, if there is one, and what each command says of it then.
-const STORES: [(&str, &str, &str); 14] = [
+static STORES: [(&str, &str, &str); 14] = [
     ("empty", "", "4 ! not a register"),
     ("gone", "", "4 ! not a register"),
     (
@@ -66,7 +66,7 @@ const STORES: [(&str, &str, &str); 14] = [
 ];
 
 /// What is done last.
-const LAST: [&str; 3] = [
+static LAST: [&str; 3] = [
     "init|--store=junk|--dictionary=mini => 5 ! store failed",
     "init|--store=gone/s|--dictionary=mini => 5 ! store failed",
     "init|--store=empty|--dictionary=mini => 0 created",
@@ -82,13 +82,17 @@ fn run_statement<S: Alter + Drop>(
     Ok(())
 }
 
+/// Runs a statement on the database in a file. Here alone the type of one stands.
+fn change_file(rt: &HostRuntime, path: &str, statement: &str) -> Result<(), Fail> {
+    run_statement(Connection::open(rt, path)?, statement)
+}
+
 /// Runs a statement on the database in a file, if there is one.
 fn change(rt: &HostRuntime, path: &str, statement: &str) -> Result<(), Fail> {
     if statement.is_empty() {
         return Ok(());
     }
-    let connection = Connection::open(rt, path)?;
-    run_statement(connection, statement)
+    change_file(rt, path, statement)
 }
 
 /// Whether each command that opens a register answers so of a store.
@@ -102,17 +106,22 @@ fn each_says(rt: &HostRuntime, store: &str, want: &str) -> Result<bool, Fail> {
     Ok(true)
 }
 
+/// Whether a store, changed as its row says, is refused as its row says.
+fn says(rt: &HostRuntime, row: &(&str, &str, &str)) -> Result<bool, Fail> {
+    let (store, statement, want) = row;
+    change(rt, store, statement)?;
+    each_says(rt, store, want)
+}
+
 #[test]
 fn stores_that_are_no_register(rt: HostRuntime) -> Result<(), Fail> {
     enter(&rt, "stores_that_are_no_register")?;
     hold(&rt, &FIRST)?;
-    for (store, statement, want) in &STORES {
-        change(&rt, store, statement)?;
-        assert!(rt; each_says(&rt, store, want)?);
+    for case in &STORES {
+        assert!(rt; says(&rt, case)?);
     }
     hold(&rt, &LAST)?;
     // Asking for a register that is not there makes no file.
     assert!(rt; !fs::exists(&rt, "gone")?);
-    leave(&rt, "stores_that_are_no_register")?;
-    Ok(())
+    Ok(leave(&rt, "stores_that_are_no_register")?)
 }
