@@ -13,10 +13,19 @@ use std::marker::Model;
 /// The entries of the standard dictionary, or of that and a file's own DICT, in their order.
 ///
 /// It keeps nothing of the bytes that it was read from.
-#[derive(Drop)]
 pub struct Dictionary {
     pub(crate) groups: GroupEntries,
     pub(crate) headings: HeadingEntries,
+}
+
+// Written out, so that no crate that lets one go proves again how its parts are dropped.
+impl Drop for Dictionary {
+    fn drop(self) {
+        let Dictionary {
+            groups: _,
+            headings: _,
+        } = self;
+    }
 }
 
 impl Model for Dictionary {
@@ -48,6 +57,15 @@ impl Dictionary {
             groups: GroupEntries::new(alloc),
             headings: HeadingEntries::new(alloc),
         }
+    }
+
+    /// Its entries of groups, and those of headings.
+    pub(crate) fn into_parts(self) -> (GroupEntries, HeadingEntries)
+        ensures groups { result.0 ≡ self.groups }
+        ensures headings { result.1 ≡ self.headings }
+    {
+        let Dictionary { groups, headings } = self;
+        (groups, headings)
     }
 
     /// The same entries.

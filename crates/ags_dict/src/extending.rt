@@ -56,10 +56,7 @@ fn take_rows(alloc: Global, group: &Group, dictionary: Dictionary) -> Result<Dic
     ensures headings { IfOk result (λ taken. taken.headings ≡ with_unstated same_heading dictionary.headings
         (flat_map (heading_entries group.now.headings) (group_contents group.now).rows)) }
 {
-    let Dictionary {
-        mut groups,
-        mut headings,
-    } = dictionary;
+    let (mut groups, mut headings) = dictionary.into_parts();
     let names = group.headings.as_slice();
     for row in group.rows.as_slice() {
         let cells = row.cells.as_slice();

@@ -26,7 +26,6 @@ pub enum Targets {
 }
 
 /// A file's rows, to be found by key, by parent link and by file set.
-#[derive(Drop)]
 pub struct Index<'s, 'f, 'd> {
     alloc: Global,
     groups: &'s [Group<'f>],
@@ -41,6 +40,25 @@ pub struct Index<'s, 'f, 'd> {
     by_key: Lookup,
     by_file_set: Lookup,
     separators: Separators,
+}
+
+// Written out, so that no crate that lets one go proves again how its parts are dropped.
+impl<'s, 'f, 'd> Drop for Index<'s, 'f, 'd> {
+    fn drop(self) {
+        let Index {
+            alloc: _,
+            groups: _,
+            dictionary: _,
+            rows: _,
+            families: _,
+            parents: _,
+            spans: _,
+            firsts: _,
+            by_key: _,
+            by_file_set: _,
+            separators: _,
+        } = self;
+    }
 }
 
 impl<'s, 'f, 'd> Model for Index<'s, 'f, 'd> {

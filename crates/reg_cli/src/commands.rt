@@ -355,35 +355,39 @@ pub(crate) fn use_store<'w, W: Write>(
     out: &mut Watched<W>,
 ) -> Result<u8, Refusal<'w>> {
     let keep = open_store(rt, alloc, store)?;
-    use_tables(rt, alloc, keep, policy, task, out)
+    let (done, keep) = use_tables(rt, alloc, keep, policy, task, out);
+    keep.close();
+    done
 }
 
-/// Does what is asked with a keep in tables, of any store.
-fn use_tables<'w, S: Alter + Drop, W: Write>(
+/// Does what is asked with a keep in tables, of any store, and hands it back.
+fn use_tables<'w, S: Alter, W: Write>(
     rt: &HostRuntime,
     alloc: Global,
     keep: SqlKeep<S>,
     policy: Policy,
     task: &Task<'_>,
     out: &mut Watched<W>,
-) -> Result<u8, Refusal<'w>>
+) -> (Result<u8, Refusal<'w>>, SqlKeep<S>)
     requires { keep.has_failed ≡ false }
 {
     use_keep(rt, alloc, keep, policy, task, out)
 }
 
-/// Does what is asked with a keep.
-fn use_keep<'w, K: Keep + Drop, W: Write>(
+/// Does what is asked with a keep, and hands it back.
+fn use_keep<'w, K: Keep, W: Write>(
     rt: &HostRuntime,
     alloc: Global,
     keep: K,
     policy: Policy,
     task: &Task<'_>,
     out: &mut Watched<W>,
-) -> Result<u8, Refusal<'w>>
+) -> (Result<u8, Refusal<'w>>, K)
     requires { K.has_failed keep ≡ false }
 {
-    do_task(rt, alloc, &mut Desk::new(keep, policy), task, out)
+    let mut desk = Desk::new(keep, policy);
+    let done = do_task(rt, alloc, &mut desk, task, out);
+    (done, desk.into_keep())
 }
 
 /// Does what is asked at a desk.

@@ -24,7 +24,10 @@ pub(crate) fn create_store(
     requires { length bytes.now ≤ READABLE }
 {
     match SqlKeep::create(rt, alloc, store, bytes) {
-        Ok(_keep) => Ok(()),
+        Ok(keep) => {
+            keep.close();
+            Ok(())
+        }
         Err(error) => Err(error),
     }
 }

@@ -19,7 +19,6 @@ use reg_policy::{Day, Name};
 use std::alloc::{AllocError, Global};
 
 /// A register in memory. It answers what its database twin does, and never `Store`.
-#[derive(Drop)]
 pub struct PlainKeep {
     kept: Vec<Kept>,
     dictionary: Dictionary,
@@ -28,6 +27,18 @@ pub struct PlainKeep {
     ghost within: { length kept.items ≤ limit },
     ghost few: { limit ≤ 999999 },
     ghost fit: { ∥ All (IsFit dictionary) (map deposit_of kept.items) ∥₁ },
+}
+
+// Written out, so that no crate that lets one go proves again how its parts are dropped.
+impl Drop for PlainKeep {
+    fn drop(self) {
+        let PlainKeep {
+            kept: _,
+            dictionary: _,
+            limit: _,
+            alloc: _,
+        } = self;
+    }
 }
 
 impl PlainKeep {

@@ -261,8 +261,11 @@ impl SqlKeep<MemStore> {
     }
 }
 
-/// Closes the connection that comes with a refusal.
-fn close<F: Start>(_connection: Option<Connection<FileStore<FileFrom<F>>>>) {}
+/// Lets go of a register, or of the connection that comes with a refusal. That a file is a store is shown here for both, since that is long.
+fn close_file<F: Start>(
+    _keep: Option<SqlKeep<FileStore<FileFrom<F>>>>,
+    _connection: Option<Connection<FileStore<FileFrom<F>>>>,
+) {}
 
 impl SqlKeep<FileStore<File>> {
     /// An empty register in the database at a path.
@@ -286,7 +289,7 @@ impl SqlKeep<FileStore<File>> {
         match SqlKeep::create_from(rt, alloc, path, bytes, Unknown) {
             Ok(keep) => Ok(keep),
             Err((error, connection)) => {
-                close(connection);
+                close_file(None, connection);
                 Err(error)
             }
         }
@@ -305,7 +308,7 @@ impl SqlKeep<FileStore<File>> {
         match SqlKeep::open_from(rt, alloc, path, Unknown) {
             Ok(keep) => Ok(keep),
             Err((error, connection)) => {
-                close(connection);
+                close_file(None, connection);
                 Err(error)
             }
         }
@@ -328,6 +331,11 @@ fn connect<F: Start>(
 }
 
 impl<F: Start> SqlKeep<FileStore<FileFrom<F>>> {
+    /// Closes the file of the register. Nothing is written to it.
+    pub fn close(self) {
+        close_file(Some(self), None);
+    }
+
     /// An empty register in the database at a path that had no table, where `F` stands for what its files held.
     ///
     /// The bytes are looked at first. A file that cannot be opened is `Store`, or `NoMemory`; `NotEmpty` comes with the connection that was opened.

@@ -28,7 +28,6 @@ use sqlite::{Alter, Connection};
 use std::alloc::Global;
 
 /// Deposits in a database.
-#[derive(Drop)]
 pub struct SqlKeep<S: Alter> {
     pub(crate) connection: Connection<S>,
     pub(crate) dictionary: Dictionary,
@@ -53,6 +52,23 @@ pub struct SqlKeep<S: Alter> {
         → HoldsRecent (state S.Store connection).now recent },
     ghost fronted: { has_failed ≡ false → HasCleanDisk (state S.Store connection)
         → HoldsFronts fronts dictionary (deposits_in (state S.Store connection).committed.trees) },
+}
+
+// Written out, so that no crate that lets one go proves again how its parts are dropped.
+impl<S: Alter + Drop> Drop for SqlKeep<S> {
+    fn drop(self) {
+        let SqlKeep {
+            connection: _,
+            dictionary: _,
+            count: _,
+            heads: _,
+            digests: _,
+            recent: _,
+            fronts: _,
+            has_failed: _,
+            alloc: _,
+        } = self;
+    }
 }
 
 impl<S: Alter> SqlKeep<S> {

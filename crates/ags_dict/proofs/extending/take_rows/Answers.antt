@@ -2,7 +2,7 @@ use Rattle.std.proofs.Common.{◌≡◌, ◌<◌, length, List, get_or, map, sub
 use Rattle.std.proofs.lemmas.List.{length-map}
 use Rattle.ags_rows.specs.declared.rows.Row.{Row}
 use Rattle.ags_rows.specs.Contents.{fields_of}
-use Rattle.ags_dict.specs.Entries.{Entries, group_entries, heading_entries, same_group, same_heading}
+use Rattle.ags_dict.specs.Entries.{group_entries, heading_entries, same_group, same_heading}
 use Rattle.ags_dict.proofs.Unstated.{unstated_none, unstated_more, unstated_all}
 use Rattle.ags_dict.proofs.extending.take_rows.Goals as goal
 
@@ -21,8 +21,8 @@ loop-row-preserved c =
 
 pub loop-row-init : goal.loop-row-init
 loop-row-init c = record {
-  groups = unstated_none same_group c.args.dictionary.groups c.dictionary.inside.groups (ap (λ (d : Entries). d.groups) c.dictionary.view_is);
-  headings = unstated_none same_heading c.args.dictionary.headings c.dictionary.inside.headings (ap (λ (d : Entries). d.headings) c.dictionary.view_is);
+  groups = unstated_none same_group c.args.dictionary.groups _ c.into_parts-groups.ensures.groups;
+  headings = unstated_none same_heading c.args.dictionary.headings _ c.into_parts-groups.ensures.headings;
 }
 
 pub returns-clause-groups : goal.returns-clause-groups
