@@ -1,7 +1,7 @@
 //! Stores that hold no register, or one of another format.
 
 use super::runs::{answers, enter, hold, leave};
-use sqlite::{Alter, Connection, params};
+use sqlite::{Alter, Connection, Error, params};
 use std::fs;
 use std::test::Fail;
 
@@ -72,19 +72,19 @@ static LAST: [&str; 3] = [
     "init|--store=empty|--dictionary=mini => 0 created",
 ];
 
-/// Runs a statement on a database of any store, and closes it: named over the one of a file, each of the two would show at
-/// length that this is a store.
-fn run_statement<S: Alter + Drop>(
-    mut connection: Connection<S>,
-    statement: &str,
-) -> Result<(), Fail> {
+/// Runs a statement on a database of any store.
+fn run_statement<S: Alter>(connection: &mut Connection<S>, statement: &str) -> Result<(), Error> {
     connection.execute(statement, params![])?;
     Ok(())
 }
 
-/// Runs a statement on the database in a file. Here alone the type of one stands.
+/// Runs a statement on the database in a file, and closes that. Here alone the type of one stands, and it is not dropped: how
+/// it is dropped would be shown at length.
 fn change_file(rt: &HostRuntime, path: &str, statement: &str) -> Result<(), Fail> {
-    run_statement(Connection::open(rt, path)?, statement)
+    let mut connection = Connection::open(rt, path)?;
+    let done = run_statement(&mut connection, statement);
+    connection.close()?;
+    Ok(done?)
 }
 
 /// Runs a statement on the database in a file, if there is one.
