@@ -1,12 +1,13 @@
 -- A register in memory: what is known of a kept deposit and of its file.
-use Rattle.std.proofs.Common.{◌≡◌, ◌≢◌, ℕ, ◌<◌, ◌≤◌, Bool, true, false, List, [], ◌∷◌, ◌++◌, length, map, All, Option, Some, Ok, Err, Result, get_or, if◌then◌else◌, sym, ap, subst, ◌∙◌, arith}
-use Rattle.std.specs.Prelude.{IfOk, slice_get}
+use Rattle.std.proofs.Common.{◌≡◌, ◌≢◌, ℕ, ◌+◌, ◌<◌, ◌≤◌, Bool, true, false, List, [], ◌∷◌, ◌++◌, length, map, drop, All, Option, Some, Ok, Err, Result, get_or, if◌then◌else◌, refl, sym, ap, subst, ◌∙◌, append_assoc, arith}
+use Rattle.std.specs.Prelude.{IfOk, option_map, slice_get}
+use Rattle.std.specs.Str.{bytes_eq}
 use Rattle.std.proofs.Math.Logic.{∥∥₁_map, ∥∥₁_elim}
 use Rattle.std.proofs.Math.ListN.{get_or-map}
 use Rattle.std.proofs.Props.{props}
-use Rattle.std.proofs.lemmas.List.{map-append}
+use Rattle.std.proofs.lemmas.List.{drop_more, map-append}
 use Rattle.std.proofs.lemmas.List.Elements.{All-append}
-use Rattle.std.proofs.lemmas.Option.{get_or_from_slice_get}
+use Rattle.std.proofs.lemmas.Option.{get_or_from_slice_get, slice_get-map, slice_get_read}
 use Rattle.ags_rows.specs.declared.TheConstants.{LIMIT, READABLE}
 use Rattle.ags_rows.specs.declared.finding.Finding.{Finding}
 use Rattle.ags_rows.specs.declared.rows.Group.{Group}
@@ -19,7 +20,7 @@ use Rattle.reg_store.specs.declared.keep.KeptRow.{KeptRow}
 use Rattle.reg_store.specs.declared.keep.ProjectRow.{ProjectRow}
 use Rattle.reg_store.specs.Project.{project_of, targets_of}
 use Rattle.reg_store.specs.Keep.{deposit_of}
-use Rattle.reg_store.specs.Deposit.{Deposit}
+use Rattle.reg_store.specs.Deposit.{Deposit, numbers_from}
 use Rattle.reg_store.specs.Fit.{IsFit, IsFileOf, kept_rows}
 use Rattle.reg_store.specs.PlainLaws.{fit_of}
 
@@ -65,6 +66,24 @@ kept_is_fit dictionary kept k one all low is =
 
 pub kept_is_deposit : (kept : List Kept) (k : ℕ) (one : Kept) (d : Deposit) → one ≡ get_or kept k one → slice_get (map deposit_of kept) k ≡ Some d → d ≡ deposit_of one
 kept_is_deposit kept k one d is there = sym (get_or_from_slice_get (map deposit_of kept) k d (deposit_of one) there) ∙ get_or-map deposit_of kept k one ∙ ap deposit_of (sym is)
+
+-- the list has the deposit at its place
+pub kept_at : (kept : List Kept) (k : ℕ) (one : Kept) → k < length kept → one ≡ get_or kept k one → slice_get (map deposit_of kept) k ≡ Some (deposit_of one)
+kept_at kept k one low is = slice_get-map deposit_of kept k ∙ ap (option_map deposit_of) (slice_get_read kept (length kept) k one refl low is)
+
+-- ---- the numbers of a project's deposits
+
+-- a number is put to those so far, or is left out
+joined : (same : Bool) (n : ℕ) (old new rest all : List ℕ) → new ≡ (if same then old ++ n ∷ [] else old) → old ++ (if same then n ∷ rest else rest) ≡ all → new ++ rest ≡ all
+joined true n old new rest all is before = rw is (append_assoc old (n ∷ []) rest ∙ before)
+joined false n old new rest all is before = rw is before
+
+-- one deposit more is looked at
+pub numbers_more : (project : List ℕ) (kept : List Kept) (i n : ℕ) (one : Kept) (old new all : List ℕ) → i < length kept → one ≡ get_or kept i one → new ≡ (if bytes_eq one.project project then old ++ n ∷ [] else old)
+    → old ++ numbers_from n project (map deposit_of (drop i kept)) ≡ all → new ++ numbers_from (n + 1) project (map deposit_of (drop (i + 1) kept)) ≡ all
+numbers_more project kept i n one old new all low is told before =
+    let here : drop i kept ≡ one ∷ drop (i + 1) kept = drop_more kept i one low ∙ ap (λ (x : Kept). x ∷ drop (i + 1) kept) (sym is) in
+    joined (bytes_eq one.project project) n old new (numbers_from (n + 1) project (map deposit_of (drop (i + 1) kept))) all told (subst (λ (l : List Kept). old ++ numbers_from n project (map deposit_of l) ≡ all) here before)
 
 -- ---- its file
 
