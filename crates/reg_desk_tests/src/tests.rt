@@ -18,7 +18,7 @@ use examples::{EXAMPLES, MOST, UNTIL};
 use laws::tells;
 use memory::is_refused_once;
 use refusing::Refusing;
-use reg_desk::{Answer, Desk, Request};
+use reg_desk::{Desk, Request};
 use reg_policy::vectors::{CALLERS, POLICY};
 use reg_policy::{Caller, Callers, Day, Name, Policy};
 use reg_store::{Keep, PlainKeep};
@@ -317,55 +317,20 @@ fn answers<K: Keep>(
     }
 }
 
-/// A desk over this keep.
-fn desk_over<K: Keep + Drop>(alloc: Global, keep: K) -> Result<Desk<K>, AllocError>
-    requires { K.has_failed keep ≡ false }
-{
-    match Policy::read(alloc, POLICY) {
-        Ok(policy) => Ok(Desk::new(keep, policy)),
-        Err(_) => Err(AllocError),
-    }
-}
-
-/// Whether a desk over this keep answers as it should what is played, for this project.
-fn plays_for<K: Keep + Drop>(
+/// Whether a desk over this keep and under this policy answers as it should what is played, for this project; and the keep.
+fn plays_at<K: Keep>(
     alloc: Global,
     keep: K,
+    policy: Policy,
     callers: &Callers,
     project: &Name,
     play: Play,
-) -> Result<bool, AllocError>
+) -> (K, Result<bool, AllocError>)
     requires { K.has_failed keep ≡ false }
 {
-    match desk_over(alloc, keep) {
-        Ok(mut desk) => answers(alloc, &mut desk, callers, project, play),
-        Err(error) => Err(error),
-    }
-}
-
-/// The same where callers are read before, for project N1.
-fn plays_of<K: Keep + Drop>(
-    alloc: Global,
-    keep: K,
-    callers: &Callers,
-    play: Play,
-) -> Result<bool, AllocError>
-    requires { K.has_failed keep ≡ false }
-{
-    match Name::read(alloc, "N1") {
-        Ok(project) => plays_for(alloc, keep, callers, &project, play),
-        Err(_) => Err(AllocError),
-    }
-}
-
-/// Whether a desk over this keep answers as it should what is played. Where memory is refused before it begins, nothing is asked.
-fn plays<K: Keep + Drop>(alloc: Global, keep: K, play: Play) -> Result<bool, AllocError>
-    requires { K.has_failed keep ≡ false }
-{
-    match Callers::read(alloc, CALLERS) {
-        Ok(callers) => plays_of(alloc, keep, &callers, play),
-        Err(_) => Err(AllocError),
-    }
+    let mut desk = Desk::new(keep, policy);
+    let right = answers(alloc, &mut desk, callers, project, play);
+    (desk.into_keep(), right)
 }
 
 /// A keep in memory under a dictionary that may hold so many deposits.
@@ -391,18 +356,38 @@ fn memory_of(alloc: Global, limit: u32) -> Option<PlainKeep> {
     }
 }
 
-/// Whether a desk over a keep in memory that may hold so many deposits answers as it should what is played.
-fn plays_in_memory(alloc: Global, limit: u32, play: Play) -> Result<bool, AllocError> {
+/// Whether that is so over a keep in memory that may hold so many deposits.
+fn plays_in_memory(
+    alloc: Global,
+    limit: u32,
+    policy: Policy,
+    callers: &Callers,
+    project: &Name,
+    play: Play,
+) -> Result<bool, AllocError> {
     match memory_of(alloc, limit) {
-        Some(keep) => plays(alloc, keep, play),
+        Some(keep) => {
+            let (_keep, right) = plays_at(alloc, keep, policy, callers, project, play);
+            right
+        }
         None => Err(AllocError),
     }
 }
 
 /// The same over a keep that gives no body.
-fn plays_without_bodies(alloc: Global, play: Play) -> Result<bool, AllocError> {
+fn plays_without_bodies(
+    alloc: Global,
+    policy: Policy,
+    callers: &Callers,
+    project: &Name,
+    play: Play,
+) -> Result<bool, AllocError> {
     match memory_of(alloc, MOST) {
-        Some(keep) => plays(alloc, Refusing::new(keep, u32::MAX), play),
+        Some(keep) => {
+            let keep = Refusing::new(keep, u32::MAX);
+            let (_keep, right) = plays_at(alloc, keep, policy, callers, project, play);
+            right
+        }
         None => Err(AllocError),
     }
 }
@@ -415,13 +400,23 @@ fn unmade(error: CreateError) -> Result<bool, AllocError> {
     }
 }
 
-/// Whether a desk over tables answers as it should what is played. `SqlKeep` is shown to be a keep here alone.
-fn plays_in_tables(alloc: Global, play: Play) -> Result<bool, AllocError> {
+/// The same over tables. `SqlKeep` is shown to be a keep here alone, and let go by the crate that has it.
+fn plays_in_tables(
+    alloc: Global,
+    policy: Policy,
+    callers: &Callers,
+    project: &Name,
+    play: Play,
+) -> Result<bool, AllocError> {
     if MINI.len() > READABLE {
         return Ok(false);
     }
     match SqlKeep::in_memory(alloc, MINI) {
-        Ok(keep) => plays(alloc, keep, play),
+        Ok(keep) => {
+            let (keep, right) = plays_at(alloc, keep, policy, callers, project, play);
+            let _connection = keep.into_connection();
+            right
+        }
         Err(error) => unmade(error),
     }
 }
@@ -431,14 +426,58 @@ fn length_of(alloc: Global, body: &Body) -> Result<usize, AllocError> {
     Ok(bytes_of(alloc, body)?.len())
 }
 
-/// Whether a desk over such a keep answers as it should what is played. None but a keep in memory has a limit of its own: with another limit
-/// nothing is asked.
-fn plays_over(alloc: Global, over: Over, limit: u32, play: Play) -> Result<bool, AllocError> {
+/// The same over such a keep. None but a keep in memory has a limit of its own: with another limit nothing is asked.
+fn plays_over(
+    alloc: Global,
+    (over, limit): (Over, u32),
+    policy: Policy,
+    callers: &Callers,
+    project: &Name,
+    play: Play,
+) -> Result<bool, AllocError> {
     match over {
-        Over::Memory => plays_in_memory(alloc, limit, play),
-        Over::NoBodies if limit == MOST => plays_without_bodies(alloc, play),
-        Over::Tables if limit == MOST => plays_in_tables(alloc, play),
+        Over::Memory => plays_in_memory(alloc, limit, policy, callers, project, play),
+        Over::NoBodies if limit == MOST => {
+            plays_without_bodies(alloc, policy, callers, project, play)
+        }
+        Over::Tables if limit == MOST => plays_in_tables(alloc, policy, callers, project, play),
         _ => Ok(true),
+    }
+}
+
+/// The same where the policy is read before.
+fn plays_for(
+    alloc: Global,
+    keep: (Over, u32),
+    callers: &Callers,
+    project: &Name,
+    play: Play,
+) -> Result<bool, AllocError> {
+    match Policy::read(alloc, POLICY) {
+        Ok(policy) => plays_over(alloc, keep, policy, callers, project, play),
+        Err(_) => Err(AllocError),
+    }
+}
+
+/// The same for project N1.
+fn plays_of(
+    alloc: Global,
+    keep: (Over, u32),
+    callers: &Callers,
+    play: Play,
+) -> Result<bool, AllocError> {
+    match Name::read(alloc, "N1") {
+        Ok(project) => plays_for(alloc, keep, callers, &project, play),
+        Err(_) => Err(AllocError),
+    }
+}
+
+/// Whether a desk over such a keep, for so many deposits, answers as it should what is played. Where memory is refused before it begins,
+/// nothing is asked.
+fn plays(alloc: Global, over: Over, limit: u32, play: Play) -> Result<bool, AllocError> {
+    match Callers::read(alloc, CALLERS) {
+        Ok(callers) => plays_of(alloc, (over, limit), &callers, play),
+        Err(_) => Err(AllocError),
     }
 }
 
@@ -446,7 +485,7 @@ fn plays_over(alloc: Global, over: Over, limit: u32, play: Play) -> Result<bool,
 fn examples_over(alloc: Global, rt: &impl Abort, over: Over) {
     for example in &EXAMPLES {
         let play = Play::Steps(example.steps);
-        let right = plays_over(alloc, over, example.limit, play).unwrap_or(false);
+        let right = plays(alloc, over, example.limit, play).unwrap_or(false);
         assert!(rt; right, "{}", example.name);
     }
 }

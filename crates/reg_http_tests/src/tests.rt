@@ -13,6 +13,7 @@ use reg_http::{IoFault, Served, Tally, serve_list, serve_one};
 use reg_policy::vectors::{CALLERS, POLICY};
 use reg_policy::{Callers, Day, Policy};
 use reg_store::{Keep, PlainKeep};
+use replies::replies_on;
 use slow::{reads_deposit, writes_twice};
 use std::alloc::{AllocError, Global};
 use std::io;
@@ -30,11 +31,6 @@ fn desk_under(alloc: Global, dictionary: &[u8], most: u32) -> Option<Desk<PlainK
     let dictionary = Dictionary::read(alloc, dictionary).ok()?;
     let policy = Policy::read(alloc, POLICY).ok()?;
     Some(Desk::new(PlainKeep::with_limit(alloc, dictionary, most), policy))
-}
-
-/// The same under the small dictionary, for one deposit.
-fn small_desk(alloc: Global) -> Option<Desk<PlainKeep>> {
-    desk_under(alloc, MINI, 1)
 }
 
 /// The callers of the worked examples; none where memory is refused.
@@ -106,6 +102,8 @@ enum Play<'a> {
     Turns,
     /// Deposits over readers that fail.
     Reads,
+    /// This head, and the status, the length and the body of its reply.
+    Head(&'a [u8], &'static str, &'static str, &'static str),
     /// This deposit over a writer that fails at the call after so many others.
     Writes(&'a [u8], usize),
 }
@@ -124,13 +122,16 @@ fn is_played(
         Play::Lists => are_lists_refused_once(alloc, desk, callers, day),
         Play::Turns => serves_in_turn(alloc, desk, callers, day),
         Play::Reads => reads_deposit(alloc, desk, callers, day),
+        Play::Head(head, status, length, body) => {
+            replies_on(alloc, desk, callers, day, head, [status, length, body]).unwrap_or(false)
+        }
         Play::Writes(request, calls) => writes_twice(alloc, desk, callers, day, request, calls),
     }
 }
 
-/// The same at the small desk; none where memory is refused before.
+/// The same at a desk under the small dictionary that takes one deposit; none where memory is refused before.
 fn plays_for(alloc: Global, callers: &Callers, day: Day, play: Play<'_>) -> Option<bool> {
-    match small_desk(alloc) {
+    match desk_under(alloc, MINI, 1) {
         Some(mut desk) => Some(is_played(alloc, &mut desk, callers, day, play)),
         None => None,
     }

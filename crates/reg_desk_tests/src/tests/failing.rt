@@ -7,13 +7,12 @@ use super::examples::{FIRST, LISTED, MOST};
 use super::refusing::Refusing;
 use super::wanted::count_wanted;
 use super::{
-    Over, Want, check_of, deposit_of, desk_over, examples_over, extract_of, list_of, memory_of,
-    two_of,
+    Over, Want, check_of, deposit_of, examples_over, extract_of, list_of, memory_of, two_of,
 };
 use ags_rows::vectors::{FILE_A, FILE_B};
 use reg_desk::{Answer, Desk, Request};
-use reg_policy::vectors::CALLERS;
-use reg_policy::{Caller, Callers, Day, Name};
+use reg_policy::vectors::{CALLERS, POLICY};
+use reg_policy::{Caller, Callers, Day, Name, Policy};
 use reg_store::Keep;
 use std::alloc::Global;
 use std::io;
@@ -89,8 +88,8 @@ fn stop_at<K: Keep>(alloc: Global, desk: &mut Desk<K>, requests: &[Request]) -> 
 fn stop_over<K: Keep + Drop>(alloc: Global, keep: K, requests: &[Request]) -> Option<usize>
     requires { K.has_failed keep ≡ false }
 {
-    match desk_over(alloc, keep) {
-        Ok(mut desk) => stop_at(alloc, &mut desk, requests),
+    match Policy::read(alloc, POLICY) {
+        Ok(policy) => stop_at(alloc, &mut Desk::new(keep, policy), requests),
         Err(_) => None,
     }
 }

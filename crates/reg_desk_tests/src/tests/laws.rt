@@ -4,7 +4,7 @@ use super::bodies::{A, B, B_SHOWN, B_TESTED, B_WETTER};
 use super::examples::{FIRST, LISTED, MOST, SECOND, UNTIL};
 use super::wanted::count_wanted;
 use super::{
-    Ask, Body, Over, Play, Step, Want, deposit_of, extract_of, holds, list_of, plays_over, two_of,
+    Ask, Body, Over, Play, Step, Want, deposit_of, extract_of, holds, list_of, plays, two_of,
 };
 use ags_rows::vectors::FILE_A;
 use reg_desk::{Desk, Request};
@@ -27,8 +27,8 @@ static DRAWN_TWICE: [Step; 5] = [
 
 /// What is played over a keep in memory, and over tables.
 fn plays_twice(alloc: Global, rt: &impl Abort, play: Play) {
-    assert!(rt; plays_over(alloc, Over::Memory, MOST, play).unwrap_or(false));
-    assert!(rt; plays_over(alloc, Over::Tables, MOST, play).unwrap_or(false));
+    assert!(rt; plays(alloc, Over::Memory, MOST, play).unwrap_or(false));
+    assert!(rt; plays(alloc, Over::Tables, MOST, play).unwrap_or(false));
 }
 
 #[test]

@@ -5,7 +5,7 @@ ghost use Rattle.std.specs.Prelude.{◌≡◌};
 
 use super::examples::{MOST, UNTIL};
 use super::wanted::{is_listing, is_receipt, name_of};
-use super::{Line, Over, Play, deposit_of, extract_of, list_of, plays_over, two_of};
+use super::{Line, Over, Play, deposit_of, extract_of, list_of, plays, two_of};
 use ags_check::{CheckError, check};
 use ags_dict::{DictError, Dictionary};
 use ags_links::{Graph, reached, shown};
@@ -346,10 +346,10 @@ pub fn is_refused_once<K: Keep>(
 /// Memory is refused to one answer or run at most. Where it is refused before, nothing is asked.
 #[test]
 fn runs_in_memory(rt: HostRuntime) {
-    assert!(rt; plays_over(rt.alloc(), Over::Memory, MOST, Play::Runs).unwrap_or(true));
+    assert!(rt; plays(rt.alloc(), Over::Memory, MOST, Play::Runs).unwrap_or(true));
 }
 
 #[test]
 fn runs_in_tables(rt: HostRuntime) {
-    assert!(rt; plays_over(rt.alloc(), Over::Tables, MOST, Play::Runs).unwrap_or(true));
+    assert!(rt; plays(rt.alloc(), Over::Tables, MOST, Play::Runs).unwrap_or(true));
 }

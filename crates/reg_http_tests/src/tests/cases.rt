@@ -1,10 +1,10 @@
-//! Requests and their replies, as texts and as bytes. A function that names a table carries it to each of its points, so tables are
-//! handed out by functions of their own.
+//! Requests and their replies, as texts and as bytes. A function that names a constant carries it to each of its points, so tables
+//! are statics.
 
 /// At an empty desk, in turn. Each line is a case: day, token (`-`: no field), the lines of the head, the body (`A` is the
 /// file, `A cut` all but its last byte, `A more` has two bytes behind it, `A bell`, `A delete` and `A quote` have other bytes in
 /// a group name), the status, the length, and the body of the reply.
-pub(crate) const AT_A_DESK: &str = r#"
+pub(crate) static AT_A_DESK: &str = r#"
 # each refusal before the next
 2024-05-01 | - | GET /v1/x HTTP/1.1 | - | 404 Not Found | 20 | {"error":"no route"}
 2024-05-01 | - | PUT /v1/x HTTP/1.1 | - | 404 Not Found | 20 | {"error":"no route"}
@@ -79,18 +79,18 @@ pub(crate) const AT_A_DESK: &str = r#"
 "#;
 
 /// At a desk that takes one deposit.
-pub(crate) const AT_A_FULL_DESK: &str = r#"
+pub(crate) static AT_A_FULL_DESK: &str = r#"
 2024-05-01 | t-delta | POST /v1/projects/N1/deposits?embargo=2024-06-01 HTTP/1.1; Content-Length: 543 | A | 200 OK | 35 | {"embargo":"2024-06-01","number":1}
 2024-05-01 | t-foxtrot | POST /v1/projects/N1/deposits HTTP/1.1; Content-Length: 543 | A | 507 Insufficient Storage | 16 | {"error":"full"}
 2024-05-01 | t-delta | POST /v1/projects/N1/deposits HTTP/1.1; Content-Length: 543 | A | 200 OK | 35 | {"embargo":"2024-06-01","number":1}
 "#;
 
 /// A line of a dictionary: a heading that each file has to have, with bytes above 127 in its name.
-pub(crate) const WIDE_HEADING: &[u8] =
+pub(crate) static WIDE_HEADING: &[u8] =
     b"\"DATA\",\"HEADING\",\"LOCA\",\"LOCA_\xc3\x89\",\"REQUIRED\",\"\"\r\n";
 
 /// At a desk whose dictionary has that heading.
-pub(crate) const AT_A_WIDE_DESK: &str = r#"
+pub(crate) static AT_A_WIDE_DESK: &str = r#"
 2024-05-01 | t-echo | POST /v1/projects/N1/check HTTP/1.1; Content-Length: 543 | A | 422 Unprocessable Entity | 59 | {"findings":[{"code":"10b","line":27,"subject":"LOCA_??"}]}
 "#;
 
@@ -102,7 +102,7 @@ const BAD_HEAD: [&str; 3] = ["400 Bad Request", "20", r#"{"error":"bad head"}"#]
 const NO_DEPOSIT: [&str; 3] = ["200 OK", "15", r#"{"deposits":[]}"#];
 
 /// Heads as bytes, with the reply.
-const HEADS: &[(&[u8], [&str; 3]); 9] = &[
+pub(crate) static HEADS: [(&[u8], [&str; 3]); 9] = [
     (b"GET /v1/x HTTP/1.2\r\n\r\n", BAD_HEAD),
     (b"GET /v1/projects/N1/deposits HTTP/1.1\r\n", BAD_HEAD),
     (b"GET /v1/x HTTP/1.1\r\nHost : a\r\n\r\n", BAD_HEAD),
@@ -117,23 +117,13 @@ const HEADS: &[(&[u8], [&str; 3]); 9] = &[
     ),
 ];
 
-/// Those heads.
-pub(crate) fn byte_heads() -> &'static [(&'static [u8], [&'static str; 3])] {
-    HEADS
-}
-
 /// Heads of 32 or 33 fields, and of 8,192 or 8,193 bytes: how long the last field is, how many of one letter stand before it, and the
 /// reply.
-const LONG_HEADS: &[(usize, usize, [&str; 3]); 3] = &[
+pub(crate) static LONG_HEADS: [(usize, usize, [&str; 3]); 3] = [
     (7979, 31, NO_ROUTE),
     (7980, 31, BAD_HEAD),
     (1, 32, BAD_HEAD),
 ];
-
-/// Those heads.
-pub(crate) fn long_heads() -> &'static [(usize, usize, [&'static str; 3])] {
-    LONG_HEADS
-}
 
 /// A body that a case calls by a name: the file up to one place, the bytes between, and the file from another place on.
 #[derive(Clone, Copy)]
@@ -146,7 +136,7 @@ pub(crate) struct Altered {
 
 /// The file, the file without its last byte, the file with two bytes behind it, the file with `lo`, a bell and `ca`, or `lo`, a byte 7f and
 /// `ca`, or `l`, a quote, a byte 01 and a backslash, for the name in its line 26, and nothing.
-const BODIES: &[Altered; 7] = &[
+pub(crate) static BODIES: [Altered; 7] = [
     Altered {
         name: "A",
         end: 543,
@@ -190,8 +180,3 @@ const BODIES: &[Altered; 7] = &[
         begin: 543,
     },
 ];
-
-/// Those bodies.
-pub(crate) fn bodies() -> &'static [Altered] {
-    BODIES
-}

@@ -2,10 +2,9 @@
 ghost use Rattle.std.specs.Prelude.{◌<◌, ◌≤◌};
 
 use super::cases::{
-    AT_A_DESK, AT_A_FULL_DESK, AT_A_WIDE_DESK, Altered, WIDE_HEADING, bodies, byte_heads,
-    long_heads,
+    AT_A_DESK, AT_A_FULL_DESK, AT_A_WIDE_DESK, Altered, BODIES, HEADS, LONG_HEADS, WIDE_HEADING,
 };
-use super::{answers, desk_under, known_callers, small_desk};
+use super::{Play, answers, desk_under, known_callers, plays};
 use ags_rows::vectors::{FILE_A, MINI};
 use reg_desk::Desk;
 use reg_policy::{Callers, Day};
@@ -33,7 +32,7 @@ fn push_altered(text: &mut Vec<u8>, altered: &Altered) -> Result<(), AllocError>
 
 /// Adds the body that a case calls by a name, or the text itself where there is none of that name.
 fn push_body(text: &mut Vec<u8>, name: &str) -> Result<(), AllocError> {
-    for altered in bodies() {
+    for altered in &BODIES {
         if altered.name == name {
             return push_altered(text, altered);
         }
@@ -134,7 +133,7 @@ fn code_of(status: &str) -> Option<u16> {
 }
 
 /// Whether a request is answered by the reply of this status, length and body.
-fn replies_on(
+pub(crate) fn replies_on(
     alloc: Global,
     desk: &mut Desk<PlainKeep>,
     callers: &Callers,
@@ -243,14 +242,8 @@ fn replies(rt: HostRuntime) -> Result<(), AllocError> {
 }
 
 /// Whether what the reader gives is answered by this reply, at a desk that begins.
-fn head_replies(alloc: Global, head: &[u8], parts: [&str; 3]) -> Result<bool, AllocError> {
-    let Some(mut desk) = small_desk(alloc) else {
-        return Err(AllocError);
-    };
-    match known_callers(alloc) {
-        Some(callers) => replies_so(alloc, &mut desk, &callers, "2024-05-01", head, parts),
-        None => Err(AllocError),
-    }
+fn head_replies(alloc: Global, head: &[u8], [status, length, body]: [&'static str; 3]) -> bool {
+    plays(alloc, Play::Head(head, status, length, body)).unwrap_or(false)
 }
 
 /// Whether that of a head with so many fields of one letter, and one behind them of so many, is this.
@@ -258,7 +251,7 @@ fn long_head_replies(
     alloc: Global,
     fields: usize,
     last: usize,
-    parts: [&str; 3],
+    parts: [&'static str; 3],
 ) -> Result<bool, AllocError> {
     let lines = "A: b\r\n".repeat(alloc, fields)?;
     let field = "b".repeat(alloc, last)?;
@@ -273,13 +266,13 @@ fn long_head_replies(
             "\r\n\r\n",
         ],
     )?;
-    head_replies(alloc, &head, parts)
+    Ok(head_replies(alloc, &head, parts))
 }
 
 /// Whether the replies of the long heads are theirs.
 fn long_heads_reply(alloc: Global) -> bool {
     let mut right = true;
-    for (last, fields, reply) in long_heads() {
+    for (last, fields, reply) in &LONG_HEADS {
         right = right && long_head_replies(alloc, *fields, *last, *reply).unwrap_or(false);
     }
     right
@@ -288,8 +281,8 @@ fn long_heads_reply(alloc: Global) -> bool {
 #[test]
 fn heads(rt: HostRuntime) {
     let alloc = rt.alloc();
-    for (head, reply) in byte_heads() {
-        assert!(rt; head_replies(alloc, head, *reply).unwrap_or(false));
+    for (head, reply) in &HEADS {
+        assert!(rt; head_replies(alloc, head, *reply));
     }
     assert!(rt; long_heads_reply(alloc));
 }
