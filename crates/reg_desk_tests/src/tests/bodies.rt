@@ -1,6 +1,8 @@
 //! The bodies that are sent: the files of the worked examples, each with its changes.
 
 use super::{Body, Edit, File, Length};
+use ags_rows::vectors::{FILE_A, FILE_B, FILE_C};
+use std::alloc::{AllocError, Global};
 
 /// The first file.
 pub const A: Body = Body {
@@ -311,3 +313,49 @@ pub static LENGTHS: [Length; 5] = [
     Length("what is shown of the second file", B_SHOWN, 956),
     Length("its first borehole", B_BOREHOLE, 626),
 ];
+
+/// The bytes of a file.
+fn file_bytes(file: File) -> &'static [u8] {
+    match file {
+        File::A => FILE_A,
+        File::B => FILE_B,
+        File::C => FILE_C,
+    }
+}
+
+/// Where this line of a file begins, counted from 1; behind the file where it has no such line.
+fn begin_of(file: &[u8], line: usize) -> usize {
+    let mut left = line;
+    for (place, byte) in file.iter().enumerate() {
+        if left == 1 {
+            return place;
+        }
+        if *byte == b'\n' {
+            left = left.saturating_sub(1);
+        }
+    }
+    file.len()
+}
+
+/// The lines of a file from the first and before the last.
+fn lines_of(file: &[u8], first: usize, last: usize) -> &[u8] {
+    match file.get(begin_of(file, first)..begin_of(file, last)) {
+        Some(lines) => lines,
+        None => b"",
+    }
+}
+
+/// The bytes of a body.
+pub fn bytes_of(alloc: Global, body: &Body) -> Result<Vec<u8>, AllocError> {
+    let file = file_bytes(body.file);
+    let mut text = Vec::from_slice(alloc, body.front)?;
+    let mut line = 1usize;
+    for edit in body.edits {
+        text.extend_from_slice(lines_of(file, line, edit.first))?;
+        text.extend_from_slice(edit.lines.as_bytes())?;
+        line = edit.last.saturating_add(1);
+    }
+    text.extend_from_slice(lines_of(file, line, usize::MAX))?;
+    text.resize(text.len().saturating_add(body.spaces), b' ')?;
+    Ok(text)
+}

@@ -2,6 +2,7 @@
 
 ghost use Rattle.std.specs.Prelude.{◌≡◌, false, IfOk, IfSome};
 
+use crate::tests::files::long_body;
 use crate::tests::{Ask, AskMade, ask_in_memory, ask_tables, take_named, tell_deposit};
 use ags_dict::DictError;
 use ags_rows::vectors::{FILE_A, FILE_B, MINI};
@@ -249,10 +250,9 @@ impl<'a, 'c> AskMade for TellChanged<'a, 'c> {
 }
 
 fn tell_case(alloc: Global, case: &Case, told: &mut String) -> Result<(), KeepError> {
-    let change = Change::Batch(case.change);
     let asked = TellChanged {
         file: case.file,
-        change,
+        change: Change::Batch(case.change),
         told,
     };
     ask_in_memory(alloc, MINI, asked)
@@ -270,21 +270,12 @@ fn compare(alloc: Global, rt: &impl Abort, cases: &[Case]) {
     }
 }
 
-/// A, with as many spaces behind it as make it so long. Its rows and steps are those of A.
-fn long_body(alloc: Global, length: usize) -> Result<Vec<u8>, AllocError> {
-    let spaces = [b' '].repeat(alloc, length.saturating_sub(FILE_A.len()))?;
-    let mut body = Vec::from_slice(alloc, FILE_A)?;
-    body.extend_from_slice(&spaces)?;
-    Ok(body)
-}
-
 /// What adopting answers where the kept body is so long.
 fn tell_long(alloc: Global, length: usize, told: &mut String) -> Result<(), KeepError> {
     let body = long_body(alloc, length)?;
-    let change = Change::Body(body.as_slice());
     let asked = TellChanged {
         file: FILE_A,
-        change,
+        change: Change::Body(body.as_slice()),
         told,
     };
     ask_in_memory(alloc, MINI, asked)
@@ -300,7 +291,7 @@ fn is_no_dictionary(refused: &CreateError) -> bool {
     matches!(refused, CreateError::Dictionary(DictError::NoDict))
 }
 
-/// Whether the making is refused for a dictionary that is none.
+/// Whether the making is refused for a dictionary that is none. A register is taken apart: to drop one takes the prover longer.
 struct IsNoDictionary;
 
 impl AskMade for IsNoDictionary {
@@ -314,7 +305,6 @@ impl AskMade for IsNoDictionary {
         let IsNoDictionary = self;
         match made {
             Ok(keep) => {
-                // What lets a whole register go takes the prover longer.
                 let _ = keep.into_connection();
                 false
             }
