@@ -8,7 +8,7 @@ ghost use Rattle.ags_links.specs.Work.{IsAdjacency, weigh, Looked, swapped};
 use crate::graph::Graph;
 use std::alloc::{AllocError, Global};
 
-/// The rows reached from a marked row, marked rows included, and the turns of the work list.
+/// The rows reached from a marked row, marked rows included, and the turns: one for each of these rows, and one for each step that starts at one.
 pub fn reached(alloc: Global, graph: &Graph, from: &[bool]) -> Result<(Vec<bool>, u128), AllocError>
     requires { length from.now ≡ graph.now.rows }
     ensures rows { IfOk result (λ out. length out.0.items ≡ graph.now.rows) }
@@ -20,8 +20,7 @@ pub fn reached(alloc: Global, graph: &Graph, from: &[bool]) -> Result<(Vec<bool>
     spread(alloc, graph.steps(), from)
 }
 
-/// The rows from which only permitted rows are reached, and the turns of the work list, which goes backwards
-/// from the rows that are not permitted.
+/// The permitted rows from which only permitted rows are reached, and the turns: one for each other row, and one for each step that ends at one.
 pub fn shown(
     alloc: Global,
     graph: &Graph,

@@ -54,7 +54,7 @@ fn tran_entry<'g>(groups: &'g [Group<'_>], heading: &[u8]) -> &'g [u8]
     }
 }
 
-/// TRAN_DLIM and TRAN_RCON of TRAN's first DATA row where they are one character, else `|` and `+`.
+/// TRAN_DLIM and TRAN_RCON of TRAN's first DATA row, each where it is exactly one byte, else `|` and `+`.
 pub fn separators_in(groups: &[Group<'_>]) -> Separators
     ensures { result ≡ separators_of (contents_of groups.now) }
 {

@@ -121,7 +121,7 @@ pub(crate) fn pieces_text(alloc: Global, delimiter: u8, part: &[u8]) -> Result<V
     Ok(text)
 }
 
-/// The place of the first such byte.
+/// The first place of the byte in the text, from 0.
 pub fn find_byte(text: &[u8], byte: u8) -> Option<usize>
     ensures place { result ≡ position (λ b. b == byte) text.now }
     ensures within { IfSome result (λ place. place < length text.now) }

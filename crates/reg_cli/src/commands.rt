@@ -156,8 +156,8 @@ fn project_of(alloc: Global, text: &str) -> Result<Name, Fault>
     }
 }
 
-/// Who asks by this token, for the project and on the day that the words give.
-/// The first of these that is none is refused.
+/// Who asks by this token, for the project and on the day that the words give, or on `today` where they give none.
+/// A token of no caller, a project that is no name and a day that is none are refused. No clause says which of them is named.
 pub fn session_of<'c>(
     alloc: Global,
     callers: &'c Callers,
@@ -233,7 +233,8 @@ fn deposit_as<'w, W: Write>(
     use_store(rt, alloc, store, policy, &task, out)
 }
 
-/// Asks the desk to keep a file, as the one who asks. Refused only where memory for the text of its answer is wanting.
+/// Asks the desk to keep a file, as the one who asks. Its one refusal is want of memory: then nothing is printed, and the
+/// desk is as its answer left it.
 pub fn ask_deposit<'w, K: Keep, W: Write>(
     alloc: Global,
     desk: &mut Desk<K>,
@@ -450,7 +451,7 @@ fn run_command<'w, W: Write, E: Write>(
 }
 
 /// Runs the program on its words, of which the first is its name; without others it checks the file that the input carries.
-/// `today` is what the clock tells, if it tells a day.
+/// `today` is what the clock tells, if it tells a day. No clause says what is done with further words, or with `today`.
 pub fn run_words<S: AsStr, R: Read, W: Write, E: Write>(
     rt: &HostRuntime,
     words: &[S],

@@ -48,7 +48,7 @@ fn print_line<W: Write>(out: &mut Watched<W>, status: Option<u16>) -> Result<(),
 }
 
 /// Serves connections, one after the other, and prints the status of each reply, or `fault`. The status of the run: 6
-/// where such a line is not written, which ends it, and else 0.
+/// where such a line is not written, which ends it, and else 0. No clause says so.
 pub fn serve_on<K: Keep, W: Write>(
     alloc: Global,
     listener: &TcpListener,

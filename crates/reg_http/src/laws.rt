@@ -2,12 +2,12 @@
 ghost use Rattle.reg_http.specs.Reading.{HasOneReading};
 ghost use Rattle.reg_http.specs.Rendering.{HasOneRendering};
 
-/// The bytes of a connection are read as one thing: nothing, one refusal, or one request.
+/// The bytes of a connection are read as one thing at most: nothing, one refusal, or one request.
 pub fn one_reading()
     ensures { HasOneReading }
 {}
 
-/// An answer is rendered as one text, byte for byte.
+/// An answer is rendered as one text at most, byte for byte.
 pub fn one_rendering()
     ensures { HasOneRendering }
 {}

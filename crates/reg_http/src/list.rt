@@ -34,8 +34,7 @@ fn serve_pair<K: Keep, R: Read, W: Write>(
     )
 }
 
-/// Serves each connection in turn, all of them fresh. Room for the results is taken first: where it is refused, no connection
-/// was read and the desk was not asked.
+/// Serves each connection in turn, all of them fresh. At `Err` the desk and each connection are as they were.
 pub fn serve_list<K: Keep, R: Read, W: Write>(
     alloc: Global,
     desk: &mut Desk<K>,

@@ -40,9 +40,9 @@ pub struct Served {
 /// Which side of a connection failed.
 #[derive(Clone, Copy, Debug, PartialEq, Eq)]
 pub enum IoFault {
-    /// A read failed. Nothing was written, and the desk was not asked.
+    /// A read failed. Writer and desk are as they were.
     Read,
-    /// A write failed. The first bytes of the reply were written, and the desk's answer holds.
+    /// A write failed. A first part of the reply was written, and the desk is as if all were.
     Write,
 }
 
@@ -201,8 +201,9 @@ fn serve_head<K: Keep, R: Read, W: Write>(
     }
 }
 
-/// Serves one connection: reads a request, asks the desk, and writes the reply. Reader and writer are fresh. No body is
-/// waited for where the head is refused, and a reply is one write where the writer takes it.
+/// Serves one connection: reads a request, asks the desk, and writes the reply. Reader and writer are fresh. Over a
+/// reader that tells its bytes, at most 8,192 reads are made where the head is refused: no more than a head may have bytes.
+/// A reply is one write where the writer takes it: `connections_in_turn` tests it, and no clause says so.
 pub fn serve_one<K: Keep, R: Read, W: Write>(
     alloc: Global,
     desk: &mut Desk<K>,

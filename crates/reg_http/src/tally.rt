@@ -7,7 +7,7 @@ ghost use Rattle.reg_http.specs.Tallies.{inner_of, calls_of, has_failed, IsFresh
 use std::io;
 use std::io::{Read, Write};
 
-/// A reader or a writer, the number of calls made of it, and whether one of them failed.
+/// A reader or a writer, the number of reads or writes asked of it, and whether one of them failed.
 #[derive(Drop)]
 pub struct Tally<T> {
     inner: T,
@@ -16,7 +16,7 @@ pub struct Tally<T> {
 }
 
 impl<T> Tally<T> {
-    /// Nothing has been asked of `inner` yet.
+    /// Over `inner`. No read or write is counted yet, and none is noted as failed.
     pub fn new(inner: T) -> Tally<T>
         ensures inner { inner_of result ≡ inner }
         ensures fresh { IsFresh result }
@@ -28,14 +28,14 @@ impl<T> Tally<T> {
         }
     }
 
-    /// How many calls were made. It stays at its greatest value.
+    /// How many reads or writes were asked of it; a flush is not counted. It stays at its greatest value.
     pub fn calls(&self) -> u64
         ensures { result ≡ calls_of self.now }
     {
         self.calls
     }
 
-    /// Whether a call failed.
+    /// Whether a read or a write failed, or a write took no byte of some. A flush is not noted.
     pub fn failed(&self) -> bool
         ensures { result ≡ has_failed self.now }
     {

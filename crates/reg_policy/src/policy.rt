@@ -87,7 +87,7 @@ impl Policy {
     }
 
     /// What is decided of every row of a deposit, or of a group of it, whatever stands in the row, where a caller wants to see it.
-    /// None where a rule that is come to tells such rows apart: then the row has to be read, and `decide` asked.
+    /// None only where some rule of the policy tells such rows apart: then the row has to be read, and `decide` asked.
     ///
     /// `own` says whether the deposit's firm is the caller's, `past` whether the embargo is over.
     pub fn decide_unread(

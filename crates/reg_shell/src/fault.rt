@@ -104,7 +104,7 @@ impl Fault {
     }
 }
 
-/// Writes a text: the status, or that of a stream that failed.
+/// Writes a text and gives the status. Where the writer fails it gives 6, and a first part of the text is written.
 pub fn tell<W: Write>(out: &mut Watched<W>, text: &[u8], status: u8) -> u8
     ensures { Tells (W.contents (inner_of out.old)) (W.contents (inner_of out.new)) text.now
         (has_failed out.old) (has_failed out.new) status result }
@@ -112,7 +112,7 @@ pub fn tell<W: Write>(out: &mut Watched<W>, text: &[u8], status: u8) -> u8
     ended(out.write_text(text), status)
 }
 
-/// Writes a line of two parts: the status, or that of a stream that failed.
+/// Writes a line of two parts and gives the status, or 6 where the writer fails.
 pub(crate) fn tell_line<W: Write>(
     out: &mut Watched<W>,
     first: &[u8],

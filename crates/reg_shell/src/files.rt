@@ -23,7 +23,7 @@ fn unread<'w>(path: &'w str, error: io::Error) -> Refusal<'w> {
     }
 }
 
-/// The bytes of the file at a path, of which at most LIMIT and one are read.
+/// The bytes of the file at a path, of which at most LIMIT and one are read. No clause says so.
 pub fn read_path<'w>(
     rt: &HostRuntime,
     alloc: Global,
@@ -108,7 +108,7 @@ fn read_callers<'w>(
     Ok(callers_in(alloc, &bytes)?)
 }
 
-/// The policy and the callers in the files at two paths.
+/// The policy and the callers in the files at two paths. No clause says so.
 pub fn read_rights<'w>(
     rt: &HostRuntime,
     alloc: Global,

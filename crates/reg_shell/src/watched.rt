@@ -21,7 +21,7 @@ pub struct Watched<T> {
 }
 
 impl<T> Watched<T> {
-    /// Nothing has been asked of `inner` yet.
+    /// Watches `inner`. No call of it is noted as failed.
     pub fn new(inner: T) -> Self
         ensures inner { inner_of result ≡ inner }
         ensures fresh { has_failed result ≡ false }
@@ -79,7 +79,8 @@ impl<W: Write> Watched<W> {
         result
     }
 
-    /// Writes all of a text, and has the writer pass it on. An empty text calls nothing.
+    /// Writes all of a text, or a first part of it where it refuses. An empty text is not refused.
+    /// No clause says that the writer is then flushed, or that an empty text calls nothing.
     pub fn write_text(&mut self, text: &[u8]) -> Result<(), StreamFailed>
         ensures bytes { WritesText (W.contents (inner_of self.old)) (W.contents (inner_of self.new)) result text.now }
         ensures noted { has_failed self.new ≡ (has_failed self.old || is_err result) }

@@ -294,7 +294,7 @@ fn given_by<'w, S: AsStr>(
     command.try_get_matches_from(words).map_err(fault_of)
 }
 
-/// What the words ask, of which the first is the program's name.
+/// What the words ask, of which the first is the program's name. No clause says so.
 pub fn read_words<'w, S: AsStr>(alloc: Global, words: &'w [S]) -> Result<Words<'w>, Fault> {
     let [_program, words @ ..] = words else {
         return Err(Fault::WordsRefused);

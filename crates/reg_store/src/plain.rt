@@ -18,7 +18,7 @@ use ags_rows::copy;
 use reg_policy::{Day, Name};
 use std::alloc::{AllocError, Global};
 
-/// A register in memory. It answers what its database twin does, and never `Store`.
+/// A keep in memory. It never answers `Store`.
 pub struct PlainKeep {
     kept: Vec<Kept>,
     dictionary: Dictionary,
@@ -100,7 +100,7 @@ fn copied_head(kept: &Kept) -> Result<KeptHead, AllocError>
     })
 }
 
-/// A copy of the graph. Refused only where memory for its steps is wanting.
+/// A copy of the graph. Its one refusal is want of memory.
 pub fn copy_graph(alloc: Global, graph: &Graph) -> Result<Graph, AllocError>
     ensures { IfOk result (λ copied. copied ≡ graph.now) }
 {

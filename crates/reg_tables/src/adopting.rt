@@ -50,9 +50,6 @@ impl From<KeepError> for AdoptError {
     }
 }
 
-/// Lets go of a dictionary. Its parts are dropped here, and not at each place that has no use for it.
-pub(crate) fn discard(_dictionary: Dictionary) {}
-
 /// The number in a row of meta that is named `format`.
 fn format_in(row: &Row) -> Option<i64>
     ensures found { IfSome result (λ n. IsFormatRow n row.now) }

@@ -20,7 +20,7 @@ ghost use Rattle.reg_tables.specs.Adoption.{Adopts, CountsDeposits, MetaOf, give
 ghost use Rattle.reg_tables.specs.Methods.{HoldsLines, HoldsSteps};
 ghost use Rattle.sqlite.specs.Effect.{IsDatabase};
 
-use crate::adopting::{AdoptError, are_lines, are_steps, count_numbers, discard, read_meta};
+use crate::adopting::{AdoptError, are_lines, are_steps, count_numbers, read_meta};
 use crate::heads::{DigestedHead, into_head};
 use crate::lines::few_rows;
 use crate::queries::query;
@@ -426,9 +426,6 @@ pub(crate) fn examine<S: Alter>(
     let _schema = conn.schema();
     match find_register(conn, alloc, &dictionary, heads, digests) {
         Ok(count) => Ok((dictionary, count)),
-        Err(error) => {
-            discard(dictionary);
-            Err(error)
-        }
+        Err(error) => Err(error),
     }
 }

@@ -18,7 +18,7 @@ ghost use Rattle.reg_tables.specs.Register.{IsRegister, deposits_in};
 ghost use Rattle.reg_tables.specs.Adoption.{Adopts, is_store_failure};
 ghost use Rattle.reg_tables.specs.Opened.{FindsSchema, HoldsRegister, RefusesFiles};
 
-use crate::adopting::{AdoptError, discard};
+use crate::adopting::AdoptError;
 use crate::creating::make_register;
 use crate::examining::examine;
 use crate::fronts::Fronts;
@@ -142,17 +142,16 @@ impl<S: Alter> SqlKeep<S> {
                 has_failed: false,
                 alloc,
             }),
-            Err(error) => {
-                discard(dictionary);
-                Err((error, connection))
-            }
+            Err(error) => Err((error, connection)),
         }
     }
 
-    /// An empty register in a database that had no table, under the dictionary that the bytes are.
+    /// An empty register in a database that had no table, index or view, under the dictionary that the bytes are.
     ///
-    /// The bytes are looked at first, then whether there is a table. A connection in a transaction is answered `Store`. One that comes back open shows
-    /// the tables from before. A crash within the call leaves what it left before, or an empty register where there was no table.
+    /// `NotEmpty` and `Store` come only where the bytes are a dictionary, and `Store` only where there was no table, index or view. A connection in a
+    /// transaction is answered `Store`, where nothing else is refused first; no clause says so. The rest holds where the disk is clean at the end.
+    /// The register has no deposit. A connection that comes back open shows the tables from before. A crash leaves what it could leave before, or an
+    /// empty register where there was no table.
     pub fn create_in(
         alloc: Global,
         connection: Connection<S>,
@@ -186,9 +185,11 @@ impl<S: Alter> SqlKeep<S> {
         }
     }
 
-    /// The register that a database holds: each kept body is checked anew, and its lines and steps are compared.
+    /// The register that a database holds.
     ///
-    /// A connection in a transaction is answered `Store`, where its tables are not refused first. One that comes back open shows the tables from before.
+    /// A connection in a transaction is answered `Store`, where its tables are not refused first; no clause says so. The rest holds where the disk is
+    /// clean at the end. No kept body has a finding, and lines and steps are those of the bodies. A connection that comes back open shows the tables
+    /// from before. A crash leaves nothing that it could not leave before.
     pub fn adopt(
         alloc: Global,
         mut connection: Connection<S>,
@@ -251,7 +252,6 @@ impl SqlKeep<MemStore> {
             Err(error) => return Err(error),
         };
         let Ok(connection) = Connection::open_in_memory(alloc) else {
-            discard(dictionary);
             return Err(CreateError::NoMemory);
         };
         match SqlKeep::make(alloc, connection, dictionary, bytes) {
@@ -261,11 +261,16 @@ impl SqlKeep<MemStore> {
     }
 }
 
-/// Lets go of a register, or of the connection that comes with a refusal. That a file is a store is shown here for both, since that is long.
+/// Lets go of a register, or of the connection that comes with a refusal.
+fn release<S: Alter + Drop>(_keep: Option<SqlKeep<S>>, _connection: Option<Connection<S>>) {}
+
+/// Lets go of a register in a file, or of its connection. That a file is a store is shown here once for both, since that is long.
 fn close_file<F: Start>(
-    _keep: Option<SqlKeep<FileStore<FileFrom<F>>>>,
-    _connection: Option<Connection<FileStore<FileFrom<F>>>>,
-) {}
+    keep: Option<SqlKeep<FileStore<FileFrom<F>>>>,
+    connection: Option<Connection<FileStore<FileFrom<F>>>>,
+) {
+    release(keep, connection);
+}
 
 impl SqlKeep<FileStore<File>> {
     /// An empty register in the database at a path.
@@ -297,7 +302,7 @@ impl SqlKeep<FileStore<File>> {
 
     /// The register that the database at a path holds.
     ///
-    /// It is `open_from` with `Unknown`, of which no clause says anything where the file is not empty.
+    /// It is `open_from` with `Unknown`. Its one clause says that the keep has not failed. No clause says what it holds, or when it is refused.
     pub fn open(
         rt: &HostRuntime,
         alloc: Global,
@@ -331,7 +336,7 @@ fn connect<F: Start>(
 }
 
 impl<F: Start> SqlKeep<FileStore<FileFrom<F>>> {
-    /// Closes the file of the register. Nothing is written to it.
+    /// Lets go of the register and of its file. No clause says what that does to the file.
     pub fn close(self) {
         close_file(Some(self), None);
     }
@@ -374,13 +379,8 @@ impl<F: Start> SqlKeep<FileStore<FileFrom<F>>> {
                 Ok(keep) => Ok(keep),
                 Err((error, connection)) => Err((error, Some(connection))),
             },
-            Err(error) => {
-                discard(dictionary);
-                match error {
-                    KeepError::NoMemory => Err((CreateError::NoMemory, None)),
-                    _ => Err((CreateError::Store, None)),
-                }
-            }
+            Err(KeepError::NoMemory) => Err((CreateError::NoMemory, None)),
+            Err(_) => Err((CreateError::Store, None)),
         }
     }
 

@@ -72,7 +72,7 @@ impl<S: Alter + Drop> Drop for SqlKeep<S> {
 }
 
 impl<S: Alter> SqlKeep<S> {
-    /// The connection, whose tables are the register of this list where the keep has not failed.
+    /// The connection, whose tables are the register of this list where the keep has not failed and the disk is clean.
     pub fn into_connection(self) -> Connection<S>
         ensures connection { result ≡ self.connection }
         ensures kept { self.has_failed ≡ false → HasCleanDisk (state S.Store result)

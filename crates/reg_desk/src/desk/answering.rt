@@ -17,7 +17,7 @@ use reg_store::Keep;
 use std::alloc::{AllocError, Global};
 
 impl<K: Keep> Desk<K> {
-    /// Answers one request. Once the store has failed the answer is StoreFailed, without memory.
+    /// Answers one request. Once the desk has answered StoreFailed it answers nothing else, also where memory is wanting.
     pub fn answer(&mut self, alloc: Global, request: &Request<'_>) -> Answer
         ensures answered { AnsweredBy K.Keep self.old (asked request.entry.now) result self.new }
         ensures clean { K.is_sound self.new.keep → IsCleanText K.Keep self.old.keep result }
@@ -32,7 +32,7 @@ impl<K: Keep> Desk<K> {
         answer
     }
 
-    /// Answers requests in order. Room for all answers is taken first: at `Err` none was asked.
+    /// Answers requests in order. At `Err` the desk is as it was.
     pub fn run(
         &mut self,
         alloc: Global,

@@ -10,14 +10,14 @@ returns-in-Ok-make-clause-blank g c clean =
     let early : HasCleanDisk (file_state was) = omega (arith, c.in-Ok-make.ensures.made.clean) in
     found_schema (file_state was) (c.in-Ok-connect.ensures.opened early) (c.in-Ok-connect.ensures.found early) c.in-Ok-make.ensures.blank
 
-pub returns-in-Err-make-clause-not_empty : goal.returns-in-Err-make-clause-not_empty
-returns-in-Err-make-clause-not_empty g c named clean =
+pub returns-in-Ok-connect-clause-not_empty : goal.returns-in-Ok-connect-clause-not_empty
+returns-in-Ok-connect-clause-not_empty g c named clean =
     let was = c.in-Ok-connect.connection in
     let early : HasCleanDisk (file_state was) = omega (arith, c.in-Err-make.ensures.left.clean) in
     found_schema (file_state was) (c.in-Ok-connect.ensures.opened early) (c.in-Ok-connect.ensures.found early) (c.in-Err-make.ensures.not_empty named)
 
-pub returns-in-Err-make-clause-vacant : goal.returns-in-Err-make-clause-vacant
-returns-in-Err-make-clause-vacant g c named clean =
+pub returns-in-Ok-connect-clause-vacant : goal.returns-in-Ok-connect-clause-vacant
+returns-in-Ok-connect-clause-vacant g c named clean =
     let was = c.in-Ok-connect.connection in
     let early : HasCleanDisk (file_state was) = omega (arith, c.in-Err-make.ensures.left.clean) in
     found_schema (file_state was) (c.in-Ok-connect.ensures.opened early) (c.in-Ok-connect.ensures.found early) (c.in-Err-make.ensures.vacant named)
