@@ -57,7 +57,7 @@ pub(crate) fn negated(alloc: Global, marks: &[bool]) -> Result<Vec<bool>, AllocE
     marks.iter().map(|mark| !*mark).collect(alloc)
 }
 
-/// The rows reached from a marked row, and the turns of the work list.
+/// The rows reached from a marked row, and the turns: one for each of these rows, and one for each step that starts at one.
 fn spread(
     alloc: Global,
     steps: &[(u32, u32)],

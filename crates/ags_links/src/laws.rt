@@ -22,7 +22,7 @@ pub fn definitions_have_no_step()
     ensures { DefinitionsHaveNoStep }
 {}
 
-/// A file has one graph.
+/// A file has one graph at most.
 pub fn one_graph()
     ensures { OneGraph }
 {}

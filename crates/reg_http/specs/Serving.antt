@@ -77,8 +77,8 @@ abbrev pub body_reads : Result Asking Refusal → ℕ
 body_reads (Ok a) = a.length + 1
 body_reads (Err r) = 0
 
--- No body is waited for behind bytes that are no head, or behind a head that is refused; and a request's body takes at most a read for each of
--- its bytes, and one for the end.
+-- How many reads are made: behind bytes that are no head, or behind a head that is refused, no more than a head may have bytes; of a request as
+-- many more as its body has bytes, and one for the end.
 pub record WaitsFor (callers : List Credential) (day : ℤ) (bytes : List ℕ) (reads : ℕ) : Type 0 where
   pub headless : HasNoHead bytes → reads ≤ longest_head
   pub headed : (h : RequestHead) (rest : List ℕ) → IsHead bytes h rest → reads ≤ longest_head + body_reads (ask_of callers day (head_parts h))

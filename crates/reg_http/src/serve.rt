@@ -143,14 +143,22 @@ fn serve_asked<K: Keep, R: Read, W: Write>(
 ) -> Result<Served, IoFault>
     requires reader_sound { has_failed reader.old ≡ false }
     requires writer_sound { has_failed writer.old ≡ false }
+
+    // What is written and what the desk is then, by the bytes that came early and those that the reader still had.
     ensures served { IfSome (R.remaining (inner_of reader.old)) (λ left.
         ServesAsked (AnsweredBy K.Keep) (asking_at ask.now) day (early.now ++ left) desk.old desk.new
         (W.contents (inner_of writer.old)) (W.contents (inner_of writer.new)) result) }
+
+    // The same of some bytes, where the reader does not tell its own.
     ensures untold { (all : List ℕ) × ServesAsked (AnsweredBy K.Keep) (asking_at ask.now) day all desk.old desk.new
         (W.contents (inner_of writer.old)) (W.contents (inner_of writer.new)) result }
+
+    // Faults are those of the two sides, each exactly, and a failed read changes neither desk nor writer.
     ensures read_fault { has_failed reader.new ≡ is_read result }
     ensures write_fault { has_failed writer.new ≡ is_write result }
     ensures unread { IsTrue (is_read result) → (desk.new ≡ desk.old) × (writer.new ≡ writer.old) }
+
+    // How many reads are made at most.
     ensures calls { calls_of reader.new ≤ calls_of reader.old + ask.now.length + 1 }
 {
     let body = match receive_body(alloc, reader, early, ask.length) {
@@ -188,9 +196,13 @@ fn serve_head<K: Keep, R: Read, W: Write>(
     ensures untold { (bytes rest : List ℕ) (h : RequestHead) → IsHead bytes h rest → parts_seen parts.now ≡ head_parts h
         → (all : List ℕ) × ServesOne (AnsweredBy K.Keep) callers.now day all desk.old desk.new
         (W.contents (inner_of writer.old)) (W.contents (inner_of writer.new)) result }
+
+    // Faults are those of the two sides, each exactly, and a failed read changes neither desk nor writer.
     ensures read_fault { has_failed reader.new ≡ is_read result }
     ensures write_fault { has_failed writer.new ≡ is_write result }
     ensures unread { IsTrue (is_read result) → (desk.new ≡ desk.old) × (writer.new ≡ writer.old) }
+
+    // How many reads are made at most.
     ensures calls { calls_of reader.new ≤ calls_of reader.old + LIMIT + 1 }
     ensures waits { calls_of reader.new
         ≤ calls_of reader.old + body_reads (ask_of callers.now day (parts_seen parts.now)) }

@@ -6,7 +6,7 @@ ghost use Rattle.reg_http.specs.Writes.{WritesFront};
 use crate::tally::Tally;
 use std::io::Write;
 
-/// Writes the text, in one write where the writer takes it, and answers whether all of it was taken.
+/// Writes the text, and answers whether all of it was taken. It is one write where the writer takes it; no clause says so.
 pub(crate) fn write_text<W: Write>(writer: &mut Tally<W>, text: &[u8]) -> bool
     requires { has_failed writer.old ≡ false }
     ensures written { WritesFront (W.contents (inner_of writer.old)) (W.contents (inner_of writer.new))

@@ -60,6 +60,6 @@ day_of text =
     let day = number_in (take 2 (drop 8 text)) in
     if bytes_eq text (day_text year month day) then day_number_of year month day else None
 
--- A day has one text.
+-- A day has one text at most.
 abbrev pub OneTextOfDay : Type 0
 OneTextOfDay = (text other : List ℕ) (n : ℤ) → Writes text n → Writes other n → text ≡ other

@@ -26,7 +26,7 @@ pub fn one_list_of_callers(text: &str)
         → HasCallers text.now others → callers ≡ others }
 {}
 
-/// A day has one text.
+/// A day has one text at most.
 pub fn one_text_of_day()
     ensures { OneTextOfDay }
 {}

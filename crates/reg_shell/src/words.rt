@@ -26,9 +26,9 @@ pub struct Service<'w> {
     pub policy: &'w str,
     pub callers: &'w str,
     pub day: Option<&'w str>,
-    /// 1 to 65,535.
+    /// 1 to 65,535, as `read_words` reads it. No clause says so.
     pub port: u16,
-    /// 1 to 1,000,000.
+    /// 1 to 1,000,000, as `read_words` reads it. No clause says so.
     pub connections: u32,
 }
 

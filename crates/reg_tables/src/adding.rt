@@ -40,19 +40,25 @@ pub(crate) fn add_checked<S: Alter>(
 ) -> Result<(), KeepError>
     requires idle { IsIdle (state S.Store conn.old) }
     requires is_open { HasCleanDisk (state S.Store conn.old) → IsTrue (state S.Store conn.old).is_open }
-    ensures mode { conn.new.in_transaction ≡ false }
-    ensures named { IfErr result (λ e. e ≢ KeepError.Full) }
-    ensures fit { IsNamed (deposit_from firm.now project.now embargo checked.now.bytes) }
-    ensures open { HasCleanDisk (state S.Store conn.new) → fails result ≡ false
-        → IsTrue (state S.Store conn.new).is_open }
+
+    // The deposit at success, as it is added and committed.
     ensures put { HasCleanDisk (state S.Store conn.new) → OnOk result (AddsFile number
         (deposit_from firm.now project.now embargo checked.now.bytes) (kept_rows checked.now.groups) checked.now.graph.steps
         (state S.Store conn.old).now (state S.Store conn.new).now) }
     ensures settled { HasCleanDisk (state S.Store conn.new)
         → OnOk result ((state S.Store conn.new).committed ≡ (state S.Store conn.new).now) }
     ensures sound { HasCleanDisk (state S.Store conn.new) → OnOk result (IsDatabase (state S.Store conn.new).now) }
+
+    // Which refusal never comes, and what is undone at one that is not `Store`.
+    ensures named { IfErr result (λ e. e ≢ KeepError.Full) }
     ensures undone { HasCleanDisk (state S.Store conn.new) → fails result ≡ false
         → OnErr result (IsUndone (state S.Store conn.old) (state S.Store conn.new)) }
+
+    // Deposit, transaction and connection in either case, and what a crash may leave.
+    ensures mode { conn.new.in_transaction ≡ false }
+    ensures fit { IsNamed (deposit_from firm.now project.now embargo checked.now.bytes) }
+    ensures open { HasCleanDisk (state S.Store conn.new) → fails result ≡ false
+        → IsTrue (state S.Store conn.new).is_open }
     ensures crash { Survives (state S.Store conn.old) (state S.Store conn.new) (PutsOf (state S.Store conn.old) number
         (deposit_from firm.now project.now embargo checked.now.bytes) (kept_rows checked.now.groups) checked.now.graph.steps) }
 {

@@ -82,16 +82,22 @@ fn make_tables<S: Alter>(tx: &mut Transaction<'_, S>, dictionary: &[u8]) -> Resu
 fn make_all<S: Alter>(conn: &mut Connection<S>, dictionary: &[u8]) -> Result<(), Error>
     requires mode { conn.old.in_transaction ≡ false }
     requires schema { HasCleanDisk (state S.Store conn.old) → (state S.Store conn.old).now.schema ≡ no_schema }
-    ensures mode { conn.new.in_transaction ≡ false }
+
+    // The connection and the new register at success.
     ensures open { HasCleanDisk (state S.Store conn.new) → OnOk result (IsTrue (state S.Store conn.new).is_open) }
     ensures put { HasCleanDisk (state S.Store conn.new)
         → OnOk result (IsNewRegister dictionary.now (state S.Store conn.new).now) }
     ensures settled { HasCleanDisk (state S.Store conn.new)
         → OnOk result ((state S.Store conn.new).committed ≡ (state S.Store conn.new).now) }
+
+    // After an error that leaves the connection open: it was open before, and all is undone.
     ensures was_open { HasCleanDisk (state S.Store conn.new) → IsTrue (state S.Store conn.new).is_open
         → OnErr result (IsTrue (state S.Store conn.old).is_open) }
     ensures undone { HasCleanDisk (state S.Store conn.new) → IsTrue (state S.Store conn.new).is_open
         → OnErr result (IsUndone (state S.Store conn.old) (state S.Store conn.new)) }
+
+    // The transaction in either case, and what a crash may leave.
+    ensures mode { conn.new.in_transaction ≡ false }
     ensures crash { Survives (state S.Store conn.old) (state S.Store conn.new)
         (LeavesNew (state S.Store conn.old) dictionary.now) }
 {
@@ -109,15 +115,16 @@ pub(crate) fn make_register<S: Alter>(
 ) -> Result<(), KeepError>
     requires mode { conn.old.in_transaction ≡ false }
     requires schema { HasCleanDisk (state S.Store conn.old) → (state S.Store conn.old).now.schema ≡ no_schema }
-    ensures mode { conn.new.in_transaction ≡ false }
-    ensures named { IfErr result (λ e. e ≢ KeepError.Full) }
-    ensures open { HasCleanDisk (state S.Store conn.new) → fails result ≡ false
-        → IsTrue (state S.Store conn.new).is_open }
+
+    // The new register at success, as it is committed.
     ensures put { HasCleanDisk (state S.Store conn.new)
         → OnOk result (IsNewRegister dictionary.now (state S.Store conn.new).now) }
     ensures settled { HasCleanDisk (state S.Store conn.new)
         → OnOk result ((state S.Store conn.new).committed ≡ (state S.Store conn.new).now) }
     ensures sound { HasCleanDisk (state S.Store conn.new) → OnOk result (IsDatabase (state S.Store conn.new).now) }
+
+    // Which refusal never comes, and what the others say of the connection.
+    ensures named { IfErr result (λ e. e ≢ KeepError.Full) }
     ensures was_open { HasCleanDisk (state S.Store conn.new) → fails result ≡ false
         → OnErr result (IsTrue (state S.Store conn.old).is_open) }
     ensures undone { HasCleanDisk (state S.Store conn.new) → fails result ≡ false
@@ -125,6 +132,11 @@ pub(crate) fn make_register<S: Alter>(
     ensures still { HasCleanDisk (state S.Store conn.new) → IsTrue (state S.Store conn.new).is_open
         → IsSettled (state S.Store conn.old)
         → OnErr result (IsAsBefore (state S.Store conn.old) (state S.Store conn.new)) }
+
+    // Transaction and connection in either case, and what a crash may leave.
+    ensures mode { conn.new.in_transaction ≡ false }
+    ensures open { HasCleanDisk (state S.Store conn.new) → fails result ≡ false
+        → IsTrue (state S.Store conn.new).is_open }
     ensures crash { Survives (state S.Store conn.old) (state S.Store conn.new)
         (LeavesNew (state S.Store conn.old) dictionary.now) }
 {

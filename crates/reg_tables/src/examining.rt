@@ -321,15 +321,23 @@ pub(crate) fn holds_deposits<S: Alter>(
     requires idle { IsIdle (state S.Store conn.old) }
     requires none { heads.old.items ≡ [] }
     requires no_digests { (digest : List ℕ) → numbers_under digests.old digest ≡ [] }
+
+    // Whether the deposits are whole.
     ensures tested { HasCleanDisk (state S.Store conn.new)
         → IfOk result (λ is. Tests is (AreWhole (state S.Store conn.old).now dictionary.now count)) }
+
+    // The heads and digests in the lists, where the deposits are whole.
     ensures long { result ≡ Ok true → length heads.new.items ≡ count }
     ensures heads { HasCleanDisk (state S.Store conn.new) → result ≡ Ok true
         → HoldsHeads (state S.Store conn.old).now count heads.new.items }
     ensures below { result ≡ Ok true → AreBelow digests.new (count + 1) }
     ensures digests { HasCleanDisk (state S.Store conn.new) → result ≡ Ok true
         → HoldsDigests (state S.Store conn.old).now (count + 1) digests.new }
+
+    // Which refusal never comes.
     ensures named { IfErr result (λ e. e ≢ KeepError.Full) }
+
+    // What is left in either case.
     ensures quiet { IsStill (state S.Store conn.old) (state S.Store conn.new) (fails result) }
 {
     for at in 0..count {
@@ -355,17 +363,25 @@ fn find_register<S: Alter>(
     requires sound { HasCleanDisk (state S.Store conn.old) → IsDatabase (state S.Store conn.old).now }
     requires none { heads.old.items ≡ [] }
     requires no_digests { (digest : List ℕ) → numbers_under digests.old digest ≡ [] }
+
+    // The count at success.
     ensures found { HasCleanDisk (state S.Store conn.new)
         → IfOk result (λ count. CountsDeposits (state S.Store conn.old).now dictionary.now (Some count)) }
-    ensures refused { HasCleanDisk (state S.Store conn.new)
-        → IfErr result (λ e. Adopts (state S.Store conn.old).now (Err e)) }
     ensures few { IfOk result (λ count. count ≤ 999999) }
+
+    // The heads and digests in the lists at success.
     ensures long { IfOk result (λ count. length heads.new.items ≡ count) }
     ensures heads { HasCleanDisk (state S.Store conn.new)
         → IfOk result (λ count. HoldsHeads (state S.Store conn.old).now count heads.new.items) }
     ensures below { IfOk result (λ count. AreBelow digests.new (count + 1)) }
     ensures digests { HasCleanDisk (state S.Store conn.new)
         → IfOk result (λ count. HoldsDigests (state S.Store conn.old).now (count + 1) digests.new) }
+
+    // Each refusal, by what the tables are.
+    ensures refused { HasCleanDisk (state S.Store conn.new)
+        → IfErr result (λ e. Adopts (state S.Store conn.old).now (Err e)) }
+
+    // What is left in either case.
     ensures quiet { IsStill (state S.Store conn.old) (state S.Store conn.new) (gives_up result) }
 {
     let count = match find_count(conn) {
@@ -407,7 +423,11 @@ pub(crate) fn examine<S: Alter>(
     requires idle { IsIdle (state S.Store conn.old) }
     requires none { heads.old.items ≡ [] }
     requires no_digests { (digest : List ℕ) → numbers_under digests.old digest ≡ [] }
+
+    // What is answered, by what the tables are.
     ensures adopts { HasCleanDisk (state S.Store conn.new) → Adopts (state S.Store conn.old).now result }
+
+    // The count at success, and the heads and digests in the lists.
     ensures few { IfOk result (λ found. found.1 ≤ 999999) }
     ensures long { IfOk result (λ found. length heads.new.items ≡ found.1) }
     ensures heads { HasCleanDisk (state S.Store conn.new)
@@ -415,6 +435,8 @@ pub(crate) fn examine<S: Alter>(
     ensures below { IfOk result (λ found. AreBelow digests.new (found.1 + 1)) }
     ensures digests { HasCleanDisk (state S.Store conn.new)
         → IfOk result (λ found. HoldsDigests (state S.Store conn.old).now (found.1 + 1) digests.new) }
+
+    // What is left in either case.
     ensures open { HasCleanDisk (state S.Store conn.new) → gives_up result ≡ false
         → IsTrue (state S.Store conn.new).is_open }
     ensures quiet { IsStill (state S.Store conn.old) (state S.Store conn.new) (gives_up result) }

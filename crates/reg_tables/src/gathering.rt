@@ -38,14 +38,20 @@ fn take_each<S: Alter, G: Gather>(
     requires plain { IsPlain (understood register_schema sql.now) }
     requires idle { IsIdle (state S.Store conn.old) }
     requires empty { G.holds into.old [] }
+
+    // Transaction and connection after the call.
     ensures mode { conn.new.in_transaction ≡ false }
     ensures open { HasCleanDisk (state S.Store conn.new) → OnOk result (IsTrue (state S.Store conn.new).is_open) }
     ensures same { HasCleanDisk (state S.Store conn.new) → IsTrue (state S.Store conn.new).is_open
         → IsAsBefore (state S.Store conn.old) (state S.Store conn.new) }
+
+    // What was taken of the answer, and which refusal of a row never comes.
     ensures shown { HasCleanDisk (state S.Store conn.new) → IfOk result (λ taken. OnOk taken ((rows : List Values)
         × Shown sql.now (bound params.now) (state S.Store conn.old) (state S.Store conn.new) rows
         × G.holds into.new rows)) }
     ensures named { IfOk result (λ taken. IfErr taken (λ e. e ≢ KeepError.Full)) }
+
+    // What a crash may leave.
     ensures crash { Survives (state S.Store conn.old) (state S.Store conn.new) (λ _. ⊥) }
 {
     let mut rows = conn.query(sql, params)?;

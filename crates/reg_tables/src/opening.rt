@@ -68,6 +68,8 @@ fn read_dictionary(alloc: Global, bytes: &[u8]) -> Result<Dictionary, CreateErro
 /// Makes the tables of a register in a database without a table, an index and a view.
 fn fill<S: Alter>(conn: &mut Connection<S>, bytes: &[u8]) -> Result<(), CreateError>
     requires { AreDictionary bytes.now }
+
+    // The connection and the new register at success, and that there was no table, index or view.
     ensures mode { OnOk result (conn.new.in_transaction ≡ false) }
     ensures open { HasCleanDisk (state S.Store conn.new) → OnOk result (IsTrue (state S.Store conn.new).is_open) }
     ensures put { HasCleanDisk (state S.Store conn.new)
@@ -76,9 +78,13 @@ fn fill<S: Alter>(conn: &mut Connection<S>, bytes: &[u8]) -> Result<(), CreateEr
         → OnOk result ((state S.Store conn.new).committed ≡ (state S.Store conn.new).now) }
     ensures sound { HasCleanDisk (state S.Store conn.new) → OnOk result (IsDatabase (state S.Store conn.new).now) }
     ensures blank { OnOk result ((state S.Store conn.old).now.schema ≡ no_schema) }
+
+    // Each refusal, by what the bytes and the database were.
     ensures refused { IfErr result (RefusesBytes bytes.now) }
     ensures not_empty { IfErr result (λ e. e ≡ CreateError.NotEmpty → (state S.Store conn.old).now.schema ≢ no_schema) }
     ensures vacant { IfErr result (λ e. e ≡ CreateError.Store → (state S.Store conn.old).now.schema ≡ no_schema) }
+
+    // What a refusal leaves, and what a crash may leave in either case.
     ensures same { IfErr result (λ e. e ≢ CreateError.Store → HasCleanDisk (state S.Store conn.new)
         → ShowsTheSame (state S.Store conn.old) (state S.Store conn.new)) }
     ensures still { OnErr result (HasCleanDisk (state S.Store conn.new) → IsTrue (state S.Store conn.new).is_open
@@ -109,26 +115,32 @@ impl<S: Alter> SqlKeep<S> {
     ) -> Result<SqlKeep<S>, (CreateError, Connection<S>)>
         requires short { length bytes.now ≤ READABLE }
         requires read { IsDictionary bytes.now dictionary }
+
+        // The new register at success, that there was no table, index or view, and what a crash may leave.
         ensures empty { IfOk result (λ k. HasCleanDisk (state S.Store k.connection)
             → deposits_in (state S.Store k.connection).committed.trees ≡ []) }
         ensures dictionary { IfOk result (λ k. k.dictionary ≡ dictionary) }
         ensures register { IfOk result (λ k. HasCleanDisk (state S.Store k.connection)
             → IsNewRegister bytes.entry.now (state S.Store k.connection).now) }
         ensures blank { IfOk result (λ _. (state S.Store connection).now.schema ≡ no_schema) }
-        ensures refused { IfErr result (λ e. RefusesBytes bytes.entry.now e.0) }
         ensures working { IfOk result (λ k. k.has_failed ≡ false) }
+        ensures made { IfOk result (λ k. Survives (state S.Store connection) (state S.Store k.connection)
+            (LeavesNew (state S.Store connection) bytes.entry.now)) }
+
+        // Each refusal, by what the bytes and the database were.
+        ensures refused { IfErr result (λ e. RefusesBytes bytes.entry.now e.0) }
         ensures not_empty { IfErr result (λ e. e.0 ≡ CreateError.NotEmpty
             → (state S.Store connection).now.schema ≢ no_schema) }
         ensures vacant { IfErr result (λ e. e.0 ≡ CreateError.Store
             → (state S.Store connection).now.schema ≡ no_schema) }
-        ensures made { IfOk result (λ k. Survives (state S.Store connection) (state S.Store k.connection)
-            (LeavesNew (state S.Store connection) bytes.entry.now)) }
-        ensures left { IfErr result (λ e. Survives (state S.Store connection) (state S.Store e.1)
-            (LeavesNew (state S.Store connection) bytes.entry.now)) }
+
+        // The connection that comes with a refusal, and what a crash may leave.
         ensures same { IfErr result (λ e. e.0 ≢ CreateError.Store → HasCleanDisk (state S.Store e.1)
             → ShowsTheSame (state S.Store connection) (state S.Store e.1)) }
         ensures still { IfErr result (λ e. HasCleanDisk (state S.Store e.1) → IsTrue (state S.Store e.1).is_open
             → IsAsBefore (state S.Store connection) (state S.Store e.1)) }
+        ensures left { IfErr result (λ e. Survives (state S.Store connection) (state S.Store e.1)
+            (LeavesNew (state S.Store connection) bytes.entry.now)) }
     {
         match fill(&mut connection, bytes) {
             Ok(()) => Ok(SqlKeep {
@@ -158,26 +170,32 @@ impl<S: Alter> SqlKeep<S> {
         bytes: &[u8],
     ) -> Result<SqlKeep<S>, (CreateError, Connection<S>)>
         requires short { length bytes.now ≤ READABLE }
+
+        // The new register at success, that there was no table, index or view, and what a crash may leave.
         ensures empty { IfOk result (λ k. HasCleanDisk (state S.Store k.connection)
             → deposits_in (state S.Store k.connection).committed.trees ≡ []) }
         ensures dictionary { IfOk result (λ k. ReadsDictionary bytes.now (Ok k.dictionary)) }
         ensures register { IfOk result (λ k. HasCleanDisk (state S.Store k.connection)
             → IsNewRegister bytes.now (state S.Store k.connection).now) }
         ensures blank { IfOk result (λ _. (state S.Store connection).now.schema ≡ no_schema) }
-        ensures refused { IfErr result (λ e. RefusesBytes bytes.now e.0) }
         ensures working { IfOk result (λ k. k.has_failed ≡ false) }
+        ensures made { IfOk result (λ k. Survives (state S.Store connection) (state S.Store k.connection)
+            (LeavesNew (state S.Store connection) bytes.now)) }
+
+        // Each refusal, by what the bytes and the database were.
+        ensures refused { IfErr result (λ e. RefusesBytes bytes.now e.0) }
         ensures not_empty { IfErr result (λ e. e.0 ≡ CreateError.NotEmpty
             → (state S.Store connection).now.schema ≢ no_schema) }
         ensures vacant { IfErr result (λ e. e.0 ≡ CreateError.Store
             → (state S.Store connection).now.schema ≡ no_schema) }
-        ensures made { IfOk result (λ k. Survives (state S.Store connection) (state S.Store k.connection)
-            (LeavesNew (state S.Store connection) bytes.now)) }
-        ensures left { IfErr result (λ e. Survives (state S.Store connection) (state S.Store e.1)
-            (LeavesNew (state S.Store connection) bytes.now)) }
+
+        // The connection that comes with a refusal, and what a crash may leave.
         ensures same { IfErr result (λ e. e.0 ≢ CreateError.Store → HasCleanDisk (state S.Store e.1)
             → ShowsTheSame (state S.Store connection) (state S.Store e.1)) }
         ensures still { IfErr result (λ e. HasCleanDisk (state S.Store e.1) → IsTrue (state S.Store e.1).is_open
             → IsAsBefore (state S.Store connection) (state S.Store e.1)) }
+        ensures left { IfErr result (λ e. Survives (state S.Store connection) (state S.Store e.1)
+            (LeavesNew (state S.Store connection) bytes.now)) }
     {
         match read_dictionary(alloc, bytes) {
             Ok(dictionary) => SqlKeep::make(alloc, connection, dictionary, bytes),
@@ -194,13 +212,18 @@ impl<S: Alter> SqlKeep<S> {
         alloc: Global,
         mut connection: Connection<S>,
     ) -> Result<SqlKeep<S>, (AdoptError, Connection<S>)>
+        // The register at success, and what a crash may leave.
         ensures adopted { IfOk result (λ k. HasCleanDisk (state S.Store k.connection)
             → ∥ IsRegister (state S.Store connection).now k.dictionary
             (deposits_in (state S.Store k.connection).committed.trees) ∥₁) }
         ensures working { IfOk result (λ k. k.has_failed ≡ false) }
         ensures quiet { IfOk result (λ k. Survives (state S.Store connection) (state S.Store k.connection) (λ _. ⊥)) }
+
+        // Each refusal, by what the database was.
         ensures refused { IfErr result (λ e. HasCleanDisk (state S.Store e.1)
             → Adopts (state S.Store connection).now (Err e.0)) }
+
+        // The connection that comes with a refusal, and what a crash may leave.
         ensures same { IfErr result (λ e. HasCleanDisk (state S.Store e.1) → is_store_failure e.0 ≡ false
             → ShowsTheSame (state S.Store connection) (state S.Store e.1)) }
         ensures still { IfErr result (λ e. HasCleanDisk (state S.Store e.1) → IsTrue (state S.Store e.1).is_open
@@ -240,12 +263,16 @@ impl SqlKeep<MemStore> {
     /// An empty register in memory, under the dictionary that the bytes are.
     pub fn in_memory(alloc: Global, bytes: &[u8]) -> Result<SqlKeep<MemStore>, CreateError>
         requires short { length bytes.now ≤ READABLE }
+
+        // The new register at success.
         ensures empty { IfOk result (λ k. deposits_in (state over_memory k.connection).committed.trees ≡ []) }
         ensures dictionary { IfOk result (λ k. ReadsDictionary bytes.now (Ok k.dictionary)) }
         ensures register { IfOk result (λ k. IsNewRegister bytes.now (state over_memory k.connection).now) }
+        ensures working { IfOk result (λ k. k.has_failed ≡ false) }
+
+        // Each refusal, by what the bytes were, and the one that never comes.
         ensures refused { IfErr result (RefusesBytes bytes.now) }
         ensures named { IfErr result (λ e. e ≢ CreateError.NotEmpty) }
-        ensures working { IfOk result (λ k. k.has_failed ≡ false) }
     {
         let dictionary = match read_dictionary(alloc, bytes) {
             Ok(dictionary) => dictionary,
@@ -288,8 +315,8 @@ impl SqlKeep<FileStore<File>> {
         ensures dictionary { IfOk result (λ k. ReadsDictionary bytes.now (Ok k.dictionary)) }
         ensures register { IfOk result (λ k. HasCleanDisk (file_state k.connection)
             → IsNewRegister bytes.now (file_state k.connection).now) }
-        ensures refused { IfErr result (RefusesBytes bytes.now) }
         ensures working { IfOk result (λ k. k.has_failed ≡ false) }
+        ensures refused { IfErr result (RefusesBytes bytes.now) }
     {
         match SqlKeep::create_from(rt, alloc, path, bytes, Unknown) {
             Ok(keep) => Ok(keep),
@@ -341,9 +368,10 @@ impl<F: Start> SqlKeep<FileStore<FileFrom<F>>> {
         close_file(Some(self), None);
     }
 
-    /// An empty register in the database at a path that had no table, where `F` stands for what its files held.
+    /// An empty register in the database at a path that had no table, index or view, where `F` stands for what its files held.
     ///
-    /// The bytes are looked at first. A file that cannot be opened is `Store`, or `NoMemory`; `NotEmpty` comes with the connection that was opened.
+    /// `NotEmpty` and `Store` come only where the bytes are a dictionary. `NotEmpty` comes with the connection that was opened. A file that cannot be
+    /// opened is `Store`, or `NoMemory`; no clause says so.
     pub fn create_from(
         rt: &HostRuntime,
         alloc: Global,
@@ -355,6 +383,8 @@ impl<F: Start> SqlKeep<FileStore<FileFrom<F>>> {
         (CreateError, Option<Connection<FileStore<FileFrom<F>>>>),
     >
         requires short { length bytes.now ≤ READABLE }
+
+        // The new register at success, and that the files had no table, index or view.
         ensures empty { IfOk result (λ k. HasCleanDisk (file_state k.connection)
             → deposits_in (file_state k.connection).committed.trees ≡ []) }
         ensures dictionary { IfOk result (λ k. ReadsDictionary bytes.now (Ok k.dictionary)) }
@@ -362,8 +392,10 @@ impl<F: Start> SqlKeep<FileStore<FileFrom<F>>> {
             → IsNewRegister bytes.now (file_state k.connection).now) }
         ensures blank { IfOk result (λ k. HasCleanDisk (file_state k.connection)
             → FindsSchema (image_at F.Start) (λ schema. schema ≡ no_schema)) }
-        ensures refused { IfErr result (λ e. RefusesBytes bytes.now e.0) }
         ensures working { IfOk result (λ k. k.has_failed ≡ false) }
+
+        // Each refusal, by what the bytes and the files were, and which never comes without a connection.
+        ensures refused { IfErr result (λ e. RefusesBytes bytes.now e.0) }
         ensures not_empty { IfErr result (λ e. e.0 ≡ CreateError.NotEmpty → IfSome e.1 (λ c. HasCleanDisk (file_state c)
             → FindsSchema (image_at F.Start) (λ schema. schema ≢ no_schema))) }
         ensures vacant { IfErr result (λ e. e.0 ≡ CreateError.Store → IfSome e.1 (λ c. HasCleanDisk (file_state c)

@@ -82,9 +82,9 @@ fn search_project<S: Alter>(
 
 /// What was read, or that memory is wanting.
 fn wanting(read: Result<Option<ProjectRow>, AllocError>) -> Result<Option<ProjectRow>, KeepError>
+    ensures read { IfOk result (λ found. read ≡ Ok found) }
     ensures lives { fails result ≡ false }
     ensures named { IfErr result (λ e. e ≢ KeepError.Full) }
-    ensures read { IfOk result (λ found. read ≡ Ok found) }
 {
     match read {
         Ok(found) => Ok(found),

@@ -21,8 +21,8 @@ use sqlite::Row;
 use std::alloc::Global;
 
 fn read_number(row: &Row, at: usize) -> Result<u32, KeepError>
-    ensures named { IfErr result (λ e. e ≢ KeepError.Full) }
     ensures read { IfOk result (λ n. column row.now at ≡ Int (pos n)) }
+    ensures named { IfErr result (λ e. e ≢ KeepError.Full) }
     ensures other { result ≡ Err KeepError.Store → at < length row.now → (n : ℕ) → n < 2 ^ 32
         → column row.now at ≡ Int (pos n) → ⊥ }
 {
@@ -33,8 +33,8 @@ fn read_number(row: &Row, at: usize) -> Result<u32, KeepError>
 }
 
 fn read_bytes(row: &Row, at: usize) -> Result<Bytes, KeepError>
-    ensures named { IfErr result (λ e. e ≢ KeepError.Full) }
     ensures read { IfOk result (λ bytes. column row.now at ≡ Blob bytes) }
+    ensures named { IfErr result (λ e. e ≢ KeepError.Full) }
     ensures other { result ≡ Err KeepError.Store → at < length row.now → (bytes : List ℕ)
         → column row.now at ≡ Blob bytes → ⊥ }
 {
@@ -46,8 +46,8 @@ fn read_bytes(row: &Row, at: usize) -> Result<Bytes, KeepError>
 }
 
 fn read_text(row: &Row, at: usize) -> Result<Bytes, KeepError>
-    ensures named { IfErr result (λ e. e ≢ KeepError.Full) }
     ensures read { IfOk result (λ text. column row.now at ≡ Words text) }
+    ensures named { IfErr result (λ e. e ≢ KeepError.Full) }
 {
     let read: String = match row.get(at) {
         Ok(read) => read,
@@ -57,9 +57,9 @@ fn read_text(row: &Row, at: usize) -> Result<Bytes, KeepError>
 }
 
 fn read_name(alloc: Global, row: &Row, at: usize) -> Result<Name, KeepError>
-    ensures named { IfErr result (λ e. e ≢ KeepError.Full) }
     ensures read { IfOk result (λ name. column row.now at ≡ Words name) }
     ensures is_name { IfOk result (λ name. IsTrue (is_name name)) }
+    ensures named { IfErr result (λ e. e ≢ KeepError.Full) }
     ensures other { result ≡ Err KeepError.Store → at < length row.now → (name : List ℕ) → IsTrue (is_name name)
         → column row.now at ≡ Words name → ⊥ }
 {
@@ -75,9 +75,9 @@ fn read_name(alloc: Global, row: &Row, at: usize) -> Result<Name, KeepError>
 }
 
 fn read_day(row: &Row, at: usize) -> Result<Day, KeepError>
-    ensures named { IfErr result (λ e. e ≢ KeepError.Full) }
     ensures read { IfOk result (λ day. column row.now at ≡ Int day) }
     ensures is_day { IfOk result (λ day. IsTrue (is_day_number day)) }
+    ensures named { IfErr result (λ e. e ≢ KeepError.Full) }
     ensures other { result ≡ Err KeepError.Store → at < length row.now → (n : ℤ) → IsTrue (is_day_number n)
         → column row.now at ≡ Int n → ⊥ }
 {
@@ -93,9 +93,9 @@ fn read_day(row: &Row, at: usize) -> Result<Day, KeepError>
 
 /// The one row of an answer.
 fn only_row<'a>(rows: &'a [Row], width: usize) -> Result<&'a Row, KeepError>
-    ensures named { IfErr result (λ e. e ≢ KeepError.Full) }
     ensures only { IfOk result (λ row. rows.now ≡ row.now ∷ []) }
     ensures wide { IfOk result (λ row. length row.now ≡ width) }
+    ensures named { IfErr result (λ e. e ≢ KeepError.Full) }
     ensures other { result ≡ Err KeepError.Store → (row : Values) → rows.now ≡ row ∷ [] → length row ≡ width → ⊥ }
 {
     if rows.len() != 1 {
@@ -110,9 +110,9 @@ fn only_row<'a>(rows: &'a [Row], width: usize) -> Result<&'a Row, KeepError>
 
 /// The deposit of a number, which is the one row of the answer.
 pub(crate) fn read_deposit(alloc: Global, number: u32, rows: &[Row]) -> Result<Kept, KeepError>
-    ensures named { IfErr result (λ e. e ≢ KeepError.Full) }
     ensures read { IfOk result (λ kept. rows.now ≡ given_deposit number (deposit_of kept) ∷ []) }
     ensures is_named { IfOk result (λ kept. IsNamed (deposit_of kept)) }
+    ensures named { IfErr result (λ e. e ≢ KeepError.Full) }
     ensures other { result ≡ Err KeepError.Store → (d : Deposit) → IsNamed d
         → rows.now ≡ given_deposit number d ∷ [] → ⊥ }
 {
@@ -132,8 +132,8 @@ pub(crate) fn read_deposit(alloc: Global, number: u32, rows: &[Row]) -> Result<K
 }
 
 fn read_placed(at: usize, row: &Row) -> Result<KeptRow, KeepError>
-    ensures named { IfErr result (λ e. e ≢ KeepError.Full) }
     ensures read { IfOk result (λ line. row.now ≡ placed_row at line) }
+    ensures named { IfErr result (λ e. e ≢ KeepError.Full) }
 {
     if row.column_count() != 4 {
         return Err(KeepError::Store);
@@ -191,8 +191,8 @@ impl Gather for DataCount {
 }
 
 fn read_step(row: &Row) -> Result<(u32, u32), KeepError>
-    ensures named { IfErr result (λ e. e ≢ KeepError.Full) }
     ensures read { IfOk result (λ step. row.now ≡ step_pair step) }
+    ensures named { IfErr result (λ e. e ≢ KeepError.Full) }
 {
     if row.column_count() != 2 {
         return Err(KeepError::Store);
@@ -219,8 +219,8 @@ impl Gather for KeptSteps {
 }
 
 fn read_target(row: &Row) -> Result<u32, KeepError>
-    ensures named { IfErr result (λ e. e ≢ KeepError.Full) }
     ensures read { IfOk result (λ target. row.now ≡ target_cell target) }
+    ensures named { IfErr result (λ e. e ≢ KeepError.Full) }
 {
     if row.column_count() != 1 {
         return Err(KeepError::Store);

@@ -169,9 +169,9 @@ pub(crate) fn find_steps<S: Alter>(
 
 /// A graph of so many rows with these steps, where each lies between two of them.
 pub(crate) fn graph_of(rows: u32, steps: Vec<(u32, u32)>) -> Result<Graph, KeepError>
-    ensures named { IfErr result (λ e. e ≢ KeepError.Full) }
     ensures rows { IfOk result (λ graph. graph.rows ≡ rows) }
     ensures steps { IfOk result (λ graph. graph.steps ≡ steps.items) }
+    ensures named { IfErr result (λ e. e ≢ KeepError.Full) }
 {
     match Graph::new(rows, steps) {
         Some(graph) => Ok(graph),

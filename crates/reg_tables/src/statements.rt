@@ -115,14 +115,20 @@ fn store_file<S: Alter>(
     requires few { length rows.now < 2 ^ 32 }
     requires mode { conn.old.in_transaction ≡ false }
     requires schema { HasCleanDisk (state S.Store conn.old) → (state S.Store conn.old).now.schema ≡ register_schema }
-    ensures mode { conn.new.in_transaction ≡ false }
+
+    // The connection and the deposit at success.
     ensures open { HasCleanDisk (state S.Store conn.new) → OnOk result (IsTrue (state S.Store conn.new).is_open) }
     ensures put { HasCleanDisk (state S.Store conn.new) → OnOk result (AddsFiled filed.entry rows.now steps.now
         (state S.Store conn.old).now (state S.Store conn.new).now) }
     ensures settled { HasCleanDisk (state S.Store conn.new)
         → OnOk result ((state S.Store conn.new).committed ≡ (state S.Store conn.new).now) }
+
+    // What is undone at an error that leaves the connection open.
     ensures undone { HasCleanDisk (state S.Store conn.new) → IsTrue (state S.Store conn.new).is_open
         → OnErr result (IsUndone (state S.Store conn.old) (state S.Store conn.new)) }
+
+    // The transaction in either case, and what a crash may leave.
+    ensures mode { conn.new.in_transaction ≡ false }
     ensures crash { Survives (state S.Store conn.old) (state S.Store conn.new)
         (PutsOf (state S.Store conn.old) filed.entry.number (filed_deposit filed.entry) rows.now steps.now) }
 {
@@ -143,17 +149,23 @@ pub(crate) fn add_file<S: Alter>(
     requires few { length rows.now < 2 ^ 32 }
     requires mode { conn.old.in_transaction ≡ false }
     requires schema { HasCleanDisk (state S.Store conn.old) → (state S.Store conn.old).now.schema ≡ register_schema }
-    ensures mode { conn.new.in_transaction ≡ false }
-    ensures named { IfErr result (λ e. e ≢ KeepError.Full) }
-    ensures open { HasCleanDisk (state S.Store conn.new) → fails result ≡ false
-        → IsTrue (state S.Store conn.new).is_open }
+
+    // The deposit at success, as it is added and committed.
     ensures put { HasCleanDisk (state S.Store conn.new) → OnOk result (AddsFiled filed.entry rows.now steps.now
         (state S.Store conn.old).now (state S.Store conn.new).now) }
     ensures settled { HasCleanDisk (state S.Store conn.new)
         → OnOk result ((state S.Store conn.new).committed ≡ (state S.Store conn.new).now) }
     ensures sound { HasCleanDisk (state S.Store conn.new) → OnOk result (IsDatabase (state S.Store conn.new).now) }
+
+    // Which refusal never comes, and what is undone at one that is not `Store`.
+    ensures named { IfErr result (λ e. e ≢ KeepError.Full) }
     ensures undone { HasCleanDisk (state S.Store conn.new) → fails result ≡ false
         → OnErr result (IsUndone (state S.Store conn.old) (state S.Store conn.new)) }
+
+    // Transaction and connection in either case, and what a crash may leave.
+    ensures mode { conn.new.in_transaction ≡ false }
+    ensures open { HasCleanDisk (state S.Store conn.new) → fails result ≡ false
+        → IsTrue (state S.Store conn.new).is_open }
     ensures crash { Survives (state S.Store conn.old) (state S.Store conn.new)
         (PutsOf (state S.Store conn.old) filed.entry.number (filed_deposit filed.entry) rows.now steps.now) }
 {

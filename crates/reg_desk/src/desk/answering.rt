@@ -38,23 +38,32 @@ impl<K: Keep> Desk<K> {
         alloc: Global,
         requests: &[Request<'_>],
     ) -> Result<Vec<Answer>, AllocError>
-        ensures unasked { OnErr result (self.new ≡ self.old) }
+        // The answers at `Ok`: one to each request, in order.
         ensures answered { IfOk result (λ answers.
             AreAnsweredBy K.Keep self.old (map asked requests.entry.now) answers.items self.new) }
-        ensures policy { self.new.policy ≡ self.old.policy }
-        ensures dictionary { K.dictionary self.new.keep ≡ K.dictionary self.old.keep }
-        ensures limit { K.limit self.new.keep ≡ K.limit self.old.keep }
-        ensures sound { K.is_sound self.new.keep → K.is_sound self.old.keep }
         ensures count { IfOk result (λ answers. length answers.items ≡ length requests.entry.now) }
+
+        // Whether the desk has failed at the end, and what it answers where it had failed before.
         ensures failed { IfOk result (λ answers. self.new.failed
             ≡ (self.old.failed || list_any is_failed answers.items)) }
         ensures stuck { self.old.failed ≡ true → IfOk result (λ answers.
             AreFailed (map asked requests.entry.now) answers.items × (self.new.keep ≡ self.old.keep)) }
+
+        // What a desk that had not failed answers over a sound keep, and what a crash may leave.
         ensures runs { K.is_sound self.new.keep → self.old.failed ≡ false → IfOk result (λ answers. ∥ Runs K.Keep
             self.old.policy self.old.keep self.new.keep (map asked requests.entry.now) answers.items ∥₁) }
         ensures receipts { K.is_sound self.new.keep → self.old.failed ≡ false → IfOk result (λ answers.
             (list : List Deposit) → K.may_leave self.new.keep list
             → ∥ AllZip (IsHeldIn list) (map asked requests.entry.now) answers.items ∥₁) }
+
+        // At `Err` the desk is as it was.
+        ensures unasked { OnErr result (self.new ≡ self.old) }
+
+        // What stays in either case, and that a keep which is sound then was sound before.
+        ensures policy { self.new.policy ≡ self.old.policy }
+        ensures dictionary { K.dictionary self.new.keep ≡ K.dictionary self.old.keep }
+        ensures limit { K.limit self.new.keep ≡ K.limit self.old.keep }
+        ensures sound { K.is_sound self.new.keep → K.is_sound self.old.keep }
     {
         let mut answers = Vec::with_capacity(alloc, requests.len())?;
         for request in requests {
