@@ -10,7 +10,7 @@ use Rattle.ags_check.specs.HeaderPhase.{header_rules}
 use Rattle.ags_check.specs.Keeping.{KeepsHeaders, KeepsRows, KeepsRules}
 use Rattle.ags_check.specs.RowPhase.{entry_rules}
 
--- A file has one list of findings at most under a dictionary.
+-- A file has at most one list of findings under a dictionary.
 abbrev pub OneListUnderDictionary : Type 0
 OneListUnderDictionary = (given : Entries) (bytes : List ℕ) (found others : List Finding) → Findings given bytes found → Findings given bytes others → found ≡ others
 

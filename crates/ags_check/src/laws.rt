@@ -2,7 +2,7 @@
 
 ghost use Rattle.ags_check.specs.Laws.{OneListUnderDictionary, ClearHeaders, ClearRows, CleanContents, OneCleanFile};
 
-/// A file has one list of findings under a dictionary at most.
+/// A file has at most one list of findings under a dictionary.
 pub fn one_list_under_dictionary()
     ensures { OneListUnderDictionary }
 {}

@@ -2,7 +2,7 @@
 
 ghost use Rattle.ags_dict.specs.Laws.{OneDictionary, MiniIsDictionary};
 
-/// Bytes are one dictionary at most. Those that lack DICT or a heading of it are none, and do not lack both.
+/// Bytes are at most one dictionary. Bytes that lack DICT, or a heading of it, are no dictionary. No bytes lack both.
 pub fn one_dictionary()
     ensures { OneDictionary }
 {}

@@ -15,7 +15,7 @@ pub struct Separators {
     pub concatenator: u8,
 }
 
-/// The byte of the entry where it is exactly one, or the usual one.
+/// The entry's byte if the entry has exactly one, else the usual one.
 fn one_character(entry: &[u8], usual: u8) -> u8
     ensures { result ≡ one_character entry.now usual }
 {

@@ -27,6 +27,6 @@ pub data ReadAs (callers : List Credential) (day : ℤ) (bytes : List ℕ) : Hea
   whole : (h : RequestHead) (rest : List ℕ) (a : Asking) → IsHead bytes h rest → ask_of callers day (head_parts h) ≡ Ok a
       → a.length ≤ length rest → ReadAs callers day bytes (request (asked_of a (take a.length rest) day))
 
--- Bytes are read as one thing.
+-- Bytes are read as at most one thing.
 abbrev pub HasOneReading : Type 0
 HasOneReading = (callers : List Credential) (day : ℤ) (bytes : List ℕ) (a b : Heard) → ReadAs callers day bytes a → ReadAs callers day bytes b → a ≡ b

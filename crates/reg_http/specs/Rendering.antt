@@ -85,6 +85,6 @@ is_fixed answers.NoMemory = true
 is_fixed answers.StoreFailed = true
 is_fixed _ = false
 
--- An answer is rendered as one text, byte for byte.
+-- An answer is rendered as at most one text, byte for byte.
 abbrev pub HasOneRendering : Type 0
 HasOneRendering = (answer : Answer) (a b : List ℕ) → IsRendered answer a → IsRendered answer b → a ≡ b

@@ -2,7 +2,7 @@
 ghost use Rattle.reg_http.specs.Reading.{HasOneReading};
 ghost use Rattle.reg_http.specs.Rendering.{HasOneRendering};
 
-/// The bytes of a connection are read as one thing at most: nothing, one refusal, or one request.
+/// The bytes of a connection are read as at most one thing: nothing, one refusal, or one request.
 pub fn one_reading()
     ensures { HasOneReading }
 {}

@@ -42,7 +42,7 @@ pub struct Served {
 pub enum IoFault {
     /// A read failed. Writer and desk are as they were.
     Read,
-    /// A write failed. A first part of the reply was written, and the desk is as if all were.
+    /// A write failed. A first part of the reply was written, and the desk is as if the whole reply had been written.
     Write,
 }
 

@@ -35,7 +35,7 @@ impl<T> Tally<T> {
         self.calls
     }
 
-    /// Whether a read or a write failed, or a write took no byte of some. A flush is not noted.
+    /// Whether a read or a write failed, or a write took no byte of some. A flush that failed is not noted.
     pub fn failed(&self) -> bool
         ensures { result ≡ has_failed self.now }
     {

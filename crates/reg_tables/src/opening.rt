@@ -160,10 +160,10 @@ impl<S: Alter> SqlKeep<S> {
 
     /// An empty register in a database that had no table, index or view, under the dictionary that the bytes are.
     ///
-    /// `NotEmpty` and `Store` come only where the bytes are a dictionary, and `Store` only where there was no table, index or view. A connection in a
-    /// transaction is answered `Store`, where nothing else is refused first; no clause says so. The rest holds where the disk is clean at the end.
-    /// The register has no deposit. A connection that comes back open shows the tables from before. A crash leaves what it could leave before, or an
-    /// empty register where there was no table.
+    /// `NotEmpty` and `Store` come only where the bytes are a dictionary: `NotEmpty` only where there was a table, an index or a view, `Store` only
+    /// where there was none. A connection in a transaction is answered `Store`, where nothing else is refused first; no clause says so. The rest
+    /// holds where the disk is clean at the end. The register has no deposit. A connection that comes back open shows the tables from before. A
+    /// crash leaves what it could leave before, or an empty register where there was no table.
     pub fn create_in(
         alloc: Global,
         connection: Connection<S>,
@@ -206,8 +206,8 @@ impl<S: Alter> SqlKeep<S> {
     /// The register that a database holds.
     ///
     /// A connection in a transaction is answered `Store`, where its tables are not refused first; no clause says so. The rest holds where the disk is
-    /// clean at the end. No kept body has a finding, and lines and steps are those of the bodies. A connection that comes back open shows the tables
-    /// from before. A crash leaves nothing that it could not leave before.
+    /// clean at the end. At `Ok` no kept body has a finding, and lines and steps are those of the bodies. A connection that comes back open shows the
+    /// tables from before. A crash leaves nothing that it could not leave before.
     pub fn adopt(
         alloc: Global,
         mut connection: Connection<S>,
