@@ -1,4 +1,4 @@
-use Rattle.std.proofs.Common.{arith}
+use Rattle.std.proofs.Common.{rules, arith}
 use Rattle.sqlite.specs.State.{HasCleanDisk}
 use Rattle.sqlite.specs.Files.{file_state}
 use Rattle.reg_tables.proofs.OpenLemmas.{found_schema}
@@ -21,3 +21,6 @@ returns-in-Ok-connect-clause-vacant g c named clean =
     let was = c.in-Ok-connect.connection in
     let early : HasCleanDisk (file_state was) = omega (arith, c.in-Err-make.ensures.left.clean) in
     found_schema (file_state was) (c.in-Ok-connect.ensures.opened early) (c.in-Ok-connect.ensures.found early) (c.in-Err-make.ensures.vacant named)
+
+pub returns : goal.returns
+returns g c = search rules

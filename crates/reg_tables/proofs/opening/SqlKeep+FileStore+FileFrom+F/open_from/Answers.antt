@@ -1,4 +1,4 @@
-use Rattle.std.proofs.Common.{arith}
+use Rattle.std.proofs.Common.{rules, arith}
 use Rattle.sqlite.specs.State.{HasCleanDisk}
 use Rattle.sqlite.specs.Files.{file_state}
 use Rattle.reg_tables.proofs.OpenLemmas.{found_register, found_refused}
@@ -15,3 +15,6 @@ returns-in-Err-adopt-clause-refused g c clean =
     let was = c.in-Ok.connection in
     let early : HasCleanDisk (file_state was) = omega (arith, c.in-Err-adopt.ensures.left.clean) in
     found_refused (file_state was) (c.in-Ok.ensures.opened early) (c.in-Ok.ensures.found early) (c.in-Err-adopt.ensures.refused clean)
+
+pub returns-in-Err : goal.returns-in-Err
+returns-in-Err g c = search rules
