@@ -304,6 +304,9 @@ def by_hand(place):
         yield f"meta without {name}", "three", [f"DELETE FROM meta WHERE name = '{name}'"], False
         yield f"meta with a body of {name} changed", "three", [f"UPDATE meta SET body = x'41' WHERE name = '{name}'"], False
         yield f"meta with the number of {name} changed", "three", [f"UPDATE meta SET num = num + 1 WHERE name = '{name}'"], False
+    yield "every number of meta raised by 6", "three", ["UPDATE meta SET num = num + 6"], False
+    yield "format 7, and bodies of no byte", "three", ["UPDATE meta SET num = 7 WHERE name = 'format'", "UPDATE deposits SET body = x''"], False
+    yield "a step taken out", "three", ["DELETE FROM steps WHERE deposit = 1 AND child = 9"], False
     yield "a third row of meta", "three", ["INSERT INTO meta VALUES ('more', 0, x'')"], False
     yield "the dictionary spelled otherwise", "three", ["UPDATE meta SET body = CAST(body || x'0d0a' AS BLOB) WHERE name = 'dictionary'"], False
     yield "a dictionary without the last group", "three", [("UPDATE meta SET body = ? WHERE name = 'dictionary'", other)], False

@@ -1,6 +1,7 @@
 //! The worked examples: what no clause says. Where memory wants, no answer is the wanted one.
 mod callers;
 mod decisions;
+mod nested;
 mod policies;
 
 use reg_policy::{CallersError, Day, Name, NameError, PolicyError};

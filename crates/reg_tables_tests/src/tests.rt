@@ -4,7 +4,7 @@ ghost use Rattle.std.specs.Prelude.{◌≡◌, ◌<◌, ◌≤◌, false, length
 
 mod calls;
 mod files;
-mod sql;
+mod refusals;
 mod stops;
 
 use crate::tests::files::{File, bytes_of};

@@ -3,16 +3,14 @@
 ghost use Rattle.std.specs.Prelude.{◌≡◌, false};
 
 use super::failing_after;
-use super::runs::{answers, enter, leave};
+use ags_dict::Dictionary;
 use ags_rows::vectors::{FILE_A, MINI};
 use reg_cli::serve_on;
 use reg_desk::Desk;
 use reg_policy::vectors::{CALLERS, POLICY};
 use reg_policy::{Callers, Day, Policy};
 use reg_shell::Watched;
-use reg_store::Keep;
-use reg_tables::SqlKeep;
-use sqlite::Alter;
+use reg_store::{Keep, PlainKeep};
 use std::alloc::Global;
 use std::io;
 use std::io::{Read, Write};
@@ -205,7 +203,7 @@ struct Service<'s> {
     count: u32,
 }
 
-/// Serves so many connections on 2024-05-01, over an empty register in memory: the status of the run.
+/// Serves so many connections on 2024-05-01, from an empty register in memory: the status of the run.
 fn serve_some<W: Write>(
     alloc: Global,
     listener: &TcpListener,
@@ -224,29 +222,16 @@ fn serve_some<W: Write>(
     serve_memory(alloc, &service, policy, out)
 }
 
-/// Serves over an empty register in memory. Here alone its type stands.
+/// Serves from an empty keep in memory.
 fn serve_memory<W: Write>(
     alloc: Global,
     service: &Service<'_>,
     policy: Policy,
     out: &mut W,
 ) -> Result<u8, Fail> {
-    let keep = SqlKeep::in_memory(alloc, MINI)?;
-    Ok(serve_tables(alloc, service, keep, policy, out))
-}
-
-/// Serves from a keep in tables, of any store: named over the one in memory, `SqlKeep` would have to be shown to be a keep
-/// at length.
-fn serve_tables<S: Alter + Drop, W: Write>(
-    alloc: Global,
-    service: &Service<'_>,
-    keep: SqlKeep<S>,
-    policy: Policy,
-    out: &mut W,
-) -> u8
-    requires { keep.has_failed ≡ false }
-{
-    serve_keep(alloc, service, keep, policy, out)
+    let dictionary = Dictionary::read(alloc, MINI)?;
+    let keep = PlainKeep::new(alloc, dictionary);
+    Ok(serve_keep(alloc, service, keep, policy, out))
 }
 
 /// Serves from a keep: the status of the run.
@@ -328,44 +313,4 @@ fn a_line_that_is_not_written(rt: HostRuntime) -> Result<(), Fail> {
         assert!(rt; line_fails(rt.alloc(), &listener, calls)?);
     }
     Ok(())
-}
-
-/// What `serve` says of a port that is taken, before there is a register.
-static BEFORE: [(&str, &str); 3] = [
-    ("", "4 ! not a register"),
-    ("|--store=junk", "5 ! store failed"),
-    ("|--day=1", "4 ! day refused"),
-];
-
-/// Whether `serve` at a port, with more words behind it, answers so.
-fn serves(rt: &HostRuntime, port: u16, more: &str, want: &str) -> Result<bool, Fail> {
-    let words = format!(in rt.alloc(); "serve|&|--port={port}|--connections=1{more}")?;
-    Ok(answers(rt, &words, want)?)
-}
-
-/// Whether `serve` at a port answers so before there is a register.
-fn serves_none(rt: &HostRuntime, port: u16) -> Result<bool, Fail> {
-    for (more, want) in &BEFORE {
-        if !serves(rt, port, more, want)? {
-            return Ok(false);
-        }
-    }
-    Ok(true)
-}
-
-/// Whether `serve` at a port that is taken answers so, before there is a register and then.
-fn says_taken(rt: &HostRuntime, port: u16) -> Result<bool, Fail> {
-    Ok(
-        serves_none(rt, port)?
-            && answers(rt, "init|--store=s|--dictionary=mini", "0 created")?
-            && serves(rt, port, "", "6 ! cannot listen")?,
-    )
-}
-
-#[test]
-fn a_port_that_is_taken(rt: HostRuntime) -> Result<(), Fail> {
-    enter(&rt, "a_port_that_is_taken")?;
-    let listener = listening(&rt, true)?;
-    assert!(rt; says_taken(&rt, listener.local_addr()?.port())?);
-    Ok(leave(&rt, "a_port_that_is_taken")?)
 }

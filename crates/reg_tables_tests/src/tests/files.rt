@@ -76,14 +76,6 @@ fn longer(alloc: Global) -> Result<Vec<u8>, AllocError> {
     Ok(longer)
 }
 
-/// A, with as many spaces behind it as make it so long. Its rows and steps are those of A.
-pub(crate) fn long_body(alloc: Global, length: usize) -> Result<Vec<u8>, AllocError> {
-    let spaces = [b' '].repeat(alloc, length.saturating_sub(FILE_A.len()))?;
-    let mut body = Vec::from_slice(alloc, FILE_A)?;
-    body.extend_from_slice(&spaces)?;
-    Ok(body)
-}
-
 /// The bytes of a file.
 pub(crate) fn bytes_of(alloc: Global, file: File) -> Result<Vec<u8>, AllocError> {
     match file {

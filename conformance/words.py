@@ -1,0 +1,344 @@
+#!/usr/bin/env python3
+"""Command lines of the program, each with what has to come of it: its status, what it prints and what it says of a fault.
+
+usage: words.py PROGRAM     the last line is 'N passed, M failed'
+
+The lines of a scene run one after the other in a folder of its own. `|` stands between the words of a line. Among them `@` stands for those of OPTIONS that
+the line does not name, and `&` for those of them that `serve` takes. Behind `=>` stand the status, what is printed without its line end, and behind `!` what is
+said on standard error without `groundreg: ` before it. Of a line without `=>` the words are refused. Nothing here comes from what the program answered."""
+import contextlib
+import os
+import socket
+import sqlite3
+import subprocess
+import sys
+import tempfile
+sys.dont_write_bytecode = True
+import machine  # noqa: E402
+import reference  # noqa: E402
+
+PATIENCE = 60
+OPTIONS = {"--store": "s", "--policy": "q", "--callers": "c", "--day": "2024-05-01", "--project": "N1", "--token": "t-delta"}
+OF_SERVE = ("--store", "--policy", "--callers", "--day")
+REFUSED = "4 ! words refused"
+MINI, POLICY, CALLERS = machine.spelled_dictionary(reference.built_in()), machine.POLICY.encode(), machine.CALLERS.encode()
+
+
+def longer(text):
+    """A text, with spaces behind it: one byte more than is taken."""
+    return text + b" " * (machine.LIMIT + 1 - len(text))
+
+
+FILES = {"mini": MINI, "q": POLICY, "c": CALLERS, "a": machine.FILE_A, "b": machine.FILE_B, "--day": machine.FILE_A, "empty": b"", "junk": b"this is no database", "bytes": b"\xff\xfe", "open": b"[[rule",
+         "long": longer(machine.FILE_A), "longest": longer(MINI), "long_q": longer(POLICY), "long_c": longer(CALLERS)}
+
+# What is printed, by the name that a line has for it: file a, and the first 466 bytes of it.
+PRINTED = {machine.FILE_A: b"(a)\n", machine.FILE_A[:466]: b"(a to 466)\n"}
+
+# A register from its making to an extract.
+REGISTER = """
+init|--store|s|--dictionary|mini => 0 created
+init|--store|s|--dictionary|mini => 4 ! store not empty
+init|--store|other|--dictionary|a => 4 ! dictionary refused
+list|@ => 0
+deposit|@|--day|2024-05-01|--embargo|2024-06-01|a => 0 receipt 1 2024-06-01
+deposit|@|--token=t-gamma|--day|2024-05-01|--embargo|2024-06-01|a => 2 denied 5
+deposit|@|--embargo|2030-01-01|a => 0 receipt 1 2024-06-01
+list|@|--day=2024-05-01 => 0 1 Delta 2024-06-01
+list|@ => 0 1 Delta 2024-06-01
+list|@|--token=t-echo => 0
+extract|@|--token=t-echo|--day=2024-05-31|1 => 3 unknown
+extract|@|--token=t-echo|1 => 3 unknown
+extract|@|--token=t-echo|--day=2024-06-01|1 => 0 (a)
+extract|@|999999 => 3 unknown
+list|@|--project|N 1 => 4 ! project refused
+withdraw => 4 ! words refused
+# The embargo of a deposit without one is its day, and findings are printed as for the run without words.
+deposit|@|--token=t-foxtrot|--day=2024-05-02|a => 0 receipt 2 2024-05-02
+deposit|@|empty => 1 2 0 -
+deposit|@|long => 4 too large
+# One who may not deposit is told so, however long the file is.
+deposit|@|--token=t-gamma|long => 2 denied 5
+check|--dictionary|mini|b => 0 clean
+check|--dictionary=mini|empty => 1 2 0 -
+"""
+
+WORDS_REFUSED = """
+help
+--help
+-h
+--version
+-V
+Init
+init|--help
+init|--store=s
+init|--store=s|--dictionary=mini|more
+init|--store=s|--store=s|--dictionary=mini
+init|--store=s|--dictionary=mini|--day=2024-05-01
+init|--store|--dictionary|mini
+--store=s|init|--dictionary=mini
+--|init|--store=s|--dictionary=mini
+init|--|--store=s|--dictionary=mini
+init|--store=s|--dictionary=mini|--|more
+check|--dictionary=mini
+check|--dictionary=mini|a|b
+check|--dictionary=mini|--
+check|--dictionary=mini|a|--|b
+check|a
+check|a|--|--dictionary=mini
+deposit|@
+deposit|@|--groups=LOCA|a
+deposit|@|a|b
+list|@|--groups=LOCA
+list|@|1
+list|@|--token
+list|@|--day|-1
+list|--store=s|--policy=q|--callers=c|--token=t-delta
+extract|@
+extract|@|--embargo=2024-06-01|1
+serve|&|--port=0|--connections=1
+serve|&|--port=65536|--connections=1
+serve|&|--port=+80|--connections=1
+serve|&|--port=|--connections=1
+serve|&|--port=80|--connections=0
+serve|&|--port=80|--connections=1000001
+serve|&|--port=80|--connections=+1
+serve|&|--port=80|--connections=1|--token=t-delta
+"""
+
+IN_ANY_ORDER = """
+init|--dictionary=mini|--store|s => 0 created
+deposit|a|@ => 0 receipt 1 2024-05-01
+extract|1|@ => 0 (a)
+extract|@|--groups=|1 => 0 (a)
+extract|@|--groups|LOCA,LOCA|1 => 0 (a)
+list|@|--token=-t => 4 ! token refused
+check|--dictionary|mini|./a => 0 clean
+check|./gone|--dictionary|mini => 6 ! cannot read ./gone
+check|--dictionary|mini|. => 6 ! cannot read .
+# Behind a word `--` nothing is an option.
+check|--dictionary=mini|--|a => 0 clean
+check|--dictionary=mini|--|--day => 0 clean
+check|--dictionary=mini|--|-- => 6 ! cannot read --
+deposit|@|--|--day => 0 receipt 1 2024-05-01
+extract|@|--|1 => 0 (a)
+list|@|-- => 0 1 Delta 2024-05-01
+extract|@|--groups|SAMP|1 => 0 (a to 466)
+"""
+
+# Each fault below has the next one of the order beside it.
+OF_WORDS_AND_POLICIES = """
+init|--dictionary=none
+check|--dictionary=none
+deposit|@|--policy=none
+extract|@|--policy=none
+list|@|--policy=none|more
+list|@|--policy=none|--help
+serve|&|--policy=none|--port=80
+deposit|@|--policy=none|--callers=gone|gone => 6 ! cannot read none
+extract|@|--policy=none|--callers=gone|07 => 6 ! cannot read none
+list|@|--policy=none|--callers=gone => 6 ! cannot read none
+serve|&|--policy=none|--callers=gone|--port=80|--connections=1 => 6 ! cannot read none
+deposit|@|--policy=open|--callers=gone|gone => 4 ! policy refused
+extract|@|--policy=bytes|--callers=gone|07 => 4 ! policy refused
+list|@|--policy=open|--callers=gone => 4 ! policy refused
+list|@|--policy=bytes|--callers=gone => 4 ! policy refused
+list|@|--policy=long_q|--callers=gone => 4 ! policy refused
+serve|&|--policy=open|--callers=gone|--port=80|--connections=1 => 4 ! policy refused
+"""
+
+OF_CALLERS_AND_TOKENS = """
+deposit|@|--callers=none|--token=t-x|gone => 6 ! cannot read none
+extract|@|--callers=none|--token=t-x|07 => 6 ! cannot read none
+list|@|--callers=none|--token=t-x => 6 ! cannot read none
+serve|&|--callers=none|--day=1|--port=80|--connections=1 => 6 ! cannot read none
+deposit|@|--callers=q|--token=t-x|gone => 4 ! callers refused
+extract|@|--callers=bytes|--token=t-x|07 => 4 ! callers refused
+list|@|--callers=q|--token=t-x => 4 ! callers refused
+list|@|--callers=bytes|--token=t-x => 4 ! callers refused
+list|@|--callers=long_c|--token=t-x => 4 ! callers refused
+serve|&|--callers=q|--day=1|--port=80|--connections=1 => 4 ! callers refused
+deposit|@|--token=t-x|--project=N 1|gone => 4 ! token refused
+extract|@|--token=t-x|--project=N 1|07 => 4 ! token refused
+list|@|--token=t-x|--project=N 1 => 4 ! token refused
+list|@|--token=|--project=N 1 => 4 ! token refused
+"""
+
+# There is no register yet, which is the fault behind those.
+OF_REQUESTS = """
+deposit|@|--project=N 1|--day=1|gone => 4 ! project refused
+extract|@|--project=N 1|--day=1|07 => 4 ! project refused
+list|@|--project=|--day=1 => 4 ! project refused
+deposit|@|--day=2024-02-30|--embargo=2024-06-01|gone => 4 ! day refused
+deposit|@|--embargo=2023-02-29|gone => 4 ! day refused
+extract|@|--day=2024-6-1|--groups=loca|07 => 4 ! day refused
+list|@|--day=1 => 4 ! day refused
+serve|&|--day=tomorrow|--port=80|--connections=1 => 4 ! day refused
+extract|@|--groups=loca|07 => 4 ! groups refused
+extract|@|--groups=LOCA,|07 => 4 ! groups refused
+extract|@|07 => 4 ! number refused
+extract|@|0 => 4 ! number refused
+extract|@|1000000 => 4 ! number refused
+deposit|@|gone => 6 ! cannot read gone
+deposit|@|a => 4 ! not a register
+extract|@|1 => 4 ! not a register
+list|@ => 4 ! not a register
+"""
+
+OF_DICTIONARIES_AND_FILES = """
+check|--dictionary=none|gone => 6 ! cannot read none
+check|--dictionary=a|gone => 4 ! dictionary refused
+check|--dictionary=longest|gone => 4 ! dictionary refused
+check|--dictionary=mini|gone => 6 ! cannot read gone
+check|--dictionary=mini|long => 4 ! too large
+init|--store=s|--dictionary=mini => 0 created
+init|--store=s|--dictionary=none => 6 ! cannot read none
+init|--store=s|--dictionary=a => 4 ! dictionary refused
+init|--store=s|--dictionary=longest => 4 ! dictionary refused
+init|--store=s|--dictionary=mini => 4 ! store not empty
+"""
+
+SCENES = (REGISTER, WORDS_REFUSED, IN_ANY_ORDER, OF_WORDS_AND_POLICIES, OF_CALLERS_AND_TOKENS, OF_REQUESTS, OF_DICTIONARIES_AND_FILES)
+
+# What `serve` says of a port that is taken (PORT): the port comes last.
+PORT_TAKEN = """
+serve|&|--port=PORT|--connections=1 => 4 ! not a register
+serve|&|--port=PORT|--connections=1|--store=junk => 5 ! store failed
+serve|&|--port=PORT|--connections=1|--day=1 => 4 ! day refused
+init|--store=s|--dictionary=mini => 0 created
+serve|&|--port=PORT|--connections=1 => 6 ! cannot listen
+"""
+
+# The commands that open a register, each with all its words.
+COMMANDS = ("deposit|@|a", "extract|@|1", "list|@", "serve|&|--port=80|--connections=1")
+
+# Stores that hold no register, or one of another format: each with a statement that another hand runs on it first, if there is one, and what
+# each command says of it then.
+STORES = [
+    ("empty", "", "4 ! not a register"),
+    ("gone", "", "4 ! not a register"),
+    ("other", "CREATE TABLE note (text TEXT)", "4 ! not a register"),
+    ("junk", "", "5 ! store failed"),
+    ("gone/s", "", "5 ! store failed"),
+    ("a/s", "", "5 ! store failed"),
+    (".", "", "5 ! store failed"),
+    ("s", "DELETE FROM steps", "4 ! not a register"),
+    ("s", "UPDATE meta SET num = 7 WHERE name = 'format'", "4 ! register version 7"),
+    ("s", "UPDATE deposits SET firm = 'N 1'", "4 ! register version 7"),
+    ("s", "UPDATE meta SET num = -12 WHERE name = 'format'", "4 ! register version -12"),
+    ("s", "UPDATE meta SET num = 9223372036854775807 WHERE name = 'format'", "4 ! register version 9223372036854775807"),
+    ("s", "UPDATE meta SET num = 0 WHERE name = 'format'", "4 ! register version 0"),
+    ("s", "UPDATE meta SET num = 1 WHERE name = 'format'", "4 ! not a register"),
+]
+BEFORE_STORES = """
+init|--store=s|--dictionary=mini => 0 created
+deposit|@|a => 0 receipt 1 2024-05-01
+"""
+# A line and a step of a deposit that is not there.
+OF_NO_DEPOSIT = ["INSERT INTO lines VALUES (2, 0, 'PROJ', 0, x'')", "INSERT INTO steps VALUES (2, 0, 0)"]
+BEHIND_STORES = """
+init|--store=junk|--dictionary=mini => 5 ! store failed
+init|--store=gone/s|--dictionary=mini => 5 ! store failed
+init|--store=empty|--dictionary=mini => 0 created
+"""
+
+
+def lines_of(scene):
+    """(words, what has to come of them) of each line."""
+    for line in scene.strip().splitlines():
+        if not line.startswith("#"):
+            words, _, want = line.partition(" => ")
+            yield words, want or REFUSED
+
+
+def words_of(line):
+    """The words of a line; an option that it names anywhere, were it as a file, does not stand in for itself."""
+    words = []
+    for word in line.split("|"):
+        names = {"@": OPTIONS, "&": OF_SERVE}.get(word)
+        words += [word] if names is None else [f"{name}={OPTIONS[name]}" for name in names if name not in line]
+    return words
+
+
+class Folder:
+    """A folder with the files that the lines name, and what is counted of the starts there."""
+
+    def __init__(self, program, place):
+        self.program, self.place, self.passed, self.wrong = program, place, 0, []
+        for name, data in FILES.items():
+            with open(os.path.join(place, name), "wb") as file:
+                file.write(data)
+
+    def answer(self, words):
+        run = subprocess.run([self.program, *words], cwd=self.place, stdin=subprocess.DEVNULL, capture_output=True, timeout=PATIENCE)
+        printed, said = PRINTED.get(run.stdout, run.stdout), run.stderr
+        told = str(run.returncode) + (" " + printed.decode("latin-1")[:-1] if printed.endswith(b"\n") else printed.decode("latin-1"))
+        if said.startswith(b"groundreg: ") and said.endswith(b"\n"):
+            return told + " ! " + said[len(b"groundreg: "):-1].decode("latin-1")
+        return told + said.decode("latin-1")
+
+    def hold(self, line, want):
+        got = self.answer(words_of(line))
+        self.count(got == want, f"{line}\n  wanted {want}\n  got    {got:.300}")
+
+    def count(self, is_well, wrong):
+        if is_well:
+            self.passed += 1
+        else:
+            self.wrong.append(wrong)
+
+    def play(self, scene):
+        for line, want in lines_of(scene):
+            self.hold(line, want)
+
+    def change(self, store, statement, keys="OFF"):
+        """Runs a statement on a store as another hand does, whether that keeps to foreign keys or not."""
+        with contextlib.closing(sqlite3.connect(os.path.join(self.place, store))) as connection, connection:
+            connection.execute(f"PRAGMA foreign_keys = {keys}")
+            connection.execute(statement)
+
+    def refuses(self, store, statement):
+        """Whether the tables refuse a statement by their foreign keys."""
+        with contextlib.suppress(sqlite3.IntegrityError):
+            self.change(store, statement, "ON")
+            return False
+        return True
+
+
+def refuse_stores(folder):
+    folder.play(BEFORE_STORES)
+    for statement in OF_NO_DEPOSIT:
+        folder.count(folder.refuses("s", statement), f"not refused: {statement}")
+    for store, statement, want in STORES:
+        if statement:
+            folder.change(store, statement)
+        for command in COMMANDS:
+            folder.hold(f"{command}|--store={store}", want)
+    folder.play(BEHIND_STORES)
+    # Asking for a register that is not there makes no file.
+    folder.count(not os.path.exists(os.path.join(folder.place, "gone")), "a file `gone` was made")
+
+
+def refuse_port(folder):
+    with socket.create_server(("127.0.0.1", 0)) as taken:
+        folder.play(PORT_TAKEN.replace("PORT", str(taken.getsockname()[1])))
+
+
+def main():
+    program = os.path.abspath(sys.argv[1])
+    passed, wrong = 0, []
+    # (an empty word is no line)
+    plays = [lambda folder, scene=scene: folder.play(scene) for scene in SCENES] + [lambda folder: folder.hold("", REFUSED), refuse_stores, refuse_port]
+    for play in plays:
+        with tempfile.TemporaryDirectory() as place:
+            folder = Folder(program, place)
+            play(folder)
+            passed, wrong = passed + folder.passed, wrong + folder.wrong
+    for text in wrong:
+        print(text)
+    print(f"{passed} passed, {len(wrong)} failed")
+    sys.exit(len(wrong) > 0)
+
+
+if __name__ == "__main__":
+    main()
