@@ -33,10 +33,10 @@ fn read_number(row: &Row, at: usize) -> Result<u32, KeepError>
 }
 
 fn read_bytes(row: &Row, at: usize) -> Result<Bytes, KeepError>
+    requires { at < length row.now }
     ensures read { IfOk result (λ bytes. column row.now at ≡ Blob bytes) }
     ensures named { IfErr result (λ e. e ≢ KeepError.Full) }
-    ensures other { result ≡ Err KeepError.Store → at < length row.now → (bytes : List ℕ)
-        → column row.now at ≡ Blob bytes → ⊥ }
+    ensures other { result ≡ Err KeepError.Store → (bytes : List ℕ) → column row.now at ≡ Blob bytes → ⊥ }
 {
     let read: Vec<u8> = match row.get(at) {
         Ok(read) => read,
@@ -57,10 +57,11 @@ fn read_text(row: &Row, at: usize) -> Result<Bytes, KeepError>
 }
 
 fn read_name(alloc: Global, row: &Row, at: usize) -> Result<Name, KeepError>
+    requires { at < length row.now }
     ensures read { IfOk result (λ name. column row.now at ≡ Words name) }
     ensures is_name { IfOk result (λ name. IsTrue (is_name name)) }
     ensures named { IfErr result (λ e. e ≢ KeepError.Full) }
-    ensures other { result ≡ Err KeepError.Store → at < length row.now → (name : List ℕ) → IsTrue (is_name name)
+    ensures other { result ≡ Err KeepError.Store → (name : List ℕ) → IsTrue (is_name name)
         → column row.now at ≡ Words name → ⊥ }
 {
     let text: String = match row.get(at) {
@@ -75,10 +76,11 @@ fn read_name(alloc: Global, row: &Row, at: usize) -> Result<Name, KeepError>
 }
 
 fn read_day(row: &Row, at: usize) -> Result<Day, KeepError>
+    requires { at < length row.now }
     ensures read { IfOk result (λ day. column row.now at ≡ Int day) }
     ensures is_day { IfOk result (λ day. IsTrue (is_day_number day)) }
     ensures named { IfErr result (λ e. e ≢ KeepError.Full) }
-    ensures other { result ≡ Err KeepError.Store → at < length row.now → (n : ℤ) → IsTrue (is_day_number n)
+    ensures other { result ≡ Err KeepError.Store → (n : ℤ) → IsTrue (is_day_number n)
         → column row.now at ≡ Int n → ⊥ }
 {
     let number: i32 = match row.get(at) {

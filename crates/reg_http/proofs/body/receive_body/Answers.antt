@@ -30,7 +30,7 @@ returns-then-count-eq0-clause-body g c =
     let bytes = take c.in-Some.count c.read_chunk.new.chunk in
     let none : length bytes ≡ 0 = ap (λ k. length (take k c.read_chunk.new.chunk)) c.if-count-eq0.true in
     ReadsBody-short _ _ _ c.args.early.now c.reads.body.items bytes c.args.length i.read read.filled.1 none (omega arith)
-    (read.at_end (ap Some c.if-count-eq0.true) (omega arith))
+    (read.at_end (ap Some c.if-count-eq0.true))
 
 pub returns-then-count-eq0-clause-fits : goal.returns-then-count-eq0-clause-fits
 returns-then-count-eq0-clause-fits g c = omega arith
