@@ -1,9 +1,5 @@
 -- What a command asks of the desk, and what is printed of the answer.
-use Rattle.std.specs.Prelude.{◌≡◌, ℕ, List, Option, Result, Ok, Err, Bool, Vec}
-use Rattle.std.specs.Global.{Global}
-use Rattle.ags_dict.specs.Entries.{Entries}
-use Rattle.ags_dict.specs.Reading.{IsDictionary}
-use Rattle.reg_shell.specs.Answers.{AnswersOn}
+use Rattle.std.specs.Prelude.{◌≡◌, ℕ, List, Option, Result, Ok, Err, Bool}
 use Rattle.reg_shell.specs.Faults.{Tells}
 use Rattle.reg_shell.specs.declared.fault.Fault.TheVariants.{NoMemory}
 use Rattle.reg_shell.specs.declared.refusal.Refusal.{Refusal}
@@ -23,9 +19,3 @@ abbrev pub AsksDesk : {D : Type 0} → (D → Asked → Answer → D → Type 0)
     → Option (List ℕ) → Option (List ℕ) → Bool → Bool → Result ℕ Refusal → Type 0
 AsksDesk answers request old new out out_after before after result =
     (answer : Answer) × answers old request answer new × PrintsAnswer answer out out_after before after result
-
--- The bytes of a file were read, and the run answers on them under the dictionary that the text is.
-abbrev pub ChecksUnder : List ℕ → Result (Vec ℕ Global) Refusal → Option (List ℕ) → Option (List ℕ) → Option (List ℕ) → Option (List ℕ) → Bool → Bool → ℕ → Type 0
-ChecksUnder dictionary (Ok bytes) out out_after err err_after out_failed err_failed status =
-    (entries : Entries) × IsDictionary dictionary entries × ((in_failed : Bool) × AnswersOn entries bytes.items out out_after err err_after in_failed out_failed err_failed status)
-ChecksUnder dictionary (Err refusal) out out_after err err_after out_failed err_failed status = ⊥

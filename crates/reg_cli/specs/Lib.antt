@@ -1,4 +1,3 @@
 pub mod Adopting
 pub mod Printing
 pub mod Asking
-pub mod Sessions

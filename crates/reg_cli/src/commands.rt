@@ -1,27 +1,23 @@
 //! What each command does.
 
-ghost use Rattle.std.specs.Prelude.{◌≡◌, ◌≤◌, Bool, false, IfOk, IfSome, MatchOption, Some, length};
+ghost use Rattle.std.specs.Prelude.{◌≡◌, ◌≤◌, false, IfSome, length};
 ghost use Rattle.ags_dict.specs.Mini.{mini_entries};
-ghost use Rattle.reg_policy.specs.Callers.{caller_of};
-ghost use Rattle.reg_policy.specs.Days.{day_of};
 ghost use Rattle.reg_shell.specs.Answers.{AnswersOn};
 ghost use Rattle.reg_shell.specs.Streams.{has_failed, inner_of};
 ghost use Rattle.reg_desk.specs.Asked.{asked, deposit, extract, listing, names_in};
 ghost use Rattle.reg_desk.specs.Desks.{AnsweredBy};
-ghost use Rattle.reg_cli.specs.Asking.{AsksDesk, ChecksUnder};
-ghost use Rattle.reg_cli.specs.Sessions.{session_caller, session_day, session_project};
+ghost use Rattle.reg_cli.specs.Asking.{AsksDesk};
 
 use crate::answers::answer_report;
 use crate::serving::{serve, serve_desk};
 use crate::stores::{create_store, not_made, open_store};
-use ags_dict::Dictionary;
 use ags_rows::LIMIT;
 use reg_desk::{Desk, Request};
 use reg_http::{groups_listed, number_of_deposit};
-use reg_policy::{Caller, Callers, Day, Name, NameError, Policy};
+use reg_policy::{Callers, Day, Policy};
 use reg_shell::{
-    Asker, Fault, Refusal, Watched, Words, check_stream, dictionary_in, read_path, read_rights,
-    read_words, run_without_words, tell,
+    Asker, Fault, Refusal, Session, Watched, Words, check_given, day_or, read_path, read_rights,
+    read_words, run_without_words, session_of, tell,
 };
 use reg_store::Keep;
 use reg_tables::SqlKeep;
@@ -29,14 +25,6 @@ use sqlite::Alter;
 use std::alloc::Global;
 use std::convert::AsStr;
 use std::io::{Read, Write};
-
-/// Who asks, for which project, and on which day.
-#[derive(Drop)]
-pub struct Session<'c> {
-    caller: &'c Caller,
-    project: Name,
-    day: Day,
-}
 
 /// What is done with a register once it is open.
 #[derive(Drop)]
@@ -94,92 +82,6 @@ fn check_file<'w, W: Write, E: Write>(
 {
     let dictionary = read_path(rt, alloc, dictionary)?;
     check_given(alloc, &dictionary, read_path(rt, alloc, file), out, err)
-}
-
-/// Checks a file, if it was read, under the dictionary that bytes are. A dictionary that is none is refused first.
-fn check_given<'w, W: Write, E: Write>(
-    alloc: Global,
-    dictionary: &[u8],
-    file: Result<Vec<u8>, Refusal<'w>>,
-    out: &mut Watched<W>,
-    err: &mut Watched<E>,
-) -> Result<u8, Refusal<'w>>
-    requires out { has_failed out.old ≡ false }
-    requires err { has_failed err.old ≡ false }
-    ensures { IfOk result (λ status. ChecksUnder dictionary.now file.entry
-        (W.contents (inner_of out.old)) (W.contents (inner_of out.new))
-        (E.contents (inner_of err.old)) (E.contents (inner_of err.new))
-        (has_failed out.new) (has_failed err.new) status) }
-{
-    let dictionary = dictionary_in(alloc, dictionary)?;
-    let bytes = file?;
-    Ok(check_bytes(alloc, &dictionary, &bytes, out, err))
-}
-
-/// Checks bytes under a dictionary.
-fn check_bytes<W: Write, E: Write>(
-    alloc: Global,
-    dictionary: &Dictionary,
-    bytes: &[u8],
-    out: &mut Watched<W>,
-    err: &mut Watched<E>,
-) -> u8
-    requires out { has_failed out.old ≡ false }
-    requires err { has_failed err.old ≡ false }
-    ensures { (in_failed : Bool) × AnswersOn dictionary.now bytes.now
-        (W.contents (inner_of out.old)) (W.contents (inner_of out.new))
-        (E.contents (inner_of err.old)) (E.contents (inner_of err.new))
-        in_failed (has_failed out.new) (has_failed err.new) result }
-{
-    let mut input = Watched::new(bytes);
-    check_stream(alloc, dictionary, &mut input, out, err)
-}
-
-/// The day that a text writes, or the one for where none is given.
-pub(crate) fn day_or(text: Option<&str>, other: Option<Day>) -> Result<Day, Fault>
-    ensures { IfOk result (λ day. MatchOption text.entry (other ≡ Some day) (λ given. day_of given.now ≡ Some day)) }
-{
-    match text {
-        Some(text) => Day::read(text).ok_or(Fault::DayRefused),
-        None => other.ok_or(Fault::DayRefused),
-    }
-}
-
-/// The project of a name.
-fn project_of(alloc: Global, text: &str) -> Result<Name, Fault>
-    ensures { IfOk result (λ project. project ≡ text.now) }
-{
-    match Name::read(alloc, text) {
-        Ok(name) => Ok(name),
-        Err(NameError::BadName) => Err(Fault::ProjectRefused),
-        Err(NameError::NoMemory) => Err(Fault::NoMemory),
-    }
-}
-
-/// Who asks by this token, for the project and on the day that the words give, or on `today` where they give none.
-/// A token of no caller, a project that is no name and a day that is none are refused. No clause says which of them is named.
-pub fn session_of<'c>(
-    alloc: Global,
-    callers: &'c Callers,
-    asker: &Asker<'_>,
-    today: Option<Day>,
-) -> Result<Session<'c>, Fault>
-    ensures caller { IfOk result (λ session.
-        caller_of asker.now.token.now callers.now ≡ Some (session_caller session)) }
-    ensures project { IfOk result (λ session. session_project session ≡ asker.now.project.now) }
-    ensures day { IfOk result (λ session. MatchOption asker.now.day (today ≡ Some (session_day session))
-        (λ given. day_of given.now ≡ Some (session_day session))) }
-{
-    let Some(caller) = callers.find(asker.token.as_bytes()) else {
-        return Err(Fault::TokenRefused);
-    };
-    let project = project_of(alloc, asker.project)?;
-    let day = day_or(asker.day, today)?;
-    Ok(Session {
-        caller,
-        project,
-        day,
-    })
 }
 
 /// Asks the desk, and prints its answer.
@@ -244,7 +146,7 @@ pub fn ask_deposit<'w, K: Keep, W: Write>(
     out: &mut Watched<W>,
 ) -> Result<u8, Refusal<'w>>
     ensures { AsksDesk (AnsweredBy K.Keep)
-        (deposit (session_caller session.now) (session_project session.now) embargo bytes.now (session_day session.now))
+        (deposit session.now.caller.now session.now.project embargo bytes.now session.now.day)
         desk.old desk.new (W.contents (inner_of out.old)) (W.contents (inner_of out.new))
         (has_failed out.old) (has_failed out.new) result }
 {

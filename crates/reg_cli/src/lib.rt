@@ -10,5 +10,5 @@ mod refusal;
 mod serving;
 mod stores;
 
-pub use commands::{Session, ask_deposit, run_words, session_of};
+pub use commands::{ask_deposit, run_words};
 pub use serving::serve_on;

@@ -1,11 +1,11 @@
 //! A register that is served over connections.
 
-use crate::commands::{Task, day_or, use_store};
+use crate::commands::{Task, use_store};
 use itoa::Buffer;
 use reg_desk::Desk;
 use reg_http::{Tally, serve_one};
 use reg_policy::{Callers, Day};
-use reg_shell::{Fault, Refusal, Service, StreamFailed, Watched, read_rights};
+use reg_shell::{Fault, Refusal, Service, StreamFailed, Watched, day_or, read_rights};
 use reg_store::Keep;
 use std::alloc::Global;
 use std::io::Write;

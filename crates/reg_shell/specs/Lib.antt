@@ -5,3 +5,4 @@ pub mod Reading
 pub mod Writing
 pub mod Answers
 pub mod Refusals
+pub mod Checking

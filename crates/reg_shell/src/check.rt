@@ -1,16 +1,19 @@
 //! The check of the file that a stream carries.
 
-ghost use Rattle.std.specs.Prelude.{◌≡◌, ◌↔◌, ◌||◌, IsTrue, false, ◌+◌, ◌≤◌, IfOk, IfErr, IfSome, length};
+ghost use Rattle.std.specs.Prelude.{◌≡◌, ◌↔◌, ◌||◌, Bool, IsTrue, false, ◌+◌, ◌≤◌, IfOk, IfErr, IfSome, length};
 ghost use Rattle.ags_dict.specs.Mini.{mini_entries};
 ghost use Rattle.ags_check.specs.Findings.{Findings};
 ghost use Rattle.reg_shell.specs.Answers.{AnswersOn, ReportsOn};
+ghost use Rattle.reg_shell.specs.Checking.{ChecksUnder};
 ghost use Rattle.reg_shell.specs.declared.fault.Fault.TheVariants.{Stream};
 ghost use Rattle.reg_shell.specs.Faults.{fault_status, is_stream_fault};
 ghost use Rattle.reg_shell.specs.Reading.{TakesAtMost, longest_file};
 ghost use Rattle.reg_shell.specs.Streams.{has_failed, inner_of};
 
 use crate::fault::Fault;
+use crate::files::dictionary_in;
 use crate::input::read_file;
+use crate::refusal::Refusal;
 use crate::report::{Report, findings_report};
 use crate::watched::Watched;
 use ags_check::{CheckError, check};
@@ -121,4 +124,44 @@ pub fn run_without_words<R: Read, W: Write, E: Write>(
         Ok(dictionary) => check_stream(alloc, &dictionary, input, out, err),
         Err(refused) => Fault::from(refused).tell(err),
     }
+}
+
+/// Checks a file, if it was read, under the dictionary that bytes are: prints its findings, or `clean`, and gives the status.
+/// Bytes that are no dictionary are refused first, then the file, as why it was not read.
+pub fn check_given<'w, W: Write, E: Write>(
+    alloc: Global,
+    dictionary: &[u8],
+    file: Result<Vec<u8>, Refusal<'w>>,
+    out: &mut Watched<W>,
+    err: &mut Watched<E>,
+) -> Result<u8, Refusal<'w>>
+    requires out { has_failed out.old ≡ false }
+    requires err { has_failed err.old ≡ false }
+    ensures { IfOk result (λ status. ChecksUnder dictionary.now file.entry
+        (W.contents (inner_of out.old)) (W.contents (inner_of out.new))
+        (E.contents (inner_of err.old)) (E.contents (inner_of err.new))
+        (has_failed out.new) (has_failed err.new) status) }
+{
+    let dictionary = dictionary_in(alloc, dictionary)?;
+    let bytes = file?;
+    Ok(check_bytes(alloc, &dictionary, &bytes, out, err))
+}
+
+/// Checks bytes under a dictionary.
+fn check_bytes<W: Write, E: Write>(
+    alloc: Global,
+    dictionary: &Dictionary,
+    bytes: &[u8],
+    out: &mut Watched<W>,
+    err: &mut Watched<E>,
+) -> u8
+    requires out { has_failed out.old ≡ false }
+    requires err { has_failed err.old ≡ false }
+    ensures { (in_failed : Bool) × AnswersOn dictionary.now bytes.now
+        (W.contents (inner_of out.old)) (W.contents (inner_of out.new))
+        (E.contents (inner_of err.old)) (E.contents (inner_of err.new))
+        in_failed (has_failed out.new) (has_failed err.new) result }
+{
+    let mut input = Watched::new(bytes);
+    check_stream(alloc, dictionary, &mut input, out, err)
 }

@@ -1,5 +1,6 @@
 //! What the program reads, prints and is told, apart from any register: the words of the command line, the files that
-//! they name, the streams that are watched, the faults and reports that are printed, and the check of standard input.
+//! they name, the streams that are watched, the faults and reports that are printed, who asks, and the check of standard
+//! input or of a file under another dictionary.
 //!
 //! Words and streams are passed in, so that what is printed, what is said of a fault and the status of a run are
 //! contracts over readers and writers that tell their bytes.
@@ -11,13 +12,15 @@ mod files;
 mod input;
 mod refusal;
 mod report;
+mod session;
 mod watched;
 mod words;
 
-pub use check::{check_stream, run_without_words};
+pub use check::{check_given, check_stream, run_without_words};
 pub use fault::{Fault, tell};
 pub use files::{dictionary_in, read_path, read_rights};
 pub use refusal::Refusal;
 pub use report::{Report, findings_report};
+pub use session::{Session, day_or, session_of};
 pub use watched::{StreamFailed, Watched};
 pub use words::{Asker, Service, Words, read_words};
