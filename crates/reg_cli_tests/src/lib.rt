@@ -1,4 +1,4 @@
-//! Tests of `reg_cli`. Apart from it, so that it is proved once.
+//! Tests of `reg_shell` and `reg_cli`. Apart from them, so that they are proved once.
 #![tactic(auto)]
 
 #[cfg(test)]

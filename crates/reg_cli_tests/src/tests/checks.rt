@@ -1,27 +1,13 @@
+//! The check of a file that a stream carries, and what is printed of its findings.
+
+use super::run_over;
 use ags_rows::vectors::FILE_A;
 use ags_rows::{Code, NotedFindings};
-use reg_shell::{Report, Watched, findings_report, run_without_words};
+use reg_shell::{Report, findings_report};
 use std::alloc::{AllocError, Global};
 use std::io;
-use std::io::{Read, Write};
+use std::io::Read;
 use std::test::Fail;
-
-/// A run over streams: its status, and whether it is noted that the reader failed.
-fn run_over<R: Read, W: Write, E: Write>(
-    alloc: Global,
-    input: &mut R,
-    out: &mut W,
-    err: &mut E,
-) -> (u8, bool) {
-    let mut input = Watched::new(input);
-    let status = run_without_words(
-        alloc,
-        &mut input,
-        &mut Watched::new(out),
-        &mut Watched::new(err),
-    );
-    (status, input.has_failed())
-}
 
 /// A reader that notes the last byte that was asked for.
 #[derive(Drop)]
