@@ -5,9 +5,9 @@ use reg_store::KeepError;
 use reg_tables::{AdoptError, CreateError};
 use std::fmt::{Display, Write};
 
-static OF_CALLS: [KeepError; 3] = [KeepError::Full, KeepError::Store, KeepError::NoMemory];
+const OF_CALLS: [KeepError; 3] = [KeepError::Full, KeepError::Store, KeepError::NoMemory];
 
-static OF_ADOPTING: [AdoptError; 5] = [
+const OF_ADOPTING: [AdoptError; 5] = [
     AdoptError::NotRegister,
     AdoptError::Version(7),
     AdoptError::Version(-12),
@@ -15,7 +15,7 @@ static OF_ADOPTING: [AdoptError; 5] = [
     AdoptError::NoMemory,
 ];
 
-static OF_MAKING: [CreateError; 4] = [
+const OF_MAKING: [CreateError; 4] = [
     CreateError::Dictionary(DictError::NoDict),
     CreateError::NotEmpty,
     CreateError::Store,
