@@ -1,3 +1,1 @@
 pub mod Adopting
-pub mod Printing
-pub mod Asking

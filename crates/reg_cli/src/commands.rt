@@ -4,20 +4,16 @@ ghost use Rattle.std.specs.Prelude.{◌≡◌, ◌≤◌, false, IfSome, length}
 ghost use Rattle.ags_dict.specs.Mini.{mini_entries};
 ghost use Rattle.reg_shell.specs.Answers.{AnswersOn};
 ghost use Rattle.reg_shell.specs.Streams.{has_failed, inner_of};
-ghost use Rattle.reg_desk.specs.Asked.{asked, deposit, extract, listing, names_in};
-ghost use Rattle.reg_desk.specs.Desks.{AnsweredBy};
-ghost use Rattle.reg_cli.specs.Asking.{AsksDesk};
 
-use crate::answers::answer_report;
 use crate::serving::{serve, serve_desk};
 use crate::stores::{create_store, not_made, open_store};
 use ags_rows::LIMIT;
-use reg_desk::{Desk, Request};
+use reg_desk::Desk;
 use reg_http::{groups_listed, number_of_deposit};
 use reg_policy::{Callers, Day, Policy};
 use reg_shell::{
-    Asker, Fault, Refusal, Session, Watched, Words, check_given, day_or, read_path, read_rights,
-    read_words, run_without_words, session_of, tell,
+    Asker, Fault, Refusal, Session, Watched, Words, ask_deposit, ask_extract, ask_list, check_given,
+    day_or, read_path, read_rights, read_words, run_without_words, session_of, tell,
 };
 use reg_store::Keep;
 use reg_tables::SqlKeep;
@@ -84,22 +80,6 @@ fn check_file<'w, W: Write, E: Write>(
     check_given(alloc, &dictionary, read_path(rt, alloc, file), out, err)
 }
 
-/// Asks the desk, and prints its answer.
-fn ask_desk<'w, K: Keep, W: Write>(
-    alloc: Global,
-    desk: &mut Desk<K>,
-    request: &Request<'_>,
-    out: &mut Watched<W>,
-) -> Result<u8, Refusal<'w>>
-    ensures { AsksDesk (AnsweredBy K.Keep) (asked request.entry.now) desk.old desk.new
-        (W.contents (inner_of out.old)) (W.contents (inner_of out.new))
-        (has_failed out.old) (has_failed out.new) result }
-{
-    let answer = desk.answer(alloc, request);
-    let report = answer_report(alloc, answer)?;
-    Ok(report.print(out))
-}
-
 fn deposit<'w, W: Write>(
     rt: &HostRuntime,
     alloc: Global,
@@ -135,31 +115,6 @@ fn deposit_as<'w, W: Write>(
     use_store(rt, alloc, store, policy, &task, out)
 }
 
-/// Asks the desk to keep a file, as the one who asks. Its one refusal is want of memory: then nothing is printed, and the
-/// desk is as its answer left it.
-pub fn ask_deposit<'w, K: Keep, W: Write>(
-    alloc: Global,
-    desk: &mut Desk<K>,
-    session: &Session<'_>,
-    embargo: Day,
-    bytes: &[u8],
-    out: &mut Watched<W>,
-) -> Result<u8, Refusal<'w>>
-    ensures { AsksDesk (AnsweredBy K.Keep)
-        (deposit session.now.caller.now session.now.project embargo bytes.now session.now.day)
-        desk.old desk.new (W.contents (inner_of out.old)) (W.contents (inner_of out.new))
-        (has_failed out.old) (has_failed out.new) result }
-{
-    let request = Request::Deposit {
-        caller: session.caller,
-        project: &session.project,
-        embargo,
-        bytes,
-        day: session.day,
-    };
-    ask_desk(alloc, desk, &request, out)
-}
-
 fn list<'w, W: Write>(
     rt: &HostRuntime,
     alloc: Global,
@@ -171,26 +126,6 @@ fn list<'w, W: Write>(
     let session = session_of(alloc, &callers, asker, today)?;
     let task = Task::List { session: &session };
     use_store(rt, alloc, asker.store, policy, &task, out)
-}
-
-/// Asks the desk for the deposits of a project, as the one who asks.
-fn ask_list<'w, K: Keep, W: Write>(
-    alloc: Global,
-    desk: &mut Desk<K>,
-    session: &Session<'_>,
-    out: &mut Watched<W>,
-) -> Result<u8, Refusal<'w>>
-    ensures { AsksDesk (AnsweredBy K.Keep)
-        (listing session.now.caller.now session.now.project session.now.day) desk.old desk.new
-        (W.contents (inner_of out.old)) (W.contents (inner_of out.new))
-        (has_failed out.old) (has_failed out.new) result }
-{
-    let request = Request::List {
-        caller: session.caller,
-        project: &session.project,
-        day: session.day,
-    };
-    ask_desk(alloc, desk, &request, out)
 }
 
 /// The groups that a text lists; none for all.
@@ -221,30 +156,6 @@ fn extract<'w, W: Write>(
         groups: &groups,
     };
     use_store(rt, alloc, asker.store, policy, &task, out)
-}
-
-/// Asks the desk for an extract, as the one who asks.
-fn ask_extract<'w, K: Keep, W: Write>(
-    alloc: Global,
-    desk: &mut Desk<K>,
-    session: &Session<'_>,
-    number: u32,
-    groups: &[&[u8]],
-    out: &mut Watched<W>,
-) -> Result<u8, Refusal<'w>>
-    ensures { AsksDesk (AnsweredBy K.Keep)
-        (extract session.now.caller.now session.now.project number (names_in groups.now) session.now.day)
-        desk.old desk.new (W.contents (inner_of out.old)) (W.contents (inner_of out.new))
-        (has_failed out.old) (has_failed out.new) result }
-{
-    let request = Request::Extract {
-        caller: session.caller,
-        project: &session.project,
-        number,
-        groups,
-        day: session.day,
-    };
-    ask_desk(alloc, desk, &request, out)
 }
 
 /// Opens the register in the file at a path, and does with it what is asked. Each command that opens one comes here: a keep is

@@ -2,3 +2,4 @@ pub mod Taking
 pub mod Answering
 pub mod BuiltIn
 pub mod Telling
+pub mod Printing

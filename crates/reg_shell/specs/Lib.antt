@@ -6,3 +6,5 @@ pub mod Writing
 pub mod Answers
 pub mod Refusals
 pub mod Checking
+pub mod Printing
+pub mod Asking

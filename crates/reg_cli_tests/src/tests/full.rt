@@ -4,11 +4,10 @@ ghost use Rattle.std.specs.Prelude.{◌≡◌, false};
 
 use ags_dict::Dictionary;
 use ags_rows::vectors::{FILE_A, FILE_B, MINI};
-use reg_cli::ask_deposit;
 use reg_desk::Desk;
 use reg_policy::vectors::{CALLERS, POLICY};
 use reg_policy::{Callers, Day, Policy};
-use reg_shell::{Asker, Session, Watched, session_of};
+use reg_shell::{Asker, Session, Watched, ask_deposit, session_of};
 use reg_store::{Keep, PlainKeep};
 use std::alloc::Global;
 use std::test::Fail;

@@ -1,6 +1,6 @@
 use Rattle.std.proofs.Common.{refl, ap, ◌++◌, ◌∙◌}
-use Rattle.reg_cli.proofs.Printing.{lists_none, lists_next, lists_all}
-use Rattle.reg_cli.proofs.answers.listing_report.Goals as goal
+use Rattle.reg_shell.proofs.Printing.{lists_none, lists_next, lists_all}
+use Rattle.reg_shell.proofs.printing.listing_report.Goals as goal
 
 pub loop-listed-init : goal.loop-listed-init
 loop-listed-init c = lists_none c.args.listing.now _ c.new-text.ensures.items

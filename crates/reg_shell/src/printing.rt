@@ -1,12 +1,12 @@
 //! What is printed of an answer of the desk.
 
 ghost use Rattle.std.specs.Prelude.{◌≡◌, ◌++◌, IfOk, OnOk, codes, decimal};
-ghost use Rattle.reg_cli.specs.Printing.{IsListedLine, IsReceipt, ListsAs, ReportsAnswer};
+ghost use Rattle.reg_shell.specs.Printing.{IsListedLine, IsReceipt, ListsAs, ReportsAnswer};
 
+use crate::report::{Report, findings_report};
 use ags_rows::{FindingList, Sequence};
 use reg_desk::{Answer, Listed};
 use reg_policy::Day;
-use reg_shell::{Report, findings_report};
 use std::alloc::{AllocError, Global};
 use std::io::Write;
 

@@ -6,7 +6,7 @@ use Rattle.reg_shell.specs.declared.refusal.Refusal.{Refusal}
 use Rattle.reg_shell.specs.declared.refusal.Refusal.TheVariants.{Plain}
 use Rattle.reg_desk.specs.Asked.{Asked}
 use Rattle.reg_desk.specs.declared.answer.Answer.{Answer}
-use Rattle.reg_cli.specs.Printing.{IsPrinted, status_of}
+use Rattle.reg_shell.specs.Printing.{IsPrinted, status_of}
 
 -- The answer was printed, or the writer failed, and the run ends with its status; or there was no memory for its text.
 abbrev pub PrintsAnswer : Answer → Option (List ℕ) → Option (List ℕ) → Bool → Bool → Result ℕ Refusal → Type 0

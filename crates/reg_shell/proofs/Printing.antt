@@ -5,7 +5,7 @@ use Rattle.std.specs.Global.{Global}
 use Rattle.reg_policy.specs.Days.{Writes}
 use Rattle.reg_desk.specs.declared.answer.Listed.{Listed}
 use Rattle.std.proofs.lemmas.List.{take_more, take_all}
-use Rattle.reg_cli.specs.Printing.{IsListedLine, ListsAs, empty, next}
+use Rattle.reg_shell.specs.Printing.{IsListedLine, ListsAs, empty, next}
 
 -- a line with the text of its embargo day
 pub listed_with : {E : Type 0} (listed : Listed) (day given : List ℕ) (r : Result (Vec ℕ Global) E) → Writes day listed.embargo → given ≡ day

@@ -1,0 +1,101 @@
+//! What is asked of a desk, and that its answer is printed.
+
+ghost use Rattle.reg_shell.specs.Streams.{has_failed, inner_of};
+ghost use Rattle.reg_desk.specs.Asked.{asked, deposit, extract, listing, names_in};
+ghost use Rattle.reg_desk.specs.Desks.{AnsweredBy};
+ghost use Rattle.reg_shell.specs.Asking.{AsksDesk};
+
+use crate::printing::answer_report;
+use crate::refusal::Refusal;
+use crate::session::Session;
+use crate::watched::Watched;
+use reg_desk::{Desk, Request};
+use reg_policy::Day;
+use reg_store::Keep;
+use std::alloc::Global;
+use std::io::Write;
+
+/// Asks the desk, and prints its answer.
+fn ask_desk<'w, K: Keep, W: Write>(
+    alloc: Global,
+    desk: &mut Desk<K>,
+    request: &Request<'_>,
+    out: &mut Watched<W>,
+) -> Result<u8, Refusal<'w>>
+    ensures { AsksDesk (AnsweredBy K.Keep) (asked request.entry.now) desk.old desk.new
+        (W.contents (inner_of out.old)) (W.contents (inner_of out.new))
+        (has_failed out.old) (has_failed out.new) result }
+{
+    let answer = desk.answer(alloc, request);
+    let report = answer_report(alloc, answer)?;
+    Ok(report.print(out))
+}
+
+/// Asks the desk to keep a file, as the one who asks. Its one refusal is want of memory: then nothing is printed, and the
+/// desk is as its answer left it.
+pub fn ask_deposit<'w, K: Keep, W: Write>(
+    alloc: Global,
+    desk: &mut Desk<K>,
+    session: &Session<'_>,
+    embargo: Day,
+    bytes: &[u8],
+    out: &mut Watched<W>,
+) -> Result<u8, Refusal<'w>>
+    ensures { AsksDesk (AnsweredBy K.Keep)
+        (deposit session.now.caller.now session.now.project embargo bytes.now session.now.day)
+        desk.old desk.new (W.contents (inner_of out.old)) (W.contents (inner_of out.new))
+        (has_failed out.old) (has_failed out.new) result }
+{
+    let request = Request::Deposit {
+        caller: session.caller,
+        project: &session.project,
+        embargo,
+        bytes,
+        day: session.day,
+    };
+    ask_desk(alloc, desk, &request, out)
+}
+
+/// Asks the desk for the deposits of a project, as the one who asks.
+pub fn ask_list<'w, K: Keep, W: Write>(
+    alloc: Global,
+    desk: &mut Desk<K>,
+    session: &Session<'_>,
+    out: &mut Watched<W>,
+) -> Result<u8, Refusal<'w>>
+    ensures { AsksDesk (AnsweredBy K.Keep)
+        (listing session.now.caller.now session.now.project session.now.day) desk.old desk.new
+        (W.contents (inner_of out.old)) (W.contents (inner_of out.new))
+        (has_failed out.old) (has_failed out.new) result }
+{
+    let request = Request::List {
+        caller: session.caller,
+        project: &session.project,
+        day: session.day,
+    };
+    ask_desk(alloc, desk, &request, out)
+}
+
+/// Asks the desk for an extract, as the one who asks.
+pub fn ask_extract<'w, K: Keep, W: Write>(
+    alloc: Global,
+    desk: &mut Desk<K>,
+    session: &Session<'_>,
+    number: u32,
+    groups: &[&[u8]],
+    out: &mut Watched<W>,
+) -> Result<u8, Refusal<'w>>
+    ensures { AsksDesk (AnsweredBy K.Keep)
+        (extract session.now.caller.now session.now.project number (names_in groups.now) session.now.day)
+        desk.old desk.new (W.contents (inner_of out.old)) (W.contents (inner_of out.new))
+        (has_failed out.old) (has_failed out.new) result }
+{
+    let request = Request::Extract {
+        caller: session.caller,
+        project: &session.project,
+        number,
+        groups,
+        day: session.day,
+    };
+    ask_desk(alloc, desk, &request, out)
+}
