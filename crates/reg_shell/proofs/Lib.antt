@@ -2,4 +2,4 @@ pub mod Taking
 pub mod Answering
 pub mod BuiltIn
 pub mod Telling
-pub mod Printing
+pub mod Printed

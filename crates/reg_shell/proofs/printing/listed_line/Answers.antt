@@ -1,5 +1,5 @@
 use Rattle.std.proofs.Common.{refl}
-use Rattle.reg_shell.proofs.Printing.{listed_with}
+use Rattle.reg_shell.proofs.Printed.{listed_with}
 use Rattle.reg_shell.proofs.printing.listed_line.Goals as goal
 
 pub returns : goal.returns

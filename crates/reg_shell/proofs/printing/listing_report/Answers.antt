@@ -1,5 +1,5 @@
 use Rattle.std.proofs.Common.{refl, ap, ◌++◌, ◌∙◌}
-use Rattle.reg_shell.proofs.Printing.{lists_none, lists_next, lists_all}
+use Rattle.reg_shell.proofs.Printed.{lists_none, lists_next, lists_all}
 use Rattle.reg_shell.proofs.printing.listing_report.Goals as goal
 
 pub loop-listed-init : goal.loop-listed-init
