@@ -3,7 +3,7 @@ use Rattle.std.proofs.Common.{◌≡◌, ◌≢◌, ℕ, Bool, true, false, List
 use Rattle.std.specs.Prelude.{◌↔◌, IsTrue, codes}
 use Rattle.std.proofs.lemmas.Bool.{true≢false}
 use Rattle.ags_rows.specs.Contents.{Contents}
-use Rattle.ags_rows.specs.Names.{is_definition}
+use Rattle.ags_text.specs.Names.{is_definition}
 use Rattle.ags_links.specs.DataRows.{DataRow, IsDataRow, Between, entry_of, data_rows}
 use Rattle.ags_links.specs.Steps.{IsFileRow}
 use Rattle.ags_links.proofs.Lemmas.{one_at}

@@ -7,7 +7,7 @@ use Rattle.std.proofs.lemmas.Bool.{true≢false}
 use Rattle.std.proofs.lemmas.List.{take-append-drop, take_at}
 use Rattle.std.proofs.lemmas.List.Prefix.{front_rest}
 use Rattle.std.proofs.lemmas.Slice.Eq.{bytes_eq-Decides}
-use Rattle.ags_rows.specs.Bytes.{low_line}
+use Rattle.ags_text.specs.Bytes.{low_line}
 use Rattle.ags_check.specs.Header.{BeginsWithName}
 
 -- the text is its front and the rest

@@ -3,7 +3,7 @@
 -- handed in, `entries` those of it and of the file's DICT.
 use Rattle.std.specs.Prelude.{◌≡◌, ℕ, ◌<◌, List, ◌++◌, ◌∷◌, length, codes, false, Some, Contains}
 use Rattle.ags_rows.specs.Collecting.{At}
-use Rattle.ags_rows.specs.Bytes.{low_line}
+use Rattle.ags_text.specs.Bytes.{low_line}
 use Rattle.ags_rows.specs.Contents.{Contents, place_in, under}
 use Rattle.ags_dict.specs.Entries.{Entries, order_of, parent_of, elsewhere}
 

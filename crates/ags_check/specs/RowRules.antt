@@ -2,7 +2,7 @@
 -- `file` is what the file holds, `entries` are those of the extended dictionary.
 -- What stands under a heading that a group does not have reads as null.
 use Rattle.std.specs.Prelude.{◌≡◌, ◌≢◌, ℕ, ◌<◌, List, [], codes, false, Some, Contains}
-use Rattle.ags_rows.specs.Names.{is_definition}
+use Rattle.ags_text.specs.Names.{is_definition}
 use Rattle.ags_rows.specs.Contents.{Contents, under}
 use Rattle.ags_rows.specs.Parts.{parts_at}
 use Rattle.ags_dict.specs.Entries.{Entries, keys_of, parent_of}

@@ -5,7 +5,7 @@ use Rattle.std.specs.List.{filter, find, list_any, list_all}
 use Rattle.std.specs.Option.{option_and_then}
 use Rattle.std.specs.Str.{bytes_eq}
 use Rattle.ags_rows.specs.Contents.{Contents, under}
-use Rattle.ags_rows.specs.Bytes.{plus}
+use Rattle.ags_text.specs.Bytes.{plus}
 use Rattle.ags_rows.specs.Parts.{has_part}
 use Rattle.ags_dict.specs.declared.entries.GroupEntry.{GroupEntry}
 use Rattle.ags_dict.specs.declared.entries.HeadingEntry.{HeadingEntry}

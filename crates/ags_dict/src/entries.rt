@@ -2,7 +2,7 @@
 
 ghost use Rattle.std.specs.Prelude.{◌≡◌, IfOk};
 
-use ags_rows::{Bytes, copy};
+use ags_text::{Bytes, copy};
 use std::alloc::{AllocError, Global};
 
 /// An entry for a group.

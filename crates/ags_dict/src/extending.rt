@@ -8,7 +8,8 @@ use crate::dictionary::Dictionary;
 use crate::entries::{GroupEntry, HeadingEntry};
 use crate::groups::GroupEntries;
 use crate::headings::HeadingEntries;
-use ags_rows::{Cell, Group, Scan, under};
+use ags_rows::{Group, Scan, under};
+use ags_text::Cell;
 use std::alloc::{AllocError, Global};
 
 /// The entries with the group entry of a row of DICT, if it makes a new one.

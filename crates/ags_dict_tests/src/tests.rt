@@ -1,6 +1,7 @@
 use ags_dict::{DictError, Dictionary};
 use ags_rows::vectors::{FILE_A, MINI};
-use ags_rows::{FindingList, READABLE, Scan, Sequence};
+use ags_rows::{FindingList, READABLE, Scan};
+use ags_text::Sequence;
 use std::alloc::{AllocError, Global};
 use std::fmt::Write;
 use std::test::Fail;

@@ -4,7 +4,7 @@ use Rattle.std.specs.Prelude.{◌||◌, codes}
 use Rattle.std.specs.Str.{bytes_eq}
 use Rattle.std.proofs.lemmas.Bool.{true≢false, cond-true}
 use Rattle.std.proofs.lemmas.Option.{none-some}
-use Rattle.ags_rows.specs.Names.{is_definition}
+use Rattle.ags_text.specs.Names.{is_definition}
 use Rattle.ags_dict.specs.Entries.{Entries, has_no_parent, parent_of}
 use Rattle.ags_links.specs.declared.separators.Separators.{Separators}
 use Rattle.ags_links.specs.DataRows.{DataRow}

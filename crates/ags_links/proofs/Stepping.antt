@@ -6,7 +6,7 @@ use Rattle.std.proofs.lemmas.Bool.{true≢false, cases_lt}
 use Rattle.std.proofs.lemmas.Slice.Eq.{bytes_eq-Decides}
 use Rattle.std.proofs.lemmas.List.{get_or_append_left, get_or-append_right, get_or-map, length-append, length-map}
 use Rattle.std.proofs.lemmas.List.Elements.{Contains-append_left, Contains-append_right, Contains-append_cases, Contains-get_or}
-use Rattle.ags_rows.specs.Names.{is_definition}
+use Rattle.ags_text.specs.Names.{is_definition}
 use Rattle.ags_links.specs.Adding.{AddsRows}
 use Rattle.ags_links.specs.DataRows.{DataFile, DataRow, IsDataRow, ListsRows}
 use Rattle.ags_links.specs.Indexing.{rows_in, IsParentAt, IsLinkedAt, IsLinkStepAt, IsFileRowAt, IsFileStepAt}

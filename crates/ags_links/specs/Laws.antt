@@ -1,7 +1,7 @@
 -- Laws over the definitions alone.
 use Rattle.std.specs.Prelude.{◌≡◌, ◌≤◌, ◌+◌, ◌↔◌, ℕ, List, Bool, true, length}
 use Rattle.ags_rows.specs.Contents.{Contents}
-use Rattle.ags_rows.specs.Names.{is_definition}
+use Rattle.ags_text.specs.Names.{is_definition}
 use Rattle.ags_links.specs.DataRows.{DataFile, DataRow, IsAt, IsDataRow, IsRowOfGroup, data_rows, rows_before}
 use Rattle.ags_links.specs.Steps.{StepAt, IsGraphOf}
 use Rattle.ags_links.specs.Walks.{Wiring, HasStep, Reaches, IsMarked, IsShown, IsReached}

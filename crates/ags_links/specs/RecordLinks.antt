@@ -4,7 +4,7 @@ use Rattle.std.specs.List.{find}
 use Rattle.std.specs.Option.{option_map_or}
 use Rattle.std.specs.Str.{bytes_eq}
 use Rattle.ags_rows.specs.Contents.{Contents, under}
-use Rattle.ags_rows.specs.Bytes.{plus}
+use Rattle.ags_text.specs.Bytes.{plus}
 use Rattle.ags_dict.specs.Entries.{Entries}
 use Rattle.ags_rows.specs.Parts.{parts_at}
 use Rattle.ags_links.specs.declared.separators.Separators.{Separators}

@@ -3,7 +3,7 @@
 use Rattle.std.specs.Prelude.{◌≡◌, ◌≢◌, ◌<◌, ◌+◌, ◌⊎◌, ◌↔◌, ℕ, List, [], ◌∷◌, false, length, codes, Contains, slice_index_or}
 use Rattle.std.specs.List.{AllByRecursion}
 use Rattle.ags_rows.specs.Contents.{under}
-use Rattle.ags_rows.specs.Names.{is_definition}
+use Rattle.ags_text.specs.Names.{is_definition}
 use Rattle.ags_dict.specs.Entries.{Entries}
 use Rattle.ags_links.specs.DataRows.{DataFile, DataRow, entry_of, data_rows, Between}
 use Rattle.ags_links.specs.Parents.{IsParentRow}

@@ -3,14 +3,14 @@
 
 ghost use Rattle.std.specs.Prelude.{◌≡◌, ◌<◌, ◌&&◌, not, codes, IfOk, OnOk, length, map};
 ghost use Rattle.std.specs.Str.{bytes_eq};
-ghost use Rattle.ags_rows.specs.Names.{is_definition};
+ghost use Rattle.ags_text.specs.Names.{is_definition};
 ghost use Rattle.ags_links.specs.Adding.{AddsRows};
 ghost use Rattle.ags_links.specs.DataRows.{ListsRows};
 ghost use Rattle.ags_links.specs.Indexing.{rows_in, IsNamedAmong, IsLinkedAt, IsLinkStepAt, IsFileStepAt};
 ghost use Rattle.ags_links.specs.Steps.{StepAt};
 
 use crate::index::{Index, each_once};
-use ags_rows::is_definition;
+use ags_text::is_definition;
 use std::alloc::{AllocError, Global};
 
 /// Adds the rows that the parts name; a part that names none adds none.

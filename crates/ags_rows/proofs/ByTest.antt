@@ -6,8 +6,8 @@ use Rattle.std.specs.Str.{bytes_eq}
 use Rattle.std.proofs.lemmas.Bool.{and_parts, eqb-true, eqb-false, ltb-true}
 use Rattle.std.proofs.lemmas.Slice.Eq.{bytes_eq-Decides}
 use Rattle.std.proofs.lemmas.Map.Made.{AllPairs-from_IsDistinct}
-use Rattle.ags_rows.specs.Bytes.{ascii_end, carriage_return, line_feed}
-use Rattle.ags_rows.specs.Names.{is_group_name, is_heading_name}
+use Rattle.ags_text.specs.Bytes.{ascii_end, carriage_return, line_feed}
+use Rattle.ags_text.specs.Names.{is_group_name, is_heading_name}
 use Rattle.ags_rows.specs.Contents.{Contents}
 use Rattle.ags_rows.specs.Writing.{IsPlainByte, ArePlain, StandOnce, AreUnder, AreHeadings, IsWellFormedGroup, IsWellFormed, group_names}
 use Rattle.ags_rows.proofs.Repeats.{not_is}

@@ -7,7 +7,7 @@ use Rattle.ags_rows.specs.declared.rows.Group.{Group}
 use Rattle.ags_rows.specs.declared.code.Code.{Code}
 use Rattle.ags_rows.specs.declared.code.Code.TheVariants.{Rule2, Rule4, Rule19, Rule19a, P1, P2}
 use Rattle.ags_rows.specs.declared.finding.Finding.{Finding}
-use Rattle.ags_rows.specs.Names.{is_group_name, is_heading_name}
+use Rattle.ags_text.specs.Names.{is_group_name, is_heading_name}
 use Rattle.ags_rows.specs.Collecting.{At, Among, OneOf}
 use Rattle.ags_rows.specs.Stands.{shape_rules, StandsInName, StandsInGroups}
 use Rattle.ags_rows.specs.Contents.{contents_of, fields_of, group_contents}

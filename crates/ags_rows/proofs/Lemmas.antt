@@ -16,5 +16,3 @@ pub use Rattle.ags_rows.proofs.Mini.{mini_groups}
 pub use Rattle.ags_rows.proofs.Fields.{line_spells, same_fields}
 pub use Rattle.ags_rows.proofs.RoundTrip.{file_is_read}
 pub use Rattle.ags_rows.proofs.WellFormed.{read_plain}
--- Equality of a name with names of a list may be asked either way.
-pub use Rattle.ags_rows.proofs.Named.{any_other_way}

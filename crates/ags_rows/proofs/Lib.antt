@@ -22,5 +22,4 @@ pub mod Loosely
 pub mod ByTest
 pub mod Mini
 pub mod RowTexts
-pub mod Named
 pub mod Lemmas

@@ -14,7 +14,7 @@ use Rattle.ags_rows.specs.declared.code.Code.{Code}
 use Rattle.ags_rows.specs.declared.code.Code.TheVariants.{Rule19, Rule19a, P1, P2}
 use Rattle.ags_rows.specs.declared.finding.Finding.{Finding}
 use Rattle.ags_rows.specs.declared.rows.Group.{Group}
-use Rattle.ags_rows.specs.Names.{is_group_name, is_heading_name}
+use Rattle.ags_text.specs.Names.{is_group_name, is_heading_name}
 use Rattle.ags_rows.specs.Collecting.{At, Adds, Among, OneOf}
 use Rattle.ags_rows.specs.Stands.{IsRepeat, StandsInName, shape_rules, group_rules}
 use Rattle.ags_rows.specs.Parsing.{IsMet, met_rules}

@@ -5,7 +5,7 @@ use Rattle.std.proofs.lemmas.List.{append-nil, map-append, take_all, take_more}
 use Rattle.ags_rows.specs.declared.rows.Descriptor.TheVariants as kinds
 use Rattle.ags_rows.specs.declared.rows.Row.{Row}
 use Rattle.ags_rows.specs.declared.rows.Ending.TheVariants.{CrLf}
-use Rattle.ags_rows.specs.Bytes.{comma}
+use Rattle.ags_text.specs.Bytes.{comma}
 use Rattle.ags_rows.specs.Spelling.{quoted}
 use Rattle.ags_rows.specs.Rows.{descriptor_text}
 use Rattle.ags_rows.specs.Lines.{TextLine, ending_bytes, line_bytes}

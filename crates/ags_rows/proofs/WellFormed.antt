@@ -11,7 +11,7 @@ use Rattle.ags_rows.specs.declared.rows.Group.{Group}
 use Rattle.ags_rows.specs.declared.code.Code.{Code}
 use Rattle.ags_rows.specs.declared.code.Code.TheVariants as codes
 use Rattle.ags_rows.specs.declared.finding.Finding.{Finding}
-use Rattle.ags_rows.specs.Bytes.{Lacks}
+use Rattle.ags_text.specs.Bytes.{Lacks}
 use Rattle.ags_rows.specs.Spelling.{Spells, IsPiece, doubled, quoted}
 use Rattle.ags_rows.specs.Lines.{TextLine}
 use Rattle.ags_rows.specs.Rows.{descriptor_text, IsRow, RowsFrom}

@@ -13,7 +13,7 @@ use Rattle.ags_rows.specs.declared.rows.FileRow.{FileRow}
 use Rattle.ags_rows.specs.declared.rows.Row.{Row}
 use Rattle.ags_rows.specs.declared.rows.Group.{Group}
 use Rattle.ags_rows.specs.declared.finding.Finding.{Finding}
-use Rattle.ags_rows.specs.Bytes.{Lacks}
+use Rattle.ags_text.specs.Bytes.{Lacks}
 use Rattle.ags_rows.specs.Spelling.{Spells, doubled, quoted, line_of}
 use Rattle.ags_rows.specs.Lines.{TextLine, Lines, line_bytes, ending_bytes, after_byte_order_mark}
 use Rattle.ags_rows.specs.Rows.{descriptor_text, IsRow, RowsFrom}
@@ -24,7 +24,7 @@ use Rattle.ags_rows.specs.Stands.{line_rules, StandsInLines, StandsInOrder}
 use Rattle.ags_rows.specs.Parsing.{IsFirstLine, MayStandBehind}
 use Rattle.ags_rows.specs.Contents.{Contents, group_contents}
 use Rattle.ags_rows.specs.Writing.{written_row, group_lines, empty_line, written_lines, text_of, written_file, IsPlainByte, ArePlain, IsPlainGroup, IsWellFormedGroup, IsWellFormed}
-use Rattle.ags_rows.specs.Names.{is_capital, is_digit, is_group_name, is_heading_name}
+use Rattle.ags_text.specs.Names.{is_capital, is_digit, is_group_name, is_heading_name}
 use Rattle.ags_rows.proofs.Fields.{same_fields, line_spells}
 use Rattle.ags_rows.proofs.Cuts.{type_ends, groups_behind}
 use Rattle.ags_rows.proofs.Cutting.{AreCut, lines_from_cut}

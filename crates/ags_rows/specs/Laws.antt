@@ -1,7 +1,7 @@
 -- Laws over the definitions alone.
 use Rattle.std.specs.Prelude.{◌≡◌, ◌≢◌, ◌≤◌, ◌↔◌, ℕ, List, [], ◌∷◌, map, filter, length, Contains, Option, Some, MatchOption}
 use Rattle.std.specs.List.{AllByRecursion}
-use Rattle.ags_rows.specs.Bytes.{carriage_return, line_feed, Lacks}
+use Rattle.ags_text.specs.Bytes.{carriage_return, line_feed, Lacks}
 use Rattle.ags_rows.specs.Spelling.{Spells, line_of}
 use Rattle.ags_rows.specs.declared.finding.Finding.{Finding}
 use Rattle.ags_rows.specs.Findings.{RowFindings, LooseFindings, FileGroups, LooseGroups}

@@ -1,6 +1,4 @@
-pub mod Bytes
 pub mod Codes
-pub mod Text
 pub mod Collecting
 pub mod Lines
 pub mod Spelling
@@ -8,7 +6,6 @@ pub mod Rows
 pub mod Order
 pub mod Groups
 pub mod FindingOrder
-pub mod Names
 pub mod Contents
 pub mod Parts
 pub mod Places

@@ -8,9 +8,9 @@ use Rattle.ags_rows.specs.declared.rows.FileRow.{FileRow}
 use Rattle.ags_rows.specs.declared.finding.Finding.{Finding}
 use Rattle.ags_rows.specs.declared.code.Code.{Code}
 use Rattle.ags_rows.specs.declared.code.Code.TheVariants.{Rule1, Rule2, Rule2a, Rule2b, Rule3, Rule4, Rule5, Rule6, Rule19, Rule19a, P1, P2}
-use Rattle.ags_rows.specs.Bytes.{space, carriage_return, ascii_end, Lacks}
+use Rattle.ags_text.specs.Bytes.{space, carriage_return, ascii_end, Lacks}
 use Rattle.ags_rows.specs.declared.rows.Group.{Group}
-use Rattle.ags_rows.specs.Names.{is_group_name, is_heading_name}
+use Rattle.ags_text.specs.Names.{is_group_name, is_heading_name}
 use Rattle.ags_rows.specs.Collecting.{At, Notes, Among, OneOf}
 use Rattle.ags_rows.specs.Lines.{TextLine}
 use Rattle.ags_rows.specs.Spelling.{Spells}

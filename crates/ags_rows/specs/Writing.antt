@@ -3,8 +3,8 @@ use Rattle.std.specs.Prelude.{◌≡◌, ◌≢◌, ◌<◌, ℕ, List, [], ◌�
 use Rattle.std.specs.List.{AllByRecursion, AllPairs}
 use Rattle.ags_rows.specs.declared.rows.Ending.TheVariants.{CrLf}
 use Rattle.ags_rows.specs.declared.rows.Descriptor.{Descriptor}
-use Rattle.ags_rows.specs.Bytes.{ascii_end, carriage_return, line_feed}
-use Rattle.ags_rows.specs.Names.{is_group_name, is_heading_name}
+use Rattle.ags_text.specs.Bytes.{ascii_end, carriage_return, line_feed}
+use Rattle.ags_text.specs.Names.{is_group_name, is_heading_name}
 use Rattle.ags_rows.specs.Contents.{Contents}
 use Rattle.ags_rows.specs.Lines.{TextLine, line_bytes}
 use Rattle.ags_rows.specs.Rows.{descriptor_text}

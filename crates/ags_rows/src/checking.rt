@@ -3,7 +3,7 @@
 ghost use Rattle.std.specs.Prelude.{◌≢◌, ◌∷◌, List, [], length, OnOk, IsErrOf};
 ghost use Rattle.ags_rows.specs.declared.code.Code.TheVariants.{Rule4, Rule19, Rule19a, P1, P2};
 ghost use Rattle.ags_rows.specs.declared.finding.Finding.{Finding};
-ghost use Rattle.ags_rows.specs.Names.{is_group_name, is_heading_name};
+ghost use Rattle.ags_text.specs.Names.{is_group_name, is_heading_name};
 ghost use Rattle.ags_rows.specs.Collecting.{OneOf, Among, Notes, Adds};
 ghost use Rattle.ags_rows.specs.Stands.{shape_rules, StandsInName, StandsInGroups};
 ghost use Rattle.ags_rows.specs.Findings.{AreExactly};
@@ -11,9 +11,9 @@ ghost use Rattle.ags_rows.specs.Parsing.{IsMet, MeetsAlso, met_rules};
 
 use crate::code::Code;
 use crate::finding::NotedFindings;
-use crate::names::{is_group_name, is_heading_name};
 use crate::rows::{Group, Row};
 use crate::scanning::{RowsError, none_noted};
+use ags_text::{is_group_name, is_heading_name};
 use std::alloc::{AllocError, Global};
 use std::collections::BTreeMap;
 

@@ -1,32 +1,26 @@
 //! Lines, rows and groups of an AGS4 file.
 #![tactic(auto)]
 
-mod cell;
 mod checking;
 mod code;
 mod contents;
 mod finding;
 mod grouping;
 pub mod laws;
-mod names;
 mod ordering;
 mod places;
 mod rows;
 mod scanning;
-mod sequence;
 mod spelling;
 pub mod vectors;
 mod writing;
 
-pub use cell::Cell;
 pub use code::Code;
-pub use contents::{cell_at, copy, place_in, under};
+pub use contents::{cell_at, place_in, under};
 pub use finding::{Finding, FindingList, FindingRef, NotedFindings};
-pub use names::{is_definition, is_group_name, is_heading_name, is_within};
 pub use places::Places;
 pub use rows::{Descriptor, Group, Row};
 pub use scanning::{RowsError, Scan};
-pub use sequence::{Bytes, Sequence};
 pub use spelling::cells;
 pub use writing::{quote, write_group, write_line, write_row};
 

@@ -4,7 +4,7 @@ ghost use Rattle.std.specs.Prelude.{◌≡◌, ℕ, List, IfOk, OnOk, map};
 ghost use Rattle.ags_rows.specs.Contents.{place_in};
 ghost use Rattle.ags_rows.specs.Places.{first_of, place_if, place_at, AreFirst};
 
-use crate::cell::Cell;
+use ags_text::Cell;
 use std::alloc::{AllocError, Global};
 use std::collections::BTreeMap;
 use std::marker::Model;

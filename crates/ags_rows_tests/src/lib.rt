@@ -1,4 +1,4 @@
-//! Tests of `ags_rows`. Apart from it, so that it is proved once.
+//! Tests of `ags_text` and `ags_rows`. Apart from them, so that they are proved once.
 #![tactic(auto)]
 
 #[cfg(test)]

@@ -6,7 +6,7 @@ use Rattle.std.specs.Str.{bytes_eq}
 use Rattle.std.proofs.lemmas.Bool.{true≢false, and_parts, eqb-true, eqb-false}
 use Rattle.std.proofs.lemmas.Slice.Eq.{bytes_eq-Decides}
 use Rattle.ags_rows.specs.Contents.{Contents, contents_of}
-use Rattle.ags_rows.specs.Names.{is_definition}
+use Rattle.ags_text.specs.Names.{is_definition}
 use Rattle.ags_rows.specs.Writing.{IsWellFormedGroup, group_names}
 use Rattle.ags_rows.proofs.Lemmas.{all_at, at_contained, once_apart}
 use Rattle.ags_dict.specs.Entries.{Entries}

@@ -2,8 +2,8 @@
 use Rattle.std.specs.Prelude.{ℕ, Bool, false, ◌&&◌, not, ◌==◌, nat_le, List, [], ◌∷◌, Result, Ok, Err, if◌then◌else◌}
 use Rattle.std.specs.List.{list_all}
 use Rattle.std.specs.Char.{is_ascii_digit}
-use Rattle.ags_rows.specs.Bytes.{first_digit}
-use Rattle.ags_rows.specs.Names.{is_within}
+use Rattle.ags_text.specs.Bytes.{first_digit}
+use Rattle.ags_text.specs.Names.{is_within}
 use Rattle.ags_rows.specs.declared.TheConstants.{LIMIT}
 use Rattle.reg_policy.specs.Days.{number_in}
 use Rattle.reg_http.specs.Fields.{Few, none, one, many}

@@ -4,8 +4,8 @@ use Rattle.std.specs.List.{list_all}
 use Rattle.std.specs.Str.{bytes_eq}
 use Rattle.std.specs.Str.Lossy.{utf8_lossy}
 use Rattle.form_urlencoded.specs.Form.{decode, split}
-use Rattle.ags_rows.specs.Bytes.{comma}
-use Rattle.ags_rows.specs.Names.{is_group_name}
+use Rattle.ags_text.specs.Bytes.{comma}
+use Rattle.ags_text.specs.Names.{is_group_name}
 use Rattle.reg_policy.specs.Names.{is_name}
 use Rattle.reg_policy.specs.Days.{day_of}
 use Rattle.reg_http.specs.Agree.{and_then}

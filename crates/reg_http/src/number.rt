@@ -6,7 +6,8 @@ ghost use Rattle.reg_policy.specs.Days.{number_in};
 ghost use Rattle.reg_http.specs.Numbers.{begins_with_zero, deposit_number, is_number, length_by};
 
 use crate::refusal::Refusal;
-use ags_rows::{LIMIT, is_within};
+use ags_rows::LIMIT;
+use ags_text::is_within;
 
 /// Whether the text is digits, at least one and at most so many.
 fn is_number(text: &[u8], most: usize) -> bool

@@ -10,7 +10,7 @@ use Rattle.std.proofs.lemmas.Str.Ascii.{IsAscii-from_all}
 use Rattle.jiff.specs.Words.{IsDate}
 use Rattle.jiff_core.specs.Calendar.{IsCivilDate, day_count, days_from_civil}
 use Rattle.jiff_core.proofs.CalendarLemmas.{day_count-day, day_count-lt_month, day_count-lt_year, days_from_civil-day_count, days_in_month_bounds}
-use Rattle.ags_rows.specs.Bytes.{ascii_end, first_digit}
+use Rattle.ags_text.specs.Bytes.{ascii_end, first_digit}
 use Rattle.reg_policy.specs.Names.{dash}
 use Rattle.reg_policy.specs.Days.{OneTextOfDay, Writes, day_text, tens_and_ones}
 

@@ -3,7 +3,7 @@ use Rattle.std.proofs.Common.{◌≡◌, ◌≢◌, ℕ, List, [], ◌∷◌, Bo
 use Rattle.std.proofs.lemmas.Bool.{false≢true}
 use Rattle.std.proofs.lemmas.Slice.Eq.{bytes_eq-Decides}
 use Rattle.toml.specs.Data.{Data, string, integer, float, boolean, datetime, array, table, Items, no_items, item, Members, get_member}
-use Rattle.ags_rows.specs.Names.{is_group_name}
+use Rattle.ags_text.specs.Names.{is_group_name}
 use Rattle.reg_policy.specs.Callers.{IsCaller, IsText}
 use Rattle.reg_policy.specs.Documents.{Each, InTable, IsListOf, TablesSay}
 use Rattle.reg_policy.specs.Names.{is_name, is_token, verb_text}

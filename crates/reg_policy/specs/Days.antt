@@ -4,7 +4,7 @@ use Rattle.std.specs.List.{fold}
 use Rattle.std.specs.Str.{bytes_eq}
 use Rattle.jiff.specs.Words.{IsDate, days_in_month}
 use Rattle.jiff_core.specs.Calendar.{days_from_civil}
-use Rattle.ags_rows.specs.Bytes.{first_digit}
+use Rattle.ags_text.specs.Bytes.{first_digit}
 use Rattle.reg_policy.specs.Names.{dash}
 
 -- A day number: 0 is 1970-01-01, the last is 9999-12-31.

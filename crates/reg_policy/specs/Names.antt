@@ -2,8 +2,8 @@
 use Rattle.std.specs.Prelude.{ℕ, List, nat_le, Bool, ◌&&◌, ◌||◌, ◌==◌, codes}
 use Rattle.std.specs.Char.{is_ascii_alphanumeric}
 use Rattle.std.specs.List.{list_all}
-use Rattle.ags_rows.specs.Bytes.{low_line}
-use Rattle.ags_rows.specs.Names.{is_within}
+use Rattle.ags_text.specs.Bytes.{low_line}
+use Rattle.ags_text.specs.Names.{is_within}
 use Rattle.reg_policy.specs.declared.subject.Verb.{Verb}
 use Rattle.reg_policy.specs.declared.subject.Verb.TheVariants.{Deposit, Check, List as ListDeposits, Extract, See}
 

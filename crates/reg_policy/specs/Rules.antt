@@ -1,7 +1,7 @@
 -- The rules that a policy's document has.
 use Rattle.std.specs.Prelude.{◌≡◌, ◌≢◌, ◌⊎◌, ℕ, ◌<◌, ◌≤◌, List, [], ◌∷◌, codes, Bool, true, false, Option, Some, None, Result, Ok, Err, pos, IsTrue}
 use Rattle.toml.specs.Data.{Data, string, integer, Members, get_member}
-use Rattle.ags_rows.specs.Names.{is_group_name, is_heading_name}
+use Rattle.ags_text.specs.Names.{is_group_name, is_heading_name}
 use Rattle.reg_policy.specs.Documents.{IsListOf, IsRefused}
 use Rattle.reg_policy.specs.Names.{is_name, verb_text}
 use Rattle.reg_policy.specs.declared.rule.WantedEntry.{WantedEntry}

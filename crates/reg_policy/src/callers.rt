@@ -10,7 +10,7 @@ ghost use Rattle.reg_policy.specs.declared.callers.Credential.{Credential as Cre
 
 use crate::document::{FromTable, ReadError, copied, read_list, string_at};
 use crate::{Name, NameError};
-use ags_rows::{Bytes, is_within};
+use ags_text::{Bytes, is_within};
 use std::alloc::Global;
 use std::collections::BTreeSet;
 use std::marker::Model;

@@ -6,7 +6,7 @@ ghost use Rattle.toml.specs.View.{items_view, table_view, view};
 ghost use Rattle.reg_policy.specs.Documents.{Each, InTable, TablesSay, all_keys, has_known_keys, have_known_keys, is_known_key, is_known};
 ghost use Rattle.reg_policy.specs.Readers.{Gives, GivesCopy, GivesList, GivesText, Opens, ReadsList};
 
-use ags_rows::{Bytes, copy};
+use ags_text::{Bytes, copy};
 use std::alloc::Global;
 use toml::{Table, Value};
 

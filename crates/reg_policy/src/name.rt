@@ -9,7 +9,7 @@ ghost use Rattle.std.specs.Str.{bytes_eq};
 ghost use Rattle.std.proofs.Common.{rules};
 ghost use Rattle.reg_policy.specs.Names.{is_name, is_name_byte};
 
-use ags_rows::is_within;
+use ags_text::is_within;
 use arrayvec::ArrayString;
 use std::alloc::{AllocError, Global};
 use std::cmp::Ordering;

@@ -3,7 +3,7 @@ ghost use Rattle.std.specs.Prelude.{◌≡◌, ◌↔◌, ℕ, List, None, IsTru
 ghost use Rattle.reg_policy.specs.Decision.{HasEntry, Facts, Matches, Meets, MeetsDeposit, MeetsEntry, MeetsRow, IsOneOf, TellsApart, effect_of, facts_of, matches, row_question, told};
 
 use crate::{Caller, Decision, Name, RowFacts, Subject, Verb};
-use ags_rows::{Bytes, Cell};
+use ags_text::{Bytes, Cell};
 
 /// What a rule decides where it matches.
 #[derive(Clone, Copy)]

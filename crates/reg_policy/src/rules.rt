@@ -2,7 +2,7 @@
 ghost use Rattle.std.specs.Prelude.{◌≡◌, ◌≢◌, IfSome, IsNone, Some, codes, option_and_then};
 ghost use Rattle.toml.specs.Data.{as_integer, get_member};
 ghost use Rattle.toml.specs.View.{table_view};
-ghost use Rattle.ags_rows.specs.Names.{is_group_name};
+ghost use Rattle.ags_text.specs.Names.{is_group_name};
 ghost use Rattle.reg_policy.specs.Names.{is_name, verb_text};
 ghost use Rattle.reg_policy.specs.Readers.{Gives, GivesWord};
 ghost use Rattle.reg_policy.specs.Rules.{IsEffect, IsEither, IsEntry, IsNumber, IsRule, IsVerb, IsWord, Sets, rule_key, rule_keys};
@@ -11,7 +11,7 @@ ghost use Rattle.reg_policy.specs.declared.subject.Verb.{Verb as VerbValue};
 use crate::document::{FromTable, ReadError, copied, string_at};
 use crate::rule::{Effect, Rule, WantedEntry};
 use crate::{Name, NameError, Verb};
-use ags_rows::{Bytes, is_group_name, is_heading_name};
+use ags_text::{Bytes, is_group_name, is_heading_name};
 use std::alloc::Global;
 use toml::Table;
 

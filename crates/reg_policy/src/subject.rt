@@ -2,7 +2,7 @@
 ghost use Rattle.std.specs.Prelude.{◌≡◌};
 
 use crate::{Caller, Name};
-use ags_rows::Cell;
+use ags_text::Cell;
 use std::marker::Model;
 
 /// What a caller wants to do. `See` is to see one row.

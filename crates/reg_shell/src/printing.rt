@@ -4,7 +4,8 @@ ghost use Rattle.std.specs.Prelude.{◌≡◌, ◌++◌, IfOk, OnOk, codes, deci
 ghost use Rattle.reg_shell.specs.Printing.{IsListedLine, IsReceipt, ListsAs, ReportsAnswer};
 
 use crate::report::{Report, findings_report};
-use ags_rows::{FindingList, Sequence};
+use ags_rows::FindingList;
+use ags_text::Sequence;
 use reg_desk::{Answer, Listed};
 use reg_policy::Day;
 use std::alloc::{AllocError, Global};

@@ -8,7 +8,8 @@ ghost use Rattle.reg_shell.specs.Streams.{has_failed, inner_of};
 
 use crate::fault::tell;
 use crate::watched::Watched;
-use ags_rows::{Bytes, FindingList, FindingRef, Sequence};
+use ags_rows::{FindingList, FindingRef};
+use ags_text::{Bytes, Sequence};
 use std::alloc::{AllocError, Global};
 use std::io::Write;
 

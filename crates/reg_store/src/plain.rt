@@ -14,7 +14,7 @@ use crate::rows::kept_rows;
 use ags_check::{CheckError, Checked, check};
 use ags_dict::Dictionary;
 use ags_links::Graph;
-use ags_rows::copy;
+use ags_text::copy;
 use reg_policy::{Day, Name};
 use std::alloc::{AllocError, Global};
 

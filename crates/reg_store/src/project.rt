@@ -4,7 +4,7 @@ ghost use Rattle.std.specs.Prelude.{◌≡◌, IfOk};
 ghost use Rattle.reg_store.specs.Project.{project_number, project_of, targets_of};
 
 use crate::keep::{KeptRow, ProjectRow};
-use ags_rows::copy;
+use ags_text::copy;
 use std::alloc::{AllocError, Global};
 
 /// A row of PROJ with copies of two texts: the HEADING row of PROJ and the row itself. Its number counts the DATA rows of its file from 0.

@@ -10,7 +10,7 @@ use Rattle.std.specs.declared.alloc.Global.{Global}
 use Rattle.std.specs.declared.vec.Vec.{Vec}
 use Rattle.sha2.specs.Sha256.{sha256}
 use Rattle.sqlite.specs.Effect.{Database}
-use Rattle.ags_rows.specs.Bytes.{line_feed}
+use Rattle.ags_text.specs.Bytes.{line_feed}
 use Rattle.reg_tables.specs.declared.repeats.Digests.{Digests}
 use Rattle.reg_store.specs.Deposit.{Deposit, is_repeat}
 use Rattle.reg_tables.specs.Rows.{deposit_table, given_deposit}

@@ -14,7 +14,7 @@ ghost use Rattle.reg_tables.specs.ReadsProject.{target_cell};
 
 use crate::gathering::Gather;
 use crate::reading::read_error;
-use ags_rows::{Bytes, Sequence};
+use ags_text::{Bytes, Sequence};
 use reg_policy::{Day, Name, NameError};
 use reg_store::{KeepError, Kept, KeptRow};
 use sqlite::Row;

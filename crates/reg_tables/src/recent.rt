@@ -5,7 +5,7 @@ ghost use Rattle.reg_store.specs.Deposit.{number_of};
 ghost use Rattle.reg_tables.specs.Small.{AreSmall};
 
 use ags_links::Graph;
-use ags_rows::{Bytes, copy};
+use ags_text::{Bytes, copy};
 use reg_policy::Name;
 use reg_store::{KeepError, KeptRow, copy_graph};
 use std::alloc::{AllocError, Global};

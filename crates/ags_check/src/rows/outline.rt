@@ -2,7 +2,7 @@
 
 ghost use Rattle.std.specs.Prelude.{◌≡◌, ◌≢◌, ◌<◌, ◌↔◌, [], false, IsTrue, IfOk, codes, length};
 ghost use Rattle.ags_rows.specs.Contents.{group_contents, under};
-ghost use Rattle.ags_rows.specs.Names.{is_definition};
+ghost use Rattle.ags_text.specs.Names.{is_definition};
 ghost use Rattle.ags_dict.specs.Entries.{keys_of, required_of};
 ghost use Rattle.ags_links.specs.DataRows.{DataRow, IsDataRow};
 ghost use Rattle.ags_links.specs.Indexing.{rows_in};
@@ -12,7 +12,8 @@ ghost use Rattle.ags_check.specs.RowRules.{RepeatsKey, LacksParentRow};
 use crate::rows::columns::{Column, columns};
 use ags_dict::Dictionary;
 use ags_links::Index;
-use ags_rows::{Cell, Group, Places, Row, cell_at, is_definition};
+use ags_rows::{Group, Places, Row, cell_at};
+use ags_text::{Cell, is_definition};
 use std::alloc::{AllocError, Global};
 use std::marker::Model;
 

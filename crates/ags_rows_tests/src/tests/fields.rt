@@ -1,6 +1,7 @@
 //! The fields of a line.
 use crate::tests::push_text;
-use ags_rows::{Cell, cells};
+use ags_rows::cells;
+use ags_text::Cell;
 use std::alloc::{AllocError, Global};
 use std::test::Fail;
 

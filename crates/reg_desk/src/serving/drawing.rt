@@ -15,7 +15,7 @@ use crate::answer::Answer;
 use crate::serving::{decide_request, is_same, refused};
 use crate::view::{Looking, extract};
 use ags_links::Graph;
-use ags_rows::Sequence;
+use ags_text::Sequence;
 use reg_policy::{Caller, Day, Decision, Name, Policy, Verb};
 use reg_store::{Keep, KeepError, KeptHead, KeptRow};
 use std::alloc::Global;

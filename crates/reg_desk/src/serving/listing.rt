@@ -14,7 +14,7 @@ use crate::answer::{Answer, Listed};
 use crate::serving::drawing::read_view;
 use crate::serving::{decide_request, refused};
 use crate::view::{Looking, opens, sees, standing_of};
-use ags_rows::Sequence;
+use ags_text::Sequence;
 use reg_policy::{Caller, Day, Decision, Name, Policy, Verb};
 use reg_store::{Keep, KeepError, KeptHead};
 use std::alloc::Global;

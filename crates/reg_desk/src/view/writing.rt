@@ -3,7 +3,7 @@
 ghost use Rattle.std.specs.Prelude.{◌≡◌, ◌≤◌, ◌++◌, ◌||◌, [], false, length, take, drop, slice_index_or, IfOk, OnOk};
 ghost use Rattle.reg_desk.specs.View.{line_end, line_where, separator, with_group, text_from};
 
-use ags_rows::is_definition;
+use ags_text::is_definition;
 use reg_store::KeptRow;
 use std::alloc::{AllocError, Global};
 

@@ -10,7 +10,8 @@ use ags_check::{CheckError, check};
 use ags_dict::{DictError, Dictionary};
 use ags_links::{Graph, reached, shown};
 use ags_rows::vectors::{FILE_A, FILE_B, MINI};
-use ags_rows::{Cell, Group, RowsError, Scan, cells, write_group};
+use ags_rows::{Group, RowsError, Scan, cells, write_group};
+use ags_text::Cell;
 use reg_desk::{Answer, Desk, Request};
 use reg_policy::vectors::{CALLERS, POLICY};
 use reg_policy::{

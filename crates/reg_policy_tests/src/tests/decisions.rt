@@ -1,6 +1,7 @@
 //! What policies decide of requests and of rows.
 use super::policies::{RULE, policy_of};
-use ags_rows::{Cell, cells};
+use ags_rows::cells;
+use ags_text::Cell;
 use reg_policy::{Caller, Decision, Name, NameError, Policy, RowFacts, Subject, Verb, vectors};
 use std::alloc::Global;
 

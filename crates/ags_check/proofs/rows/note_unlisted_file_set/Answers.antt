@@ -2,7 +2,7 @@ use Rattle.std.proofs.Common.{◌≡◌, ◌≢◌, ℕ, Bool, List, [], false, 
 use Rattle.std.specs.Prelude.{◌↔◌, IsTrue, codes}
 use Rattle.ags_rows.specs.declared.rows.Group.{Group}
 use Rattle.ags_rows.specs.Contents.{Contents, group_contents, under}
-use Rattle.ags_rows.specs.Names.{is_definition}
+use Rattle.ags_text.specs.Names.{is_definition}
 use Rattle.ags_rows.proofs.Lemmas.{adds_found, adds_unmet}
 use Rattle.ags_links.specs.DataRows.{IsDataRow, row_in, data_rows}
 use Rattle.ags_check.specs.RowRules.{IsUnlistedFileSet}

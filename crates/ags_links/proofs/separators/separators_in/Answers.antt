@@ -1,5 +1,5 @@
 use Rattle.std.proofs.Common.{◌∙◌, ap, refl}
-use Rattle.ags_rows.specs.Bytes.{plus}
+use Rattle.ags_text.specs.Bytes.{plus}
 use Rattle.ags_links.specs.RecordLinks.{bar, one_character}
 use Rattle.ags_links.proofs.separators.separators_in.Goals as goal
 

@@ -1,5 +1,5 @@
 use Rattle.std.proofs.Common.{ap, sym, ◌∙◌}
-use Rattle.ags_rows.specs.Names.{is_definition}
+use Rattle.ags_text.specs.Names.{is_definition}
 use Rattle.ags_links.specs.Placing.{row_of}
 use Rattle.ags_links.proofs.Stepping.{link_steps, no_link_steps}
 use Rattle.ags_links.proofs.steps.add_link_steps.Goals as goal

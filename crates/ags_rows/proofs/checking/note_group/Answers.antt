@@ -1,7 +1,7 @@
 use Rattle.std.proofs.Common.{List, ℕ, subst}
 use Rattle.std.proofs.lemmas.Result.{IfOk-weaker}
 use Rattle.ags_rows.specs.declared.code.Code.TheVariants.{Rule19, P1}
-use Rattle.ags_rows.specs.Names.{is_group_name}
+use Rattle.ags_text.specs.Names.{is_group_name}
 use Rattle.ags_rows.specs.Collecting.{Adds, OneOf}
 use Rattle.ags_rows.specs.Parsing.{IsMet, met_rules}
 use Rattle.ags_rows.proofs.Collecting.{three_rules}

@@ -2,7 +2,7 @@ use Rattle.std.proofs.Common.{◌≡◌, ℕ, List, refl, subst}
 use Rattle.std.specs.Prelude.{◌⊎◌, ◌↔◌}
 use Rattle.std.proofs.lemmas.Option.{slice_get_read}
 use Rattle.ags_rows.specs.declared.code.Code.TheVariants.{Rule19a, P2}
-use Rattle.ags_rows.specs.Names.{is_heading_name}
+use Rattle.ags_text.specs.Names.{is_heading_name}
 use Rattle.ags_rows.specs.Collecting.{Adds, Among, OneOf}
 use Rattle.ags_rows.specs.Stands.{StandsInName}
 use Rattle.ags_rows.specs.Parsing.{IsMet, met_rules}

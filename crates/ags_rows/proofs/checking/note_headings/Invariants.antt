@@ -1,7 +1,7 @@
 use Rattle.std.proofs.Common.{ℕ, List}
 use Rattle.std.specs.Prelude.{◌↔◌}
 use Rattle.ags_rows.specs.declared.code.Code.TheVariants.{Rule19a, P2}
-use Rattle.ags_rows.specs.Names.{is_heading_name}
+use Rattle.ags_text.specs.Names.{is_heading_name}
 use Rattle.ags_rows.specs.Collecting.{Adds, AmongBefore}
 use Rattle.ags_rows.specs.Stands.{IsRepeat, StandsInName}
 use Rattle.ags_rows.specs.Parsing.{IsMet}

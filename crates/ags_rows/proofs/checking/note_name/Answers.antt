@@ -1,7 +1,7 @@
 use Rattle.std.proofs.Common.{◌≡◌, ◌∙◌, false, not, sym, ap}
 use Rattle.std.proofs.lemmas.Result.{IfOk-weaker}
 use Rattle.ags_rows.specs.declared.code.Code.TheVariants.{Rule19}
-use Rattle.ags_rows.specs.Names.{is_group_name}
+use Rattle.ags_text.specs.Names.{is_group_name}
 use Rattle.ags_rows.specs.Collecting.{Adds, Notes}
 use Rattle.ags_rows.proofs.Collecting.{adds_found, adds_unmet, two_rules}
 use Rattle.ags_rows.proofs.checking.note_name.Goals as goal

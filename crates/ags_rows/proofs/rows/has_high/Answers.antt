@@ -2,7 +2,7 @@ use Rattle.std.proofs.Common.{rules, tests}
 use Rattle.std.specs.Prelude.{nat_le}
 use Rattle.std.proofs.lemmas.Iterator.{YieldsList-from_slice}
 use Rattle.std.proofs.lemmas.Iterator.Search.{any_from_yields_List}
-use Rattle.ags_rows.specs.Bytes.{ascii_end}
+use Rattle.ags_text.specs.Bytes.{ascii_end}
 use Rattle.ags_rows.proofs.rows.has_high.Goals as goal
 
 pub returns : goal.returns

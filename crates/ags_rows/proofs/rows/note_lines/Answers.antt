@@ -3,7 +3,7 @@ use Rattle.std.proofs.lemmas.List.{length-map}
 use Rattle.ags_rows.specs.declared.code.Code.TheVariants.{Rule1, Rule2a}
 use Rattle.ags_rows.specs.declared.rows.Ending.TheVariants.{Lf}
 use Rattle.std.specs.Prelude.{◌≤◌, Any}
-use Rattle.ags_rows.specs.Bytes.{ascii_end}
+use Rattle.ags_text.specs.Bytes.{ascii_end}
 use Rattle.ags_rows.specs.Lines.{text_line}
 use Rattle.ags_rows.specs.Collecting.{Adds, Notes, OneOf}
 use Rattle.ags_rows.specs.Stands.{byte_rules}

@@ -1,6 +1,6 @@
 use Rattle.std.proofs.Common.{◌≡◌, true, take}
 use Rattle.std.specs.List.{list_all}
-use Rattle.ags_rows.specs.Names.{is_group_name}
+use Rattle.ags_text.specs.Names.{is_group_name}
 use Rattle.reg_desk.specs.Asked.{names_in}
 use Rattle.reg_http.proofs.query.are_group_names.Given as goal
 

@@ -2,7 +2,7 @@ use Rattle.std.proofs.Common.{ℕ, ◌==◌, ◌∷◌, length, take, rules, ari
 use Rattle.std.proofs.lemmas.List.{take_rest}
 use Rattle.std.proofs.lemmas.List.Sums.{position_or_len_is}
 use Rattle.form_urlencoded.specs.Form.{split}
-use Rattle.ags_rows.specs.Bytes.{comma}
+use Rattle.ags_text.specs.Bytes.{comma}
 use Rattle.reg_http.proofs.GroupLemmas.{split_here, split_whole}
 use Rattle.reg_http.proofs.query.first_piece.Goals as goal
 

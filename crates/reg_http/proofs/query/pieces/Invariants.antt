@@ -1,6 +1,6 @@
 use Rattle.std.proofs.Common.{◌≡◌, ◌++◌, length}
 use Rattle.form_urlencoded.specs.Form.{split}
-use Rattle.ags_rows.specs.Bytes.{comma}
+use Rattle.ags_text.specs.Bytes.{comma}
 use Rattle.reg_desk.specs.Asked.{names_in}
 use Rattle.reg_http.proofs.query.pieces.Given as goal
 

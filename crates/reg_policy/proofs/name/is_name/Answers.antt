@@ -1,6 +1,6 @@
 use Rattle.std.proofs.Common.{◌≡◌, ◌&&◌, Bool, true, false, sym, ◌∙◌}
 use Rattle.std.specs.List.{list_all}
-use Rattle.ags_rows.specs.Names.{is_within}
+use Rattle.ags_text.specs.Names.{is_within}
 use Rattle.reg_policy.specs.Names.{is_name_byte}
 use Rattle.reg_policy.proofs.name.is_name.Goals as goal
 

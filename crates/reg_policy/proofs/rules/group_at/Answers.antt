@@ -1,5 +1,5 @@
 use Rattle.std.proofs.Common.{◌≡◌, true, rules}
-use Rattle.ags_rows.specs.Names.{is_group_name}
+use Rattle.ags_text.specs.Names.{is_group_name}
 use Rattle.reg_policy.specs.Rules.{IsWord}
 use Rattle.reg_policy.proofs.Keys.{word_some}
 use Rattle.reg_policy.proofs.rules.group_at.Goals as goal

@@ -3,7 +3,7 @@ use Rattle.std.proofs.lemmas.Bool.{true≢false}
 use Rattle.ags_rows.specs.declared.code.Code.TheVariants.{Rule11c}
 use Rattle.ags_rows.specs.Collecting.{Adds, Notes}
 use Rattle.ags_rows.specs.Contents.{group_contents, fields_of}
-use Rattle.ags_rows.specs.Names.{is_definition}
+use Rattle.ags_text.specs.Names.{is_definition}
 use Rattle.ags_rows.proofs.Lemmas.{adds_found, adds_unmet, one_rule}
 use Rattle.ags_check.specs.Columns.{Outlined, column_text}
 use Rattle.ags_check.specs.RowPhase.{headed_row}

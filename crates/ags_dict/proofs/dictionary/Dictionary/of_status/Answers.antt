@@ -4,7 +4,7 @@ use Rattle.std.proofs.lemmas.List.{take_all, length-map}
 use Rattle.ags_dict.specs.declared.entries.HeadingEntry.{HeadingEntry}
 use Rattle.ags_dict.specs.Entries.{Entries, of_status}
 use Rattle.ags_dict.specs.Index.{of_group}
-use Rattle.ags_rows.specs.Bytes.{plus}
+use Rattle.ags_text.specs.Bytes.{plus}
 use Rattle.ags_rows.specs.Parts.{has_part}
 use Rattle.ags_dict.proofs.Picked.{picked_yes, picked_no}
 use Rattle.ags_dict.proofs.Found.{filter_both}

@@ -1,6 +1,6 @@
 use Rattle.std.proofs.Common.{◌≡◌, map, take}
 use Rattle.std.specs.List.{filter}
-use Rattle.ags_rows.specs.Bytes.{plus}
+use Rattle.ags_text.specs.Bytes.{plus}
 use Rattle.ags_rows.specs.Parts.{has_part}
 use Rattle.ags_dict.proofs.dictionary.Dictionary.of_status.Given as goal
 

@@ -2,8 +2,8 @@
 
 ghost use Rattle.std.specs.Prelude.{◌≡◌, ◌==◌, ◌||◌};
 ghost use Rattle.std.specs.List.{list_all};
-ghost use Rattle.ags_rows.specs.Bytes.{low_line};
-ghost use Rattle.ags_rows.specs.Names.{is_capital, is_digit, is_within, is_group_name, is_heading_name, is_definition};
+ghost use Rattle.ags_text.specs.Bytes.{low_line};
+ghost use Rattle.ags_text.specs.Names.{is_capital, is_digit, is_within, is_group_name, is_heading_name, is_definition};
 
 /// Whether a byte may stand in a group's name.
 fn is_group_letter(letter: u8) -> bool

@@ -1,7 +1,8 @@
 //! Lists as a struct holds them, which contracts see by their elements.
 
-ghost use Rattle.std.specs.Prelude.{◌≡◌, ◌==◌, List, length};
+ghost use Rattle.std.specs.Prelude.{◌≡◌, ◌==◌, List, IfOk, length};
 
+use std::alloc::{AllocError, Global};
 use std::marker::Model;
 
 /// A list that contracts see by its elements.
@@ -51,3 +52,10 @@ impl<T> Sequence<T> {
 
 /// A list of bytes.
 pub type Bytes = Sequence<u8>;
+
+/// The bytes, kept.
+pub fn copy(alloc: Global, bytes: &[u8]) -> Result<Bytes, AllocError>
+    ensures { IfOk result (λ copied. copied ≡ bytes.now) }
+{
+    Ok(Sequence::from_vec(Vec::from_slice(alloc, bytes)?))
+}

@@ -2,7 +2,7 @@
 use Rattle.std.specs.Prelude.{ℕ, List, [], ◌∷◌, ◌==◌, length, nat_le, Bool, ◌&&◌, ◌||◌, codes}
 use Rattle.std.specs.List.{list_all, list_any}
 use Rattle.std.specs.Str.{bytes_eq}
-use Rattle.ags_rows.specs.Bytes.{low_line}
+use Rattle.ags_text.specs.Bytes.{low_line}
 
 -- A to Z
 abbrev pub is_capital : ℕ → Bool

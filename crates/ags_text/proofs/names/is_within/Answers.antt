@@ -1,7 +1,7 @@
 use Rattle.std.proofs.Common.{Bool, length, ap, sym, ◌∙◌}
 use Rattle.std.specs.Prelude.{◌&&◌, nat_le}
 use Rattle.std.proofs.lemmas.Bool.{lt-leb}
-use Rattle.ags_rows.proofs.names.is_within.Goals as goal
+use Rattle.ags_text.proofs.names.is_within.Goals as goal
 
 pub returns-else-text-ge1 : goal.returns-else-text-ge1
 returns-else-text-ge1 c =
