@@ -12,8 +12,8 @@ use reg_desk::Desk;
 use reg_http::{groups_listed, number_of_deposit};
 use reg_policy::{Callers, Day, Policy};
 use reg_shell::{
-    Asker, Fault, Refusal, Session, Watched, Words, ask_deposit, ask_extract, ask_list, check_given,
-    day_or, read_path, read_rights, read_words, run_without_words, session_of, tell,
+    Asker, Fault, Refusal, Session, Watched, Words, ask_deposit, ask_extract, ask_list,
+    check_given, day_or, read_path, read_rights, read_words, run_without_words, session_of, tell,
 };
 use reg_store::Keep;
 use reg_tables::SqlKeep;
