@@ -11,7 +11,10 @@ import json
 import os
 import re
 import sys
-import tomllib
+try:
+    import tomllib
+except ImportError:  # a Python before 3.11: what reads no policy and no callers does without
+    tomllib = None
 import urllib.parse
 import reference
 

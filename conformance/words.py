@@ -234,6 +234,20 @@ BEFORE_STORES = """
 init|--store=s|--dictionary=mini => 0 created
 deposit|@|a => 0 receipt 1 2024-05-01
 """
+# Registers of one deposit, file a, each made anew: the statements that another hand runs on it, with their values, and what each of these commands says
+# of it then.
+CHANGED = [
+    ([("UPDATE deposits SET firm = 'N 1'",)], COMMANDS, "4 ! not a register"),
+    ([("UPDATE deposits SET embargo = 2932897",)], COMMANDS, "4 ! not a register"),
+    ([("INSERT INTO deposits SELECT 2, firm, project, embargo, body FROM deposits",)], COMMANDS, "4 ! not a register"),
+    ([("DELETE FROM meta WHERE name = 'dictionary'",)], COMMANDS, "4 ! not a register"),
+    ([("UPDATE meta SET num = num + 6",)], COMMANDS, "4 ! register version 7"),
+    ([("UPDATE deposits SET body = x''",), ("UPDATE meta SET num = 7 WHERE name = 'format'",)], COMMANDS, "4 ! register version 7"),
+    ([("DROP TABLE steps",)], COMMANDS, "4 ! not a register"),
+    ([("DROP TABLE steps",), ("UPDATE meta SET num = 7 WHERE name = 'format'",)], COMMANDS, "4 ! register version 7"),
+    ([("UPDATE deposits SET body = ?", machine.FILE_A + b" " * (machine.LIMIT - len(machine.FILE_A)))], ["list|@"], "0 1 Delta 2024-05-01"),
+    ([("UPDATE deposits SET body = ?", longer(machine.FILE_A))], COMMANDS, "4 ! not a register"),
+]
 # A line and a step of a deposit that is not there.
 OF_NO_DEPOSIT = ["INSERT INTO lines VALUES (2, 0, 'PROJ', 0, x'')", "INSERT INTO steps VALUES (2, 0, 0)"]
 BEHIND_STORES = """
@@ -291,16 +305,16 @@ class Folder:
         for line, want in lines_of(scene):
             self.hold(line, want)
 
-    def change(self, store, statement, keys="OFF"):
+    def change(self, store, statement, *values, keys="OFF"):
         """Runs a statement on a store as another hand does, whether that keeps to foreign keys or not."""
         with contextlib.closing(sqlite3.connect(os.path.join(self.place, store))) as connection, connection:
             connection.execute(f"PRAGMA foreign_keys = {keys}")
-            connection.execute(statement)
+            connection.execute(statement, values)
 
     def refuses(self, store, statement):
         """Whether the tables refuse a statement by their foreign keys."""
         with contextlib.suppress(sqlite3.IntegrityError):
-            self.change(store, statement, "ON")
+            self.change(store, statement, keys="ON")
             return False
         return True
 
@@ -319,6 +333,16 @@ def refuse_stores(folder):
     folder.count(not os.path.exists(os.path.join(folder.place, "gone")), "a file `gone` was made")
 
 
+def refuse_changed(folder):
+    for number, (statements, commands, want) in enumerate(CHANGED):
+        store = f"s{number}"
+        folder.play(f"init|--store={store}|--dictionary=mini => 0 created\ndeposit|@|--store={store}|a => 0 receipt 1 2024-05-01")
+        for statement in statements:
+            folder.change(store, *statement)
+        for command in commands:
+            folder.hold(f"{command}|--store={store}", want)
+
+
 def refuse_port(folder):
     with socket.create_server(("127.0.0.1", 0)) as taken:
         folder.play(PORT_TAKEN.replace("PORT", str(taken.getsockname()[1])))
@@ -328,7 +352,7 @@ def main():
     program = os.path.abspath(sys.argv[1])
     passed, wrong = 0, []
     # (an empty word is no line)
-    plays = [lambda folder, scene=scene: folder.play(scene) for scene in SCENES] + [lambda folder: folder.hold("", REFUSED), refuse_stores, refuse_port]
+    plays = [lambda folder, scene=scene: folder.play(scene) for scene in SCENES] + [lambda folder: folder.hold("", REFUSED), refuse_stores, refuse_changed, refuse_port]
     for play in plays:
         with tempfile.TemporaryDirectory() as place:
             folder = Folder(program, place)

@@ -1,4 +1,4 @@
-//! The check of the file that a stream carries.
+//! The check of the file that a stream carries, or of a file under the dictionary of another.
 
 ghost use Rattle.std.specs.Prelude.{◌≡◌, ◌↔◌, ◌||◌, Bool, IsTrue, false, ◌+◌, ◌≤◌, IfOk, IfErr, IfSome, length};
 ghost use Rattle.ags_dict.specs.Mini.{mini_entries};

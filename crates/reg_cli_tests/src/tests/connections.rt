@@ -203,7 +203,7 @@ struct Service<'s> {
     count: u32,
 }
 
-/// Serves so many connections on 2024-05-01, from an empty register in memory: the status of the run.
+/// Serves so many connections on 2024-05-01, from an empty keep in memory: the status of the run.
 fn serve_some<W: Write>(
     alloc: Global,
     listener: &TcpListener,
