@@ -56,7 +56,7 @@ pub fn ask_deposit<'w, K: Keep, W: Write>(
     ask_desk(alloc, desk, &request, out)
 }
 
-/// Asks the desk for the deposits of a project, as the one who asks.
+/// Asks the desk for the deposits of a project, as the one who asks. It is refused as `ask_deposit` is.
 pub fn ask_list<'w, K: Keep, W: Write>(
     alloc: Global,
     desk: &mut Desk<K>,
@@ -76,7 +76,8 @@ pub fn ask_list<'w, K: Keep, W: Write>(
     ask_desk(alloc, desk, &request, out)
 }
 
-/// Asks the desk for an extract, as the one who asks.
+/// Asks the desk for an extract of the deposit of a number, from 1 on, as the one who asks: of these groups, or of all where
+/// none is named. It is refused as `ask_deposit` is.
 pub fn ask_extract<'w, K: Keep, W: Write>(
     alloc: Global,
     desk: &mut Desk<K>,

@@ -17,7 +17,7 @@ pub struct Session<'c> {
     pub day: Day,
 }
 
-/// The day that a text writes, or the one for where none is given.
+/// The day that a text writes, or the one for where none is given. `DayRefused` where that is none; no clause names the refusal.
 pub fn day_or(text: Option<&str>, other: Option<Day>) -> Result<Day, Fault>
     ensures { IfOk result (λ day. MatchOption text.entry (other ≡ Some day) (λ given. day_of given.now ≡ Some day)) }
 {
