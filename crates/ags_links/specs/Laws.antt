@@ -24,7 +24,7 @@ RowsBeforeAddUp = (file : List Contents) (place : ℕ) (group : Contents) → Is
 abbrev pub DefinitionsHaveNoStep : Type 0
 DefinitionsHaveNoStep = (file : DataFile) (n m : ℕ) (row : DataRow) → IsDataRow (data_rows file.contents) n row → is_definition row.group ≡ true → StepAt file n m → ⊥
 
--- A file has one graph at most.
+-- A file has at most one graph.
 abbrev pub OneGraph : Type 0
 OneGraph = (file : DataFile) (graph other : Wiring) → IsGraphOf file graph → IsGraphOf file other → graph ≡ other
 

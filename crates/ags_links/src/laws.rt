@@ -22,7 +22,7 @@ pub fn definitions_have_no_step()
     ensures { DefinitionsHaveNoStep }
 {}
 
-/// A file has one graph at most.
+/// A file has at most one graph.
 pub fn one_graph()
     ensures { OneGraph }
 {}
