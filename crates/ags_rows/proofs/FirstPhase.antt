@@ -1,15 +1,15 @@
 -- What is read where the first phase finds nothing, the groups or what a later phase finds, and what the first phase finds.
-use Rattle.std.proofs.Common.{◌≡◌, ◌≢◌, ℕ, ◌+◌, ◌≤◌, List, [], ◌∷◌, length, refl, subst, sym, inl, inr}
+use Rattle.std.proofs.Common.{◌≡◌, ◌≢◌, ℕ, ◌≤◌, List, [], ◌∷◌, length, refl, subst, sym, inl, inr}
 use Rattle.ags_rows.specs.declared.rows.FileRow.{FileRow}
 use Rattle.ags_rows.specs.declared.rows.Group.{Group}
 use Rattle.ags_rows.specs.declared.finding.Finding.{Finding}
 use Rattle.ags_rows.specs.Lines.{TextLine, Lines, after_byte_order_mark}
 use Rattle.ags_rows.specs.Rows.{RowsFrom}
 use Rattle.ags_rows.specs.Groups.{Groups}
-use Rattle.ags_rows.specs.Collecting.{Adds, Among, OneOf}
-use Rattle.ags_rows.specs.Stands.{byte_rules, StandsInLines, StandsInSpelling}
+use Rattle.ags_rows.specs.Collecting.{Adds}
+use Rattle.ags_rows.specs.Stands.{StandsInLines, StandsInBytes, StandsInSpelling}
 use Rattle.ags_rows.specs.Findings.{FileParts, ArePartsOf, FirstFound, GroupsOrNone}
-use Rattle.ags_rows.specs.Parsing.{AreTaken, AreRows, later_phases}
+use Rattle.ags_rows.specs.Parsing.{AreTaken, AreRows, later_phases, LaterFindings}
 use Rattle.ags_rows.proofs.Collecting.{listed_all, none_listed}
 use Rattle.ags_rows.proofs.Breaking.{adds_lines}
 use Rattle.ags_rows.proofs.Cuts.{some_groups}
@@ -26,7 +26,7 @@ later_groups bytes Stands file rows groups parts is clear h =
     (inr (clear, subst (λ (g : List Group). FirstFound (later_phases file.rows g) []) (sym same) none), cut, same)
 
 pub later_found : (bytes : List ℕ) (Stands : Finding → Type 0) (file : FileParts) (rows : List FileRow) (found : List Finding)
-    → ArePartsOf bytes file → file.rows ≡ rows → ((f : Finding) → Stands f → ⊥) → ((groups : List Group) → GroupsOrNone rows groups → FirstFound (later_phases rows groups) found)
+    → ArePartsOf bytes file → file.rows ≡ rows → ((f : Finding) → Stands f → ⊥) → LaterFindings rows found
     → FirstFound (Stands ∷ later_phases file.rows file.groups) found
 later_found bytes Stands file rows found parts is clear h =
     let first = h file.groups (subst (λ (r : List FileRow). GroupsOrNone r file.groups) is parts.groups) in
@@ -36,7 +36,7 @@ later_found bytes Stands file rows found parts is clear h =
 
 -- what was noted of the lines' bytes and what stands in their spelling, together
 pub rows_strict : (bytes : List ℕ) (lines : List TextLine) (noted : List Finding) (rows : List FileRow) (found : List Finding)
-    → Lines (after_byte_order_mark bytes) lines → Adds (Among lines (λ place line. OneOf (byte_rules (place + 1) line))) [] noted → AreTaken lines noted rows found → AreRows StandsInLines bytes rows found
+    → Lines (after_byte_order_mark bytes) lines → Adds (StandsInBytes lines) [] noted → AreTaken lines noted rows found → AreRows StandsInLines bytes rows found
 rows_strict bytes lines noted rows found cut first h =
     let groups = some_groups rows in (
       record { lines = lines; rows = rows; groups = groups.0 },
@@ -66,7 +66,7 @@ pub found_first : (Stands : List TextLine → Finding → Type 0) (bytes : List 
 found_first Stands bytes rows found some h = (h.0, h.1, inl (h.3, some))
 
 pub found_later : (Stands : List TextLine → Finding → Type 0) (bytes : List ℕ) (rows : List FileRow) (found : List Finding) → AreRows Stands bytes rows []
-    → ((groups : List Group) → GroupsOrNone rows groups → FirstFound (later_phases rows groups) found)
+    → LaterFindings rows found
     → (file : FileParts) × ArePartsOf bytes file × FirstFound (Stands file.lines ∷ later_phases file.rows file.groups) found
 found_later Stands bytes rows found h later = (h.0, h.1, later_found bytes (Stands h.0.lines) h.0 rows found h.1 h.2 (none_listed [] h.3 refl) later)
 

@@ -4,12 +4,11 @@ use Rattle.std.specs.List.{AllByRecursion}
 use Rattle.std.proofs.lemmas.Bool.{cases_eq, true_from_ne_false}
 use Rattle.ags_rows.specs.declared.rows.Row.{Row}
 use Rattle.ags_rows.specs.declared.rows.Group.{Group}
-use Rattle.ags_rows.specs.declared.code.Code.{Code}
 use Rattle.ags_rows.specs.declared.code.Code.TheVariants.{Rule2, Rule4, Rule19, Rule19a, P1, P2}
 use Rattle.ags_rows.specs.declared.finding.Finding.{Finding}
 use Rattle.ags_text.specs.Names.{is_group_name, is_heading_name}
-use Rattle.ags_rows.specs.Collecting.{At, Among, OneOf}
-use Rattle.ags_rows.specs.Stands.{shape_rules, StandsInName, StandsInGroups}
+use Rattle.ags_rows.specs.Collecting.{At, finding_at, OneOf}
+use Rattle.ags_rows.specs.Stands.{shape_rules, StandsInName, StandsInHeadings, StandsInGroups}
 use Rattle.ags_rows.specs.Contents.{contents_of, fields_of, group_contents}
 use Rattle.ags_rows.specs.Writing.{ArePlain, IsPlainGroup, AreUnder, AreHeadings, StandOnce, group_names, IsWellFormedGroup, IsWellFormed}
 use Rattle.ags_rows.proofs.Written.{all_at}
@@ -44,7 +43,7 @@ name_clear groups k g at w once f (inl n) = not_both (is_group_name g.name) w.na
 name_clear groups k g at w once f (inr (inl n)) = once_apart (scanned_names groups) n.0.0 k g.name g.name once n.0.1 n.0.2 (map_at (λ (x : Group). x.name) groups k g at) refl
 name_clear groups k g at w once f (inr (inr n)) = n
 
-headings_clear : (g : Group) → IsWellFormedGroup (group_contents g) → (f : Finding) → Among g.headings (StandsInName g.heading_line Rule19a P2 is_heading_name g.headings) f → ⊥
+headings_clear : (g : Group) → IsWellFormedGroup (group_contents g) → (f : Finding) → StandsInHeadings g f → ⊥
 headings_clear g w f h =
     elim h.3 [
       | inl n ↦ not_both (is_heading_name h.1) (all_at (λ x. is_heading_name x ≡ true) g.headings h.0 h.1 w.headings.named h.2) n.0
@@ -65,9 +64,6 @@ formed_clear groups w f h =
 
 -- ---- what breaks nothing is well formed
 
-abbrev found_at : ℕ → Code → List ℕ → Finding
-found_at line code subject = record { line = line; code = code; subject = subject }
-
 -- nothing stands against the groups
 abbrev Clear : List Group → Type 0
 Clear groups = (f : Finding) → StandsInGroups groups f → ⊥
@@ -84,32 +80,32 @@ rows_formed groups clear k g at plain =
     all_from_at (AreUnder g.headings) (map fields_of g.rows) (λ j fields here.
     let row = at_map fields_of g.rows j fields here in
     subst (AreUnder g.headings) row.2 (record {
-      count = same_count (length row.0.cells) (length g.headings) (λ ne. clear (found_at row.0.line Rule4 g.name) (k, g, at, inl (inr (inr (inr (inr (inl (j, row.0, row.1, (ne, refl, refl, refl)))))))));
+      count = same_count (length row.0.cells) (length g.headings) (λ ne. clear (finding_at row.0.line Rule4 g.name) (k, g, at, inl (inr (inr (inr (inr (inl (j, row.0, row.1, (ne, refl, refl, refl)))))))));
       plain = all_at ArePlain (map fields_of g.rows) j row.0.cells plain (map_at fields_of g.rows j row.0 row.1);
     }))
 
 headings_formed : (groups : List Group) → Clear groups → (k : ℕ) (g : Group) → At groups k g → AreHeadings g.headings
 headings_formed groups clear k g at = record {
-  some = λ e. clear (found_at g.heading_line Rule4 g.name) (k, g, at, inl (inr (inl (e, refl, refl, refl))));
+  some = λ e. clear (finding_at g.heading_line Rule4 g.name) (k, g, at, inl (inr (inl (e, refl, refl, refl))));
   named = all_from_at (λ h. is_heading_name h ≡ true) g.headings (λ j h here.
-      true_from_ne_false (is_heading_name h) (λ e. clear (found_at g.heading_line Rule19a h) (k, g, at, inr (inr (inl (j, h, here, inl (e, refl, refl, refl)))))));
+      true_from_ne_false (is_heading_name h) (λ e. clear (finding_at g.heading_line Rule19a h) (k, g, at, inr (inr (inl (j, h, here, inl (e, refl, refl, refl)))))));
   once = once_from g.headings (λ i j x y lt a b e.
-      clear (found_at g.heading_line P2 y) (k, g, at, inr (inr (inl (j, y, b, inr (inl ((i, lt, subst (At g.headings i) e a), refl, refl, refl)))))));
+      clear (finding_at g.heading_line P2 y) (k, g, at, inr (inr (inl (j, y, b, inr (inl ((i, lt, subst (At g.headings i) e a), refl, refl, refl)))))));
 }
 
 group_formed : (groups : List Group) → Clear groups → (k : ℕ) (g : Group) → At groups k g → IsPlainGroup (group_contents g) → IsWellFormedGroup (group_contents g)
 group_formed groups clear k g at plain = record {
-  name = true_from_ne_false (is_group_name g.name) (λ e. clear (found_at g.line Rule19 g.name) (k, g, at, inr (inl (inl (e, refl, refl, refl)))));
+  name = true_from_ne_false (is_group_name g.name) (λ e. clear (finding_at g.line Rule19 g.name) (k, g, at, inr (inl (inl (e, refl, refl, refl)))));
   headings = headings_formed groups clear k g at;
   units = record {
-    count = same_count (length g.units) (length g.headings) (λ ne. clear (found_at g.unit_line Rule4 g.name) (k, g, at, inl (inr (inr (inl (ne, refl, refl, refl))))));
+    count = same_count (length g.units) (length g.headings) (λ ne. clear (finding_at g.unit_line Rule4 g.name) (k, g, at, inl (inr (inr (inl (ne, refl, refl, refl))))));
     plain = plain.units;
   };
   types = record {
-    count = same_count (length g.types) (length g.headings) (λ ne. clear (found_at g.type_line Rule4 g.name) (k, g, at, inl (inr (inr (inr (inl (ne, refl, refl, refl)))))));
+    count = same_count (length g.types) (length g.headings) (λ ne. clear (finding_at g.type_line Rule4 g.name) (k, g, at, inl (inr (inr (inr (inl (ne, refl, refl, refl)))))));
     plain = plain.types;
   };
-  some_rows = λ e. clear (found_at g.line Rule2 g.name) (k, g, at, inl (inl (no_rows g.rows e, refl, refl, refl)));
+  some_rows = λ e. clear (finding_at g.line Rule2 g.name) (k, g, at, inl (inl (no_rows g.rows e, refl, refl, refl)));
   rows = rows_formed groups clear k g at plain.rows;
 }
 
@@ -118,7 +114,7 @@ names_formed groups clear =
     once_from (scanned_names groups) (λ i j x y lt a b e.
     let group = at_map (λ (g : Group). g.name) groups j y b in
     let earlier : At (scanned_names groups) i group.0.name = subst (At (scanned_names groups) i) (e ∙ sym group.2) a in
-    clear (found_at group.0.line P1 group.0.name) (j, group.0, group.1, inr (inl (inr (inl ((i, lt, earlier), refl, refl, refl))))))
+    clear (finding_at group.0.line P1 group.0.name) (j, group.0, group.1, inr (inl (inr (inl ((i, lt, earlier), refl, refl, refl))))))
 
 pub clear_formed : (groups : List Group) → groups ≢ [] → AllByRecursion IsPlainGroup (contents_of groups) → ((f : Finding) → StandsInGroups groups f → ⊥) → IsWellFormed (contents_of groups)
 clear_formed groups some plain clear = record {

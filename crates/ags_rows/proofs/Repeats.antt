@@ -15,8 +15,8 @@ use Rattle.ags_rows.specs.declared.code.Code.TheVariants.{Rule19, Rule19a, P1, P
 use Rattle.ags_rows.specs.declared.finding.Finding.{Finding}
 use Rattle.ags_rows.specs.declared.rows.Group.{Group}
 use Rattle.ags_text.specs.Names.{is_group_name, is_heading_name}
-use Rattle.ags_rows.specs.Collecting.{At, Adds, Among, OneOf}
-use Rattle.ags_rows.specs.Stands.{IsRepeat, StandsInName, shape_rules, group_rules}
+use Rattle.ags_rows.specs.Collecting.{At, Adds, OneOf}
+use Rattle.ags_rows.specs.Stands.{IsRepeat, StandsInName, shape_rules, StandsInHeadings, group_rules}
 use Rattle.ags_rows.specs.Parsing.{IsMet, met_rules}
 use Rattle.ags_rows.proofs.Collecting.{adds_same, before_or_at, some_same}
 
@@ -88,7 +88,7 @@ heading_same line headings place heading Met a b same =
 
 -- of a group
 pub group_same : (names : List (List ℕ)) (place : ℕ) (group : Group) (Met : Type 0) (a b : List Finding) → Met ↔ IsRepeat names place group.name
-    → Adds (OneOf (OneOf (shape_rules group) ∷ OneOf (met_rules group.line Rule19 P1 group.name (is_group_name group.name) Met) ∷ Among group.headings (StandsInName group.heading_line Rule19a P2 is_heading_name group.headings) ∷ [])) a b → Adds (OneOf (group_rules names place group)) a b
+    → Adds (OneOf (OneOf (shape_rules group) ∷ OneOf (met_rules group.line Rule19 P1 group.name (is_group_name group.name) Met) ∷ StandsInHeadings group ∷ [])) a b → Adds (OneOf (group_rules names place group)) a b
 group_same names place group Met a b same =
     let Repeat = IsRepeat names place group.name in
     adds_same a b

@@ -2,7 +2,7 @@
 use Rattle.std.specs.Prelude.{◌≡◌, ◌≢◌, ◌≤◌, ◌↔◌, ℕ, List, [], ◌∷◌, map, filter, length, Contains, Option, Some, MatchOption}
 use Rattle.std.specs.List.{AllByRecursion}
 use Rattle.ags_text.specs.Bytes.{carriage_return, line_feed, Lacks}
-use Rattle.ags_rows.specs.Spelling.{Spells, line_of}
+use Rattle.ags_rows.specs.Spelling.{Spells, SpellsNoFields, line_of}
 use Rattle.ags_rows.specs.declared.finding.Finding.{Finding}
 use Rattle.ags_rows.specs.Findings.{RowFindings, LooseFindings, FileGroups, LooseGroups}
 use Rattle.ags_rows.specs.declared.rows.Group.{Group}
@@ -23,7 +23,7 @@ OneSpelling =
     ((text : List ℕ) (fields others : List (List ℕ)) → Spells text fields → Spells text others → fields ≡ others)
     × ((fields : List (List ℕ)) → fields ≢ [] → AllByRecursion (λ f. Lacks carriage_return f × Lacks line_feed f) fields → Spells (line_of fields) fields)
 
--- Two lists of findings in order that have the same members are one list, and a file has one list of findings at most, read loosely or not.
+-- Two lists of findings in order that have the same members are one list, and a file has at most one list of findings, read loosely or not.
 abbrev pub OneListOfFindings : Type 0
 OneListOfFindings =
     ((found others : List Finding) → IsStrictlySortedBy finding_cmp found → IsStrictlySortedBy finding_cmp others → ((f : Finding) → Contains found f ↔ Contains others f) → found ≡ others)
@@ -34,10 +34,10 @@ OneListOfFindings =
 abbrev pub WrittenLineIsRead : Type 0
 WrittenLineIsRead =
     (fields : List (List ℕ)) (found : Option (List (List ℕ))) → fields ≢ [] → AllByRecursion (λ f. Lacks carriage_return f × Lacks line_feed f) fields
-    → MatchOption found ((others : List (List ℕ)) → Spells (line_of fields) others → ⊥) (λ others. Spells (line_of fields) others)
+    → MatchOption found (SpellsNoFields (line_of fields)) (λ others. Spells (line_of fields) others)
     → found ≡ Some fields
 
--- A file has one list of groups at most, read loosely or not.
+-- A file has at most one list of groups, read loosely or not.
 abbrev pub OneListOfGroups : Type 0
 OneListOfGroups =
     ((bytes : List ℕ) (groups others : List Group) → FileGroups bytes groups → FileGroups bytes others → groups ≡ others)

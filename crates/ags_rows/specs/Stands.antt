@@ -5,6 +5,7 @@ use Rattle.ags_rows.specs.declared.rows.Ending.TheVariants.{Lf}
 use Rattle.ags_rows.specs.declared.rows.Descriptor.{Descriptor}
 use Rattle.ags_rows.specs.declared.rows.Descriptor.TheVariants as kinds
 use Rattle.ags_rows.specs.declared.rows.FileRow.{FileRow}
+use Rattle.ags_rows.specs.declared.rows.Row.{Row}
 use Rattle.ags_rows.specs.declared.finding.Finding.{Finding}
 use Rattle.ags_rows.specs.declared.code.Code.{Code}
 use Rattle.ags_rows.specs.declared.code.Code.TheVariants.{Rule1, Rule2, Rule2a, Rule2b, Rule3, Rule4, Rule5, Rule6, Rule19, Rule19a, P1, P2}
@@ -13,7 +14,7 @@ use Rattle.ags_rows.specs.declared.rows.Group.{Group}
 use Rattle.ags_text.specs.Names.{is_group_name, is_heading_name}
 use Rattle.ags_rows.specs.Collecting.{At, Notes, Among, OneOf}
 use Rattle.ags_rows.specs.Lines.{TextLine}
-use Rattle.ags_rows.specs.Spelling.{Spells}
+use Rattle.ags_rows.specs.Spelling.{Spells, SpellsNoFields}
 use Rattle.ags_rows.specs.Rows.{descriptor_text}
 use Rattle.ags_rows.specs.Order.{OutOfPlace}
 
@@ -34,7 +35,8 @@ line_rules number line =
     Notes number Rule1 [] (Any (λ b. ascii_end ≤ b) line.content)
     ∷ Notes number Rule2a [] (line.ending ≡ Lf)
     ∷ Notes number Rule6 [] (Contains line.content carriage_return)
-    ∷ Notes number Rule5 [] ((IsBlank line.content → ⊥) × Lacks carriage_return line.content × ((fields : List (List ℕ)) → Spells line.content fields → ⊥))
+    ∷ Notes number Rule5 []
+        ((IsBlank line.content → ⊥) × Lacks carriage_return line.content × SpellsNoFields line.content)
     ∷ Notes number Rule3 [] (LacksDescriptor line.content) ∷ []
 
 -- what stands in the lines, which are numbered from 1
@@ -44,6 +46,10 @@ StandsInLines lines = Among lines (λ place line. OneOf (line_rules (place + 1) 
 -- Rules 1 and 2a alone
 abbrev pub byte_rules : ℕ → TextLine → List (Finding → Type 0)
 byte_rules number line = take 2 (line_rules number line)
+
+-- what stands in the bytes of the lines: Rules 1 and 2a alone
+abbrev pub StandsInBytes : List TextLine → Finding → Type 0
+StandsInBytes lines = Among lines (λ place line. OneOf (byte_rules (place + 1) line))
 
 -- the others: how a line spells its fields
 abbrev pub spelling_rules : ℕ → TextLine → List (Finding → Type 0)
@@ -70,6 +76,10 @@ StandsInOrder rows = OneOf (Notes 0 Rule2 [] (rows ≡ []) ∷ Among rows (λ pl
 abbrev pub IsRepeat : List (List ℕ) → ℕ → List ℕ → Type 0
 IsRepeat names place name = (earlier : ℕ) × (earlier < place) × At names earlier name
 
+-- Rule 4: each of these DATA rows with more or fewer fields than this, noted with the name of the group as subject.
+abbrev pub StandsInDataRows : List Row → ℕ → List ℕ → Finding → Type 0
+StandsInDataRows rows width name = Among rows (λ place row. Notes row.line Rule4 name (length row.cells ≢ width))
+
 -- Rules 2, 4: a group has DATA rows, its HEADING row has items, and each other row has as many as that.
 abbrev pub shape_rules : Group → List (Finding → Type 0)
 shape_rules group =
@@ -77,7 +87,7 @@ shape_rules group =
     ∷ Notes group.heading_line Rule4 group.name (group.headings ≡ [])
     ∷ Notes group.unit_line Rule4 group.name (length group.units ≢ length group.headings)
     ∷ Notes group.type_line Rule4 group.name (length group.types ≢ length group.headings)
-    ∷ Among group.rows (λ place row. Notes row.line Rule4 group.name (length row.cells ≢ length group.headings)) ∷ []
+    ∷ StandsInDataRows group.rows (length group.headings) group.name ∷ []
 
 -- A name of a list, noted at this line with the name as subject: under the code `wrong` where its form is not right, under `repeated`
 -- where it stands at an earlier place of the list as well.
@@ -85,13 +95,17 @@ abbrev pub StandsInName : ℕ → Code → Code → (List ℕ → Bool) → List
 StandsInName line wrong repeated is_name names place name =
     OneOf (Notes line wrong name (is_name name ≡ false) ∷ Notes line repeated name (IsRepeat names place name) ∷ [])
 
--- All rules of a group: its shape; its name (Rule 19, and P1: an earlier group has it), noted at the GROUP row; each heading (Rule 19a,
--- and P2: it stands earlier in the row), noted at the HEADING row.
+-- each heading of a group (Rule 19a, and P2: it stands earlier in the row), noted at the HEADING row
+abbrev pub StandsInHeadings : Group → Finding → Type 0
+StandsInHeadings group =
+    Among group.headings (StandsInName group.heading_line Rule19a P2 is_heading_name group.headings)
+
+-- All rules of a group: its shape; its name (Rule 19, and P1: an earlier group has it), at the GROUP row; its headings.
 abbrev pub group_rules : List (List ℕ) → ℕ → Group → List (Finding → Type 0)
 group_rules names place group =
     OneOf (shape_rules group)
     ∷ StandsInName group.line Rule19 P1 is_group_name names place group.name
-    ∷ Among group.headings (StandsInName group.heading_line Rule19a P2 is_heading_name group.headings) ∷ []
+    ∷ StandsInHeadings group ∷ []
 
 -- what stands in the groups of a file
 abbrev pub StandsInGroups : List Group → Finding → Type 0

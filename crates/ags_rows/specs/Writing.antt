@@ -3,9 +3,10 @@ use Rattle.std.specs.Prelude.{◌≡◌, ◌≢◌, ◌<◌, ℕ, List, [], ◌�
 use Rattle.std.specs.List.{AllByRecursion, AllPairs}
 use Rattle.ags_rows.specs.declared.rows.Ending.TheVariants.{CrLf}
 use Rattle.ags_rows.specs.declared.rows.Descriptor.{Descriptor}
+use Rattle.ags_rows.specs.declared.rows.Row.{Row}
 use Rattle.ags_text.specs.Bytes.{ascii_end, carriage_return, line_feed}
 use Rattle.ags_text.specs.Names.{is_group_name, is_heading_name}
-use Rattle.ags_rows.specs.Contents.{Contents}
+use Rattle.ags_rows.specs.Contents.{Contents, fields_of}
 use Rattle.ags_rows.specs.Lines.{TextLine, line_bytes}
 use Rattle.ags_rows.specs.Rows.{descriptor_text}
 use Rattle.ags_rows.specs.Spelling.{line_of}
@@ -36,6 +37,11 @@ written_lines (group ∷ next ∷ groups) = group_lines group ++ empty_line ∷ 
 -- the bytes of lines
 abbrev pub text_of : List TextLine → List ℕ
 text_of lines = flat_map line_bytes lines
+
+-- the bytes that are written of a group: of its name, its other header rows and its DATA rows
+abbrev pub written_group : List ℕ → List (List ℕ) → List (List ℕ) → List (List ℕ) → List Row → List ℕ
+written_group name headings units types rows =
+    text_of (group_lines (contents_from name headings units types (map fields_of rows)))
 
 abbrev pub written_file : List Contents → List ℕ
 written_file groups = text_of (written_lines groups)

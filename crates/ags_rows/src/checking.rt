@@ -1,13 +1,11 @@
 //! What stands against the groups of a file.
 
-ghost use Rattle.std.specs.Prelude.{◌≢◌, ◌∷◌, List, [], length, OnOk, IsErrOf};
-ghost use Rattle.ags_rows.specs.declared.code.Code.TheVariants.{Rule4, Rule19, Rule19a, P1, P2};
-ghost use Rattle.ags_rows.specs.declared.finding.Finding.{Finding};
-ghost use Rattle.ags_text.specs.Names.{is_group_name, is_heading_name};
-ghost use Rattle.ags_rows.specs.Collecting.{OneOf, Among, Notes, Adds};
-ghost use Rattle.ags_rows.specs.Stands.{shape_rules, StandsInName, StandsInGroups};
+ghost use Rattle.std.specs.Prelude.{◌≢◌, [], OnOk};
+ghost use Rattle.ags_rows.specs.declared.code.Code.TheVariants.{Rule4};
+ghost use Rattle.ags_rows.specs.Collecting.{OneOf, Notes, Adds};
+ghost use Rattle.ags_rows.specs.Stands.{shape_rules, StandsInDataRows, StandsInHeadings, StandsInGroups};
 ghost use Rattle.ags_rows.specs.Findings.{AreExactly};
-ghost use Rattle.ags_rows.specs.Parsing.{IsMet, MeetsAlso, met_rules};
+ghost use Rattle.ags_rows.specs.Parsing.{IsMet, MeetsAlso, name_rules_after, heading_rules_after, group_rules_after, IfFindings};
 
 use crate::code::Code;
 use crate::finding::NotedFindings;
@@ -58,9 +56,7 @@ fn note_widths(
     name: &[u8],
     findings: &mut NotedFindings,
 ) -> Result<(), AllocError>
-    ensures { OnOk result (Adds (Among rows.now (λ place row.
-        Notes row.line Rule4 name.now (length row.cells ≢ width)))
-        findings.old findings.new) }
+    ensures { OnOk result (Adds (StandsInDataRows rows.now width name.now) findings.old findings.new) }
 {
     for row in rows {
         note_width(row.line, row.cells.len(), width, name, findings)?;
@@ -92,9 +88,7 @@ fn note_name<'g>(
     met: &mut BTreeMap<&'g [u8], ()>,
     findings: &mut NotedFindings,
 ) -> Result<(), AllocError>
-    ensures noted { OnOk result (Adds
-        (OneOf (met_rules line Rule19 P1 name.now (is_group_name name.now) (IsMet met.old name.now)))
-        findings.old findings.new) }
+    ensures noted { OnOk result (Adds (OneOf (name_rules_after met.old line name.now)) findings.old findings.new) }
     ensures met { OnOk result (MeetsAlso met.old met.new name.now) }
 {
     if !is_group_name(name) {
@@ -110,8 +104,7 @@ fn note_heading<'g>(
     met: &mut BTreeMap<&'g [u8], ()>,
     findings: &mut NotedFindings,
 ) -> Result<(), AllocError>
-    ensures noted { OnOk result (Adds
-        (OneOf (met_rules line Rule19a P2 heading.now (is_heading_name heading.now) (IsMet met.old heading.now)))
+    ensures noted { OnOk result (Adds (OneOf (heading_rules_after met.old line heading.now))
         findings.old findings.new) }
     ensures met { OnOk result (MeetsAlso met.old met.new heading.now) }
 {
@@ -127,9 +120,7 @@ fn note_headings(
     group: &Group,
     findings: &mut NotedFindings,
 ) -> Result<(), AllocError>
-    ensures { OnOk result (Adds (Among group.now.headings
-        (StandsInName group.now.heading_line Rule19a P2 is_heading_name group.now.headings))
-        findings.old findings.new) }
+    ensures { OnOk result (Adds (StandsInHeadings group.now) findings.old findings.new) }
 {
     let mut met = BTreeMap::new(alloc);
     for heading in group.headings.as_slice() {
@@ -145,13 +136,7 @@ fn note_group<'g>(
     met: &mut BTreeMap<&'g [u8], ()>,
     findings: &mut NotedFindings,
 ) -> Result<(), AllocError>
-    ensures noted { OnOk result (Adds
-        (OneOf (OneOf (shape_rules group.now)
-        ∷ OneOf (met_rules group.now.line Rule19 P1 group.now.name (is_group_name group.now.name)
-        (IsMet met.old group.now.name))
-        ∷ Among group.now.headings
-        (StandsInName group.now.heading_line Rule19a P2 is_heading_name group.now.headings) ∷ []))
-        findings.old findings.new) }
+    ensures noted { OnOk result (Adds (OneOf (group_rules_after met.old group.now)) findings.old findings.new) }
     ensures met { OnOk result (MeetsAlso met.old met.new group.now.name) }
 {
     note_shape(group, findings)?;
@@ -177,8 +162,7 @@ fn note_groups(
 /// Nothing, or the findings of the third phase: each group.
 pub(crate) fn check_groups(alloc: Global, groups: &[Group]) -> Result<(), RowsError>
     ensures none { OnOk result (AreExactly (StandsInGroups groups.now) []) }
-    ensures findings { (found : List Finding) → IsErrOf result (RowsError.Findings found)
-        → (found ≢ []) × AreExactly (StandsInGroups groups.now) found }
+    ensures findings { IfFindings result (AreExactly (StandsInGroups groups.now)) }
 {
     let mut findings = NotedFindings::new(alloc);
     note_groups(alloc, groups, &mut findings)?;

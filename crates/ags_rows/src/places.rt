@@ -1,8 +1,8 @@
 //! Where a name stands in a list of names, looked up in logarithmic time.
 
-ghost use Rattle.std.specs.Prelude.{◌≡◌, ℕ, List, IfOk, OnOk, map};
+ghost use Rattle.std.specs.Prelude.{◌≡◌, IfOk, OnOk, map};
 ghost use Rattle.ags_rows.specs.Contents.{place_in};
-ghost use Rattle.ags_rows.specs.Places.{first_of, place_if, place_at, AreFirst};
+ghost use Rattle.ags_rows.specs.Places.{AddsPlace, AreFirst};
 
 use ags_text::Cell;
 use std::alloc::{AllocError, Global};
@@ -39,8 +39,7 @@ fn add_name<'n>(
     name: &'n [u8],
     place: usize,
 ) -> Result<(), AllocError>
-    ensures { OnOk result ((other : List ℕ) → place_at first.new other
-        ≡ first_of (place_at first.old other) (place_if name.entry.now other place)) }
+    ensures { OnOk result (AddsPlace first.old first.new name.entry.now place) }
 {
     if !first.contains_key(name) {
         first.insert(name, place)?;

@@ -3,8 +3,8 @@ use Rattle.std.proofs.lemmas.Result.{IfOk-weaker}
 use Rattle.ags_rows.specs.declared.code.Code.TheVariants.{Rule2, Rule4}
 use Rattle.ags_rows.specs.declared.finding.Finding.{Finding}
 use Rattle.ags_rows.specs.declared.rows.Row.{Row}
-use Rattle.ags_rows.specs.Collecting.{Adds, Among, Notes}
-use Rattle.ags_rows.proofs.Collecting.{found_at, adds_found, adds_unmet, five_rules}
+use Rattle.ags_rows.specs.Collecting.{Adds, Among, Notes, finding_at}
+use Rattle.ags_rows.proofs.Collecting.{adds_found, adds_unmet, five_rules}
 use Rattle.ags_rows.proofs.Repeats.{empties, empty}
 use Rattle.ags_rows.proofs.checking.note_shape.Goals as goal
 use Rattle.ags_rows.proofs.checking.note_shape.Goals.{then-is_empty+in_ok-note, else-is_empty, then-is_empty-2+in_ok-note-2, else-is_empty-2}
@@ -35,11 +35,11 @@ returns c =
     let four = c.note_width-2.new.findings in
     let five = c.note_widths.new.findings in
     let bare : Adds (Notes group.line Rule2 group.name (group.rows ≡ [])) old one = elim c.if-is_empty.branch [
-      | then-is_empty+in_ok-note w ↦ adds_found (empties group.rows _ c.is_empty.ensures w.if-is_empty.true) (w.findings-is ∙ w.in_ok-note.ensures.noted ∙ ap (λ (name : List ℕ). old ++ found_at group.line Rule2 name ∷ []) is)
+      | then-is_empty+in_ok-note w ↦ adds_found (empties group.rows _ c.is_empty.ensures w.if-is_empty.true) (w.findings-is ∙ w.in_ok-note.ensures.noted ∙ ap (λ (name : List ℕ). old ++ finding_at group.line Rule2 name ∷ []) is)
       | else-is_empty w ↦ adds_unmet w.if-is_empty.false (λ e. empty group.rows _ c.is_empty.ensures e) w.findings-is
     ] in
     let without : Adds (Notes group.heading_line Rule4 group.name (group.headings ≡ [])) one two = elim c.if-is_empty-2.branch [
-      | then-is_empty-2+in_ok-note-2 w ↦ adds_found (empties group.headings _ c.is_empty-2.ensures w.if-is_empty-2.true) (w.findings-is ∙ w.in_ok-note-2.ensures.noted ∙ ap (λ (name : List ℕ). one ++ found_at group.heading_line Rule4 name ∷ []) is)
+      | then-is_empty-2+in_ok-note-2 w ↦ adds_found (empties group.headings _ c.is_empty-2.ensures w.if-is_empty-2.true) (w.findings-is ∙ w.in_ok-note-2.ensures.noted ∙ ap (λ (name : List ℕ). one ++ finding_at group.heading_line Rule4 name ∷ []) is)
       | else-is_empty-2 w ↦ adds_unmet w.if-is_empty-2.false (λ e. empty group.headings _ c.is_empty-2.ensures e) w.findings-is
     ] in
     let units = same_width group.unit_line _ group.name _ (length group.units) _ (length group.headings) two three is c.len.ensures c.len-width.ensures c.in_ok-note_width.ensures in

@@ -1,10 +1,10 @@
-use Rattle.std.proofs.Common.{◌+◌, List, [], map, ap, subst, arith, length}
+use Rattle.std.proofs.Common.{List, [], map, ap, subst, arith, length}
 use Rattle.std.proofs.lemmas.List.{length-map}
 use Rattle.std.proofs.lemmas.Result.{IfOk-weaker}
 use Rattle.ags_rows.specs.declared.TheConstants.{READABLE}
 use Rattle.ags_rows.specs.declared.finding.Finding.{Finding}
-use Rattle.ags_rows.specs.Collecting.{Adds, Among, OneOf}
-use Rattle.ags_rows.specs.Stands.{byte_rules}
+use Rattle.ags_rows.specs.Collecting.{Adds}
+use Rattle.ags_rows.specs.Stands.{StandsInBytes}
 use Rattle.ags_rows.specs.Lines.{Lines, after_byte_order_mark, text_line}
 use Rattle.ags_rows.specs.Parsing.{AreTaken}
 use Rattle.ags_rows.proofs.Files.{lines_within}
@@ -28,9 +28,9 @@ returns-clause-rows c =
     let lines = map text_line c.in_ok-lines.lines.items in
     let cut : Lines (after_byte_order_mark c.args.bytes.now) lines = subst (λ t. Lines t lines) c.after_byte_order_mark.ensures c.in_ok-lines.ensures in
     let mid = c.note_lines.new.findings in
-    let first : Adds (Among lines (λ place line. OneOf (byte_rules (place + 1) line))) [] mid =
-    subst (λ (l : List Finding). Adds (Among lines (λ place line. OneOf (byte_rules (place + 1) line))) l mid) c.new-findings.ensures
-    (subst (λ x. Adds (Among (map text_line x) (λ place line. OneOf (byte_rules (place + 1) line))) c.new-findings.result mid) c.as_slice.ensures.value c.in_ok-note_lines.ensures) in
+    let first : Adds (StandsInBytes lines) [] mid =
+    subst (λ (l : List Finding). Adds (StandsInBytes lines) l mid) c.new-findings.ensures
+    (subst (λ x. Adds (StandsInBytes (map text_line x)) c.new-findings.result mid) c.as_slice.ensures.value c.in_ok-note_lines.ensures) in
     IfOk-weaker c.spelled_rows.result _ _ (λ rows h. rows_strict c.args.bytes.now lines mid rows.items [] cut first
     (subst (λ x. AreTaken (map text_line x) mid rows.items []) c.as_slice-2.ensures.value h)) c.spelled_rows.ensures.rows
 
@@ -39,8 +39,8 @@ returns-clause-findings c = λ found is.
     let lines = map text_line c.in_ok-lines.lines.items in
     let cut : Lines (after_byte_order_mark c.args.bytes.now) lines = subst (λ t. Lines t lines) c.after_byte_order_mark.ensures c.in_ok-lines.ensures in
     let mid = c.note_lines.new.findings in
-    let first : Adds (Among lines (λ place line. OneOf (byte_rules (place + 1) line))) [] mid =
-    subst (λ (l : List Finding). Adds (Among lines (λ place line. OneOf (byte_rules (place + 1) line))) l mid) c.new-findings.ensures
-    (subst (λ x. Adds (Among (map text_line x) (λ place line. OneOf (byte_rules (place + 1) line))) c.new-findings.result mid) c.as_slice.ensures.value c.in_ok-note_lines.ensures) in
+    let first : Adds (StandsInBytes lines) [] mid =
+    subst (λ (l : List Finding). Adds (StandsInBytes lines) l mid) c.new-findings.ensures
+    (subst (λ x. Adds (StandsInBytes (map text_line x)) c.new-findings.result mid) c.as_slice.ensures.value c.in_ok-note_lines.ensures) in
     let h = c.spelled_rows.ensures.findings found is in
-    (h.0, h.1, rows_strict c.args.bytes.now lines mid h.1 found cut first (subst (λ x. AreTaken (map text_line x) mid h.1 found) c.as_slice-2.ensures.value h.2))
+    (h.0, (h.1.0, rows_strict c.args.bytes.now lines mid h.1.0 found cut first (subst (λ x. AreTaken (map text_line x) mid h.1.0 found) c.as_slice-2.ensures.value h.1.1)))

@@ -26,4 +26,4 @@ returns-clause-findings c = λ found is.
     let lines = map text_line c.in_ok-lines.lines.items in
     let cut : Lines (after_byte_order_mark c.args.bytes.now) lines = subst (λ t. Lines t lines) c.after_byte_order_mark.ensures c.in_ok-lines.ensures in
     let h = c.spelled_rows.ensures.findings found is in
-    (h.0, h.1, rows_loose c.args.bytes.now lines c.new.result h.1 found cut c.new.ensures (subst (λ x. AreTaken (map text_line x) c.new.result h.1 found) c.as_slice.ensures.value h.2))
+    (h.0, (h.1.0, rows_loose c.args.bytes.now lines c.new.result h.1.0 found cut c.new.ensures (subst (λ x. AreTaken (map text_line x) c.new.result h.1.0 found) c.as_slice.ensures.value h.1.1)))

@@ -27,8 +27,8 @@ returns-in-Ok-clause-findings c = λ found is.
     let rows = c.args.rows.items in
     let h = c.clean_groups.ensures.findings found is in
     let lists = subst (λ (r : List FileRow). AreExactly (StandsInOrder r) []) c.as_slice.ensures.value c.in-Ok.ensures.none in
-    let first : FirstFound (later_phases rows h.1) found = inr (none_listed [] lists refl, inl (h.3, h.0)) in
-    (h.0, λ groups other. subst (λ (g : List Group). FirstFound (later_phases rows g) found) (same_cutting rows h.1 groups (inl h.2) other) first)
+    let first : FirstFound (later_phases rows h.1.0) found = inr (none_listed [] lists refl, inl (h.1.1.1, h.0)) in
+    (h.0, λ groups other. subst (λ (g : List Group). FirstFound (later_phases rows g) found) (same_cutting rows h.1.0 groups (inl h.1.1.0) other) first)
 
 pub returns-clause-findings : goal.returns-clause-findings
 returns-clause-findings c = λ found is.

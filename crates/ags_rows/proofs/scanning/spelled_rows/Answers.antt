@@ -9,4 +9,4 @@ pub returns-clause-findings : goal.returns-clause-findings
 returns-clause-findings c = λ found is.
     let same : c.in-Err.error ≡ RowsError.Findings found = cc in
     let h = c.in-Err.ensures.findings found (ap (λ e. Err e) same) in
-    (h.0, c.in_ok-rows.rows.items, (c.in_ok-rows.ensures.rows, c.take_lines.new.findings, c.in_ok-rows.ensures.findings, h.1))
+    (h.0, (c.in_ok-rows.rows.items, (c.in_ok-rows.ensures.rows, c.take_lines.new.findings, c.in_ok-rows.ensures.findings, h.1)))

@@ -22,4 +22,4 @@ pub returns-in-Err-clause-findings : goal.returns-in-Err-clause-findings
 returns-in-Err-clause-findings c = λ found is.
     let same : c.in-Err.error ≡ RowsError.Findings found = cc in
     let h = c.in-Err.ensures.findings found (ap (λ e. Err e) same) in
-    (found_first StandsInSpelling c.args.bytes.now h.1 found h.0 h.2, h.0)
+    (found_first StandsInSpelling c.args.bytes.now h.1.0 found h.0 h.1.1, h.0)
