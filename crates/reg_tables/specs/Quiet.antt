@@ -1,5 +1,5 @@
 -- What a query of a register needs of its connection, and what it leaves.
-use Rattle.std.specs.Prelude.{◌≡◌, Bool, false, IsTrue}
+use Rattle.std.specs.Prelude.{◌≡◌, Bool, false, IsTrue, Result, IfOk}
 use Rattle.std.proofs.Common.{sym, ap, subst, ◌∙◌, refl, arith, inl}
 use Rattle.sqlite.specs.Tree.{Trees}
 use Rattle.sqlite.specs.Effect.{Database}
@@ -28,6 +28,14 @@ ShowsTheSame old new = (new.now ≡ old.now) × (new.committed ≡ old.committed
 -- The connection was open, and it shows what it showed.
 abbrev pub IsAsBefore : State → State → Type 0
 IsAsBefore old new = IsTrue old.is_open × (new.now ≡ old.now) × (new.committed ≡ old.committed)
+
+-- On a clean disk the connection is as before, where it is open.
+abbrev pub StaysIfOpen : State → State → Type 0
+StaysIfOpen old new = HasCleanDisk new → IsTrue new.is_open → IsAsBefore old new
+
+-- On a clean disk, what P says of the tables before the call and of its answer.
+abbrev pub Finds : {A E : Type 0} → Result A E → (Database → A → Type 0) → State → State → Type 0
+Finds result P old new = HasCleanDisk new → IfOk result (λ found. P old.now found)
 
 -- Nothing was committed. Where the call did not fail nothing changed, nor where the connection is still open.
 pub record IsStill (old new : State) (failed : Bool) : Type 0 where
