@@ -35,9 +35,13 @@ numbers_under digests digest = option_map_or (λ v. v.items) (found_at digests d
 abbrev pub is_among : ℕ → List ℕ → Bool
 is_among n numbers = list_any (eqb n) numbers
 
+-- These numbers stand under a digest, and each other digest has what it had.
+abbrev pub PutsNumbers : Digests → Digests → List ℕ → List ℕ → Type 0
+PutsNumbers old new digest numbers = (other : List ℕ) → numbers_under new other ≡ (if bytes_eq digest other then numbers else numbers_under old other)
+
 -- One number more stands under a digest, and each other digest has what it had.
 abbrev pub AddsNumber : Digests → Digests → List ℕ → ℕ → Type 0
-AddsNumber old new digest number = (other : List ℕ) → numbers_under new other ≡ (if bytes_eq digest other then numbers_under old digest ++ number ∷ [] else numbers_under old other)
+AddsNumber old new digest number = PutsNumbers old new digest (numbers_under old digest ++ number ∷ [])
 
 -- Each deposit's number, from 1, stands under its digest.
 abbrev pub AreDigested : Digests → List Deposit → Type 0

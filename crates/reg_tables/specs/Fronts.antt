@@ -37,6 +37,11 @@ abbrev pub IsNothing : Result (Vec ℕ Global) KeepError → Type 0
 IsNothing (Ok targets) = targets.items ≡ []
 IsNothing (Err error) = ⊥
 
+-- No row of PROJ but this one, under this number, stands there newly.
+abbrev pub AddsNoOtherRow : Fronts → Fronts → ℕ → ProjectRow → Type 0
+AddsNoOtherRow old new number row = (n : ℕ) (held : ProjectRow) → front_at new n ≡ Some held
+    → (front_at old n ≡ Some held) ⊎ ((n ≡ number) × (held ≡ row))
+
 -- At most the row that was found stands there newly, under this number.
 pub record NotesRow (old new : Fronts) (number : ℕ) (found : Result (Option ProjectRow) KeepError) : Type 0 where
   pub rows : (n : ℕ) (row : ProjectRow) → front_at new n ≡ Some row

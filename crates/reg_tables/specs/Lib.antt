@@ -26,6 +26,7 @@ pub mod Methods
 pub mod DataCount
 pub mod Small
 pub mod Recent
+pub mod Found
 pub mod Places
 pub mod Fronts
 pub mod Formats

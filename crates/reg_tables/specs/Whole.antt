@@ -11,15 +11,19 @@ use Rattle.ags_dict.specs.Entries.{Entries}
 use Rattle.ags_dict.specs.Reading.{IsDictionary}
 use Rattle.ags_check.specs.Findings.{CheckedFile}
 use Rattle.reg_store.specs.Deposit.{Deposit, is_repeat}
+use Rattle.reg_store.specs.declared.keep.Kept.{Kept}
+use Rattle.reg_store.specs.declared.keep.KeptRow.{KeptRow}
+use Rattle.reg_store.specs.Keep.{deposit_of}
+use Rattle.reg_tables.specs.declared.repeats.Digests.{Digests}
 use Rattle.reg_tables.specs.Tables.{register_schema}
 use Rattle.reg_store.specs.Fit.{IsFileOf, IsNamed, kept_rows}
 use Rattle.reg_store.specs.ApartLaws.{apart_all, apart_pair}
-use Rattle.reg_tables.specs.Digests.{IsFirst}
+use Rattle.reg_tables.specs.Digests.{IsFirst, IsNew, numbers_under, own_digest}
 use Rattle.reg_tables.specs.Rows.{deposit_table, given_deposit, columns_3, line_table, step_table, rows_under, placed_rows, step_pair}
 use Rattle.reg_tables.specs.Register.{deposit_rows, has_number, meta_columns, file_lines, file_steps, IsRegister}
 use Rattle.reg_tables.specs.Shows.{row_of_number}
 use Rattle.reg_tables.specs.Adopts.{number_rows, id_of, IsRead, adopts}
-use Rattle.reg_tables.specs.Methods.{same_deposit, slice_get_in, zip_at}
+use Rattle.reg_tables.specs.Methods.{HoldsLines, HoldsSteps, same_deposit, slice_get_in, zip_at}
 
 -- A test finds the fact out: it is true only where the fact holds, and false only where it does not.
 pub record Tests (is : Bool) (Fact : Type 0) : Type 0 where
@@ -34,6 +38,22 @@ pub record HoldsFile (db : Database) (n : ℕ) (file : CheckedFile) : Type 0 whe
 -- The deposit's bytes have no finding, and the lines and steps of the number are theirs.
 abbrev pub HoldsBody : Database → Entries → ℕ → Deposit → Type 0
 HoldsBody db dictionary n d = (file : CheckedFile) × IsFileOf dictionary d file × HoldsFile db n file
+
+-- The lines and steps of a number are these.
+abbrev pub HoldsLinesAndSteps : ℕ → List KeptRow → List (ℕ × ℕ) → Database → Type 0
+HoldsLinesAndSteps n lines steps db = HoldsLines db n lines × HoldsSteps db n steps
+
+-- The number holds the deposit that was read: its bytes have no finding, and the lines and steps of the number are theirs.
+abbrev pub HoldsKept : Entries → ℕ → Kept → Database → Type 0
+HoldsKept dictionary n kept db = HoldsBody db dictionary n (deposit_of kept)
+
+-- The number holds the deposit that was read, and no deposit of these numbers is equal.
+abbrev pub HoldsNew : Entries → ℕ → List ℕ → Kept → Database → Type 0
+HoldsNew dictionary n numbers kept db = HoldsKept dictionary n kept db × IsNew db numbers (deposit_of kept)
+
+-- The number holds the deposit that was read, and no deposit whose number stands under its digest is equal.
+abbrev pub IsWholeKept : Entries → ℕ → Digests → Kept → Database → Type 0
+IsWholeKept dictionary n digests kept db = HoldsNew dictionary n (numbers_under digests (own_digest (deposit_of kept))) kept db
 
 -- The deposit of a number is whole: its row is the only one, with names and a day; its bytes have no finding; its lines and steps are there; and no deposit of a smaller number is equal.
 pub record IsWhole (db : Database) (dictionary : Entries) (n : ℕ) : Type 0 where

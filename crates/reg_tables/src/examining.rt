@@ -1,21 +1,19 @@
 //! A register that is found in a database is examined: its numbers, then deposit by deposit.
 
-ghost use Rattle.std.specs.Prelude.{◌≡◌, ◌≢◌, ◌≤◌, ◌+◌, ◌∷◌, ◌++◌, [], ℕ, List, length, map, true, false, Some, is_some, Ok, Err, IsTrue, IfOk, IfErr, IfSome};
-ghost use Rattle.std.specs.List.Sorted.{IsPermutation};
+ghost use Rattle.std.specs.Prelude.{◌≡◌, ◌≢◌, ◌≤◌, ◌+◌, [], ℕ, List, length, map, true, false, Some, Ok, Err, IsTrue, IfOk, IfErr, IfSome};
 ghost use Rattle.sqlite.specs.State.{HasCleanDisk};
 ghost use Rattle.sqlite.specs.Held.{state};
 ghost use Rattle.sqlite.specs.Tree.{IsAscending};
 ghost use Rattle.ags_links.specs.Steps.{IsBefore};
 ghost use Rattle.ags_check.specs.Findings.{IsClean};
-ghost use Rattle.reg_store.specs.Deposit.{Deposit};
 ghost use Rattle.reg_store.specs.Keep.{fails, deposit_of};
-ghost use Rattle.reg_tables.specs.Quiet.{IsIdle, IsStill};
+ghost use Rattle.reg_tables.specs.Quiet.{IsIdle, IsStill, Finds};
+ghost use Rattle.reg_tables.specs.Found.{AreNumbersFromOne, FindsAll, FindsOneIf, FindsOut, OnYes};
 ghost use Rattle.reg_tables.specs.Rows.{deposit_table};
-ghost use Rattle.reg_tables.specs.Register.{deposit_rows};
-ghost use Rattle.reg_tables.specs.Heads.{HoldsHeads, IsDigestedAt, head_of};
-ghost use Rattle.reg_tables.specs.Digests.{AddsNumber, AreBelow, HoldsDigests, IsNew, numbers_under, own_digest};
-ghost use Rattle.reg_tables.specs.Adopts.{id_of, number_rows as numbered};
-ghost use Rattle.reg_tables.specs.Whole.{AreWhole, Counts, HasMeta, HoldsBody, HoldsFile, IsWhole, Tests};
+ghost use Rattle.reg_tables.specs.Heads.{HoldsHeads, IsDigestedAt, AddsHead, IsDigestedFrom};
+ghost use Rattle.reg_tables.specs.Digests.{AreBelow, HoldsDigests, IsNew, numbers_under};
+ghost use Rattle.reg_tables.specs.Adopts.{id_of};
+ghost use Rattle.reg_tables.specs.Whole.{AreWhole, Counts, HasMeta, HoldsFile, IsWhole, HoldsKept, HoldsLinesAndSteps, HoldsNew, IsWholeKept};
 ghost use Rattle.reg_tables.specs.Adoption.{Adopts, CountsDeposits, MetaOf, gives_up};
 ghost use Rattle.reg_tables.specs.Methods.{HoldsLines, HoldsSteps};
 ghost use Rattle.sqlite.specs.Effect.{IsDatabase};
@@ -36,12 +34,11 @@ use std::alloc::Global;
 
 fn number_rows<S: Alter>(conn: &mut Connection<S>) -> Result<Vec<Row>, KeepError>
     requires idle { IsIdle (state S.Store conn.old) }
-    ensures all { HasCleanDisk (state S.Store conn.new) → IfOk result (λ rows.
-        IsPermutation rows.items (map id_of (deposit_table (state S.Store conn.old).now.trees))) }
-    ensures found { HasCleanDisk (state S.Store conn.new) → IfOk result (λ rows. (list : List Deposit)
-        → IsPermutation (deposit_rows 1 list) (deposit_table (state S.Store conn.old).now.trees)
-        → rows.items ≡ numbered 1 (length list)) }
-    ensures named { IfErr result (λ e. e ≢ KeepError.Full) }
+    ensures all { FindsAll result (λ db. map id_of (deposit_table db.trees))
+        (state S.Store conn.old) (state S.Store conn.new) }
+    ensures found { Finds result (λ db rows. AreNumbersFromOne db rows.items)
+        (state S.Store conn.old) (state S.Store conn.new) }
+    ensures refused { IfErr result (λ e. e ≢ KeepError.Full) }
     ensures quiet { IsStill (state S.Store conn.old) (state S.Store conn.new) (fails result) }
 {
     query(conn, "SELECT number FROM deposits ORDER BY number", &[])
@@ -50,9 +47,9 @@ fn number_rows<S: Alter>(conn: &mut Connection<S>) -> Result<Vec<Row>, KeepError
 /// How many deposits there are, if their numbers are those from 1 on.
 pub(crate) fn find_count<S: Alter>(conn: &mut Connection<S>) -> Result<Option<u32>, KeepError>
     requires idle { IsIdle (state S.Store conn.old) }
-    ensures counted { HasCleanDisk (state S.Store conn.new) → IfOk result (Counts (state S.Store conn.old).now) }
+    ensures counted { Finds result Counts (state S.Store conn.old) (state S.Store conn.new) }
     ensures few { IfOk result (λ found. IfSome found (λ count. count ≤ 999999)) }
-    ensures named { IfErr result (λ e. e ≢ KeepError.Full) }
+    ensures refused { IfErr result (λ e. e ≢ KeepError.Full) }
     ensures quiet { IsStill (state S.Store conn.old) (state S.Store conn.new) (fails result) }
 {
     match number_rows(conn) {
@@ -69,9 +66,9 @@ fn holds_lines<S: Alter>(
 ) -> Result<bool, KeepError>
     requires idle { IsIdle (state S.Store conn.old) }
     requires few { length lines.now ≤ 4294967295 }
-    ensures tested { HasCleanDisk (state S.Store conn.new)
-        → IfOk result (λ is. Tests is (HoldsLines (state S.Store conn.old).now number lines.now)) }
-    ensures named { IfErr result (λ e. e ≢ KeepError.Full) }
+    ensures tested { FindsOut result (λ db. HoldsLines db number lines.now)
+        (state S.Store conn.old) (state S.Store conn.new) }
+    ensures refused { IfErr result (λ e. e ≢ KeepError.Full) }
     ensures quiet { IsStill (state S.Store conn.old) (state S.Store conn.new) (fails result) }
 {
     match line_rows(conn, number) {
@@ -88,9 +85,9 @@ fn holds_steps<S: Alter>(
 ) -> Result<bool, KeepError>
     requires idle { IsIdle (state S.Store conn.old) }
     requires rising { IsAscending IsBefore steps.now }
-    ensures tested { HasCleanDisk (state S.Store conn.new)
-        → IfOk result (λ is. Tests is (HoldsSteps (state S.Store conn.old).now number steps.now)) }
-    ensures named { IfErr result (λ e. e ≢ KeepError.Full) }
+    ensures tested { FindsOut result (λ db. HoldsSteps db number steps.now)
+        (state S.Store conn.old) (state S.Store conn.new) }
+    ensures refused { IfErr result (λ e. e ≢ KeepError.Full) }
     ensures quiet { IsStill (state S.Store conn.old) (state S.Store conn.new) (fails result) }
 {
     match step_rows(conn, number) {
@@ -109,10 +106,9 @@ fn holds_file<S: Alter>(
     requires idle { IsIdle (state S.Store conn.old) }
     requires few { length lines.now ≤ 4294967295 }
     requires rising { IsAscending IsBefore steps.now }
-    ensures tested { HasCleanDisk (state S.Store conn.new) → IfOk result (λ is.
-        Tests is (HoldsLines (state S.Store conn.old).now number lines.now
-        × HoldsSteps (state S.Store conn.old).now number steps.now)) }
-    ensures named { IfErr result (λ e. e ≢ KeepError.Full) }
+    ensures tested { FindsOut result (HoldsLinesAndSteps number lines.now steps.now)
+        (state S.Store conn.old) (state S.Store conn.new) }
+    ensures refused { IfErr result (λ e. e ≢ KeepError.Full) }
     ensures quiet { IsStill (state S.Store conn.old) (state S.Store conn.new) (fails result) }
 {
     match holds_lines(conn, number, lines) {
@@ -131,9 +127,9 @@ fn holds_checked<S: Alter>(
 ) -> Result<bool, KeepError>
     requires idle { IsIdle (state S.Store conn.old) }
     requires clean { IsClean file.now }
-    ensures tested { HasCleanDisk (state S.Store conn.new)
-        → IfOk result (λ is. Tests is (HoldsFile (state S.Store conn.old).now number file.now)) }
-    ensures named { IfErr result (λ e. e ≢ KeepError.Full) }
+    ensures tested { FindsOut result (λ db. HoldsFile db number file.now)
+        (state S.Store conn.old) (state S.Store conn.new) }
+    ensures refused { IfErr result (λ e. e ≢ KeepError.Full) }
     ensures quiet { IsStill (state S.Store conn.old) (state S.Store conn.new) (fails result) }
 {
     match few_rows(alloc, file.scan().groups()) {
@@ -151,9 +147,9 @@ fn holds_body<S: Alter>(
     kept: &Kept,
 ) -> Result<bool, KeepError>
     requires idle { IsIdle (state S.Store conn.old) }
-    ensures tested { HasCleanDisk (state S.Store conn.new) → IfOk result (λ is.
-        Tests is (HoldsBody (state S.Store conn.old).now dictionary.now number (deposit_of kept.now))) }
-    ensures named { IfErr result (λ e. e ≢ KeepError.Full) }
+    ensures tested { FindsOut result (HoldsKept dictionary.now number kept.now)
+        (state S.Store conn.old) (state S.Store conn.new) }
+    ensures refused { IfErr result (λ e. e ≢ KeepError.Full) }
     ensures quiet { IsStill (state S.Store conn.old) (state S.Store conn.new) (fails result) }
 {
     let bytes = kept.bytes.as_slice();
@@ -175,9 +171,9 @@ fn is_new<S: Alter>(
     kept: &Kept,
 ) -> Result<bool, KeepError>
     requires idle { IsIdle (state S.Store conn.old) }
-    ensures tested { HasCleanDisk (state S.Store conn.new)
-        → IfOk result (λ is. Tests is (IsNew (state S.Store conn.old).now numbers.now (deposit_of kept.now))) }
-    ensures named { IfErr result (λ e. e ≢ KeepError.Full) }
+    ensures tested { FindsOut result (λ db. IsNew db numbers.now (deposit_of kept.now))
+        (state S.Store conn.old) (state S.Store conn.new) }
+    ensures refused { IfErr result (λ e. e ≢ KeepError.Full) }
     ensures quiet { IsStill (state S.Store conn.old) (state S.Store conn.new) (fails result) }
 {
     match find_equal(
@@ -204,10 +200,9 @@ fn holds_kept<S: Alter>(
     numbers: &[u32],
 ) -> Result<bool, KeepError>
     requires idle { IsIdle (state S.Store conn.old) }
-    ensures tested { HasCleanDisk (state S.Store conn.new) → IfOk result (λ is.
-        Tests is (HoldsBody (state S.Store conn.old).now dictionary.now number (deposit_of kept.now)
-        × IsNew (state S.Store conn.old).now numbers.now (deposit_of kept.now))) }
-    ensures named { IfErr result (λ e. e ≢ KeepError.Full) }
+    ensures tested { FindsOut result (HoldsNew dictionary.now number numbers.now kept.now)
+        (state S.Store conn.old) (state S.Store conn.new) }
+    ensures refused { IfErr result (λ e. e ≢ KeepError.Full) }
     ensures quiet { IsStill (state S.Store conn.old) (state S.Store conn.new) (fails result) }
 {
     match holds_body(conn, alloc, dictionary, number, kept) {
@@ -227,12 +222,10 @@ fn kept_head<S: Alter>(
     digests: &Digests,
 ) -> Result<Option<DigestedHead>, KeepError>
     requires idle { IsIdle (state S.Store conn.old) }
-    ensures tested { HasCleanDisk (state S.Store conn.new) → IfOk result (λ found. Tests (is_some found)
-        (HoldsBody (state S.Store conn.old).now dictionary.now number (deposit_of kept)
-        × IsNew (state S.Store conn.old).now (numbers_under digests.now (own_digest (deposit_of kept))) (deposit_of kept))) }
-    ensures head { IfOk result (λ found. IfSome found (λ one.
-        (one.head ≡ head_of (deposit_of kept)) × (one.digest ≡ own_digest (deposit_of kept)))) }
-    ensures named { IfErr result (λ e. e ≢ KeepError.Full) }
+    ensures tested { FindsOneIf result (IsWholeKept dictionary.now number digests.now kept)
+        (state S.Store conn.old) (state S.Store conn.new) }
+    ensures head { IfOk result (λ found. IfSome found (IsDigestedFrom (deposit_of kept))) }
+    ensures refused { IfErr result (λ e. e ≢ KeepError.Full) }
     ensures quiet { IsStill (state S.Store conn.old) (state S.Store conn.new) (fails result) }
 {
     let digest = digest_of(&kept.firm, &kept.project, kept.bytes.as_slice());
@@ -258,11 +251,11 @@ fn whole_head<S: Alter>(
     requires below { AreBelow digests.now number }
     requires digested { HasCleanDisk (state S.Store conn.old)
         → HoldsDigests (state S.Store conn.old).now number digests.now }
-    ensures tested { HasCleanDisk (state S.Store conn.new)
-        → IfOk result (λ found. Tests (is_some found) (IsWhole (state S.Store conn.old).now dictionary.now number)) }
-    ensures head { HasCleanDisk (state S.Store conn.new)
-        → IfOk result (λ found. IfSome found (IsDigestedAt (state S.Store conn.old).now number)) }
-    ensures named { IfErr result (λ e. e ≢ KeepError.Full) }
+    ensures tested { FindsOneIf result (λ db. IsWhole db dictionary.now number)
+        (state S.Store conn.old) (state S.Store conn.new) }
+    ensures head { Finds result (λ db found. IfSome found (IsDigestedAt db number))
+        (state S.Store conn.old) (state S.Store conn.new) }
+    ensures refused { IfErr result (λ e. e ≢ KeepError.Full) }
     ensures quiet { IsStill (state S.Store conn.old) (state S.Store conn.new) (fails result) }
 {
     let rows = match numbered_rows(conn, number) {
@@ -289,12 +282,11 @@ fn holds_deposit<S: Alter>(
     requires below { AreBelow digests.old number }
     requires digested { HasCleanDisk (state S.Store conn.old)
         → HoldsDigests (state S.Store conn.old).now number digests.old }
-    ensures tested { HasCleanDisk (state S.Store conn.new)
-        → IfOk result (λ is. Tests is (IsWhole (state S.Store conn.old).now dictionary.now number)) }
-    ensures put { result ≡ Ok true → (one : DigestedHead) × (heads.new.items ≡ heads.old.items ++ one.head ∷ [])
-        × AddsNumber digests.old digests.new one.digest number
-        × (HasCleanDisk (state S.Store conn.new) → IsDigestedAt (state S.Store conn.old).now number one) }
-    ensures named { IfErr result (λ e. e ≢ KeepError.Full) }
+    ensures tested { FindsOut result (λ db. IsWhole db dictionary.now number)
+        (state S.Store conn.old) (state S.Store conn.new) }
+    ensures put { AddsHead result number heads.old heads.new digests.old digests.new
+        (state S.Store conn.old) (state S.Store conn.new) }
+    ensures refused { IfErr result (λ e. e ≢ KeepError.Full) }
     ensures quiet { IsStill (state S.Store conn.old) (state S.Store conn.new) (fails result) }
 {
     match whole_head(conn, alloc, dictionary, number, digests) {
@@ -323,19 +315,19 @@ pub(crate) fn holds_deposits<S: Alter>(
     requires no_digests { (digest : List ℕ) → numbers_under digests.old digest ≡ [] }
 
     // Whether the deposits are whole.
-    ensures tested { HasCleanDisk (state S.Store conn.new)
-        → IfOk result (λ is. Tests is (AreWhole (state S.Store conn.old).now dictionary.now count)) }
+    ensures tested { FindsOut result (λ db. AreWhole db dictionary.now count)
+        (state S.Store conn.old) (state S.Store conn.new) }
 
     // The heads and digests in the lists, where the deposits are whole.
     ensures long { result ≡ Ok true → length heads.new.items ≡ count }
-    ensures heads { HasCleanDisk (state S.Store conn.new) → result ≡ Ok true
-        → HoldsHeads (state S.Store conn.old).now count heads.new.items }
+    ensures heads { OnYes result (λ db. HoldsHeads db count heads.new.items)
+        (state S.Store conn.old) (state S.Store conn.new) }
     ensures below { result ≡ Ok true → AreBelow digests.new (count + 1) }
-    ensures digests { HasCleanDisk (state S.Store conn.new) → result ≡ Ok true
-        → HoldsDigests (state S.Store conn.old).now (count + 1) digests.new }
+    ensures digests { OnYes result (λ db. HoldsDigests db (count + 1) digests.new)
+        (state S.Store conn.old) (state S.Store conn.new) }
 
     // Which refusal never comes.
-    ensures named { IfErr result (λ e. e ≢ KeepError.Full) }
+    ensures refused { IfErr result (λ e. e ≢ KeepError.Full) }
 
     // What is left in either case.
     ensures quiet { IsStill (state S.Store conn.old) (state S.Store conn.new) (fails result) }
@@ -365,17 +357,17 @@ fn find_register<S: Alter>(
     requires no_digests { (digest : List ℕ) → numbers_under digests.old digest ≡ [] }
 
     // The count at success.
-    ensures found { HasCleanDisk (state S.Store conn.new)
-        → IfOk result (λ count. CountsDeposits (state S.Store conn.old).now dictionary.now (Some count)) }
+    ensures found { Finds result (λ db n. CountsDeposits db dictionary.now (Some n))
+        (state S.Store conn.old) (state S.Store conn.new) }
     ensures few { IfOk result (λ count. count ≤ 999999) }
 
     // The heads and digests in the lists at success.
     ensures long { IfOk result (λ count. length heads.new.items ≡ count) }
-    ensures heads { HasCleanDisk (state S.Store conn.new)
-        → IfOk result (λ count. HoldsHeads (state S.Store conn.old).now count heads.new.items) }
+    ensures heads { Finds result (λ db count. HoldsHeads db count heads.new.items)
+        (state S.Store conn.old) (state S.Store conn.new) }
     ensures below { IfOk result (λ count. AreBelow digests.new (count + 1)) }
-    ensures digests { HasCleanDisk (state S.Store conn.new)
-        → IfOk result (λ count. HoldsDigests (state S.Store conn.old).now (count + 1) digests.new) }
+    ensures digests { Finds result (λ db count. HoldsDigests db (count + 1) digests.new)
+        (state S.Store conn.old) (state S.Store conn.new) }
 
     // Each refusal, by what the tables are.
     ensures refused { HasCleanDisk (state S.Store conn.new)
@@ -430,11 +422,11 @@ pub(crate) fn examine<S: Alter>(
     // The count at success, and the heads and digests in the lists.
     ensures few { IfOk result (λ found. found.1 ≤ 999999) }
     ensures long { IfOk result (λ found. length heads.new.items ≡ found.1) }
-    ensures heads { HasCleanDisk (state S.Store conn.new)
-        → IfOk result (λ found. HoldsHeads (state S.Store conn.old).now found.1 heads.new.items) }
+    ensures heads { Finds result (λ db found. HoldsHeads db found.1 heads.new.items)
+        (state S.Store conn.old) (state S.Store conn.new) }
     ensures below { IfOk result (λ found. AreBelow digests.new (found.1 + 1)) }
-    ensures digests { HasCleanDisk (state S.Store conn.new)
-        → IfOk result (λ found. HoldsDigests (state S.Store conn.old).now (found.1 + 1) digests.new) }
+    ensures digests { Finds result (λ db found. HoldsDigests db (found.1 + 1) digests.new)
+        (state S.Store conn.old) (state S.Store conn.new) }
 
     // What is left in either case.
     ensures open { HasCleanDisk (state S.Store conn.new) → gives_up result ≡ false

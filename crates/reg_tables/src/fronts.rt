@@ -1,6 +1,6 @@
 //! The rows of PROJ that were read, which stand in memory for the listings to come.
 
-ghost use Rattle.std.specs.Prelude.{◌≡◌, ◌+◌, ◌<◌, ◌≤◌, ◌↔◌, ◌⊎◌, ℕ, Some, None, length, IsTrue, IfOk, OnOk, MatchOption};
+ghost use Rattle.std.specs.Prelude.{◌≡◌, ◌+◌, ◌<◌, ◌≤◌, ◌↔◌, ℕ, Some, None, length, IsTrue, IfOk, OnOk, MatchOption};
 ghost use Rattle.reg_tables.specs.Places.{ArePlaced, entry_at};
 
 use reg_store::{KeepError, ProjectRow, project_row};
@@ -71,7 +71,7 @@ fn make_entry(entries: &mut Vec<Front>, number: u32) -> Result<(), AllocError>
 }
 
 impl Fronts {
-    ghost use Rattle.reg_tables.specs.Fronts.{NotesRow, NotesTargets, alone_at, front_at};
+    ghost use Rattle.reg_tables.specs.Fronts.{NotesRow, NotesTargets, alone_at, front_at, AddsNoOtherRow};
     ghost use Rattle.reg_store.specs.Project.{project_number};
 
     /// None.
@@ -141,8 +141,7 @@ impl Fronts {
     /// Puts a copy of the row under the number of its deposit. Where memory is wanting nothing new is known.
     fn add_row(&mut self, alloc: Global, number: u32, row: &ProjectRow) -> Result<(), AllocError>
         requires { length self.old.rows.items < 65536 }
-        ensures rows { (n : ℕ) (held : ProjectRow) → front_at self.new n ≡ Some held
-            → (front_at self.old n ≡ Some held) ⊎ ((n ≡ number) × (held ≡ row.now)) }
+        ensures rows { AddsNoOtherRow self.old self.new number row.now }
         ensures alone { (n : ℕ) → alone_at self.new n ≡ alone_at self.old n }
         ensures there { OnOk result (front_at self.new number ≡ Some row.now) }
         ensures count { self.new.alone_count ≡ self.old.alone_count }

@@ -3,12 +3,13 @@
 ghost use Rattle.std.specs.Prelude.{◌≡◌, ◌≢◌, ◌++◌, ◌∷◌, [], List, false, IsTrue, IfOk, IfErr, OnOk};
 ghost use Rattle.sqlite.specs.Order.{Row as Values};
 ghost use Rattle.sqlite.specs.Values.{bound};
-ghost use Rattle.sqlite.specs.State.{HasCleanDisk, Survives, Shown};
+ghost use Rattle.sqlite.specs.State.{HasCleanDisk, Survives};
 ghost use Rattle.sqlite.specs.Held.{state};
 ghost use Rattle.sqlite.specs.Given.{IsPlain};
 ghost use Rattle.sqlite.specs.Listing.{understood};
 ghost use Rattle.reg_tables.specs.Tables.{register_schema};
-ghost use Rattle.reg_tables.specs.Quiet.{IsAsBefore, IsIdle, IsStill};
+ghost use Rattle.reg_tables.specs.Quiet.{IsIdle, IsStill, StaysIfOpen};
+ghost use Rattle.reg_tables.specs.Found.{TakesEachShown, TakesShown};
 ghost use Rattle.reg_store.specs.Keep.{fails};
 
 use crate::queries::{is_memory, is_open};
@@ -25,7 +26,7 @@ pub(crate) trait Gather {
     fn take(&mut self, row: &Row) -> Result<(), KeepError>
         ensures taken { OnOk result ((rows : List Values) → holds self.old rows
             → holds self.new (rows ++ row.now ∷ [])) }
-        ensures named { IfErr result (λ e. e ≢ KeepError.Full) };
+        ensures refused { IfErr result (λ e. e ≢ KeepError.Full) };
 }
 
 /// Takes each row of an answer. The outer error is the database's, the inner that of a row.
@@ -42,14 +43,12 @@ fn take_each<S: Alter, G: Gather>(
     // Transaction and connection after the call.
     ensures mode { conn.new.in_transaction ≡ false }
     ensures open { HasCleanDisk (state S.Store conn.new) → OnOk result (IsTrue (state S.Store conn.new).is_open) }
-    ensures same { HasCleanDisk (state S.Store conn.new) → IsTrue (state S.Store conn.new).is_open
-        → IsAsBefore (state S.Store conn.old) (state S.Store conn.new) }
+    ensures same { StaysIfOpen (state S.Store conn.old) (state S.Store conn.new) }
 
     // What was taken of the answer, and which refusal of a row never comes.
-    ensures shown { HasCleanDisk (state S.Store conn.new) → IfOk result (λ taken. OnOk taken ((rows : List Values)
-        × Shown sql.now (bound params.now) (state S.Store conn.old) (state S.Store conn.new) rows
-        × G.holds into.new rows)) }
-    ensures named { IfOk result (λ taken. IfErr taken (λ e. e ≢ KeepError.Full)) }
+    ensures shown { TakesEachShown result sql.now (bound params.now) (G.holds into.new)
+        (state S.Store conn.old) (state S.Store conn.new) }
+    ensures refused { IfOk result (λ taken. IfErr taken (λ e. e ≢ KeepError.Full)) }
 
     // What a crash may leave.
     ensures crash { Survives (state S.Store conn.old) (state S.Store conn.new) (λ _. ⊥) }
@@ -77,10 +76,9 @@ pub(crate) fn take_shown<S: Alter, G: Gather>(
     requires plain { IsPlain (understood register_schema sql.now) }
     requires idle { IsIdle (state S.Store conn.old) }
     requires empty { G.holds into.old [] }
-    ensures shown { HasCleanDisk (state S.Store conn.new) → OnOk result ((rows : List Values)
-        × Shown sql.now (bound params.now) (state S.Store conn.old) (state S.Store conn.new) rows
-        × G.holds into.new rows) }
-    ensures named { IfErr result (λ e. e ≢ KeepError.Full) }
+    ensures shown { TakesShown result sql.now (bound params.now) (G.holds into.new)
+        (state S.Store conn.old) (state S.Store conn.new) }
+    ensures refused { IfErr result (λ e. e ≢ KeepError.Full) }
     ensures quiet { IsStill (state S.Store conn.old) (state S.Store conn.new) (fails result) }
 {
     match take_each(conn, sql, params, into) {

@@ -1,15 +1,11 @@
 //! The row of PROJ of a deposit, and the rows that a row has steps to.
 
-ghost use Rattle.std.specs.Prelude.{◌≡◌, ◌≢◌, ℕ, false, List, take, Ok, IfOk, IfErr};
-ghost use Rattle.sqlite.specs.State.{HasCleanDisk};
+ghost use Rattle.std.specs.Prelude.{◌≡◌, ◌≢◌, false, take, Ok, IfOk, IfErr};
 ghost use Rattle.sqlite.specs.Held.{state};
-ghost use Rattle.sqlite.specs.Tree.{IsAscending};
-ghost use Rattle.ags_links.specs.Steps.{IsBefore};
-ghost use Rattle.reg_store.specs.declared.keep.KeptRow.{KeptRow};
 ghost use Rattle.reg_tables.specs.Quiet.{IsIdle, IsStill};
+ghost use Rattle.reg_tables.specs.Found.{OfLines, OfSteps};
 ghost use Rattle.reg_store.specs.Keep.{fails};
 ghost use Rattle.reg_store.specs.Project.{project_of, targets_of};
-ghost use Rattle.reg_tables.specs.Methods.{HoldsLines, HoldsSteps};
 
 use crate::gathering::take_shown;
 use crate::readers::{KeptLines, KeptTargets};
@@ -25,9 +21,9 @@ fn find_front<S: Alter>(
     number: u32,
 ) -> Result<Vec<KeptRow>, KeepError>
     requires idle { IsIdle (state S.Store conn.old) }
-    ensures found { HasCleanDisk (state S.Store conn.new) → IfOk result (λ lines. (file : List KeptRow)
-        → HoldsLines (state S.Store conn.old).now number file → lines.items ≡ take 5 file) }
-    ensures named { IfErr result (λ e. e ≢ KeepError.Full) }
+    ensures found { OfLines result number (λ file lines. lines.items ≡ take 5 file)
+        (state S.Store conn.old) (state S.Store conn.new) }
+    ensures refused { IfErr result (λ e. e ≢ KeepError.Full) }
     ensures quiet { IsStill (state S.Store conn.old) (state S.Store conn.new) (fails result) }
 {
     let mut lines = KeptLines {
@@ -51,9 +47,9 @@ fn front_project<S: Alter>(
     number: u32,
 ) -> Result<Option<ProjectRow>, KeepError>
     requires idle { IsIdle (state S.Store conn.old) }
-    ensures found { HasCleanDisk (state S.Store conn.new) → IfOk result (λ found. (file : List KeptRow)
-        → HoldsLines (state S.Store conn.old).now number file → found ≡ project_of (take 5 file)) }
-    ensures named { IfErr result (λ e. e ≢ KeepError.Full) }
+    ensures found { OfLines result number (λ file found. found ≡ project_of (take 5 file))
+        (state S.Store conn.old) (state S.Store conn.new) }
+    ensures refused { IfErr result (λ e. e ≢ KeepError.Full) }
     ensures quiet { IsStill (state S.Store conn.old) (state S.Store conn.new) (fails result) }
 {
     match find_front(conn, alloc, number) {
@@ -69,9 +65,9 @@ fn search_project<S: Alter>(
     number: u32,
 ) -> Result<Option<ProjectRow>, KeepError>
     requires idle { IsIdle (state S.Store conn.old) }
-    ensures found { HasCleanDisk (state S.Store conn.new) → IfOk result (λ found. (file : List KeptRow)
-        → HoldsLines (state S.Store conn.old).now number file → found ≡ project_of file) }
-    ensures named { IfErr result (λ e. e ≢ KeepError.Full) }
+    ensures found { OfLines result number (λ file found. found ≡ project_of file)
+        (state S.Store conn.old) (state S.Store conn.new) }
+    ensures refused { IfErr result (λ e. e ≢ KeepError.Full) }
     ensures quiet { IsStill (state S.Store conn.old) (state S.Store conn.new) (fails result) }
 {
     match find_lines(conn, alloc, number) {
@@ -84,7 +80,7 @@ fn search_project<S: Alter>(
 fn wanting(read: Result<Option<ProjectRow>, AllocError>) -> Result<Option<ProjectRow>, KeepError>
     ensures read { IfOk result (λ found. read ≡ Ok found) }
     ensures lives { fails result ≡ false }
-    ensures named { IfErr result (λ e. e ≢ KeepError.Full) }
+    ensures refused { IfErr result (λ e. e ≢ KeepError.Full) }
 {
     match read {
         Ok(found) => Ok(found),
@@ -100,9 +96,9 @@ pub(crate) fn find_project<S: Alter>(
     number: u32,
 ) -> Result<Option<ProjectRow>, KeepError>
     requires idle { IsIdle (state S.Store conn.old) }
-    ensures found { HasCleanDisk (state S.Store conn.new) → IfOk result (λ found. (file : List KeptRow)
-        → HoldsLines (state S.Store conn.old).now number file → found ≡ project_of file) }
-    ensures named { IfErr result (λ e. e ≢ KeepError.Full) }
+    ensures found { OfLines result number (λ file found. found ≡ project_of file)
+        (state S.Store conn.old) (state S.Store conn.new) }
+    ensures refused { IfErr result (λ e. e ≢ KeepError.Full) }
     ensures quiet { IsStill (state S.Store conn.old) (state S.Store conn.new) (fails result) }
 {
     match front_project(conn, alloc, number)? {
@@ -119,10 +115,9 @@ pub(crate) fn find_targets<S: Alter>(
     row: u32,
 ) -> Result<Vec<u32>, KeepError>
     requires idle { IsIdle (state S.Store conn.old) }
-    ensures found { HasCleanDisk (state S.Store conn.new) → IfOk result (λ targets. (steps : List (ℕ × ℕ))
-        → IsAscending IsBefore steps → HoldsSteps (state S.Store conn.old).now number steps
-        → targets.items ≡ targets_of row steps) }
-    ensures named { IfErr result (λ e. e ≢ KeepError.Full) }
+    ensures found { OfSteps result number (λ steps all. all.items ≡ targets_of row steps)
+        (state S.Store conn.old) (state S.Store conn.new) }
+    ensures refused { IfErr result (λ e. e ≢ KeepError.Full) }
     ensures quiet { IsStill (state S.Store conn.old) (state S.Store conn.new) (fails result) }
 {
     let mut targets = KeptTargets {

@@ -1,13 +1,14 @@
 //! One query.
 
-ghost use Rattle.std.specs.Prelude.{◌≡◌, ◌≢◌, ◌↔◌, false, IsTrue, IfOk, IfErr, OnOk};
+ghost use Rattle.std.specs.Prelude.{◌≡◌, ◌≢◌, ◌↔◌, false, IsTrue, IfErr, OnOk};
 ghost use Rattle.sqlite.specs.Values.{bound};
-ghost use Rattle.sqlite.specs.State.{HasCleanDisk, Survives, IsUnchanged, Shown};
+ghost use Rattle.sqlite.specs.State.{HasCleanDisk, Survives, IsUnchanged};
 ghost use Rattle.sqlite.specs.Held.{state};
 ghost use Rattle.sqlite.specs.Given.{IsPlain};
 ghost use Rattle.sqlite.specs.Listing.{understood};
 ghost use Rattle.reg_tables.specs.Tables.{register_schema};
-ghost use Rattle.reg_tables.specs.Quiet.{IsAsBefore, IsIdle, IsSettled, IsStill};
+ghost use Rattle.reg_tables.specs.Quiet.{IsAsBefore, IsIdle, IsSettled, IsStill, StaysIfOpen};
+ghost use Rattle.reg_tables.specs.Found.{FindsShown};
 ghost use Rattle.reg_store.specs.Keep.{fails};
 
 use reg_store::KeepError;
@@ -42,10 +43,8 @@ fn ask<S: Alter>(
     requires idle { IsIdle (state S.Store conn.old) }
     ensures mode { conn.new.in_transaction ≡ false }
     ensures open { HasCleanDisk (state S.Store conn.new) → OnOk result (IsTrue (state S.Store conn.new).is_open) }
-    ensures same { HasCleanDisk (state S.Store conn.new) → IsTrue (state S.Store conn.new).is_open
-        → IsAsBefore (state S.Store conn.old) (state S.Store conn.new) }
-    ensures shown { HasCleanDisk (state S.Store conn.new) → IfOk result (λ rows.
-        Shown sql.now (bound params.now) (state S.Store conn.old) (state S.Store conn.new) rows.items) }
+    ensures same { StaysIfOpen (state S.Store conn.old) (state S.Store conn.new) }
+    ensures shown { FindsShown result sql.now (bound params.now) (state S.Store conn.old) (state S.Store conn.new) }
     ensures crash { Survives (state S.Store conn.old) (state S.Store conn.new) (λ _. ⊥) }
 {
     conn.query_all(sql, params)
@@ -60,11 +59,10 @@ pub(crate) fn query<S: Alter>(
 ) -> Result<Vec<Row>, KeepError>
     requires plain { IsPlain (understood register_schema sql.now) }
     requires idle { IsIdle (state S.Store conn.old) }
-    ensures shown { HasCleanDisk (state S.Store conn.new) → IfOk result (λ rows.
-        Shown sql.now (bound params.now) (state S.Store conn.old) (state S.Store conn.new) rows.items) }
+    ensures shown { FindsShown result sql.now (bound params.now) (state S.Store conn.old) (state S.Store conn.new) }
     ensures open { HasCleanDisk (state S.Store conn.new) → fails result ≡ false
         → IsTrue (state S.Store conn.new).is_open }
-    ensures named { IfErr result (λ e. e ≢ KeepError.Full) }
+    ensures refused { IfErr result (λ e. e ≢ KeepError.Full) }
     ensures quiet { IsStill (state S.Store conn.old) (state S.Store conn.new) (fails result) }
 {
     match ask(conn, sql, params) {

@@ -22,7 +22,7 @@ use std::alloc::Global;
 
 fn read_number(row: &Row, at: usize) -> Result<u32, KeepError>
     ensures read { IfOk result (λ n. column row.now at ≡ Int (pos n)) }
-    ensures named { IfErr result (λ e. e ≢ KeepError.Full) }
+    ensures refused { IfErr result (λ e. e ≢ KeepError.Full) }
     ensures other { result ≡ Err KeepError.Store → at < length row.now → (n : ℕ) → n < 2 ^ 32
         → column row.now at ≡ Int (pos n) → ⊥ }
 {
@@ -35,7 +35,7 @@ fn read_number(row: &Row, at: usize) -> Result<u32, KeepError>
 fn read_bytes(row: &Row, at: usize) -> Result<Bytes, KeepError>
     requires { at < length row.now }
     ensures read { IfOk result (λ bytes. column row.now at ≡ Blob bytes) }
-    ensures named { IfErr result (λ e. e ≢ KeepError.Full) }
+    ensures refused { IfErr result (λ e. e ≢ KeepError.Full) }
     ensures other { result ≡ Err KeepError.Store → (bytes : List ℕ) → column row.now at ≡ Blob bytes → ⊥ }
 {
     let read: Vec<u8> = match row.get(at) {
@@ -47,7 +47,7 @@ fn read_bytes(row: &Row, at: usize) -> Result<Bytes, KeepError>
 
 fn read_text(row: &Row, at: usize) -> Result<Bytes, KeepError>
     ensures read { IfOk result (λ text. column row.now at ≡ Words text) }
-    ensures named { IfErr result (λ e. e ≢ KeepError.Full) }
+    ensures refused { IfErr result (λ e. e ≢ KeepError.Full) }
 {
     let read: String = match row.get(at) {
         Ok(read) => read,
@@ -60,7 +60,7 @@ fn read_name(alloc: Global, row: &Row, at: usize) -> Result<Name, KeepError>
     requires { at < length row.now }
     ensures read { IfOk result (λ name. column row.now at ≡ Words name) }
     ensures is_name { IfOk result (λ name. IsTrue (is_name name)) }
-    ensures named { IfErr result (λ e. e ≢ KeepError.Full) }
+    ensures refused { IfErr result (λ e. e ≢ KeepError.Full) }
     ensures other { result ≡ Err KeepError.Store → (name : List ℕ) → IsTrue (is_name name)
         → column row.now at ≡ Words name → ⊥ }
 {
@@ -79,7 +79,7 @@ fn read_day(row: &Row, at: usize) -> Result<Day, KeepError>
     requires { at < length row.now }
     ensures read { IfOk result (λ day. column row.now at ≡ Int day) }
     ensures is_day { IfOk result (λ day. IsTrue (is_day_number day)) }
-    ensures named { IfErr result (λ e. e ≢ KeepError.Full) }
+    ensures refused { IfErr result (λ e. e ≢ KeepError.Full) }
     ensures other { result ≡ Err KeepError.Store → (n : ℤ) → IsTrue (is_day_number n)
         → column row.now at ≡ Int n → ⊥ }
 {
@@ -97,7 +97,7 @@ fn read_day(row: &Row, at: usize) -> Result<Day, KeepError>
 fn only_row<'a>(rows: &'a [Row], width: usize) -> Result<&'a Row, KeepError>
     ensures only { IfOk result (λ row. rows.now ≡ row.now ∷ []) }
     ensures wide { IfOk result (λ row. length row.now ≡ width) }
-    ensures named { IfErr result (λ e. e ≢ KeepError.Full) }
+    ensures refused { IfErr result (λ e. e ≢ KeepError.Full) }
     ensures other { result ≡ Err KeepError.Store → (row : Values) → rows.now ≡ row ∷ [] → length row ≡ width → ⊥ }
 {
     if rows.len() != 1 {
@@ -114,7 +114,7 @@ fn only_row<'a>(rows: &'a [Row], width: usize) -> Result<&'a Row, KeepError>
 pub(crate) fn read_deposit(alloc: Global, number: u32, rows: &[Row]) -> Result<Kept, KeepError>
     ensures read { IfOk result (λ kept. rows.now ≡ given_deposit number (deposit_of kept) ∷ []) }
     ensures is_named { IfOk result (λ kept. IsNamed (deposit_of kept)) }
-    ensures named { IfErr result (λ e. e ≢ KeepError.Full) }
+    ensures refused { IfErr result (λ e. e ≢ KeepError.Full) }
     ensures other { result ≡ Err KeepError.Store → (d : Deposit) → IsNamed d
         → rows.now ≡ given_deposit number d ∷ [] → ⊥ }
 {
@@ -135,7 +135,7 @@ pub(crate) fn read_deposit(alloc: Global, number: u32, rows: &[Row]) -> Result<K
 
 fn read_placed(at: usize, row: &Row) -> Result<KeptRow, KeepError>
     ensures read { IfOk result (λ line. row.now ≡ placed_row at line) }
-    ensures named { IfErr result (λ e. e ≢ KeepError.Full) }
+    ensures refused { IfErr result (λ e. e ≢ KeepError.Full) }
 {
     if row.column_count() != 4 {
         return Err(KeepError::Store);
@@ -194,7 +194,7 @@ impl Gather for DataCount {
 
 fn read_step(row: &Row) -> Result<(u32, u32), KeepError>
     ensures read { IfOk result (λ step. row.now ≡ step_pair step) }
-    ensures named { IfErr result (λ e. e ≢ KeepError.Full) }
+    ensures refused { IfErr result (λ e. e ≢ KeepError.Full) }
 {
     if row.column_count() != 2 {
         return Err(KeepError::Store);
@@ -222,7 +222,7 @@ impl Gather for KeptSteps {
 
 fn read_target(row: &Row) -> Result<u32, KeepError>
     ensures read { IfOk result (λ target. row.now ≡ target_cell target) }
-    ensures named { IfErr result (λ e. e ≢ KeepError.Full) }
+    ensures refused { IfErr result (λ e. e ≢ KeepError.Full) }
 {
     if row.column_count() != 1 {
         return Err(KeepError::Store);

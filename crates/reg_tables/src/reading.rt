@@ -1,18 +1,16 @@
 //! What is read of a register.
 
-ghost use Rattle.std.specs.Prelude.{◌≡◌, ◌≢◌, ◌∷◌, [], ℕ, false, List, map, filter, IsTrue, IfOk, IfErr};
-ghost use Rattle.std.specs.List.Sorted.{IsPermutation};
-ghost use Rattle.sqlite.specs.State.{HasCleanDisk, Survives};
+ghost use Rattle.std.specs.Prelude.{◌≡◌, ◌≢◌, false, map, IsTrue, IfOk, IfErr};
+ghost use Rattle.sqlite.specs.State.{HasCleanDisk};
 ghost use Rattle.sqlite.specs.Held.{state};
-ghost use Rattle.reg_tables.specs.Quiet.{IsIdle, IsStill};
+ghost use Rattle.reg_tables.specs.Quiet.{IsIdle, IsStill, Finds};
+ghost use Rattle.reg_tables.specs.Found.{AreMetaByName, FindsAll, OfLines, OfSteps, rows_numbered};
+ghost use Rattle.reg_tables.specs.Digests.{IsRowOf};
 ghost use Rattle.reg_store.specs.Keep.{fails, deposit_of};
-ghost use Rattle.reg_tables.specs.Rows.{deposit_table, given_deposit, line_table, step_table, placed_rows, step_pair, rows_under, columns_3};
-ghost use Rattle.reg_store.specs.declared.keep.KeptRow.{KeptRow};
-ghost use Rattle.sqlite.specs.Tree.{IsAscending};
-ghost use Rattle.ags_links.specs.Steps.{IsBefore};
+ghost use Rattle.reg_tables.specs.Rows.{line_table, step_table, placed_rows, step_pair, rows_under, columns_3};
 ghost use Rattle.reg_tables.specs.Methods.{HasRows, HoldsLines, HoldsSteps};
+ghost use Rattle.reg_tables.specs.Recent.{AreRowsAt};
 ghost use Rattle.reg_store.specs.Fit.{IsNamed};
-ghost use Rattle.reg_tables.specs.Register.{has_number, meta_columns};
 
 use crate::gathering::take_shown;
 use crate::queries::{is_memory, query};
@@ -24,7 +22,7 @@ use std::alloc::Global;
 
 /// Why a row is not read: want of memory, or it is not one of a register.
 pub(crate) fn read_error(error: &Error) -> KeepError
-    ensures named { result ≢ KeepError.Full }
+    ensures refused { result ≢ KeepError.Full }
     ensures store { result ≡ KeepError.Store → error.now ≢ Error.SqliteFailure ErrorCode.OutOfMemory }
 {
     if is_memory(error) {
@@ -39,9 +37,8 @@ pub(crate) fn numbered_rows<S: Alter>(
     number: u32,
 ) -> Result<Vec<Row>, KeepError>
     requires idle { IsIdle (state S.Store conn.old) }
-    ensures found { HasCleanDisk (state S.Store conn.new) → IfOk result (λ rows.
-        IsPermutation rows.items (filter (has_number number) (deposit_table (state S.Store conn.old).now.trees))) }
-    ensures named { IfErr result (λ e. e ≢ KeepError.Full) }
+    ensures found { FindsAll result (rows_numbered number) (state S.Store conn.old) (state S.Store conn.new) }
+    ensures refused { IfErr result (λ e. e ≢ KeepError.Full) }
     ensures quiet { IsStill (state S.Store conn.old) (state S.Store conn.new) (fails result) }
 {
     query(
@@ -58,11 +55,10 @@ pub(crate) fn find_deposit<S: Alter>(
     number: u32,
 ) -> Result<Kept, KeepError>
     requires idle { IsIdle (state S.Store conn.old) }
-    ensures found { HasCleanDisk (state S.Store conn.new) → IfOk result (λ kept.
-        filter (has_number number) (deposit_table (state S.Store conn.old).now.trees)
-        ≡ given_deposit number (deposit_of kept) ∷ []) }
+    ensures found { Finds result (λ db kept. IsRowOf db number (deposit_of kept))
+        (state S.Store conn.old) (state S.Store conn.new) }
     ensures is_named { IfOk result (λ kept. IsNamed (deposit_of kept)) }
-    ensures named { IfErr result (λ e. e ≢ KeepError.Full) }
+    ensures refused { IfErr result (λ e. e ≢ KeepError.Full) }
     ensures quiet { IsStill (state S.Store conn.old) (state S.Store conn.new) (fails result) }
 {
     match numbered_rows(conn, number) {
@@ -76,11 +72,11 @@ pub(crate) fn line_rows<S: Alter>(
     number: u32,
 ) -> Result<Vec<Row>, KeepError>
     requires idle { IsIdle (state S.Store conn.old) }
-    ensures found { HasCleanDisk (state S.Store conn.new) → IfOk result (λ rows. (file : List KeptRow)
-        → HoldsLines (state S.Store conn.old).now number file → rows.items ≡ placed_rows 0 file) }
-    ensures all { HasCleanDisk (state S.Store conn.new) → IfOk result (λ rows.
-        IsPermutation rows.items (rows_under number (line_table (state S.Store conn.old).now.trees))) }
-    ensures named { IfErr result (λ e. e ≢ KeepError.Full) }
+    ensures found { OfLines result number (λ file rows. rows.items ≡ placed_rows 0 file)
+        (state S.Store conn.old) (state S.Store conn.new) }
+    ensures all { FindsAll result (λ db. rows_under number (line_table db.trees))
+        (state S.Store conn.old) (state S.Store conn.new) }
+    ensures refused { IfErr result (λ e. e ≢ KeepError.Full) }
     ensures quiet { IsStill (state S.Store conn.old) (state S.Store conn.new) (fails result) }
 {
     query(
@@ -97,11 +93,11 @@ pub(crate) fn find_lines<S: Alter>(
     number: u32,
 ) -> Result<Vec<KeptRow>, KeepError>
     requires idle { IsIdle (state S.Store conn.old) }
-    ensures found { HasCleanDisk (state S.Store conn.new) → IfOk result (λ lines. (file : List KeptRow)
-        → HoldsLines (state S.Store conn.old).now number file → lines.items ≡ file) }
-    ensures held { HasCleanDisk (state S.Store conn.new)
-        → IfOk result (λ lines. HoldsLines (state S.Store conn.old).now number lines.items) }
-    ensures named { IfErr result (λ e. e ≢ KeepError.Full) }
+    ensures found { Finds result (λ db lines. AreRowsAt db number lines.items)
+        (state S.Store conn.old) (state S.Store conn.new) }
+    ensures held { Finds result (λ db lines. HoldsLines db number lines.items)
+        (state S.Store conn.old) (state S.Store conn.new) }
+    ensures refused { IfErr result (λ e. e ≢ KeepError.Full) }
     ensures quiet { IsStill (state S.Store conn.old) (state S.Store conn.new) (fails result) }
 {
     let mut lines = KeptLines {
@@ -123,12 +119,11 @@ pub(crate) fn step_rows<S: Alter>(
     number: u32,
 ) -> Result<Vec<Row>, KeepError>
     requires idle { IsIdle (state S.Store conn.old) }
-    ensures found { HasCleanDisk (state S.Store conn.new) → IfOk result (λ rows. (steps : List (ℕ × ℕ))
-        → IsAscending IsBefore steps → HoldsSteps (state S.Store conn.old).now number steps
-        → rows.items ≡ map step_pair steps) }
-    ensures all { HasCleanDisk (state S.Store conn.new) → IfOk result (λ rows.
-        IsPermutation rows.items (rows_under number (step_table (state S.Store conn.old).now.trees))) }
-    ensures named { IfErr result (λ e. e ≢ KeepError.Full) }
+    ensures found { OfSteps result number (λ steps rows. rows.items ≡ map step_pair steps)
+        (state S.Store conn.old) (state S.Store conn.new) }
+    ensures all { FindsAll result (λ db. rows_under number (step_table db.trees))
+        (state S.Store conn.old) (state S.Store conn.new) }
+    ensures refused { IfErr result (λ e. e ≢ KeepError.Full) }
     ensures quiet { IsStill (state S.Store conn.old) (state S.Store conn.new) (fails result) }
 {
     query(
@@ -145,12 +140,11 @@ pub(crate) fn find_steps<S: Alter>(
     number: u32,
 ) -> Result<Vec<(u32, u32)>, KeepError>
     requires idle { IsIdle (state S.Store conn.old) }
-    ensures found { HasCleanDisk (state S.Store conn.new) → IfOk result (λ read. (steps : List (ℕ × ℕ))
-        → IsAscending IsBefore steps → HoldsSteps (state S.Store conn.old).now number steps
-        → read.items ≡ steps) }
-    ensures held { HasCleanDisk (state S.Store conn.new)
-        → IfOk result (λ read. HoldsSteps (state S.Store conn.old).now number read.items) }
-    ensures named { IfErr result (λ e. e ≢ KeepError.Full) }
+    ensures found { OfSteps result number (λ steps read. read.items ≡ steps)
+        (state S.Store conn.old) (state S.Store conn.new) }
+    ensures held { Finds result (λ db read. HoldsSteps db number read.items)
+        (state S.Store conn.old) (state S.Store conn.new) }
+    ensures refused { IfErr result (λ e. e ≢ KeepError.Full) }
     ensures quiet { IsStill (state S.Store conn.old) (state S.Store conn.new) (fails result) }
 {
     let mut steps = KeptSteps {
@@ -171,7 +165,7 @@ pub(crate) fn find_steps<S: Alter>(
 pub(crate) fn graph_of(rows: u32, steps: Vec<(u32, u32)>) -> Result<Graph, KeepError>
     ensures rows { IfOk result (λ graph. graph.rows ≡ rows) }
     ensures steps { IfOk result (λ graph. graph.steps ≡ steps.items) }
-    ensures named { IfErr result (λ e. e ≢ KeepError.Full) }
+    ensures refused { IfErr result (λ e. e ≢ KeepError.Full) }
 {
     match Graph::new(rows, steps) {
         Some(graph) => Ok(graph),
@@ -182,9 +176,9 @@ pub(crate) fn graph_of(rows: u32, steps: Vec<(u32, u32)>) -> Result<Graph, KeepE
 /// How many DATA rows are kept of a deposit.
 pub(crate) fn find_data<S: Alter>(conn: &mut Connection<S>, number: u32) -> Result<u32, KeepError>
     requires idle { IsIdle (state S.Store conn.old) }
-    ensures found { HasCleanDisk (state S.Store conn.new)
-        → IfOk result (λ n. HasRows number (line_table (state S.Store conn.old).now.trees) n) }
-    ensures named { IfErr result (λ e. e ≢ KeepError.Full) }
+    ensures found { Finds result (λ db n. HasRows number (line_table db.trees) n)
+        (state S.Store conn.old) (state S.Store conn.new) }
+    ensures refused { IfErr result (λ e. e ≢ KeepError.Full) }
     ensures quiet { IsStill (state S.Store conn.old) (state S.Store conn.new) (fails result) }
 {
     let mut data = DataCount { count: 0 };
@@ -201,14 +195,12 @@ pub(crate) fn find_data<S: Alter>(conn: &mut Connection<S>, number: u32) -> Resu
 
 pub(crate) fn meta_rows<S: Alter>(conn: &mut Connection<S>) -> Result<Vec<Row>, KeepError>
     requires idle { IsIdle (state S.Store conn.old) }
-    ensures all { HasCleanDisk (state S.Store conn.new)
-        → IfOk result (λ rows. IsPermutation rows.items (map columns_3 ((state S.Store conn.old).now.trees 0))) }
-    ensures found { HasCleanDisk (state S.Store conn.new) → IfOk result (λ rows. (text : List ℕ)
-        → IsPermutation (meta_columns text) (map columns_3 ((state S.Store conn.old).now.trees 0))
-        → rows.items ≡ meta_columns text) }
+    ensures all { FindsAll result (λ db. map columns_3 (db.trees 0)) (state S.Store conn.old) (state S.Store conn.new) }
+    ensures found { Finds result (λ db rows. AreMetaByName db rows.items)
+        (state S.Store conn.old) (state S.Store conn.new) }
     ensures open { HasCleanDisk (state S.Store conn.new) → fails result ≡ false
         → IsTrue (state S.Store conn.new).is_open }
-    ensures named { IfErr result (λ e. e ≢ KeepError.Full) }
+    ensures refused { IfErr result (λ e. e ≢ KeepError.Full) }
     ensures quiet { IsStill (state S.Store conn.old) (state S.Store conn.new) (fails result) }
 {
     query(conn, "SELECT name, num, body FROM meta ORDER BY name", &[])

@@ -1,12 +1,12 @@
 //! The rows and the steps of a deposit, copied from memory where they stand there, and else read of the tables.
 
-ghost use Rattle.std.specs.Prelude.{◌≡◌, ◌≢◌, ◌≤◌, false, filter, length, IfErr, IfOk};
+ghost use Rattle.std.specs.Prelude.{◌≡◌, ◌≢◌, ◌≤◌, false, filter, length, IfErr};
 ghost use Rattle.sqlite.specs.State.{HasCleanDisk};
 ghost use Rattle.sqlite.specs.Held.{state};
 ghost use Rattle.reg_tables.specs.DataCount.{is_kept_data};
 ghost use Rattle.reg_store.specs.Keep.{fails};
 ghost use Rattle.reg_tables.specs.Methods.{HasRows};
-ghost use Rattle.reg_tables.specs.Quiet.{IsIdle, IsStill};
+ghost use Rattle.reg_tables.specs.Quiet.{IsIdle, IsStill, Finds};
 ghost use Rattle.reg_tables.specs.Recent.{AreRowsAt, HoldsRecent, IsGraphAt};
 ghost use Rattle.reg_tables.specs.Rows.{line_table};
 
@@ -27,11 +27,11 @@ pub(crate) fn find_rows<S: Alter>(
 ) -> Result<Vec<KeptRow>, KeepError>
     requires idle { IsIdle (state S.Store conn.old) }
     requires held { HasCleanDisk (state S.Store conn.old) → HoldsRecent (state S.Store conn.old).now recent.old }
-    ensures found { HasCleanDisk (state S.Store conn.new)
-        → IfOk result (λ rows. AreRowsAt (state S.Store conn.old).now number rows.items) }
+    ensures found { Finds result (λ db rows. AreRowsAt db number rows.items)
+        (state S.Store conn.old) (state S.Store conn.new) }
     ensures held { HasCleanDisk (state S.Store conn.new) → fails result ≡ false
         → HoldsRecent (state S.Store conn.new).now recent.new }
-    ensures named { IfErr result (λ e. e ≢ KeepError.Full) }
+    ensures refused { IfErr result (λ e. e ≢ KeepError.Full) }
     ensures quiet { IsStill (state S.Store conn.old) (state S.Store conn.new) (fails result) }
 {
     if let Some(rows) = recent.rows_of(number) {
@@ -65,9 +65,9 @@ fn count_data<S: Alter>(
 ) -> Result<u32, KeepError>
     requires idle { IsIdle (state S.Store conn.old) }
     requires held { HasCleanDisk (state S.Store conn.old) → HoldsRecent (state S.Store conn.old).now recent.now }
-    ensures found { HasCleanDisk (state S.Store conn.new)
-        → IfOk result (λ n. HasRows number (line_table (state S.Store conn.old).now.trees) n) }
-    ensures named { IfErr result (λ e. e ≢ KeepError.Full) }
+    ensures found { Finds result (λ db n. HasRows number (line_table db.trees) n)
+        (state S.Store conn.old) (state S.Store conn.new) }
+    ensures refused { IfErr result (λ e. e ≢ KeepError.Full) }
     ensures quiet { IsStill (state S.Store conn.old) (state S.Store conn.new) (fails result) }
 {
     match recent.rows_of(number) {
@@ -86,9 +86,9 @@ fn read_graph<S: Alter>(
 ) -> Result<Graph, KeepError>
     requires idle { IsIdle (state S.Store conn.old) }
     requires held { HasCleanDisk (state S.Store conn.old) → HoldsRecent (state S.Store conn.old).now recent.now }
-    ensures found { HasCleanDisk (state S.Store conn.new)
-        → IfOk result (IsGraphAt (state S.Store conn.old).now number) }
-    ensures named { IfErr result (λ e. e ≢ KeepError.Full) }
+    ensures found { Finds result (λ db graph. IsGraphAt db number graph)
+        (state S.Store conn.old) (state S.Store conn.new) }
+    ensures refused { IfErr result (λ e. e ≢ KeepError.Full) }
     ensures quiet { IsStill (state S.Store conn.old) (state S.Store conn.new) (fails result) }
 {
     let rows = count_data(conn, recent, number)?;
@@ -108,11 +108,11 @@ pub(crate) fn find_graph<S: Alter>(
 ) -> Result<Graph, KeepError>
     requires idle { IsIdle (state S.Store conn.old) }
     requires held { HasCleanDisk (state S.Store conn.old) → HoldsRecent (state S.Store conn.old).now recent.old }
-    ensures found { HasCleanDisk (state S.Store conn.new)
-        → IfOk result (IsGraphAt (state S.Store conn.old).now number) }
+    ensures found { Finds result (λ db graph. IsGraphAt db number graph)
+        (state S.Store conn.old) (state S.Store conn.new) }
     ensures held { HasCleanDisk (state S.Store conn.new) → fails result ≡ false
         → HoldsRecent (state S.Store conn.new).now recent.new }
-    ensures named { IfErr result (λ e. e ≢ KeepError.Full) }
+    ensures refused { IfErr result (λ e. e ≢ KeepError.Full) }
     ensures quiet { IsStill (state S.Store conn.old) (state S.Store conn.new) (fails result) }
 {
     if let Some(graph) = recent.graph_of(number) {

@@ -1,7 +1,6 @@
 //! What was read last, which stands in memory: the rows and the steps of a deposit, and the deposit that was found as equal.
 
 ghost use Rattle.std.specs.Prelude.{◌≡◌, ◌≤◌, length, Some, IsTrue, IfOk, IfSome};
-ghost use Rattle.reg_store.specs.Deposit.{number_of};
 ghost use Rattle.reg_tables.specs.Small.{AreSmall};
 
 use ags_links::Graph;
@@ -51,8 +50,7 @@ pub(crate) struct Recent {
 
 impl Recent {
     ghost use Rattle.sqlite.specs.Effect.{Database};
-    ghost use Rattle.reg_tables.specs.Recent.{AreRowsAt, HoldsRecent, IsGraphAt};
-    ghost use Rattle.reg_tables.specs.Register.{deposits_in};
+    ghost use Rattle.reg_tables.specs.Recent.{AreRowsAt, HoldsRecent, IsGraphAt, NotesFound, equal_number};
 
     /// Nothing.
     pub(crate) fn none() -> Recent
@@ -96,8 +94,8 @@ impl Recent {
 
     /// The number of the first deposit that is equal in firm, project and bytes, if it stands here.
     pub(crate) fn recall(&self, firm: &Name, project: &Name, bytes: &[u8]) -> Option<u32>
-        ensures { (db : Database) → HoldsRecent db self.now → IfSome result (λ n.
-            number_of firm.now project.now bytes.now (deposits_in db.trees) ≡ Some n) }
+        ensures { (db : Database) → HoldsRecent db self.now
+            → IfSome result (λ n. equal_number db firm.now project.now bytes.now ≡ Some n) }
     {
         match &self.found {
             Some(held) if is_found(held, firm, project, bytes) => Some(held.number),
@@ -114,9 +112,7 @@ impl Recent {
         bytes: &[u8],
         found: &Result<Option<u32>, KeepError>,
     )
-        ensures { (db : Database) → HoldsRecent db self.old
-            → IfOk found.now (λ n. n ≡ number_of firm.now project.now bytes.now (deposits_in db.trees))
-            → HoldsRecent db self.new }
+        ensures { NotesFound self.old self.new firm.now project.now bytes.now found.now }
     {
         if bytes.len() > MOST_BYTES {
             return;

@@ -1,13 +1,11 @@
 //! The digests of a register's deposits, which stand in memory, and the repeats that they tell.
 
-ghost use Rattle.std.specs.Prelude.{◌≡◌, ◌≢◌, ◌∷◌, ◌++◌, [], ℕ, List, None, Ok, true, IfOk, IfErr, IfSome, OnOk, IsSome, if◌then◌else◌};
-ghost use Rattle.std.specs.Str.{bytes_eq};
-ghost use Rattle.sqlite.specs.State.{HasCleanDisk};
+ghost use Rattle.std.specs.Prelude.{◌≡◌, ◌≢◌, ◌∷◌, ◌++◌, [], ℕ, List, true, IfOk, IfErr, IfSome, OnOk, IsSome};
 ghost use Rattle.sqlite.specs.Held.{state};
-ghost use Rattle.reg_store.specs.Deposit.{Deposit, is_repeat};
 ghost use Rattle.reg_store.specs.Keep.{fails};
 ghost use Rattle.reg_tables.specs.Quiet.{IsIdle, IsStill};
-ghost use Rattle.reg_tables.specs.Digests.{AddsNumber, HasEqual, HasNoEqual, IsRowOf, digest_of as digest, found_at, is_among, numbers_under};
+ghost use Rattle.reg_tables.specs.Found.{FindsEqual, FindsIfEqual, FindsNoEqual};
+ghost use Rattle.reg_tables.specs.Digests.{AddsNumber, digest_of as digest, found_at, is_among, numbers_under, PutsNumbers};
 
 use crate::reading::find_deposit;
 use reg_policy::Name;
@@ -65,8 +63,7 @@ impl Digests {
     /// Puts the numbers of a digest in the place of those that stand under it. There is room.
     pub(crate) fn note(&mut self, digest: [u8; 32], numbers: Vec<u32>)
         requires { IsSome (found_at self.old digest) }
-        ensures { (other : List ℕ) → numbers_under self.new other
-            ≡ (if bytes_eq digest other then numbers.items else numbers_under self.old other) }
+        ensures { PutsNumbers self.old self.new digest numbers.items }
     {
         match self.held.insert(digest, numbers) {
             Ok(_before) => {}
@@ -112,9 +109,9 @@ fn is_equal_to<S: Alter>(
     bytes: &[u8],
 ) -> Result<bool, KeepError>
     requires idle { IsIdle (state S.Store conn.old) }
-    ensures equal { HasCleanDisk (state S.Store conn.new) → IfOk result (λ is.
-        (d : Deposit) × IsRowOf (state S.Store conn.old).now number d × (is ≡ is_repeat firm.now project.now bytes.now d)) }
-    ensures named { IfErr result (λ e. e ≢ KeepError.Full) }
+    ensures equal { FindsIfEqual result number firm.now project.now bytes.now
+        (state S.Store conn.old) (state S.Store conn.new) }
+    ensures refused { IfErr result (λ e. e ≢ KeepError.Full) }
     ensures quiet { IsStill (state S.Store conn.old) (state S.Store conn.new) (fails result) }
 {
     match find_deposit(conn, alloc, number) {
@@ -133,12 +130,11 @@ pub(crate) fn find_equal<S: Alter>(
     bytes: &[u8],
 ) -> Result<Option<u32>, KeepError>
     requires idle { IsIdle (state S.Store conn.old) }
-    ensures equal { HasCleanDisk (state S.Store conn.new)
-        → IfOk result (λ found. IfSome found (HasEqual (state S.Store conn.old).now firm.now project.now bytes.now)) }
+    ensures equal { FindsEqual result firm.now project.now bytes.now (state S.Store conn.old) (state S.Store conn.new) }
     ensures among { IfOk result (λ found. IfSome found (λ n. is_among n numbers.now ≡ true)) }
-    ensures none { HasCleanDisk (state S.Store conn.new) → result ≡ Ok None
-        → HasNoEqual (state S.Store conn.old).now numbers.now firm.now project.now bytes.now }
-    ensures named { IfErr result (λ e. e ≢ KeepError.Full) }
+    ensures none { FindsNoEqual result numbers.now firm.now project.now bytes.now
+        (state S.Store conn.old) (state S.Store conn.new) }
+    ensures refused { IfErr result (λ e. e ≢ KeepError.Full) }
     ensures quiet { IsStill (state S.Store conn.old) (state S.Store conn.new) (fails result) }
 {
     for number in numbers {

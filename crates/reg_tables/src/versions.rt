@@ -1,13 +1,13 @@
 //! The format of a database whose first table is meta, whatever its other tables are.
 
-ghost use Rattle.std.specs.Prelude.{◌≡◌, ◌≢◌, false, IsTrue, map, Err, OnOk, IfOk};
-ghost use Rattle.std.specs.List.Sorted.{IsPermutation};
+ghost use Rattle.std.specs.Prelude.{◌≡◌, ◌≢◌, false, IsTrue, map, Err, OnOk};
 ghost use Rattle.sqlite.specs.State.{HasCleanDisk, Survives};
 ghost use Rattle.sqlite.specs.Held.{state};
 ghost use Rattle.reg_tables.specs.Tables.{register_schema};
 ghost use Rattle.reg_tables.specs.Rows.{columns_3};
 ghost use Rattle.reg_tables.specs.Formats.{StartsWithMeta, starts_with_meta as test};
-ghost use Rattle.reg_tables.specs.Quiet.{IsAsBefore, IsSettled, ShowsTheSame};
+ghost use Rattle.reg_tables.specs.Quiet.{IsSettled, StaysIfOpen};
+ghost use Rattle.reg_tables.specs.Found.{FindsAll, StaysUnless};
 ghost use Rattle.reg_tables.specs.Adoption.{Adopts, is_store_failure};
 
 use crate::adopting::{AdoptError, other_format};
@@ -37,11 +37,10 @@ fn ask_meta<S: Alter>(conn: &mut Connection<S>) -> Result<Vec<Row>, Error>
     requires meta { StartsWithMeta (state S.Store conn.old).now.schema }
     requires settled { HasCleanDisk (state S.Store conn.old) → IsSettled (state S.Store conn.old) }
     ensures mode { conn.new.in_transaction ≡ false }
-    ensures shown { HasCleanDisk (state S.Store conn.new)
-        → IfOk result (λ rows. IsPermutation rows.items (map columns_3 ((state S.Store conn.old).now.trees 0))) }
+    ensures shown { FindsAll result (λ db. map columns_3 (db.trees 0))
+        (state S.Store conn.old) (state S.Store conn.new) }
     ensures open { HasCleanDisk (state S.Store conn.new) → OnOk result (IsTrue (state S.Store conn.new).is_open) }
-    ensures same { HasCleanDisk (state S.Store conn.new) → IsTrue (state S.Store conn.new).is_open
-        → IsAsBefore (state S.Store conn.old) (state S.Store conn.new) }
+    ensures same { StaysIfOpen (state S.Store conn.old) (state S.Store conn.new) }
     ensures crash { Survives (state S.Store conn.old) (state S.Store conn.new) (λ _. ⊥) }
 {
     conn.query_all("SELECT name, num, body FROM meta ORDER BY name", &[])
@@ -57,10 +56,8 @@ pub(crate) fn refuse_tables<S: Alter>(conn: &mut Connection<S>) -> AdoptError
     requires other { (state S.Store conn.old).now.schema ≢ register_schema }
     requires settled { HasCleanDisk (state S.Store conn.old) → IsSettled (state S.Store conn.old) }
     ensures refused { HasCleanDisk (state S.Store conn.new) → Adopts (state S.Store conn.old).now (Err result) }
-    ensures same { HasCleanDisk (state S.Store conn.new) → is_store_failure result ≡ false
-        → ShowsTheSame (state S.Store conn.old) (state S.Store conn.new) }
-    ensures still { HasCleanDisk (state S.Store conn.new) → IsTrue (state S.Store conn.new).is_open
-        → IsAsBefore (state S.Store conn.old) (state S.Store conn.new) }
+    ensures same { StaysUnless (is_store_failure result) (state S.Store conn.old) (state S.Store conn.new) }
+    ensures still { StaysIfOpen (state S.Store conn.old) (state S.Store conn.new) }
     ensures crash { Survives (state S.Store conn.old) (state S.Store conn.new) (λ _. ⊥) }
 {
     match ask_meta(conn) {

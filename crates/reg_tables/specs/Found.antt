@@ -1,0 +1,86 @@
+-- What the queries of a register find, and what they leave.
+use Rattle.std.specs.Prelude.{◌≡◌, ℕ, Bool, true, false, List, map, filter, length, Option, None, is_some, IfSome, Result, Ok, IfOk, OnOk}
+use Rattle.std.specs.declared.alloc.Global.{Global}
+use Rattle.std.specs.declared.vec.Vec.{Vec}
+use Rattle.std.specs.List.Sorted.{IsPermutation}
+use Rattle.sqlite.specs.Order.{Row}
+use Rattle.sqlite.specs.Tree.{IsAscending}
+use Rattle.sqlite.specs.Effect.{Database}
+use Rattle.sqlite.specs.State.{State, HasCleanDisk, Shown}
+use Rattle.ags_links.specs.Steps.{IsBefore}
+use Rattle.reg_store.specs.declared.keep.KeptRow.{KeptRow}
+use Rattle.reg_store.specs.Deposit.{Deposit, is_repeat}
+use Rattle.reg_tables.specs.Rows.{columns_3, deposit_table}
+use Rattle.reg_tables.specs.Register.{deposit_rows, has_number, meta_columns}
+use Rattle.reg_tables.specs.Quiet.{Finds, ShowsTheSame}
+use Rattle.reg_tables.specs.Digests.{HasEqual, HasNoEqual, IsRowOf}
+use Rattle.reg_tables.specs.Adopts.{number_rows}
+use Rattle.reg_tables.specs.Methods.{HoldsLines, HoldsSteps}
+use Rattle.reg_tables.specs.Whole.{Tests}
+
+-- On a clean disk, the rows that are found are those that the query shows.
+abbrev pub FindsShown : {E : Type 0} → Result (Vec Row Global) E → List ℕ → Row → State → State → Type 0
+FindsShown result sql params old new = HasCleanDisk new → IfOk result (λ rows. Shown sql params old new rows.items)
+
+-- On a clean disk, where the call did not fail, the query shows rows of which this holds.
+abbrev pub TakesShown : {A E : Type 0} → Result A E → List ℕ → Row → (List Row → Type 0) → State → State → Type 0
+TakesShown result sql params Holds old new = HasCleanDisk new → OnOk result ((rows : List Row) × Shown sql params old new rows × Holds rows)
+
+-- On a clean disk, where neither the query nor a row failed, the query shows rows of which this holds.
+abbrev pub TakesEachShown : {A E F : Type 0} → Result (Result A F) E → List ℕ → Row → (List Row → Type 0) → State → State → Type 0
+TakesEachShown result sql params Holds old new =
+    HasCleanDisk new → IfOk result (λ taken. OnOk taken ((rows : List Row) × Shown sql params old new rows × Holds rows))
+
+-- On a clean disk, what is found are these rows of the tables before the call, in whatever order.
+abbrev pub FindsAll : {A E : Type 0} → Result (Vec A Global) E → (Database → List A) → State → State → Type 0
+FindsAll result rows old new = Finds result (λ db found. IsPermutation found.items (rows db)) old new
+
+-- On a clean disk, what P says of the lines that the table `lines` held under the number, and of what is found.
+abbrev pub OfLines : {A E : Type 0} → Result A E → ℕ → (List KeptRow → A → Type 0) → State → State → Type 0
+OfLines result n P old new = Finds result (λ db found. (file : List KeptRow) → HoldsLines db n file → P file found) old new
+
+-- On a clean disk, what P says of the rising steps that the table `steps` held under the number, and of what is found.
+abbrev pub OfSteps : {A E : Type 0} → Result A E → ℕ → (List (ℕ × ℕ) → A → Type 0) → State → State → Type 0
+OfSteps result n P old new = Finds result (λ db found. (steps : List (ℕ × ℕ)) → IsAscending IsBefore steps → HoldsSteps db n steps → P steps found) old new
+
+-- On a clean disk, the answer is whether this fact holds of the tables before the call.
+abbrev pub FindsOut : {E : Type 0} → Result Bool E → (Database → Type 0) → State → State → Type 0
+FindsOut result Fact old new = Finds result (λ db is. Tests is (Fact db)) old new
+
+-- On a clean disk, one is found if this fact holds of the tables before the call, and else none.
+abbrev pub FindsOneIf : {A E : Type 0} → Result (Option A) E → (Database → Type 0) → State → State → Type 0
+FindsOneIf result Fact old new = Finds result (λ db found. Tests (is_some found) (Fact db)) old new
+
+-- On a clean disk, where the answer is yes, what P says of the tables before the call.
+abbrev pub OnYes : {E : Type 0} → Result Bool E → (Database → Type 0) → State → State → Type 0
+OnYes result P old new = HasCleanDisk new → result ≡ Ok true → P old.now
+
+-- the rows of the table `deposits` that have the number
+abbrev pub rows_numbered : ℕ → Database → List Row
+rows_numbered n db = filter (has_number n) (deposit_table db.trees)
+
+-- Where the table `deposits` holds a list of deposits, the rows are their numbers, from 1 on, rising.
+abbrev pub AreNumbersFromOne : Database → List Row → Type 0
+AreNumbersFromOne db rows = (list : List Deposit) → IsPermutation (deposit_rows 1 list) (deposit_table db.trees) → rows ≡ number_rows 1 (length list)
+
+-- Where the table `meta` holds the two rows of a dictionary's bytes, the rows are these, ordered by name.
+abbrev pub AreMetaByName : Database → List Row → Type 0
+AreMetaByName db rows = (text : List ℕ) → IsPermutation (meta_columns text) (map columns_3 (db.trees 0)) → rows ≡ meta_columns text
+
+-- On a clean disk, the answer is whether the deposit of the number is equal.
+abbrev pub FindsIfEqual : {E : Type 0} → Result Bool E → ℕ → List ℕ → List ℕ → List ℕ → State → State → Type 0
+FindsIfEqual result n firm project bytes old new =
+    Finds result (λ db is. (d : Deposit) × IsRowOf db n d × (is ≡ is_repeat firm project bytes d)) old new
+
+-- On a clean disk, the deposit of the number that is found, if one is, is equal.
+abbrev pub FindsEqual : {E : Type 0} → Result (Option ℕ) E → List ℕ → List ℕ → List ℕ → State → State → Type 0
+FindsEqual result firm project bytes old new = Finds result (λ db found. IfSome found (HasEqual db firm project bytes)) old new
+
+-- On a clean disk, where none is found, no deposit of these numbers is equal.
+abbrev pub FindsNoEqual : {E : Type 0} → Result (Option ℕ) E → List ℕ → List ℕ → List ℕ → List ℕ → State → State → Type 0
+FindsNoEqual result numbers firm project bytes old new =
+    HasCleanDisk new → result ≡ Ok None → HasNoEqual old.now numbers firm project bytes
+
+-- On a clean disk, where it did not fail, the connection shows what it showed, and what is committed is what was.
+abbrev pub StaysUnless : Bool → State → State → Type 0
+StaysUnless failed old new = HasCleanDisk new → failed ≡ false → ShowsTheSame old new
