@@ -1,5 +1,6 @@
 -- Rows that are alike to the policy: what it decides of them without looking at what stands in them.
-use Rattle.std.specs.Prelude.{◌≡◌, ℕ, List, Bool, true, false, Contains, Option, None, Some, codes}
+use Rattle.std.specs.Prelude.{◌≡◌, ℕ, List, Bool, true, false, Contains, Option, None, Some, option_map, codes}
+use Rattle.std.specs.Borrow.{Bor}
 use Rattle.reg_policy.specs.Decision.{Facts, IsOneOf, TellsApart, Told, decision_of, row_question, told}
 use Rattle.reg_policy.specs.declared.callers.Caller.{Caller}
 use Rattle.reg_policy.specs.declared.rule.Rule.{Rule}
@@ -13,6 +14,10 @@ use Rattle.reg_desk.specs.declared.alike.AlikeByStanding.{AlikeByStanding}
 abbrev pub is_permit : Decision → Bool
 is_permit (Permit n) = true
 is_permit (Deny n) = false
+
+-- the name of a group, if one is lent
+abbrev pub name_in : Option (Bor (List ℕ)) → Option (List ℕ)
+name_in named = option_map (λ name. name.now) named
 
 -- what is told of the rows of a deposit, of this group if one is named
 abbrev pub told_by : Option (List ℕ) → Standing → Told

@@ -1,7 +1,7 @@
 //! Rows that are alike to the policy: what it decides of them without looking at what stands in them.
 
-ghost use Rattle.std.specs.Prelude.{◌≡◌, option_map, IfSome, IfNone};
-ghost use Rattle.reg_desk.specs.Alike.{AreAlikeBy, ArePermitted, AreToldApart, IsAlike, alike_at, is_permit, told_by};
+ghost use Rattle.std.specs.Prelude.{◌≡◌, IfSome, IfNone};
+ghost use Rattle.reg_desk.specs.Alike.{AreAlikeBy, ArePermitted, AreToldApart, IsAlike, alike_at, is_permit, name_in, told_by};
 
 use reg_policy::{Caller, Decision, Name, Policy};
 
@@ -52,10 +52,10 @@ pub(crate) fn permits_unread(
     named: Option<&[u8]>,
     standing: Standing,
 ) -> Option<bool>
-    ensures alike { IfSome result (ArePermitted policy.now caller.now project.now
-        (told_by (option_map (λ name. name.now) named.entry) standing)) }
-    ensures apart { IfNone result (AreToldApart policy.now caller.now project.now
-        (told_by (option_map (λ name. name.now) named.entry) standing)) }
+    ensures alike { IfSome result
+        (ArePermitted policy.now caller.now project.now (told_by (name_in named.entry) standing)) }
+    ensures apart { IfNone result
+        (AreToldApart policy.now caller.now project.now (told_by (name_in named.entry) standing)) }
 {
     let decision = policy.decide_unread(caller, project, named, standing.own, standing.past)?;
     Some(is_permit(decision))

@@ -1,10 +1,9 @@
 //! What each request is answered, over whatever keeps the deposits.
 
-ghost use Rattle.std.specs.Prelude.{◌≡◌, ℕ, false};
+ghost use Rattle.std.specs.Prelude.{◌≡◌, false};
 ghost use Rattle.std.specs.Str.{bytes_eq};
-ghost use Rattle.ags_dict.specs.Entries.{Entries};
+ghost use Rattle.reg_policy.specs.Decision.{decision_of, request_question};
 ghost use Rattle.reg_desk.specs.Asked.{asked};
-ghost use Rattle.reg_desk.specs.Machine.{decided};
 ghost use Rattle.reg_desk.specs.Serving.{Serves, answer_of};
 
 mod body;
@@ -69,8 +68,7 @@ fn decide_request<'x>(
     project: &'x Name,
     verb: Verb,
 ) -> Decision
-    ensures { (given : Entries) (limit : ℕ) → result ≡ decided
-        (record { rules = policy.now; given = given; limit = limit }) caller.now project.now verb }
+    ensures { result ≡ decision_of policy.now (request_question caller.now project.now verb) }
 {
     policy.decide(&Subject::of_request(caller, project, verb))
 }

@@ -1,10 +1,9 @@
 //! Bodies that are handed in: what they are refused for, and the check of one.
 
-ghost use Rattle.std.specs.Prelude.{◌≡◌, ◌≤◌, ◌⊎◌, ℤ, List, [], false, length};
+ghost use Rattle.std.specs.Prelude.{◌≡◌, ◌⊎◌, List, false};
 ghost use Rattle.ags_rows.specs.declared.finding.Finding.{Finding};
-ghost use Rattle.ags_check.specs.Findings.{Findings as AreFindings};
 ghost use Rattle.reg_desk.specs.Asked.{check as asks_check};
-ghost use Rattle.reg_desk.specs.Serving.{IsRefusal, Serves};
+ghost use Rattle.reg_desk.specs.Serving.{IsCleanCheck, IsRefusal, ServesOnAnyDay};
 
 use crate::answer::Answer;
 use crate::serving::decide_request;
@@ -28,8 +27,7 @@ pub(super) fn refusal_of(error: CheckError) -> Answer
 
 /// What the check of a body is answered: Clean where it is not too large and has no finding.
 fn check_body(alloc: Global, dictionary: &Dictionary, bytes: &[u8]) -> Answer
-    ensures { IsRefusal dictionary.now bytes.now result
-        ⊎ ((result ≡ Answer.Clean) × (length bytes.now ≤ LIMIT) × AreFindings dictionary.now bytes.now []) }
+    ensures { IsRefusal dictionary.now bytes.now result ⊎ IsCleanCheck dictionary.now bytes.now result }
 {
     if bytes.len() > LIMIT {
         return Answer::TooLarge;
@@ -51,8 +49,8 @@ pub(super) fn serve_check<K: Keep>(
     bytes: &[u8],
 ) -> Answer
     requires { K.has_failed keep.old ≡ false }
-    ensures { (day : ℤ) → Serves K.Keep policy.now
-        (asks_check caller.now project.now bytes.now day) keep.old keep.new result }
+    ensures { ServesOnAnyDay K.Keep policy.now
+        (asks_check caller.now project.now bytes.now) keep.old keep.new result }
 {
     match decide_request(policy, caller, project, Verb::Check) {
         Decision::Deny(rule) => Answer::Denied(rule),

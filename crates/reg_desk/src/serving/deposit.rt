@@ -1,11 +1,10 @@
 //! A deposit: taken once, with a receipt.
 
-ghost use Rattle.std.specs.Prelude.{◌≡◌, ◌≢◌, ◌≤◌, ℕ, ℤ, List, Some, None, Err, IfOk, IfSome, false, length};
-ghost use Rattle.reg_policy.specs.declared.rule.Rule.{Rule};
+ghost use Rattle.std.specs.Prelude.{◌≡◌, ◌≢◌, ◌≤◌, None, Err, IfOk, IfSome, false, length};
 ghost use Rattle.reg_store.specs.Keep.{fails};
 ghost use Rattle.reg_desk.specs.Asked.{deposit as asks_deposit};
-ghost use Rattle.reg_desk.specs.Machine.{decided, first_equal};
-ghost use Rattle.reg_desk.specs.Serving.{OnlyReads, Serves, register_at};
+ghost use Rattle.reg_desk.specs.Machine.{first_equal};
+ghost use Rattle.reg_desk.specs.Serving.{OnlyReads, ServesOnAnyDay, ServesPermittedDeposit};
 
 use crate::answer::Answer;
 use crate::serving::body::refusal_of;
@@ -62,9 +61,8 @@ fn serve_checked<K: Keep>(
     requires working { K.has_failed keep.old ≡ false }
     requires dictionary { checked.now.given ≡ K.dictionary keep.old }
     requires short { length checked.now.bytes ≤ LIMIT }
-    ensures { (rules : List Rule) (number : ℕ) (day : ℤ)
-        → decided (register_at K.Keep rules keep.old) caller.now project.now Verb.Deposit ≡ Decision.Permit number
-        → Serves K.Keep rules (asks_deposit caller.now project.now embargo checked.now.bytes day) keep.old keep.new result }
+    ensures { ServesPermittedDeposit K.Keep
+        caller.now project.now embargo checked.now.bytes keep.old keep.new result }
 {
     match held_already(keep, &caller.firm, project, checked.bytes()) {
         Err(error) => refused(error),
@@ -88,9 +86,8 @@ fn serve_small<K: Keep>(
 ) -> Answer
     requires working { K.has_failed keep.old ≡ false }
     requires short { length bytes.now ≤ LIMIT }
-    ensures { (rules : List Rule) (number : ℕ) (day : ℤ)
-        → decided (register_at K.Keep rules keep.old) caller.now project.now Verb.Deposit ≡ Decision.Permit number
-        → Serves K.Keep rules (asks_deposit caller.now project.now embargo bytes.now day) keep.old keep.new result }
+    ensures { ServesPermittedDeposit K.Keep
+        caller.now project.now embargo bytes.now keep.old keep.new result }
 {
     match check(alloc, keep.dictionary(), bytes) {
         Err(error) => refusal_of(error),
@@ -109,9 +106,8 @@ fn serve_permitted<K: Keep>(
     bytes: &[u8],
 ) -> Answer
     requires { K.has_failed keep.old ≡ false }
-    ensures { (rules : List Rule) (number : ℕ) (day : ℤ)
-        → decided (register_at K.Keep rules keep.old) caller.now project.now Verb.Deposit ≡ Decision.Permit number
-        → Serves K.Keep rules (asks_deposit caller.now project.now embargo bytes.now day) keep.old keep.new result }
+    ensures { ServesPermittedDeposit K.Keep
+        caller.now project.now embargo bytes.now keep.old keep.new result }
 {
     if bytes.len() > LIMIT {
         return Answer::TooLarge;
@@ -137,8 +133,8 @@ pub(super) fn serve_deposit<K: Keep>(
     bytes: &[u8],
 ) -> Answer
     requires { K.has_failed keep.old ≡ false }
-    ensures { (day : ℤ) → Serves K.Keep policy.now
-        (asks_deposit caller.now project.now embargo bytes.now day) keep.old keep.new result }
+    ensures { ServesOnAnyDay K.Keep policy.now
+        (asks_deposit caller.now project.now embargo bytes.now) keep.old keep.new result }
 {
     match decide_request(policy, caller, project, Verb::Deposit) {
         Decision::Deny(rule) => Answer::Denied(rule),

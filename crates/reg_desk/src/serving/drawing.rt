@@ -1,15 +1,10 @@
 //! An extract, from the rows and steps that are kept of a deposit.
 
-ghost use Rattle.std.specs.Prelude.{◌≡◌, ◌≢◌, ◌-◌, ◌<◌, ◌≤◌, false, length, slice_get, Some, Err, IfOk, IsErrOf, option_map};
-ghost use Rattle.ags_check.specs.Findings.{CheckedFile};
-ghost use Rattle.reg_store.specs.Deposit.{Deposit};
-ghost use Rattle.reg_store.specs.Fit.{IsFileOf};
-ghost use Rattle.reg_store.specs.Keep.{OfDeposit, fails};
+ghost use Rattle.std.specs.Prelude.{◌≡◌, ◌≢◌, ◌<◌, ◌≤◌, false, length, Err, IfOk};
+ghost use Rattle.reg_store.specs.Keep.{fails};
 ghost use Rattle.reg_desk.specs.Asked.{extract as asks_extract, names_in};
-ghost use Rattle.ags_check.specs.Findings.{file_of};
-ghost use Rattle.reg_desk.specs.Machine.{IsDrawnFrom, held};
-ghost use Rattle.reg_desk.specs.View.{IsViewOf, IsExtractOf, look_of};
-ghost use Rattle.reg_desk.specs.Serving.{OnlyReads, Serves, look_on, register_at, text_answer};
+ghost use Rattle.reg_desk.specs.View.{look_of};
+ghost use Rattle.reg_desk.specs.Serving.{DrawsDeposit, DrawsFor, IsViewOfDeposit, OnlyReads, Serves, look_on};
 
 use crate::answer::Answer;
 use crate::serving::{decide_request, is_same, refused};
@@ -47,9 +42,8 @@ pub(super) fn read_view<K: Keep>(
     requires working { K.has_failed keep.old ≡ false }
     requires number { K.is_sound keep.old → (0 < number) × (number ≤ length (K.deposits keep.old)) }
     ensures reads { OnlyReads K.Keep keep.old keep.new (fails result) }
-    ensures seen { K.is_sound keep.new → IfOk result (λ seen. (d : Deposit) (file : CheckedFile)
-        → slice_get (K.deposits keep.old) (number - 1) ≡ Some d → IsFileOf (K.dictionary keep.old) d file
-        → IsViewOf seen.0.items seen.1 file) }
+    ensures seen { K.is_sound keep.new
+        → IfOk result (λ seen. IsViewOfDeposit K.Keep keep.old number seen.0.items seen.1) }
     ensures named { result ≢ Err KeepError.Full }
 {
     let rows = keep.rows(number)?;
@@ -68,9 +62,8 @@ fn draw_held<K: Keep>(
     requires working { K.has_failed keep.old ≡ false }
     requires number { K.is_sound keep.old → (0 < number) × (number ≤ length (K.deposits keep.old)) }
     ensures reads { OnlyReads K.Keep keep.old keep.new (fails result) }
-    ensures drawn { K.is_sound keep.new → IfOk result (λ text.
-        OfDeposit (K.dictionary keep.old) (K.deposits keep.old) number (λ file.
-        IsExtractOf (look_of looking.now) (file_of file) (names_in groups.now) (option_map (λ t. t.items) text))) }
+    ensures drawn { K.is_sound keep.new
+        → IfOk result (DrawsDeposit K.Keep keep.old (look_of looking.now) number (names_in groups.now)) }
     ensures named { result ≢ Err KeepError.Full }
 {
     let (rows, graph) = read_view(keep, number)?;
@@ -90,9 +83,8 @@ fn draw<K: Keep>(
 ) -> Result<Option<Vec<u8>>, KeepError>
     requires { K.has_failed keep.old ≡ false }
     ensures reads { OnlyReads K.Keep keep.old keep.new (fails result) }
-    ensures drawn { K.is_sound keep.new → IfOk result (λ text. ∥ IsDrawnFrom (register_at K.Keep policy.now keep.old)
-        caller.now project.now (names_in groups.now) day (held number (K.deposits keep.old))
-        (text_answer (option_map (λ t. t.items) text)) ∥₁) }
+    ensures drawn { K.is_sound keep.new
+        → IfOk result (DrawsFor K.Keep policy.now keep.old caller.now project.now number groups.now day) }
     ensures named { result ≢ Err KeepError.Full }
 {
     if number == 0 || number > keep.count() {

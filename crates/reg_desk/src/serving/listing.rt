@@ -5,8 +5,8 @@ ghost use Rattle.reg_store.specs.Keep.{fails};
 ghost use Rattle.reg_store.specs.Deposit.{Deposit, numbers_from};
 ghost use Rattle.reg_desk.specs.Alike.{AreAlikeBy};
 ghost use Rattle.reg_desk.specs.Asked.{listing as asks_listing};
-ghost use Rattle.reg_desk.specs.Machine.{IsListing, held};
-ghost use Rattle.reg_desk.specs.Serving.{IsLineFor, OnlyReads, OpensDeposit, SeesDeposit, Serves, look_in, register_at};
+ghost use Rattle.reg_desk.specs.Machine.{held};
+ghost use Rattle.reg_desk.specs.Serving.{ListsDeposit, ListsFor, ListsProject, OnlyReads, OpensDeposit, SeesDeposit, Serves, look_in};
 ghost use Rattle.reg_desk.specs.View.{IsAlikeOn, is_only, look_of};
 
 use crate::alike::{Alike, AlikeByStanding};
@@ -151,9 +151,7 @@ fn listed<K: Keep>(
         → held number (K.deposits keep.old) ≡ Some d → d.project ≡ lister.now.project.now }
     requires alike { AreAlikeBy lister.now.policy.now lister.now.caller.now lister.now.project.now lister.now.alike }
     ensures reads { OnlyReads K.Keep keep.old keep.new (fails result) }
-    ensures seen { K.is_sound keep.new → IfOk result (λ line. (d : Deposit) → held number (K.deposits keep.old) ≡ Some d
-        → ∥ IsLineFor (register_at K.Keep lister.now.policy.now keep.old) lister.now.caller.now lister.now.day
-        number d line ∥₁) }
+    ensures seen { K.is_sound keep.new → IfOk result (ListsDeposit K.Keep keep.old lister.now number) }
     ensures named { result ≢ Err KeepError.Full }
 {
     let head = keep.head(number)?;
@@ -181,9 +179,7 @@ fn lines_at<K: Keep>(
         → numbers.now ≡ numbers_from 1 lister.now.project.now (K.deposits keep.old) }
     requires alike { AreAlikeBy lister.now.policy.now lister.now.caller.now lister.now.project.now lister.now.alike }
     ensures reads { OnlyReads K.Keep keep.old keep.new (fails result) }
-    ensures listed { K.is_sound keep.new → IfOk result (λ lines.
-        ∥ IsListing (register_at K.Keep lister.now.policy.now keep.old)
-        lister.now.caller.now lister.now.project.now lister.now.day 1 (K.deposits keep.old) lines.items ∥₁) }
+    ensures listed { K.is_sound keep.new → IfOk result (ListsFor K.Keep keep.old lister.now) }
     ensures named { result ≢ Err KeepError.Full }
 {
     let mut lines = Vec::new(alloc);
@@ -207,8 +203,8 @@ fn lines_of<K: Keep>(
 ) -> Result<Vec<Listed>, KeepError>
     requires { K.has_failed keep.old ≡ false }
     ensures reads { OnlyReads K.Keep keep.old keep.new (fails result) }
-    ensures listed { K.is_sound keep.new → IfOk result (λ lines. ∥ IsListing (register_at K.Keep policy.now keep.old)
-        caller.now project.now day 1 (K.deposits keep.old) lines.items ∥₁) }
+    ensures listed { K.is_sound keep.new
+        → IfOk result (ListsProject K.Keep policy.now keep.old caller.now project.now day) }
     ensures named { result ≢ Err KeepError.Full }
 {
     let numbers = keep.numbers(project)?;

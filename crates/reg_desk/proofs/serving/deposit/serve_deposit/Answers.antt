@@ -5,7 +5,7 @@ use Rattle.reg_desk.proofs.serving.deposit.serve_deposit.Goals as goal
 pub returns-in-Deny : goal.returns-in-Deny
 returns-in-Deny g c = λ day.
     deposit_denied g.K.Keep c.args.policy.now c.args.caller.now c.args.project.now c.args.embargo c.args.bytes.now day c.args.keep.now c.in-Deny.rule c.requires
-    (sym (c.decide_request.ensures (g.K.Keep.dictionary c.args.keep.now) (g.K.Keep.limit c.args.keep.now)) ∙ c.in-Deny.is)
+    (sym c.decide_request.ensures ∙ c.in-Deny.is)
 
 pub serve_permitted-requires : goal.serve_permitted-requires
 serve_permitted-requires g c = c.requires
@@ -13,4 +13,4 @@ serve_permitted-requires g c = c.requires
 pub returns-in-Permit : goal.returns-in-Permit
 returns-in-Permit g c = λ day.
     c.serve_permitted.ensures c.args.policy.now c.in-Permit._rule day
-    (sym (c.decide_request.ensures (g.K.Keep.dictionary c.args.keep.now) (g.K.Keep.limit c.args.keep.now)) ∙ c.in-Permit.is)
+    (sym c.decide_request.ensures ∙ c.in-Permit.is)

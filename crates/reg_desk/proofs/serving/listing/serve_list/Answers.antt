@@ -9,7 +9,7 @@ use Rattle.reg_desk.proofs.serving.listing.serve_list.Goals as goal
 pub returns-in-Deny : goal.returns-in-Deny
 returns-in-Deny g c =
     listing_denied g.K.Keep c.args.policy.now c.args.caller.now c.args.project.now c.args.day c.args.keep.now c.in-Deny.rule c.requires
-    (sym (c.decide_request.ensures (g.K.Keep.dictionary c.args.keep.now) (g.K.Keep.limit c.args.keep.now)) ∙ c.in-Deny.is)
+    (sym c.decide_request.ensures ∙ c.in-Deny.is)
 
 pub lines_of-requires : goal.lines_of-requires
 lines_of-requires g c = c.requires
@@ -18,10 +18,10 @@ pub returns-in-Err : goal.returns-in-Err
 returns-in-Err g c =
     subst (Serves g.K.Keep c.args.policy.now (listing c.args.caller.now c.args.project.now c.args.day) c.args.keep.now c.lines_of.new.keep) (sym c.refused.ensures)
     (listing_unread g.K.Keep c.args.policy.now c.args.caller.now c.args.project.now c.args.day c.args.keep.now c.lines_of.new.keep _ c.in-Err.error
-    (sym (c.decide_request.ensures (g.K.Keep.dictionary c.args.keep.now) (g.K.Keep.limit c.args.keep.now)) ∙ c.in-Permit.is) c.in-Err.ensures.reads (λ e. c.in-Err.ensures.named (ap (λ x. Err x) e)))
+    (sym c.decide_request.ensures ∙ c.in-Permit.is) c.in-Err.ensures.reads (λ e. c.in-Err.ensures.named (ap (λ x. Err x) e)))
 
 pub returns-in-Ok : goal.returns-in-Ok
 returns-in-Ok g c =
     subst (λ (l : List Listed). Serves g.K.Keep c.args.policy.now (listing c.args.caller.now c.args.project.now c.args.day) c.args.keep.now c.lines_of.new.keep (Listing l)) (sym c.from_vec.ensures)
     (listing_replies g.K.Keep c.args.policy.now c.args.caller.now c.args.project.now c.args.day c.args.keep.now c.lines_of.new.keep _ c.in-Ok.lines.items
-    (sym (c.decide_request.ensures (g.K.Keep.dictionary c.args.keep.now) (g.K.Keep.limit c.args.keep.now)) ∙ c.in-Permit.is) c.in-Ok.ensures.reads c.in-Ok.ensures.listed)
+    (sym c.decide_request.ensures ∙ c.in-Permit.is) c.in-Ok.ensures.reads c.in-Ok.ensures.listed)
