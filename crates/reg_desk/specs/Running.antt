@@ -1,11 +1,12 @@
 -- What a desk answers to a list of requests, and what a crash may leave after it.
-use Rattle.std.specs.Prelude.{◌≡◌, ◌⊎◌, List, [], ◌∷◌, Option, Some, None, MatchBool, option_map, find, zip, ⊤}
+use Rattle.std.specs.Prelude.{◌≡◌, ◌⊎◌, List, [], ◌∷◌, false, Option, Some, None, MatchBool, option_map, find, zip, ⊤}
 use Rattle.std.specs.List.{AllZip}
 use Rattle.reg_policy.specs.declared.rule.Rule.{Rule}
 use Rattle.reg_store.specs.Deposit.{Deposit}
 use Rattle.reg_store.specs.declared.keep.Keep.{Ghosts}
 use Rattle.reg_desk.specs.declared.answer.Answer.{Answer}
 use Rattle.reg_desk.specs.declared.answer.Answer.TheVariants.{Receipt, StoreFailed}
+use Rattle.reg_desk.specs.declared.desk.Desk.{Desk}
 use Rattle.reg_desk.specs.Asked.{Asked, deposit}
 use Rattle.reg_desk.specs.Machine.{Register, held, asked_deposit, AddsAsked}
 use Rattle.reg_desk.specs.Serving.{is_failed, IsAnswer, IsAfter, register_at}
@@ -42,3 +43,11 @@ pub record Runs {K : Type 0} (keep : Ghosts K) (rules : List Rule) (old new : K)
   pub left : (list : List Deposit) → keep.may_leave new list → (list ≡ last) ⊎ ((r : Asked) × (failing requests answers ≡ Some r) × AddsAsked r last list)
   -- a crash leaves a register of some list, so of one of these
   pub whole : keep.may_break new → ⊥
+
+-- If the desk had not failed and its keep is sound at the end: its answers, its list then and what a crash may leave are as `Runs` says.
+abbrev pub RunsIfSound : {K : Type 0} (keep : Ghosts K) → Desk K keep → List Asked → List Answer → Desk K keep → Type 0
+RunsIfSound keep old requests answers new = keep.is_sound new.keep → old.failed ≡ false → ∥ Runs keep old.policy old.keep new.keep requests answers ∥₁
+
+-- If the desk had not failed and its keep is sound at the end: every list that a crash may leave holds each deposit that was answered by a receipt.
+abbrev pub ReceiptsSurviveIfSound : {K : Type 0} (keep : Ghosts K) → Desk K keep → List Asked → List Answer → Desk K keep → Type 0
+ReceiptsSurviveIfSound keep old requests answers new = keep.is_sound new.keep → old.failed ≡ false → (list : List Deposit) → keep.may_leave new.keep list → ∥ AllZip (IsHeldIn list) requests answers ∥₁

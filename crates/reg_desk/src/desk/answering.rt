@@ -1,12 +1,11 @@
 //! One request, and a list of them.
 
-ghost use Rattle.std.specs.Prelude.{◌≡◌, ◌<◌, ◌≤◌, ◌+◌, ◌||◌, ◌++◌, ◌∷◌, [], List, true, false, length, map, vec_len, IfOk, OnErr};
+ghost use Rattle.std.specs.Prelude.{◌≡◌, ◌<◌, ◌≤◌, ◌+◌, ◌||◌, ◌++◌, ◌∷◌, [], true, length, map, vec_len, IfOk, OnOk, OnErr};
 ghost use Rattle.std.specs.Vec.{vec_capacity};
-ghost use Rattle.std.specs.List.{AllZip, list_any};
-ghost use Rattle.reg_store.specs.Deposit.{Deposit};
+ghost use Rattle.std.specs.List.{list_any};
 ghost use Rattle.reg_desk.specs.Asked.{asked};
 ghost use Rattle.reg_desk.specs.Serving.{is_failed};
-ghost use Rattle.reg_desk.specs.Running.{AreFailed, IsHeldIn, Runs};
+ghost use Rattle.reg_desk.specs.Running.{AreFailed, ReceiptsSurviveIfSound, RunsIfSound};
 ghost use Rattle.reg_desk.specs.Desks.{AnsweredBy, AreAnsweredBy, IsCleanText, IsSameAnswer};
 
 use crate::answer::Answer;
@@ -43,18 +42,18 @@ impl<K: Keep> Desk<K> {
             AreAnsweredBy K.Keep self.old (map asked requests.entry.now) answers.items self.new) }
         ensures count { IfOk result (λ answers. length answers.items ≡ length requests.entry.now) }
 
-        // Whether the desk has failed at the end, and what it answers where it had failed before.
+        // Whether the desk has failed at the end; where it had failed before, what it answers, and that its keep stays.
         ensures failed { IfOk result (λ answers. self.new.failed
             ≡ (self.old.failed || list_any is_failed answers.items)) }
         ensures stuck { self.old.failed ≡ true → IfOk result (λ answers.
-            AreFailed (map asked requests.entry.now) answers.items × (self.new.keep ≡ self.old.keep)) }
+            AreFailed (map asked requests.entry.now) answers.items) }
+        ensures untouched { self.old.failed ≡ true → OnOk result (self.new.keep ≡ self.old.keep) }
 
         // What a desk that had not failed answers over a sound keep, and what a crash may leave.
-        ensures runs { K.is_sound self.new.keep → self.old.failed ≡ false → IfOk result (λ answers. ∥ Runs K.Keep
-            self.old.policy self.old.keep self.new.keep (map asked requests.entry.now) answers.items ∥₁) }
-        ensures receipts { K.is_sound self.new.keep → self.old.failed ≡ false → IfOk result (λ answers.
-            (list : List Deposit) → K.may_leave self.new.keep list
-            → ∥ AllZip (IsHeldIn list) (map asked requests.entry.now) answers.items ∥₁) }
+        ensures runs { IfOk result (λ answers.
+            RunsIfSound K.Keep self.old (map asked requests.entry.now) answers.items self.new) }
+        ensures receipts { IfOk result (λ answers.
+            ReceiptsSurviveIfSound K.Keep self.old (map asked requests.entry.now) answers.items self.new) }
 
         // At `Err` the desk is as it was.
         ensures unasked { OnErr result (self.new ≡ self.old) }

@@ -71,8 +71,10 @@ returns-clause-failed g c = c.loop-request.invariant.going.flag
 
 pub returns-clause-stuck : goal.returns-clause-stuck
 returns-clause-stuck g c = λ e.
-    let was = c.loop-request.invariant.going.stuck e in
-    (subst (λ (l : List Request). AreFailed (map asked l) c.loop-request.answers.items) (take_whole c.args.requests.now c.loop-request.request-index c.loop-request-test.false) was.0, was.1)
+    subst (λ (l : List Request). AreFailed (map asked l) c.loop-request.answers.items) (take_whole c.args.requests.now c.loop-request.request-index c.loop-request-test.false) (c.loop-request.invariant.going.stuck e).0
+
+pub returns-clause-untouched : goal.returns-clause-untouched
+returns-clause-untouched g c = λ e. (c.loop-request.invariant.going.stuck e).1
 
 pub returns-clause-runs : goal.returns-clause-runs
 returns-clause-runs g c = λ s e.
