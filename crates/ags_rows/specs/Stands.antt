@@ -35,8 +35,7 @@ line_rules number line =
     Notes number Rule1 [] (Any (λ b. ascii_end ≤ b) line.content)
     ∷ Notes number Rule2a [] (line.ending ≡ Lf)
     ∷ Notes number Rule6 [] (Contains line.content carriage_return)
-    ∷ Notes number Rule5 []
-        ((IsBlank line.content → ⊥) × Lacks carriage_return line.content × SpellsNoFields line.content)
+    ∷ Notes number Rule5 [] ((IsBlank line.content → ⊥) × Lacks carriage_return line.content × SpellsNoFields line.content)
     ∷ Notes number Rule3 [] (LacksDescriptor line.content) ∷ []
 
 -- what stands in the lines, which are numbered from 1
