@@ -1,6 +1,6 @@
 -- The entries of a dictionary (the group DICT, Rules 7, 9, 10 and 18), and what is read from them.
 -- All of it speaks of a file's contents, not of its lines. A heading that DICT does not have reads as null.
-use Rattle.std.specs.Prelude.{ℕ, List, [], ◌∷◌, ◌++◌, map, flat_map, codes, Bool, not, ◌&&◌, Option, Some, None, if◌then◌else◌}
+use Rattle.std.specs.Prelude.{◌≡◌, ℕ, List, [], ◌∷◌, ◌++◌, map, flat_map, codes, Bool, not, ◌&&◌, Option, Some, None, if◌then◌else◌}
 use Rattle.std.specs.List.{filter, find, list_any, list_all}
 use Rattle.std.specs.Option.{option_and_then}
 use Rattle.std.specs.Str.{bytes_eq}
@@ -52,6 +52,14 @@ unstated same before (x ∷ xs) = if list_any (same x) before then unstated same
 -- a list of entries, then the new ones that restate none, in their order
 abbrev pub with_unstated : {X : Type 0} → (X → X → Bool) → List X → List X → List X
 with_unstated same old new = old ++ unstated same old new
+
+-- the new dictionary has the old entries for groups, then those of the list that restate none, in their order
+abbrev pub AddsNewGroups : List GroupEntry → Entries → Entries → Type 0
+AddsNewGroups entries old new = new.groups ≡ with_unstated same_group old.groups entries
+
+-- the same of the entries for headings of groups
+abbrev pub AddsNewHeadings : List HeadingEntry → Entries → Entries → Type 0
+AddsNewHeadings entries old new = new.headings ≡ with_unstated same_heading old.headings entries
 
 -- the extended dictionary: entries, then the new ones of a file's own DICT
 abbrev pub extended : Entries → List Contents → Entries

@@ -1,7 +1,7 @@
 -- How entries are found without reading all of them: no promise speaks of it, only the types that keep it.
-use Rattle.std.specs.Prelude.{◌≡◌, ℕ, List, [], map, Bool, false, not, ◌&&◌, Option, Some, slice_get}
+use Rattle.std.specs.Prelude.{◌≡◌, ℕ, List, [], ◌∷◌, ◌++◌, map, Bool, false, not, ◌&&◌, Option, Some, None, slice_get, if◌then◌else◌}
 use Rattle.std.specs.List.{filter}
-use Rattle.std.specs.Option.{option_map_or, option_and_then}
+use Rattle.std.specs.Option.{option_map_or, option_and_then, option_or}
 use Rattle.std.specs.Ordering.{nat_cmp}
 use Rattle.std.specs.Cmp.Lexicographic.{slice_cmp}
 use Rattle.std.specs.Str.{bytes_eq}
@@ -25,6 +25,21 @@ places_at places text = option_map_or (λ v. v.items) (found_at places.held text
 -- the place in a group's order that is kept for a heading
 abbrev pub rank_at : Ranks → List ℕ → List ℕ → Option ℕ
 rank_at ranks group heading = option_and_then (λ of_group. found_at of_group heading) (found_at ranks.held group)
+
+-- the place is kept for the text, behind those kept before, and nothing changes for other texts
+abbrev pub AddsPlace : List ℕ → ℕ → PlacesByText → PlacesByText → Type 0
+AddsPlace text place old new = (other : List ℕ) → places_at new other
+    ≡ (if bytes_eq text other then places_at old other ++ place ∷ [] else places_at old other)
+
+-- the heading gets this place in the order of its group unless it has one, and other headings keep theirs
+abbrev pub NotesRank : List ℕ → List ℕ → ℕ → Ranks → Ranks → Type 0
+NotesRank group heading rank old new = (g h : List ℕ) → rank_at new g h
+    ≡ option_or (rank_at old g h) (if bytes_eq group g && bytes_eq heading h then Some rank else None)
+
+-- the heading gets this place in the order of its group, whatever it had, and other headings keep theirs
+abbrev pub PutsRank : List ℕ → List ℕ → ℕ → Ranks → Ranks → Type 0
+PutsRank group heading rank old new = (g h : List ℕ) → rank_at new g h
+    ≡ (if bytes_eq group g && bytes_eq heading h then Some rank else rank_at old g h)
 
 -- these are the places of the items that pass the test, in their order
 abbrev pub ArePlaces : {X : Type 0} → (X → Bool) → List X → List ℕ → Type 0

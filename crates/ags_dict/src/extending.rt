@@ -2,7 +2,7 @@
 
 ghost use Rattle.std.specs.Prelude.{◌≡◌, IfOk, flat_map};
 ghost use Rattle.ags_rows.specs.Contents.{group_contents, contents_of};
-ghost use Rattle.ags_dict.specs.Entries.{is_dict, group_entries, heading_entries, group_entries_in, heading_entries_in, same_group, same_heading, with_unstated, extended};
+ghost use Rattle.ags_dict.specs.Entries.{is_dict, group_entries, heading_entries, group_entries_in, heading_entries_in, same_group, same_heading, with_unstated, AddsNewGroups, AddsNewHeadings, extended};
 
 use crate::dictionary::Dictionary;
 use crate::entries::{GroupEntry, HeadingEntry};
@@ -52,10 +52,10 @@ fn take_heading_row(
 
 /// The entries with the new ones of a group's rows.
 fn take_rows(alloc: Global, group: &Group, dictionary: Dictionary) -> Result<Dictionary, AllocError>
-    ensures groups { IfOk result (λ taken. taken.groups ≡ with_unstated same_group dictionary.groups
-        (flat_map (group_entries group.now.headings) (group_contents group.now).rows)) }
-    ensures headings { IfOk result (λ taken. taken.headings ≡ with_unstated same_heading dictionary.headings
-        (flat_map (heading_entries group.now.headings) (group_contents group.now).rows)) }
+    ensures groups { IfOk result (AddsNewGroups
+        (flat_map (group_entries group.now.headings) (group_contents group.now).rows) dictionary) }
+    ensures headings { IfOk result (AddsNewHeadings
+        (flat_map (heading_entries group.now.headings) (group_contents group.now).rows) dictionary) }
 {
     let (mut groups, mut headings) = dictionary.into_parts();
     let names = group.headings.as_slice();
@@ -76,10 +76,8 @@ pub(crate) fn is_dict(group: &Group) -> bool
 
 /// The entries with the new ones of a group, if it is DICT.
 fn take_dict(alloc: Global, group: &Group, dictionary: Dictionary) -> Result<Dictionary, AllocError>
-    ensures groups { IfOk result (λ taken. taken.groups
-        ≡ with_unstated same_group dictionary.groups (group_entries_in (group_contents group.now))) }
-    ensures headings { IfOk result (λ taken. taken.headings
-        ≡ with_unstated same_heading dictionary.headings (heading_entries_in (group_contents group.now))) }
+    ensures groups { IfOk result (AddsNewGroups (group_entries_in (group_contents group.now)) dictionary) }
+    ensures headings { IfOk result (AddsNewHeadings (heading_entries_in (group_contents group.now)) dictionary) }
 {
     if !is_dict(group) {
         return Ok(dictionary);

@@ -1,12 +1,10 @@
 //! The entries for headings of groups.
 
-ghost use Rattle.std.specs.Prelude.{◌≡◌, ℕ, List, [], ◌∷◌, ◌++◌, IfOk, OnOk, length, option_copied, slice_get, map, not, ◌&&◌, Some, None, if◌then◌else◌};
-ghost use Rattle.std.specs.Option.{option_or};
-ghost use Rattle.std.specs.Str.{bytes_eq};
+ghost use Rattle.std.specs.Prelude.{◌≡◌, [], ◌∷◌, ◌++◌, IfOk, OnOk, length, option_copied, slice_get, map, not, ◌&&◌};
 ghost use Rattle.std.specs.List.{filter, find, list_any};
 ghost use Rattle.ags_rows.specs.Contents.{place_in};
 ghost use Rattle.ags_dict.specs.Entries.{same_heading, with_unstated};
-ghost use Rattle.ags_dict.specs.Index.{places_at, rank_at, of_group, is_named, is_of_other, is_heading};
+ghost use Rattle.ags_dict.specs.Index.{places_at, AddsPlace, NotesRank, of_group, is_named, is_of_other, is_heading};
 
 use crate::entries::HeadingEntry;
 use crate::places::{PlacesByText, Ranks};
@@ -45,13 +43,10 @@ fn note_place(
     by_heading: &mut PlacesByText,
     ranks: &mut Ranks,
 ) -> Result<(), AllocError>
-    ensures groups { OnOk result ((other : List ℕ) → places_at by_group.new other ≡ (if bytes_eq group.now other
-        then places_at by_group.old other ++ place ∷ [] else places_at by_group.old other)) }
-    ensures headings { OnOk result ((other : List ℕ) → places_at by_heading.new other ≡ (if bytes_eq heading.now other
-        then places_at by_heading.old other ++ place ∷ [] else places_at by_heading.old other)) }
-    ensures orders { OnOk result ((g h : List ℕ) → rank_at ranks.new g h ≡ option_or (rank_at ranks.old g h)
-        (if bytes_eq group.now g && bytes_eq heading.now h
-        then Some (length (places_at by_group.old group.now)) else None)) }
+    ensures groups { OnOk result (AddsPlace group.now place by_group.old by_group.new) }
+    ensures headings { OnOk result (AddsPlace heading.now place by_heading.old by_heading.new) }
+    ensures orders { OnOk result (NotesRank group.now heading.now (length (places_at by_group.old group.now))
+        ranks.old ranks.new) }
 {
     ranks.note(alloc, group, heading, by_group.of(group).len())?;
     by_group.note(alloc, group, place)?;

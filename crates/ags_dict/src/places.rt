@@ -1,9 +1,7 @@
 //! Where texts stand in a list.
 
-ghost use Rattle.std.specs.Prelude.{◌≡◌, ℕ, List, [], ◌∷◌, ◌++◌, OnOk, slice_get, ◌&&◌, Some, None, if◌then◌else◌};
-ghost use Rattle.std.specs.Option.{option_or};
-ghost use Rattle.std.specs.Str.{bytes_eq};
-ghost use Rattle.ags_dict.specs.Index.{places_at, rank_at};
+ghost use Rattle.std.specs.Prelude.{◌≡◌, ℕ, List, [], OnOk, slice_get, None};
+ghost use Rattle.ags_dict.specs.Index.{places_at, rank_at, AddsPlace, NotesRank, PutsRank};
 
 use std::alloc::{AllocError, Global};
 use std::collections::BTreeMap;
@@ -48,8 +46,7 @@ impl PlacesByText {
         text: &[u8],
         place: usize,
     ) -> Result<(), AllocError>
-        ensures { OnOk result ((other : List ℕ) → places_at self.new other
-            ≡ (if bytes_eq text.now other then places_at self.old other ++ place ∷ [] else places_at self.old other)) }
+        ensures { OnOk result (AddsPlace text.now place self.old self.new) }
     {
         let mut places = match self.held.remove(text) {
             Some(places) => places,
@@ -93,9 +90,7 @@ impl Ranks {
         heading: &[u8],
         rank: usize,
     ) -> Result<(), AllocError>
-        ensures { OnOk result ((g h : List ℕ) → rank_at self.new g h
-            ≡ option_or (rank_at self.old g h)
-            (if bytes_eq group.now g && bytes_eq heading.now h then Some rank else None)) }
+        ensures { OnOk result (NotesRank group.now heading.now rank self.old self.new) }
     {
         if self.of(group, heading).is_none() {
             self.put(alloc, group, heading, rank)?;
@@ -111,8 +106,7 @@ impl Ranks {
         heading: &[u8],
         rank: usize,
     ) -> Result<(), AllocError>
-        ensures { OnOk result ((g h : List ℕ) → rank_at self.new g h
-            ≡ (if bytes_eq group.now g && bytes_eq heading.now h then Some rank else rank_at self.old g h)) }
+        ensures { OnOk result (PutsRank group.now heading.now rank self.old self.new) }
     {
         let mut of_group = match self.held.remove(group) {
             Some(of_group) => of_group,
