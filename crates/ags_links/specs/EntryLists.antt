@@ -17,6 +17,10 @@ IsEntryUnder rows heading n entry = (row : PlacedRow) → IsAt rows n row → en
 abbrev pub AreEntries : List PlacedRow → List ℕ → List ℕ → List (Bor (List ℕ)) → Type 0
 AreEntries rows numbers heading entries = AreKept numbers entries (λ place. IsEntryUnder rows heading)
 
+-- what stands at this place of the list, if anything does, is the text
+abbrev pub AgreesAt : List (Bor (List ℕ)) → ℕ → List ℕ → Type 0
+AgreesAt list place text = (entry : Bor (List ℕ)) → IsAt list place entry → entry.now ≡ text
+
 abbrev pub IsEntryList : List PlacedRow → EntryList → Type 0
 IsEntryList rows list = AreEntries rows list.rows.now list.heading.now list.entries.items
 

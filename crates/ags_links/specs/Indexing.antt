@@ -1,5 +1,6 @@
 -- What an index keeps, and what is asked of it by the numbers of rows.
-use Rattle.std.specs.Prelude.{◌≡◌, ◌≢◌, ◌<◌, ◌^◌, ℕ, List, All, Contains, codes, false, map, length}
+use Rattle.std.specs.Prelude.{◌≡◌, ◌≢◌, ◌<◌, ◌^◌, ◌↔◌, ℕ, List, Bool, All, Contains, IsTrue, codes, false, map, length}
+use Rattle.std.specs.Borrow.{Bor}
 use Rattle.ags_rows.specs.declared.rows.Group.{Group}
 use Rattle.ags_rows.specs.Contents.{contents_of}
 use Rattle.ags_text.specs.Names.{is_definition}
@@ -17,9 +18,9 @@ use Rattle.ags_links.specs.Keys.{IsFirstOfKey, AreFirstsOfKeys}
 use Rattle.ags_links.specs.Lookups.{Finds}
 use Rattle.ags_links.specs.ParentRows.{AreParentLists}
 use Rattle.ags_links.specs.Parents.{IsParentRow}
-use Rattle.ags_links.specs.Placing.{IsPlaced, row_of}
+use Rattle.ags_links.specs.Placing.{IsPlaced, row_of, ListsTexts}
 use Rattle.ags_links.specs.RecordLinks as links
-use Rattle.ags_links.specs.Steps.{IsFileRow, Linked}
+use Rattle.ags_links.specs.Steps.{IsFileRow, IsLinkedPart, Linked}
 use Rattle.ags_links.specs.Targets.{AreTargets}
 
 -- the index of these groups under these entries
@@ -69,6 +70,21 @@ IsLinkStepAt file = Between (rows_in file) (λ r s. (is_definition r.group ≡ f
 -- row n has a step to row m of FILE, if it is in a data group other than FILE
 abbrev pub IsFileStepAt : DataFile → ℕ → ℕ → Type 0
 IsFileStepAt file = Between (rows_in file) (λ r s. (is_definition r.group ≡ false) × (r.group ≢ codes "FILE") × IsFileRow r s)
+
+-- the list has exactly the parts of what stands in row n under the heading
+abbrev pub ListsPartsAt : DataFile → ℕ → List ℕ → List (Bor (List ℕ)) → Type 0
+ListsPartsAt file n heading parts = (r : DataRow) → IsDataRow (rows_in file) n r
+    → ListsTexts parts (links.IsPartOf (links.separators_of file.contents) r heading)
+
+-- the list has exactly the parts of row n's record links
+abbrev pub ListsLinkedPartsAt : DataFile → ℕ → List (Bor (List ℕ)) → Type 0
+ListsLinkedPartsAt file n parts = (r : DataRow) → IsDataRow (rows_in file) n r
+    → ListsTexts parts (IsLinkedPart (links.separators_of file.contents) r)
+
+-- the answer says whether some part of what stands in row n under the heading names no row
+abbrev pub TellsIfBroken : DataFile → ℕ → List ℕ → Bool → Type 0
+TellsIfBroken file n heading answer = (r : DataRow) → IsDataRow (rows_in file) n r
+    → IsTrue answer ↔ links.IsBroken file.entries (links.separators_of file.contents) (rows_in file) r heading
 
 -- these are the targets of row n under the heading
 abbrev pub AreTargetsAt : DataFile → ℕ → List ℕ → Targets → Type 0

@@ -2,6 +2,7 @@
 -- groups with one parent group and the same link headings share.
 use Rattle.std.specs.Prelude.{◌≡◌, ◌≢◌, ◌<◌, ◌≤◌, ◌-◌, ◌↔◌, ℕ, List, Vec, [], ◌∷◌, Option, Some, None, All, Contains, map, length, take, drop, slice_index_or}
 use Rattle.std.specs.List.Sorted.{IsStrictlyIncreasing}
+use Rattle.std.specs.Borrow.{Bor}
 use Rattle.std.specs.declared.alloc.Global.{Global}
 use Rattle.ags_rows.specs.Contents.{place_in}
 use Rattle.ags_rows.specs.declared.rows.Group.{Group}
@@ -26,6 +27,11 @@ use Rattle.ags_links.specs.Placing.{row_of, fields_at}
 -- these are the link headings of a group: those of its headings that are KEY headings of its parent group
 abbrev pub AreLinkHeadings : Entries → List ℕ → List (List ℕ) → List (List ℕ) → Type 0
 AreLinkHeadings entries parent headings names = (h : List ℕ) → Contains names h ↔ (Contains (keys_of entries parent) h × Contains headings h)
+
+-- where the parent group has rows, these are the link headings to it
+abbrev pub AreLinkHeadingsIfRows : Entries → Lookup → List ℕ → List (List ℕ) → List (Bor (List ℕ)) → Type 0
+AreLinkHeadingsIfRows entries by_group parent headings names =
+    found by_group parent ≢ [] → AreLinkHeadings entries parent headings (map (λ n. n.now) names)
 
 -- the link headings that are kept
 abbrev pub link_names : ParentLinks → List (List ℕ)
@@ -96,9 +102,22 @@ pub record AreCandidates (rows : List DataRow) (numbers : List ℕ) (headings : 
   pub among : (n : ℕ) → Contains chosen n → Contains numbers n
   pub all : (n : ℕ) (s : DataRow) → Contains numbers n → IsDataRow rows n s → HasEntries headings s text → Contains chosen n
 
+-- the same of the rows of the parent group, under the link headings to it
+abbrev pub AreCandidatesFor : List PlacedRow → ParentLinks → List ℕ → List ℕ → Type 0
+AreCandidatesFor rows links = AreCandidates (map row_of rows) links.rows.now (link_names links)
+
+-- row n is one of these rows, and the text its entries under the headings
+abbrev pub HasEntriesAmong : List ℕ → List PlacedRow → List (List ℕ) → ℕ → List ℕ → Type 0
+HasEntriesAmong numbers rows headings = HasAmong numbers (map row_of rows) (HasEntries headings)
+
+-- row n is a row of the parent group, and the text its entries under the link headings
+abbrev pub HasLinkText : List PlacedRow → ParentLinks → ℕ → List ℕ → Type 0
+HasLinkText rows links = HasEntriesAmong links.rows.now rows (link_names links)
+
 -- the rows are found by their entries under the link headings, where some row has its parent rows
 abbrev pub IsLookupAt : List PlacedRow → List LinkPlaces → ℕ → ParentLinks → Lookup → Type 0
-IsLookupAt rows of_groups place links lookup = FindsAsked lookup (IsAskedOf rows of_groups place) (HasAmong links.rows.now (map row_of rows) (HasEntries (link_names links)))
+IsLookupAt rows of_groups place links lookup =
+    FindsAsked lookup (IsAskedOf rows of_groups place) (HasLinkText rows links)
 
 abbrev pub AreLookups : List PlacedRow → List LinkPlaces → List ParentLinks → List Lookup → Type 0
 AreLookups rows of_groups links lookups = AreKept links lookups (IsLookupAt rows of_groups)

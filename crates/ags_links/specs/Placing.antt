@@ -1,10 +1,10 @@
 -- The rows of a file as the index keeps them.
-use Rattle.std.specs.Prelude.{◌≡◌, ◌≢◌, ◌<◌, ◌↔◌, ℕ, List, [], Option, Contains, map, length, slice_index_or}
+use Rattle.std.specs.Prelude.{◌≡◌, ◌≢◌, ◌<◌, ◌↔◌, ◌++◌, ℕ, List, [], Option, Contains, map, length, slice_index_or}
 use Rattle.std.specs.Borrow.{Bor}
 use Rattle.ags_rows.specs.declared.rows.Group.{Group}
 use Rattle.ags_rows.specs.Contents.{group_contents, fields_of, field_at}
 use Rattle.ags_rows.specs.Parts.{parts_at}
-use Rattle.ags_links.specs.DataRows.{DataRow, row_in}
+use Rattle.ags_links.specs.DataRows.{DataRow, row_in, group_rows}
 use Rattle.ags_links.specs.declared.placed.PlacedRow.{PlacedRow}
 
 -- the DATA row that is kept
@@ -14,6 +14,11 @@ row_of kept = row_in (group_contents kept.group.now) (fields_of kept.row.now)
 -- the row's group stands at its place in the file
 abbrev pub IsPlaced : List Group → PlacedRow → Type 0
 IsPlaced groups kept = (kept.place < length groups) × (slice_index_or groups kept.place kept.group.now ≡ kept.group.now)
+
+-- the new rows are the old ones, then the DATA rows of the group at this place of the file
+abbrev pub AddsGroupRows : List Group → ℕ → List PlacedRow → List PlacedRow → Type 0
+AddsGroupRows groups place old new = (d : Group) → map row_of new
+    ≡ map row_of old ++ group_rows (group_contents (slice_index_or groups place d))
 
 -- what stands in the row at the places
 abbrev pub fields_at : List (Option ℕ) → PlacedRow → List (List ℕ)

@@ -1,12 +1,10 @@
 //! Those of the rows of a parent group that may be parent rows of one row.
 
-ghost use Rattle.std.specs.Prelude.{◌≡◌, ℕ, List, All, IfOk, IfSome, IsTrue, length, map};
-ghost use Rattle.std.specs.Borrow.{Bor};
-ghost use Rattle.ags_links.specs.DataRows.{IsAt};
-ghost use Rattle.ags_links.specs.EntryLists.{IsEntryList, AreLeadingEntries};
+ghost use Rattle.std.specs.Prelude.{◌≡◌, All, IfOk, IfSome, IsTrue, length};
+ghost use Rattle.ags_links.specs.EntryLists.{IsEntryList, AgreesAt};
 ghost use Rattle.ags_links.specs.Families.{HasFamily};
-ghost use Rattle.ags_links.specs.ParentRows.{link_names, text_at, AreNumbers, AreCandidates};
-ghost use Rattle.ags_links.specs.Placing.{row_of, HaveEqualEntries};
+ghost use Rattle.ags_links.specs.ParentRows.{text_at, AreNumbers, AreCandidatesFor};
+ghost use Rattle.ags_links.specs.Placing.{HaveEqualEntries};
 
 use crate::entry_lists::{EntryLists, leading_entries};
 use crate::families::{Family, places_of};
@@ -53,8 +51,7 @@ fn may_be_parent(
 
 /// Whether the entry at the place is the one that is asked for, where there is a list.
 fn may_have(entries: Option<&[&[u8]]>, place: usize, asked: &[u8]) -> bool
-    ensures { IfSome entries.entry (λ list. (entry : Bor (List ℕ)) → IsAt list.now place entry → entry.now ≡ asked.now)
-        → IsTrue result }
+    ensures { IfSome entries.entry (λ list. AgreesAt list.now place asked.now) → IsTrue result }
 {
     match entries {
         Some(list) => place >= list.len() || list[place] == asked,
@@ -77,8 +74,7 @@ pub(crate) fn candidates<'s>(
     requires kept { All (HasFamily dictionary.now families.now) rows.now }
     requires numbers { AreNumbers (length rows.now) links.now }
     requires lists { All (IsEntryList rows.now) lists.now.lists.items }
-    ensures { IfOk result (λ chosen. AreCandidates (map row_of rows.now) links.now.rows.now (link_names links.now)
-        (text_at places.now row.now) chosen.items) }
+    ensures { IfOk result (λ chosen. AreCandidatesFor rows.now links.now (text_at places.now row.now) chosen.items) }
 {
     let numbers = links.rows;
     if numbers.is_empty() || places.is_empty() {

@@ -86,12 +86,10 @@ pub(crate) fn each_once(numbers: Vec<u32>) -> Vec<u32>
 }
 
 impl<'s, 'f, 'd> Index<'s, 'f, 'd> {
-    ghost use Rattle.ags_links.specs.DataRows.{DataRow, ListsRows, IsDataRow};
-    ghost use Rattle.ags_links.specs.RecordLinks.{separators_of, IsPartOf, IsBroken};
-    ghost use Rattle.ags_links.specs.Steps.{IsLinkedPart};
+    ghost use Rattle.ags_links.specs.DataRows.{ListsRows, IsDataRow};
     ghost use Rattle.ags_links.specs.Families.{IsFamily};
-    ghost use Rattle.ags_links.specs.Placing.{row_of, ListsTexts};
-    ghost use Rattle.ags_links.specs.Indexing.{rows_in, IsParentAt, IsFirstOfKeyAt, IsFileRowAt, IsNamedBy, AreTargetsAt};
+    ghost use Rattle.ags_links.specs.Placing.{row_of};
+    ghost use Rattle.ags_links.specs.Indexing.{rows_in, IsParentAt, IsFirstOfKeyAt, IsFileRowAt, IsNamedBy, ListsPartsAt, ListsLinkedPartsAt, TellsIfBroken, AreTargetsAt};
 
     /// The index of a file under its dictionary.
     pub fn build(
@@ -214,8 +212,7 @@ impl<'s, 'f, 'd> Index<'s, 'f, 'd> {
     /// The parts of what stands in the row under a heading, each once.
     fn parts_under(&self, row: u32, heading: &[u8]) -> Result<Vec<&'s [u8]>, AllocError>
         requires { row < length (rows_in self.now) }
-        ensures { IfOk result (λ parts. (r : DataRow) → IsDataRow (rows_in self.now) row r
-            → ListsTexts parts.items (IsPartOf (separators_of self.now.contents) r heading.now)) }
+        ensures { IfOk result (λ parts. ListsPartsAt self.now row heading.now parts.items) }
     {
         let (kept, family) = self.kept(row);
         let mut parts = Vec::new(self.alloc);
@@ -230,8 +227,7 @@ impl<'s, 'f, 'd> Index<'s, 'f, 'd> {
     /// The parts of the row's record links, each once.
     pub(crate) fn linked_parts(&self, row: u32) -> Result<Vec<&'s [u8]>, AllocError>
         requires { row < length (rows_in self.now) }
-        ensures { IfOk result (λ parts. (r : DataRow) → IsDataRow (rows_in self.now) row r
-            → ListsTexts parts.items (IsLinkedPart (separators_of self.now.contents) r)) }
+        ensures { IfOk result (λ parts. ListsLinkedPartsAt self.now row parts.items) }
     {
         let (kept, family) = self.kept(row);
         let parts = link_parts(
@@ -247,8 +243,7 @@ impl<'s, 'f, 'd> Index<'s, 'f, 'd> {
     /// A heading that the group does not have reads as null.
     pub fn has_broken_part(&self, row: u32, heading: &[u8]) -> Result<bool, AllocError>
         requires { row < length (rows_in self.now) }
-        ensures { IfOk result (λ broken. (r : DataRow) → IsDataRow (rows_in self.now) row r → IsTrue broken
-            ↔ IsBroken self.now.entries (separators_of self.now.contents) (rows_in self.now) r heading.now) }
+        ensures { IfOk result (TellsIfBroken self.now row heading.now) }
     {
         let parts = self.parts_under(row, heading)?;
         for part in &parts {

@@ -1,13 +1,13 @@
 //! The rows of the parent groups by their entries under link headings. Groups with one parent group and the same
 //! link headings share one look-up, so that the rows of a parent group are not read again for each of them.
 
-ghost use Rattle.std.specs.Prelude.{◌≡◌, ◌≢◌, ◌<◌, ◌^◌, [], ℕ, Contains, IfOk, All, Some, length, map, filter};
+ghost use Rattle.std.specs.Prelude.{◌≡◌, ◌<◌, ◌^◌, ℕ, Contains, IfOk, All, Some, length, map, filter};
 ghost use Rattle.std.specs.List.Sorted.{IsStrictlyIncreasing};
 ghost use Rattle.ags_rows.specs.Contents.{place_in};
 ghost use Rattle.ags_links.specs.EntryLists.{IsEntryList};
-ghost use Rattle.ags_links.specs.Families.{HasText, HasGroupName, HasEntries, HasAmong, HasFamily, IsFamily, AreFamilies, AreKept, is_one_of};
-ghost use Rattle.ags_links.specs.Lookups.{Finds, FindsAsked, found};
-ghost use Rattle.ags_links.specs.ParentRows.{AreLinkHeadings, link_names, text_at, IsParentLinks, AreParentLinks, texts_in, AreNumbers, IsAmongUsers, AreUsersBelow, HasUsers, HaveUsers, HasPlaces, IsLookupAt, AreLookups, IsPlacedAt, AreParents, IsInside, part_of};
+ghost use Rattle.ags_links.specs.Families.{HasText, HasGroupName, HasFamily, IsFamily, AreFamilies, AreKept, is_one_of};
+ghost use Rattle.ags_links.specs.Lookups.{Finds, FindsAsked};
+ghost use Rattle.ags_links.specs.ParentRows.{AreLinkHeadingsIfRows, text_at, IsParentLinks, AreParentLinks, texts_in, AreNumbers, IsAmongUsers, AreUsersBelow, HasUsers, HaveUsers, HasPlaces, HasEntriesAmong, HasLinkText, IsLookupAt, AreLookups, IsPlacedAt, AreParents, IsInside, part_of};
 ghost use Rattle.ags_links.specs.Placing.{row_of, ListsTexts};
 
 use crate::candidates::candidates;
@@ -98,8 +98,8 @@ fn link_headings<'s>(
 ) -> Result<Vec<&'s [u8]>, AllocError>
     requires kept { All (HasFamily dictionary.now families.now) rows.now }
     requires by_group { Finds by_group.now (HasText (map row_of rows.now) HasGroupName) }
-    ensures { IfOk result (λ names. found by_group.now parent.now ≢ []
-        → AreLinkHeadings dictionary.now parent.now family.now.headings (map (λ n. n.now) names.items)) }
+    ensures { IfOk result (λ names.
+        AreLinkHeadingsIfRows dictionary.now by_group.now parent.now family.now.headings names.items) }
 {
     let numbers = rows_with(by_group, parent);
     if numbers.is_empty() {
@@ -196,7 +196,7 @@ fn rows_by_entries(
     requires below { All (λ n. n < length rows.now) numbers.now }
     requires rising { IsStrictlyIncreasing numbers.now }
     ensures { IfOk result (λ lookup. Finds lookup
-        (HasAmong numbers.now (map row_of rows.now) (HasEntries (map (λ h. h.now) headings.now)))) }
+        (HasEntriesAmong numbers.now rows.now (map (λ h. h.now) headings.now))) }
 {
     let mut pairs = Vec::with_capacity(alloc, numbers.len())?;
     let mut entries = Vec::new(alloc);
@@ -227,7 +227,7 @@ fn lookup_for<'s>(
     requires numbers { AreNumbers (length rows.now) links.now }
     requires lists { All (IsEntryList rows.now) lists.now.lists.items }
     ensures { IfOk result (λ lookup. FindsAsked lookup (λ text. text_at places.now row.now ≡ text)
-        (HasAmong links.now.rows.now (map row_of rows.now) (HasEntries (link_names links.now)))) }
+        (HasLinkText rows.now links.now)) }
 {
     let numbers = candidates(alloc, dictionary, rows, families, links, lists, row, places)?;
     rows_by_entries(alloc, dictionary, rows, families, &links.headings, &numbers)

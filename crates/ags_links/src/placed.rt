@@ -1,10 +1,9 @@
 //! The DATA rows of a file, with the groups that they stand in.
 
-ghost use Rattle.std.specs.Prelude.{◌≡◌, ◌<◌, ◌^◌, ◌++◌, All, IfOk, OnOk, length, map, slice_index_or};
-ghost use Rattle.ags_rows.specs.Contents.{field_at, group_contents, contents_of};
-ghost use Rattle.ags_links.specs.DataRows.{data_rows, group_rows};
-ghost use Rattle.ags_links.specs.Placing.{IsPlaced, row_of};
-ghost use Rattle.ags_rows.specs.declared.rows.Group.{Group};
+ghost use Rattle.std.specs.Prelude.{◌≡◌, ◌<◌, ◌^◌, All, IfOk, OnOk, length, map};
+ghost use Rattle.ags_rows.specs.Contents.{field_at, contents_of};
+ghost use Rattle.ags_links.specs.DataRows.{data_rows};
+ghost use Rattle.ags_links.specs.Placing.{IsPlaced, AddsGroupRows, row_of};
 
 use ags_rows::{Group, Row, Scan, cell_at};
 use std::alloc::{AllocError, Global};
@@ -34,8 +33,7 @@ fn place_group<'s, 'f>(
     requires place { place < length groups.now }
     requires placed { All (IsPlaced groups.now) rows.old.items }
     ensures placed { OnOk result (All (IsPlaced groups.now) rows.new.items) }
-    ensures rows { OnOk result ((d : Group) → map row_of rows.new.items
-        ≡ map row_of rows.old.items ++ group_rows (group_contents (slice_index_or groups.now place d))) }
+    ensures rows { OnOk result (AddsGroupRows groups.now place rows.old.items rows.new.items) }
 {
     let group = &groups[place];
     for row in group.rows.as_slice() {

@@ -1,4 +1,4 @@
-use Rattle.std.proofs.Common.{ℕ, List, Some, None, cond, ◌&&◌, length, ap, ◌∙◌}
+use Rattle.std.proofs.Common.{ℕ, Some, None, cond, ◌&&◌, length, ap, ◌∙◌}
 use Rattle.std.specs.Option.{option_or}
 use Rattle.std.specs.Str.{bytes_eq}
 use Rattle.std.proofs.lemmas.Result.{on_ok_weaker}
