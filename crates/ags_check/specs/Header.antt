@@ -5,13 +5,17 @@ use Rattle.std.specs.Prelude.{◌≡◌, ℕ, ◌<◌, List, ◌++◌, ◌∷◌
 use Rattle.ags_rows.specs.Collecting.{At}
 use Rattle.ags_text.specs.Bytes.{low_line}
 use Rattle.ags_rows.specs.Contents.{Contents, place_in, under}
-use Rattle.ags_dict.specs.Entries.{Entries, order_of, parent_of, elsewhere}
+use Rattle.ags_dict.specs.Entries.{Entries, order_of, has_group, parent_of, elsewhere}
 
 -- a group of this name is in the file
 abbrev pub HasGroup : List Contents → List ℕ → Type 0
 HasGroup file name = (group : Contents) × Contains file group × (group.name ≡ name)
 
 -- ---- of a GROUP row
+
+-- Rules 9 and 18: the dictionary has no entry for the group.
+abbrev pub IsUnknownGroup : Entries → Contents → Type 0
+IsUnknownGroup entries group = has_group entries group.name ≡ false
 
 -- Rule 10c: the parent group is not in the file.
 abbrev pub LacksParentGroup : Entries → List Contents → Contents → Type 0

@@ -1,9 +1,18 @@
 -- What the functions of the fourth phase compute on the way.
-use Rattle.std.specs.Prelude.{◌≡◌, ℕ, ◌<◌, ◌≤◌, List, Bool, false, nat_lt, max, Option, Some, None, IsSome}
+use Rattle.std.specs.Prelude.{◌≡◌, ℕ, ◌<◌, ◌≤◌, List, Bool, false, map, nat_lt, max, Option, Some, None, IsSome}
+use Rattle.std.specs.Borrow.{Bor}
+use Rattle.ags_rows.specs.declared.code.Code.{Code}
+use Rattle.ags_rows.specs.declared.finding.Finding.{Finding}
+use Rattle.ags_rows.specs.declared.rows.Group.{Group}
 use Rattle.ags_rows.specs.Collecting.{At}
-use Rattle.ags_rows.specs.Contents.{place_in}
+use Rattle.ags_rows.specs.Contents.{Contents, contents_of, place_in}
 use Rattle.ags_dict.specs.Entries.{Entries, order_of, elsewhere}
-use Rattle.ags_check.specs.Header.{StandsBefore, BeginsWithName}
+use Rattle.ags_check.specs.Header.{LacksParentGroup, StandsBefore, BeginsWithName}
+use Rattle.ags_check.specs.Placing.{AtNames}
+
+-- the group's parent group is not among these groups
+abbrev pub LacksParentAmong : Entries → List Group → Contents → Type 0
+LacksParentAmong entries groups = LacksParentGroup entries (contents_of groups)
 
 -- the later of two places
 abbrev pub later : Option ℕ → Option ℕ → Option ℕ
@@ -34,3 +43,23 @@ pub record IsMisnamedBy (given entries : Entries) (group heading : List ℕ) : T
   pub own : place_in (order_of given group) heading ≡ None
   pub other_name : BeginsWithName group heading → ⊥
   pub nowhere_else : elsewhere entries group heading ≡ false
+
+-- ---- at the line of a HEADING row, with the heading as subject
+
+-- a name of the list that is not in the other list
+abbrev pub AtAbsent : ℕ → Code → List (List ℕ) → List (List ℕ) → Finding → Type 0
+AtAbsent line code names others = AtNames line code names (λ _ name. place_in others name ≡ None)
+
+-- a heading that is not in the group's order
+abbrev pub AtUnknown : ℕ → Code → Entries → List ℕ → List (Bor (List ℕ)) → Finding → Type 0
+AtUnknown line code entries group headings = AtAbsent line code (map (λ name. name.now) headings) (order_of entries group)
+
+-- a heading before which the list has one that stands later in the group's order
+abbrev pub AtMisplaced : ℕ → Code → Entries → List ℕ → List (Bor (List ℕ)) → Finding → Type 0
+AtMisplaced line code entries group headings =
+    AtNames line code (map (λ name. name.now) headings) (IsOvertaken (order_of entries group) (map (λ name. name.now) headings))
+
+-- a user-defined heading that is neither named for the group nor another group's
+abbrev pub AtMisnamed : ℕ → Code → Entries → Entries → List ℕ → List (Bor (List ℕ)) → Finding → Type 0
+AtMisnamed line code given entries group headings =
+    AtNames line code (map (λ name. name.now) headings) (λ _ name. IsMisnamedBy given entries group name)

@@ -5,6 +5,7 @@ pub mod HeaderPhase
 pub mod RowRules
 pub mod RowPhase
 pub mod Columns
+pub mod RowSteps
 pub mod CodeLists
 pub mod Findings
 pub mod Keeping

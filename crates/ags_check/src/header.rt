@@ -1,12 +1,11 @@
 //! The fourth phase: the groups of a file against its dictionary.
 
-ghost use Rattle.std.specs.Prelude.{◌≡◌, true, IfOk, OnOk};
+ghost use Rattle.std.specs.Prelude.{◌≡◌, IfOk, OnOk};
 ghost use Rattle.ags_rows.specs.Collecting.{Adds, OneOf};
 ghost use Rattle.ags_rows.specs.Contents.{contents_of};
 ghost use Rattle.ags_rows.specs.Findings.{AreExactly};
-ghost use Rattle.ags_dict.specs.Entries.{has_group};
 ghost use Rattle.ags_check.specs.Placing.{InSome};
-ghost use Rattle.ags_check.specs.HeaderPhase.{heading_row_rules, only_row_rules, group_header_rules, file_rules, header_rules};
+ghost use Rattle.ags_check.specs.HeaderPhase.{heading_row_rules, InKnownHeadingRow, only_row_rules, header_rules_of, file_rules, header_rules};
 
 pub(crate) mod groups;
 pub(crate) mod headings;
@@ -73,9 +72,7 @@ fn note_known_heading_row(
     group: &Group,
     findings: &mut NotedFindings,
 ) -> Result<(), AllocError>
-    ensures { OnOk result (Adds
-        (λ found. (has_group extended.now group.now.name ≡ true)
-        × OneOf (heading_row_rules given.now extended.now code group.now) found)
+    ensures { OnOk result (Adds (InKnownHeadingRow given.now extended.now code group.now)
         findings.old findings.new) }
 {
     if !extended.has_group(group.name.as_slice()) {
@@ -104,8 +101,7 @@ fn note_header_rows(
     group: &Group,
     findings: &mut NotedFindings,
 ) -> Result<(), AllocError>
-    ensures { OnOk result (Adds
-        (OneOf (group_header_rules given.now extended.now (contents_of file.now) code group.now))
+    ensures { OnOk result (Adds (OneOf (header_rules_of given.now extended.now file.now code group.now))
         findings.old findings.new) }
 {
     note_unknown_group(extended, code, group, findings)?;
@@ -123,8 +119,7 @@ fn note_all_header_rows(
     code: Code,
     findings: &mut NotedFindings,
 ) -> Result<(), AllocError>
-    ensures { OnOk result (Adds
-        (InSome file.now (group_header_rules given.now extended.now (contents_of file.now) code))
+    ensures { OnOk result (Adds (InSome file.now (header_rules_of given.now extended.now file.now code))
         findings.old findings.new) }
 {
     let groups = file.groups();

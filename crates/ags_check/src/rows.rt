@@ -1,15 +1,14 @@
 //! The fifth phase: the UNIT, TYPE and DATA rows.
 
-ghost use Rattle.std.specs.Prelude.{◌≡◌, ◌<◌, ◌+◌, ◌^◌, IfOk, OnOk, codes, length};
+ghost use Rattle.std.specs.Prelude.{◌≡◌, ◌<◌, ◌+◌, ◌^◌, IfOk, OnOk, length};
 ghost use Rattle.ags_rows.specs.Findings.{AreExactly};
-ghost use Rattle.ags_rows.specs.declared.code.Code.TheVariants.{Rule20};
-ghost use Rattle.ags_rows.specs.Collecting.{Adds, Notes, OneOf, Among};
+ghost use Rattle.ags_rows.specs.Collecting.{Adds, OneOf};
 ghost use Rattle.ags_rows.specs.Contents.{contents_of};
 ghost use Rattle.ags_links.specs.DataRows.{IsDataRow};
 ghost use Rattle.ags_links.specs.Indexing.{rows_in};
 ghost use Rattle.ags_check.specs.Columns.{RowsStand};
-ghost use Rattle.ags_check.specs.RowRules.{IsUnlistedFileSet};
-ghost use Rattle.ags_check.specs.RowPhase.{headed_row, data_row_rules, entry_rules_of, entry_rules};
+ghost use Rattle.ags_check.specs.RowPhase.{headed_row, InFileSet, entry_rules};
+ghost use Rattle.ags_check.specs.RowSteps.{InDataRow, InDataRows, InGroupRows};
 
 pub(crate) mod abbreviations;
 pub(crate) mod code_lists;
@@ -36,8 +35,7 @@ fn note_unlisted_file_set(
     findings: &mut NotedFindings,
 ) -> Result<(), AllocError>
     requires { IsDataRow (rows_in index.now) number (headed_row outline.now.group row.now) }
-    ensures { OnOk result (Adds (Notes row.now.line Rule20 (codes "FILE_FSET")
-        (IsUnlistedFileSet index.now.contents (headed_row outline.now.group row.now)))
+    ensures { OnOk result (Adds (InFileSet index.now.contents outline.now.group row.now)
         findings.old findings.new) }
 {
     let has_file = index.has_file(number);
@@ -59,8 +57,7 @@ fn note_data_row<'a>(
     requires row { IsDataRow (rows_in index.now) number (headed_row outline.now.group row.now) }
     requires listed { listed.now ≡ index.now.contents }
     requires entries { outline.now.entries ≡ index.now.entries }
-    ensures { OnOk result (Adds
-        (OneOf (data_row_rules index.now.entries index.now.contents outline.now.group number row.now))
+    ensures { OnOk result (Adds (InDataRow index.now outline.now.group number row.now)
         findings.old findings.new) }
 {
     let name = outline.name();
@@ -88,10 +85,7 @@ fn note_data_rows<'a>(
     requires few { first + length outline.now.group.rows < 2 ^ 32 }
     requires listed { listed.now ≡ index.now.contents }
     requires entries { outline.now.entries ≡ index.now.entries }
-    ensures { OnOk result (Adds
-        (Among outline.now.group.rows (λ place row f.
-        OneOf (data_row_rules index.now.entries index.now.contents outline.now.group (first + place) row) f))
-        findings.old findings.new) }
+    ensures { OnOk result (Adds (InDataRows index.now first outline.now.group) findings.old findings.new) }
 {
     let rows = outline.rows();
     for (i, row) in rows.iter().enumerate() {
@@ -114,8 +108,7 @@ fn note_group_entries<'a>(
     requires few { first + length group.now.rows < 2 ^ 32 }
     requires listed { listed.now ≡ index.now.contents }
     requires entries { dictionary.now ≡ index.now.entries }
-    ensures { OnOk result (Adds (OneOf (entry_rules_of index.now.entries index.now.contents first group.now))
-        findings.old findings.new) }
+    ensures { OnOk result (Adds (InGroupRows index.now first group.now) findings.old findings.new) }
 {
     let outline = Outline::of(alloc, dictionary, group)?;
     note_columns(listed, &outline, findings)?;

@@ -1,11 +1,12 @@
 //! What the GROUP row of a group breaks, and the file by the groups that it lacks.
 
-ghost use Rattle.std.specs.Prelude.{◌≡◌, ◌↔◌, false, IsTrue, OnOk};
+ghost use Rattle.std.specs.Prelude.{◌≡◌, ◌↔◌, IsTrue, OnOk};
 ghost use Rattle.ags_rows.specs.declared.code.Code.TheVariants.{Rule10c};
 ghost use Rattle.ags_rows.specs.Collecting.{Adds, Notes};
 ghost use Rattle.ags_rows.specs.Contents.{group_contents, contents_of};
-ghost use Rattle.ags_dict.specs.Entries.{has_group};
-ghost use Rattle.ags_check.specs.Header.{HasGroup, LacksParentGroup};
+ghost use Rattle.ags_check.specs.Header.{HasGroup, IsUnknownGroup, LacksParentGroup};
+ghost use Rattle.ags_check.specs.HeaderSteps.{LacksParentAmong};
+ghost use Rattle.ags_check.specs.Placing.{AtGroup};
 ghost use Rattle.ags_check.specs.HeaderPhase.{unknown_code};
 
 use crate::named_groups::NamedGroups;
@@ -31,8 +32,7 @@ pub(crate) fn note_unknown_group(
     group: &Group,
     findings: &mut NotedFindings,
 ) -> Result<(), AllocError>
-    ensures { OnOk result (Adds
-        (Notes group.now.line code group.now.name (has_group dictionary.now group.now.name ≡ false))
+    ensures { OnOk result (Adds (AtGroup code (IsUnknownGroup dictionary.now) group.now)
         findings.old findings.new) }
 {
     let name = group.name.as_slice();
@@ -59,9 +59,7 @@ pub(crate) fn note_lacking_parent(
     group: &Group,
     findings: &mut NotedFindings,
 ) -> Result<(), AllocError>
-    ensures { OnOk result (Adds
-        (Notes group.now.line Rule10c group.now.name
-        (LacksParentGroup dictionary.now (contents_of file.now) (group_contents group.now)))
+    ensures { OnOk result (Adds (AtGroup Rule10c (LacksParentAmong dictionary.now file.now) group.now)
         findings.old findings.new) }
 {
     if lacks_parent(dictionary, file, group) {

@@ -1,13 +1,11 @@
 //! What the HEADING row of a group breaks.
 
-ghost use Rattle.std.specs.Prelude.{◌≡◌, ◌↔◌, ◌++◌, ℕ, List, IsTrue, OnOk, None, MatchOption, map};
+ghost use Rattle.std.specs.Prelude.{◌≡◌, ◌↔◌, ◌++◌, ℕ, List, IsTrue, OnOk, MatchOption, map};
 ghost use Rattle.ags_rows.specs.declared.code.Code.TheVariants.{Rule7, Rule10a, Rule10b, Rule19b};
 ghost use Rattle.ags_rows.specs.Collecting.{Adds};
-ghost use Rattle.ags_rows.specs.Contents.{place_in};
-ghost use Rattle.ags_dict.specs.Entries.{order_of, keys_of, required_of};
-ghost use Rattle.ags_check.specs.Placing.{AtNames};
+ghost use Rattle.ags_dict.specs.Entries.{keys_of, required_of};
 ghost use Rattle.ags_check.specs.Header.{BeginsWithName};
-ghost use Rattle.ags_check.specs.HeaderSteps.{later, is_behind, IsOvertaken, IsMisnamedBy};
+ghost use Rattle.ags_check.specs.HeaderSteps.{later, is_behind, IsMisnamedBy, AtAbsent, AtUnknown, AtMisplaced, AtMisnamed};
 
 use ags_dict::Dictionary;
 use ags_rows::{Code, NotedFindings, Places};
@@ -22,8 +20,7 @@ pub(crate) fn note_unknown(
     code: Code,
     findings: &mut NotedFindings,
 ) -> Result<(), AllocError>
-    ensures { OnOk result (Adds (AtNames line code (map (λ name. name.now) headings.now)
-        (λ _ name. place_in (order_of dictionary.now group.now) name ≡ None))
+    ensures { OnOk result (Adds (AtUnknown line code dictionary.now group.now headings.now)
         findings.old findings.new) }
 {
     for heading in headings {
@@ -42,8 +39,7 @@ fn note_absent(
     code: Code,
     findings: &mut NotedFindings,
 ) -> Result<(), AllocError>
-    ensures { OnOk result (Adds (AtNames line code (map (λ name. name.now) listed.now)
-        (λ _ name. place_in row.now name ≡ None))
+    ensures { OnOk result (Adds (AtAbsent line code (map (λ name. name.now) listed.now) row.now)
         findings.old findings.new) }
 {
     for heading in listed {
@@ -63,8 +59,7 @@ pub(crate) fn note_absent_keys(
     line: u32,
     findings: &mut NotedFindings,
 ) -> Result<(), AllocError>
-    ensures { OnOk result (Adds (AtNames line Rule10a (keys_of dictionary.now group.now)
-        (λ _ name. place_in row.now name ≡ None))
+    ensures { OnOk result (Adds (AtAbsent line Rule10a (keys_of dictionary.now group.now) row.now)
         findings.old findings.new) }
 {
     let keys = dictionary.keys(alloc, group)?;
@@ -80,8 +75,7 @@ pub(crate) fn note_absent_required(
     line: u32,
     findings: &mut NotedFindings,
 ) -> Result<(), AllocError>
-    ensures { OnOk result (Adds (AtNames line Rule10b (required_of dictionary.now group.now)
-        (λ _ name. place_in row.now name ≡ None))
+    ensures { OnOk result (Adds (AtAbsent line Rule10b (required_of dictionary.now group.now) row.now)
         findings.old findings.new) }
 {
     let required = dictionary.required(alloc, group)?;
@@ -117,8 +111,7 @@ pub(crate) fn note_misplaced(
     line: u32,
     findings: &mut NotedFindings,
 ) -> Result<(), AllocError>
-    ensures { OnOk result (Adds (AtNames line Rule7 (map (λ name. name.now) headings.now)
-        (IsOvertaken (order_of dictionary.now group.now) (map (λ name. name.now) headings.now)))
+    ensures { OnOk result (Adds (AtMisplaced line Rule7 dictionary.now group.now headings.now)
         findings.old findings.new) }
 {
     let mut latest = None;
@@ -169,8 +162,7 @@ pub(crate) fn note_misnamed(
     line: u32,
     findings: &mut NotedFindings,
 ) -> Result<(), AllocError>
-    ensures { OnOk result (Adds (AtNames line Rule19b (map (λ name. name.now) headings.now)
-        (λ _ name. IsMisnamedBy given.now extended.now group.now name))
+    ensures { OnOk result (Adds (AtMisnamed line Rule19b given.now extended.now group.now headings.now)
         findings.old findings.new) }
 {
     for heading in headings {

@@ -2,7 +2,6 @@
 
 ghost use Rattle.std.specs.Prelude.{OnOk};
 ghost use Rattle.ags_rows.specs.Collecting.{Adds};
-ghost use Rattle.ags_rows.specs.Contents.{group_contents};
 ghost use Rattle.ags_check.specs.Header.{IsFurtherRow, IsLongSign};
 ghost use Rattle.ags_check.specs.Placing.{AtRow};
 
@@ -16,8 +15,7 @@ pub(crate) fn note_long_sign(
     heading: &[u8],
     findings: &mut NotedFindings,
 ) -> Result<(), AllocError>
-    ensures { OnOk result (Adds (AtRow code heading.now (IsLongSign heading.now (group_contents group.now)) group.now)
-        findings.old findings.new) }
+    ensures { OnOk result (Adds (AtRow code heading.now IsLongSign group.now) findings.old findings.new) }
 {
     if group.name.as_slice() != b"TRAN".as_slice() {
         return Ok(());
@@ -38,8 +36,7 @@ pub(crate) fn note_further_rows(
     name: &[u8],
     findings: &mut NotedFindings,
 ) -> Result<(), AllocError>
-    ensures { OnOk result (Adds (AtRow code name.now (IsFurtherRow name.now (group_contents group.now)) group.now)
-        findings.old findings.new) }
+    ensures { OnOk result (Adds (AtRow code name.now IsFurtherRow group.now) findings.old findings.new) }
 {
     if group.name.as_slice() != name {
         return Ok(());

@@ -1,9 +1,8 @@
 //! What a file lists: its units, types and abbreviations.
 
-ghost use Rattle.std.specs.Prelude.{◌≡◌, ◌≢◌, ◌++◌, ◌↔◌, [], None, true, false, IsTrue, IfOk, OnOk, map, if◌then◌else◌};
-ghost use Rattle.std.specs.Str.{bytes_eq};
-ghost use Rattle.ags_rows.specs.Contents.{place_in, under, group_contents, contents_of};
-ghost use Rattle.ags_check.specs.CodeLists.{listed_texts, abbreviation_in, abbreviations, pair_texts, has_pair, HasPairs, lacks_part};
+ghost use Rattle.std.specs.Prelude.{◌≡◌, ◌≢◌, ◌↔◌, [], None, IsTrue, IfOk, OnOk, map};
+ghost use Rattle.ags_rows.specs.Contents.{place_in, group_contents, contents_of};
+ghost use Rattle.ags_check.specs.CodeLists.{listed_texts, texts_under, texts_if_named, AddsTexts, abbreviations, abbreviations_in, pair_texts, AddsPairs, HasPairs, IsUnlistedPair};
 ghost use Rattle.ags_check.specs.RowRules.{IsUnlistedUnit, IsUnlistedType, IsUnlistedAbbreviation};
 
 use crate::rows::abbreviations::Abbreviations;
@@ -41,9 +40,8 @@ fn push_texts<'a>(
     heading: &[u8],
     texts: &mut Vec<&'a [u8]>,
 ) -> Result<(), AllocError>
-    ensures { OnOk result (map (λ text. text.now) texts.new.items
-        ≡ map (λ text. text.now) texts.old.items
-        ++ map (λ fields. under group.now.headings fields heading.now) (group_contents group.now).rows) }
+    ensures { OnOk result (AddsTexts (texts_under (group_contents group.now) heading.now)
+        texts.old.items texts.new.items) }
 {
     let headings = group.headings.as_slice();
     let rows = group.rows.as_slice();
@@ -60,11 +58,8 @@ fn push_named<'a>(
     heading: &[u8],
     texts: &mut Vec<&'a [u8]>,
 ) -> Result<(), AllocError>
-    ensures { OnOk result (map (λ text. text.now) texts.new.items
-        ≡ map (λ text. text.now) texts.old.items
-        ++ (if bytes_eq group.now.name name.now
-        then map (λ fields. under group.now.headings fields heading.now) (group_contents group.now).rows
-        else [])) }
+    ensures { OnOk result (AddsTexts (texts_if_named (group_contents group.now) name.now heading.now)
+        texts.old.items texts.new.items) }
 {
     if group.name.as_slice() == name {
         push_texts(group, heading, texts)?;
@@ -94,8 +89,8 @@ fn push_pairs<'a>(
     group: &'a Group<'_>,
     pairs: &mut Vec<(&'a [u8], &'a [u8])>,
 ) -> Result<(), AllocError>
-    ensures { OnOk result (map pair_texts pairs.new.items
-        ≡ map pair_texts pairs.old.items ++ map (abbreviation_in group.now.headings) (group_contents group.now).rows) }
+    ensures { OnOk result (AddsPairs (abbreviations_in (group_contents group.now))
+        pairs.old.items pairs.new.items) }
 {
     let headings = group.headings.as_slice();
     let rows = group.rows.as_slice();
@@ -161,9 +156,7 @@ fn is_unlisted_pair<'a>(
     heading: &'a [u8],
     text: &'a [u8],
 ) -> bool
-    ensures { IsTrue result ↔ (text.now ≢ [])
-        × (has_pair abbreviations.now.held heading.now text.now ≡ false)
-        × (lacks_part abbreviations.now.held separator heading.now text.now ≡ true) }
+    ensures { IsTrue result ↔ IsUnlistedPair abbreviations.now.held separator heading.now text.now }
 {
     !text.is_empty()
         && !abbreviations.has(heading, text)

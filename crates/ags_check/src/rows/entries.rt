@@ -1,15 +1,10 @@
 //! What the entries of a row break.
 
-ghost use Rattle.std.specs.Prelude.{◌≡◌, ◌≢◌, ◌↔◌, [], ◌∷◌, codes, IsTrue, OnOk};
-ghost use Rattle.ags_rows.specs.Collecting.{Adds, Notes};
-ghost use Rattle.ags_rows.specs.declared.code.Code.TheVariants.{Rule10b};
-ghost use Rattle.ags_rows.specs.Contents.{group_contents};
+ghost use Rattle.std.specs.Prelude.{◌≡◌, ◌≢◌, ◌↔◌, [], codes, IsTrue, OnOk};
+ghost use Rattle.ags_rows.specs.Collecting.{Adds};
 ghost use Rattle.ags_cells.specs.Fits.{FitsTypeCode};
-ghost use Rattle.ags_dict.specs.Entries.{required_of};
-ghost use Rattle.ags_links.specs.DataRows.{entry_of};
-ghost use Rattle.ags_check.specs.Placing.{InSome};
-ghost use Rattle.ags_check.specs.RowRules.{unit_over, type_over, IsUnlistedUnit, IsUnlistedType, IsUnlistedAbbreviation};
-ghost use Rattle.ags_check.specs.RowPhase.{headed_row, unit_and_type_rules, data_entry_rules};
+ghost use Rattle.ags_check.specs.RowRules.{IsUnlistedUnit, IsUnlistedType, IsUnlistedAbbreviation};
+ghost use Rattle.ags_check.specs.RowPhase.{InEntries, InUnitsAndTypes, InRequired};
 ghost use Rattle.ags_check.specs.Columns.{IsTyped};
 
 use crate::rows::code_lists::CodeLists;
@@ -59,11 +54,7 @@ pub(crate) fn note_entries<'a>(
     row: &'a Row,
     findings: &mut NotedFindings,
 ) -> Result<(), AllocError>
-    ensures { OnOk result (Adds (InSome outline.now.group.headings
-        (λ heading. data_entry_rules listed.now row.now.line heading
-        (unit_over (group_contents outline.now.group) heading) (type_over (group_contents outline.now.group) heading)
-        (entry_of (headed_row outline.now.group row.now) heading)))
-        findings.old findings.new) }
+    ensures { OnOk result (Adds (InEntries listed.now outline.now.group row.now) findings.old findings.new) }
 {
     let columns = outline.columns.as_slice();
     let cells = row.cells.as_slice();
@@ -91,9 +82,7 @@ pub(crate) fn note_columns(
     outline: &Outline,
     findings: &mut NotedFindings,
 ) -> Result<(), AllocError>
-    ensures { OnOk result (Adds
-        (InSome outline.now.group.headings (unit_and_type_rules listed.now outline.now.group))
-        findings.old findings.new) }
+    ensures { OnOk result (Adds (InUnitsAndTypes listed.now outline.now.group) findings.old findings.new) }
 {
     let group = outline.group;
     let columns = outline.columns.as_slice();
@@ -114,9 +103,7 @@ pub(crate) fn note_lacking(
     row: &Row,
     findings: &mut NotedFindings,
 ) -> Result<(), AllocError>
-    ensures { OnOk result (Adds (InSome (required_of outline.now.entries outline.now.group.name)
-        (λ heading. Notes row.now.line Rule10b heading
-        (entry_of (headed_row outline.now.group row.now) heading ≡ []) ∷ []))
+    ensures { OnOk result (Adds (InRequired outline.now.entries outline.now.group row.now)
         findings.old findings.new) }
 {
     let required = outline.required.as_slice();

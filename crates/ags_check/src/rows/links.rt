@@ -1,14 +1,11 @@
 //! The record links of a row.
 
-ghost use Rattle.std.specs.Prelude.{◌≡◌, ◌≢◌, ◌<◌, ◌↔◌, [], ◌∷◌, codes, IsTrue, IfOk, OnOk, length};
-ghost use Rattle.ags_rows.specs.Collecting.{Adds, Notes};
-ghost use Rattle.ags_rows.specs.declared.code.Code.TheVariants.{Rule11c};
-ghost use Rattle.ags_links.specs.DataRows.{DataRow, IsDataRow};
+ghost use Rattle.std.specs.Prelude.{◌<◌, IfOk, OnOk, length};
+ghost use Rattle.ags_rows.specs.Collecting.{Adds};
+ghost use Rattle.ags_links.specs.DataRows.{IsDataRow};
 ghost use Rattle.ags_links.specs.Indexing.{rows_in};
-ghost use Rattle.ags_links.specs.RecordLinks.{separators_of, IsBroken};
-ghost use Rattle.ags_check.specs.Placing.{InSome};
-ghost use Rattle.ags_check.specs.RowPhase.{headed_row};
-ghost use Rattle.ags_check.specs.RowRules.{IsBrokenLink};
+ghost use Rattle.ags_check.specs.RowPhase.{headed_row, InLinks};
+ghost use Rattle.ags_check.specs.RowSteps.{SaysOfRow, HasBrokenLink};
 
 use crate::rows::columns::{Column, is_of_type};
 use crate::rows::outline::Outline;
@@ -24,10 +21,7 @@ fn is_broken_link(
     number: u32,
 ) -> Result<bool, AllocError>
     requires { number < length (rows_in index.now) }
-    ensures { IfOk result (λ broken. (row : DataRow) → IsDataRow (rows_in index.now) number row
-        → IsTrue broken ↔ (column.now.code.now ≡ codes "RL") × (text.now ≢ [])
-        × IsBroken index.now.entries (separators_of index.now.contents) (rows_in index.now)
-        row column.now.heading.now) }
+    ensures { IfOk result (SaysOfRow index.now number (HasBrokenLink index.now column.now text.now)) }
 {
     if !is_of_type(column, b"RL") {
         return Ok(false);
@@ -47,8 +41,7 @@ pub(crate) fn note_links(
     findings: &mut NotedFindings,
 ) -> Result<(), AllocError>
     requires { IsDataRow (rows_in index.now) number (headed_row outline.now.group row.now) }
-    ensures { OnOk result (Adds (InSome outline.now.group.headings (λ heading. Notes row.now.line Rule11c heading
-        (IsBrokenLink index.now.entries index.now.contents (headed_row outline.now.group row.now) heading) ∷ []))
+    ensures { OnOk result (Adds (InLinks index.now.entries index.now.contents outline.now.group row.now)
         findings.old findings.new) }
 {
     if !outline.is_data {

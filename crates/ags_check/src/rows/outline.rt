@@ -1,13 +1,13 @@
 //! What a group's header and the dictionary say of its rows.
 
-ghost use Rattle.std.specs.Prelude.{◌≡◌, ◌≢◌, ◌<◌, ◌↔◌, [], false, IsTrue, IfOk, codes, length};
-ghost use Rattle.ags_rows.specs.Contents.{group_contents, under};
-ghost use Rattle.ags_text.specs.Names.{is_definition};
+ghost use Rattle.std.specs.Prelude.{◌≡◌, ◌≢◌, ◌<◌, ◌↔◌, [], false, IsTrue, IfOk, length};
+ghost use Rattle.ags_rows.specs.Contents.{group_contents};
 ghost use Rattle.ags_dict.specs.Entries.{keys_of, required_of};
 ghost use Rattle.ags_links.specs.DataRows.{DataRow, IsDataRow};
 ghost use Rattle.ags_links.specs.Indexing.{rows_in};
 ghost use Rattle.ags_check.specs.Columns.{AreColumns};
 ghost use Rattle.ags_check.specs.RowRules.{RepeatsKey, LacksParentRow};
+ghost use Rattle.ags_check.specs.RowSteps.{SaysOfRow, LacksFile};
 
 use crate::rows::columns::{Column, columns};
 use ags_dict::Dictionary;
@@ -131,8 +131,8 @@ impl<'a> Outline<'a> {
         requires entries { self.now.entries ≡ index.now.entries }
         requires stands { number < length (rows_in index.now) }
         requires row { (row : DataRow) → IsDataRow (rows_in index.now) number row → row.group ≡ self.now.group.name }
-        ensures { IfOk result (λ repeats. (row : DataRow) → IsDataRow (rows_in index.now) number row
-            → IsTrue repeats ↔ RepeatsKey index.now.entries index.now.contents number row) }
+        ensures { IfOk result (SaysOfRow index.now number
+            (RepeatsKey index.now.entries index.now.contents number)) }
     {
         if !self.has_keys {
             return Ok(false);
@@ -145,8 +145,8 @@ impl<'a> Outline<'a> {
         requires entries { self.now.entries ≡ index.now.entries }
         requires stands { number < length (rows_in index.now) }
         requires row { (row : DataRow) → IsDataRow (rows_in index.now) number row → row.group ≡ self.now.group.name }
-        ensures { IfOk result (λ lacks. (row : DataRow) → IsDataRow (rows_in index.now) number row
-            → IsTrue lacks ↔ LacksParentRow index.now.entries index.now.contents row) }
+        ensures { IfOk result (SaysOfRow index.now number
+            (LacksParentRow index.now.entries index.now.contents)) }
     {
         if !self.has_parent {
             return Ok(false);
@@ -157,9 +157,7 @@ impl<'a> Outline<'a> {
     /// Rule 20: whether the row is of a data group other than FILE, and its FILE_FSET is not null and not that of a row
     /// of FILE.
     pub(crate) fn is_unlisted_file_set(&self, cells: &[Cell], has_file: bool) -> bool
-        ensures { IsTrue result ↔ (is_definition self.now.group.name ≡ false)
-            × (self.now.group.name ≢ codes "FILE")
-            × ((under self.now.group.headings cells.now (codes "FILE_FSET") ≢ []) × (has_file ≡ false)) }
+        ensures { IsTrue result ↔ LacksFile self.now.group cells.now has_file }
     {
         self.is_data
             && self.group.name.as_slice() != b"FILE".as_slice()
