@@ -11,7 +11,8 @@ use Rattle.ags_check.specs.Findings.{CheckedFile, file_of}
 use Rattle.ags_check.specs.Laws.{OneCleanFile}
 use Rattle.ags_check.proofs.Whole.{clean_entries}
 
-one_checked : (a b : CheckedFile) → a.given ≡ b.given → a.bytes ≡ b.bytes → a.groups ≡ b.groups → a.entries ≡ b.entries → a.graph ≡ b.graph → a ≡ b
+-- two are one if each of their parts is
+pub one_checked : (a b : CheckedFile) → a.given ≡ b.given → a.bytes ≡ b.bytes → a.groups ≡ b.groups → a.entries ≡ b.entries → a.graph ≡ b.graph → a ≡ b
 one_checked a b p q r s t = λ i. record { given = p i; bytes = q i; groups = r i; entries = s i; graph = t i }
 
 pub one_clean_file : OneCleanFile

@@ -72,13 +72,11 @@ impl<'a> Checked<'a> {
           entries = dictionary;
           graph = graph;
         }) }
-        ensures { result ≡ record {
-          given = given.now;
-          bytes = bytes.entry.now;
-          groups = scan.entry;
-          entries = dictionary;
-          graph = graph;
-        } }
+        ensures given { result.given ≡ given.now }
+        ensures bytes { result.bytes ≡ bytes.entry.now }
+        ensures groups { result.groups ≡ scan.entry }
+        ensures entries { result.entries ≡ dictionary }
+        ensures graph { result.graph ≡ graph }
     {
         let given_groups = given.group_count();
         let given_headings = given.heading_count();

@@ -1,4 +1,4 @@
-use Rattle.std.proofs.Common.{◌≡◌, ap, subst, sym}
+use Rattle.std.proofs.Common.{◌≡◌, subst, sym}
 use Rattle.ags_rows.specs.Contents.{contents_of}
 use Rattle.ags_dict.specs.Entries.{Entries}
 use Rattle.ags_check.specs.Findings.{IsClean, first_entries}
@@ -11,7 +11,6 @@ invariant_of-result c =
     given_first c.args.given.now c.args.dictionary (contents_of c.args.scan) _ _ c.group_count-given_groups.ensures c.heading_count-given_headings.ensures (clean_entries (checked_file c.args.bytes.now c.args.scan c.args.dictionary c.args.graph c.args.given.now) c.requires) in
     subst (λ (given : Entries). IsClean (checked_file c.args.bytes.now c.args.scan c.args.dictionary c.args.graph given)) (sym first) c.requires
 
-pub returns : goal.returns
-returns c =
-    ap (checked_file c.args.bytes.now c.args.scan c.args.dictionary c.args.graph)
-    (given_first c.args.given.now c.args.dictionary (contents_of c.args.scan) _ _ c.group_count-given_groups.ensures c.heading_count-given_headings.ensures (clean_entries (checked_file c.args.bytes.now c.args.scan c.args.dictionary c.args.graph c.args.given.now) c.requires))
+pub returns-clause-given : goal.returns-clause-given
+returns-clause-given c =
+    given_first c.args.given.now c.args.dictionary (contents_of c.args.scan) _ _ c.group_count-given_groups.ensures c.heading_count-given_headings.ensures (clean_entries (checked_file c.args.bytes.now c.args.scan c.args.dictionary c.args.graph c.args.given.now) c.requires)
