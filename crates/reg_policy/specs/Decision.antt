@@ -1,5 +1,5 @@
 -- Which rule of a policy decides.
-use Rattle.std.specs.Prelude.{◌≡◌, ◌⊎◌, ℕ, List, [], ◌∷◌, ◌++◌, Bool, true, ◌&&◌, if◌then◌else◌, is_none, Option, Some, None, IfSome, slice_get}
+use Rattle.std.specs.Prelude.{◌≡◌, ◌⊎◌, ◌↔◌, ℕ, List, [], ◌∷◌, ◌++◌, Bool, true, ◌&&◌, if◌then◌else◌, is_none, Option, Some, None, IfSome, IsTrue, Contains, slice_get}
 use Rattle.std.specs.Bool.{beq}
 use Rattle.std.specs.List.{All, list_any, zip}
 use Rattle.std.specs.Str.{bytes_eq}
@@ -127,6 +127,18 @@ IsDecidedOfAll rules caller project told decision = (row : Facts) → IsOneOf to
 abbrev pub TellsApart : Rule → Caller → List ℕ → Told → Type 0
 TellsApart r caller project told = ((row : Facts) × IsOneOf told row × Matches r (row_question caller project row))
     × ((row : Facts) × IsOneOf told row × ¬ (Matches r (row_question caller project row)))
+
+-- some rule matches one of them, and does not match another
+abbrev pub AreToldApart : List Rule → Caller → List ℕ → Told → Type 0
+AreToldApart rules caller project told = (r : Rule) × Contains rules r × TellsApart r caller project told
+
+-- the rule matches each of them where `meets` is true, and none of them where it is false
+abbrev pub MatchesAlike : Rule → Caller → List ℕ → Told → Bool → Type 0
+MatchesAlike r caller project told meets = (row : Facts) → IsOneOf told row → IsTrue meets ↔ Matches r (row_question caller project row)
+
+-- the group of each of them meets what is set where `meets` is true, and that of none where it is false
+abbrev pub MeetsAlike : Option (List ℕ) → Option (List ℕ) → Bool → Type 0
+MeetsAlike set told meets = (group : List ℕ) → IfSome told (λ g. group ≡ g) → IsTrue meets ↔ Meets set group
 
 -- all is so that the rule sets beside the group and the entry of a row
 abbrev pub MeetsDeposit : Rule → Caller → List ℕ → Bool → Bool → Type 0

@@ -57,6 +57,10 @@ IsEntry None None set = set ≡ None
 IsEntry (Some (string heading)) (Some (string value)) (Some entry) = IsTrue (is_heading_name heading) × (entry.heading ≡ heading) × (entry.value ≡ value)
 IsEntry heading value set = ⊥
 
+-- the same, of a table's keys `heading` and `value`
+abbrev pub IsEntryIn : Members → Option WantedEntry → Type 0
+IsEntryIn table set = IsEntry (get_member (codes "heading") table) (get_member (codes "value") table) set
+
 -- The rule that a table has, key by key.
 pub record IsRule (table : Members) (r : Rule) : Type 0 where
   pub number : IsNumber (get_member (codes "number") table) r.number
@@ -68,7 +72,7 @@ pub record IsRule (table : Members) (r : Rule) : Type 0 where
   pub group : Sets (IsWord is_group_name) (get_member (codes "group") table) r.group
   pub own : Sets (IsEither (codes "own") (codes "other")) (get_member (codes "owner") table) r.own
   pub past : Sets (IsEither (codes "past") (codes "running")) (get_member (codes "embargo") table) r.past
-  pub entry : IsEntry (get_member (codes "heading") table) (get_member (codes "value") table) r.entry
+  pub entry : IsEntryIn table r.entry
 
 -- the numbers rise strictly, the first above n
 abbrev pub IsRisingFrom : ℕ → List Rule → Type 0

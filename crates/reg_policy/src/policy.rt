@@ -1,6 +1,6 @@
 //! A policy: a list of rules, of which the first that matches decides.
-ghost use Rattle.std.specs.Prelude.{◌≡◌, ◌↔◌, List, Contains, IsTrue, IfSome, IfNone, option_map};
-ghost use Rattle.reg_policy.specs.Decision.{decision_of, told, IsDecidedOfAll, TellsApart};
+ghost use Rattle.std.specs.Prelude.{◌≡◌, ◌↔◌, List, IsTrue, IfSome, IfNone, option_map};
+ghost use Rattle.reg_policy.specs.Decision.{decision_of, told, AreToldApart, IsDecidedOfAll};
 ghost use Rattle.reg_policy.specs.Rules.{IsRisingFrom, ReadsPolicy, policy_error};
 ghost use Rattle.reg_policy.specs.declared.rule.Rule.{Rule as RuleValue};
 
@@ -100,7 +100,7 @@ impl Policy {
     ) -> Option<Decision>
         ensures decided { IfSome result (IsDecidedOfAll self.now caller.now project.now
             (told (option_map (λ g. g.now) group.entry) own past)) }
-        ensures apart { IfNone result ((r : RuleValue) × Contains self.now r × TellsApart r caller.now project.now
+        ensures apart { IfNone result (AreToldApart self.now caller.now project.now
             (told (option_map (λ g. g.now) group.entry) own past)) }
     {
         for reached in &self.rules {

@@ -1,6 +1,6 @@
 //! One rule of a policy, and whether it matches what is asked.
-ghost use Rattle.std.specs.Prelude.{◌≡◌, ◌↔◌, ℕ, List, None, IsTrue, IsSome, IfNone, IfSome, option_map};
-ghost use Rattle.reg_policy.specs.Decision.{HasEntry, Facts, Matches, Meets, MeetsDeposit, MeetsEntry, MeetsRow, IsOneOf, TellsApart, effect_of, facts_of, matches, row_question, told};
+ghost use Rattle.std.specs.Prelude.{◌≡◌, ◌↔◌, None, IsTrue, IsSome, IfNone, IfSome, option_map};
+ghost use Rattle.reg_policy.specs.Decision.{HasEntry, Matches, MatchesAlike, Meets, MeetsAlike, MeetsDeposit, MeetsEntry, MeetsRow, TellsApart, effect_of, facts_of, matches, told};
 
 use crate::{Caller, Decision, Name, RowFacts, Subject, Verb};
 use ags_text::{Bytes, Cell};
@@ -73,9 +73,8 @@ impl Rule {
         own: bool,
         past: bool,
     ) -> Option<bool>
-        ensures alike { IfSome result (λ meets. (row : Facts)
-            → IsOneOf (told (option_map (λ g. g.now) group.entry) own past) row
-            → IsTrue meets ↔ Matches self.now (row_question caller.now project.now row)) }
+        ensures alike { IfSome result (MatchesAlike self.now caller.now project.now
+            (told (option_map (λ g. g.now) group.entry) own past)) }
         ensures apart { IfNone result (TellsApart self.now caller.now project.now
             (told (option_map (λ g. g.now) group.entry) own past)) }
     {
@@ -161,9 +160,7 @@ fn meets_group(set: &Option<Bytes>, group: &[u8]) -> bool
 
 /// Whether rows have the group, where they all have this one, if it is told. None where that differs from row to row.
 fn meets_told_group(set: &Option<Bytes>, told: Option<&[u8]>) -> Option<bool>
-    ensures alike { IfSome result (λ meets. (group : List ℕ)
-        → IfSome (option_map (λ g. g.now) told.entry) (λ g. group ≡ g)
-        → IsTrue meets ↔ Meets set.now group) }
+    ensures alike { IfSome result (MeetsAlike set.now (option_map (λ g. g.now) told.entry)) }
     ensures apart { IfNone result (IsSome set.now × (option_map (λ g. g.now) told.entry ≡ None)) }
 {
     match (set, told) {

@@ -5,7 +5,7 @@ ghost use Rattle.toml.specs.View.{table_view};
 ghost use Rattle.ags_text.specs.Names.{is_group_name};
 ghost use Rattle.reg_policy.specs.Names.{is_name, verb_text};
 ghost use Rattle.reg_policy.specs.Readers.{Gives, GivesWord};
-ghost use Rattle.reg_policy.specs.Rules.{IsEffect, IsEither, IsEntry, IsNumber, IsRule, IsVerb, IsWord, Sets, rule_key, rule_keys};
+ghost use Rattle.reg_policy.specs.Rules.{IsEffect, IsEither, IsEntryIn, IsNumber, IsRule, IsVerb, IsWord, Sets, rule_key, rule_keys};
 ghost use Rattle.reg_policy.specs.declared.subject.Verb.{Verb as VerbValue};
 
 use crate::document::{FromTable, ReadError, copied, string_at};
@@ -167,8 +167,7 @@ fn either_at(table: &Table, key: &str, word: &str, other: &str) -> Result<Option
 
 /// `heading` and `value`: both or neither.
 fn entry_at(alloc: Global, table: &Table) -> Result<Option<WantedEntry>, ReadError>
-    ensures { Gives (IsEntry (get_member (codes "heading") (table_view table.now))
-        (get_member (codes "value") (table_view table.now))) result }
+    ensures { Gives (IsEntryIn (table_view table.now)) result }
 {
     match (string_at(table, "heading")?, string_at(table, "value")?) {
         (None, None) => Ok(None),
