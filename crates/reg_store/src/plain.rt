@@ -1,11 +1,10 @@
 //! A keep in memory.
 
-ghost use Rattle.std.specs.Prelude.{◌≡◌, ◌<◌, ◌≤◌, ℤ, List, [], IfOk, All, false, ⊤, length, map, refl};
-ghost use Rattle.ags_check.specs.Findings.{CheckedFile};
+ghost use Rattle.std.specs.Prelude.{◌≡◌, ◌<◌, ◌≤◌, [], IfOk, All, false, ⊤, length, map, refl};
 ghost use Rattle.reg_store.specs.Keep.{deposit_of, IsHeadOf};
 ghost use Rattle.reg_store.specs.Deposit.{number_of, numbers_from};
-ghost use Rattle.reg_store.specs.Fit.{IsFit, IsFileOf, kept_rows as rows_in};
-ghost use Rattle.reg_store.specs.Project.{project_of, targets_of};
+ghost use Rattle.reg_store.specs.Fit.{IsFit, IsFileOf};
+ghost use Rattle.reg_store.specs.Reading.{HasGraph, HasKeptRows, HasProjectRow, HasTargets, OfFile};
 ghost use Rattle.reg_store.specs.PlainLaws.{few_of, fit_of};
 
 use crate::keep::{Keep, KeepError, Kept, KeptHead, KeptRow, MOST, ProjectRow, is_equal};
@@ -79,7 +78,7 @@ fn kept_of(
     bytes: &[u8],
 ) -> Result<Kept, AllocError>
     ensures { IfOk result (λ kept.
-        deposit_of kept ≡ record { firm = firm.now; project = project.now; embargo = embargo; bytes = bytes.now }) }
+        kept ≡ record { firm = firm.now; project = project.now; embargo = embargo; bytes = bytes.now }) }
 {
     Ok(Kept {
         firm: firm.clone()?,
@@ -165,8 +164,7 @@ fn checked_rows(
     kept: &Kept,
 ) -> Result<Vec<KeptRow>, AllocError>
     requires { IsFit dictionary.now (deposit_of kept.now) }
-    ensures { IfOk result (λ rows. (file : CheckedFile) → IsFileOf dictionary.now (deposit_of kept.now) file
-        → rows.items ≡ rows_in file.groups) }
+    ensures { IfOk result (λ rows. OfFile dictionary.now (deposit_of kept.now) (HasKeptRows rows)) }
 {
     let checked = recheck(alloc, dictionary, kept)?;
     kept_rows(alloc, checked.scan().groups())
@@ -175,8 +173,7 @@ fn checked_rows(
 /// The steps between the DATA rows of a deposit's file.
 fn checked_steps(alloc: Global, dictionary: &Dictionary, kept: &Kept) -> Result<Graph, AllocError>
     requires { IsFit dictionary.now (deposit_of kept.now) }
-    ensures { IfOk result (λ graph. (file : CheckedFile) → IsFileOf dictionary.now (deposit_of kept.now) file
-        → graph ≡ file.graph) }
+    ensures { IfOk result (λ graph. OfFile dictionary.now (deposit_of kept.now) (HasGraph graph)) }
 {
     let checked = recheck(alloc, dictionary, kept)?;
     copy_graph(alloc, checked.graph())
@@ -189,8 +186,7 @@ fn checked_project(
     kept: &Kept,
 ) -> Result<Option<ProjectRow>, AllocError>
     requires { IsFit dictionary.now (deposit_of kept.now) }
-    ensures { IfOk result (λ found. (file : CheckedFile) → IsFileOf dictionary.now (deposit_of kept.now) file
-        → found ≡ project_of (rows_in file.groups)) }
+    ensures { IfOk result (λ found. OfFile dictionary.now (deposit_of kept.now) (HasProjectRow found)) }
 {
     let rows = checked_rows(alloc, dictionary, kept)?;
     project_in(alloc, &rows)
@@ -204,8 +200,7 @@ fn checked_targets(
     row: u32,
 ) -> Result<Vec<u32>, AllocError>
     requires { IsFit dictionary.now (deposit_of kept.now) }
-    ensures { IfOk result (λ targets. (file : CheckedFile) → IsFileOf dictionary.now (deposit_of kept.now) file
-        → targets.items ≡ targets_of row file.graph.steps) }
+    ensures { IfOk result (λ targets. OfFile dictionary.now (deposit_of kept.now) (HasTargets row targets)) }
 {
     let checked = recheck(alloc, dictionary, kept)?;
     targets_in(alloc, checked.graph().steps(), row)
