@@ -5,7 +5,7 @@ use Rattle.ags_links.specs.Lookups.{found, pairs_of, AreInOrder}
 use Rattle.ags_links.proofs.ByText.{Pair, key}
 use Rattle.ags_links.proofs.FirstRows.{led_step, row_found, tells, tells_not}
 use Rattle.ags_links.proofs.lookup.first_rows.Goals as goal
-use Rattle.ags_links.proofs.lookup.first_rows.Goals.{then-ne, else-ne, After-index-pairs-place}
+use Rattle.ags_links.proofs.lookup.first_rows.Goals.{then-ne, else-ne}
 
 pub index_mut-requires : goal.index_mut-requires
 index_mut-requires c =
