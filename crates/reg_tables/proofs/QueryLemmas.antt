@@ -11,7 +11,7 @@ use Rattle.sqlite.specs.State.{State, Shown, ShowsRows, IsUnchanged, HasCleanDis
 use Rattle.sqlite.proofs.StateLemmas.{survives_weaker, survives_then}
 use Rattle.sqlite.proofs.Callers.{IsPlain, never_commits, unchanged_then}
 use Rattle.reg_tables.specs.Tables.{register_schema}
-use Rattle.reg_tables.specs.Quiet.{IsAsBefore, IsIdle, IsStill, clean_before}
+use Rattle.reg_tables.specs.Quiet.{IsAsBefore, IsStill, clean_before}
 
 pub plain_at : (sql : List ℕ) (s : State) → IsPlain (understood register_schema sql) → s.now.schema ≡ register_schema → IsPlain (understood s.now.schema sql)
 plain_at sql s plain has = subst (λ k. IsPlain (understood k sql)) (sym has) plain
@@ -114,20 +114,29 @@ probed P sql old new (Ok x) ok err settled is_open = (ok.1.0.was_open, ok.1.0.no
 probed P sql old new (Err e) ok err settled is_open = not_run sql [] old new e settled is_open (err [])
 
 -- the connection is asked whether it is open, and it still is: it shows what it showed from the start
-pub still_then : {P Q : Trees → Type 0} (old mid new : State) → (HasCleanDisk old → IsTrue old.is_open → old.committed ≡ old.now) → (HasCleanDisk mid → IsTrue mid.is_open → IsAsBefore old mid) → Survives old mid P
-    → (HasCleanDisk new → IsTrue new.is_open → (IsTrue mid.is_open → mid.committed ≡ mid.now) → IsAsBefore mid new) → Survives mid new Q → HasCleanDisk new → IsTrue new.is_open → IsAsBefore old new
-still_then old mid new settled stays one probe two clean is_open =
-    let early = clean_before mid new two clean in
-    let middle : IsTrue mid.is_open → mid.committed ≡ mid.now = λ o. (let was = stays early o in was.2 ∙ settled (clean_before old mid one early) was.0 ∙ sym was.1) in
-    let next = probe clean is_open middle in
-    let was = stays early next.0 in (was.0, next.1 ∙ was.1, next.2 ∙ was.2)
+pub still_then : {P : Trees → Type 0} (old mid new : State) → (HasCleanDisk mid → IsTrue mid.is_open → IsAsBefore old mid)
+    → (HasCleanDisk new → IsTrue new.is_open → IsAsBefore mid new) → Survives mid new P → HasCleanDisk new → IsTrue new.is_open → IsAsBefore old new
+still_then old mid new stays probe two clean is_open =
+    let next = probe clean is_open in
+    let was = stays (clean_before mid new two clean) next.0 in (was.0, next.1 ∙ was.1, next.2 ∙ was.2)
+
+-- what stays as it was shows what was committed, if it did so from the start
+pub settled_then : {P : Trees → Type 0} (old new : State) → (HasCleanDisk old → IsTrue old.is_open → old.committed ≡ old.now) → (HasCleanDisk new → IsTrue new.is_open → IsAsBefore old new) → Survives old new P
+    → HasCleanDisk new → IsTrue new.is_open → new.committed ≡ new.now
+settled_then old new settled stays one clean is_open = let was = stays clean is_open in was.2 ∙ settled (clean_before old new one clean) was.0 ∙ sym was.1
+
+-- so does a connection on which a change was undone
+pub settled_undone : (old new : State) → (HasCleanDisk new → IsTrue new.is_open → (new.now ≡ old.committed) × (new.committed ≡ old.committed)) → HasCleanDisk new → IsTrue new.is_open → new.committed ≡ new.now
+settled_undone old new undone clean is_open = let it = undone clean is_open in it.1 ∙ sym it.0
 
 -- what a change that failed leaves of a connection that showed no more than was committed
-pub undone_still : (old new : State) → (HasCleanDisk new → IsTrue new.is_open → IsTrue old.is_open) → (HasCleanDisk new → IsTrue new.is_open → (new.now ≡ old.committed) × (new.committed ≡ old.committed))
-    → (IsTrue old.is_open → old.committed ≡ old.now) → HasCleanDisk new → IsTrue new.is_open → IsAsBefore old new
-undone_still old new was_open undone settled clean is_open = let was = was_open clean is_open in let it = undone clean is_open in (was, it.0 ∙ settled was, it.1)
+pub undone_still : {P : Trees → Type 0} (old new : State) → (HasCleanDisk new → IsTrue new.is_open → IsTrue old.is_open) → (HasCleanDisk new → IsTrue new.is_open → (new.now ≡ old.committed) × (new.committed ≡ old.committed))
+    → (HasCleanDisk old → IsTrue old.is_open → old.committed ≡ old.now) → Survives old new P → HasCleanDisk new → IsTrue new.is_open → IsAsBefore old new
+undone_still old new was_open undone settled one clean is_open =
+    let was = was_open clean is_open in
+    let it = undone clean is_open in (was, it.0 ∙ settled (clean_before old new one clean) was, it.1)
 
-pub failed_then : (old mid new : State) → IsIdle old → new.in_transaction ≡ false → (HasCleanDisk mid → IsTrue mid.is_open → IsAsBefore old mid) → Survives old mid (λ _. ⊥)
-    → (HasCleanDisk new → IsTrue new.is_open → (IsTrue mid.is_open → mid.committed ≡ mid.now) → IsAsBefore mid new) → Survives mid new (λ _. ⊥) → IsStill old new true
-failed_then old mid new idle mode stays one probe two =
-    failed_quiet old new mode (still_then old mid new idle.settled stays one probe two) (survives_then old mid new _ _ (λ _. ⊥) (λ _ db none. none) (λ _ db none. none) one two)
+pub failed_then : (old mid new : State) → new.in_transaction ≡ false → (HasCleanDisk mid → IsTrue mid.is_open → IsAsBefore old mid) → Survives old mid (λ _. ⊥)
+    → (HasCleanDisk new → IsTrue new.is_open → IsAsBefore mid new) → Survives mid new (λ _. ⊥) → IsStill old new true
+failed_then old mid new mode stays one probe two =
+    failed_quiet old new mode (still_then old mid new stays probe two) (survives_then old mid new _ _ (λ _. ⊥) (λ _ db none. none) (λ _ db none. none) one two)

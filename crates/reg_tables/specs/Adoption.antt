@@ -2,6 +2,7 @@
 use Rattle.std.specs.Prelude.{◌≡◌, ◌≢◌, ◌≤◌, ℕ, ℤ, pos, Bool, true, false, List, length, Option, Some, None, Result, Ok, Err, Contains}
 use Rattle.sqlite.specs.Order.{Row}
 use Rattle.sqlite.specs.Effect.{Database}
+use Rattle.sqlite.specs.State.{State, HasCleanDisk}
 use Rattle.ags_rows.specs.declared.TheConstants.{READABLE}
 use Rattle.ags_dict.specs.Entries.{Entries}
 use Rattle.ags_dict.specs.Reading.{IsDictionary}
@@ -11,7 +12,7 @@ use Rattle.reg_store.specs.declared.keep.KeepError.{KeepError}
 use Rattle.reg_store.specs.declared.keep.KeepError.TheVariants as keep
 use Rattle.reg_store.specs.Deposit.{Deposit}
 use Rattle.reg_tables.specs.Formats.{HasFormat, IsFormatRow}
-use Rattle.reg_tables.specs.Register.{IsRegister, meta_columns}
+use Rattle.reg_tables.specs.Register.{IsRegister, deposits_in, meta_columns}
 use Rattle.reg_tables.specs.Whole.{HasMeta}
 
 -- What is answered where a query is refused.
@@ -34,6 +35,10 @@ gives_up (Err e) = is_store_failure e
 -- The rows of meta, ordered by name, are those of format 1, and the dictionary's bytes read as these entries.
 abbrev pub ReadsAs : List Row → Entries → Type 0
 ReadsAs rows dictionary = (text : List ℕ) × (rows ≡ meta_columns text) × (length text ≤ READABLE) × IsDictionary text dictionary
+
+-- The bytes are too long for the dictionary of a register, or they are no dictionary.
+abbrev pub AreNoKeptDictionary : List ℕ → Type 0
+AreNoKeptDictionary text = (dictionary : Entries) → length text ≤ READABLE → IsDictionary text dictionary → ⊥
 
 -- A row `format` with this number is among the rows of meta.
 abbrev pub HasFormatRow : List Row → ℤ → Type 0
@@ -68,3 +73,7 @@ Adopts db (Err (Version n)) = (n ≢ pos 1) × HasFormat db n
 Adopts db (Err NotRegister) = ((n : ℤ) → HasFormat db n → n ≡ pos 1) × ((dictionary : Entries) (list : List Deposit) → IsRegister db dictionary list → ⊥)
 Adopts db (Err Store) = Unit {0}
 Adopts db (Err NoMemory) = Unit {0}
+
+-- On a clean disk, the tables from before are a register of this dictionary and of the list that is committed now.
+abbrev pub AdoptsRegister : Entries → State → State → Type 0
+AdoptsRegister dictionary old new = HasCleanDisk new → ∥ IsRegister old.now dictionary (deposits_in new.committed.trees) ∥₁

@@ -11,7 +11,7 @@ use Rattle.sqlite.specs.Table.{Table}
 use Rattle.sqlite.specs.Compile.{table_defined_by}
 use Rattle.sqlite.specs.Tree.{Trees}
 use Rattle.sqlite.specs.Effect.{Database, IsDatabase}
-use Rattle.sqlite.specs.State.{State, Writes, Executes}
+use Rattle.sqlite.specs.State.{State, HasCleanDisk, Survives, Writes, Executes}
 use Rattle.sqlite.proofs.Callers.{runs_as}
 use Rattle.ags_rows.specs.declared.TheConstants.{READABLE}
 use Rattle.ags_dict.specs.Entries.{Entries}
@@ -22,7 +22,7 @@ use Rattle.reg_tables.specs.Meaning.{meta_is, deposits_is, lines_is, steps_is, w
 use Rattle.reg_tables.specs.Rows.{deposit_columns, columns_3, columns_5, meta_rows, rows_under}
 use Rattle.reg_tables.specs.Inserts.{FillsMeta, same_value, went}
 use Rattle.std.specs.Prelude.{codes}
-use Rattle.reg_tables.specs.Register.{meta_columns, IsRegister}
+use Rattle.reg_tables.specs.Register.{deposits_in, meta_columns, IsRegister}
 
 -- the text makes this table under this schema: the schema with it, its tree empty, the trees of the other tables kept
 pub record Made (from to : Schema) (old new : Database) : Type 0 where
@@ -84,9 +84,21 @@ pub record IsNewRegister (text : List ℕ) (db : Database) : Type 0 where
   pub lines : db.trees 3 ≡ []
   pub steps : db.trees 5 ≡ []
 
+-- On a clean disk the connection shows an empty register.
+abbrev pub ShowsNewRegister : List ℕ → State → Type 0
+ShowsNewRegister text s = HasCleanDisk s → IsNewRegister text s.now
+
+-- On a clean disk no deposit is committed.
+abbrev pub HasNoDeposit : State → Type 0
+HasNoDeposit s = HasCleanDisk s → deposits_in s.committed.trees ≡ []
+
 -- What a crash within the making may leave beside what was there: an empty register, and that only where there was no table.
 abbrev pub LeavesNew : State → List ℕ → Trees → Type 0
 LeavesNew old text trees = (old.now.schema ≡ no_schema) × ((db : Database) × IsNewRegister text db × (trees ≡ db.trees))
+
+-- No fault is forgotten, and a crash leaves what it left before or, where there was no table, an empty register.
+abbrev pub SurvivesMaking : List ℕ → State → State → Type 0
+SurvivesMaking text old new = Survives old new (LeavesNew old text)
 
 pub first_two : (a b c : Database) → Made no_schema with_meta a b → Made with_meta with_deposits b c → HasFirst c
 first_two a b c one two = record { schema = two.schema; meta = two.others.0 ∙ one.empty; deposits = two.empty }

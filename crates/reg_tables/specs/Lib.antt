@@ -8,6 +8,7 @@ pub mod Inside
 pub mod Filed
 pub mod Register
 pub mod Quiet
+pub mod Commits
 pub mod Pushes
 pub mod RegisterLaws
 pub mod Digests

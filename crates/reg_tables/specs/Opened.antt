@@ -1,14 +1,16 @@
 -- What the opening of a register in files says of what the files held. The image stands for that: their bytes as they were opened.
-use Rattle.std.specs.Prelude.{◌≡◌, List, Err}
+use Rattle.std.specs.Prelude.{◌≡◌, ◌≢◌, List, Err}
 use Rattle.sqlite.specs.Recovery.{Image}
 use Rattle.sqlite.specs.Schema.{Schema}
 use Rattle.sqlite.specs.Tree.{Trees}
 use Rattle.sqlite.specs.Effect.{Database, IsDatabase}
+use Rattle.sqlite.specs.State.{State, HasCleanDisk}
 use Rattle.sqlite.specs.Files.{AreFoundIn, HoldsDatabase}
 use Rattle.ags_dict.specs.Entries.{Entries}
 use Rattle.reg_tables.specs.declared.adopting.AdoptError.{AdoptError}
 use Rattle.reg_store.specs.Deposit.{Deposit}
-use Rattle.reg_tables.specs.Register.{IsRegister}
+use Rattle.reg_tables.specs.Tables.{no_schema}
+use Rattle.reg_tables.specs.Register.{IsRegister, deposits_in}
 use Rattle.reg_tables.specs.Adoption.{Adopts}
 
 -- An open finds these tables: those that the files recover to, or none where the files hold nothing; a database that the files hold is no other.
@@ -21,6 +23,10 @@ pub record HoldsRegister (image : Image) (dictionary : Entries) (list : List Dep
   pub db : Database
   pub found : FindsTables image db.trees
   pub register : IsRegister db dictionary list
+
+-- On a clean disk, an open finds a register of the list that the connection has committed.
+abbrev pub AdoptsFiles : Image → Entries → State → Type 0
+AdoptsFiles image dictionary s = HasCleanDisk s → ∥ HoldsRegister image dictionary (deposits_in s.committed.trees) ∥₁
 
 -- An open finds a sound database, and this is what it is answered where it is adopted.
 pub record RefusesFiles (image : Image) (error : AdoptError) : Type 0 where
@@ -35,3 +41,11 @@ pub record FindsSchema (image : Image) (Has : Schema → Type 0) : Type 0 where
   pub sound : IsDatabase db
   pub found : FindsTables image db.trees
   pub has : Has db.schema
+
+-- On a clean disk, an open finds a sound database without a table, an index and a view.
+abbrev pub FindsEmpty : Image → State → Type 0
+FindsEmpty image s = HasCleanDisk s → FindsSchema image (λ schema. schema ≡ no_schema)
+
+-- On a clean disk, an open finds a sound database with a table, an index or a view.
+abbrev pub FindsNotEmpty : Image → State → Type 0
+FindsNotEmpty image s = HasCleanDisk s → FindsSchema image (λ schema. schema ≢ no_schema)

@@ -29,6 +29,10 @@ ShowsTheSame old new = (new.now ≡ old.now) × (new.committed ≡ old.committed
 abbrev pub IsAsBefore : State → State → Type 0
 IsAsBefore old new = IsTrue old.is_open × (new.now ≡ old.now) × (new.committed ≡ old.committed)
 
+-- On a clean disk the connection shows what it showed, and what is committed is what was.
+abbrev pub StaysIfClean : State → State → Type 0
+StaysIfClean old new = HasCleanDisk new → ShowsTheSame old new
+
 -- On a clean disk the connection is as before, where it is open.
 abbrev pub StaysIfOpen : State → State → Type 0
 StaysIfOpen old new = HasCleanDisk new → IsTrue new.is_open → IsAsBefore old new

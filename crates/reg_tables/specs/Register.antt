@@ -8,7 +8,7 @@ use Rattle.sqlite.specs.declared.types.Value.TheVariants.{Int, Text as Words, Bl
 use Rattle.sqlite.specs.Order.{Row, bytes, column, value_cmp}
 use Rattle.sqlite.specs.Tree.{Trees}
 use Rattle.sqlite.specs.Effect.{Database, IsDatabase}
-use Rattle.sqlite.specs.State.{State}
+use Rattle.sqlite.specs.State.{State, HasCleanDisk}
 use Rattle.ags_rows.specs.declared.TheConstants.{READABLE}
 use Rattle.ags_dict.specs.Entries.{Entries}
 use Rattle.ags_dict.specs.Reading.{IsDictionary}
@@ -101,3 +101,7 @@ pub record KeepsRegister (s : State) (dictionary : Entries) (count : ℕ) : Type
   pub settled : s.committed ≡ s.now
   pub register : IsRegister s.now dictionary (deposits_in s.committed.trees)
   pub counted : count ≡ length (deposits_in s.committed.trees)
+
+-- On a clean disk the connection is that of a keep that has not failed.
+abbrev pub KeepsIfClean : State → Entries → ℕ → Type 0
+KeepsIfClean s dictionary count = HasCleanDisk s → ∥ KeepsRegister s dictionary count ∥₁

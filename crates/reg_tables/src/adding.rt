@@ -1,15 +1,15 @@
 //! A checked file as a deposit of the tables.
 
-ghost use Rattle.std.specs.Prelude.{◌≡◌, ◌≢◌, pos, false, IsTrue, IfErr, OnOk, OnErr};
+ghost use Rattle.std.specs.Prelude.{◌≡◌, ◌≢◌, pos, false, IsTrue, IfErr, OnOk};
 ghost use Rattle.sqlite.specs.Effect.{IsDatabase};
-ghost use Rattle.sqlite.specs.State.{HasCleanDisk, Survives};
+ghost use Rattle.sqlite.specs.State.{HasCleanDisk};
 ghost use Rattle.sqlite.specs.Held.{state};
 ghost use Rattle.reg_policy.specs.Days.{is_day_number};
-ghost use Rattle.reg_store.specs.Fit.{IsNamed, kept_rows};
+ghost use Rattle.reg_store.specs.Fit.{IsNamed};
 ghost use Rattle.reg_store.specs.Keep.{fails};
-ghost use Rattle.reg_tables.specs.Inserts.{AddsFile};
-ghost use Rattle.reg_tables.specs.KeepLaws.{PutsOf};
-ghost use Rattle.reg_tables.specs.Quiet.{IsIdle, IsUndone};
+ghost use Rattle.reg_tables.specs.Commits.{CommitsAll, UndoesUnlessFailed};
+ghost use Rattle.reg_tables.specs.Filed.{AddsChecked, SurvivesAdding};
+ghost use Rattle.reg_tables.specs.Quiet.{IsIdle};
 ghost use Rattle.reg_tables.specs.Rows.{deposit_from};
 
 use crate::lines::few_rows;
@@ -42,25 +42,22 @@ pub(crate) fn add_checked<S: Alter>(
     requires is_open { HasCleanDisk (state S.Store conn.old) → IsTrue (state S.Store conn.old).is_open }
 
     // The deposit at success, as it is added and committed.
-    ensures put { HasCleanDisk (state S.Store conn.new) → OnOk result (AddsFile number
-        (deposit_from firm.now project.now embargo checked.now.bytes) (kept_rows checked.now.groups) checked.now.graph.steps
-        (state S.Store conn.old).now (state S.Store conn.new).now) }
-    ensures settled { HasCleanDisk (state S.Store conn.new)
-        → OnOk result ((state S.Store conn.new).committed ≡ (state S.Store conn.new).now) }
+    ensures put { AddsChecked result number firm.now project.now embargo checked.now
+        (state S.Store conn.old) (state S.Store conn.new) }
+    ensures settled { CommitsAll result (state S.Store conn.new) }
     ensures sound { HasCleanDisk (state S.Store conn.new) → OnOk result (IsDatabase (state S.Store conn.new).now) }
 
     // Which refusal never comes, and what is undone at one that is not `Store`.
     ensures named { IfErr result (λ e. e ≢ KeepError.Full) }
-    ensures undone { HasCleanDisk (state S.Store conn.new) → fails result ≡ false
-        → OnErr result (IsUndone (state S.Store conn.old) (state S.Store conn.new)) }
+    ensures undone { UndoesUnlessFailed result (state S.Store conn.old) (state S.Store conn.new) }
 
     // Deposit, transaction and connection in either case, and what a crash may leave.
     ensures mode { conn.new.in_transaction ≡ false }
     ensures fit { IsNamed (deposit_from firm.now project.now embargo checked.now.bytes) }
     ensures open { HasCleanDisk (state S.Store conn.new) → fails result ≡ false
         → IsTrue (state S.Store conn.new).is_open }
-    ensures crash { Survives (state S.Store conn.old) (state S.Store conn.new) (PutsOf (state S.Store conn.old) number
-        (deposit_from firm.now project.now embargo checked.now.bytes) (kept_rows checked.now.groups) checked.now.graph.steps) }
+    ensures crash { SurvivesAdding number firm.now project.now embargo checked.now
+        (state S.Store conn.old) (state S.Store conn.new) }
 {
     let filed = Filed {
         number,

@@ -5,10 +5,9 @@ ghost use Rattle.sqlite.specs.Order.{Row as Values};
 ghost use Rattle.reg_tables.specs.Rows.{placed_row, placed_rows, step_pair};
 ghost use Rattle.reg_tables.specs.Register.{meta_columns};
 ghost use Rattle.reg_tables.specs.Adopts.{number_rows};
-ghost use Rattle.ags_dict.specs.Entries.{Entries};
 ghost use Rattle.ags_dict.specs.Reading.{IsDictionary};
 ghost use Rattle.reg_tables.specs.Formats.{IsFormatRow};
-ghost use Rattle.reg_tables.specs.Adoption.{ReadsMeta};
+ghost use Rattle.reg_tables.specs.Adoption.{AreNoKeptDictionary, ReadsMeta};
 
 use crate::values::{holds, is_row};
 use ags_dict::{DictError, Dictionary};
@@ -120,8 +119,7 @@ pub(crate) fn meta_text<'a>(rows: &'a [Row]) -> Option<&'a [u8]>
 /// The dictionary that the bytes are.
 fn read_kept_dictionary(alloc: Global, text: &[u8]) -> Result<Dictionary, AdoptError>
     ensures read { IfOk result (λ dictionary. (length text.now ≤ READABLE) × IsDictionary text.now dictionary) }
-    ensures refused { result ≡ Err AdoptError.NotRegister → (dictionary : Entries) → length text.now ≤ READABLE
-        → IsDictionary text.now dictionary → ⊥ }
+    ensures refused { result ≡ Err AdoptError.NotRegister → AreNoKeptDictionary text.now }
     ensures named { IfErr result (λ e. (e ≡ AdoptError.NotRegister) ⊎ (e ≡ AdoptError.NoMemory)) }
 {
     if text.len() > READABLE {

@@ -6,9 +6,10 @@ ghost use Rattle.sqlite.specs.State.{HasCleanDisk, Survives};
 ghost use Rattle.sqlite.specs.Held.{state};
 ghost use Rattle.reg_tables.specs.Tables.{no_schema};
 ghost use Rattle.reg_store.specs.Keep.{fails};
-ghost use Rattle.reg_tables.specs.Quiet.{IsAsBefore, IsSettled, IsUndone};
-ghost use Rattle.reg_tables.specs.Inside.{ChangesInside, CommitsNothing, HasSchema, HasTransaction};
-ghost use Rattle.reg_tables.specs.Creates.{HasFirst, HasAll, IsNewRegister, LeavesNew};
+ghost use Rattle.reg_tables.specs.Quiet.{IsSettled, StaysIfOpen};
+ghost use Rattle.reg_tables.specs.Commits.{CommitsAll, UndoesIfOpen, UndoesUnlessFailed, WasOpenIfOpen};
+ghost use Rattle.reg_tables.specs.Inside.{ChangesInside, CommitsNothing, HasSchema, HasTransaction, state_in};
+ghost use Rattle.reg_tables.specs.Creates.{HasFirst, HasAll, IsNewRegister, SurvivesMaking};
 
 use crate::queries::{is_memory, is_open};
 use crate::running::run;
@@ -17,13 +18,12 @@ use sqlite::{Alter, Connection, Error, Transaction, params};
 
 #[tactic(auto, using(crate::proofs::AddsLemmas::kept_then))]
 fn create_first<S: Alter>(tx: &mut Transaction<'_, S>) -> Result<(), Error>
-    requires inside { HasTransaction (state S.Store tx.old.conn.now) }
-    requires schema { HasSchema (state S.Store tx.old.conn.now) no_schema }
+    requires inside { HasTransaction (state_in S.Store tx.old) }
+    requires schema { HasSchema (state_in S.Store tx.old) no_schema }
     ensures same_reference { tx.new.conn.ghost_name ≡ tx.old.conn.ghost_name }
-    ensures made { ChangesInside result (λ _ db. HasFirst db)
-        (state S.Store tx.old.conn.now) (state S.Store tx.new.conn.now) }
-    ensures kept { CommitsNothing (state S.Store tx.old.conn.now) (state S.Store tx.new.conn.now) }
-    ensures survives { Survives (state S.Store tx.old.conn.now) (state S.Store tx.new.conn.now) (λ _. ⊥) }
+    ensures made { ChangesInside result (λ _ db. HasFirst db) (state_in S.Store tx.old) (state_in S.Store tx.new) }
+    ensures kept { CommitsNothing (state_in S.Store tx.old) (state_in S.Store tx.new) }
+    ensures survives { Survives (state_in S.Store tx.old) (state_in S.Store tx.new) (λ _. ⊥) }
 {
     run(
         tx,
@@ -39,13 +39,12 @@ fn create_first<S: Alter>(tx: &mut Transaction<'_, S>) -> Result<(), Error>
 
 #[tactic(auto, using(crate::proofs::AddsLemmas::kept_then))]
 fn create_second<S: Alter>(tx: &mut Transaction<'_, S>) -> Result<(), Error>
-    requires inside { HasTransaction (state S.Store tx.old.conn.now) }
-    requires first { HasCleanDisk (state S.Store tx.old.conn.now) → HasFirst (state S.Store tx.old.conn.now).now }
+    requires inside { HasTransaction (state_in S.Store tx.old) }
+    requires first { HasCleanDisk (state_in S.Store tx.old) → HasFirst (state_in S.Store tx.old).now }
     ensures same_reference { tx.new.conn.ghost_name ≡ tx.old.conn.ghost_name }
-    ensures made { ChangesInside result (λ _ db. HasAll db)
-        (state S.Store tx.old.conn.now) (state S.Store tx.new.conn.now) }
-    ensures kept { CommitsNothing (state S.Store tx.old.conn.now) (state S.Store tx.new.conn.now) }
-    ensures survives { Survives (state S.Store tx.old.conn.now) (state S.Store tx.new.conn.now) (λ _. ⊥) }
+    ensures made { ChangesInside result (λ _ db. HasAll db) (state_in S.Store tx.old) (state_in S.Store tx.new) }
+    ensures kept { CommitsNothing (state_in S.Store tx.old) (state_in S.Store tx.new) }
+    ensures survives { Survives (state_in S.Store tx.old) (state_in S.Store tx.new) (λ _. ⊥) }
 {
     run(
         tx,
@@ -61,13 +60,13 @@ fn create_second<S: Alter>(tx: &mut Transaction<'_, S>) -> Result<(), Error>
 
 #[tactic(auto, using(crate::proofs::AddsLemmas::kept_then))]
 fn make_tables<S: Alter>(tx: &mut Transaction<'_, S>, dictionary: &[u8]) -> Result<(), Error>
-    requires inside { HasTransaction (state S.Store tx.old.conn.now) }
-    requires schema { HasSchema (state S.Store tx.old.conn.now) no_schema }
+    requires inside { HasTransaction (state_in S.Store tx.old) }
+    requires schema { HasSchema (state_in S.Store tx.old) no_schema }
     ensures same_reference { tx.new.conn.ghost_name ≡ tx.old.conn.ghost_name }
     ensures made { ChangesInside result (λ _ db. IsNewRegister dictionary.now db)
-        (state S.Store tx.old.conn.now) (state S.Store tx.new.conn.now) }
-    ensures kept { CommitsNothing (state S.Store tx.old.conn.now) (state S.Store tx.new.conn.now) }
-    ensures survives { Survives (state S.Store tx.old.conn.now) (state S.Store tx.new.conn.now) (λ _. ⊥) }
+        (state_in S.Store tx.old) (state_in S.Store tx.new) }
+    ensures kept { CommitsNothing (state_in S.Store tx.old) (state_in S.Store tx.new) }
+    ensures survives { Survives (state_in S.Store tx.old) (state_in S.Store tx.new) (λ _. ⊥) }
 {
     create_first(tx)?;
     create_second(tx)?;
@@ -87,19 +86,15 @@ fn make_all<S: Alter>(conn: &mut Connection<S>, dictionary: &[u8]) -> Result<(),
     ensures open { HasCleanDisk (state S.Store conn.new) → OnOk result (IsTrue (state S.Store conn.new).is_open) }
     ensures put { HasCleanDisk (state S.Store conn.new)
         → OnOk result (IsNewRegister dictionary.now (state S.Store conn.new).now) }
-    ensures settled { HasCleanDisk (state S.Store conn.new)
-        → OnOk result ((state S.Store conn.new).committed ≡ (state S.Store conn.new).now) }
+    ensures settled { CommitsAll result (state S.Store conn.new) }
 
     // After an error that leaves the connection open: it was open before, and all is undone.
-    ensures was_open { HasCleanDisk (state S.Store conn.new) → IsTrue (state S.Store conn.new).is_open
-        → OnErr result (IsTrue (state S.Store conn.old).is_open) }
-    ensures undone { HasCleanDisk (state S.Store conn.new) → IsTrue (state S.Store conn.new).is_open
-        → OnErr result (IsUndone (state S.Store conn.old) (state S.Store conn.new)) }
+    ensures was_open { WasOpenIfOpen result (state S.Store conn.old) (state S.Store conn.new) }
+    ensures undone { UndoesIfOpen result (state S.Store conn.old) (state S.Store conn.new) }
 
     // The transaction in either case, and what a crash may leave.
     ensures mode { conn.new.in_transaction ≡ false }
-    ensures crash { Survives (state S.Store conn.old) (state S.Store conn.new)
-        (LeavesNew (state S.Store conn.old) dictionary.now) }
+    ensures crash { SurvivesMaking dictionary.now (state S.Store conn.old) (state S.Store conn.new) }
 {
     let mut tx = conn.transaction();
     make_tables(&mut tx, dictionary)?;
@@ -108,37 +103,33 @@ fn make_all<S: Alter>(conn: &mut Connection<S>, dictionary: &[u8]) -> Result<(),
 }
 
 /// Makes the tables of a register in one transaction. Want of memory is answered only where nothing changed.
-#[tactic(auto, using(crate::proofs::QueryLemmas::still_then, crate::proofs::QueryLemmas::undone_still))]
+#[tactic(auto, using(crate::proofs::QueryLemmas::settled_undone, crate::proofs::QueryLemmas::still_then, crate::proofs::QueryLemmas::undone_still))]
 pub(crate) fn make_register<S: Alter>(
     conn: &mut Connection<S>,
     dictionary: &[u8],
 ) -> Result<(), KeepError>
     requires mode { conn.old.in_transaction ≡ false }
     requires schema { HasCleanDisk (state S.Store conn.old) → (state S.Store conn.old).now.schema ≡ no_schema }
+    requires settled { HasCleanDisk (state S.Store conn.old) → IsSettled (state S.Store conn.old) }
 
     // The new register at success, as it is committed.
     ensures put { HasCleanDisk (state S.Store conn.new)
         → OnOk result (IsNewRegister dictionary.now (state S.Store conn.new).now) }
-    ensures settled { HasCleanDisk (state S.Store conn.new)
-        → OnOk result ((state S.Store conn.new).committed ≡ (state S.Store conn.new).now) }
+    ensures settled { CommitsAll result (state S.Store conn.new) }
     ensures sound { HasCleanDisk (state S.Store conn.new) → OnOk result (IsDatabase (state S.Store conn.new).now) }
 
     // Which refusal never comes, and what the others say of the connection.
     ensures named { IfErr result (λ e. e ≢ KeepError.Full) }
     ensures was_open { HasCleanDisk (state S.Store conn.new) → fails result ≡ false
         → OnErr result (IsTrue (state S.Store conn.old).is_open) }
-    ensures undone { HasCleanDisk (state S.Store conn.new) → fails result ≡ false
-        → OnErr result (IsUndone (state S.Store conn.old) (state S.Store conn.new)) }
-    ensures still { HasCleanDisk (state S.Store conn.new) → IsTrue (state S.Store conn.new).is_open
-        → IsSettled (state S.Store conn.old)
-        → OnErr result (IsAsBefore (state S.Store conn.old) (state S.Store conn.new)) }
+    ensures undone { UndoesUnlessFailed result (state S.Store conn.old) (state S.Store conn.new) }
+    ensures still { OnErr result (StaysIfOpen (state S.Store conn.old) (state S.Store conn.new)) }
 
     // Transaction and connection in either case, and what a crash may leave.
     ensures mode { conn.new.in_transaction ≡ false }
     ensures open { HasCleanDisk (state S.Store conn.new) → fails result ≡ false
         → IsTrue (state S.Store conn.new).is_open }
-    ensures crash { Survives (state S.Store conn.old) (state S.Store conn.new)
-        (LeavesNew (state S.Store conn.old) dictionary.now) }
+    ensures crash { SurvivesMaking dictionary.now (state S.Store conn.old) (state S.Store conn.new) }
 {
     match make_all(conn, dictionary) {
         Ok(()) => {

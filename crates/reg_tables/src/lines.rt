@@ -2,13 +2,12 @@
 
 ghost use Rattle.std.specs.Prelude.{◌≡◌, ◌+◌, ◌<◌, ◌≤◌, ◌^◌, [], ◌∷◌, ◌++◌, length, IfOk, IsTrue, OnOk};
 ghost use Rattle.sqlite.specs.State.{HasCleanDisk, Survives};
-ghost use Rattle.sqlite.specs.Held.{state};
 ghost use Rattle.reg_tables.specs.Tables.{register_schema};
 ghost use Rattle.sqlite.specs.Values.{bound};
 ghost use Rattle.reg_store.specs.Fit.{kept_rows as rows_in};
 ghost use Rattle.reg_tables.specs.Rows.{joined, line_row, line_rows, step_row, step_rows};
 ghost use Rattle.reg_tables.specs.Inserts.{AddsLines, AddsSteps};
-ghost use Rattle.reg_tables.specs.Inside.{ChangesInside, CommitsNothing, HasSchema, HasTransaction};
+ghost use Rattle.reg_tables.specs.Inside.{ChangesInside, CommitsNothing, HasSchema, HasTransaction, state_in};
 
 use crate::running::run;
 use ags_rows::Group;
@@ -40,13 +39,13 @@ fn insert_line<S: Alter>(
     at: u32,
     row: &KeptRow,
 ) -> Result<(), Error>
-    requires inside { HasTransaction (state S.Store tx.old.conn.now) }
-    requires schema { HasSchema (state S.Store tx.old.conn.now) register_schema }
+    requires inside { HasTransaction (state_in S.Store tx.old) }
+    requires schema { HasSchema (state_in S.Store tx.old) register_schema }
     ensures same_reference { tx.new.conn.ghost_name ≡ tx.old.conn.ghost_name }
     ensures put { ChangesInside result (AddsLines (line_row number at row.now ∷ []))
-        (state S.Store tx.old.conn.now) (state S.Store tx.new.conn.now) }
-    ensures kept { CommitsNothing (state S.Store tx.old.conn.now) (state S.Store tx.new.conn.now) }
-    ensures survives { Survives (state S.Store tx.old.conn.now) (state S.Store tx.new.conn.now) (λ _. ⊥) }
+        (state_in S.Store tx.old) (state_in S.Store tx.new) }
+    ensures kept { CommitsNothing (state_in S.Store tx.old) (state_in S.Store tx.new) }
+    ensures survives { Survives (state_in S.Store tx.old) (state_in S.Store tx.new) (λ _. ⊥) }
 {
     let Ok(group) = std::str::from_utf8(row.group.as_slice()) else {
         return Err(Error::SqliteFailure(ErrorCode::TypeMismatch));
@@ -102,13 +101,13 @@ fn insert_eight_lines<S: Alter>(
 ) -> Result<(), Error>
     requires eight { length rows.now ≡ 8 }
     requires few { from + 8 ≤ 2 ^ 32 }
-    requires inside { HasTransaction (state S.Store tx.old.conn.now) }
-    requires schema { HasSchema (state S.Store tx.old.conn.now) register_schema }
+    requires inside { HasTransaction (state_in S.Store tx.old) }
+    requires schema { HasSchema (state_in S.Store tx.old) register_schema }
     ensures same_reference { tx.new.conn.ghost_name ≡ tx.old.conn.ghost_name }
     ensures put { ChangesInside result (AddsLines (line_rows number from rows.now))
-        (state S.Store tx.old.conn.now) (state S.Store tx.new.conn.now) }
-    ensures kept { CommitsNothing (state S.Store tx.old.conn.now) (state S.Store tx.new.conn.now) }
-    ensures survives { Survives (state S.Store tx.old.conn.now) (state S.Store tx.new.conn.now) (λ _. ⊥) }
+        (state_in S.Store tx.old) (state_in S.Store tx.new) }
+    ensures kept { CommitsNothing (state_in S.Store tx.old) (state_in S.Store tx.new) }
+    ensures survives { Survives (state_in S.Store tx.old) (state_in S.Store tx.new) (λ _. ⊥) }
 {
     let values = line_values(alloc, number, from, rows)?;
     run(
@@ -126,14 +125,14 @@ fn insert_each_line<S: Alter>(
     rows: &[KeptRow],
 ) -> Result<(), Error>
     requires few { from + length rows.now ≤ 2 ^ 32 }
-    requires inside { HasTransaction (state S.Store tx.old.conn.now) }
-    requires is_open { HasCleanDisk (state S.Store tx.old.conn.now) → IsTrue (state S.Store tx.old.conn.now).is_open }
-    requires schema { HasSchema (state S.Store tx.old.conn.now) register_schema }
+    requires inside { HasTransaction (state_in S.Store tx.old) }
+    requires is_open { HasCleanDisk (state_in S.Store tx.old) → IsTrue (state_in S.Store tx.old).is_open }
+    requires schema { HasSchema (state_in S.Store tx.old) register_schema }
     ensures same_reference { tx.new.conn.ghost_name ≡ tx.old.conn.ghost_name }
     ensures put { ChangesInside result (AddsLines (line_rows number from rows.now))
-        (state S.Store tx.old.conn.now) (state S.Store tx.new.conn.now) }
-    ensures kept { CommitsNothing (state S.Store tx.old.conn.now) (state S.Store tx.new.conn.now) }
-    ensures survives { Survives (state S.Store tx.old.conn.now) (state S.Store tx.new.conn.now) (λ _. ⊥) }
+        (state_in S.Store tx.old) (state_in S.Store tx.new) }
+    ensures kept { CommitsNothing (state_in S.Store tx.old) (state_in S.Store tx.new) }
+    ensures survives { Survives (state_in S.Store tx.old) (state_in S.Store tx.new) (λ _. ⊥) }
 {
     for (i, row) in rows.iter().enumerate() {
         insert_line(tx, number, from + i as u32, row)?;
@@ -150,14 +149,14 @@ pub(crate) fn insert_lines<S: Alter>(
     rows: &[KeptRow],
 ) -> Result<(), Error>
     requires few { length rows.now < 2 ^ 32 }
-    requires inside { HasTransaction (state S.Store tx.old.conn.now) }
-    requires is_open { HasCleanDisk (state S.Store tx.old.conn.now) → IsTrue (state S.Store tx.old.conn.now).is_open }
-    requires schema { HasSchema (state S.Store tx.old.conn.now) register_schema }
+    requires inside { HasTransaction (state_in S.Store tx.old) }
+    requires is_open { HasCleanDisk (state_in S.Store tx.old) → IsTrue (state_in S.Store tx.old).is_open }
+    requires schema { HasSchema (state_in S.Store tx.old) register_schema }
     ensures same_reference { tx.new.conn.ghost_name ≡ tx.old.conn.ghost_name }
     ensures put { ChangesInside result (AddsLines (line_rows number 0 rows.now))
-        (state S.Store tx.old.conn.now) (state S.Store tx.new.conn.now) }
-    ensures kept { CommitsNothing (state S.Store tx.old.conn.now) (state S.Store tx.new.conn.now) }
-    ensures survives { Survives (state S.Store tx.old.conn.now) (state S.Store tx.new.conn.now) (λ _. ⊥) }
+        (state_in S.Store tx.old) (state_in S.Store tx.new) }
+    ensures kept { CommitsNothing (state_in S.Store tx.old) (state_in S.Store tx.new) }
+    ensures survives { Survives (state_in S.Store tx.old) (state_in S.Store tx.new) (λ _. ⊥) }
 {
     for part in 0..rows.len() / TOGETHER {
         let at = part * TOGETHER;
@@ -173,13 +172,13 @@ fn insert_step<S: Alter>(
     number: u32,
     step: (u32, u32),
 ) -> Result<(), Error>
-    requires inside { HasTransaction (state S.Store tx.old.conn.now) }
-    requires schema { HasSchema (state S.Store tx.old.conn.now) register_schema }
+    requires inside { HasTransaction (state_in S.Store tx.old) }
+    requires schema { HasSchema (state_in S.Store tx.old) register_schema }
     ensures same_reference { tx.new.conn.ghost_name ≡ tx.old.conn.ghost_name }
     ensures put { ChangesInside result (AddsSteps (step_row number step ∷ []))
-        (state S.Store tx.old.conn.now) (state S.Store tx.new.conn.now) }
-    ensures kept { CommitsNothing (state S.Store tx.old.conn.now) (state S.Store tx.new.conn.now) }
-    ensures survives { Survives (state S.Store tx.old.conn.now) (state S.Store tx.new.conn.now) (λ _. ⊥) }
+        (state_in S.Store tx.old) (state_in S.Store tx.new) }
+    ensures kept { CommitsNothing (state_in S.Store tx.old) (state_in S.Store tx.new) }
+    ensures survives { Survives (state_in S.Store tx.old) (state_in S.Store tx.new) (λ _. ⊥) }
 {
     run(
         tx,
@@ -224,13 +223,13 @@ fn insert_eight_steps<S: Alter>(
     steps: &[(u32, u32)],
 ) -> Result<(), Error>
     requires eight { length steps.now ≡ 8 }
-    requires inside { HasTransaction (state S.Store tx.old.conn.now) }
-    requires schema { HasSchema (state S.Store tx.old.conn.now) register_schema }
+    requires inside { HasTransaction (state_in S.Store tx.old) }
+    requires schema { HasSchema (state_in S.Store tx.old) register_schema }
     ensures same_reference { tx.new.conn.ghost_name ≡ tx.old.conn.ghost_name }
     ensures put { ChangesInside result (AddsSteps (step_rows number steps.now))
-        (state S.Store tx.old.conn.now) (state S.Store tx.new.conn.now) }
-    ensures kept { CommitsNothing (state S.Store tx.old.conn.now) (state S.Store tx.new.conn.now) }
-    ensures survives { Survives (state S.Store tx.old.conn.now) (state S.Store tx.new.conn.now) (λ _. ⊥) }
+        (state_in S.Store tx.old) (state_in S.Store tx.new) }
+    ensures kept { CommitsNothing (state_in S.Store tx.old) (state_in S.Store tx.new) }
+    ensures survives { Survives (state_in S.Store tx.old) (state_in S.Store tx.new) (λ _. ⊥) }
 {
     let values = step_values(alloc, number, steps)?;
     run(
@@ -246,14 +245,14 @@ fn insert_each_step<S: Alter>(
     number: u32,
     steps: &[(u32, u32)],
 ) -> Result<(), Error>
-    requires inside { HasTransaction (state S.Store tx.old.conn.now) }
-    requires is_open { HasCleanDisk (state S.Store tx.old.conn.now) → IsTrue (state S.Store tx.old.conn.now).is_open }
-    requires schema { HasSchema (state S.Store tx.old.conn.now) register_schema }
+    requires inside { HasTransaction (state_in S.Store tx.old) }
+    requires is_open { HasCleanDisk (state_in S.Store tx.old) → IsTrue (state_in S.Store tx.old).is_open }
+    requires schema { HasSchema (state_in S.Store tx.old) register_schema }
     ensures same_reference { tx.new.conn.ghost_name ≡ tx.old.conn.ghost_name }
     ensures put { ChangesInside result (AddsSteps (step_rows number steps.now))
-        (state S.Store tx.old.conn.now) (state S.Store tx.new.conn.now) }
-    ensures kept { CommitsNothing (state S.Store tx.old.conn.now) (state S.Store tx.new.conn.now) }
-    ensures survives { Survives (state S.Store tx.old.conn.now) (state S.Store tx.new.conn.now) (λ _. ⊥) }
+        (state_in S.Store tx.old) (state_in S.Store tx.new) }
+    ensures kept { CommitsNothing (state_in S.Store tx.old) (state_in S.Store tx.new) }
+    ensures survives { Survives (state_in S.Store tx.old) (state_in S.Store tx.new) (λ _. ⊥) }
 {
     for step in steps {
         insert_step(tx, number, *step)?;
@@ -269,14 +268,14 @@ pub(crate) fn insert_steps<S: Alter>(
     number: u32,
     steps: &[(u32, u32)],
 ) -> Result<(), Error>
-    requires inside { HasTransaction (state S.Store tx.old.conn.now) }
-    requires is_open { HasCleanDisk (state S.Store tx.old.conn.now) → IsTrue (state S.Store tx.old.conn.now).is_open }
-    requires schema { HasSchema (state S.Store tx.old.conn.now) register_schema }
+    requires inside { HasTransaction (state_in S.Store tx.old) }
+    requires is_open { HasCleanDisk (state_in S.Store tx.old) → IsTrue (state_in S.Store tx.old).is_open }
+    requires schema { HasSchema (state_in S.Store tx.old) register_schema }
     ensures same_reference { tx.new.conn.ghost_name ≡ tx.old.conn.ghost_name }
     ensures put { ChangesInside result (AddsSteps (step_rows number steps.now))
-        (state S.Store tx.old.conn.now) (state S.Store tx.new.conn.now) }
-    ensures kept { CommitsNothing (state S.Store tx.old.conn.now) (state S.Store tx.new.conn.now) }
-    ensures survives { Survives (state S.Store tx.old.conn.now) (state S.Store tx.new.conn.now) (λ _. ⊥) }
+        (state_in S.Store tx.old) (state_in S.Store tx.new) }
+    ensures kept { CommitsNothing (state_in S.Store tx.old) (state_in S.Store tx.new) }
+    ensures survives { Survives (state_in S.Store tx.old) (state_in S.Store tx.new) (λ _. ⊥) }
 {
     for part in 0..steps.len() / TOGETHER {
         let at = part * TOGETHER;

@@ -11,12 +11,13 @@ ghost use Rattle.sqlite.specs.WalFiles.{image_at};
 ghost use Rattle.ags_dict.specs.Entries.{Entries};
 ghost use Rattle.ags_dict.specs.Reading.{IsDictionary, ReadsDictionary};
 ghost use Rattle.reg_tables.specs.Tables.{no_schema, register_schema};
-ghost use Rattle.reg_tables.specs.Creates.{IsNewRegister, LeavesNew};
+ghost use Rattle.reg_tables.specs.Creates.{HasNoDeposit, IsNewRegister, ShowsNewRegister, SurvivesMaking};
 ghost use Rattle.reg_tables.specs.Making.{AreDictionary, RefusesBytes};
-ghost use Rattle.reg_tables.specs.Quiet.{IsAsBefore, ShowsTheSame};
-ghost use Rattle.reg_tables.specs.Register.{IsRegister, deposits_in};
-ghost use Rattle.reg_tables.specs.Adoption.{Adopts, is_store_failure};
-ghost use Rattle.reg_tables.specs.Opened.{FindsSchema, HoldsRegister, RefusesFiles};
+ghost use Rattle.reg_tables.specs.Commits.{CommitsAll};
+ghost use Rattle.reg_tables.specs.Quiet.{StaysIfClean, StaysIfOpen};
+ghost use Rattle.reg_tables.specs.Register.{deposits_in};
+ghost use Rattle.reg_tables.specs.Adoption.{Adopts, AdoptsRegister, is_store_failure};
+ghost use Rattle.reg_tables.specs.Opened.{AdoptsFiles, FindsEmpty, FindsNotEmpty, RefusesFiles};
 
 use crate::adopting::AdoptError;
 use crate::creating::make_register;
@@ -74,8 +75,7 @@ fn fill<S: Alter>(conn: &mut Connection<S>, bytes: &[u8]) -> Result<(), CreateEr
     ensures open { HasCleanDisk (state S.Store conn.new) → OnOk result (IsTrue (state S.Store conn.new).is_open) }
     ensures put { HasCleanDisk (state S.Store conn.new)
         → OnOk result (IsNewRegister bytes.now (state S.Store conn.new).now) }
-    ensures settled { HasCleanDisk (state S.Store conn.new)
-        → OnOk result ((state S.Store conn.new).committed ≡ (state S.Store conn.new).now) }
+    ensures settled { CommitsAll result (state S.Store conn.new) }
     ensures sound { HasCleanDisk (state S.Store conn.new) → OnOk result (IsDatabase (state S.Store conn.new).now) }
     ensures blank { OnOk result ((state S.Store conn.old).now.schema ≡ no_schema) }
 
@@ -85,12 +85,10 @@ fn fill<S: Alter>(conn: &mut Connection<S>, bytes: &[u8]) -> Result<(), CreateEr
     ensures vacant { IfErr result (λ e. e ≡ CreateError.Store → (state S.Store conn.old).now.schema ≡ no_schema) }
 
     // What a refusal leaves, and what a crash may leave in either case.
-    ensures same { IfErr result (λ e. e ≢ CreateError.Store → HasCleanDisk (state S.Store conn.new)
-        → ShowsTheSame (state S.Store conn.old) (state S.Store conn.new)) }
-    ensures still { OnErr result (HasCleanDisk (state S.Store conn.new) → IsTrue (state S.Store conn.new).is_open
-        → IsAsBefore (state S.Store conn.old) (state S.Store conn.new)) }
-    ensures crash { Survives (state S.Store conn.old) (state S.Store conn.new)
-        (LeavesNew (state S.Store conn.old) bytes.now) }
+    ensures same { IfErr result (λ e. e ≢ CreateError.Store
+        → StaysIfClean (state S.Store conn.old) (state S.Store conn.new)) }
+    ensures still { OnErr result (StaysIfOpen (state S.Store conn.old) (state S.Store conn.new)) }
+    ensures crash { SurvivesMaking bytes.now (state S.Store conn.old) (state S.Store conn.new) }
 {
     if !is_vacant(conn.schema()) {
         return Err(CreateError::NotEmpty);
@@ -117,15 +115,13 @@ impl<S: Alter> SqlKeep<S> {
         requires read { IsDictionary bytes.now dictionary }
 
         // The new register at success, that there was no table, index or view, and what a crash may leave.
-        ensures empty { IfOk result (λ k. HasCleanDisk (state S.Store k.connection)
-            → deposits_in (state S.Store k.connection).committed.trees ≡ []) }
+        ensures empty { IfOk result (λ k. HasNoDeposit (state S.Store k.connection)) }
         ensures dictionary { IfOk result (λ k. k.dictionary ≡ dictionary) }
-        ensures register { IfOk result (λ k. HasCleanDisk (state S.Store k.connection)
-            → IsNewRegister bytes.entry.now (state S.Store k.connection).now) }
+        ensures register { IfOk result (λ k. ShowsNewRegister bytes.entry.now (state S.Store k.connection)) }
         ensures blank { IfOk result (λ _. (state S.Store connection).now.schema ≡ no_schema) }
         ensures working { IfOk result (λ k. k.has_failed ≡ false) }
-        ensures made { IfOk result (λ k. Survives (state S.Store connection) (state S.Store k.connection)
-            (LeavesNew (state S.Store connection) bytes.entry.now)) }
+        ensures made { IfOk result (λ k. SurvivesMaking bytes.entry.now
+            (state S.Store connection) (state S.Store k.connection)) }
 
         // Each refusal, by what the bytes and the database were.
         ensures refused { IfErr result (λ e. RefusesBytes bytes.entry.now e.0) }
@@ -135,12 +131,11 @@ impl<S: Alter> SqlKeep<S> {
             → (state S.Store connection).now.schema ≡ no_schema) }
 
         // The connection that comes with a refusal, and what a crash may leave.
-        ensures same { IfErr result (λ e. e.0 ≢ CreateError.Store → HasCleanDisk (state S.Store e.1)
-            → ShowsTheSame (state S.Store connection) (state S.Store e.1)) }
-        ensures still { IfErr result (λ e. HasCleanDisk (state S.Store e.1) → IsTrue (state S.Store e.1).is_open
-            → IsAsBefore (state S.Store connection) (state S.Store e.1)) }
-        ensures left { IfErr result (λ e. Survives (state S.Store connection) (state S.Store e.1)
-            (LeavesNew (state S.Store connection) bytes.entry.now)) }
+        ensures same { IfErr result (λ e. e.0 ≢ CreateError.Store
+            → StaysIfClean (state S.Store connection) (state S.Store e.1)) }
+        ensures still { IfErr result (λ e. StaysIfOpen (state S.Store connection) (state S.Store e.1)) }
+        ensures left { IfErr result (λ e. SurvivesMaking bytes.entry.now
+            (state S.Store connection) (state S.Store e.1)) }
     {
         match fill(&mut connection, bytes) {
             Ok(()) => Ok(SqlKeep {
@@ -172,15 +167,13 @@ impl<S: Alter> SqlKeep<S> {
         requires short { length bytes.now ≤ READABLE }
 
         // The new register at success, that there was no table, index or view, and what a crash may leave.
-        ensures empty { IfOk result (λ k. HasCleanDisk (state S.Store k.connection)
-            → deposits_in (state S.Store k.connection).committed.trees ≡ []) }
+        ensures empty { IfOk result (λ k. HasNoDeposit (state S.Store k.connection)) }
         ensures dictionary { IfOk result (λ k. ReadsDictionary bytes.now (Ok k.dictionary)) }
-        ensures register { IfOk result (λ k. HasCleanDisk (state S.Store k.connection)
-            → IsNewRegister bytes.now (state S.Store k.connection).now) }
+        ensures register { IfOk result (λ k. ShowsNewRegister bytes.now (state S.Store k.connection)) }
         ensures blank { IfOk result (λ _. (state S.Store connection).now.schema ≡ no_schema) }
         ensures working { IfOk result (λ k. k.has_failed ≡ false) }
-        ensures made { IfOk result (λ k. Survives (state S.Store connection) (state S.Store k.connection)
-            (LeavesNew (state S.Store connection) bytes.now)) }
+        ensures made { IfOk result (λ k. SurvivesMaking bytes.now
+            (state S.Store connection) (state S.Store k.connection)) }
 
         // Each refusal, by what the bytes and the database were.
         ensures refused { IfErr result (λ e. RefusesBytes bytes.now e.0) }
@@ -190,12 +183,11 @@ impl<S: Alter> SqlKeep<S> {
             → (state S.Store connection).now.schema ≡ no_schema) }
 
         // The connection that comes with a refusal, and what a crash may leave.
-        ensures same { IfErr result (λ e. e.0 ≢ CreateError.Store → HasCleanDisk (state S.Store e.1)
-            → ShowsTheSame (state S.Store connection) (state S.Store e.1)) }
-        ensures still { IfErr result (λ e. HasCleanDisk (state S.Store e.1) → IsTrue (state S.Store e.1).is_open
-            → IsAsBefore (state S.Store connection) (state S.Store e.1)) }
-        ensures left { IfErr result (λ e. Survives (state S.Store connection) (state S.Store e.1)
-            (LeavesNew (state S.Store connection) bytes.now)) }
+        ensures same { IfErr result (λ e. e.0 ≢ CreateError.Store
+            → StaysIfClean (state S.Store connection) (state S.Store e.1)) }
+        ensures still { IfErr result (λ e. StaysIfOpen (state S.Store connection) (state S.Store e.1)) }
+        ensures left { IfErr result (λ e. SurvivesMaking bytes.now
+            (state S.Store connection) (state S.Store e.1)) }
     {
         match read_dictionary(alloc, bytes) {
             Ok(dictionary) => SqlKeep::make(alloc, connection, dictionary, bytes),
@@ -213,9 +205,8 @@ impl<S: Alter> SqlKeep<S> {
         mut connection: Connection<S>,
     ) -> Result<SqlKeep<S>, (AdoptError, Connection<S>)>
         // The register at success, and what a crash may leave.
-        ensures adopted { IfOk result (λ k. HasCleanDisk (state S.Store k.connection)
-            → ∥ IsRegister (state S.Store connection).now k.dictionary
-            (deposits_in (state S.Store k.connection).committed.trees) ∥₁) }
+        ensures adopted { IfOk result (λ k. AdoptsRegister k.dictionary
+            (state S.Store connection) (state S.Store k.connection)) }
         ensures working { IfOk result (λ k. k.has_failed ≡ false) }
         ensures quiet { IfOk result (λ k. Survives (state S.Store connection) (state S.Store k.connection) (λ _. ⊥)) }
 
@@ -224,10 +215,9 @@ impl<S: Alter> SqlKeep<S> {
             → Adopts (state S.Store connection).now (Err e.0)) }
 
         // The connection that comes with a refusal, and what a crash may leave.
-        ensures same { IfErr result (λ e. HasCleanDisk (state S.Store e.1) → is_store_failure e.0 ≡ false
-            → ShowsTheSame (state S.Store connection) (state S.Store e.1)) }
-        ensures still { IfErr result (λ e. HasCleanDisk (state S.Store e.1) → IsTrue (state S.Store e.1).is_open
-            → IsAsBefore (state S.Store connection) (state S.Store e.1)) }
+        ensures same { IfErr result (λ e. is_store_failure e.0 ≡ false
+            → StaysIfClean (state S.Store connection) (state S.Store e.1)) }
+        ensures still { IfErr result (λ e. StaysIfOpen (state S.Store connection) (state S.Store e.1)) }
         ensures left { IfErr result (λ e. Survives (state S.Store connection) (state S.Store e.1) (λ _. ⊥)) }
     {
         if !has_meta(connection.schema()) {
@@ -310,11 +300,9 @@ impl SqlKeep<FileStore<File>> {
         bytes: &[u8],
     ) -> Result<SqlKeep<FileStore<File>>, CreateError>
         requires short { length bytes.now ≤ READABLE }
-        ensures empty { IfOk result (λ k. HasCleanDisk (file_state k.connection)
-            → deposits_in (file_state k.connection).committed.trees ≡ []) }
+        ensures empty { IfOk result (λ k. HasNoDeposit (file_state k.connection)) }
         ensures dictionary { IfOk result (λ k. ReadsDictionary bytes.now (Ok k.dictionary)) }
-        ensures register { IfOk result (λ k. HasCleanDisk (file_state k.connection)
-            → IsNewRegister bytes.now (file_state k.connection).now) }
+        ensures register { IfOk result (λ k. ShowsNewRegister bytes.now (file_state k.connection)) }
         ensures working { IfOk result (λ k. k.has_failed ≡ false) }
         ensures refused { IfErr result (RefusesBytes bytes.now) }
     {
@@ -385,21 +373,18 @@ impl<F: Start> SqlKeep<FileStore<FileFrom<F>>> {
         requires short { length bytes.now ≤ READABLE }
 
         // The new register at success, and that the files had no table, index or view.
-        ensures empty { IfOk result (λ k. HasCleanDisk (file_state k.connection)
-            → deposits_in (file_state k.connection).committed.trees ≡ []) }
+        ensures empty { IfOk result (λ k. HasNoDeposit (file_state k.connection)) }
         ensures dictionary { IfOk result (λ k. ReadsDictionary bytes.now (Ok k.dictionary)) }
-        ensures register { IfOk result (λ k. HasCleanDisk (file_state k.connection)
-            → IsNewRegister bytes.now (file_state k.connection).now) }
-        ensures blank { IfOk result (λ k. HasCleanDisk (file_state k.connection)
-            → FindsSchema (image_at F.Start) (λ schema. schema ≡ no_schema)) }
+        ensures register { IfOk result (λ k. ShowsNewRegister bytes.now (file_state k.connection)) }
+        ensures blank { IfOk result (λ k. FindsEmpty (image_at F.Start) (file_state k.connection)) }
         ensures working { IfOk result (λ k. k.has_failed ≡ false) }
 
         // Each refusal, by what the bytes and the files were, and which never comes without a connection.
         ensures refused { IfErr result (λ e. RefusesBytes bytes.now e.0) }
-        ensures not_empty { IfErr result (λ e. e.0 ≡ CreateError.NotEmpty → IfSome e.1 (λ c. HasCleanDisk (file_state c)
-            → FindsSchema (image_at F.Start) (λ schema. schema ≢ no_schema))) }
-        ensures vacant { IfErr result (λ e. e.0 ≡ CreateError.Store → IfSome e.1 (λ c. HasCleanDisk (file_state c)
-            → FindsSchema (image_at F.Start) (λ schema. schema ≡ no_schema))) }
+        ensures not_empty { IfErr result (λ e. e.0 ≡ CreateError.NotEmpty
+            → IfSome e.1 (λ c. FindsNotEmpty (image_at F.Start) (file_state c))) }
+        ensures vacant { IfErr result (λ e. e.0 ≡ CreateError.Store
+            → IfSome e.1 (λ c. FindsEmpty (image_at F.Start) (file_state c))) }
         ensures unopened { IfErr result (λ e. e.1 ≡ None → e.0 ≢ CreateError.NotEmpty) }
     {
         let dictionary = match read_dictionary(alloc, bytes) {
@@ -428,9 +413,7 @@ impl<F: Start> SqlKeep<FileStore<FileFrom<F>>> {
         SqlKeep<FileStore<FileFrom<F>>>,
         (AdoptError, Option<Connection<FileStore<FileFrom<F>>>>),
     >
-        ensures adopted { IfOk result (λ k. HasCleanDisk (file_state k.connection)
-            → ∥ HoldsRegister (image_at F.Start) k.dictionary
-            (deposits_in (file_state k.connection).committed.trees) ∥₁) }
+        ensures adopted { IfOk result (λ k. AdoptsFiles (image_at F.Start) k.dictionary (file_state k.connection)) }
         ensures working { IfOk result (λ k. k.has_failed ≡ false) }
         ensures refused { IfErr result (λ e.
             IfSome e.1 (λ c. HasCleanDisk (file_state c) → RefusesFiles (image_at F.Start) e.0)) }

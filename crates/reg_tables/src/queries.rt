@@ -7,7 +7,7 @@ ghost use Rattle.sqlite.specs.Held.{state};
 ghost use Rattle.sqlite.specs.Given.{IsPlain};
 ghost use Rattle.sqlite.specs.Listing.{understood};
 ghost use Rattle.reg_tables.specs.Tables.{register_schema};
-ghost use Rattle.reg_tables.specs.Quiet.{IsAsBefore, IsIdle, IsSettled, IsStill, StaysIfOpen};
+ghost use Rattle.reg_tables.specs.Quiet.{IsIdle, IsSettled, IsStill, StaysIfOpen};
 ghost use Rattle.reg_tables.specs.Found.{FindsShown};
 ghost use Rattle.reg_store.specs.Keep.{fails};
 
@@ -24,10 +24,10 @@ pub(crate) fn is_memory(error: &Error) -> bool
 
 /// Whether the connection is known to be open. An answer of want of memory alone does not say it.
 pub(crate) fn is_open<S: Alter>(conn: &mut Connection<S>) -> bool
+    requires settled { HasCleanDisk (state S.Store conn.old) → IsSettled (state S.Store conn.old) }
     ensures known { HasCleanDisk (state S.Store conn.new) → IsTrue result
         → IsUnchanged (state S.Store conn.old) (state S.Store conn.new) }
-    ensures still { HasCleanDisk (state S.Store conn.new) → IsTrue (state S.Store conn.new).is_open
-        → IsSettled (state S.Store conn.old) → IsAsBefore (state S.Store conn.old) (state S.Store conn.new) }
+    ensures still { StaysIfOpen (state S.Store conn.old) (state S.Store conn.new) }
     ensures mode { conn.old.in_transaction ≡ false → conn.new.in_transaction ≡ false }
     ensures crash { Survives (state S.Store conn.old) (state S.Store conn.new) (λ _. ⊥) }
 {

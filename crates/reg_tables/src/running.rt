@@ -1,10 +1,9 @@
 //! A statement inside a transaction.
 
-ghost use Rattle.std.specs.Prelude.{◌≡◌, OnOk};
+ghost use Rattle.std.specs.Prelude.{◌≡◌};
 ghost use Rattle.sqlite.specs.Values.{bound};
-ghost use Rattle.sqlite.specs.State.{HasCleanDisk, Survives};
-ghost use Rattle.sqlite.specs.Held.{state};
-ghost use Rattle.reg_tables.specs.Inside.{CommitsNothing, HasTransaction, Ran};
+ghost use Rattle.sqlite.specs.State.{Survives};
+ghost use Rattle.reg_tables.specs.Inside.{CommitsNothing, HasTransaction, RunsInside, state_in};
 
 use sqlite::types::ValueRef;
 use sqlite::{Alter, Error, Transaction};
@@ -16,12 +15,11 @@ pub(crate) fn run<S: Alter>(
     sql: &str,
     params: &[ValueRef<'_>],
 ) -> Result<(), Error>
-    requires inside { HasTransaction (state S.Store tx.old.conn.now) }
+    requires inside { HasTransaction (state_in S.Store tx.old) }
     ensures same_reference { tx.new.conn.ghost_name ≡ tx.old.conn.ghost_name }
-    ensures ran { HasCleanDisk (state S.Store tx.new.conn.now)
-        → OnOk result (Ran sql.now (bound params.now) (state S.Store tx.old.conn.now) (state S.Store tx.new.conn.now)) }
-    ensures kept { CommitsNothing (state S.Store tx.old.conn.now) (state S.Store tx.new.conn.now) }
-    ensures survives { Survives (state S.Store tx.old.conn.now) (state S.Store tx.new.conn.now) (λ _. ⊥) }
+    ensures ran { RunsInside result sql.now (bound params.now) (state_in S.Store tx.old) (state_in S.Store tx.new) }
+    ensures kept { CommitsNothing (state_in S.Store tx.old) (state_in S.Store tx.new) }
+    ensures survives { Survives (state_in S.Store tx.old) (state_in S.Store tx.new) (λ _. ⊥) }
 {
     match tx.execute(sql, params) {
         Ok(_count) => Ok(()),

@@ -9,7 +9,7 @@ ghost use Rattle.reg_tables.specs.Digests.{AreBelow, AreDigested};
 ghost use Rattle.reg_tables.specs.Fronts.{HoldsFronts};
 ghost use Rattle.reg_tables.specs.Heads.{AreHeads};
 ghost use Rattle.reg_tables.specs.Recent.{HoldsRecent};
-ghost use Rattle.reg_tables.specs.Register.{deposits_in, LeavesBroken, LeavesList, KeepsRegister};
+ghost use Rattle.reg_tables.specs.Register.{deposits_in, KeepsIfClean, KeepsRegister, LeavesBroken, LeavesList};
 
 use crate::adding::add_checked;
 use crate::fronts::Fronts;
@@ -75,8 +75,7 @@ impl<S: Alter> SqlKeep<S> {
     /// The connection, whose tables are the register of this list where the keep has not failed and the disk is clean.
     pub fn into_connection(self) -> Connection<S>
         ensures connection { result ≡ self.connection }
-        ensures kept { self.has_failed ≡ false → HasCleanDisk (state S.Store result)
-            → ∥ KeepsRegister (state S.Store result) self.dictionary self.count ∥₁ }
+        ensures kept { self.has_failed ≡ false → KeepsIfClean (state S.Store result) self.dictionary self.count }
     {
         let SqlKeep {
             connection,

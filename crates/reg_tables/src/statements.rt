@@ -1,17 +1,15 @@
 //! A deposit with its rows and steps, in one transaction.
 
-ghost use Rattle.std.specs.Prelude.{◌≡◌, ◌≢◌, ◌<◌, ◌^◌, length, false, IsTrue, IfErr, OnOk, OnErr};
+ghost use Rattle.std.specs.Prelude.{◌≡◌, ◌≢◌, ◌<◌, ◌^◌, length, false, IsTrue, IfErr, OnOk};
 ghost use Rattle.sqlite.specs.Effect.{IsDatabase};
 ghost use Rattle.reg_store.specs.Keep.{fails};
 ghost use Rattle.sqlite.specs.State.{HasCleanDisk, Survives};
 ghost use Rattle.sqlite.specs.Held.{state};
 ghost use Rattle.reg_tables.specs.Tables.{register_schema};
-ghost use Rattle.reg_tables.specs.Filed.{AddsFiled, filed_deposit};
-ghost use Rattle.reg_tables.specs.KeepLaws.{PutsOf};
-ghost use Rattle.reg_tables.specs.Inserts.{AddsDeposit};
-ghost use Rattle.reg_tables.specs.Late.{IsBare, SetsBody, bare};
-ghost use Rattle.reg_tables.specs.Inside.{ChangesInside, CommitsNothing, HasSchema, HasTransaction};
-ghost use Rattle.reg_tables.specs.Quiet.{IsUndone};
+ghost use Rattle.reg_tables.specs.Commits.{Changes, CommitsAll, UndoesIfOpen, UndoesUnlessFailed};
+ghost use Rattle.reg_tables.specs.Filed.{AddsBare, AddsFiled, SetsFiledBody, SurvivesFiling, filed_deposit};
+ghost use Rattle.reg_tables.specs.Late.{IsBare};
+ghost use Rattle.reg_tables.specs.Inside.{ChangesInside, CommitsNothing, HasSchema, HasTransaction, state_in};
 
 use crate::lines::{insert_lines, insert_steps};
 use crate::queries::{is_memory, is_open};
@@ -32,13 +30,12 @@ pub(crate) struct Filed<'a> {
 
 /// Adds a deposit without its body, rows and steps. Nothing is committed.
 fn insert_deposit<S: Alter>(tx: &mut Transaction<'_, S>, filed: Filed<'_>) -> Result<(), Error>
-    requires inside { HasTransaction (state S.Store tx.old.conn.now) }
-    requires schema { HasSchema (state S.Store tx.old.conn.now) register_schema }
+    requires inside { HasTransaction (state_in S.Store tx.old) }
+    requires schema { HasSchema (state_in S.Store tx.old) register_schema }
     ensures same_reference { tx.new.conn.ghost_name ≡ tx.old.conn.ghost_name }
-    ensures put { ChangesInside result (AddsDeposit filed.entry.number (bare (filed_deposit filed.entry)))
-        (state S.Store tx.old.conn.now) (state S.Store tx.new.conn.now) }
-    ensures kept { CommitsNothing (state S.Store tx.old.conn.now) (state S.Store tx.new.conn.now) }
-    ensures survives { Survives (state S.Store tx.old.conn.now) (state S.Store tx.new.conn.now) (λ _. ⊥) }
+    ensures put { ChangesInside result (AddsBare filed.entry) (state_in S.Store tx.old) (state_in S.Store tx.new) }
+    ensures kept { CommitsNothing (state_in S.Store tx.old) (state_in S.Store tx.new) }
+    ensures survives { Survives (state_in S.Store tx.old) (state_in S.Store tx.new) (λ _. ⊥) }
 {
     let empty: &[u8] = &[];
     run(
@@ -58,17 +55,15 @@ fn insert_deposit<S: Alter>(tx: &mut Transaction<'_, S>, filed: Filed<'_>) -> Re
 ///
 /// The foreign keys of lines and steps read the deposit's whole row, so they read a short one until now.
 fn set_body<S: Alter>(tx: &mut Transaction<'_, S>, filed: Filed<'_>) -> Result<(), Error>
-    requires inside { HasTransaction (state S.Store tx.old.conn.now) }
-    requires schema { HasSchema (state S.Store tx.old.conn.now) register_schema }
-    requires bare { HasCleanDisk (state S.Store tx.old.conn.now)
-        → IsBare filed.number (filed_deposit filed) (state S.Store tx.old.conn.now).now }
+    requires inside { HasTransaction (state_in S.Store tx.old) }
+    requires schema { HasSchema (state_in S.Store tx.old) register_schema }
+    requires bare { HasCleanDisk (state_in S.Store tx.old)
+        → IsBare filed.number (filed_deposit filed) (state_in S.Store tx.old).now }
     ensures same_reference { tx.new.conn.ghost_name ≡ tx.old.conn.ghost_name }
-    ensures put { ChangesInside result (SetsBody filed.entry.number (filed_deposit filed.entry))
-        (state S.Store tx.old.conn.now) (state S.Store tx.new.conn.now) }
-    ensures sound { HasCleanDisk (state S.Store tx.new.conn.now)
-        → OnOk result (IsDatabase (state S.Store tx.new.conn.now).now) }
-    ensures kept { CommitsNothing (state S.Store tx.old.conn.now) (state S.Store tx.new.conn.now) }
-    ensures survives { Survives (state S.Store tx.old.conn.now) (state S.Store tx.new.conn.now) (λ _. ⊥) }
+    ensures put { ChangesInside result (SetsFiledBody filed.entry) (state_in S.Store tx.old) (state_in S.Store tx.new) }
+    ensures sound { HasCleanDisk (state_in S.Store tx.new) → OnOk result (IsDatabase (state_in S.Store tx.new).now) }
+    ensures kept { CommitsNothing (state_in S.Store tx.old) (state_in S.Store tx.new) }
+    ensures survives { Survives (state_in S.Store tx.old) (state_in S.Store tx.new) (λ _. ⊥) }
 {
     run(
         tx,
@@ -87,15 +82,14 @@ fn insert_file<S: Alter>(
     steps: &[(u32, u32)],
 ) -> Result<(), Error>
     requires few { length rows.now < 2 ^ 32 }
-    requires inside { HasTransaction (state S.Store tx.old.conn.now) }
-    requires schema { HasSchema (state S.Store tx.old.conn.now) register_schema }
+    requires inside { HasTransaction (state_in S.Store tx.old) }
+    requires schema { HasSchema (state_in S.Store tx.old) register_schema }
     ensures same_reference { tx.new.conn.ghost_name ≡ tx.old.conn.ghost_name }
     ensures put { ChangesInside result (AddsFiled filed.entry rows.now steps.now)
-        (state S.Store tx.old.conn.now) (state S.Store tx.new.conn.now) }
-    ensures sound { HasCleanDisk (state S.Store tx.new.conn.now)
-        → OnOk result (IsDatabase (state S.Store tx.new.conn.now).now) }
-    ensures kept { CommitsNothing (state S.Store tx.old.conn.now) (state S.Store tx.new.conn.now) }
-    ensures survives { Survives (state S.Store tx.old.conn.now) (state S.Store tx.new.conn.now) (λ _. ⊥) }
+        (state_in S.Store tx.old) (state_in S.Store tx.new) }
+    ensures sound { HasCleanDisk (state_in S.Store tx.new) → OnOk result (IsDatabase (state_in S.Store tx.new).now) }
+    ensures kept { CommitsNothing (state_in S.Store tx.old) (state_in S.Store tx.new) }
+    ensures survives { Survives (state_in S.Store tx.old) (state_in S.Store tx.new) (λ _. ⊥) }
 {
     insert_deposit(tx, filed)?;
     insert_lines(alloc, tx, filed.number, rows)?;
@@ -118,19 +112,16 @@ fn store_file<S: Alter>(
 
     // The connection and the deposit at success.
     ensures open { HasCleanDisk (state S.Store conn.new) → OnOk result (IsTrue (state S.Store conn.new).is_open) }
-    ensures put { HasCleanDisk (state S.Store conn.new) → OnOk result (AddsFiled filed.entry rows.now steps.now
-        (state S.Store conn.old).now (state S.Store conn.new).now) }
-    ensures settled { HasCleanDisk (state S.Store conn.new)
-        → OnOk result ((state S.Store conn.new).committed ≡ (state S.Store conn.new).now) }
+    ensures put { Changes result (AddsFiled filed.entry rows.now steps.now)
+        (state S.Store conn.old) (state S.Store conn.new) }
+    ensures settled { CommitsAll result (state S.Store conn.new) }
 
     // What is undone at an error that leaves the connection open.
-    ensures undone { HasCleanDisk (state S.Store conn.new) → IsTrue (state S.Store conn.new).is_open
-        → OnErr result (IsUndone (state S.Store conn.old) (state S.Store conn.new)) }
+    ensures undone { UndoesIfOpen result (state S.Store conn.old) (state S.Store conn.new) }
 
     // The transaction in either case, and what a crash may leave.
     ensures mode { conn.new.in_transaction ≡ false }
-    ensures crash { Survives (state S.Store conn.old) (state S.Store conn.new)
-        (PutsOf (state S.Store conn.old) filed.entry.number (filed_deposit filed.entry) rows.now steps.now) }
+    ensures crash { SurvivesFiling filed.entry rows.now steps.now (state S.Store conn.old) (state S.Store conn.new) }
 {
     let mut tx = conn.transaction();
     insert_file(alloc, &mut tx, filed, rows, steps)?;
@@ -139,6 +130,7 @@ fn store_file<S: Alter>(
 }
 
 /// Adds a deposit with its rows and steps. Want of memory is answered only where nothing changed.
+#[tactic(auto, using(crate::proofs::QueryLemmas::settled_undone))]
 pub(crate) fn add_file<S: Alter>(
     alloc: Global,
     conn: &mut Connection<S>,
@@ -151,23 +143,20 @@ pub(crate) fn add_file<S: Alter>(
     requires schema { HasCleanDisk (state S.Store conn.old) → (state S.Store conn.old).now.schema ≡ register_schema }
 
     // The deposit at success, as it is added and committed.
-    ensures put { HasCleanDisk (state S.Store conn.new) → OnOk result (AddsFiled filed.entry rows.now steps.now
-        (state S.Store conn.old).now (state S.Store conn.new).now) }
-    ensures settled { HasCleanDisk (state S.Store conn.new)
-        → OnOk result ((state S.Store conn.new).committed ≡ (state S.Store conn.new).now) }
+    ensures put { Changes result (AddsFiled filed.entry rows.now steps.now)
+        (state S.Store conn.old) (state S.Store conn.new) }
+    ensures settled { CommitsAll result (state S.Store conn.new) }
     ensures sound { HasCleanDisk (state S.Store conn.new) → OnOk result (IsDatabase (state S.Store conn.new).now) }
 
     // Which refusal never comes, and what is undone at one that is not `Store`.
     ensures named { IfErr result (λ e. e ≢ KeepError.Full) }
-    ensures undone { HasCleanDisk (state S.Store conn.new) → fails result ≡ false
-        → OnErr result (IsUndone (state S.Store conn.old) (state S.Store conn.new)) }
+    ensures undone { UndoesUnlessFailed result (state S.Store conn.old) (state S.Store conn.new) }
 
     // Transaction and connection in either case, and what a crash may leave.
     ensures mode { conn.new.in_transaction ≡ false }
     ensures open { HasCleanDisk (state S.Store conn.new) → fails result ≡ false
         → IsTrue (state S.Store conn.new).is_open }
-    ensures crash { Survives (state S.Store conn.old) (state S.Store conn.new)
-        (PutsOf (state S.Store conn.old) filed.entry.number (filed_deposit filed.entry) rows.now steps.now) }
+    ensures crash { SurvivesFiling filed.entry rows.now steps.now (state S.Store conn.old) (state S.Store conn.new) }
 {
     match store_file(alloc, conn, filed, rows, steps) {
         Ok(()) => {

@@ -1,7 +1,7 @@
 use Rattle.std.proofs.Common.{rules, IsTrue}
 use Rattle.sqlite.specs.Held.{state}
 use Rattle.reg_tables.specs.Quiet.{quiet_read}
-use Rattle.reg_tables.proofs.QueryLemmas.{ok_quiet, open_quiet}
+use Rattle.reg_tables.proofs.QueryLemmas.{ok_quiet, open_quiet, settled_then}
 use Rattle.reg_tables.proofs.gathering.take_shown.Goals as goal
 
 pub returns-in-Ok-clause-quiet : goal.returns-in-Ok-clause-quiet
@@ -14,3 +14,6 @@ pub returns-then-is_open-clause-quiet : goal.returns-then-is_open-clause-quiet
 returns-then-is_open-clause-quiet g c =
     let is : IsTrue c.is_open.result = search rules in
     open_quiet (state g.S.Store c.args.conn.now) (state g.S.Store c.take_each.new.conn) (state g.S.Store c.is_open.new.conn) (c.is_open.ensures.mode c.take_each.ensures.mode) c.take_each.ensures.same c.take_each.ensures.crash (λ clean. c.is_open.ensures.known clean is) c.is_open.ensures.crash
+
+pub is_open-requires : goal.is_open-requires
+is_open-requires g c = record { settled = settled_then (state g.S.Store c.args.conn.now) (state g.S.Store c.take_each.new.conn) c.requires.idle.settled c.take_each.ensures.same c.take_each.ensures.crash }

@@ -21,6 +21,9 @@ returns-then-not-is_autocommit-clause-same g c = λ _ _. (refl, refl)
 pub returns-then-not-is_autocommit-clause-still : goal.returns-then-not-is_autocommit-clause-still
 returns-then-not-is_autocommit-clause-still g c = λ _ is_open. (is_open, refl, refl)
 
+pub make_register-requires-clause-settled : goal.make_register-requires-clause-settled
+make_register-requires-clause-settled g c clean is_open = sym (c.is_autocommit.ensures.settled (search rules) is_open)
+
 pub returns-in-Ok-clause-mode : goal.returns-in-Ok-clause-mode
 returns-in-Ok-clause-mode g c = c.in-Ok.ensures.mode
 
@@ -43,10 +46,10 @@ pub returns-in-Err-NoMemory-clause-crash : goal.returns-in-Err-NoMemory-clause-c
 returns-in-Err-NoMemory-clause-crash g c = c.make_register.ensures.crash
 
 pub returns-in-Err-NoMemory-clause-still : goal.returns-in-Err-NoMemory-clause-still
-returns-in-Err-NoMemory-clause-still g c clean is_open = c.in-Err-NoMemory.ensures.still clean is_open (λ o. sym (c.is_autocommit.ensures.settled (search rules) o))
+returns-in-Err-NoMemory-clause-still g c = c.in-Err-NoMemory.ensures.still
 
 pub returns-in-Err-clause-crash : goal.returns-in-Err-clause-crash
 returns-in-Err-clause-crash g c = c.make_register.ensures.crash
 
 pub returns-in-Err-clause-still : goal.returns-in-Err-clause-still
-returns-in-Err-clause-still g c clean is_open = c.in-Err.ensures.still clean is_open (λ o. sym (c.is_autocommit.ensures.settled (search rules) o))
+returns-in-Err-clause-still g c = c.in-Err.ensures.still

@@ -1,6 +1,6 @@
 use Rattle.std.proofs.Common.{rules, IsTrue}
 use Rattle.sqlite.specs.Held.{state}
-use Rattle.reg_tables.proofs.QueryLemmas.{ok_quiet, open_quiet}
+use Rattle.reg_tables.proofs.QueryLemmas.{ok_quiet, open_quiet, settled_then}
 use Rattle.reg_tables.proofs.queries.query.Goals as goal
 
 pub returns-in-Ok-clause-open : goal.returns-in-Ok-clause-open
@@ -18,3 +18,6 @@ pub returns-then-is_open-clause-quiet : goal.returns-then-is_open-clause-quiet
 returns-then-is_open-clause-quiet g c =
     let is : IsTrue c.is_open.result = search rules in
     open_quiet (state g.S.Store c.args.conn.now) (state g.S.Store c.ask.new.conn) (state g.S.Store c.is_open.new.conn) (c.is_open.ensures.mode c.ask.ensures.mode) c.ask.ensures.same c.ask.ensures.crash (λ clean. c.is_open.ensures.known clean is) c.is_open.ensures.crash
+
+pub is_open-requires : goal.is_open-requires
+is_open-requires g c = record { settled = settled_then (state g.S.Store c.args.conn.now) (state g.S.Store c.ask.new.conn) c.requires.idle.settled c.ask.ensures.same c.ask.ensures.crash }

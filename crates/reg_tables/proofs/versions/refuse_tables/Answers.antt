@@ -5,6 +5,7 @@ use Rattle.reg_tables.specs.declared.adopting.AdoptError.TheVariants.{Version}
 use Rattle.reg_tables.specs.Adoption.{Adopts}
 use Rattle.reg_tables.specs.Quiet.{clean_before}
 use Rattle.reg_tables.proofs.FormatLemmas.{refused_format, refused_tables}
+use Rattle.reg_tables.proofs.QueryLemmas.{settled_then}
 use Rattle.reg_tables.proofs.versions.refuse_tables.Goals as goal
 
 pub returns-in-Some-clause-refused : goal.returns-in-Some-clause-refused
@@ -50,3 +51,6 @@ returns-then-is_open-clause-still g c clean is_open =
 pub returns-then-is_open-clause-crash : goal.returns-then-is_open-clause-crash
 returns-then-is_open-clause-crash g c =
     survives_then (state g.S.Store c.args.conn.now) (state g.S.Store c.ask_meta.new.conn) (state g.S.Store c.is_open.new.conn) _ _ (λ _. ⊥) (λ _ db none. none) (λ _ db none. none) c.ask_meta.ensures.crash c.is_open.ensures.crash
+
+pub is_open-requires : goal.is_open-requires
+is_open-requires g c = record { settled = settled_then (state g.S.Store c.args.conn.now) (state g.S.Store c.ask_meta.new.conn) c.requires.settled c.ask_meta.ensures.same c.ask_meta.ensures.crash }

@@ -68,7 +68,7 @@ pub returns-in-Err-clause-refused : goal.returns-in-Err-clause-refused
 returns-in-Err-clause-refused g c = c.in-Err.ensures.adopts
 
 pub returns-in-Err-clause-same : goal.returns-in-Err-clause-same
-returns-in-Err-clause-same g c = c.in-Err.ensures.quiet.same
+returns-in-Err-clause-same g c well clean = c.in-Err.ensures.quiet.same clean well
 
 pub returns-in-Err-clause-still : goal.returns-in-Err-clause-still
 returns-in-Err-clause-still g c = c.in-Err.ensures.quiet.still
@@ -80,7 +80,7 @@ pub returns-then-not-is_register-clause-refused : goal.returns-then-not-is_regis
 returns-then-not-is_register-clause-refused g c = c.refuse_tables-error.ensures.refused
 
 pub returns-then-not-is_register-clause-same : goal.returns-then-not-is_register-clause-same
-returns-then-not-is_register-clause-same g c = c.refuse_tables-error.ensures.same
+returns-then-not-is_register-clause-same g c well clean = c.refuse_tables-error.ensures.same clean well
 
 pub returns-then-not-is_register-clause-still : goal.returns-then-not-is_register-clause-still
 returns-then-not-is_register-clause-still g c = c.refuse_tables-error.ensures.still
