@@ -1,6 +1,6 @@
 //! Whether the rows that are read of a database are those of a register.
 
-ghost use Rattle.std.specs.Prelude.{◌≡◌, ◌≢◌, ◌≤◌, ◌↔◌, ◌⊎◌, ◌∷◌, [], ℕ, ℤ, pos, List, None, Err, length, map, Contains, IsTrue, IfOk, IfErr, IfSome};
+ghost use Rattle.std.specs.Prelude.{◌≡◌, ◌≢◌, ◌≤◌, ◌↔◌, ◌⊎◌, ℕ, ℤ, pos, List, None, Err, length, map, Contains, IsTrue, IfOk, IfErr, IfSome};
 ghost use Rattle.sqlite.specs.Order.{Row as Values};
 ghost use Rattle.reg_tables.specs.Rows.{placed_row, placed_rows, step_pair};
 ghost use Rattle.reg_tables.specs.Register.{meta_columns};

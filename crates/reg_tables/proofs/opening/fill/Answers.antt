@@ -45,11 +45,5 @@ returns-in-Ok-clause-crash g c = c.make_register.ensures.crash
 pub returns-in-Err-NoMemory-clause-crash : goal.returns-in-Err-NoMemory-clause-crash
 returns-in-Err-NoMemory-clause-crash g c = c.make_register.ensures.crash
 
-pub returns-in-Err-NoMemory-clause-still : goal.returns-in-Err-NoMemory-clause-still
-returns-in-Err-NoMemory-clause-still g c = c.in-Err-NoMemory.ensures.still
-
 pub returns-in-Err-clause-crash : goal.returns-in-Err-clause-crash
 returns-in-Err-clause-crash g c = c.make_register.ensures.crash
-
-pub returns-in-Err-clause-still : goal.returns-in-Err-clause-still
-returns-in-Err-clause-still g c = c.in-Err.ensures.still
