@@ -136,6 +136,9 @@ undone_still old new was_open undone settled one clean is_open =
     let was = was_open clean is_open in
     let it = undone clean is_open in (was, it.0 ∙ settled (clean_before old new one clean) was, it.1)
 
+-- what is known of a connection on which a change was undone, and which is then asked whether it is open
+pub ruleset undone_laws = (settled_undone, still_then, undone_still)
+
 pub failed_then : (old mid new : State) → new.in_transaction ≡ false → (HasCleanDisk mid → IsTrue mid.is_open → IsAsBefore old mid) → Survives old mid (λ _. ⊥)
     → (HasCleanDisk new → IsTrue new.is_open → IsAsBefore mid new) → Survives mid new (λ _. ⊥) → IsStill old new true
 failed_then old mid new mode stays one probe two =

@@ -103,7 +103,7 @@ fn make_all<S: Alter>(conn: &mut Connection<S>, dictionary: &[u8]) -> Result<(),
 }
 
 /// Makes the tables of a register in one transaction. Want of memory is answered only where nothing changed.
-#[tactic(auto, using(crate::proofs::QueryLemmas::settled_undone, crate::proofs::QueryLemmas::still_then, crate::proofs::QueryLemmas::undone_still))]
+#[tactic(auto, using(crate::proofs::QueryLemmas::undone_laws))]
 pub(crate) fn make_register<S: Alter>(
     conn: &mut Connection<S>,
     dictionary: &[u8],
