@@ -12,7 +12,7 @@ use Rattle.reg_store.specs.declared.keep.KeptRow.{KeptRow}
 use Rattle.reg_store.specs.Deposit.{Deposit, is_repeat}
 use Rattle.reg_tables.specs.Rows.{columns_3, deposit_table}
 use Rattle.reg_tables.specs.Register.{deposit_rows, has_number, meta_columns}
-use Rattle.reg_tables.specs.Quiet.{Finds, ShowsTheSame}
+use Rattle.reg_tables.specs.Quiet.{FindsThat, ShowsTheSame}
 use Rattle.reg_tables.specs.Digests.{HasEqual, HasNoEqual, IsRowOf}
 use Rattle.reg_tables.specs.Adopts.{number_rows}
 use Rattle.reg_tables.specs.Methods.{HoldsLines, HoldsSteps}
@@ -33,23 +33,23 @@ TakesEachShown result sql params Holds old new =
 
 -- On a clean disk, what is found are these rows of the tables before the call, in whatever order.
 abbrev pub FindsAll : {A E : Type 0} → Result (Vec A Global) E → (Database → List A) → State → State → Type 0
-FindsAll result rows old new = Finds result (λ db found. IsPermutation found.items (rows db)) old new
+FindsAll result rows old new = FindsThat result (λ db found. IsPermutation found.items (rows db)) old new
 
 -- On a clean disk, what P says of the lines that the table `lines` held under the number, and of what is found.
 abbrev pub OfLines : {A E : Type 0} → Result A E → ℕ → (List KeptRow → A → Type 0) → State → State → Type 0
-OfLines result n P old new = Finds result (λ db found. (file : List KeptRow) → HoldsLines db n file → P file found) old new
+OfLines result n P old new = FindsThat result (λ db found. (file : List KeptRow) → HoldsLines db n file → P file found) old new
 
 -- On a clean disk, what P says of the rising steps that the table `steps` held under the number, and of what is found.
 abbrev pub OfSteps : {A E : Type 0} → Result A E → ℕ → (List (ℕ × ℕ) → A → Type 0) → State → State → Type 0
-OfSteps result n P old new = Finds result (λ db found. (steps : List (ℕ × ℕ)) → IsAscending IsBefore steps → HoldsSteps db n steps → P steps found) old new
+OfSteps result n P old new = FindsThat result (λ db found. (steps : List (ℕ × ℕ)) → IsAscending IsBefore steps → HoldsSteps db n steps → P steps found) old new
 
 -- On a clean disk, the answer is whether this fact holds of the tables before the call.
 abbrev pub FindsOut : {E : Type 0} → Result Bool E → (Database → Type 0) → State → State → Type 0
-FindsOut result Fact old new = Finds result (λ db is. Tests is (Fact db)) old new
+FindsOut result Fact old new = FindsThat result (λ db is. Tests is (Fact db)) old new
 
 -- On a clean disk, one is found if this fact holds of the tables before the call, and else none.
 abbrev pub FindsOneIf : {A E : Type 0} → Result (Option A) E → (Database → Type 0) → State → State → Type 0
-FindsOneIf result Fact old new = Finds result (λ db found. Tests (is_some found) (Fact db)) old new
+FindsOneIf result Fact old new = FindsThat result (λ db found. Tests (is_some found) (Fact db)) old new
 
 -- On a clean disk, where the answer is yes, what P says of the tables before the call.
 abbrev pub OnYes : {E : Type 0} → Result Bool E → (Database → Type 0) → State → State → Type 0
@@ -70,11 +70,11 @@ AreMetaByName db rows = (text : List ℕ) → IsPermutation (meta_columns text) 
 -- On a clean disk, the answer is whether the deposit of the number is equal.
 abbrev pub FindsIfEqual : {E : Type 0} → Result Bool E → ℕ → List ℕ → List ℕ → List ℕ → State → State → Type 0
 FindsIfEqual result n firm project bytes old new =
-    Finds result (λ db is. (d : Deposit) × IsRowOf db n d × (is ≡ is_repeat firm project bytes d)) old new
+    FindsThat result (λ db is. (d : Deposit) × IsRowOf db n d × (is ≡ is_repeat firm project bytes d)) old new
 
 -- On a clean disk, the deposit of the number that is found, if one is, is equal.
 abbrev pub FindsEqual : {E : Type 0} → Result (Option ℕ) E → List ℕ → List ℕ → List ℕ → State → State → Type 0
-FindsEqual result firm project bytes old new = Finds result (λ db found. IfSome found (HasEqual db firm project bytes)) old new
+FindsEqual result firm project bytes old new = FindsThat result (λ db found. IfSome found (HasEqual db firm project bytes)) old new
 
 -- On a clean disk, where none is found, no deposit of these numbers is equal.
 abbrev pub FindsNoEqual : {E : Type 0} → Result (Option ℕ) E → List ℕ → List ℕ → List ℕ → List ℕ → State → State → Type 0

@@ -38,8 +38,8 @@ abbrev pub StaysIfOpen : State → State → Type 0
 StaysIfOpen old new = HasCleanDisk new → IsTrue new.is_open → IsAsBefore old new
 
 -- On a clean disk, what P says of the tables before the call and of its answer.
-abbrev pub Finds : {A E : Type 0} → Result A E → (Database → A → Type 0) → State → State → Type 0
-Finds result P old new = HasCleanDisk new → IfOk result (λ found. P old.now found)
+abbrev pub FindsThat : {A E : Type 0} → Result A E → (Database → A → Type 0) → State → State → Type 0
+FindsThat result P old new = HasCleanDisk new → IfOk result (λ found. P old.now found)
 
 -- Nothing was committed. Where the call did not fail nothing changed, nor where the connection is still open.
 pub record IsStill (old new : State) (failed : Bool) : Type 0 where

@@ -48,7 +48,7 @@ pub(crate) fn add_checked<S: Alter>(
     ensures sound { HasCleanDisk (state S.Store conn.new) → OnOk result (IsDatabase (state S.Store conn.new).now) }
 
     // Which refusal never comes, and what is undone at one that is not `Store`.
-    ensures named { IfErr result (λ e. e ≢ KeepError.Full) }
+    ensures refused { IfErr result (λ e. e ≢ KeepError.Full) }
     ensures undone { UndoesUnlessFailed result (state S.Store conn.old) (state S.Store conn.new) }
 
     // Deposit, transaction and connection in either case, and what a crash may leave.

@@ -119,7 +119,7 @@ pub(crate) fn make_register<S: Alter>(
     ensures sound { HasCleanDisk (state S.Store conn.new) → OnOk result (IsDatabase (state S.Store conn.new).now) }
 
     // Which refusal never comes, and what the others say of the connection.
-    ensures named { IfErr result (λ e. e ≢ KeepError.Full) }
+    ensures refused { IfErr result (λ e. e ≢ KeepError.Full) }
     ensures was_open { HasCleanDisk (state S.Store conn.new) → fails result ≡ false
         → OnErr result (IsTrue (state S.Store conn.old).is_open) }
     ensures undone { UndoesUnlessFailed result (state S.Store conn.old) (state S.Store conn.new) }

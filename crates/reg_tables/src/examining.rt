@@ -7,7 +7,7 @@ ghost use Rattle.sqlite.specs.Tree.{IsAscending};
 ghost use Rattle.ags_links.specs.Steps.{IsBefore};
 ghost use Rattle.ags_check.specs.Findings.{IsClean};
 ghost use Rattle.reg_store.specs.Keep.{fails, deposit_of};
-ghost use Rattle.reg_tables.specs.Quiet.{IsIdle, IsStill, Finds};
+ghost use Rattle.reg_tables.specs.Quiet.{IsIdle, IsStill, FindsThat};
 ghost use Rattle.reg_tables.specs.Found.{AreNumbersFromOne, FindsAll, FindsOneIf, FindsOut, OnYes};
 ghost use Rattle.reg_tables.specs.Rows.{deposit_table};
 ghost use Rattle.reg_tables.specs.Heads.{HoldsHeads, IsDigestedAt, AddsHead, IsDigestedFrom};
@@ -36,7 +36,7 @@ fn number_rows<S: Alter>(conn: &mut Connection<S>) -> Result<Vec<Row>, KeepError
     requires idle { IsIdle (state S.Store conn.old) }
     ensures all { FindsAll result (λ db. map id_of (deposit_table db.trees))
         (state S.Store conn.old) (state S.Store conn.new) }
-    ensures found { Finds result (λ db rows. AreNumbersFromOne db rows.items)
+    ensures found { FindsThat result (λ db rows. AreNumbersFromOne db rows.items)
         (state S.Store conn.old) (state S.Store conn.new) }
     ensures refused { IfErr result (λ e. e ≢ KeepError.Full) }
     ensures quiet { IsStill (state S.Store conn.old) (state S.Store conn.new) (fails result) }
@@ -47,7 +47,7 @@ fn number_rows<S: Alter>(conn: &mut Connection<S>) -> Result<Vec<Row>, KeepError
 /// How many deposits there are, if their numbers are those from 1 on.
 pub(crate) fn find_count<S: Alter>(conn: &mut Connection<S>) -> Result<Option<u32>, KeepError>
     requires idle { IsIdle (state S.Store conn.old) }
-    ensures counted { Finds result Counts (state S.Store conn.old) (state S.Store conn.new) }
+    ensures counted { FindsThat result Counts (state S.Store conn.old) (state S.Store conn.new) }
     ensures few { IfOk result (λ found. IfSome found (λ count. count ≤ 999999)) }
     ensures refused { IfErr result (λ e. e ≢ KeepError.Full) }
     ensures quiet { IsStill (state S.Store conn.old) (state S.Store conn.new) (fails result) }
@@ -253,7 +253,7 @@ fn whole_head<S: Alter>(
         → HoldsDigests (state S.Store conn.old).now number digests.now }
     ensures tested { FindsOneIf result (λ db. IsWhole db dictionary.now number)
         (state S.Store conn.old) (state S.Store conn.new) }
-    ensures head { Finds result (λ db found. IfSome found (IsDigestedAt db number))
+    ensures head { FindsThat result (λ db found. IfSome found (IsDigestedAt db number))
         (state S.Store conn.old) (state S.Store conn.new) }
     ensures refused { IfErr result (λ e. e ≢ KeepError.Full) }
     ensures quiet { IsStill (state S.Store conn.old) (state S.Store conn.new) (fails result) }
@@ -357,16 +357,16 @@ fn find_register<S: Alter>(
     requires no_digests { (digest : List ℕ) → numbers_under digests.old digest ≡ [] }
 
     // The count at success.
-    ensures found { Finds result (λ db n. CountsDeposits db dictionary.now (Some n))
+    ensures found { FindsThat result (λ db n. CountsDeposits db dictionary.now (Some n))
         (state S.Store conn.old) (state S.Store conn.new) }
     ensures few { IfOk result (λ count. count ≤ 999999) }
 
     // The heads and digests in the lists at success.
     ensures long { IfOk result (λ count. length heads.new.items ≡ count) }
-    ensures heads { Finds result (λ db count. HoldsHeads db count heads.new.items)
+    ensures heads { FindsThat result (λ db count. HoldsHeads db count heads.new.items)
         (state S.Store conn.old) (state S.Store conn.new) }
     ensures below { IfOk result (λ count. AreBelow digests.new (count + 1)) }
-    ensures digests { Finds result (λ db count. HoldsDigests db (count + 1) digests.new)
+    ensures digests { FindsThat result (λ db count. HoldsDigests db (count + 1) digests.new)
         (state S.Store conn.old) (state S.Store conn.new) }
 
     // Each refusal, by what the tables are.
@@ -422,10 +422,10 @@ pub(crate) fn examine<S: Alter>(
     // The count at success, and the heads and digests in the lists.
     ensures few { IfOk result (λ found. found.1 ≤ 999999) }
     ensures long { IfOk result (λ found. length heads.new.items ≡ found.1) }
-    ensures heads { Finds result (λ db found. HoldsHeads db found.1 heads.new.items)
+    ensures heads { FindsThat result (λ db found. HoldsHeads db found.1 heads.new.items)
         (state S.Store conn.old) (state S.Store conn.new) }
     ensures below { IfOk result (λ found. AreBelow digests.new (found.1 + 1)) }
-    ensures digests { Finds result (λ db found. HoldsDigests db (found.1 + 1) digests.new)
+    ensures digests { FindsThat result (λ db read. HoldsDigests db (read.1 + 1) digests.new)
         (state S.Store conn.old) (state S.Store conn.new) }
 
     // What is left in either case.

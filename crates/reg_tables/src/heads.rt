@@ -62,7 +62,7 @@ pub(crate) fn make_room(
 /// The head of deposit n, copied. A number that no deposit has is `Store`: the disk that it was read from was not sound.
 pub(crate) fn head_in(heads: &[KeptHead], n: u32) -> Result<KeptHead, KeepError>
     ensures read { IfOk result (λ head. slice_get heads.now (n - 1) ≡ Some head) }
-    ensures named { IfErr result (λ e. e ≢ KeepError.Full) }
+    ensures refused { IfErr result (λ e. e ≢ KeepError.Full) }
     ensures there { 0 < n → n ≤ length heads.now → result ≢ Err KeepError.Store }
 {
     if n == 0 {
@@ -86,7 +86,7 @@ pub(crate) fn numbers_in(
 ) -> Result<Vec<u32>, KeepError>
     requires { length heads.now ≤ 999999 }
     ensures numbers { IfOk result (λ ns. ns.items ≡ numbers_from 1 project.now (map bare_of heads.now)) }
-    ensures named { IfErr result (λ e. e ≢ KeepError.Full) }
+    ensures refused { IfErr result (λ e. e ≢ KeepError.Full) }
     ensures well { fails result ≡ false }
 {
     let mut numbers = Vec::new(alloc);

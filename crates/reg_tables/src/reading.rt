@@ -3,7 +3,7 @@
 ghost use Rattle.std.specs.Prelude.{◌≡◌, ◌≢◌, false, map, IsTrue, IfOk, IfErr};
 ghost use Rattle.sqlite.specs.State.{HasCleanDisk};
 ghost use Rattle.sqlite.specs.Held.{state};
-ghost use Rattle.reg_tables.specs.Quiet.{IsIdle, IsStill, Finds};
+ghost use Rattle.reg_tables.specs.Quiet.{IsIdle, IsStill, FindsThat};
 ghost use Rattle.reg_tables.specs.Found.{AreMetaByName, FindsAll, OfLines, OfSteps, rows_numbered};
 ghost use Rattle.reg_tables.specs.Digests.{IsRowOf};
 ghost use Rattle.reg_store.specs.Keep.{fails, deposit_of};
@@ -55,7 +55,7 @@ pub(crate) fn find_deposit<S: Alter>(
     number: u32,
 ) -> Result<Kept, KeepError>
     requires idle { IsIdle (state S.Store conn.old) }
-    ensures found { Finds result (λ db kept. IsRowOf db number (deposit_of kept))
+    ensures found { FindsThat result (λ db kept. IsRowOf db number (deposit_of kept))
         (state S.Store conn.old) (state S.Store conn.new) }
     ensures is_named { IfOk result (λ kept. IsNamed (deposit_of kept)) }
     ensures refused { IfErr result (λ e. e ≢ KeepError.Full) }
@@ -93,9 +93,9 @@ pub(crate) fn find_lines<S: Alter>(
     number: u32,
 ) -> Result<Vec<KeptRow>, KeepError>
     requires idle { IsIdle (state S.Store conn.old) }
-    ensures found { Finds result (λ db lines. AreRowsAt db number lines.items)
+    ensures found { FindsThat result (λ db lines. AreRowsAt db number lines.items)
         (state S.Store conn.old) (state S.Store conn.new) }
-    ensures held { Finds result (λ db lines. HoldsLines db number lines.items)
+    ensures held { FindsThat result (λ db lines. HoldsLines db number lines.items)
         (state S.Store conn.old) (state S.Store conn.new) }
     ensures refused { IfErr result (λ e. e ≢ KeepError.Full) }
     ensures quiet { IsStill (state S.Store conn.old) (state S.Store conn.new) (fails result) }
@@ -142,7 +142,7 @@ pub(crate) fn find_steps<S: Alter>(
     requires idle { IsIdle (state S.Store conn.old) }
     ensures found { OfSteps result number (λ steps read. read.items ≡ steps)
         (state S.Store conn.old) (state S.Store conn.new) }
-    ensures held { Finds result (λ db read. HoldsSteps db number read.items)
+    ensures held { FindsThat result (λ db read. HoldsSteps db number read.items)
         (state S.Store conn.old) (state S.Store conn.new) }
     ensures refused { IfErr result (λ e. e ≢ KeepError.Full) }
     ensures quiet { IsStill (state S.Store conn.old) (state S.Store conn.new) (fails result) }
@@ -176,7 +176,7 @@ pub(crate) fn graph_of(rows: u32, steps: Vec<(u32, u32)>) -> Result<Graph, KeepE
 /// How many DATA rows are kept of a deposit.
 pub(crate) fn find_data<S: Alter>(conn: &mut Connection<S>, number: u32) -> Result<u32, KeepError>
     requires idle { IsIdle (state S.Store conn.old) }
-    ensures found { Finds result (λ db n. HasRows number (line_table db.trees) n)
+    ensures found { FindsThat result (λ db n. HasRows number (line_table db.trees) n)
         (state S.Store conn.old) (state S.Store conn.new) }
     ensures refused { IfErr result (λ e. e ≢ KeepError.Full) }
     ensures quiet { IsStill (state S.Store conn.old) (state S.Store conn.new) (fails result) }
@@ -196,7 +196,7 @@ pub(crate) fn find_data<S: Alter>(conn: &mut Connection<S>, number: u32) -> Resu
 pub(crate) fn meta_rows<S: Alter>(conn: &mut Connection<S>) -> Result<Vec<Row>, KeepError>
     requires idle { IsIdle (state S.Store conn.old) }
     ensures all { FindsAll result (λ db. map columns_3 (db.trees 0)) (state S.Store conn.old) (state S.Store conn.new) }
-    ensures found { Finds result (λ db rows. AreMetaByName db rows.items)
+    ensures found { FindsThat result (λ db rows. AreMetaByName db rows.items)
         (state S.Store conn.old) (state S.Store conn.new) }
     ensures open { HasCleanDisk (state S.Store conn.new) → fails result ≡ false
         → IsTrue (state S.Store conn.new).is_open }

@@ -6,7 +6,7 @@ ghost use Rattle.sqlite.specs.Held.{state};
 ghost use Rattle.reg_tables.specs.DataCount.{is_kept_data};
 ghost use Rattle.reg_store.specs.Keep.{fails};
 ghost use Rattle.reg_tables.specs.Methods.{HasRows};
-ghost use Rattle.reg_tables.specs.Quiet.{IsIdle, IsStill, Finds};
+ghost use Rattle.reg_tables.specs.Quiet.{IsIdle, IsStill, FindsThat};
 ghost use Rattle.reg_tables.specs.Recent.{AreRowsAt, HoldsRecent, IsGraphAt};
 ghost use Rattle.reg_tables.specs.Rows.{line_table};
 
@@ -27,7 +27,7 @@ pub(crate) fn find_rows<S: Alter>(
 ) -> Result<Vec<KeptRow>, KeepError>
     requires idle { IsIdle (state S.Store conn.old) }
     requires held { HasCleanDisk (state S.Store conn.old) → HoldsRecent (state S.Store conn.old).now recent.old }
-    ensures found { Finds result (λ db rows. AreRowsAt db number rows.items)
+    ensures found { FindsThat result (λ db rows. AreRowsAt db number rows.items)
         (state S.Store conn.old) (state S.Store conn.new) }
     ensures held { HasCleanDisk (state S.Store conn.new) → fails result ≡ false
         → HoldsRecent (state S.Store conn.new).now recent.new }
@@ -65,7 +65,7 @@ fn count_data<S: Alter>(
 ) -> Result<u32, KeepError>
     requires idle { IsIdle (state S.Store conn.old) }
     requires held { HasCleanDisk (state S.Store conn.old) → HoldsRecent (state S.Store conn.old).now recent.now }
-    ensures found { Finds result (λ db n. HasRows number (line_table db.trees) n)
+    ensures found { FindsThat result (λ db n. HasRows number (line_table db.trees) n)
         (state S.Store conn.old) (state S.Store conn.new) }
     ensures refused { IfErr result (λ e. e ≢ KeepError.Full) }
     ensures quiet { IsStill (state S.Store conn.old) (state S.Store conn.new) (fails result) }
@@ -86,7 +86,7 @@ fn read_graph<S: Alter>(
 ) -> Result<Graph, KeepError>
     requires idle { IsIdle (state S.Store conn.old) }
     requires held { HasCleanDisk (state S.Store conn.old) → HoldsRecent (state S.Store conn.old).now recent.now }
-    ensures found { Finds result (λ db graph. IsGraphAt db number graph)
+    ensures found { FindsThat result (λ db graph. IsGraphAt db number graph)
         (state S.Store conn.old) (state S.Store conn.new) }
     ensures refused { IfErr result (λ e. e ≢ KeepError.Full) }
     ensures quiet { IsStill (state S.Store conn.old) (state S.Store conn.new) (fails result) }
@@ -108,7 +108,7 @@ pub(crate) fn find_graph<S: Alter>(
 ) -> Result<Graph, KeepError>
     requires idle { IsIdle (state S.Store conn.old) }
     requires held { HasCleanDisk (state S.Store conn.old) → HoldsRecent (state S.Store conn.old).now recent.old }
-    ensures found { Finds result (λ db graph. IsGraphAt db number graph)
+    ensures found { FindsThat result (λ db graph. IsGraphAt db number graph)
         (state S.Store conn.old) (state S.Store conn.new) }
     ensures held { HasCleanDisk (state S.Store conn.new) → fails result ≡ false
         → HoldsRecent (state S.Store conn.new).now recent.new }

@@ -27,7 +27,7 @@ fn held_already<K: Keep>(
     ensures reads { OnlyReads K.Keep keep.old keep.new (fails result) }
     ensures held { K.is_sound keep.new → IfOk result (λ held.
         held ≡ first_equal 1 firm.now project.now bytes.now (K.deposits keep.old)) }
-    ensures named { result ≢ Err KeepError.Full }
+    ensures refused { result ≢ Err KeepError.Full }
 {
     match keep.find(firm, project, bytes)? {
         None => Ok(None),

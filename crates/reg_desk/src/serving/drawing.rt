@@ -44,7 +44,7 @@ pub(super) fn read_view<K: Keep>(
     ensures reads { OnlyReads K.Keep keep.old keep.new (fails result) }
     ensures seen { K.is_sound keep.new
         → IfOk result (λ seen. IsViewOfDeposit K.Keep keep.old number seen.0.items seen.1) }
-    ensures named { result ≢ Err KeepError.Full }
+    ensures refused { result ≢ Err KeepError.Full }
 {
     let rows = keep.rows(number)?;
     let graph = keep.steps(number)?;
@@ -64,7 +64,7 @@ fn draw_held<K: Keep>(
     ensures reads { OnlyReads K.Keep keep.old keep.new (fails result) }
     ensures drawn { K.is_sound keep.new
         → IfOk result (DrawsDeposit K.Keep keep.old (look_of looking.now) number (names_in groups.now)) }
-    ensures named { result ≢ Err KeepError.Full }
+    ensures refused { result ≢ Err KeepError.Full }
 {
     let (rows, graph) = read_view(keep, number)?;
     extract(alloc, looking, groups, &rows, &graph)
@@ -85,7 +85,7 @@ fn draw<K: Keep>(
     ensures reads { OnlyReads K.Keep keep.old keep.new (fails result) }
     ensures drawn { K.is_sound keep.new
         → IfOk result (DrawsFor K.Keep policy.now keep.old caller.now project.now number groups.now day) }
-    ensures named { result ≢ Err KeepError.Full }
+    ensures refused { result ≢ Err KeepError.Full }
 {
     if number == 0 || number > keep.count() {
         return Ok(None);

@@ -54,7 +54,7 @@ fn open_project<K: Keep>(
     requires number { K.is_sound keep.old → (0 < number) × (number ≤ length (K.deposits keep.old)) }
     ensures reads { OnlyReads K.Keep keep.old keep.new (fails result) }
     ensures read { K.is_sound keep.new → IfOk result (OpensDeposit K.Keep keep.old (look_of looking.now) number) }
-    ensures named { result ≢ Err KeepError.Full }
+    ensures refused { result ≢ Err KeepError.Full }
 {
     let project = keep.project_row(number)?;
     opens(alloc, looking, project)
@@ -71,7 +71,7 @@ fn seen_among_all<K: Keep>(
     requires number { K.is_sound keep.old → (0 < number) × (number ≤ length (K.deposits keep.old)) }
     ensures reads { OnlyReads K.Keep keep.old keep.new (fails result) }
     ensures seen { K.is_sound keep.new → IfOk result (SeesDeposit K.Keep keep.old (look_of looking.now) number) }
-    ensures named { result ≢ Err KeepError.Full }
+    ensures refused { result ≢ Err KeepError.Full }
 {
     let (rows, graph) = read_view(keep, number)?;
     sees(alloc, looking, &rows, &graph)
@@ -97,7 +97,7 @@ fn seen_from<K: Keep>(
     requires opened { K.is_sound keep.old → OpensDeposit K.Keep keep.old (look_of looking.now) number opened }
     ensures reads { OnlyReads K.Keep keep.old keep.new (fails result) }
     ensures seen { K.is_sound keep.new → IfOk result (SeesDeposit K.Keep keep.old (look_of looking.now) number) }
-    ensures named { result ≢ Err KeepError.Full }
+    ensures refused { result ≢ Err KeepError.Full }
 {
     let Some(row) = opened else {
         return Ok(false);
@@ -122,7 +122,7 @@ fn sees_project<K: Keep>(
     requires alike { IsAlikeOn (look_of looking.now) alike }
     ensures reads { OnlyReads K.Keep keep.old keep.new (fails result) }
     ensures seen { K.is_sound keep.new → IfOk result (SeesDeposit K.Keep keep.old (look_of looking.now) number) }
-    ensures named { result ≢ Err KeepError.Full }
+    ensures refused { result ≢ Err KeepError.Full }
 {
     match alike {
         Alike::AllRows(may) => Ok(may),
@@ -152,7 +152,7 @@ fn listed<K: Keep>(
     requires alike { AreAlikeBy lister.now.policy.now lister.now.caller.now lister.now.project.now lister.now.alike }
     ensures reads { OnlyReads K.Keep keep.old keep.new (fails result) }
     ensures seen { K.is_sound keep.new → IfOk result (ListsDeposit K.Keep keep.old lister.now number) }
-    ensures named { result ≢ Err KeepError.Full }
+    ensures refused { result ≢ Err KeepError.Full }
 {
     let head = keep.head(number)?;
     let looking = looking_in(lister, &head);
@@ -180,7 +180,7 @@ fn lines_at<K: Keep>(
     requires alike { AreAlikeBy lister.now.policy.now lister.now.caller.now lister.now.project.now lister.now.alike }
     ensures reads { OnlyReads K.Keep keep.old keep.new (fails result) }
     ensures listed { K.is_sound keep.new → IfOk result (ListsFor K.Keep keep.old lister.now) }
-    ensures named { result ≢ Err KeepError.Full }
+    ensures refused { result ≢ Err KeepError.Full }
 {
     let mut lines = Vec::new(alloc);
     for number in numbers {
@@ -205,7 +205,7 @@ fn lines_of<K: Keep>(
     ensures reads { OnlyReads K.Keep keep.old keep.new (fails result) }
     ensures listed { K.is_sound keep.new
         → IfOk result (ListsProject K.Keep policy.now keep.old caller.now project.now day) }
-    ensures named { result ≢ Err KeepError.Full }
+    ensures refused { result ≢ Err KeepError.Full }
 {
     let numbers = keep.numbers(project)?;
     if numbers.is_empty() {

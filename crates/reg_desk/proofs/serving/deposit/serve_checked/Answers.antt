@@ -1,4 +1,4 @@
-use Rattle.std.proofs.Common.{◌≡◌, ◌∙◌, sym, ap, subst, List, [], ℕ, Some, None, length, Ok, Err, refl}
+use Rattle.std.proofs.Common.{◌∙◌, sym, ap, subst, List, [], ℕ, Err, refl}
 use Rattle.ags_dict.specs.Entries.{Entries}
 use Rattle.ags_check.specs.Findings.{Findings as AreFindings}
 use Rattle.reg_store.specs.Deposit.{number_of}
@@ -22,7 +22,7 @@ returns-in-Err g c = λ rules number day permit.
     subst (Serves K rules (deposit c.args.caller.now c.args.project.now c.args.embargo bytes day) keep c.held_already.new.keep) (sym c.refused.ensures)
     (deposit_unread K rules c.args.caller.now c.args.project.now c.args.embargo bytes day keep c.held_already.new.keep c.in-Err.error allowed
     (λ s. ∣ subst (λ (e : Entries). AreFindings e bytes []) c.requires.dictionary c.bytes.ensures.clean.file.findings ∣₁)
-    c.in-Err.ensures.reads (λ e. c.in-Err.ensures.named (ap (λ x. Err x) e)))
+    c.in-Err.ensures.reads (λ e. c.in-Err.ensures.refused (ap (λ x. Err x) e)))
 
 pub returns-in-Ok-Some : goal.returns-in-Ok-Some
 returns-in-Ok-Some g c = λ rules number day permit.

@@ -1,4 +1,4 @@
-use Rattle.std.proofs.Common.{◌∙◌, Err, List, ℕ, ap, arith, length, refl, subst}
+use Rattle.std.proofs.Common.{◌∙◌, Err, List, ℕ, ap, arith, length, subst}
 use Rattle.ags_dict.specs.Entries.{Entries}
 use Rattle.reg_desk.specs.Asked.{deposit}
 use Rattle.reg_desk.specs.Serving.{IsRefusal, Serves}

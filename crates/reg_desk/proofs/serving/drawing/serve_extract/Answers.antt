@@ -17,7 +17,7 @@ pub returns-in-Err : goal.returns-in-Err
 returns-in-Err g c =
     subst (Serves g.K.Keep c.args.policy.now (extract c.args.caller.now c.args.project.now c.args.number (names_in c.args.groups.now) c.args.day) c.args.keep.now c.draw.new.keep) (sym c.refused.ensures)
     (extract_unread g.K.Keep c.args.policy.now c.args.caller.now c.args.project.now c.args.number (names_in c.args.groups.now) c.args.day c.args.keep.now c.draw.new.keep _ c.in-Err.error
-    (sym c.decide_request.ensures ∙ c.in-Permit.is) c.in-Err.ensures.reads (λ e. c.in-Err.ensures.named (ap (λ x. Err x) e)))
+    (sym c.decide_request.ensures ∙ c.in-Permit.is) c.in-Err.ensures.reads (λ e. c.in-Err.ensures.refused (ap (λ x. Err x) e)))
 
 pub returns-in-Ok-None : goal.returns-in-Ok-None
 returns-in-Ok-None g c =
