@@ -1,17 +1,15 @@
 -- What is printed of an answer.
-use Rattle.std.proofs.Common.{◌+◌, ◌<◌, ◌≤◌, length, take, get_or, sym, subst, refl, ◌≡◌, ◌++◌, [], ◌∷◌, ℕ, ℤ, List, Result, Ok, Err, IfOk, Vec, codes, ap, ◌∙◌}
-use Rattle.std.specs.Fmt.{decimal}
+use Rattle.std.proofs.Common.{◌+◌, ◌<◌, ◌≤◌, length, take, get_or, sym, subst, ◌≡◌, ◌++◌, [], ◌∷◌, ℕ, List, Result, Ok, Err, IfOk, Vec, ap, ◌∙◌}
 use Rattle.std.specs.Global.{Global}
 use Rattle.reg_policy.specs.Days.{Writes}
 use Rattle.reg_desk.specs.declared.answer.Listed.{Listed}
 use Rattle.std.proofs.lemmas.List.{take_more, take_all}
-use Rattle.reg_shell.specs.Printing.{IsListedLine, ListsAs, empty, next}
+use Rattle.reg_shell.specs.Printing.{IsListedLine, ListsAs, dated_line, empty, next}
 
 -- a line with the text of its embargo day
 pub listed_with : {E : Type 0} (listed : Listed) (day given : List ℕ) (r : Result (Vec ℕ Global) E) → Writes day listed.embargo → given ≡ day
-    → IfOk r (λ line. line.items ≡ decimal listed.number ++ codes " " ++ listed.firm ++ codes " " ++ given ++ codes "\n") → IfOk r (λ line. IsListedLine listed line.items)
-listed_with listed day given (Ok line) writes same is =
-    (day, writes, is ∙ ap (λ t. decimal listed.number ++ codes " " ++ listed.firm ++ codes " " ++ t ++ codes "\n") same)
+    → IfOk r (λ line. line.items ≡ dated_line listed given) → IfOk r (λ line. IsListedLine listed line.items)
+listed_with listed day given (Ok line) writes same is = (day, writes, is ∙ ap (λ t. dated_line listed t) same)
 listed_with listed day given (Err e) writes same is = tt
 
 -- no line, where nothing is printed

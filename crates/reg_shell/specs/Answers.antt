@@ -1,15 +1,19 @@
 -- The answer of a run to a file, under the entries of a dictionary.
-use Rattle.std.specs.Prelude.{◌≡◌, ℕ, ◌<◌, ◌≤◌, List, [], ◌++◌, length, Option, Result, Ok, Err, Bool, true, false, ⊤}
+use Rattle.std.specs.Prelude.{◌≡◌, ℕ, ◌<◌, ◌≤◌, List, [], ◌++◌, length, Option, IfSome, Result, Ok, Err, Bool, true, false, ⊤}
 use Rattle.std.specs.Io.KnownBytes.{Appends}
+use Rattle.std.specs.declared.io.Read.{Ghosts as ReadGhosts}
+use Rattle.std.specs.declared.io.Write.{Ghosts as WriteGhosts}
 use Rattle.ags_dict.specs.Entries.{Entries}
 use Rattle.ags_check.specs.Findings.{Findings}
 use Rattle.ags_rows.specs.declared.finding.Finding.{Finding}
 use Rattle.reg_shell.specs.declared.fault.Fault.{Fault}
 use Rattle.reg_shell.specs.declared.fault.Fault.TheVariants.{TooLarge, NoMemory, Stream}
 use Rattle.reg_shell.specs.declared.report.Report.{Report}
+use Rattle.reg_shell.specs.declared.watched.Watched.{Watched}
 use Rattle.reg_shell.specs.Faults.{fault_text, fault_status}
 use Rattle.reg_shell.specs.Reading.{longest_file}
 use Rattle.reg_shell.specs.Report.{report_of}
+use Rattle.reg_shell.specs.Streams.{has_failed, inner_of}
 
 -- what is printed of a file, what is said of a fault, and the status
 pub data Answers (entries : Entries) (bytes : List ℕ) : List ℕ → List ℕ → ℕ → Type 0 where
@@ -31,6 +35,24 @@ pub data Outcome (entries : Entries) (bytes : List ℕ) : Bool → Bool → Bool
 abbrev pub AnswersOn : Entries → List ℕ → Option (List ℕ) → Option (List ℕ) → Option (List ℕ) → Option (List ℕ) → Bool → Bool → Bool → ℕ → Type 0
 AnswersOn entries bytes out out_after err err_after in_failed out_failed err_failed status =
     (printed said : List ℕ) × Outcome entries bytes in_failed out_failed err_failed printed said status × Appends out out_after printed × Appends err err_after said
+
+module _ {W E : Type 0} (writer : WriteGhosts W) (errors : WriteGhosts E) where
+  -- the outcome of a run on bytes, by what two watched writers are before and after it
+  abbrev pub AnswersTo : Entries → List ℕ → Bool → Watched W → Watched W → Watched E → Watched E → ℕ → Type 0
+  AnswersTo entries bytes in_failed out out_after err err_after status =
+      AnswersOn entries bytes (writer.contents (inner_of out)) (writer.contents (inner_of out_after))
+      (errors.contents (inner_of err)) (errors.contents (inner_of err_after)) in_failed (has_failed out_after) (has_failed err_after) status
+
+  -- the outcome of a run on bytes, whether their reader has failed or not
+  abbrev pub AnswersOnBytes : Entries → List ℕ → Watched W → Watched W → Watched E → Watched E → ℕ → Type 0
+  AnswersOnBytes entries bytes out out_after err err_after status =
+      (in_failed : Bool) × AnswersTo entries bytes in_failed out out_after err err_after status
+
+module _ {R W E : Type 0} (reader : ReadGhosts R) (writer : WriteGhosts W) (errors : WriteGhosts E) where
+  -- the outcome of a run on the bytes of a watched reader, where it tells them
+  abbrev pub AnswersOnInput : Entries → Watched R → Watched R → Watched W → Watched W → Watched E → Watched E → ℕ → Type 0
+  AnswersOnInput entries input input_after out out_after err err_after status =
+      IfSome (reader.remaining (inner_of input)) (λ bytes. AnswersTo writer errors entries bytes (has_failed input_after) out out_after err err_after status)
 
 -- the report on the file's findings, or why there is none
 abbrev pub ReportsOn : Entries → List ℕ → Result Report Fault → Type 0

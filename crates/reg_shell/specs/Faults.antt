@@ -1,8 +1,11 @@
 -- What is said, on standard error, of a run that has no answer, and its status.
 use Rattle.std.specs.Prelude.{◌≡◌, ℕ, ◌⊎◌, List, codes, Option, Result, Ok, Err, Bool, true, false}
 use Rattle.std.specs.Io.KnownBytes.{Appends}
+use Rattle.std.specs.declared.io.Write.{Ghosts as WriteGhosts}
+use Rattle.reg_shell.specs.Streams.{has_failed, inner_of}
 use Rattle.reg_shell.specs.Writing.{TakesPart}
 use Rattle.reg_shell.specs.declared.fault.Fault.{Fault}
+use Rattle.reg_shell.specs.declared.watched.Watched.{Watched}
 use Rattle.reg_shell.specs.declared.fault.Fault.TheVariants.{WordsRefused, PolicyRefused, CallersRefused, TokenRefused, ProjectRefused, DayRefused, GroupsRefused, NumberRefused, DictionaryRefused, TooLarge, StoreNotEmpty, NotRegister, StoreFailed, NoMemory, Stream}
 
 -- the text; nothing is said of a stream that failed
@@ -34,6 +37,11 @@ fault_status _ = 4
 abbrev pub Tells : Option (List ℕ) → Option (List ℕ) → List ℕ → Bool → Bool → ℕ → ℕ → Type 0
 Tells old new text before after status ended =
     (Appends old new text × (after ≡ before) × (ended ≡ status)) ⊎ (TakesPart old new text × (after ≡ true) × (ended ≡ fault_status Stream))
+
+-- the same of a watched writer
+abbrev pub TellsTo : {W : Type 0} → WriteGhosts W → Watched W → Watched W → List ℕ → ℕ → ℕ → Type 0
+TellsTo writer old new text status ended =
+    Tells (writer.contents (inner_of old)) (writer.contents (inner_of new)) text (has_failed old) (has_failed new) status ended
 
 -- the fault is that of a stream
 abbrev pub is_stream : Fault → Bool

@@ -8,3 +8,4 @@ pub mod Refusals
 pub mod Checking
 pub mod Printing
 pub mod Asking
+pub mod Sessions

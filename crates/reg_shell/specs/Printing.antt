@@ -12,9 +12,13 @@ use Rattle.reg_desk.specs.declared.answer.Listed.{Listed}
 abbrev pub IsReceipt : ℕ → ℤ → List ℕ → Type 0
 IsReceipt number embargo text = (day : List ℕ) × Writes day embargo × (text ≡ codes "receipt " ++ decimal number ++ codes " " ++ day ++ codes "\n")
 
+-- a line of a listing, with the text of its embargo day
+abbrev pub dated_line : Listed → List ℕ → List ℕ
+dated_line listed day = decimal listed.number ++ codes " " ++ listed.firm ++ codes " " ++ day ++ codes "\n"
+
 -- a line of a listing: number, firm and embargo day
 abbrev pub IsListedLine : Listed → List ℕ → Type 0
-IsListedLine listed line = (day : List ℕ) × Writes day listed.embargo × (line ≡ decimal listed.number ++ codes " " ++ listed.firm ++ codes " " ++ day ++ codes "\n")
+IsListedLine listed line = (day : List ℕ) × Writes day listed.embargo × (line ≡ dated_line listed day)
 
 -- a line for each deposit, in the order of the listing
 pub data ListsAs : List Listed → List ℕ → Type 0 where

@@ -1,5 +1,5 @@
 -- What is taken from a reader, and what is read of a file.
-use Rattle.std.specs.Prelude.{◌≡◌, ℕ, ◌<◌, ◌≤◌, ◌⊎◌, ◌++◌, List, length, Option, Result, Ok, Err, ⊤, Vec}
+use Rattle.std.specs.Prelude.{◌≡◌, ℕ, ◌<◌, ◌≤◌, ◌⊎◌, ◌++◌, List, length, Option, Result, Ok, Err, IfOk, ⊤, Vec}
 use Rattle.std.specs.Global.{Global}
 use Rattle.std.specs.Io.KnownBytes.{Consumes, IsAtEnd}
 use Rattle.reg_shell.specs.declared.fault.Fault.{Fault}
@@ -22,6 +22,10 @@ pub record Appended (count : ℕ) (old new : Option (List ℕ)) (before after : 
   pub counted : length more ≡ count
   pub taken : Consumes old new more
   pub at_end : count ≡ 0 → IsAtEnd new
+
+-- the same where the read went well
+abbrev pub AppendsIfOk : Result ℕ Fault → Option (List ℕ) → Option (List ℕ) → List ℕ → List ℕ → Type 0
+AppendsIfOk result old new before after = IfOk result (λ count. Appended count old new before after)
 
 -- the fault is of a stream or of memory
 abbrev pub IsOfReading : Fault → Type 0

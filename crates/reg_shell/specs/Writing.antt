@@ -1,6 +1,10 @@
 -- What a writer has taken of a text.
-use Rattle.std.specs.Prelude.{◌≡◌, ◌≢◌, ℕ, ◌++◌, List, [], Option, Result, MatchResult}
+use Rattle.std.specs.Prelude.{◌≡◌, ◌≢◌, ℕ, ◌++◌, List, [], codes, Option, Result, MatchResult}
 use Rattle.std.specs.Io.KnownBytes.{Appends}
+
+-- a line that begins with one text and goes on with another, with LF at its end
+abbrev pub two_part_line : List ℕ → List ℕ → List ℕ
+two_part_line first second = first ++ (second ++ codes "\n")
 
 -- a first part of a text that is not empty was taken
 pub record TakesPart (old new : Option (List ℕ)) (text : List ℕ) : Type 0 where

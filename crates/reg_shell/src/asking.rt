@@ -1,9 +1,8 @@
 //! What is asked of a desk, and that its answer is printed.
 
-ghost use Rattle.reg_shell.specs.Streams.{has_failed, inner_of};
-ghost use Rattle.reg_desk.specs.Asked.{asked, deposit, extract, listing, names_in};
-ghost use Rattle.reg_desk.specs.Desks.{AnsweredBy};
+ghost use Rattle.reg_desk.specs.Asked.{asked, names_in};
 ghost use Rattle.reg_shell.specs.Asking.{AsksDesk};
+ghost use Rattle.reg_shell.specs.Sessions.{deposit_request, extract_request, listing_request};
 
 use crate::printing::answer_report;
 use crate::refusal::Refusal;
@@ -22,9 +21,7 @@ fn ask_desk<'w, K: Keep, W: Write>(
     request: &Request<'_>,
     out: &mut Watched<W>,
 ) -> Result<u8, Refusal<'w>>
-    ensures { AsksDesk (AnsweredBy K.Keep) (asked request.entry.now) desk.old desk.new
-        (W.contents (inner_of out.old)) (W.contents (inner_of out.new))
-        (has_failed out.old) (has_failed out.new) result }
+    ensures { AsksDesk W.Write (asked request.entry.now) desk.old desk.new out.old out.new result }
 {
     let answer = desk.answer(alloc, request);
     let report = answer_report(alloc, answer)?;
@@ -41,10 +38,8 @@ pub fn ask_deposit<'w, K: Keep, W: Write>(
     bytes: &[u8],
     out: &mut Watched<W>,
 ) -> Result<u8, Refusal<'w>>
-    ensures { AsksDesk (AnsweredBy K.Keep)
-        (deposit session.now.caller.now session.now.project embargo bytes.now session.now.day)
-        desk.old desk.new (W.contents (inner_of out.old)) (W.contents (inner_of out.new))
-        (has_failed out.old) (has_failed out.new) result }
+    ensures { AsksDesk W.Write (deposit_request session.now embargo bytes.now)
+        desk.old desk.new out.old out.new result }
 {
     let request = Request::Deposit {
         caller: session.caller,
@@ -63,10 +58,7 @@ pub fn ask_list<'w, K: Keep, W: Write>(
     session: &Session<'_>,
     out: &mut Watched<W>,
 ) -> Result<u8, Refusal<'w>>
-    ensures { AsksDesk (AnsweredBy K.Keep)
-        (listing session.now.caller.now session.now.project session.now.day) desk.old desk.new
-        (W.contents (inner_of out.old)) (W.contents (inner_of out.new))
-        (has_failed out.old) (has_failed out.new) result }
+    ensures { AsksDesk W.Write (listing_request session.now) desk.old desk.new out.old out.new result }
 {
     let request = Request::List {
         caller: session.caller,
@@ -86,10 +78,8 @@ pub fn ask_extract<'w, K: Keep, W: Write>(
     groups: &[&[u8]],
     out: &mut Watched<W>,
 ) -> Result<u8, Refusal<'w>>
-    ensures { AsksDesk (AnsweredBy K.Keep)
-        (extract session.now.caller.now session.now.project number (names_in groups.now) session.now.day)
-        desk.old desk.new (W.contents (inner_of out.old)) (W.contents (inner_of out.new))
-        (has_failed out.old) (has_failed out.new) result }
+    ensures { AsksDesk W.Write (extract_request session.now number (names_in groups.now))
+        desk.old desk.new out.old out.new result }
 {
     let request = Request::Extract {
         caller: session.caller,

@@ -1,10 +1,10 @@
 //! The check of the file that a stream carries, or of a file under the dictionary of another.
 
-ghost use Rattle.std.specs.Prelude.{◌≡◌, ◌↔◌, ◌||◌, Bool, IsTrue, false, ◌+◌, ◌≤◌, IfOk, IfErr, IfSome, length};
+ghost use Rattle.std.specs.Prelude.{◌≡◌, ◌↔◌, ◌||◌, IsTrue, false, ◌+◌, ◌≤◌, IfOk, IfSome, length};
 ghost use Rattle.ags_dict.specs.Mini.{mini_entries};
 ghost use Rattle.ags_check.specs.Findings.{Findings};
-ghost use Rattle.reg_shell.specs.Answers.{AnswersOn, ReportsOn};
-ghost use Rattle.reg_shell.specs.Checking.{ChecksUnder};
+ghost use Rattle.reg_shell.specs.Answers.{AnswersOnBytes, AnswersOnInput, ReportsOn};
+ghost use Rattle.reg_shell.specs.Checking.{ChecksInput, ChecksUnder};
 ghost use Rattle.reg_shell.specs.declared.fault.Fault.TheVariants.{Stream};
 ghost use Rattle.reg_shell.specs.Faults.{fault_status, is_stream_fault};
 ghost use Rattle.reg_shell.specs.Reading.{TakesAtMost, longest_file};
@@ -88,11 +88,8 @@ pub fn check_stream<R: Read, W: Write, E: Write>(
         ↔ IsTrue (has_failed input.new || (has_failed out.new || has_failed err.new)) }
     ensures taken { TakesAtMost (longest_file + 1)
         (R.remaining (inner_of input.old)) (R.remaining (inner_of input.new)) }
-    ensures answers { IfSome (R.remaining (inner_of input.old)) (λ bytes.
-        AnswersOn dictionary.now bytes
-        (W.contents (inner_of out.old)) (W.contents (inner_of out.new))
-        (E.contents (inner_of err.old)) (E.contents (inner_of err.new))
-        (has_failed input.new) (has_failed out.new) (has_failed err.new) result) }
+    ensures answers { AnswersOnInput R.Read W.Write E.Write dictionary.now
+        input.old input.new out.old out.new err.old err.new result }
 {
     match report_on(alloc, dictionary, input) {
         Ok(report) => report.print(out),
@@ -114,11 +111,8 @@ pub fn run_without_words<R: Read, W: Write, E: Write>(
         ↔ IsTrue (has_failed input.new || (has_failed out.new || has_failed err.new)) }
     ensures taken { TakesAtMost (longest_file + 1)
         (R.remaining (inner_of input.old)) (R.remaining (inner_of input.new)) }
-    ensures answers { IfSome (R.remaining (inner_of input.old)) (λ bytes.
-        AnswersOn mini_entries bytes
-        (W.contents (inner_of out.old)) (W.contents (inner_of out.new))
-        (E.contents (inner_of err.old)) (E.contents (inner_of err.new))
-        (has_failed input.new) (has_failed out.new) (has_failed err.new) result) }
+    ensures answers { ChecksInput R.Read W.Write E.Write
+        input.old input.new out.old out.new err.old err.new result }
 {
     match built_in(alloc) {
         Ok(dictionary) => check_stream(alloc, &dictionary, input, out, err),
@@ -137,10 +131,8 @@ pub fn check_given<'w, W: Write, E: Write>(
 ) -> Result<u8, Refusal<'w>>
     requires out { has_failed out.old ≡ false }
     requires err { has_failed err.old ≡ false }
-    ensures { IfOk result (λ status. ChecksUnder dictionary.now file.entry
-        (W.contents (inner_of out.old)) (W.contents (inner_of out.new))
-        (E.contents (inner_of err.old)) (E.contents (inner_of err.new))
-        (has_failed out.new) (has_failed err.new) status) }
+    ensures { IfOk result (λ status. ChecksUnder W.Write E.Write dictionary.now file.entry
+        out.old out.new err.old err.new status) }
 {
     let dictionary = dictionary_in(alloc, dictionary)?;
     let bytes = file?;
@@ -157,10 +149,7 @@ fn check_bytes<W: Write, E: Write>(
 ) -> u8
     requires out { has_failed out.old ≡ false }
     requires err { has_failed err.old ≡ false }
-    ensures { (in_failed : Bool) × AnswersOn dictionary.now bytes.now
-        (W.contents (inner_of out.old)) (W.contents (inner_of out.new))
-        (E.contents (inner_of err.old)) (E.contents (inner_of err.new))
-        in_failed (has_failed out.new) (has_failed err.new) result }
+    ensures { AnswersOnBytes W.Write E.Write dictionary.now bytes.now out.old out.new err.old err.new result }
 {
     let mut input = Watched::new(bytes);
     check_stream(alloc, dictionary, &mut input, out, err)

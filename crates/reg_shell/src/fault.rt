@@ -1,8 +1,8 @@
 //! What ends a run without an answer.
 
-ghost use Rattle.std.specs.Prelude.{◌≡◌, ◌++◌, codes};
-ghost use Rattle.reg_shell.specs.Faults.{ended_with, fault_text, fault_status, Tells};
-ghost use Rattle.reg_shell.specs.Streams.{has_failed, inner_of};
+ghost use Rattle.std.specs.Prelude.{◌≡◌};
+ghost use Rattle.reg_shell.specs.Faults.{ended_with, fault_text, fault_status, TellsTo};
+ghost use Rattle.reg_shell.specs.Writing.{two_part_line};
 ghost use Rattle.reg_shell.specs.declared.fault.Fault.TheVariants.{NoMemory, Stream};
 
 use crate::watched::{StreamFailed, Watched};
@@ -97,8 +97,7 @@ impl Fault {
 
     /// Says the fault, and gives the status that the run ends with.
     pub fn tell<E: Write>(&self, err: &mut Watched<E>) -> u8
-        ensures { Tells (E.contents (inner_of err.old)) (E.contents (inner_of err.new)) (fault_text self.now)
-            (has_failed err.old) (has_failed err.new) (fault_status self.now) result }
+        ensures { TellsTo E.Write err.old err.new (fault_text self.now) (fault_status self.now) result }
     {
         tell(err, self.text(), self.status())
     }
@@ -106,8 +105,7 @@ impl Fault {
 
 /// Writes a text and gives the status. Where the writer fails it gives 6, and a first part of the text is written.
 pub fn tell<W: Write>(out: &mut Watched<W>, text: &[u8], status: u8) -> u8
-    ensures { Tells (W.contents (inner_of out.old)) (W.contents (inner_of out.new)) text.now
-        (has_failed out.old) (has_failed out.new) status result }
+    ensures { TellsTo W.Write out.old out.new text.now status result }
 {
     ended(out.write_text(text), status)
 }
@@ -119,8 +117,7 @@ pub(crate) fn tell_line<W: Write>(
     second: &[u8],
     status: u8,
 ) -> u8
-    ensures { Tells (W.contents out.old.inner) (W.contents out.new.inner) (first.now ++ (second.now ++ codes "\n"))
-        out.old.failed out.new.failed status result }
+    ensures { TellsTo W.Write out.old out.new (two_part_line first.now second.now) status result }
 {
     ended(out.write_line(first, second), status)
 }

@@ -2,7 +2,7 @@
 
 ghost use Rattle.std.specs.Prelude.{◌≡◌, ◌||◌, ◌+◌, ◌<◌, ◌≤◌, IfOk, IfErr, IfSome, length};
 ghost use Rattle.reg_shell.specs.Faults.{is_stream_fault};
-ghost use Rattle.reg_shell.specs.Reading.{Appended, IsOfReading, ReadsFile, TakesAtMost, longest_file};
+ghost use Rattle.reg_shell.specs.Reading.{AppendsIfOk, IsOfReading, ReadsFile, TakesAtMost, longest_file};
 
 use crate::fault::Fault;
 use crate::watched::Watched;
@@ -24,8 +24,8 @@ fn read_piece<R: Read>(
     requires some { 0 < room }
     requires wide { room ≤ length piece.old }
     ensures taken { TakesAtMost room (R.remaining input.old.inner) (R.remaining input.new.inner) }
-    ensures appended { IfOk result (λ count. Appended count
-        (R.remaining input.old.inner) (R.remaining input.new.inner) bytes.old.items bytes.new.items) }
+    ensures appended { AppendsIfOk result
+        (R.remaining input.old.inner) (R.remaining input.new.inner) bytes.old.items bytes.new.items }
     ensures few { IfOk result (λ count. count ≤ room) }
     ensures fault { IfErr result IsOfReading }
     ensures noted { input.new.failed ≡ (input.old.failed || is_stream_fault result) }

@@ -1,7 +1,7 @@
 //! What is printed of an answer of the desk.
 
-ghost use Rattle.std.specs.Prelude.{◌≡◌, ◌++◌, IfOk, OnOk, codes, decimal};
-ghost use Rattle.reg_shell.specs.Printing.{IsListedLine, IsReceipt, ListsAs, ReportsAnswer};
+ghost use Rattle.std.specs.Prelude.{◌≡◌, ◌++◌, IfOk, codes, decimal};
+ghost use Rattle.reg_shell.specs.Printing.{IsListedLine, IsReceipt, ListsAs, ReportsAnswer, dated_line};
 
 use crate::report::{Report, findings_report};
 use ags_rows::FindingList;
@@ -58,8 +58,7 @@ fn denied_report(alloc: Global, number: u32) -> Result<Report, AllocError>
 
 /// The line of a deposit, with the text of its embargo day.
 fn dated_line(alloc: Global, listed: &Listed, embargo: &[u8]) -> Result<Vec<u8>, AllocError>
-    ensures { IfOk result (λ line. line.items
-        ≡ decimal listed.now.number ++ codes " " ++ listed.now.firm ++ codes " " ++ embargo.now ++ codes "\n") }
+    ensures { IfOk result (λ line. line.items ≡ dated_line listed.now embargo.now) }
 {
     let mut line = Vec::new(alloc);
     write!(line, "{} ", listed.number).map_err(|_| AllocError)?;

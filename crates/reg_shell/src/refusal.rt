@@ -1,9 +1,8 @@
 //! What ends a command without an answer.
 
 ghost use Rattle.std.specs.Prelude.{◌≡◌};
-ghost use Rattle.reg_shell.specs.Faults.{Tells};
+ghost use Rattle.reg_shell.specs.Faults.{TellsTo};
 ghost use Rattle.reg_shell.specs.Refusals.{TellsRefusal, unread_text, version_text};
-ghost use Rattle.reg_shell.specs.Streams.{has_failed, inner_of};
 ghost use Rattle.reg_shell.specs.declared.fault.Fault.TheVariants.{NoMemory};
 ghost use Rattle.reg_shell.specs.declared.refusal.Refusal.TheVariants.{Plain};
 
@@ -45,8 +44,7 @@ impl<'w> From<AllocError> for Refusal<'w> {
 impl<'w> Refusal<'w> {
     /// Says it on standard error, and gives the status that the run ends with.
     pub fn tell<E: Write>(&self, err: &mut Watched<E>) -> u8
-        ensures { TellsRefusal self.now (E.contents (inner_of err.old)) (E.contents (inner_of err.new))
-            (has_failed err.old) (has_failed err.new) result }
+        ensures { TellsRefusal E.Write self.now err.old err.new result }
     {
         match self {
             Refusal::Plain(fault) => fault.tell(err),
@@ -59,16 +57,14 @@ impl<'w> Refusal<'w> {
 
 /// Says that the file at a path can not be read.
 fn tell_unread<E: Write>(err: &mut Watched<E>, path: &str) -> u8
-    ensures { Tells (E.contents err.old.inner) (E.contents err.new.inner) (unread_text path.now)
-        err.old.failed err.new.failed 6 result }
+    ensures { TellsTo E.Write err.old err.new (unread_text path.now) 6 result }
 {
     tell_line(err, b"groundreg: cannot read ", path.as_bytes(), 6)
 }
 
 /// Says that the register has a format of this number.
 fn tell_version<E: Write>(err: &mut Watched<E>, number: i64) -> u8
-    ensures { Tells (E.contents err.old.inner) (E.contents err.new.inner) (version_text number)
-        err.old.failed err.new.failed 4 result }
+    ensures { TellsTo E.Write err.old err.new (version_text number) 4 result }
 {
     let mut buffer = Buffer::new();
     let digits = buffer.format(number).as_bytes();

@@ -2,9 +2,8 @@
 
 ghost use Rattle.std.specs.Prelude.{◌≡◌, OnOk, IfOk, ◌++◌, flat_map};
 ghost use Rattle.ags_rows.specs.FindingLists.{finding_of};
-ghost use Rattle.reg_shell.specs.Faults.{Tells};
+ghost use Rattle.reg_shell.specs.Faults.{TellsTo};
 ghost use Rattle.reg_shell.specs.Report.{report_of, report_line, shown_byte, shown_subject};
-ghost use Rattle.reg_shell.specs.Streams.{has_failed, inner_of};
 
 use crate::fault::tell;
 use crate::watched::Watched;
@@ -23,8 +22,7 @@ pub struct Report {
 impl Report {
     /// Prints it, and gives the status.
     pub fn print<W: Write>(&self, out: &mut Watched<W>) -> u8
-        ensures { Tells (W.contents (inner_of out.old)) (W.contents (inner_of out.new)) self.now.text
-            (has_failed out.old) (has_failed out.new) self.now.status result }
+        ensures { TellsTo W.Write out.old out.new self.now.text self.now.status result }
     {
         tell(out, self.text.as_slice(), self.status)
     }

@@ -1,8 +1,8 @@
 //! Who asks, for which project, and on which day.
 
-ghost use Rattle.std.specs.Prelude.{◌≡◌, IfOk, MatchOption, Some};
+ghost use Rattle.std.specs.Prelude.{◌≡◌, IfOk, Some};
 ghost use Rattle.reg_policy.specs.Callers.{caller_of};
-ghost use Rattle.reg_policy.specs.Days.{day_of};
+ghost use Rattle.reg_shell.specs.Sessions.{IsDayOr};
 
 use crate::fault::Fault;
 use crate::words::Asker;
@@ -19,7 +19,7 @@ pub struct Session<'c> {
 
 /// The day that a text writes, or the one for where none is given. `DayRefused` where that is none; no clause names the refusal.
 pub fn day_or(text: Option<&str>, other: Option<Day>) -> Result<Day, Fault>
-    ensures { IfOk result (λ day. MatchOption text.entry (other ≡ Some day) (λ given. day_of given.now ≡ Some day)) }
+    ensures { IfOk result (λ day. IsDayOr text.entry other day) }
 {
     match text {
         Some(text) => Day::read(text).ok_or(Fault::DayRefused),
@@ -49,8 +49,7 @@ pub fn session_of<'c>(
     ensures caller { IfOk result (λ session.
         caller_of asker.now.token.now callers.now ≡ Some session.caller.now) }
     ensures project { IfOk result (λ session. session.project ≡ asker.now.project.now) }
-    ensures day { IfOk result (λ session. MatchOption asker.now.day (today ≡ Some session.day)
-        (λ given. day_of given.now ≡ Some session.day)) }
+    ensures day { IfOk result (λ session. IsDayOr asker.now.day today session.day) }
 {
     let Some(caller) = callers.find(asker.token.as_bytes()) else {
         return Err(Fault::TokenRefused);

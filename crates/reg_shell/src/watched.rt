@@ -1,11 +1,11 @@
 //! Streams that note whether they failed.
 
-ghost use Rattle.std.specs.Prelude.{◌≡◌, ◌||◌, ◌<◌, ◌≤◌, ◌++◌, false, codes, length, IfOk};
+ghost use Rattle.std.specs.Prelude.{◌≡◌, ◌||◌, ◌<◌, ◌≤◌, false, length, IfOk};
 ghost use Rattle.std.specs.Result.{is_err};
 ghost use Rattle.std.specs.Io.{ReadsAtMost};
 ghost use Rattle.std.specs.Io.KnownBytes.{Keeps, ReadConsumes, WriteAppends};
 ghost use Rattle.reg_shell.specs.Streams.{has_failed, inner_of};
-ghost use Rattle.reg_shell.specs.Writing.{WritesText};
+ghost use Rattle.reg_shell.specs.Writing.{WritesText, two_part_line};
 
 use std::io::{Read, Write};
 
@@ -99,7 +99,7 @@ impl<W: Write> Watched<W> {
     /// Writes a line that begins with `first` and goes on with `second`. It ends with LF.
     pub fn write_line(&mut self, first: &[u8], second: &[u8]) -> Result<(), StreamFailed>
         ensures bytes { WritesText (W.contents (inner_of self.old)) (W.contents (inner_of self.new)) result
-            (first.now ++ (second.now ++ codes "\n")) }
+            (two_part_line first.now second.now) }
         ensures noted { has_failed self.new ≡ (has_failed self.old || is_err result) }
     {
         self.write_text(first)?;
