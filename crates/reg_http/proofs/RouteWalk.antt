@@ -10,8 +10,9 @@ use Rattle.matchit.specs.Rows.{RowsOf, param_token}
 use Rattle.matchit.specs.Router.{RouteOf}
 use Rattle.matchit.specs.Seek.{step, seek, has_slash, segment, cuts, better, longest_suffix, after_param, slash}
 use Rattle.matchit.specs.Params.{walk, wild_from, wild_stop, part_of, after_token, AllText}
+use Rattle.matchit.specs.declared.params.Params.{Params}
 use Rattle.matchit.proofs.LongestLemmas.{better-again, better-yes, better-no}
-use Rattle.reg_http.specs.Routes.{check_route, deposit_route, deposits_route, page_in, param, route_of, table, taken}
+use Rattle.reg_http.specs.Routes.{check_route, deposit_route, deposits_route, page_in, param, route_of, table, taken, taken_by}
 use Rattle.reg_http.specs.declared.route.Page.{Page}
 use Rattle.reg_http.proofs.SeekLemmas.{all_bytes, with_token, with_tokens, seek_none, seek_drop, seek_end, seek_plain, begins, seek_wild, seek_last, seek_here, param_hit, param_miss}
 
@@ -250,11 +251,14 @@ parts_are_text path r text bytes e =
     get_or-drop-at : (m : ℕ) (l : List ℕ) → get_or (drop m l) 0 0 ≡ get_or l m 0
     get_or-drop-at m l = get_or-drop m l 0 0 ∙ ap (λ k. get_or l k 0) (omega arith)
 
+-- the same of the parameters of the match
+pub params_are_text : (path : List ℕ) (params : Params) (page : Page) → IsUtf8 path → AreBytes path → params.path.now ≡ path
+    → route_of path ≡ Some (record { pattern = params.pattern.now; text = params.text.now; names = params.names.now; value = page })
+    → AllText (taken_by params)
+params_are_text path params page text bytes same found = rw same (parts_are_text path _ text bytes found)
+
 -- a route that was found, with its parts
-pub found_is : (path : List ℕ) (r : RouteOf Page) (project number : List ℕ) → IsUtf8 path → AreBytes path → route_of path ≡ Some r
-    → (AllText (taken r path) → project ≡ param (codes "project") r path)
-    → (AllText (taken r path) → number ≡ param (codes "number") r path)
+pub found_is : (path : List ℕ) (r : RouteOf Page) (project number : List ℕ) → route_of path ≡ Some r
+    → project ≡ param (codes "project") r path → number ≡ param (codes "number") r path
     → page_in path ≡ Ok (record { page = r.value; project = project; number = number })
-found_is path r project number text bytes found first_is second_is =
-    let all = parts_are_text path r text bytes found in
-    rw (found, first_is all, second_is all) refl
+found_is path r project number found first_is second_is = rw (found, first_is, second_is) refl

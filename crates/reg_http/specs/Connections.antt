@@ -1,13 +1,20 @@
 -- What serving several connections does, one after the other.
-use Rattle.std.specs.Prelude.{◌≡◌, ◌+◌, ℕ, ℤ, ◌≤◌, List, [], ◌∷◌, Option, Result, IfSome, IsTrue, ⊤}
+use Rattle.std.specs.Prelude.{◌≡◌, ◌+◌, ℕ, ℤ, ◌≤◌, List, [], ◌∷◌, Option, Result, IfOk, IfSome, IsTrue, ⊤, Vec}
+use Rattle.std.specs.declared.alloc.AllocError.{AllocError}
+use Rattle.std.specs.declared.alloc.Global.{Global}
+use Rattle.std.specs.declared.io.Read.{Ghosts as ReadGhosts}
+use Rattle.std.specs.declared.io.Write.{Ghosts as WriteGhosts}
 use Rattle.ags_rows.specs.declared.TheConstants.{LIMIT}
 use Rattle.reg_policy.specs.declared.callers.Credential.{Credential}
+use Rattle.reg_store.specs.declared.keep.Keep.{Ghosts as KeepGhosts}
 use Rattle.reg_desk.specs.Asked.{Asked}
+use Rattle.reg_desk.specs.Desks.{AnsweredBy}
 use Rattle.reg_http.specs.Heads.{longest_head}
 use Rattle.reg_http.specs.Serving.{ServesOne, WaitsFor, is_read, is_write}
 use Rattle.reg_http.specs.Tallies.{IsFresh, inner_of, calls_of, has_failed}
 use Rattle.reg_http.specs.declared.tally.Tally.{Tally}
 use Rattle.reg_desk.specs.declared.answer.Answer.{Answer}
+use Rattle.reg_desk.specs.declared.desk.Desk.{Desk}
 use Rattle.reg_http.specs.declared.serve.Served.{Served}
 use Rattle.reg_http.specs.declared.serve.IoFault.{IoFault}
 
@@ -42,3 +49,18 @@ module _ {D R W : Type 0} (answers : D → Asked → Answer → D → Type 0) (r
   ServesAll [] [] (n ∷ ns) before after = ⊥
   ServesAll (o ∷ os) [] ns before after = ⊥
   ServesAll (o ∷ os) (r ∷ rs) [] before after = ⊥
+
+module _ {K R W : Type 0} {keep : KeepGhosts K} (reads : ReadGhosts R) (writes : WriteGhosts W)
+    (callers : List Credential) (day : ℤ) where
+  -- one connection was served over a desk
+  abbrev pub ServesPair : Tally R × Tally W → Tally R × Tally W → Desk K keep → Desk K keep
+      → Result Served IoFault → Type 0
+  ServesPair old new before after r =
+      ServesConnection (AnsweredBy keep) reads.remaining writes.contents callers day old new before after r
+
+  -- the connections were served over a desk in turn, if there was memory for their results
+  abbrev pub ServesList : List (Tally R × Tally W) → List (Tally R × Tally W) → Desk K keep → Desk K keep
+      → Result (Vec (Result Served IoFault) Global) AllocError → Type 0
+  ServesList old new before after r =
+      IfOk r (λ results.
+      ServesAll (AnsweredBy keep) reads.remaining writes.contents callers day old results.items new before after)

@@ -1,10 +1,13 @@
 -- The head of a request at the front of the bytes of a connection, within the limits.
-use Rattle.std.specs.Prelude.{◌≡◌, ℕ, ◌<◌, ◌≤◌, List, [], length, take, Option, Some, Bool, true, false, ⊤}
+use Rattle.std.specs.Prelude.{◌≡◌, ℕ, ◌<◌, ◌≤◌, List, [], length, take, Option, Some, IfSome, Bool, true, false, ⊤}
+use Rattle.std.specs.declared.io.Read.{Ghosts as ReadGhosts}
 use Rattle.httparse.specs.Grammar.{RequestHead, print_request, ReadsRequest}
 use Rattle.httparse.specs.declared.spans.HeaderSpan.{HeaderSpan}
 use Rattle.httparse.specs.declared.spans.RequestSpans.{RequestSpans}
 use Rattle.httparse.specs.Spans.{IsRequestAt, IsRequestWithin}
 use Rattle.std.specs.Io.KnownBytes.{Consumes}
+use Rattle.reg_http.specs.Tallies.{inner_of}
+use Rattle.reg_http.specs.declared.tally.Tally.{Tally}
 use Rattle.reg_http.specs.declared.head.HeadRead.{HeadRead}
 use Rattle.reg_http.specs.declared.head.HeadRead.TheVariants.{Empty, Fault, Bad, Whole}
 
@@ -51,6 +54,11 @@ ReadsHead bytes left buf headers Empty = bytes ≡ []
 ReadsHead bytes left buf headers Fault = ⊤
 ReadsHead bytes left buf headers Bad = (0 < length bytes) × HasNoHead bytes
 ReadsHead bytes left buf headers (Whole spans filled) = Consumes (Some bytes) left (take filled buf)
+
+-- the same of a reader, where it tells its bytes
+abbrev pub ReadsHeadFrom : {R : Type 0} → ReadGhosts R → Tally R → Tally R → List ℕ → List HeaderSpan → HeadRead → Type 0
+ReadsHeadFrom reads old new buf headers read =
+    IfSome (reads.remaining (inner_of old)) (λ bytes. ReadsHead bytes (reads.remaining (inner_of new)) buf headers read)
 
 -- the read failed
 abbrev pub is_fault : HeadRead → Bool

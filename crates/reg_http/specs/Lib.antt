@@ -15,4 +15,5 @@ pub mod Asks
 pub mod Views
 pub mod Reading
 pub mod Serving
+pub mod Sides
 pub mod Connections

@@ -19,6 +19,10 @@ use Rattle.reg_http.specs.declared.route.Kind.TheVariants as kinds
 abbrev pub decoded : List ℕ → List ℕ
 decoded encoded = utf8_lossy (decode encoded)
 
+-- the value of a parameter that has to be the one of this name
+abbrev pub value_in : List ℕ → List ℕ → List ℕ → Result (List ℕ) Refusal
+value_in key value name = if bytes_eq (decoded key) name then Ok (decoded value) else Err BadParameter
+
 -- The value of the parameter of this name, if it is given: of the pairs there is none, or the one of this name.
 abbrev pub value_of : List ℕ → List (List ℕ × List ℕ) → Result (Option (List ℕ)) Refusal
 value_of name [] = Ok None
@@ -56,13 +60,16 @@ abbrev pub extract_in : ℕ → Option (List ℕ) → Result Sought Refusal
 extract_in number None = Ok (extract number [])
 extract_in number (Some text) = if list_all is_group_name (groups_in text) then Ok (extract number (groups_in text)) else Err BadParameter
 
+-- the extract that a number and the pairs of a query ask
+abbrev pub extract_sought : List ℕ → List (List ℕ × List ℕ) → Result Sought Refusal
+extract_sought number pairs = and_then (deposit_number number) (λ n. and_then (value_of (codes "groups") pairs) (extract_in n))
+
 -- what a request of this kind asks, by the number in its path, the pairs of its query and the day of serving
 abbrev pub sought_in : Kind → List ℕ → List (List ℕ × List ℕ) → ℤ → Result Sought Refusal
 sought_in kinds.Check number pairs day = if no_pairs pairs then Ok check else Err BadParameter
 sought_in kinds.Deposit number pairs day = and_then (value_of (codes "embargo") pairs) (embargo_in day)
 sought_in kinds.List number pairs day = if no_pairs pairs then Ok listing else Err BadParameter
-sought_in kinds.Extract number pairs day =
-    and_then (deposit_number number) (λ n. and_then (value_of (codes "groups") pairs) (extract_in n))
+sought_in kinds.Extract number pairs day = extract_sought number pairs
 
 abbrev pub project_in : List ℕ → Result (List ℕ) Refusal
 project_in text = if is_name text then Ok text else Err BadParameter

@@ -5,6 +5,7 @@ use Rattle.matchit.specs.Rows.{RowsOf, param_token}
 use Rattle.matchit.specs.Router.{RouteOf}
 use Rattle.matchit.specs.Seek.{first}
 use Rattle.matchit.specs.Params.{walk, named}
+use Rattle.matchit.specs.declared.params.Params.{Params}
 use Rattle.reg_http.specs.declared.refusal.Refusal.{Refusal}
 use Rattle.reg_http.specs.declared.refusal.Refusal.TheVariants.{NoRoute, Method}
 use Rattle.reg_http.specs.declared.route.Page.{Page}
@@ -60,6 +61,10 @@ route_of path = first table path
 -- what the parameters of a route took from a path
 abbrev pub taken : RouteOf Page → List ℕ → List (List ℕ × List ℕ)
 taken r path = walk r.pattern r.text path r.names 0 0
+
+-- what the parameters of a match took from its path
+abbrev pub taken_by : Params → List (List ℕ × List ℕ)
+taken_by params = walk params.pattern.now params.text.now params.path.now params.names.now 0 0
 
 -- what a parameter took, or nothing where the route has none of this name
 abbrev pub param : List ℕ → RouteOf Page → List ℕ → List ℕ

@@ -58,8 +58,9 @@ pub(crate) fn receive_body<R: Read>(
 fn read_chunk<R: Read>(reader: &mut Tally<R>, chunk: &mut [u8; 4096], room: usize) -> Option<usize>
     requires some { 0 < room }
     requires within { room ≤ 4096 }
-    ensures filled { IfSome result (λ n. (n ≤ room)
-        × Consumes (R.remaining (inner_of reader.old)) (R.remaining (inner_of reader.new)) (take n chunk.new)) }
+    ensures few { IfSome result (λ n. n ≤ room) }
+    ensures taken { IfSome result (λ n.
+        Consumes (R.remaining (inner_of reader.old)) (R.remaining (inner_of reader.new)) (take n chunk.new)) }
     ensures at_end { result ≡ Some 0 → IsAtEnd (R.remaining (inner_of reader.new)) }
     ensures calls { calls_of reader.new ≡ one_call_more (calls_of reader.old) }
     ensures failed { has_failed reader.new ≡ (has_failed reader.old || is_none result) }

@@ -1,7 +1,7 @@
 //! The head of a request, read piece by piece.
-ghost use Rattle.std.specs.Prelude.{◌≡◌, ◌≤◌, IfSome};
-ghost use Rattle.reg_http.specs.Tallies.{inner_of, calls_of, has_failed, IsFresh};
-ghost use Rattle.reg_http.specs.Heads.{ReadsHead, HoldsIfWhole, is_fault, most_read};
+ghost use Rattle.std.specs.Prelude.{◌≡◌, ◌≤◌};
+ghost use Rattle.reg_http.specs.Tallies.{calls_of, has_failed, IsFresh};
+ghost use Rattle.reg_http.specs.Heads.{ReadsHeadFrom, HoldsIfWhole, is_fault, most_read};
 
 use crate::fill::read_more;
 use crate::tally::Tally;
@@ -35,8 +35,7 @@ pub(crate) fn receive_head<R: Read>(
     headers: &mut [HeaderSpan; MOST_FIELDS],
 ) -> HeadRead
     requires { IsFresh reader.old }
-    ensures head { IfSome (R.remaining (inner_of reader.old)) (λ bytes.
-        ReadsHead bytes (R.remaining (inner_of reader.new)) buf.new headers.new result) }
+    ensures head { ReadsHeadFrom R.Read reader.old reader.new buf.new headers.new result }
     ensures held { HoldsIfWhole buf.new headers.new result }
     ensures fault { has_failed reader.new ≡ is_fault result }
     ensures calls { calls_of reader.new ≤ most_read result }

@@ -1,7 +1,6 @@
 //! Several connections, one after the other.
-ghost use Rattle.std.specs.Prelude.{◌≡◌, IfOk, OnErr};
-ghost use Rattle.reg_desk.specs.Desks.{AnsweredBy};
-ghost use Rattle.reg_http.specs.Connections.{AreFresh, ServesAll, ServesConnection};
+ghost use Rattle.std.specs.Prelude.{◌≡◌, OnErr};
+ghost use Rattle.reg_http.specs.Connections.{AreFresh, ServesList, ServesPair};
 ghost use Rattle.reg_http.specs.Tallies.{IsFresh};
 
 use crate::serve::{IoFault, Served, serve_one};
@@ -21,7 +20,7 @@ fn serve_pair<K: Keep, R: Read, W: Write>(
 ) -> Result<Served, IoFault>
     requires reader_fresh { IsFresh connection.old.0 }
     requires writer_fresh { IsFresh connection.old.1 }
-    ensures { ServesConnection (AnsweredBy K.Keep) R.remaining W.contents callers.now day
+    ensures { ServesPair R.Read W.Write callers.now day
         connection.old connection.new desk.old desk.new result }
 {
     serve_one(
@@ -43,8 +42,8 @@ pub fn serve_list<K: Keep, R: Read, W: Write>(
     connections: &mut [(Tally<R>, Tally<W>)],
 ) -> Result<Vec<Result<Served, IoFault>>, AllocError>
     requires { AreFresh connections.old }
-    ensures served { IfOk result (λ results. ServesAll (AnsweredBy K.Keep) R.remaining W.contents callers.now day
-        connections.old results.items connections.new desk.old desk.new) }
+    ensures served { ServesList R.Read W.Write callers.now day
+        connections.old connections.new desk.old desk.new result }
     ensures unserved { OnErr result ((desk.new ≡ desk.old) × (connections.new ≡ connections.old)) }
 {
     let mut results = Vec::with_capacity(alloc, connections.len())?;

@@ -1,7 +1,6 @@
 //! The parameters of a request.
-ghost use Rattle.std.specs.Prelude.{◌≡◌, ◌<◌, [], ◌∷◌, Ok, Err, IfOk, IfErr, IfSome, OnOk, MatchOption, codes, length, true, false, if◌then◌else◌};
+ghost use Rattle.std.specs.Prelude.{◌≡◌, ◌<◌, [], ◌∷◌, Ok, IfOk, IfErr, IfSome, IfNone, OnOk, OnSome, codes, length, true, false};
 ghost use Rattle.std.specs.List.{list_all};
-ghost use Rattle.std.specs.Str.{bytes_eq};
 ghost use Rattle.std.specs.Cow.{cow_str_bytes};
 ghost use Rattle.form_urlencoded.specs.Form.{raw_pairs, split};
 ghost use Rattle.ags_text.specs.Bytes.{comma};
@@ -9,7 +8,7 @@ ghost use Rattle.ags_text.specs.Names.{is_group_name};
 ghost use Rattle.reg_http.specs.Agree.{Agrees, and_then, is_want_of_memory};
 ghost use Rattle.reg_desk.specs.Asked.{names_in};
 ghost use Rattle.reg_http.specs.Numbers.{deposit_number};
-ghost use Rattle.reg_http.specs.Queries.{embargo_in, extract_in, groups_in, no_pairs, project_in, sought_in, decoded, value_of};
+ghost use Rattle.reg_http.specs.Queries.{embargo_in, extract_in, extract_sought, groups_in, no_pairs, project_in, sought_in, decoded, value_in, value_of};
 ghost use Rattle.reg_http.specs.Views.{itself, sought_at, text_at};
 
 use crate::number::deposit_number;
@@ -49,8 +48,7 @@ fn value_in<'b>(
     value: &'b [u8],
     name: &str,
 ) -> Result<CowStr<'b>, Refusal>
-    ensures { Agrees cow_str_bytes (if bytes_eq (decoded key.now) name.now then Ok (decoded value.now)
-        else Err Refusal.BadParameter) result }
+    ensures { Agrees cow_str_bytes (value_in key.now value.now name.now) result }
 {
     let key = decoded(alloc, key)?;
     if key.as_bytes() != name.as_bytes() {
@@ -84,9 +82,9 @@ fn has_no_pairs(query: &[u8]) -> bool
 
 /// The piece before the first comma, and what follows it.
 fn first_piece(text: &[u8]) -> Option<(&[u8], &[u8])>
-    ensures pieces { MatchOption result (split comma text.now ≡ text.now ∷ [])
-        (λ parts. split comma text.now ≡ parts.0.now ∷ split comma parts.1.now) }
+    ensures pieces { IfSome result (λ parts. split comma text.now ≡ parts.0.now ∷ split comma parts.1.now) }
     ensures shorter { IfSome result (λ parts. length parts.1.now < length text.now) }
+    ensures whole { IfNone result (split comma text.now ≡ text.now ∷ []) }
 {
     match text.iter().position(|b| *b == b',') {
         Some(i) => Some((&text[..i], &text[i + 1..])),
@@ -120,9 +118,10 @@ pub(crate) fn groups_of<'t>(alloc: Global, text: &'t [u8]) -> Result<Vec<&'t [u8
 
 /// The groups that a text lists with commas between them, if each of them is the name of a group. An empty text lists none.
 pub fn groups_listed<'t>(alloc: Global, text: &'t [u8]) -> Result<Option<Vec<&'t [u8]>>, AllocError>
-    ensures { IfOk result (λ listed. MatchOption listed (list_all is_group_name (groups_in text.now) ≡ false)
-        (λ groups. (names_in groups.items ≡ groups_in text.now)
-        × (list_all is_group_name (groups_in text.now) ≡ true))) }
+    ensures listed { IfOk result (λ listed.
+        IfSome listed (λ groups. names_in groups.items ≡ groups_in text.now)) }
+    ensures named { IfOk result (λ listed. OnSome listed (list_all is_group_name (groups_in text.now) ≡ true)) }
+    ensures refused { IfOk result (λ listed. IfNone listed (list_all is_group_name (groups_in text.now) ≡ false)) }
 {
     let groups = groups_of(alloc, text)?;
     if are_group_names(&groups) {
@@ -147,8 +146,9 @@ fn are_group_names(groups: &[&[u8]]) -> bool
 /// Refuses a text that lists what is no group.
 fn check_groups(alloc: Global, text: &[u8]) -> Result<(), Refusal>
     ensures fine { OnOk result (list_all is_group_name (groups_in text.now) ≡ true) }
-    ensures refused { IfErr result (λ refusal. is_want_of_memory refusal ≡ false
-        → (refusal ≡ Refusal.BadParameter) × (list_all is_group_name (groups_in text.now) ≡ false)) }
+    ensures refused { IfErr result (λ refusal. is_want_of_memory refusal ≡ false → refusal ≡ Refusal.BadParameter) }
+    ensures cause { IfErr result (λ refusal. is_want_of_memory refusal ≡ false
+        → list_all is_group_name (groups_in text.now) ≡ false) }
 {
     let Ok(groups) = groups_of(alloc, text) else {
         return Err(Refusal::OutOfMemory);
@@ -195,8 +195,7 @@ fn seeks_deposit<'b>(alloc: Global, query: &'b [u8], day: Day) -> Result<Seeks<'
 }
 
 fn seeks_extract<'b>(alloc: Global, number: &str, query: &'b [u8]) -> Result<Seeks<'b>, Refusal>
-    ensures { Agrees sought_at (and_then (deposit_number number.now)
-        (λ n. and_then (value_of (codes "groups") (raw_pairs query.now)) (extract_in n))) result }
+    ensures { Agrees sought_at (extract_sought number.now (raw_pairs query.now)) result }
 {
     let number = deposit_number(number.as_bytes())?;
     match value_of(alloc, query, "groups") {

@@ -1,7 +1,6 @@
 //! The text of a reply.
-ghost use Rattle.std.specs.Prelude.{◌≡◌, ◌++◌, IfOk, OnOk, codes, decimal, string_bytes};
-ghost use Rattle.reg_desk.specs.View.{line_end};
-ghost use Rattle.reg_http.specs.Replies.{phrase_of, reply_front, reply_text};
+ghost use Rattle.std.specs.Prelude.{◌≡◌, IfOk, OnOk, string_bytes};
+ghost use Rattle.reg_http.specs.Replies.{phrase_of, reply_front, reply_text, with_fields, with_status_line};
 
 use http::StatusCode;
 use std::alloc::{AllocError, Global};
@@ -18,8 +17,7 @@ fn phrase_of(status: StatusCode) -> &'static str
 
 /// Appends the status line.
 fn push_status(text: &mut String, status: StatusCode) -> Result<(), AllocError>
-    ensures { OnOk result (string_bytes text.new ≡ string_bytes text.old
-        ++ codes "HTTP/1.1 " ++ decimal status ++ codes " " ++ phrase_of status ++ line_end) }
+    ensures { OnOk result (string_bytes text.new ≡ with_status_line (string_bytes text.old) status) }
 {
     let code = status.as_u16();
     text.push_str("HTTP/1.1 ")?;
@@ -31,9 +29,7 @@ fn push_status(text: &mut String, status: StatusCode) -> Result<(), AllocError>
 
 /// Appends the fields, and the empty line behind them.
 fn push_fields(text: &mut String, kind: &str, length: usize) -> Result<(), AllocError>
-    ensures { OnOk result (string_bytes text.new ≡ string_bytes text.old
-        ++ codes "Content-Type: " ++ kind.now ++ codes "\r\nContent-Length: " ++ decimal length
-        ++ codes "\r\nConnection: close\r\n\r\n") }
+    ensures { OnOk result (string_bytes text.new ≡ with_fields (string_bytes text.old) kind.now length) }
 {
     text.push_str("Content-Type: ")?;
     text.push_str(kind)?;

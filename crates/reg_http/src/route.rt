@@ -1,8 +1,8 @@
 //! The routes of the register, with what each method asks of them.
 ghost use Rattle.std.specs.Prelude.{◌≡◌, IfOk, [], unwrap_or};
-ghost use Rattle.matchit.specs.Params.{walk, named, AllText};
+ghost use Rattle.matchit.specs.Params.{named, AllText};
 ghost use Rattle.reg_http.specs.Agree.{Agrees};
-ghost use Rattle.reg_http.specs.Routes.{check_route, deposit_route, deposits_route, page_in, has_body, kind_in, method_of, table};
+ghost use Rattle.reg_http.specs.Routes.{check_route, deposit_route, deposits_route, page_in, has_body, kind_in, method_of, table, taken_by};
 ghost use Rattle.reg_http.specs.Views.{found_page};
 
 use crate::refusal::Refusal;
@@ -139,8 +139,8 @@ pub(crate) fn find<'p>(alloc: Global, path: &'p str) -> Result<Found<'p>, Refusa
 
 /// What the parameter of this name took, or nothing where there is none.
 fn part<'p>(params: &Params<'_, 'p>, name: &str) -> &'p str
-    ensures { let all = walk params.now.pattern.now params.now.text.now params.now.path.now params.now.names.now 0 0
-        in AllText all → result.now ≡ unwrap_or (named name.now all) [] }
+    requires { AllText (taken_by params.now) }
+    ensures { result.now ≡ unwrap_or (named name.now (taken_by params.now)) [] }
 {
     match params.get(name) {
         Some(value) => value,

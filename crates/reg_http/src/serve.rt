@@ -1,16 +1,13 @@
 //! One connection.
-ghost use Rattle.std.specs.Prelude.{◌≡◌, ◌≤◌, ◌+◌, ◌++◌, ℕ, false, List, [], IfSome, IsTrue};
-ghost use Rattle.httparse.specs.Grammar.{RequestHead};
+ghost use Rattle.std.specs.Prelude.{◌≡◌, ◌≤◌, ◌+◌, ℕ, false, List, [], IfSome, IsTrue};
 ghost use Rattle.reg_http.specs.Asks.{ask_of};
 ghost use Rattle.reg_http.specs.Connections.{most_calls};
-ghost use Rattle.reg_http.specs.HeadParts.{head_parts, parts_seen};
-ghost use Rattle.reg_http.specs.Heads.{IsHead};
+ghost use Rattle.reg_http.specs.HeadParts.{parts_seen};
 ghost use Rattle.reg_desk.specs.Asked.{asked};
-ghost use Rattle.reg_desk.specs.Desks.{AnsweredBy};
 ghost use Rattle.reg_http.specs.Rendering.{is_fixed, rendered, status_of};
-ghost use Rattle.reg_http.specs.Serving.{ServesOne, ServesAnswer, ServesAsked, ServesRequest, WaitsFor, Written, body_reads, is_read, is_write};
+ghost use Rattle.reg_http.specs.Serving.{ServesAnswer, WaitsFor, body_reads, is_read, is_write};
+ghost use Rattle.reg_http.specs.Sides.{ServesAskedFrom, ServesAskedTo, ServesHead, ServesOneFrom, ServesOneTo, ServesRequestTo, ServesSomeHead, WrittenTo};
 ghost use Rattle.reg_http.specs.Tallies.{inner_of, calls_of, has_failed, IsFresh};
-ghost use Rattle.reg_http.specs.Views.{asking_at};
 
 use crate::answer::{built_reply, fixed_reply, status_of};
 use crate::ask::{Ask, head_parts, read_ask};
@@ -53,8 +50,7 @@ fn finish<W: Write>(
     text: &[u8],
 ) -> Result<Served, IoFault>
     requires { has_failed writer.old ≡ false }
-    ensures written { Written (W.contents (inner_of writer.old)) (W.contents (inner_of writer.new))
-        text.now status result }
+    ensures written { WrittenTo W.Write writer.old writer.new text.now status result }
     ensures write_fault { has_failed writer.new ≡ is_write result }
     ensures no_read { is_read result ≡ false }
 {
@@ -69,8 +65,7 @@ fn finish<W: Write>(
 /// Writes the reply to a refusal.
 fn refuse<W: Write>(writer: &mut Tally<W>, refusal: Refusal) -> Result<Served, IoFault>
     requires { has_failed writer.old ≡ false }
-    ensures written { Written (W.contents (inner_of writer.old)) (W.contents (inner_of writer.new))
-        (rendered refusal) (status_of refusal) result }
+    ensures written { WrittenTo W.Write writer.old writer.new (rendered refusal) (status_of refusal) result }
     ensures write_fault { has_failed writer.new ≡ is_write result }
     ensures no_read { is_read result ≡ false }
 {
@@ -122,8 +117,8 @@ fn serve_request<K: Keep, W: Write>(
     writer: &mut Tally<W>,
 ) -> Result<Served, IoFault>
     requires { has_failed writer.old ≡ false }
-    ensures served { ServesRequest (AnsweredBy K.Keep) (asked request.entry.now) desk.old desk.new
-        (W.contents (inner_of writer.old)) (W.contents (inner_of writer.new)) result }
+    ensures served { ServesRequestTo W.Write (asked request.entry.now)
+        desk.old desk.new writer.old writer.new result }
     ensures write_fault { has_failed writer.new ≡ is_write result }
     ensures no_read { is_read result ≡ false }
 {
@@ -145,13 +140,12 @@ fn serve_asked<K: Keep, R: Read, W: Write>(
     requires writer_sound { has_failed writer.old ≡ false }
 
     // What is written and what the desk is then, by the bytes that came early and those that the reader still had.
-    ensures served { IfSome (R.remaining (inner_of reader.old)) (λ left.
-        ServesAsked (AnsweredBy K.Keep) (asking_at ask.now) day (early.now ++ left) desk.old desk.new
-        (W.contents (inner_of writer.old)) (W.contents (inner_of writer.new)) result) }
+    ensures served { ServesAskedFrom R.Read W.Write ask.now day early.now reader.old
+        desk.old desk.new writer.old writer.new result }
 
     // The same of some bytes, where the reader does not tell its own.
-    ensures untold { (all : List ℕ) × ServesAsked (AnsweredBy K.Keep) (asking_at ask.now) day all desk.old desk.new
-        (W.contents (inner_of writer.old)) (W.contents (inner_of writer.new)) result }
+    ensures untold { (all : List ℕ) × ServesAskedTo W.Write ask.now day all
+        desk.old desk.new writer.old writer.new result }
 
     // Faults are those of the two sides, each exactly, and a failed read changes neither desk nor writer.
     ensures read_fault { has_failed reader.new ≡ is_read result }
@@ -189,13 +183,10 @@ fn serve_head<K: Keep, R: Read, W: Write>(
     requires writer_sound { has_failed writer.old ≡ false }
 
     // At bytes that begin with a head of these parts.
-    ensures served { IfSome (R.remaining (inner_of reader.old)) (λ left. (bytes : List ℕ) (h : RequestHead)
-        → IsHead bytes h (early.now ++ left) → parts_seen parts.now ≡ head_parts h
-        → ServesOne (AnsweredBy K.Keep) callers.now day bytes desk.old desk.new
-        (W.contents (inner_of writer.old)) (W.contents (inner_of writer.new)) result) }
-    ensures untold { (bytes rest : List ℕ) (h : RequestHead) → IsHead bytes h rest → parts_seen parts.now ≡ head_parts h
-        → (all : List ℕ) × ServesOne (AnsweredBy K.Keep) callers.now day all desk.old desk.new
-        (W.contents (inner_of writer.old)) (W.contents (inner_of writer.new)) result }
+    ensures served { ServesHead R.Read W.Write callers.now day parts.now early.now reader.old
+        desk.old desk.new writer.old writer.new result }
+    ensures untold { ServesSomeHead W.Write callers.now day parts.now
+        desk.old desk.new writer.old writer.new result }
 
     // Faults are those of the two sides, each exactly, and a failed read changes neither desk nor writer.
     ensures read_fault { has_failed reader.new ≡ is_read result }
@@ -228,13 +219,12 @@ pub fn serve_one<K: Keep, R: Read, W: Write>(
     requires writer_fresh { IsFresh writer.old }
 
     // What is written and what the desk is then, by what the bytes of the reader are read as.
-    ensures served { IfSome (R.remaining (inner_of reader.old)) (λ bytes.
-        ServesOne (AnsweredBy K.Keep) callers.now day bytes desk.old desk.new
-        (W.contents (inner_of writer.old)) (W.contents (inner_of writer.new)) result) }
+    ensures served { ServesOneFrom R.Read W.Write callers.now day reader.old
+        desk.old desk.new writer.old writer.new result }
 
     // The same of some bytes, where the reader does not tell its own: the desk was asked once at most.
-    ensures untold { (bytes : List ℕ) × ServesOne (AnsweredBy K.Keep) callers.now day bytes desk.old desk.new
-        (W.contents (inner_of writer.old)) (W.contents (inner_of writer.new)) result }
+    ensures untold { (bytes : List ℕ) × ServesOneTo W.Write callers.now day bytes
+        desk.old desk.new writer.old writer.new result }
 
     // Faults are those of the two sides, each exactly.
     ensures read_fault { has_failed reader.new ≡ is_read result }

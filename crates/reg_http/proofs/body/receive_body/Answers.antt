@@ -17,7 +17,7 @@ reads-preserved g c =
       counted = search rules;
       read =
           HasRead-more (remaining (inner_of c.args.reader.now)) (remaining (inner_of c.reads.reader)) (remaining (inner_of c.read_chunk.new.reader)) c.args.early.now c.reads.body.items
-          c.extend_from_slice.new.self.items bytes c.args.length i.read c.in-Some.ensures.filled.1 grown;
+          c.extend_from_slice.new.self.items bytes c.args.length i.read c.in-Some.ensures.taken grown;
     }
 
 pub returns-clause-body : goal.returns-clause-body
@@ -29,7 +29,7 @@ returns-then-count-eq0-clause-body g c =
     let read = c.in-Some.ensures in
     let bytes = take c.in-Some.count c.read_chunk.new.chunk in
     let none : length bytes ≡ 0 = ap (λ k. length (take k c.read_chunk.new.chunk)) c.if-count-eq0.true in
-    ReadsBody-short _ _ _ c.args.early.now c.reads.body.items bytes c.args.length i.read read.filled.1 none (omega arith)
+    ReadsBody-short _ _ _ c.args.early.now c.reads.body.items bytes c.args.length i.read read.taken none (omega arith)
     (read.at_end (ap Some c.if-count-eq0.true))
 
 pub returns-then-count-eq0-clause-fits : goal.returns-then-count-eq0-clause-fits

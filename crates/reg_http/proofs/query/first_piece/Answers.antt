@@ -13,10 +13,11 @@ returns-in-Some c =
     record {
       pieces = split_here comma text c.in-Some.i found (search rules) ∙ ap (λ t. take c.in-Some.i text ∷ split comma t) (sym (take_rest text _));
       shorter = search rules;
+      whole = tt;
     }
 
 pub returns-in-None : goal.returns-in-None
 returns-in-None c =
     let text = c.args.text.now in
     let none = position_or_len_is (λ (b : ℕ). b == comma) text (length text) 0 (omega arith) (search rules) (search rules) in
-    record { pieces = split_whole comma text none; shorter = tt }
+    record { pieces = tt; shorter = tt; whole = split_whole comma text none }

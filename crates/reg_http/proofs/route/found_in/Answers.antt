@@ -1,8 +1,18 @@
 use Rattle.std.proofs.Common.{arith}
 use Rattle.matchit.specs.Router.{RouteOf}
 use Rattle.reg_http.specs.declared.route.Page.{Page}
-use Rattle.reg_http.proofs.RouteWalk.{found_is}
+use Rattle.reg_http.proofs.RouteWalk.{found_is, params_are_text}
 use Rattle.reg_http.proofs.route.found_in.Goals as goal
+
+pub part-requires : goal.part-requires
+part-requires c =
+    let found = rw c.requires at c.in-Ok.ensures.found in
+    params_are_text _ c.in-Ok.found.params _ c.utf8.path (λ k. omega (arith, c.type_inv.path k)) c.in-Ok.ensures.path found
+
+pub part-requires-in-Ok : goal.part-requires-in-Ok
+part-requires-in-Ok c =
+    let found = rw c.requires at c.in-Ok.ensures.found in
+    params_are_text _ c.in-Ok.found.params _ c.utf8.path (λ k. omega (arith, c.type_inv.path k)) c.in-Ok.ensures.path found
 
 pub returns-in-Ok : goal.returns-in-Ok
 returns-in-Ok c =
@@ -12,4 +22,4 @@ returns-in-Ok c =
     let project = rw e.path at c.part.ensures in
     let number = rw e.path at c.part-in-Ok.ensures in
     let found = rw c.requires at e.found in
-    found_is c.args.path.now r _ _ c.utf8.path (λ k. omega (arith, c.type_inv.path k)) found project number
+    found_is c.args.path.now r _ _ found project number
