@@ -41,7 +41,8 @@ module _ {W E : Type 0} (writer : WriteGhosts W) (errors : WriteGhosts E) where
   abbrev pub AnswersTo : Entries → List ℕ → Bool → Watched W → Watched W → Watched E → Watched E → ℕ → Type 0
   AnswersTo entries bytes in_failed out out_after err err_after status =
       AnswersOn entries bytes (writer.contents (inner_of out)) (writer.contents (inner_of out_after))
-      (errors.contents (inner_of err)) (errors.contents (inner_of err_after)) in_failed (has_failed out_after) (has_failed err_after) status
+      (errors.contents (inner_of err)) (errors.contents (inner_of err_after))
+      in_failed (has_failed out_after) (has_failed err_after) status
 
   -- the outcome of a run on bytes, whether their reader has failed or not
   abbrev pub AnswersOnBytes : Entries → List ℕ → Watched W → Watched W → Watched E → Watched E → ℕ → Type 0
@@ -50,9 +51,11 @@ module _ {W E : Type 0} (writer : WriteGhosts W) (errors : WriteGhosts E) where
 
 module _ {R W E : Type 0} (reader : ReadGhosts R) (writer : WriteGhosts W) (errors : WriteGhosts E) where
   -- the outcome of a run on the bytes of a watched reader, where it tells them
-  abbrev pub AnswersOnInput : Entries → Watched R → Watched R → Watched W → Watched W → Watched E → Watched E → ℕ → Type 0
+  abbrev pub AnswersOnInput : Entries → Watched R → Watched R → Watched W → Watched W → Watched E → Watched E → ℕ
+      → Type 0
   AnswersOnInput entries input input_after out out_after err err_after status =
-      IfSome (reader.remaining (inner_of input)) (λ bytes. AnswersTo writer errors entries bytes (has_failed input_after) out out_after err err_after status)
+      IfSome (reader.remaining (inner_of input))
+      (λ bytes. AnswersTo writer errors entries bytes (has_failed input_after) out out_after err err_after status)
 
 -- the report on the file's findings, or why there is none
 abbrev pub ReportsOn : Entries → List ℕ → Result Report Fault → Type 0

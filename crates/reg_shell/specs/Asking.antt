@@ -15,14 +15,16 @@ use Rattle.reg_shell.specs.declared.refusal.Refusal.TheVariants.{Plain}
 use Rattle.reg_shell.specs.declared.watched.Watched.{Watched}
 
 module _ {W : Type 0} (writer : WriteGhosts W) where
-  -- The answer was printed, or the writer failed, and the run ends with its status; or there was no memory for its text.
+  -- the answer was printed, or the writer failed, and the run ends with its status; or there was no memory for its text
   abbrev pub PrintsAnswer : Answer → Watched W → Watched W → Result ℕ Refusal → Type 0
-  PrintsAnswer answer old new (Ok ended) = (text : List ℕ) × IsPrinted answer text × TellsTo writer old new text (status_of answer) ended
+  PrintsAnswer answer old new (Ok ended) =
+      (text : List ℕ) × IsPrinted answer text × TellsTo writer old new text (status_of answer) ended
   PrintsAnswer answer old new (Err refusal) =
-      (refusal ≡ Plain NoMemory) × (writer.contents (inner_of new) ≡ writer.contents (inner_of old)) × (has_failed new ≡ has_failed old)
+      (refusal ≡ Plain NoMemory)
+      × (writer.contents (inner_of new) ≡ writer.contents (inner_of old)) × (has_failed new ≡ has_failed old)
 
 module _ {K W : Type 0} {keep : KeepGhosts K} (writer : WriteGhosts W) where
-  -- The desk was asked this once, and its answer was printed.
+  -- the desk was asked this once, and its answer was printed
   abbrev pub AsksDesk : Asked → Desk K keep → Desk K keep → Watched W → Watched W → Result ℕ Refusal → Type 0
   AsksDesk request old new out out_after result =
       (answer : Answer) × AnsweredBy keep old request answer new × PrintsAnswer writer answer out out_after result

@@ -41,7 +41,8 @@ Tells old new text before after status ended =
 -- the same of a watched writer
 abbrev pub TellsTo : {W : Type 0} → WriteGhosts W → Watched W → Watched W → List ℕ → ℕ → ℕ → Type 0
 TellsTo writer old new text status ended =
-    Tells (writer.contents (inner_of old)) (writer.contents (inner_of new)) text (has_failed old) (has_failed new) status ended
+    Tells (writer.contents (inner_of old)) (writer.contents (inner_of new)) text
+    (has_failed old) (has_failed new) status ended
 
 -- the fault is that of a stream
 abbrev pub is_stream : Fault → Bool

@@ -1,6 +1,6 @@
-use Rattle.std.proofs.Common.{[], ap, arith, subst, sym, ◌∙◌, IfSome}
+use Rattle.std.proofs.Common.{[], ap, arith, subst, sym, ◌∙◌}
 use Rattle.ags_dict.specs.Mini.{mini_entries}
-use Rattle.reg_shell.specs.Answers.{AnswersOn}
+use Rattle.reg_shell.specs.Answers.{AnswersOnInput}
 use Rattle.reg_shell.specs.Faults.{is_stream}
 use Rattle.reg_shell.proofs.Answering.{fault_answers, fault_fails, no_memory_on}
 use Rattle.reg_shell.proofs.Taking.{takes_none}
@@ -8,7 +8,8 @@ use Rattle.reg_shell.proofs.check.run_without_words.Goals as goal
 
 pub returns-in-Ok-clause-answers : goal.returns-in-Ok-clause-answers
 returns-in-Ok-clause-answers g c =
-    subst (λ entries. IfSome (g.R.Read.remaining c.args.input.now.inner) (λ bytes. AnswersOn entries bytes (g.W.Write.contents c.args.out.now.inner) (g.W.Write.contents c.check_stream.new.out.inner) (g.E.Write.contents c.args.err.now.inner) (g.E.Write.contents c.check_stream.new.err.inner) c.check_stream.new.input.failed c.check_stream.new.out.failed c.check_stream.new.err.failed c.check_stream.result))
+    let new = c.check_stream.new in
+    subst (λ entries. AnswersOnInput g.R.Read g.W.Write g.E.Write entries c.args.input.now new.input c.args.out.now new.out c.args.err.now new.err c.check_stream.result)
     c.in-Ok.ensures c.check_stream.ensures.answers
 
 pub returns-in-Err-clause-failed : goal.returns-in-Err-clause-failed
