@@ -1,9 +1,8 @@
 //! What each command does.
 
-ghost use Rattle.std.specs.Prelude.{◌≡◌, ◌≤◌, false, IfSome, length};
-ghost use Rattle.ags_dict.specs.Mini.{mini_entries};
-ghost use Rattle.reg_shell.specs.Answers.{AnswersOn};
-ghost use Rattle.reg_shell.specs.Streams.{has_failed, inner_of};
+ghost use Rattle.std.specs.Prelude.{◌≡◌, ◌≤◌, false, length};
+ghost use Rattle.reg_shell.specs.Checking.{ChecksInput};
+ghost use Rattle.reg_shell.specs.Streams.{has_failed};
 
 use crate::serving::{serve, serve_desk};
 use crate::stores::{create_store, not_made, open_store};
@@ -276,11 +275,8 @@ pub fn run_words<S: AsStr, R: Read, W: Write, E: Write>(
     requires input { has_failed input.old ≡ false }
     requires out { has_failed out.old ≡ false }
     requires err { has_failed err.old ≡ false }
-    ensures wordless { length words.now ≤ 1 → IfSome (R.remaining (inner_of input.old)) (λ bytes.
-        AnswersOn mini_entries bytes
-        (W.contents (inner_of out.old)) (W.contents (inner_of out.new))
-        (E.contents (inner_of err.old)) (E.contents (inner_of err.new))
-        (has_failed input.new) (has_failed out.new) (has_failed err.new) result) }
+    ensures wordless { length words.now ≤ 1
+        → ChecksInput R.Read W.Write E.Write input.old input.new out.old out.new err.old err.new result }
 {
     let alloc = rt.alloc();
     if words.len() <= 1 {

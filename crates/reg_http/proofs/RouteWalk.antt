@@ -252,8 +252,10 @@ parts_are_text path r text bytes e =
     get_or-drop-at m l = get_or-drop m l 0 0 ∙ ap (λ k. get_or l k 0) (omega arith)
 
 -- the same of the parameters of the match
-pub params_are_text : (path : List ℕ) (params : Params) (page : Page) → IsUtf8 path → AreBytes path → params.path.now ≡ path
-    → route_of path ≡ Some (record { pattern = params.pattern.now; text = params.text.now; names = params.names.now; value = page })
+pub params_are_text : (path : List ℕ) (params : Params) (page : Page) → IsUtf8 path → AreBytes path
+    → params.path.now ≡ path
+    → route_of path
+    ≡ Some (record { pattern = params.pattern.now; text = params.text.now; names = params.names.now; value = page })
     → AllText (taken_by params)
 params_are_text path params page text bytes same found = rw same (parts_are_text path _ text bytes found)
 

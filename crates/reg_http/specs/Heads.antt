@@ -56,7 +56,8 @@ ReadsHead bytes left buf headers Bad = (0 < length bytes) × HasNoHead bytes
 ReadsHead bytes left buf headers (Whole spans filled) = Consumes (Some bytes) left (take filled buf)
 
 -- the same of a reader, where it tells its bytes
-abbrev pub ReadsHeadFrom : {R : Type 0} → ReadGhosts R → Tally R → Tally R → List ℕ → List HeaderSpan → HeadRead → Type 0
+abbrev pub ReadsHeadFrom : {R : Type 0} → ReadGhosts R → Tally R → Tally R → List ℕ → List HeaderSpan → HeadRead
+    → Type 0
 ReadsHeadFrom reads old new buf headers read =
     IfSome (reads.remaining (inner_of old)) (λ bytes. ReadsHead bytes (reads.remaining (inner_of new)) buf headers read)
 

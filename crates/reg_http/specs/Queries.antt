@@ -62,7 +62,8 @@ extract_in number (Some text) = if list_all is_group_name (groups_in text) then 
 
 -- the extract that a number and the pairs of a query ask
 abbrev pub extract_sought : List ℕ → List (List ℕ × List ℕ) → Result Sought Refusal
-extract_sought number pairs = and_then (deposit_number number) (λ n. and_then (value_of (codes "groups") pairs) (extract_in n))
+extract_sought number pairs =
+    and_then (deposit_number number) (λ n. and_then (value_of (codes "groups") pairs) (extract_in n))
 
 -- what a request of this kind asks, by the number in its path, the pairs of its query and the day of serving
 abbrev pub sought_in : Kind → List ℕ → List (List ℕ × List ℕ) → ℤ → Result Sought Refusal

@@ -14,7 +14,9 @@ with_status_line text status = text ++ codes "HTTP/1.1 " ++ decimal status ++ co
 -- a text, and behind it the fields of a reply and the empty line
 abbrev pub with_fields : List ℕ → List ℕ → ℕ → List ℕ
 with_fields text kind length =
-    text ++ codes "Content-Type: " ++ kind ++ codes "\r\nContent-Length: " ++ decimal length ++ codes "\r\nConnection: close\r\n\r\n"
+    text ++ codes "Content-Type: " ++ kind
+    ++ codes "\r\nContent-Length: " ++ decimal length
+    ++ codes "\r\nConnection: close\r\n\r\n"
 
 -- a reply up to its body, which has that many bytes
 abbrev pub reply_front : ℕ → List ℕ → ℕ → List ℕ

@@ -6,13 +6,15 @@ use Rattle.reg_http.proofs.route.found_in.Goals as goal
 
 pub part-requires : goal.part-requires
 part-requires c =
-    let found = rw c.requires at c.in-Ok.ensures.found in
-    params_are_text _ c.in-Ok.found.params _ c.utf8.path (λ k. omega (arith, c.type_inv.path k)) c.in-Ok.ensures.path found
+    let e = c.in-Ok.ensures in
+    let found = rw c.requires at e.found in
+    params_are_text _ c.in-Ok.found.params _ c.utf8.path (λ k. omega (arith, c.type_inv.path k)) e.path found
 
 pub part-requires-in-Ok : goal.part-requires-in-Ok
 part-requires-in-Ok c =
-    let found = rw c.requires at c.in-Ok.ensures.found in
-    params_are_text _ c.in-Ok.found.params _ c.utf8.path (λ k. omega (arith, c.type_inv.path k)) c.in-Ok.ensures.path found
+    let e = c.in-Ok.ensures in
+    let found = rw c.requires at e.found in
+    params_are_text _ c.in-Ok.found.params _ c.utf8.path (λ k. omega (arith, c.type_inv.path k)) e.path found
 
 pub returns-in-Ok : goal.returns-in-Ok
 returns-in-Ok c =
