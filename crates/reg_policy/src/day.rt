@@ -1,5 +1,5 @@
 //! Days from 1970-01-01 to 9999-12-31.
-ghost use Rattle.std.specs.Prelude.{◌≡◌, ◌≢◌, ◌↔◌, ◌<◌, ℤ, ℕ, pos, [], ◌∷◌, Some, IsNone, IsSome, IfSome, IsTrue, IsUtf8};
+ghost use Rattle.std.specs.Prelude.{◌≡◌, ◌≢◌, ◌↔◌, ◌<◌, ℤ, ℕ, [], ◌∷◌, Some, IsNone, IsSome, IfSome, IsTrue, IsUtf8};
 ghost use Rattle.jiff.specs.Words.{IsEpochDay};
 ghost use Rattle.reg_policy.specs.Days.{HasDate, IsDateOf, IsWritten, Writes, day_of, is_day_number, tens_and_ones};
 

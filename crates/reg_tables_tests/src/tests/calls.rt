@@ -1,6 +1,6 @@
 //! The calls that are asked in turn, over each keep.
 
-ghost use Rattle.std.specs.Prelude.{◌<◌, ◌≡◌, ◌≤◌, false};
+ghost use Rattle.std.specs.Prelude.{◌<◌, ◌≤◌};
 
 use super::files::File;
 use super::{Ask, AskMade, Call, Case, SAME, ask_in_memory, ask_tables, compared};
