@@ -8,7 +8,7 @@ use Rattle.ags_rows.specs.Contents.{Contents, group_contents, contents_of}
 use Rattle.ags_rows.specs.Collecting.{Notes, OneOf}
 use Rattle.ags_dict.specs.Entries.{Entries, order_of, keys_of, required_of, has_group, has_dict}
 use Rattle.ags_check.specs.Header.{HasGroup, IsUnknownGroup, LacksParentGroup, IsOnlyIn, IsMisplaced, IsMisnamed, IsFurtherRow, IsLongSign}
-use Rattle.ags_check.specs.Placing.{AtGroup, AtHeading, AtRow, InSome}
+use Rattle.ags_check.specs.Placing.{AtHeading, AtRow, InSome}
 
 -- What the dictionary does not know is a finding of Rule 9 where the file has a group DICT, else of Rule 18.
 abbrev pub unknown_code : List Contents → Code
@@ -25,10 +25,6 @@ heading_row_rules given entries unknown group =
     ∷ AtHeading Rule19b (IsMisnamed given entries (group_contents group)) group
     ∷ []
 
--- what the HEADING row of a group breaks, where the dictionary has an entry for the group
-abbrev pub InKnownHeadingRow : Entries → Entries → Code → Group → Finding → Type 0
-InKnownHeadingRow given entries unknown group found = (has_group entries group.name ≡ true) × OneOf (heading_row_rules given entries unknown group) found
-
 -- the fourth phase's rules on the DATA rows of the groups that have one row alone
 abbrev pub only_row_rules : Group → List (Finding → Type 0)
 only_row_rules group =
@@ -42,14 +38,10 @@ only_row_rules group =
 -- dictionary stands, since it has no parent either. Rule 10c: its parent group is not in the file.
 abbrev pub group_header_rules : Entries → Entries → List Contents → Code → Group → List (Finding → Type 0)
 group_header_rules given entries file unknown group =
-    AtGroup unknown (IsUnknownGroup entries) group
-    ∷ AtGroup Rule10c (LacksParentGroup entries file) group
-    ∷ InKnownHeadingRow given entries unknown group
+    Notes group.line unknown group.name (IsUnknownGroup entries (group_contents group))
+    ∷ Notes group.line Rule10c group.name (LacksParentGroup entries file (group_contents group))
+    ∷ (λ found. (has_group entries group.name ≡ true) × OneOf (heading_row_rules given entries unknown group) found)
     ∷ only_row_rules group
-
--- the same rules on one of these groups of a file
-abbrev pub header_rules_of : Entries → Entries → List Group → Code → Group → List (Finding → Type 0)
-header_rules_of given entries groups = group_header_rules given entries (contents_of groups)
 
 -- the fourth phase's rules on the groups that each file has (Rules 13, 14, 15 and 17): the group is absent. Such a finding has no line.
 abbrev pub file_rules : List Contents → List (Finding → Type 0)
@@ -62,5 +54,4 @@ file_rules file =
 
 -- the fourth phase: the groups of a file against its dictionary
 abbrev pub header_rules : Entries → Entries → List Group → List (Finding → Type 0)
-header_rules given entries groups =
-    InSome groups (header_rules_of given entries groups (unknown_code (contents_of groups))) ∷ file_rules (contents_of groups)
+header_rules given entries groups = InSome groups (group_header_rules given entries (contents_of groups) (unknown_code (contents_of groups))) ∷ file_rules (contents_of groups)

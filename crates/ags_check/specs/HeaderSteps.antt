@@ -1,18 +1,35 @@
 -- What the functions of the fourth phase compute on the way.
-use Rattle.std.specs.Prelude.{◌≡◌, ℕ, ◌<◌, ◌≤◌, List, Bool, false, map, nat_lt, max, Option, Some, None, IsSome}
+use Rattle.std.specs.Prelude.{◌≡◌, ℕ, ◌<◌, ◌≤◌, List, Bool, true, false, map, nat_lt, max, Option, Some, None, IsSome}
 use Rattle.std.specs.Borrow.{Bor}
 use Rattle.ags_rows.specs.declared.code.Code.{Code}
 use Rattle.ags_rows.specs.declared.finding.Finding.{Finding}
 use Rattle.ags_rows.specs.declared.rows.Group.{Group}
-use Rattle.ags_rows.specs.Collecting.{At}
-use Rattle.ags_rows.specs.Contents.{Contents, contents_of, place_in}
-use Rattle.ags_dict.specs.Entries.{Entries, order_of, elsewhere}
+use Rattle.ags_rows.specs.Collecting.{At, Notes, OneOf}
+use Rattle.ags_rows.specs.Contents.{Contents, group_contents, contents_of, place_in}
+use Rattle.ags_dict.specs.Entries.{Entries, order_of, has_group, elsewhere}
 use Rattle.ags_check.specs.Header.{LacksParentGroup, StandsBefore, BeginsWithName}
+use Rattle.ags_check.specs.HeaderPhase.{heading_row_rules, group_header_rules}
 use Rattle.ags_check.specs.Placing.{AtNames}
 
 -- the group's parent group is not among these groups
 abbrev pub LacksParentAmong : Entries → List Group → Contents → Type 0
 LacksParentAmong entries groups = LacksParentGroup entries (contents_of groups)
+
+-- ---- the rules on a group
+
+-- of the GROUP row; the subject is the group's name
+abbrev pub AtGroup : Code → (Contents → Type 0) → Group → Finding → Type 0
+AtGroup code Breaks group = Notes group.line code group.name (Breaks (group_contents group))
+
+-- what the HEADING row of a group breaks, where the dictionary has an entry for the group
+abbrev pub InKnownHeadingRow : Entries → Entries → Code → Group → Finding → Type 0
+InKnownHeadingRow given entries unknown group found = (has_group entries group.name ≡ true) × OneOf (heading_row_rules given entries unknown group) found
+
+-- the fourth phase's rules on one of these groups of a file
+abbrev pub header_rules_of : Entries → Entries → List Group → Code → Group → List (Finding → Type 0)
+header_rules_of given entries groups = group_header_rules given entries (contents_of groups)
+
+-- ---- places
 
 -- the later of two places
 abbrev pub later : Option ℕ → Option ℕ → Option ℕ

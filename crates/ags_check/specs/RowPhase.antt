@@ -23,10 +23,6 @@ unit_and_type_rules file group heading =
     ∷ Notes group.type_line Rule17 heading (IsUnlistedType file (type_over (group_contents group) heading))
     ∷ []
 
--- what the UNIT and the TYPE row of a group break, over each heading
-abbrev pub InUnitsAndTypes : List Contents → Group → Finding → Type 0
-InUnitsAndTypes file group = InSome group.headings (unit_and_type_rules file group)
-
 -- the rules on an entry, by its line, its heading, that heading's unit and type, and its text; the subject is the heading. Rule 8: it is
 -- not null, and does not fit type and unit. Rules 15, 16 and 17: of type PU, PA and PT, it is not listed in UNIT, ABBR and TYPE.
 abbrev pub data_entry_rules : List Contents → ℕ → List ℕ → List ℕ → List ℕ → List ℕ → List (Finding → Type 0)
@@ -37,40 +33,21 @@ data_entry_rules file line heading unit code text =
     ∷ Notes line Rule17 heading ((code ≡ codes "PT") × IsUnlistedType file text)
     ∷ []
 
--- what the entries of a DATA row break, each under its heading
-abbrev pub InEntries : List Contents → Group → Row → Finding → Type 0
-InEntries file group row = let contents = group_contents group in let stands = headed_row group row in
-    InSome group.headings (λ heading. data_entry_rules file row.line heading (unit_over contents heading) (type_over contents heading) (entry_of stands heading))
-
--- Rule 11c: a record link of a DATA row is broken; the subject is its heading.
-abbrev pub InLinks : Entries → List Contents → Group → Row → Finding → Type 0
-InLinks entries file group row =
-    InSome group.headings (λ heading. Notes row.line Rule11c heading (IsBrokenLink entries file (headed_row group row) heading) ∷ [])
-
--- Rule 10b: a REQUIRED entry of a DATA row is null; the subject is its heading.
-abbrev pub InRequired : Entries → Group → Row → Finding → Type 0
-InRequired entries group row =
-    InSome (required_of entries group.name) (λ heading. Notes row.line Rule10b heading (entry_of (headed_row group row) heading ≡ []) ∷ [])
-
--- Rule 20: the file set of a DATA row is unlisted; the subject is FILE_FSET.
-abbrev pub InFileSet : List Contents → Group → Row → Finding → Type 0
-InFileSet file group row = Notes row.line Rule20 (codes "FILE_FSET") (IsUnlistedFileSet file (headed_row group row))
-
--- the rules on a DATA row, by its number in the file
+-- the rules on a DATA row, by its number in the file. Rule 10b: a REQUIRED entry is null.
 abbrev pub data_row_rules : Entries → List Contents → Group → ℕ → Row → List (Finding → Type 0)
-data_row_rules entries file group number row =
-    InEntries file group row
-    ∷ InLinks entries file group row
-    ∷ InRequired entries group row
-    ∷ Notes row.line Rule10a group.name (RepeatsKey entries file number (headed_row group row))
-    ∷ Notes row.line Rule10c group.name (LacksParentRow entries file (headed_row group row))
-    ∷ InFileSet file group row
+data_row_rules entries file group number row = let contents = group_contents group in let stands = headed_row group row in
+    InSome group.headings (λ heading. data_entry_rules file row.line heading (unit_over contents heading) (type_over contents heading) (entry_of stands heading))
+    ∷ InSome group.headings (λ heading. Notes row.line Rule11c heading (IsBrokenLink entries file stands heading) ∷ [])
+    ∷ InSome (required_of entries group.name) (λ heading. Notes row.line Rule10b heading (entry_of stands heading ≡ []) ∷ [])
+    ∷ Notes row.line Rule10a group.name (RepeatsKey entries file number stands)
+    ∷ Notes row.line Rule10c group.name (LacksParentRow entries file stands)
+    ∷ Notes row.line Rule20 (codes "FILE_FSET") (IsUnlistedFileSet file stands)
     ∷ []
 
 -- the rules on one group, whose DATA rows are numbered from `first`
 abbrev pub entry_rules_of : Entries → List Contents → ℕ → Group → List (Finding → Type 0)
 entry_rules_of entries file first group =
-    InUnitsAndTypes file group
+    InSome group.headings (unit_and_type_rules file group)
     ∷ Among group.rows (λ place row f. OneOf (data_row_rules entries file group (first + place) row) f)
     ∷ []
 

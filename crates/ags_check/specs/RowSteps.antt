@@ -1,16 +1,45 @@
 -- What the functions of the fifth phase compute on the way.
-use Rattle.std.specs.Prelude.{◌≡◌, ◌≢◌, ◌↔◌, ◌+◌, ℕ, List, [], Bool, false, codes, IsTrue}
+use Rattle.std.specs.Prelude.{◌≡◌, ◌≢◌, ◌↔◌, ◌+◌, ℕ, List, [], ◌∷◌, Bool, false, codes, IsTrue}
+use Rattle.ags_rows.specs.declared.code.Code.TheVariants.{Rule10b, Rule11c, Rule20}
 use Rattle.ags_rows.specs.declared.finding.Finding.{Finding}
 use Rattle.ags_rows.specs.declared.rows.Group.{Group}
 use Rattle.ags_rows.specs.declared.rows.Row.{Row}
-use Rattle.ags_rows.specs.Collecting.{Among, OneOf}
-use Rattle.ags_rows.specs.Contents.{under}
+use Rattle.ags_rows.specs.Collecting.{Notes, Among, OneOf}
+use Rattle.ags_rows.specs.Contents.{Contents, group_contents, under}
 use Rattle.ags_text.specs.Names.{is_definition}
-use Rattle.ags_links.specs.DataRows.{DataFile, DataRow, IsDataRow}
+use Rattle.ags_dict.specs.Entries.{Entries, required_of}
+use Rattle.ags_links.specs.DataRows.{DataFile, DataRow, IsDataRow, entry_of}
 use Rattle.ags_links.specs.Indexing.{rows_in}
 use Rattle.ags_links.specs.RecordLinks.{separators_of, IsBroken}
-use Rattle.ags_check.specs.RowPhase.{data_row_rules, entry_rules_of}
+use Rattle.ags_check.specs.Placing.{InSome}
+use Rattle.ags_check.specs.RowRules.{unit_over, type_over, IsBrokenLink, IsUnlistedFileSet}
+use Rattle.ags_check.specs.RowPhase.{headed_row, unit_and_type_rules, data_entry_rules, data_row_rules, entry_rules_of}
 use Rattle.ags_check.specs.declared.rows.columns.Column.{Column}
+
+-- ---- the rules on a group and on a DATA row, one by one
+
+-- what the UNIT and the TYPE row of a group break, over each heading
+abbrev pub InUnitsAndTypes : List Contents → Group → Finding → Type 0
+InUnitsAndTypes file group = InSome group.headings (unit_and_type_rules file group)
+
+-- what the entries of a DATA row break, each under its heading
+abbrev pub InEntries : List Contents → Group → Row → Finding → Type 0
+InEntries file group row = let contents = group_contents group in let stands = headed_row group row in
+    InSome group.headings (λ heading. data_entry_rules file row.line heading (unit_over contents heading) (type_over contents heading) (entry_of stands heading))
+
+-- Rule 11c: a record link of a DATA row is broken; the subject is its heading.
+abbrev pub InLinks : Entries → List Contents → Group → Row → Finding → Type 0
+InLinks entries file group row =
+    InSome group.headings (λ heading. Notes row.line Rule11c heading (IsBrokenLink entries file (headed_row group row) heading) ∷ [])
+
+-- Rule 10b: a REQUIRED entry of a DATA row is null; the subject is its heading.
+abbrev pub InRequired : Entries → Group → Row → Finding → Type 0
+InRequired entries group row =
+    InSome (required_of entries group.name) (λ heading. Notes row.line Rule10b heading (entry_of (headed_row group row) heading ≡ []) ∷ [])
+
+-- Rule 20: the file set of a DATA row is unlisted; the subject is FILE_FSET.
+abbrev pub InFileSet : List Contents → Group → Row → Finding → Type 0
+InFileSet file group row = Notes row.line Rule20 (codes "FILE_FSET") (IsUnlistedFileSet file (headed_row group row))
 
 -- ---- what a file breaks, by its contents and its entries together
 

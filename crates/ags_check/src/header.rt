@@ -5,7 +5,8 @@ ghost use Rattle.ags_rows.specs.Collecting.{Adds, OneOf};
 ghost use Rattle.ags_rows.specs.Contents.{contents_of};
 ghost use Rattle.ags_rows.specs.Findings.{AreExactly};
 ghost use Rattle.ags_check.specs.Placing.{InSome};
-ghost use Rattle.ags_check.specs.HeaderPhase.{heading_row_rules, InKnownHeadingRow, only_row_rules, header_rules_of, file_rules, header_rules};
+ghost use Rattle.ags_check.specs.HeaderPhase.{heading_row_rules, only_row_rules, file_rules, header_rules};
+ghost use Rattle.ags_check.specs.HeaderSteps.{InKnownHeadingRow, header_rules_of};
 
 pub(crate) mod groups;
 pub(crate) mod headings;

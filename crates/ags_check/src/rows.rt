@@ -7,8 +7,8 @@ ghost use Rattle.ags_rows.specs.Contents.{contents_of};
 ghost use Rattle.ags_links.specs.DataRows.{IsDataRow};
 ghost use Rattle.ags_links.specs.Indexing.{rows_in};
 ghost use Rattle.ags_check.specs.Columns.{RowsStand};
-ghost use Rattle.ags_check.specs.RowPhase.{headed_row, InFileSet, entry_rules};
-ghost use Rattle.ags_check.specs.RowSteps.{InDataRow, InDataRows, InGroupRows};
+ghost use Rattle.ags_check.specs.RowPhase.{headed_row, entry_rules};
+ghost use Rattle.ags_check.specs.RowSteps.{InDataRow, InDataRows, InGroupRows, InFileSet};
 
 pub(crate) mod abbreviations;
 pub(crate) mod code_lists;

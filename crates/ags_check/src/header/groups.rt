@@ -5,8 +5,7 @@ ghost use Rattle.ags_rows.specs.declared.code.Code.TheVariants.{Rule10c};
 ghost use Rattle.ags_rows.specs.Collecting.{Adds, Notes};
 ghost use Rattle.ags_rows.specs.Contents.{group_contents, contents_of};
 ghost use Rattle.ags_check.specs.Header.{HasGroup, IsUnknownGroup, LacksParentGroup};
-ghost use Rattle.ags_check.specs.HeaderSteps.{LacksParentAmong};
-ghost use Rattle.ags_check.specs.Placing.{AtGroup};
+ghost use Rattle.ags_check.specs.HeaderSteps.{LacksParentAmong, AtGroup};
 ghost use Rattle.ags_check.specs.HeaderPhase.{unknown_code};
 
 use crate::named_groups::NamedGroups;

@@ -4,8 +4,8 @@ ghost use Rattle.std.specs.Prelude.{◌≡◌, ◌≢◌, ◌↔◌, [], codes, 
 ghost use Rattle.ags_rows.specs.Collecting.{Adds};
 ghost use Rattle.ags_cells.specs.Fits.{FitsTypeCode};
 ghost use Rattle.ags_check.specs.RowRules.{IsUnlistedUnit, IsUnlistedType, IsUnlistedAbbreviation};
-ghost use Rattle.ags_check.specs.RowPhase.{InEntries, InUnitsAndTypes, InRequired};
 ghost use Rattle.ags_check.specs.Columns.{IsTyped};
+ghost use Rattle.ags_check.specs.RowSteps.{InEntries, InRequired, InUnitsAndTypes};
 
 use crate::rows::code_lists::CodeLists;
 use crate::rows::columns::{Column, is_of_type};

@@ -4,8 +4,8 @@ ghost use Rattle.std.specs.Prelude.{◌<◌, IfOk, OnOk, length};
 ghost use Rattle.ags_rows.specs.Collecting.{Adds};
 ghost use Rattle.ags_links.specs.DataRows.{IsDataRow};
 ghost use Rattle.ags_links.specs.Indexing.{rows_in};
-ghost use Rattle.ags_check.specs.RowPhase.{headed_row, InLinks};
-ghost use Rattle.ags_check.specs.RowSteps.{SaysOfRow, HasBrokenLink};
+ghost use Rattle.ags_check.specs.RowPhase.{headed_row};
+ghost use Rattle.ags_check.specs.RowSteps.{SaysOfRow, HasBrokenLink, InLinks};
 
 use crate::rows::columns::{Column, is_of_type};
 use crate::rows::outline::Outline;
