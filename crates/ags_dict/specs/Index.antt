@@ -27,8 +27,8 @@ abbrev pub rank_at : Ranks → List ℕ → List ℕ → Option ℕ
 rank_at ranks group heading = option_and_then (λ of_group. found_at of_group heading) (found_at ranks.held group)
 
 -- the place is kept for the text, behind those kept before, and nothing changes for other texts
-abbrev pub AddsPlace : List ℕ → ℕ → PlacesByText → PlacesByText → Type 0
-AddsPlace text place old new = (other : List ℕ) → places_at new other
+abbrev pub NotesPlace : List ℕ → ℕ → PlacesByText → PlacesByText → Type 0
+NotesPlace text place old new = (other : List ℕ) → places_at new other
     ≡ (if bytes_eq text other then places_at old other ++ place ∷ [] else places_at old other)
 
 -- the heading gets this place in the order of its group unless it has one, and other headings keep theirs

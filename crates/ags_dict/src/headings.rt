@@ -4,7 +4,7 @@ ghost use Rattle.std.specs.Prelude.{◌≡◌, [], ◌∷◌, ◌++◌, IfOk, On
 ghost use Rattle.std.specs.List.{filter, find, list_any};
 ghost use Rattle.ags_rows.specs.Contents.{place_in};
 ghost use Rattle.ags_dict.specs.Entries.{same_heading, with_unstated};
-ghost use Rattle.ags_dict.specs.Index.{places_at, AddsPlace, NotesRank, of_group, is_named, is_of_other, is_heading};
+ghost use Rattle.ags_dict.specs.Index.{places_at, NotesPlace, NotesRank, of_group, is_named, is_of_other, is_heading};
 
 use crate::entries::HeadingEntry;
 use crate::places::{PlacesByText, Ranks};
@@ -43,8 +43,8 @@ fn note_place(
     by_heading: &mut PlacesByText,
     ranks: &mut Ranks,
 ) -> Result<(), AllocError>
-    ensures groups { OnOk result (AddsPlace group.now place by_group.old by_group.new) }
-    ensures headings { OnOk result (AddsPlace heading.now place by_heading.old by_heading.new) }
+    ensures groups { OnOk result (NotesPlace group.now place by_group.old by_group.new) }
+    ensures headings { OnOk result (NotesPlace heading.now place by_heading.old by_heading.new) }
     ensures orders { OnOk result (NotesRank group.now heading.now (length (places_at by_group.old group.now))
         ranks.old ranks.new) }
 {

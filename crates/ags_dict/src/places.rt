@@ -1,7 +1,7 @@
 //! Where texts stand in a list.
 
 ghost use Rattle.std.specs.Prelude.{◌≡◌, ℕ, List, [], OnOk, slice_get, None};
-ghost use Rattle.ags_dict.specs.Index.{places_at, rank_at, AddsPlace, NotesRank, PutsRank};
+ghost use Rattle.ags_dict.specs.Index.{places_at, rank_at, NotesPlace, NotesRank, PutsRank};
 
 use std::alloc::{AllocError, Global};
 use std::collections::BTreeMap;
@@ -46,7 +46,7 @@ impl PlacesByText {
         text: &[u8],
         place: usize,
     ) -> Result<(), AllocError>
-        ensures { OnOk result (AddsPlace text.now place self.old self.new) }
+        ensures { OnOk result (NotesPlace text.now place self.old self.new) }
     {
         let mut places = match self.held.remove(text) {
             Some(places) => places,
