@@ -36,7 +36,7 @@ AddsTexts more old new = map (λ text. text.now) new ≡ map (λ text. text.now)
 abbrev pub abbreviation_in : List (List ℕ) → List (List ℕ) → List ℕ × List ℕ
 abbreviation_in headings fields = (under headings fields (codes "ABBR_HDNG"), under headings fields (codes "ABBR_CODE"))
 
--- those of each row of a group ABBR
+-- the same of each row of a group
 abbrev pub abbreviations_in : Contents → List (List ℕ × List ℕ)
 abbreviations_in group = map (abbreviation_in group.headings) group.rows
 

@@ -8,7 +8,8 @@ use Rattle.ags_rows.specs.declared.code.Code.TheVariants.{Rule2, Rule4, Rule19, 
 use Rattle.ags_rows.specs.declared.finding.Finding.{Finding}
 use Rattle.ags_text.specs.Names.{is_group_name, is_heading_name}
 use Rattle.ags_rows.specs.Collecting.{At, finding_at, OneOf}
-use Rattle.ags_rows.specs.Stands.{shape_rules, StandsInName, StandsInHeadings, StandsInGroups}
+use Rattle.ags_rows.specs.Stands.{shape_rules, StandsInName, StandsInGroups}
+use Rattle.ags_rows.specs.Parsing.{StandsInHeadings}
 use Rattle.ags_rows.specs.Contents.{contents_of, fields_of, group_contents}
 use Rattle.ags_rows.specs.Writing.{ArePlain, IsPlainGroup, AreUnder, AreHeadings, StandOnce, group_names, IsWellFormedGroup, IsWellFormed}
 use Rattle.ags_rows.proofs.Written.{all_at}

@@ -16,8 +16,8 @@ use Rattle.ags_rows.specs.declared.finding.Finding.{Finding}
 use Rattle.ags_rows.specs.declared.rows.Group.{Group}
 use Rattle.ags_text.specs.Names.{is_group_name, is_heading_name}
 use Rattle.ags_rows.specs.Collecting.{At, Adds, OneOf}
-use Rattle.ags_rows.specs.Stands.{IsRepeat, StandsInName, shape_rules, StandsInHeadings, group_rules}
-use Rattle.ags_rows.specs.Parsing.{IsMet, met_rules}
+use Rattle.ags_rows.specs.Stands.{IsRepeat, StandsInName, shape_rules, group_rules}
+use Rattle.ags_rows.specs.Parsing.{IsMet, met_rules, StandsInHeadings}
 use Rattle.ags_rows.proofs.Collecting.{adds_same, before_or_at, some_same}
 
 -- ---- tests turned

@@ -5,7 +5,6 @@ use Rattle.ags_rows.specs.declared.rows.Ending.TheVariants.{Lf}
 use Rattle.ags_rows.specs.declared.rows.Descriptor.{Descriptor}
 use Rattle.ags_rows.specs.declared.rows.Descriptor.TheVariants as kinds
 use Rattle.ags_rows.specs.declared.rows.FileRow.{FileRow}
-use Rattle.ags_rows.specs.declared.rows.Row.{Row}
 use Rattle.ags_rows.specs.declared.finding.Finding.{Finding}
 use Rattle.ags_rows.specs.declared.code.Code.{Code}
 use Rattle.ags_rows.specs.declared.code.Code.TheVariants.{Rule1, Rule2, Rule2a, Rule2b, Rule3, Rule4, Rule5, Rule6, Rule19, Rule19a, P1, P2}
@@ -75,10 +74,6 @@ StandsInOrder rows = OneOf (Notes 0 Rule2 [] (rows ≡ []) ∷ Among rows (λ pl
 abbrev pub IsRepeat : List (List ℕ) → ℕ → List ℕ → Type 0
 IsRepeat names place name = (earlier : ℕ) × (earlier < place) × At names earlier name
 
--- Rule 4: each of these DATA rows with more or fewer fields than this, noted with the name of the group as subject.
-abbrev pub StandsInDataRows : List Row → ℕ → List ℕ → Finding → Type 0
-StandsInDataRows rows width name = Among rows (λ place row. Notes row.line Rule4 name (length row.cells ≢ width))
-
 -- Rules 2, 4: a group has DATA rows, its HEADING row has items, and each other row has as many as that.
 abbrev pub shape_rules : Group → List (Finding → Type 0)
 shape_rules group =
@@ -86,7 +81,7 @@ shape_rules group =
     ∷ Notes group.heading_line Rule4 group.name (group.headings ≡ [])
     ∷ Notes group.unit_line Rule4 group.name (length group.units ≢ length group.headings)
     ∷ Notes group.type_line Rule4 group.name (length group.types ≢ length group.headings)
-    ∷ StandsInDataRows group.rows (length group.headings) group.name ∷ []
+    ∷ Among group.rows (λ place row. Notes row.line Rule4 group.name (length row.cells ≢ length group.headings)) ∷ []
 
 -- A name of a list, noted at this line with the name as subject: under the code `wrong` where its form is not right, under `repeated`
 -- where it stands at an earlier place of the list as well.
@@ -94,17 +89,13 @@ abbrev pub StandsInName : ℕ → Code → Code → (List ℕ → Bool) → List
 StandsInName line wrong repeated is_name names place name =
     OneOf (Notes line wrong name (is_name name ≡ false) ∷ Notes line repeated name (IsRepeat names place name) ∷ [])
 
--- each heading of a group (Rule 19a, and P2: it stands earlier in the row), noted at the HEADING row
-abbrev pub StandsInHeadings : Group → Finding → Type 0
-StandsInHeadings group =
-    Among group.headings (StandsInName group.heading_line Rule19a P2 is_heading_name group.headings)
-
--- All rules of a group: its shape; its name (Rule 19, and P1: an earlier group has it), at the GROUP row; its headings.
+-- All rules of a group: its shape; its name (Rule 19, and P1: an earlier group has it), noted at the GROUP row; each heading (Rule 19a,
+-- and P2: it stands earlier in the row), noted at the HEADING row.
 abbrev pub group_rules : List (List ℕ) → ℕ → Group → List (Finding → Type 0)
 group_rules names place group =
     OneOf (shape_rules group)
     ∷ StandsInName group.line Rule19 P1 is_group_name names place group.name
-    ∷ StandsInHeadings group ∷ []
+    ∷ Among group.headings (StandsInName group.heading_line Rule19a P2 is_heading_name group.headings) ∷ []
 
 -- what stands in the groups of a file
 abbrev pub StandsInGroups : List Group → Finding → Type 0

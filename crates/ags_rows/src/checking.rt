@@ -3,9 +3,9 @@
 ghost use Rattle.std.specs.Prelude.{◌≢◌, [], OnOk};
 ghost use Rattle.ags_rows.specs.declared.code.Code.TheVariants.{Rule4};
 ghost use Rattle.ags_rows.specs.Collecting.{OneOf, Notes, Adds};
-ghost use Rattle.ags_rows.specs.Stands.{shape_rules, StandsInDataRows, StandsInHeadings, StandsInGroups};
+ghost use Rattle.ags_rows.specs.Stands.{shape_rules, StandsInGroups};
 ghost use Rattle.ags_rows.specs.Findings.{AreExactly};
-ghost use Rattle.ags_rows.specs.Parsing.{IsMet, MeetsAlso, name_rules_after, heading_rules_after, group_rules_after, IfFindings};
+ghost use Rattle.ags_rows.specs.Parsing.{IsMet, MeetsAlso, name_rules_after, heading_rules_after, group_rules_after, IfFindings, StandsInDataRows, StandsInHeadings};
 
 use crate::code::Code;
 use crate::finding::NotedFindings;

@@ -1,7 +1,7 @@
 -- Rows that are alike to the policy: what it decides of them without looking at what stands in them.
-use Rattle.std.specs.Prelude.{◌≡◌, ℕ, List, Bool, true, false, Contains, Option, None, Some, option_map, codes}
+use Rattle.std.specs.Prelude.{◌≡◌, ℕ, List, Bool, true, false, Option, None, Some, option_map, codes}
 use Rattle.std.specs.Borrow.{Bor}
-use Rattle.reg_policy.specs.Decision.{Facts, IsOneOf, TellsApart, Told, decision_of, row_question, told}
+use Rattle.reg_policy.specs.Decision.{AreToldApart, Facts, IsOneOf, Told, decision_of, row_question, told}
 use Rattle.reg_policy.specs.declared.callers.Caller.{Caller}
 use Rattle.reg_policy.specs.declared.rule.Rule.{Rule}
 use Rattle.reg_policy.specs.declared.subject.Decision.{Decision}
@@ -26,10 +26,6 @@ told_by named standing = told named standing.own standing.past
 -- whatever stands in a row of which this is told, the policy permits to see it, or it does not
 abbrev pub ArePermitted : List Rule → Caller → List ℕ → Told → Bool → Type 0
 ArePermitted rules caller project told may = (row : Facts) → IsOneOf told row → is_permit (decision_of rules (row_question caller project row)) ≡ may
-
--- some rule matches one such row, and not another
-abbrev pub AreToldApart : List Rule → Caller → List ℕ → Told → Type 0
-AreToldApart rules caller project told = (r : Rule) × Contains rules r × TellsApart r caller project told
 
 -- the largest part of a deposit's rows that are alike: all of them, or those of PROJ
 abbrev pub IsAlike : List Rule → Caller → List ℕ → Standing → Alike → Type 0

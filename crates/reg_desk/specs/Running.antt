@@ -48,6 +48,7 @@ pub record Runs {K : Type 0} (keep : Ghosts K) (rules : List Rule) (old new : K)
 abbrev pub RunsIfSound : {K : Type 0} (keep : Ghosts K) → Desk K keep → List Asked → List Answer → Desk K keep → Type 0
 RunsIfSound keep old requests answers new = keep.is_sound new.keep → old.failed ≡ false → ∥ Runs keep old.policy old.keep new.keep requests answers ∥₁
 
--- If the desk had not failed and its keep is sound at the end: every list that a crash may leave holds each deposit that was answered by a receipt.
+-- If the desk had not failed and its keep is sound at the end: every list that a crash may leave holds each deposit that was answered
+-- by a receipt, under its number, with the embargo that the receipt shows.
 abbrev pub ReceiptsSurviveIfSound : {K : Type 0} (keep : Ghosts K) → Desk K keep → List Asked → List Answer → Desk K keep → Type 0
 ReceiptsSurviveIfSound keep old requests answers new = keep.is_sound new.keep → old.failed ≡ false → (list : List Deposit) → keep.may_leave new.keep list → ∥ AllZip (IsHeldIn list) requests answers ∥₁

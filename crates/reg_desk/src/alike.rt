@@ -1,7 +1,8 @@
 //! Rows that are alike to the policy: what it decides of them without looking at what stands in them.
 
 ghost use Rattle.std.specs.Prelude.{◌≡◌, IfSome, IfNone};
-ghost use Rattle.reg_desk.specs.Alike.{AreAlikeBy, ArePermitted, AreToldApart, IsAlike, alike_at, is_permit, name_in, told_by};
+ghost use Rattle.reg_policy.specs.Decision.{AreToldApart};
+ghost use Rattle.reg_desk.specs.Alike.{AreAlikeBy, ArePermitted, IsAlike, alike_at, is_permit, name_in, told_by};
 
 use reg_policy::{Caller, Decision, Name, Policy};
 

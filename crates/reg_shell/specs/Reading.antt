@@ -24,8 +24,8 @@ pub record Appended (count : ℕ) (old new : Option (List ℕ)) (before after : 
   pub at_end : count ≡ 0 → IsAtEnd new
 
 -- the same where the read went well
-abbrev pub AppendsIfOk : Result ℕ Fault → Option (List ℕ) → Option (List ℕ) → List ℕ → List ℕ → Type 0
-AppendsIfOk result old new before after = IfOk result (λ count. Appended count old new before after)
+abbrev pub AppendedIfOk : Result ℕ Fault → Option (List ℕ) → Option (List ℕ) → List ℕ → List ℕ → Type 0
+AppendedIfOk result old new before after = IfOk result (λ count. Appended count old new before after)
 
 -- the fault is of a stream or of memory
 abbrev pub IsOfReading : Fault → Type 0

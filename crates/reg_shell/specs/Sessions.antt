@@ -13,10 +13,10 @@ IsDayOr text other day = MatchOption text (other ≡ Some day) (λ given. day_of
 abbrev pub deposit_request : Session → ℤ → List ℕ → Asked
 deposit_request session embargo bytes = deposit session.caller.now session.project embargo bytes session.day
 
--- the request for the deposits of its project
+-- the request for the deposits of the project, by the caller and on the day of the session
 abbrev pub listing_request : Session → Asked
 listing_request session = listing session.caller.now session.project session.day
 
--- the request for an extract of the deposit of a number
+-- the request for an extract of these groups of the deposit of a number, by the caller, of the project and on the day of the session
 abbrev pub extract_request : Session → ℕ → List (List ℕ) → Asked
 extract_request session number groups = extract session.caller.now session.project number groups session.day

@@ -2,7 +2,7 @@
 
 ghost use Rattle.std.specs.Prelude.{◌≡◌, ◌||◌, ◌+◌, ◌<◌, ◌≤◌, IfOk, IfErr, IfSome, length};
 ghost use Rattle.reg_shell.specs.Faults.{is_stream_fault};
-ghost use Rattle.reg_shell.specs.Reading.{AppendsIfOk, IsOfReading, ReadsFile, TakesAtMost, longest_file};
+ghost use Rattle.reg_shell.specs.Reading.{AppendedIfOk, IsOfReading, ReadsFile, TakesAtMost, longest_file};
 
 use crate::fault::Fault;
 use crate::watched::Watched;
@@ -24,7 +24,7 @@ fn read_piece<R: Read>(
     requires some { 0 < room }
     requires wide { room ≤ length piece.old }
     ensures taken { TakesAtMost room (R.remaining input.old.inner) (R.remaining input.new.inner) }
-    ensures appended { AppendsIfOk result
+    ensures appended { AppendedIfOk result
         (R.remaining input.old.inner) (R.remaining input.new.inner) bytes.old.items bytes.new.items }
     ensures few { IfOk result (λ count. count ≤ room) }
     ensures fault { IfErr result IsOfReading }

@@ -22,11 +22,11 @@ use Rattle.reg_tables.specs.Whole.{Tests}
 abbrev pub FindsShown : {E : Type 0} → Result (Vec Row Global) E → List ℕ → Row → State → State → Type 0
 FindsShown result sql params old new = HasCleanDisk new → IfOk result (λ rows. Shown sql params old new rows.items)
 
--- On a clean disk, where the call did not fail, the query shows rows of which this holds.
+-- On a clean disk, if the call was no error, the query shows rows of which this holds.
 abbrev pub TakesShown : {A E : Type 0} → Result A E → List ℕ → Row → (List Row → Type 0) → State → State → Type 0
 TakesShown result sql params Holds old new = HasCleanDisk new → OnOk result ((rows : List Row) × Shown sql params old new rows × Holds rows)
 
--- On a clean disk, where neither the query nor a row failed, the query shows rows of which this holds.
+-- On a clean disk, if neither the query nor a row was an error, the query shows rows of which this holds.
 abbrev pub TakesEachShown : {A E F : Type 0} → Result (Result A F) E → List ℕ → Row → (List Row → Type 0) → State → State → Type 0
 TakesEachShown result sql params Holds old new =
     HasCleanDisk new → IfOk result (λ taken. OnOk taken ((rows : List Row) × Shown sql params old new rows × Holds rows))
@@ -67,7 +67,7 @@ AreNumbersFromOne db rows = (list : List Deposit) → IsPermutation (deposit_row
 abbrev pub AreMetaByName : Database → List Row → Type 0
 AreMetaByName db rows = (text : List ℕ) → IsPermutation (meta_columns text) (map columns_3 (db.trees 0)) → rows ≡ meta_columns text
 
--- On a clean disk, the answer is whether the deposit of the number is equal.
+-- On a clean disk, one deposit alone has the number, and the answer is whether it is equal.
 abbrev pub FindsIfEqual : {E : Type 0} → Result Bool E → ℕ → List ℕ → List ℕ → List ℕ → State → State → Type 0
 FindsIfEqual result n firm project bytes old new =
     FindsThat result (λ db is. (d : Deposit) × IsRowOf db n d × (is ≡ is_repeat firm project bytes d)) old new

@@ -24,7 +24,7 @@ pub record HoldsRegister (image : Image) (dictionary : Entries) (list : List Dep
   pub found : FindsTables image db.trees
   pub register : IsRegister db dictionary list
 
--- On a clean disk, an open finds a register of the list that the connection has committed.
+-- On a clean disk, an open finds a register of this dictionary and of the list that the connection has committed.
 abbrev pub AdoptsFiles : Image → Entries → State → Type 0
 AdoptsFiles image dictionary s = HasCleanDisk s → ∥ HoldsRegister image dictionary (deposits_in s.committed.trees) ∥₁
 

@@ -37,7 +37,7 @@ StaysIfClean old new = HasCleanDisk new → ShowsTheSame old new
 abbrev pub StaysIfOpen : State → State → Type 0
 StaysIfOpen old new = HasCleanDisk new → IsTrue new.is_open → IsAsBefore old new
 
--- On a clean disk, what P says of the tables before the call and of its answer.
+-- On a clean disk, if the call was no error, what P says of the tables before it and of its answer.
 abbrev pub FindsThat : {A E : Type 0} → Result A E → (Database → A → Type 0) → State → State → Type 0
 FindsThat result P old new = HasCleanDisk new → IfOk result (λ found. P old.now found)
 

@@ -43,15 +43,15 @@ HoldsBody db dictionary n d = (file : CheckedFile) × IsFileOf dictionary d file
 abbrev pub HoldsLinesAndSteps : ℕ → List KeptRow → List (ℕ × ℕ) → Database → Type 0
 HoldsLinesAndSteps n lines steps db = HoldsLines db n lines × HoldsSteps db n steps
 
--- The number holds the deposit that was read: its bytes have no finding, and the lines and steps of the number are theirs.
+-- The bytes of the deposit that was read have no finding, and the lines and steps of the number are theirs.
 abbrev pub HoldsKept : Entries → ℕ → Kept → Database → Type 0
 HoldsKept dictionary n kept db = HoldsBody db dictionary n (deposit_of kept)
 
--- The number holds the deposit that was read, and no deposit of these numbers is equal.
+-- The same, and no deposit of these numbers is equal.
 abbrev pub HoldsNew : Entries → ℕ → List ℕ → Kept → Database → Type 0
 HoldsNew dictionary n numbers kept db = HoldsKept dictionary n kept db × IsNew db numbers (deposit_of kept)
 
--- The number holds the deposit that was read, and no deposit whose number stands under its digest is equal.
+-- The same of the numbers that stand under its digest.
 abbrev pub IsWholeKept : Entries → ℕ → Digests → Kept → Database → Type 0
 IsWholeKept dictionary n digests kept db = HoldsNew dictionary n (numbers_under digests (own_digest (deposit_of kept))) kept db
 

@@ -1,6 +1,7 @@
 use Rattle.std.proofs.Common.{Some, subst}
 use Rattle.std.specs.Prelude.{IfNone, IfSome}
-use Rattle.reg_desk.specs.Alike.{ArePermitted, AreToldApart, told_by}
+use Rattle.reg_policy.specs.Decision.{AreToldApart}
+use Rattle.reg_desk.specs.Alike.{ArePermitted, told_by}
 use Rattle.reg_desk.specs.declared.alike.Standing.{Standing}
 use Rattle.reg_desk.proofs.view.may_see_alike.Goals as goal
 
