@@ -3,9 +3,9 @@
 
 use jiff::Zoned;
 use jiff::tz::TimeZone;
-use reg_cli::run_words;
+use reg_app::run_words;
+use reg_cli::{Fault, Watched};
 use reg_policy::Day;
-use reg_shell::{Fault, Watched};
 use std::env;
 use std::io::{ErrorKind, Read, Write};
 use std::process::ExitCode;

@@ -1,1 +1,11 @@
-pub mod Adopting
+pub mod Streams
+pub mod Report
+pub mod Faults
+pub mod Reading
+pub mod Writing
+pub mod Answers
+pub mod Refusals
+pub mod Checking
+pub mod Printing
+pub mod Asking
+pub mod Sessions

@@ -1,13 +1,29 @@
-//! What the program `groundreg` does: the commands of a register, and without words the check of standard input.
+//! What the program reads, asks, prints and is told, apart from any store and socket: the words of the command line, the
+//! files that they name, the streams that are watched, the faults and reports that are printed, who asks, what is asked of
+//! a desk and what is printed of its answer, and the check of standard input or of a file under another dictionary.
 //!
-//! Words, streams and the day are passed in, so that what is printed, what is said of a fault and the status of a run are
-//! contracts over readers and writers that tell their bytes. What names no store and no socket is `reg_shell`.
+//! Words and streams are passed in, so that what is printed, what is said of a fault and the status of a run are
+//! contracts over readers and writers that tell their bytes.
 #![tactic(auto)]
 
-mod commands;
+mod asking;
+mod check;
+mod fault;
+mod files;
+mod input;
+mod printing;
 mod refusal;
-mod serving;
-mod stores;
+mod report;
+mod session;
+mod watched;
+mod words;
 
-pub use commands::run_words;
-pub use serving::serve_on;
+pub use asking::{ask_deposit, ask_extract, ask_list};
+pub use check::{check_given, check_stream, run_without_words};
+pub use fault::{Fault, tell};
+pub use files::{dictionary_in, read_path, read_rights};
+pub use refusal::Refusal;
+pub use report::{Report, findings_report};
+pub use session::{Session, day_or, session_of};
+pub use watched::{StreamFailed, Watched};
+pub use words::{Asker, Service, Words, read_words};

@@ -12,7 +12,7 @@ use Rattle.reg_policy.specs.declared.rule.Rule.{Rule}
 use Rattle.reg_policy.specs.declared.callers.Caller.{Caller}
 use Rattle.reg_policy.specs.declared.subject.Decision.TheVariants.{Permit, Deny}
 use Rattle.reg_policy.specs.declared.subject.Verb.TheVariants as verbs
-use Rattle.reg_store.specs.Deposit.{Deposit}
+use Rattle.reg_store.specs.Sent.{Sent}
 use Rattle.reg_store.specs.Fit.{IsFit, IsFileOf}
 use Rattle.reg_store.specs.Keep.{IsHeadOf, OfDeposit, is_store, fails}
 use Rattle.reg_store.specs.declared.keep.Keep.{Ghosts}
@@ -36,36 +36,36 @@ use Rattle.reg_desk.proofs.Serves.{is_told, asks_of, replies_at_once, refused_se
 -- ---- a kept deposit
 
 -- deposit n is held
-pub held_at : (state : List Deposit) (n : ℕ) → 0 < n → n ≤ length state → (d : Deposit) × (slice_get state (n - 1) ≡ Some d) × (held n state ≡ Some d)
+pub held_at : (state : List Sent) (n : ℕ) → 0 < n → n ≤ length state → (d : Sent) × (slice_get state (n - 1) ≡ Some d) × (held n state ≡ Some d)
 held_at state zero low high = absurd (omega arith)
 held_at state (suc n) low high =
     let h = get_at state n (omega arith) in
     let e : n ≡ suc n - 1 = omega arith in
     (h.0, subst (λ i. slice_get state i ≡ Some h.0) e h.1, h.1)
   where
-    get_at : (state : List Deposit) (n : ℕ) → n < length state → (d : Deposit) × (slice_get state n ≡ Some d)
+    get_at : (state : List Sent) (n : ℕ) → n < length state → (d : Sent) × (slice_get state n ≡ Some d)
     get_at [] n lt = absurd (omega arith)
     get_at (d ∷ state) zero lt = (d, refl)
     get_at (d ∷ state) (suc n) lt = get_at state n (omega arith)
 
-none_held : (state : List Deposit) (n : ℕ) → (n ≡ 0) ⊎ (length state < n) → held n state ≡ None
+none_held : (state : List Sent) (n : ℕ) → (n ≡ 0) ⊎ (length state < n) → held n state ≡ None
 none_held state zero h = refl
 none_held state (suc n) (inl e) = absurd (omega (arith, e))
 none_held [] (suc n) (inr lt) = refl
 none_held (d ∷ state) (suc zero) (inr lt) = absurd (omega (arith, lt))
 none_held (d ∷ state) (suc (suc n)) (inr lt) = none_held state (suc n) (inr (omega (arith, lt)))
 
-pub fit_at : (given : Entries) (state : List Deposit) (i : ℕ) (d : Deposit) → All (IsFit given) state → slice_get state i ≡ Some d → IsFit given d
+pub fit_at : (given : Entries) (state : List Sent) (i : ℕ) (d : Sent) → All (IsFit given) state → slice_get state i ≡ Some d → IsFit given d
 fit_at given state i d all at = subst (IsFit given) (get_or_from_slice_get state i d d at) (all i d (slice_get_within state i d at))
 
-look_same : (register : Register) (caller : Caller) (day : ℤ) (d : Deposit) (head : KeptHead) → IsHeadOf d head → look_on register.rules caller head day ≡ look_at register caller day d
+look_same : (register : Register) (caller : Caller) (day : ℤ) (d : Sent) (head : KeptHead) → IsHeadOf d head → look_on register.rules caller head day ≡ look_at register caller day d
 look_same register caller day d head is =
     ap (λ (f : List ℕ). record { rules = register.rules; caller = caller; owner = f; project = head.project; embargo = head.embargo; day = day }) is.firm
     ∙ ap (λ (p : List ℕ). record { rules = register.rules; caller = caller; owner = d.firm; project = p; embargo = head.embargo; day = day }) is.project
     ∙ ap (λ (e : ℤ). record { rules = register.rules; caller = caller; owner = d.firm; project = d.project; embargo = e; day = day }) is.embargo
 
 -- its project is the one that is listed
-pub looked_in : (register : Register) (lister : Lister) (d : Deposit) (head : KeptHead) (look : Look) → register.rules ≡ lister.policy.now → IsHeadOf d head → d.project ≡ lister.project.now → look ≡ look_in lister head
+pub looked_in : (register : Register) (lister : Lister) (d : Sent) (head : KeptHead) (look : Look) → register.rules ≡ lister.policy.now → IsHeadOf d head → d.project ≡ lister.project.now → look ≡ look_in lister head
     → look ≡ look_at register lister.caller.now lister.day d
 looked_in register lister d head look rules is of_project same =
     same
@@ -73,7 +73,7 @@ looked_in register lister d head look rules is of_project same =
     ∙ ap (λ (p : List ℕ). record { rules = register.rules; caller = lister.caller.now; owner = head.firm; project = p; embargo = head.embargo; day = lister.day }) (sym of_project ∙ sym is.project)
     ∙ look_same register lister.caller.now lister.day d head is
 
-pub clean_of : (given : Entries) (d : Deposit) (file : CheckedFile) → IsFileOf given d file → IsCleanFile given d.bytes (file_of file)
+pub clean_of : (given : Entries) (d : Sent) (file : CheckedFile) → IsFileOf given d file → IsCleanFile given d.bytes (file_of file)
 clean_of given d file is =
     subst (λ (b : List ℕ). IsCleanFile given b (file_of file)) is.bytes (subst (λ (g : Entries). IsCleanFile g file.bytes (file_of file)) is.given is.clean.file)
 
@@ -91,15 +91,15 @@ reads_answered keep old new failed reads lives = record {
 }
 
 -- what a keep tells of the deposit of a number by its head
-pub record IsHeaded (given : Entries) (state : List Deposit) (number : ℕ) (head : KeptHead) : Type 0 where
-  pub kept : Deposit
+pub record IsHeaded (given : Entries) (state : List Sent) (number : ℕ) (head : KeptHead) : Type 0 where
+  pub kept : Sent
   pub place : slice_get state (number - 1) ≡ Some kept
   pub holds : held number state ≡ Some kept
   pub of_head : IsHeadOf kept head
   pub fit : IsFit given kept
 
 pub headed : {K : Type 0} (keep : Ghosts K) (old mid : K) (number : ℕ) (head : KeptHead) → (keep.is_sound old → (0 < number) × (number ≤ length (keep.deposits old))) → (keep.is_sound old → All (IsFit (keep.dictionary old)) (keep.deposits old))
-    → OnlyReads keep old mid false → (keep.is_sound mid → (d : Deposit) → slice_get (keep.deposits old) (number - 1) ≡ Some d → IsHeadOf d head) → keep.is_sound mid
+    → OnlyReads keep old mid false → (keep.is_sound mid → (d : Sent) → slice_get (keep.deposits old) (number - 1) ≡ Some d → IsHeadOf d head) → keep.is_sound mid
     → IsHeaded (keep.dictionary old) (keep.deposits old) number head
 headed keep old mid number head within fit first read s =
     let s0 = first.sound s in
@@ -109,7 +109,7 @@ headed keep old mid number head within fit first read s =
 
 -- ---- what is drawn
 
-drawn_of : (register : Register) (caller : Caller) (groups : List (List ℕ)) (day : ℤ) (project : List ℕ) (d : Deposit) (file : CheckedFile) (text : Option (List ℕ)) → IsFileOf register.given d file → bytes_eq d.project project ≡ true
+drawn_of : (register : Register) (caller : Caller) (groups : List (List ℕ)) (day : ℤ) (project : List ℕ) (d : Sent) (file : CheckedFile) (text : Option (List ℕ)) → IsFileOf register.given d file → bytes_eq d.project project ≡ true
     → IsExtractOf (look_at register caller day d) (file_of file) groups text → IsDrawnFrom register caller project groups day (Some d) (text_answer text)
 drawn_of register caller groups day project d file (Some text) is same drawn =
     let clean = clean_of register.given d file is in
@@ -119,27 +119,27 @@ drawn_of register caller groups day project d file None is same hidden =
     where_true (bytes_eq d.project project) _ _ same (inr ((λ seen. hidden (subst (IsProjectShown (look_at register caller day d)) (one_file register.given d.bytes seen.0 (file_of file) seen.1 clean) seen.2)), refl))
 
 -- by its head, and by its files
-pub head_drawn : (register : Register) (state : List Deposit) (caller : Caller) (project : List ℕ) (number : ℕ) (groups : List (List ℕ)) (day : ℤ) (head : KeptHead) (text : Option (List ℕ))
+pub head_drawn : (register : Register) (state : List Sent) (caller : Caller) (project : List ℕ) (number : ℕ) (groups : List (List ℕ)) (day : ℤ) (head : KeptHead) (text : Option (List ℕ))
     → IsHeaded register.given state number head → bytes_eq head.project project ≡ true
     → OfDeposit register.given state number (λ file. IsExtractOf (look_on register.rules caller head day) (file_of file) groups text)
     → ∥ IsDrawnFrom register caller project groups day (held number state) (text_answer text) ∥₁
 head_drawn register state caller project number groups day head text h same drawn =
     ∥∥₁_map h.fit (λ (f : (file : CheckedFile) × IsFileOf register.given h.kept file).
     let is = subst (λ (look : Look). IsExtractOf look (file_of f.0) groups text) (look_same register caller day h.kept head h.of_head) (drawn h.kept f.0 h.place f.1) in
-    subst (λ (o : Option Deposit). IsDrawnFrom register caller project groups day o (text_answer text)) (sym h.holds)
+    subst (λ (o : Option Sent). IsDrawnFrom register caller project groups day o (text_answer text)) (sym h.holds)
     (drawn_of register caller groups day project h.kept f.0 text f.1 (ap (λ (p : List ℕ). bytes_eq p project) (sym h.of_head.project) ∙ same) is))
 
 -- no deposit has the number
-pub unheld_drawn : (register : Register) (state : List Deposit) (caller : Caller) (project : List ℕ) (number : ℕ) (groups : List (List ℕ)) (day : ℤ) → (number ≡ 0) ⊎ (length state < number)
+pub unheld_drawn : (register : Register) (state : List Sent) (caller : Caller) (project : List ℕ) (number : ℕ) (groups : List (List ℕ)) (day : ℤ) → (number ≡ 0) ⊎ (length state < number)
     → IsDrawnFrom register caller project groups day (held number state) Unknown
 unheld_drawn register state caller project number groups day outside =
-    subst (λ (o : Option Deposit). IsDrawnFrom register caller project groups day o Unknown) (sym (none_held state number outside)) refl
+    subst (λ (o : Option Sent). IsDrawnFrom register caller project groups day o Unknown) (sym (none_held state number outside)) refl
 
 -- it is of another project
-pub other_drawn : (register : Register) (state : List Deposit) (caller : Caller) (project : List ℕ) (number : ℕ) (groups : List (List ℕ)) (day : ℤ) (d : Deposit) (head : KeptHead) → held number state ≡ Some d → IsHeadOf d head
+pub other_drawn : (register : Register) (state : List Sent) (caller : Caller) (project : List ℕ) (number : ℕ) (groups : List (List ℕ)) (day : ℤ) (d : Sent) (head : KeptHead) → held number state ≡ Some d → IsHeadOf d head
     → bytes_eq head.project project ≡ false → IsDrawnFrom register caller project groups day (held number state) Unknown
 other_drawn register state caller project number groups day d head holds of_head other =
-    subst (λ (o : Option Deposit). IsDrawnFrom register caller project groups day o Unknown) (sym holds)
+    subst (λ (o : Option Sent). IsDrawnFrom register caller project groups day o Unknown) (sym holds)
     (where_false (bytes_eq d.project project) _ _ (ap (λ (p : List ℕ). bytes_eq p project) (sym of_head.project) ∙ other) refl)
 
 -- ---- the answers to an extract
@@ -148,13 +148,13 @@ other_drawn register state caller project number groups day d head holds of_head
 abbrev IsOne : Answer → Type 0
 IsOne answer = (answer ≡ Unknown) ⊎ ((t : List ℕ) × (answer ≡ Text t))
 
-one_of : (register : Register) (caller : Caller) (project : List ℕ) (groups : List (List ℕ)) (day : ℤ) (d : Deposit) (t : Bool) (answer : Answer)
+one_of : (register : Register) (caller : Caller) (project : List ℕ) (groups : List (List ℕ)) (day : ℤ) (d : Sent) (t : Bool) (answer : Answer)
     → MatchBool t ((IsSeen register caller day d × ((text : List ℕ) × IsTextOf register caller day groups d text × (answer ≡ Text text))) ⊎ ((IsSeen register caller day d → ⊥) × (answer ≡ Unknown))) (answer ≡ Unknown) → IsOne answer
 one_of register caller project groups day d true answer (inl h) = inr (h.1.0, h.1.2)
 one_of register caller project groups day d true answer (inr h) = inl h.1
 one_of register caller project groups day d false answer h = inl h
 
-drawn_one : (register : Register) (caller : Caller) (project : List ℕ) (groups : List (List ℕ)) (day : ℤ) (o : Option Deposit) (answer : Answer) → IsDrawnFrom register caller project groups day o answer → IsOne answer
+drawn_one : (register : Register) (caller : Caller) (project : List ℕ) (groups : List (List ℕ)) (day : ℤ) (o : Option Sent) (answer : Answer) → IsDrawnFrom register caller project groups day o answer → IsOne answer
 drawn_one register caller project groups day None answer h = inl h
 drawn_one register caller project groups day (Some d) answer h = one_of register caller project groups day d (bytes_eq d.project project) answer h
 
@@ -165,7 +165,7 @@ one_asks = (
   λ h. elim h [ inl e ↦ cc | inr e ↦ let same = e.1 in cc ],
 )
 
-extract_asks : (register : Register) (state : List Deposit) (caller : Caller) (project : List ℕ) (number : ℕ) (groups : List (List ℕ)) (day : ℤ) (k : ℕ) → decided register caller project verbs.Extract ≡ Permit k
+extract_asks : (register : Register) (state : List Sent) (caller : Caller) (project : List ℕ) (number : ℕ) (groups : List (List ℕ)) (day : ℤ) (k : ℕ) → decided register caller project verbs.Extract ≡ Permit k
     → AsksStore (IsReply register state (extract caller project number groups day))
 extract_asks register state caller project number groups day k permit =
     let Drawn = IsDrawnFrom register caller project groups day (held number state) in
@@ -200,7 +200,7 @@ extract_replies keep rules caller project number groups day old new k answer per
 
 -- ---- what is seen
 
-same_kept : (o : Option Deposit) (d e : Deposit) → o ≡ Some d → o ≡ Some e → d ≡ e
+same_kept : (o : Option Sent) (d e : Sent) → o ≡ Some d → o ≡ Some e → d ≡ e
 same_kept o d e a b = cc
 
 -- a reading of what is kept of a deposit does not fail the store
@@ -219,14 +219,14 @@ seen_file : {K : Type 0} (keep : Ghosts K) (register : Register) (old mid : K) (
     → (file : CheckedFile) → IsFileOf (keep.dictionary old) h.kept file → (seen ≡ true) ↔ IsProjectShown (look_at register caller day h.kept) (file_of file)
 seen_file keep register old mid caller number day head look seen reads s h same sees file is =
     subst (λ (l : Look). (seen ≡ true) ↔ IsProjectShown l (file_of file)) same
-    (sees h.kept file (ap (λ (l : List Deposit). slice_get l (number - 1)) (reads.same s refl) ∙ h.place) (subst (λ (e : Entries). IsFileOf e h.kept file) (sym reads.same_dictionary) is))
+    (sees h.kept file (ap (λ (l : List Sent). slice_get l (number - 1)) (reads.same s refl) ∙ h.place) (subst (λ (e : Entries). IsFileOf e h.kept file) (sym reads.same_dictionary) is))
 
 pub seen_listed : {K : Type 0} (keep : Ghosts K) (rules : List Rule) (old mid : K) (caller : Caller) (number : ℕ) (day : ℤ) (head : KeptHead) (look : Look) (seen : Bool) → OnlyReads keep old mid false → keep.is_sound mid
     → (h : IsHeaded (keep.dictionary old) (keep.deposits old) number head) → look ≡ look_at (register_at keep rules old) caller day h.kept → OfDeposit (keep.dictionary mid) (keep.deposits mid) number (λ file. Sees look file seen) → seen ≡ true
-    → (d : Deposit) → held number (keep.deposits old) ≡ Some d → ∥ IsLineFor (register_at keep rules old) caller day number d (Some (record { number = number; firm = head.firm; embargo = head.embargo })) ∥₁
+    → (d : Sent) → held number (keep.deposits old) ≡ Some d → ∥ IsLineFor (register_at keep rules old) caller day number d (Some (record { number = number; firm = head.firm; embargo = head.embargo })) ∥₁
 seen_listed keep rules old mid caller number day head look seen reads s h same sees is d holds =
     let register = register_at keep rules old in
-    subst (λ (k : Deposit). ∥ IsLineFor register caller day number k (Some (record { number = number; firm = head.firm; embargo = head.embargo })) ∥₁) (same_kept (held number (keep.deposits old)) h.kept d h.holds holds)
+    subst (λ (k : Sent). ∥ IsLineFor register caller day number k (Some (record { number = number; firm = head.firm; embargo = head.embargo })) ∥₁) (same_kept (held number (keep.deposits old)) h.kept d h.holds holds)
     (∥∥₁_map h.fit (λ (f : (file : CheckedFile) × IsFileOf register.given h.kept file). (
       (file_of f.0, clean_of register.given h.kept f.0 f.1, (seen_file keep register old mid caller number day head look seen reads s h same sees f.0 f.1).0 is),
       ap (λ (firm : List ℕ). record { number = number; firm = firm; embargo = head.embargo }) h.of_head.firm ∙ ap (λ (e : ℤ). record { number = number; firm = h.kept.firm; embargo = e }) h.of_head.embargo,
@@ -234,10 +234,10 @@ seen_listed keep rules old mid caller number day head look seen reads s h same s
 
 pub seen_unlisted : {K : Type 0} (keep : Ghosts K) (rules : List Rule) (old mid : K) (caller : Caller) (number : ℕ) (day : ℤ) (head : KeptHead) (look : Look) (seen : Bool) → OnlyReads keep old mid false → keep.is_sound mid
     → (h : IsHeaded (keep.dictionary old) (keep.deposits old) number head) → look ≡ look_at (register_at keep rules old) caller day h.kept → OfDeposit (keep.dictionary mid) (keep.deposits mid) number (λ file. Sees look file seen) → seen ≡ false
-    → (d : Deposit) → held number (keep.deposits old) ≡ Some d → ∥ IsLineFor (register_at keep rules old) caller day number d None ∥₁
+    → (d : Sent) → held number (keep.deposits old) ≡ Some d → ∥ IsLineFor (register_at keep rules old) caller day number d None ∥₁
 seen_unlisted keep rules old mid caller number day head look seen reads s h same sees is d holds =
     let register = register_at keep rules old in
-    subst (λ (k : Deposit). ∥ IsLineFor register caller day number k None ∥₁) (same_kept (held number (keep.deposits old)) h.kept d h.holds holds)
+    subst (λ (k : Sent). ∥ IsLineFor register caller day number k None ∥₁) (same_kept (held number (keep.deposits old)) h.kept d h.holds holds)
     (∥∥₁_map h.fit (λ (f : (file : CheckedFile) × IsFileOf register.given h.kept file) (was : IsSeen register caller day h.kept).
     let clean = clean_of register.given h.kept f.0 f.1 in
     let shown = subst (IsProjectShown (look_at register caller day h.kept)) (one_file register.given h.kept.bytes was.0 (file_of f.0) was.1 clean) was.2 in

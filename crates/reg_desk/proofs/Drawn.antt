@@ -10,7 +10,7 @@ use Rattle.reg_policy.specs.declared.rule.Rule.{Rule}
 use Rattle.reg_policy.specs.declared.subject.Decision.{Decision}
 use Rattle.reg_policy.specs.declared.subject.Decision.TheVariants.{Permit, Deny}
 use Rattle.reg_policy.specs.declared.subject.Verb.TheVariants as verbs
-use Rattle.reg_store.specs.Deposit.{Deposit}
+use Rattle.reg_store.specs.Sent.{Sent}
 use Rattle.reg_store.specs.declared.keep.Keep.{Ghosts}
 use Rattle.reg_desk.specs.Asked.{Asked, deposit, check, listing, extract}
 use Rattle.reg_desk.specs.declared.answer.Listed.{Listed}
@@ -21,7 +21,7 @@ use Rattle.reg_desk.specs.Serving.{IsAnswer, register_at, Serves}
 use Rattle.reg_desk.specs.Desks.{IsCleanText, IsSameText, IsSameAnswer}
 use Rattle.reg_desk.proofs.Runs.{texts_clean, extract_again}
 
-text_reply : (register : Register) (state : List Deposit) (request : Asked) (text : List ℕ) → IsAnswer register state request (Text text) → IsReply register state request (Text text)
+text_reply : (register : Register) (state : List Sent) (request : Asked) (text : List ℕ) → IsAnswer register state request (Text text) → IsReply register state request (Text text)
 unfolding IsAnswer
 text_reply register state request text is = is
 
@@ -57,7 +57,7 @@ receipt_no_text register embargo count None = λ text h. full (nat_lt count regi
 
 -- ---- a text is clean
 
-text_clean : (register : Register) (state : List Deposit) (request : Asked) (text : List ℕ) → IsReply register state request (Text text) → AreFindings register.given text []
+text_clean : (register : Register) (state : List Sent) (request : Asked) (text : List ℕ) → IsReply register state request (Text text) → AreFindings register.given text []
 text_clean register state (deposit caller project embargo bytes day) text h =
     let P = λ (r : Answer). r ≡ receipt_of register embargo (length state) (first_equal 1 caller.firm project bytes state) in
     absurd (denied_no_text (decided register caller project verbs.Deposit) (OrRefused register bytes P) (refused_no_text register bytes P (receipt_no_text register embargo (length state) (first_equal 1 caller.firm project bytes state))) text h)

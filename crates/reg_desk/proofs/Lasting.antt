@@ -14,7 +14,7 @@ use Rattle.reg_policy.specs.declared.callers.Caller.{Caller}
 use Rattle.reg_policy.specs.declared.subject.Decision.{Decision}
 use Rattle.reg_policy.specs.declared.subject.Decision.TheVariants.{Permit, Deny}
 use Rattle.reg_policy.specs.declared.subject.Verb.TheVariants as verbs
-use Rattle.reg_store.specs.Deposit.{Deposit, is_repeat}
+use Rattle.reg_store.specs.Sent.{Sent, is_repeat}
 use Rattle.reg_store.specs.declared.keep.Keep.{Ghosts}
 use Rattle.reg_desk.specs.Asked.{Asked, deposit, check, listing, extract}
 use Rattle.reg_desk.specs.declared.answer.Answer.{Answer}
@@ -26,42 +26,42 @@ use Rattle.reg_desk.proofs.Taken.{taken_received}
 
 -- ---- a list that only grew
 
-abbrev IsFront : List Deposit → List Deposit → Type 0
-IsFront state list = (more : List Deposit) × (list ≡ state ++ more)
+abbrev IsFront : List Sent → List Sent → Type 0
+IsFront state list = (more : List Sent) × (list ≡ state ++ more)
 
-front_itself : (state list : List Deposit) → list ≡ state → IsFront state list
+front_itself : (state list : List Sent) → list ≡ state → IsFront state list
 front_itself state list same = ([], same ∙ sym (append-nil state))
 
-front_then : (a b c : List Deposit) → IsFront a b → IsFront b c → IsFront a c
-front_then a b c f g = (f.0 ++ g.0, g.1 ∙ ap (λ (l : List Deposit). l ++ g.0) f.1 ∙ append_assoc a f.0 g.0)
+front_then : (a b c : List Sent) → IsFront a b → IsFront b c → IsFront a c
+front_then a b c f g = (f.0 ++ g.0, g.1 ∙ ap (λ (l : List Sent). l ++ g.0) f.1 ∙ append_assoc a f.0 g.0)
 
-get_front : (state more : List Deposit) (i : ℕ) (d : Deposit) → slice_get state i ≡ Some d → slice_get (state ++ more) i ≡ Some d
+get_front : (state more : List Sent) (i : ℕ) (d : Sent) → slice_get state i ≡ Some d → slice_get (state ++ more) i ≡ Some d
 get_front [] more i d at = absurd cc
 get_front (k ∷ state) more zero d at = at
 get_front (k ∷ state) more (suc i) d at = get_front state more i d at
 
-held_front : (n : ℕ) (state list : List Deposit) (d : Deposit) → IsFront state list → held n state ≡ Some d → held n list ≡ Some d
+held_front : (n : ℕ) (state list : List Sent) (d : Sent) → IsFront state list → held n state ≡ Some d → held n list ≡ Some d
 held_front zero state list d front at = absurd cc
-held_front (suc n) state list d front at = ap (λ (l : List Deposit). slice_get l n) front.1 ∙ get_front state front.0 n d at
+held_front (suc n) state list d front at = ap (λ (l : List Sent). slice_get l n) front.1 ∙ get_front state front.0 n d at
 
-get_last : (state : List Deposit) (d : Deposit) → slice_get (state ++ d ∷ []) (length state) ≡ Some d
+get_last : (state : List Sent) (d : Sent) → slice_get (state ++ d ∷ []) (length state) ≡ Some d
 get_last [] d = refl
 get_last (k ∷ state) d = get_last state d
 
-held_last : (state : List Deposit) (d : Deposit) (n : ℕ) → n ≡ length state + 1 → held n (state ++ d ∷ []) ≡ Some d
+held_last : (state : List Sent) (d : Sent) (n : ℕ) → n ≡ length state + 1 → held n (state ++ d ∷ []) ≡ Some d
 held_last state d n same = let e : n ≡ suc (length state) = omega (arith, same) in subst (λ (k : ℕ). held k (state ++ d ∷ []) ≡ Some d) (sym e) (get_last state d)
 
-adds_front : (request : Asked) (state list : List Deposit) → AddsAsked request state list → IsFront state list
+adds_front : (request : Asked) (state list : List Sent) → AddsAsked request state list → IsFront state list
 adds_front (deposit caller project embargo bytes day) state list h = (asked_deposit caller project embargo bytes ∷ [], h)
 adds_front (check caller project bytes day) state list h = absurd h
 adds_front (listing caller project day) state list h = absurd h
 adds_front (extract caller project number groups day) state list h = absurd h
 
-next_front : (register : Register) (request : Asked) (state next : List Deposit) → IsNext register state request next → IsFront state next
+next_front : (register : Register) (request : Asked) (state next : List Sent) → IsNext register state request next → IsFront state next
 next_front register request state next (inl h) = adds_front request state next h.1
 next_front register request state next (inr h) = front_itself state next h.1
 
-after_front : (register : Register) (request : Asked) (state next : List Deposit) (a : Answer) → is_failed a ≡ false → IsAfter register state request a next → IsFront state next
+after_front : (register : Register) (request : Asked) (state next : List Sent) (a : Answer) → is_failed a ≡ false → IsAfter register state request a next → IsFront state next
 unfolding IsAfter
 after_front register request state next (Receipt n e) lives h = next_front register request state next h
 after_front register request state next Clean lives h = next_front register request state next h
@@ -96,17 +96,17 @@ and_both true false c e = absurd (true≢false (sym e))
 and_both false b c e = absurd (true≢false (sym e))
 
 -- an equal deposit has this firm, this project and these bytes
-repeat_is : (firm project bytes : List ℕ) (d : Deposit) → is_repeat firm project bytes d ≡ true → d ≡ record { firm = firm; project = project; embargo = d.embargo; bytes = bytes }
+repeat_is : (firm project bytes : List ℕ) (d : Sent) → is_repeat firm project bytes d ≡ true → d ≡ record { firm = firm; project = project; embargo = d.embargo; bytes = bytes }
 repeat_is firm project bytes d e =
     let all = and_both (bytes_eq d.firm firm) (bytes_eq d.project project) (bytes_eq d.bytes bytes) e in
     ap (λ (f : List ℕ). record { firm = f; project = d.project; embargo = d.embargo; bytes = d.bytes }) ((bytes_eq-Decides d.firm firm).0 all.0)
     ∙ ap (λ (p : List ℕ). record { firm = firm; project = p; embargo = d.embargo; bytes = d.bytes }) ((bytes_eq-Decides d.project project).0 all.1)
     ∙ ap (λ (b : List ℕ). record { firm = firm; project = project; embargo = d.embargo; bytes = b }) ((bytes_eq-Decides d.bytes bytes).0 all.2)
 
-abbrev IsFirstAt : List ℕ → List ℕ → List ℕ → ℕ → List Deposit → ℕ → ℤ → Type 0
+abbrev IsFirstAt : List ℕ → List ℕ → List ℕ → ℕ → List Sent → ℕ → ℤ → Type 0
 IsFirstAt firm project bytes n list k e = (i : ℕ) × (k ≡ n + i) × (slice_get list i ≡ Some (record { firm = firm; project = project; embargo = e; bytes = bytes }))
 
-first_at : (firm project bytes : List ℕ) (n : ℕ) (list : List Deposit) (k : ℕ) (e : ℤ) → first_equal n firm project bytes list ≡ Some (k, e) → IsFirstAt firm project bytes n list k e
+first_at : (firm project bytes : List ℕ) (n : ℕ) (list : List Sent) (k : ℕ) (e : ℤ) → first_equal n firm project bytes list ≡ Some (k, e) → IsFirstAt firm project bytes n list k e
 first_at firm project bytes n [] k e h = absurd cc
 first_at firm project bytes n (d ∷ list) k e h = step (is_repeat firm project bytes d) refl h (first_at firm project bytes (n + 1) list k e)
   where
@@ -116,7 +116,7 @@ first_at firm project bytes n (d ∷ list) k e h = step (is_repeat firm project 
         let pair : (n, d.embargo) ≡ (k, e) = same_Some (n, d.embargo) (k, e) h in
         let number : n ≡ k = ap (λ (p : ℕ × ℤ). p.0) pair in
         let day : d.embargo ≡ e = ap (λ (p : ℕ × ℤ). p.1) pair in
-        (0, omega (arith, number), ap (λ (x : Deposit). Some x) (repeat_is firm project bytes d is ∙ ap (λ (x : ℤ). record { firm = firm; project = project; embargo = x; bytes = bytes }) day))
+        (0, omega (arith, number), ap (λ (x : Sent). Some x) (repeat_is firm project bytes d is ∙ ap (λ (x : ℤ). record { firm = firm; project = project; embargo = x; bytes = bytes }) day))
     step false is h rest = let r = rest h in (suc r.0, omega (arith, r.1), r.2)
 
 receipt_fields : (n m : ℕ) (e f : ℤ) → Receipt n e ≡ Receipt m f → (n ≡ m) × (e ≡ f)
@@ -131,7 +131,7 @@ receipt_first register embargo count None n e h other = absurd (full (nat_lt cou
     full true h = other h
     full false h = cc
 
-receipt_held : (register : Register) (caller : Caller) (project : List ℕ) (embargo : ℤ) (bytes : List ℕ) (day : ℤ) (state next : List Deposit) (n : ℕ) (e : ℤ) → IsReply register state (deposit caller project embargo bytes day) (Receipt n e)
+receipt_held : (register : Register) (caller : Caller) (project : List ℕ) (embargo : ℤ) (bytes : List ℕ) (day : ℤ) (state next : List Sent) (n : ℕ) (e : ℤ) → IsReply register state (deposit caller project embargo bytes day) (Receipt n e)
     → IsNext register state (deposit caller project embargo bytes day) next → held n next ≡ Some (asked_deposit caller project e bytes)
 receipt_held register caller project embargo bytes day state next n e is (inl h) =
     let fields = receipt_fields n (length state + 1) e embargo ((taken_received register state caller project embargo bytes day (Receipt n e) is).0 h.0) in
@@ -147,7 +147,7 @@ receipt_held register caller project embargo bytes day state next n e is (inr h)
 
 -- ---- the answers to a list
 
-held_then : (state list : List Deposit) (request : Asked) (a : Answer) → IsFront state list → IsHeldIn state request a → IsHeldIn list request a
+held_then : (state list : List Sent) (request : Asked) (a : Answer) → IsFront state list → IsHeldIn state request a → IsHeldIn list request a
 held_then state list (deposit caller project embargo bytes day) (Receipt n e) front h = held_front n state list (asked_deposit caller project e bytes) front h
 held_then state list (deposit caller project embargo bytes day) Clean front h = tt
 held_then state list (deposit caller project embargo bytes day) (Findings l) front h = tt
@@ -163,15 +163,15 @@ held_then state list (check caller project bytes day) a front h = tt
 held_then state list (listing caller project day) a front h = tt
 held_then state list (extract caller project number groups day) a front h = tt
 
-receipt_reply : (register : Register) (state : List Deposit) (request : Asked) (n : ℕ) (e : ℤ) → IsAnswer register state request (Receipt n e) → IsReply register state request (Receipt n e)
+receipt_reply : (register : Register) (state : List Sent) (request : Asked) (n : ℕ) (e : ℤ) → IsAnswer register state request (Receipt n e) → IsReply register state request (Receipt n e)
 unfolding IsAnswer
 receipt_reply register state request n e is = is
 
-receipt_next : (register : Register) (state next : List Deposit) (request : Asked) (n : ℕ) (e : ℤ) → IsAfter register state request (Receipt n e) next → IsNext register state request next
+receipt_next : (register : Register) (state next : List Sent) (request : Asked) (n : ℕ) (e : ℤ) → IsAfter register state request (Receipt n e) next → IsNext register state request next
 unfolding IsAfter
 receipt_next register state next request n e after = after
 
-held_next : (register : Register) (state next : List Deposit) (request : Asked) (a : Answer) → IsAnswer register state request a → IsAfter register state request a next → IsHeldIn next request a
+held_next : (register : Register) (state next : List Sent) (request : Asked) (a : Answer) → IsAnswer register state request a → IsAfter register state request a next → IsHeldIn next request a
 held_next register state next (deposit caller project embargo bytes day) (Receipt n e) is after =
     let request = deposit caller project embargo bytes day in
     receipt_held register caller project embargo bytes day state next n e (receipt_reply register state request n e is) (receipt_next register state next request n e after)
@@ -189,13 +189,13 @@ held_next register state next (check caller project bytes day) a is after = tt
 held_next register state next (listing caller project day) a is after = tt
 held_next register state next (extract caller project number groups day) a is after = tt
 
-failed_held : (list : List Deposit) (request : Asked) (a : Answer) → a ≡ StoreFailed → IsHeldIn list request a
+failed_held : (list : List Sent) (request : Asked) (a : Answer) → a ≡ StoreFailed → IsHeldIn list request a
 failed_held list (deposit caller project embargo bytes day) a e = subst (IsHeldIn list (deposit caller project embargo bytes day)) (sym e) tt
 failed_held list (check caller project bytes day) a e = tt
 failed_held list (listing caller project day) a e = tt
 failed_held list (extract caller project number groups day) a e = tt
 
-all_failed : (list : List Deposit) (requests : List Asked) (answers : List Answer) → AreFailed requests answers → AllZip (IsHeldIn list) requests answers
+all_failed : (list : List Sent) (requests : List Asked) (answers : List Answer) → AreFailed requests answers → AllZip (IsHeldIn list) requests answers
 all_failed list [] [] h = tt
 all_failed list [] (a ∷ answers) h = absurd h
 all_failed list (r ∷ requests) [] h = absurd h
@@ -215,30 +215,30 @@ is_store_failed NoMemory h = absurd cc
 is_store_failed StoreFailed h = refl
 
 -- what holds from this state on: the deposits with receipts are in each list that the last state is the front of
-abbrev Lasts : Register → List Deposit → List Asked → List Answer → List Deposit → List Deposit → Type 0
+abbrev Lasts : Register → List Sent → List Asked → List Answer → List Sent → List Sent → Type 0
 Lasts register state requests answers last list = IsFront state last × AllZip (IsHeldIn list) requests answers
 
-lasts_step : (register : Register) (state : List Deposit) (r : Asked) (requests : List Asked) (a : Answer) (answers : List Answer) (last list : List Deposit) (t : Bool) → is_failed a ≡ t → IsAnswer register state r a → IsFront last list
-    → ((next : List Deposit) → AreAnswers register next requests answers last → Lasts register next requests answers last list)
-    → MatchBool t ((last ≡ state) × AreFailed requests answers) ((next : List Deposit) × IsAfter register state r a next × AreAnswers register next requests answers last) → Lasts register state (r ∷ requests) (a ∷ answers) last list
+lasts_step : (register : Register) (state : List Sent) (r : Asked) (requests : List Asked) (a : Answer) (answers : List Answer) (last list : List Sent) (t : Bool) → is_failed a ≡ t → IsAnswer register state r a → IsFront last list
+    → ((next : List Sent) → AreAnswers register next requests answers last → Lasts register next requests answers last list)
+    → MatchBool t ((last ≡ state) × AreFailed requests answers) ((next : List Sent) × IsAfter register state r a next × AreAnswers register next requests answers last) → Lasts register state (r ∷ requests) (a ∷ answers) last list
 lasts_step register state r requests a answers last list true fails is front rest w = (front_itself state last w.0, (failed_held list r a (is_store_failed a fails), all_failed list requests answers w.1))
 lasts_step register state r requests a answers last list false lives is front rest w =
     let more = rest w.0 w.2 in
     let grows = after_front register r state w.0 a lives w.1 in
     (front_then state w.0 last grows more.0, (held_then w.0 list r a (front_then w.0 last list more.0 front) (held_next register state w.0 r a is w.1), more.1))
 
-lasts : (register : Register) (state : List Deposit) (requests : List Asked) (answers : List Answer) (last list : List Deposit) → AreAnswers register state requests answers last → IsFront last list → Lasts register state requests answers last list
+lasts : (register : Register) (state : List Sent) (requests : List Asked) (answers : List Answer) (last list : List Sent) → AreAnswers register state requests answers last → IsFront last list → Lasts register state requests answers last list
 lasts register state [] [] last list h front = (front_itself state last h, tt)
 lasts register state [] (a ∷ answers) last list h front = absurd h
 lasts register state (r ∷ requests) [] last list h front = absurd h
 lasts register state (r ∷ requests) (a ∷ answers) last list h front =
     lasts_step register state r requests a answers last list (is_failed a) refl h.0 front (λ next k. lasts register next requests answers last list k front) h.1
 
-left_front : (requests : List Asked) (answers : List Answer) (state list : List Deposit) → (list ≡ state) ⊎ ((r : Asked) × (failing requests answers ≡ Some r) × AddsAsked r state list) → IsFront state list
+left_front : (requests : List Asked) (answers : List Answer) (state list : List Sent) → (list ≡ state) ⊎ ((r : Asked) × (failing requests answers ≡ Some r) × AddsAsked r state list) → IsFront state list
 left_front requests answers state list (inl h) = front_itself state list h
 left_front requests answers state list (inr h) = adds_front h.0 state list h.2
 
 pub receipts_last : {K : Type 0} (keep : Ghosts K) (rules : List Rule) (old new : K) (requests : List Asked) (answers : List Answer) → Runs keep rules old new requests answers
-    → (list : List Deposit) → keep.may_leave new list → AllZip (IsHeldIn list) requests answers
+    → (list : List Sent) → keep.may_leave new list → AllZip (IsHeldIn list) requests answers
 receipts_last keep rules old new requests answers runs list may =
     (lasts (register_at keep rules old) (keep.deposits old) requests answers runs.last list runs.answered (left_front requests answers runs.last list (runs.left list may))).1

@@ -10,7 +10,7 @@ use Rattle.reg_policy.specs.declared.rule.Rule.{Rule}
 use Rattle.reg_policy.specs.declared.callers.Caller.{Caller}
 use Rattle.reg_policy.specs.declared.subject.Decision.TheVariants.{Permit, Deny}
 use Rattle.reg_policy.specs.declared.subject.Verb.TheVariants as verbs
-use Rattle.reg_store.specs.Deposit.{Deposit, numbers_from}
+use Rattle.reg_store.specs.Sent.{Sent, numbers_from}
 use Rattle.reg_store.specs.Keep.{is_store}
 use Rattle.reg_store.specs.declared.keep.Keep.{Ghosts}
 use Rattle.reg_store.specs.declared.keep.KeepError.{KeepError}
@@ -31,68 +31,68 @@ with_line None more = more
 with_line (Some line) more = line ∷ more
 
 -- the lines of the deposits that have these numbers
-abbrev pub AreLines : Register → Caller → ℤ → (ℕ → Option Deposit) → List ℕ → List Listed → Type 0
+abbrev pub AreLines : Register → Caller → ℤ → (ℕ → Option Sent) → List ℕ → List Listed → Type 0
 AreLines register caller day at [] lines = lines ≡ []
 AreLines register caller day at (n ∷ numbers) lines =
-    (kept : Deposit) × (line : Option Listed) × (more : List Listed) × (at n ≡ Some kept) × IsLineFor register caller day n kept line × (lines ≡ with_line line more) × AreLines register caller day at numbers more
+    (kept : Sent) × (line : Option Listed) × (more : List Listed) × (at n ≡ Some kept) × IsLineFor register caller day n kept line × (lines ≡ with_line line more) × AreLines register caller day at numbers more
 
 -- the lines so far, where these numbers are left
-abbrev pub SoFar : Register → Caller → ℤ → (ℕ → Option Deposit) → List ℕ → List ℕ → List Listed → Type 0
+abbrev pub SoFar : Register → Caller → ℤ → (ℕ → Option Sent) → List ℕ → List ℕ → List Listed → Type 0
 SoFar register caller day at all numbers lines = (rest : List Listed) → AreLines register caller day at numbers rest → AreLines register caller day at all (lines ++ rest)
 
-pub lines_begin : (register : Register) (caller : Caller) (day : ℤ) (at : ℕ → Option Deposit) (all : List ℕ) → SoFar register caller day at all all []
+pub lines_begin : (register : Register) (caller : Caller) (day : ℤ) (at : ℕ → Option Sent) (all : List ℕ) → SoFar register caller day at all all []
 lines_begin register caller day at all = λ rest h. h
 
 abbrev pub put_line : List Listed → Option Listed → List Listed
 put_line lines None = lines
 put_line lines (Some line) = lines ++ line ∷ []
 
-lines_more : (register : Register) (caller : Caller) (day : ℤ) (at : ℕ → Option Deposit) (all : List ℕ) (n : ℕ) (numbers : List ℕ) (lines : List Listed) (kept : Deposit) (line : Option Listed)
+lines_more : (register : Register) (caller : Caller) (day : ℤ) (at : ℕ → Option Sent) (all : List ℕ) (n : ℕ) (numbers : List ℕ) (lines : List Listed) (kept : Sent) (line : Option Listed)
     → SoFar register caller day at all (n ∷ numbers) lines → at n ≡ Some kept → IsLineFor register caller day n kept line → SoFar register caller day at all numbers (put_line lines line)
 lines_more register caller day at all n numbers lines kept None so_far holds listed = λ rest h. so_far rest (kept, None, rest, holds, listed, refl, h)
 lines_more register caller day at all n numbers lines kept (Some line) so_far holds listed = λ rest h.
     subst (AreLines register caller day at all) (sym (append_assoc lines (line ∷ []) rest)) (so_far (line ∷ rest) (kept, Some line, rest, holds, listed, refl, h))
 
-pub lines_end : (register : Register) (caller : Caller) (day : ℤ) (at : ℕ → Option Deposit) (all : List ℕ) (lines : List Listed) → SoFar register caller day at all [] lines → AreLines register caller day at all lines
+pub lines_end : (register : Register) (caller : Caller) (day : ℤ) (at : ℕ → Option Sent) (all : List ℕ) (lines : List Listed) → SoFar register caller day at all [] lines → AreLines register caller day at all lines
 lines_end register caller day at all lines so_far = subst (AreLines register caller day at all) (append-nil lines) (so_far [] refl)
 
 -- ---- the project's numbers
 
 -- where a list that is numbered from n stands
-abbrev Stands : (ℕ → Option Deposit) → ℕ → List Deposit → Type 0
-Stands at n state = (i k : ℕ) (d : Deposit) → slice_get state i ≡ Some d → k ≡ n + i → at k ≡ Some d
+abbrev Stands : (ℕ → Option Sent) → ℕ → List Sent → Type 0
+Stands at n state = (i k : ℕ) (d : Sent) → slice_get state i ≡ Some d → k ≡ n + i → at k ≡ Some d
 
-same_some : (o : Option Deposit) (d e : Deposit) → o ≡ Some d → o ≡ Some e → d ≡ e
+same_some : (o : Option Sent) (d e : Sent) → o ≡ Some d → o ≡ Some e → d ≡ e
 same_some o d e a b = cc
 
-listed_then : (register : Register) (caller : Caller) (project : List ℕ) (day : ℤ) (n : ℕ) (d : Deposit) (state : List Deposit) (lines more : List Listed) (line : Option Listed) → IsLineFor register caller day n d line → lines ≡ with_line line more
+listed_then : (register : Register) (caller : Caller) (project : List ℕ) (day : ℤ) (n : ℕ) (d : Sent) (state : List Sent) (lines more : List Listed) (line : Option Listed) → IsLineFor register caller day n d line → lines ≡ with_line line more
     → IsListing register caller project day (n + 1) state more
     → (IsSeen register caller day d × ((l : List Listed) × (lines ≡ record { number = n; firm = d.firm; embargo = d.embargo } ∷ l) × IsListing register caller project day (n + 1) state l))
     ⊎ ((IsSeen register caller day d → ⊥) × IsListing register caller project day (n + 1) state lines)
 listed_then register caller project day n d state lines more None listed is rest = inr (listed, subst (IsListing register caller project day (n + 1) state) (sym is) rest)
 listed_then register caller project day n d state lines more (Some line) listed is rest = inl (listed.0, (more, is ∙ ap (λ (l : Listed). l ∷ more) listed.1, rest))
 
-listing_step : (register : Register) (caller : Caller) (project : List ℕ) (day : ℤ) (at : ℕ → Option Deposit) (n : ℕ) (d : Deposit) (state : List Deposit) (numbers : List ℕ) (lines : List Listed) (t : Bool) → at n ≡ Some d
+listing_step : (register : Register) (caller : Caller) (project : List ℕ) (day : ℤ) (at : ℕ → Option Sent) (n : ℕ) (d : Sent) (state : List Sent) (numbers : List ℕ) (lines : List Listed) (t : Bool) → at n ≡ Some d
     → ((l : List Listed) → AreLines register caller day at numbers l → IsListing register caller project day (n + 1) state l)
     → AreLines register caller day at (cond t (n ∷ numbers) numbers) lines
     → MatchBool t ((IsSeen register caller day d × ((l : List Listed) × (lines ≡ record { number = n; firm = d.firm; embargo = d.embargo } ∷ l) × IsListing register caller project day (n + 1) state l))
     ⊎ ((IsSeen register caller day d → ⊥) × IsListing register caller project day (n + 1) state lines)) (IsListing register caller project day (n + 1) state lines)
 listing_step register caller project day at n d state numbers lines true holds rest h =
     let same : h.0 ≡ d = same_some (at n) h.0 d h.3 holds in
-    listed_then register caller project day n d state lines h.2 h.1 (subst (λ (k : Deposit). IsLineFor register caller day n k h.1) same h.4) h.5 (rest h.2 h.6)
+    listed_then register caller project day n d state lines h.2 h.1 (subst (λ (k : Sent). IsLineFor register caller day n k h.1) same h.4) h.5 (rest h.2 h.6)
 listing_step register caller project day at n d state numbers lines false holds rest h = rest lines h
 
-lines_listing : (register : Register) (caller : Caller) (project : List ℕ) (day : ℤ) (at : ℕ → Option Deposit) (n : ℕ) (state : List Deposit) → Stands at n state
+lines_listing : (register : Register) (caller : Caller) (project : List ℕ) (day : ℤ) (at : ℕ → Option Sent) (n : ℕ) (state : List Sent) → Stands at n state
     → (lines : List Listed) → AreLines register caller day at (numbers_from n project state) lines → IsListing register caller project day n state lines
 lines_listing register caller project day at n [] stands lines h = h
 lines_listing register caller project day at n (d ∷ state) stands lines h =
     listing_step register caller project day at n d state (numbers_from (n + 1) project state) lines (bytes_eq d.project project) (stands 0 n d refl (omega arith))
     (lines_listing register caller project day at (n + 1) state (λ i k e is same. stands (suc i) k e is (omega (arith, same)))) h
 
-held_stands : (state : List Deposit) → Stands (λ k. held k state) 1 state
+held_stands : (state : List Sent) → Stands (λ k. held k state) 1 state
 held_stands state = λ i k d is same. let e : k ≡ suc i = omega (arith, same) in subst (λ (m : ℕ). held m state ≡ Some d) (sym e) is
 
-pub listing_of : (register : Register) (caller : Caller) (project : List ℕ) (day : ℤ) (state : List Deposit) (lines : List Listed) → AreLines register caller day (λ k. held k state) (numbers_from 1 project state) lines
+pub listing_of : (register : Register) (caller : Caller) (project : List ℕ) (day : ℤ) (state : List Sent) (lines : List Listed) → AreLines register caller day (λ k. held k state) (numbers_from 1 project state) lines
     → IsListing register caller project day 1 state lines
 listing_of register caller project day state lines h = lines_listing register caller project day (λ k. held k state) 1 state (held_stands state) lines h
 
@@ -105,32 +105,32 @@ within_step true n count numbers rest zero lt = (omega arith, omega arith)
 within_step true n count numbers rest (suc i) lt = let h = rest i (omega (arith, lt)) in (omega (arith, h.0), omega (arith, h.1))
 within_step false n count numbers rest i lt = let h = rest i lt in (omega (arith, h.0), omega (arith, h.1))
 
-numbers_within : (project : List ℕ) (n : ℕ) (state : List Deposit) → IsWithin n (length state) (numbers_from n project state)
+numbers_within : (project : List ℕ) (n : ℕ) (state : List Sent) → IsWithin n (length state) (numbers_from n project state)
 numbers_within project n [] = λ i lt. absurd (omega (arith, lt))
 numbers_within project n (d ∷ state) = within_step (bytes_eq d.project project) n (length state) (numbers_from (n + 1) project state) (numbers_within project (n + 1) state)
 
-pub number_within : (project : List ℕ) (state : List Deposit) (numbers : List ℕ) (i : ℕ) → numbers ≡ numbers_from 1 project state → i < length numbers → (0 < get_or numbers i 0) × (get_or numbers i 0 ≤ length state)
+pub number_within : (project : List ℕ) (state : List Sent) (numbers : List ℕ) (i : ℕ) → numbers ≡ numbers_from 1 project state → i < length numbers → (0 < get_or numbers i 0) × (get_or numbers i 0 ≤ length state)
 number_within project state numbers i same lt =
     let h = subst (IsWithin 1 (length state)) (sym same) (numbers_within project 1 state) i lt in
     (omega (arith, h.0), omega (arith, h.1))
 
 -- and that deposit is of the project
-abbrev AreNamed : (ℕ → Option Deposit) → List ℕ → List ℕ → Type 0
-AreNamed at project numbers = (i : ℕ) → i < length numbers → (d : Deposit) → at (get_or numbers i 0) ≡ Some d → d.project ≡ project
+abbrev AreNamed : (ℕ → Option Sent) → List ℕ → List ℕ → Type 0
+AreNamed at project numbers = (i : ℕ) → i < length numbers → (d : Sent) → at (get_or numbers i 0) ≡ Some d → d.project ≡ project
 
-named_step : (at : ℕ → Option Deposit) (project : List ℕ) (n : ℕ) (kept : Deposit) (t : Bool) (numbers : List ℕ) → bytes_eq kept.project project ≡ t → at n ≡ Some kept → AreNamed at project numbers
+named_step : (at : ℕ → Option Sent) (project : List ℕ) (n : ℕ) (kept : Sent) (t : Bool) (numbers : List ℕ) → bytes_eq kept.project project ≡ t → at n ≡ Some kept → AreNamed at project numbers
     → AreNamed at project (cond t (n ∷ numbers) numbers)
-named_step at project n kept true numbers same holds rest zero lt d is = ap (λ (k : Deposit). k.project) (same_some (at n) d kept is holds) ∙ (bytes_eq-Decides kept.project project).0 same
+named_step at project n kept true numbers same holds rest zero lt d is = ap (λ (k : Sent). k.project) (same_some (at n) d kept is holds) ∙ (bytes_eq-Decides kept.project project).0 same
 named_step at project n kept true numbers same holds rest (suc i) lt d is = rest i (omega (arith, lt)) d is
 named_step at project n kept false numbers same holds rest i lt d is = rest i lt d is
 
-numbers_named : (at : ℕ → Option Deposit) (project : List ℕ) (n : ℕ) (state : List Deposit) → Stands at n state → AreNamed at project (numbers_from n project state)
+numbers_named : (at : ℕ → Option Sent) (project : List ℕ) (n : ℕ) (state : List Sent) → Stands at n state → AreNamed at project (numbers_from n project state)
 numbers_named at project n [] stands = λ i lt. absurd (omega (arith, lt))
 numbers_named at project n (kept ∷ state) stands =
     named_step at project n kept (bytes_eq kept.project project) (numbers_from (n + 1) project state) refl (stands 0 n kept refl (omega arith))
     (numbers_named at project (n + 1) state (λ i k e is same. stands (suc i) k e is (omega (arith, same))))
 
-pub number_named : (project : List ℕ) (state : List Deposit) (numbers : List ℕ) (i : ℕ) → numbers ≡ numbers_from 1 project state → i < length numbers → (d : Deposit) → held (get_or numbers i 0) state ≡ Some d → d.project ≡ project
+pub number_named : (project : List ℕ) (state : List Sent) (numbers : List ℕ) (i : ℕ) → numbers ≡ numbers_from 1 project state → i < length numbers → (d : Sent) → held (get_or numbers i 0) state ≡ Some d → d.project ≡ project
 number_named project state numbers i same lt = subst (AreNamed (λ k. held k state) project) (sym same) (numbers_named (λ k. held k state) project 1 state (held_stands state)) i lt
 
 -- ---- the loop
@@ -141,7 +141,7 @@ drop_get (n ∷ numbers) zero lt = refl
 drop_get (n ∷ numbers) (suc i) lt = drop_get numbers i (omega (arith, lt))
 
 -- one more number
-pub number_more : (register : Register) (caller : Caller) (day : ℤ) (state : List Deposit) (all : List ℕ) (i : ℕ) (lines : List Listed) (kept : Deposit) (line : Option Listed) → i < length all
+pub number_more : (register : Register) (caller : Caller) (day : ℤ) (state : List Sent) (all : List ℕ) (i : ℕ) (lines : List Listed) (kept : Sent) (line : Option Listed) → i < length all
     → SoFar register caller day (λ k. held k state) all (drop i all) lines → held (get_or all i 0) state ≡ Some kept → IsLineFor register caller day (get_or all i 0) kept line
     → SoFar register caller day (λ k. held k state) all (drop (suc i) all) (put_line lines line)
 number_more register caller day state all i lines kept line lt so_far holds listed =
@@ -149,8 +149,8 @@ number_more register caller day state all i lines kept line lt so_far holds list
     (subst (λ (l : List ℕ). SoFar register caller day (λ k. held k state) all l lines) (drop_get all i lt) so_far) holds listed
 
 -- one more number, whose deposit is seen or not
-pub number_step : (register : Register) (caller : Caller) (day : ℤ) (state : List Deposit) (all : List ℕ) (i : ℕ) (lines : List Listed) (line : Option Listed) → i < length all
-    → (0 < get_or all i 0) × (get_or all i 0 ≤ length state) → ((d : Deposit) → held (get_or all i 0) state ≡ Some d → ∥ IsLineFor register caller day (get_or all i 0) d line ∥₁)
+pub number_step : (register : Register) (caller : Caller) (day : ℤ) (state : List Sent) (all : List ℕ) (i : ℕ) (lines : List Listed) (line : Option Listed) → i < length all
+    → (0 < get_or all i 0) × (get_or all i 0 ≤ length state) → ((d : Sent) → held (get_or all i 0) state ≡ Some d → ∥ IsLineFor register caller day (get_or all i 0) d line ∥₁)
     → ∥ SoFar register caller day (λ k. held k state) all (drop i all) lines ∥₁ → ∥ SoFar register caller day (λ k. held k state) all (drop (i + 1) all) (put_line lines line) ∥₁
 number_step register caller day state all i lines line lt within listed so_far =
     let d = held_at state (get_or all i 0) within.0 within.1 in
@@ -160,7 +160,7 @@ number_step register caller day state all i lines line lt within listed so_far =
     subst (λ (k : ℕ). SoFar register caller day (λ k. held k state) all (drop k all) (put_line lines line)) (sym next)
     (number_more register caller day state all i lines d.0 line lt f d.2 is)))
 
-pub lines_whole : (register : Register) (caller : Caller) (project : List ℕ) (day : ℤ) (state : List Deposit) (all : List ℕ) (i : ℕ) (lines : List Listed) → length all ≤ i → all ≡ numbers_from 1 project state
+pub lines_whole : (register : Register) (caller : Caller) (project : List ℕ) (day : ℤ) (state : List Sent) (all : List ℕ) (i : ℕ) (lines : List Listed) → length all ≤ i → all ≡ numbers_from 1 project state
     → ∥ SoFar register caller day (λ k. held k state) all (drop i all) lines ∥₁ → ∥ IsListing register caller project day 1 state lines ∥₁
 lines_whole register caller project day state all i lines le same so_far =
     ∥∥₁_map so_far (λ (f : SoFar register caller day (λ k. held k state) all (drop i all) lines).
@@ -169,7 +169,7 @@ lines_whole register caller project day state all i lines le same so_far =
     (lines_end register caller day (λ k. held k state) all lines (subst (λ (left : List ℕ). SoFar register caller day (λ k. held k state) all left lines) (drop_all i all le) f))))
 
 -- the project has no deposit
-pub lines_none : (register : Register) (caller : Caller) (project : List ℕ) (day : ℤ) (state : List Deposit) (all : List ℕ) → length all ≡ 0 → all ≡ numbers_from 1 project state → ∥ IsListing register caller project day 1 state [] ∥₁
+pub lines_none : (register : Register) (caller : Caller) (project : List ℕ) (day : ℤ) (state : List Sent) (all : List ℕ) → length all ≡ 0 → all ≡ numbers_from 1 project state → ∥ IsListing register caller project day 1 state [] ∥₁
 lines_none register caller project day state all none same =
     lines_whole register caller project day state all 0 [] (omega (arith, none)) same ∣ lines_begin register caller day (λ k. held k state) all ∣₁
 
@@ -179,10 +179,10 @@ register_same keep rules old new failed reads =
 
 -- ---- the answers to a list
 
-abbrev IsListingAnswer : Register → List Deposit → Caller → List ℕ → ℤ → Answer → Type 0
+abbrev IsListingAnswer : Register → List Sent → Caller → List ℕ → ℤ → Answer → Type 0
 IsListingAnswer register state caller project day r = (lines : List Listed) × IsListing register caller project day 1 state lines × (r ≡ Listing lines)
 
-listing_asks : (register : Register) (state : List Deposit) (caller : Caller) (project : List ℕ) (day : ℤ) (k : ℕ) → decided register caller project verbs.List ≡ Permit k → AsksStore (IsReply register state (listing caller project day))
+listing_asks : (register : Register) (state : List Sent) (caller : Caller) (project : List ℕ) (day : ℤ) (k : ℕ) → decided register caller project verbs.List ≡ Permit k → AsksStore (IsReply register state (listing caller project day))
 listing_asks register state caller project day k permit =
     asks_of (IsListingAnswer register state caller project day) (IsReply register state (listing caller project day))
     (λ reply is. permit_stands (decided register caller project verbs.List) k (IsListingAnswer register state caller project day) reply permit is)

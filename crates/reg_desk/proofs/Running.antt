@@ -7,7 +7,7 @@ use Rattle.ags_dict.specs.Entries.{Entries}
 use Rattle.std.proofs.Math.Logic.{∥∥₁_map, ∥∥₁_elim}
 use Rattle.std.specs.Prelude.{MatchBool, option_map}
 use Rattle.reg_policy.specs.declared.rule.Rule.{Rule}
-use Rattle.reg_store.specs.Deposit.{Deposit}
+use Rattle.reg_store.specs.Sent.{Sent}
 use Rattle.reg_store.specs.declared.keep.Keep.{Ghosts}
 use Rattle.reg_desk.specs.Asked.{Asked, asked}
 use Rattle.reg_desk.specs.declared.request.Request.{Request}
@@ -33,11 +33,11 @@ or_second false b e = e
 
 -- ---- one answer more
 
-answers_told : (register : Register) (state : List Deposit) (requests : List Asked) (answers : List Answer) (last next : List Deposit) (r : Asked) (a : Answer) → AreAnswers register state requests answers last → some_fails answers ≡ false
+answers_told : (register : Register) (state : List Sent) (requests : List Asked) (answers : List Answer) (last next : List Sent) (r : Asked) (a : Answer) → AreAnswers register state requests answers last → some_fails answers ≡ false
     → is_failed a ≡ false → IsAnswer register last r a → IsAfter register last r a next → AreAnswers register state (requests ++ r ∷ []) (answers ++ a ∷ []) next
 answers_told register state [] [] last next r a h none lives is after =
     let e : last ≡ state = h in
-    (subst (λ (s : List Deposit). IsAnswer register s r a) e is, where_false (is_failed a) _ _ lives (next, subst (λ (s : List Deposit). IsAfter register s r a next) e after, refl))
+    (subst (λ (s : List Sent). IsAnswer register s r a) e is, where_false (is_failed a) _ _ lives (next, subst (λ (s : List Sent). IsAfter register s r a next) e after, refl))
 answers_told register state [] (b ∷ answers) last next r a h none lives is after = absurd h
 answers_told register state (q ∷ requests) [] last next r a h none lives is after = absurd h
 answers_told register state (q ∷ requests) (b ∷ answers) last next r a h none lives is after =
@@ -45,11 +45,11 @@ answers_told register state (q ∷ requests) (b ∷ answers) last next r a h non
     let rest = where_else (is_failed b) _ _ b_lives h.1 in
     (h.0, where_false (is_failed b) _ _ b_lives (rest.0, rest.1, answers_told register rest.0 requests answers last next r a rest.2 (or_second (is_failed b) (some_fails answers) none) lives is after))
 
-answers_fail : (register : Register) (state : List Deposit) (requests : List Asked) (answers : List Answer) (last : List Deposit) (r : Asked) (a : Answer) → AreAnswers register state requests answers last → some_fails answers ≡ false
+answers_fail : (register : Register) (state : List Sent) (requests : List Asked) (answers : List Answer) (last : List Sent) (r : Asked) (a : Answer) → AreAnswers register state requests answers last → some_fails answers ≡ false
     → is_failed a ≡ true → IsAnswer register last r a → AreAnswers register state (requests ++ r ∷ []) (answers ++ a ∷ []) last
 answers_fail register state [] [] last r a h none fails is =
     let e : last ≡ state = h in
-    (subst (λ (s : List Deposit). IsAnswer register s r a) e is, where_true (is_failed a) _ _ fails (e, tt))
+    (subst (λ (s : List Sent). IsAnswer register s r a) e is, where_true (is_failed a) _ _ fails (e, tt))
 answers_fail register state [] (b ∷ answers) last r a h none fails is = absurd h
 answers_fail register state (q ∷ requests) [] last r a h none fails is = absurd h
 answers_fail register state (q ∷ requests) (b ∷ answers) last r a h none fails is =
@@ -64,14 +64,14 @@ failed_more (q ∷ requests) [] r h = absurd h
 failed_more (q ∷ requests) (a ∷ answers) r h = (h.0, failed_more requests answers r h.1)
 
 -- behind an answer that failed
-stuck_step : (register : Register) (state : List Deposit) (q : Asked) (b : Answer) (requests : List Asked) (answers : List Answer) (last : List Deposit) (r : Asked) (t : Bool) → (t || some_fails answers) ≡ true
-    → ((next : List Deposit) → some_fails answers ≡ true → AreAnswers register next requests answers last → AreAnswers register next (requests ++ r ∷ []) (answers ++ StoreFailed ∷ []) last)
-    → MatchBool t ((last ≡ state) × AreFailed requests answers) ((next : List Deposit) × IsAfter register state q b next × AreAnswers register next requests answers last)
-    → MatchBool t ((last ≡ state) × AreFailed (requests ++ r ∷ []) (answers ++ StoreFailed ∷ [])) ((next : List Deposit) × IsAfter register state q b next × AreAnswers register next (requests ++ r ∷ []) (answers ++ StoreFailed ∷ []) last)
+stuck_step : (register : Register) (state : List Sent) (q : Asked) (b : Answer) (requests : List Asked) (answers : List Answer) (last : List Sent) (r : Asked) (t : Bool) → (t || some_fails answers) ≡ true
+    → ((next : List Sent) → some_fails answers ≡ true → AreAnswers register next requests answers last → AreAnswers register next (requests ++ r ∷ []) (answers ++ StoreFailed ∷ []) last)
+    → MatchBool t ((last ≡ state) × AreFailed requests answers) ((next : List Sent) × IsAfter register state q b next × AreAnswers register next requests answers last)
+    → MatchBool t ((last ≡ state) × AreFailed (requests ++ r ∷ []) (answers ++ StoreFailed ∷ [])) ((next : List Sent) × IsAfter register state q b next × AreAnswers register next (requests ++ r ∷ []) (answers ++ StoreFailed ∷ []) last)
 stuck_step register state q b requests answers last r true e rest w = (w.0, failed_more requests answers r w.1)
 stuck_step register state q b requests answers last r false e rest w = (w.0, w.1, rest w.0 e w.2)
 
-answers_stuck : (register : Register) (state : List Deposit) (requests : List Asked) (answers : List Answer) (last : List Deposit) (r : Asked) → AreAnswers register state requests answers last → some_fails answers ≡ true
+answers_stuck : (register : Register) (state : List Sent) (requests : List Asked) (answers : List Answer) (last : List Sent) (r : Asked) → AreAnswers register state requests answers last → some_fails answers ≡ true
     → AreAnswers register state (requests ++ r ∷ []) (answers ++ StoreFailed ∷ []) last
 answers_stuck register state [] [] last r h some = absurd (true≢false (sym some))
 answers_stuck register state [] (b ∷ answers) last r h some = absurd h
@@ -81,7 +81,7 @@ answers_stuck register state (q ∷ requests) (b ∷ answers) last r h some =
 
 -- ---- the request that failed
 
-failing_more : (register : Register) (state : List Deposit) (requests : List Asked) (answers : List Answer) (last : List Deposit) (r : Asked) (a : Answer) → AreAnswers register state requests answers last → some_fails answers ≡ false
+failing_more : (register : Register) (state : List Sent) (requests : List Asked) (answers : List Answer) (last : List Sent) (r : Asked) (a : Answer) → AreAnswers register state requests answers last → some_fails answers ≡ false
     → failing (requests ++ r ∷ []) (answers ++ a ∷ []) ≡ failing (r ∷ []) (a ∷ [])
 failing_more register state [] [] last r a h none = refl
 failing_more register state [] (b ∷ answers) last r a h none = absurd h
@@ -95,14 +95,14 @@ failing_more register state (q ∷ requests) (b ∷ answers) last r a h none =
     skip true e rest = absurd (true≢false e)
     skip false e rest = refl
 
-failing_step : (register : Register) (state : List Deposit) (q : Asked) (b : Answer) (requests : List Asked) (answers : List Answer) (last : List Deposit) (r : Asked) (t : Bool) → (t || some_fails answers) ≡ true
-    → ((next : List Deposit) → some_fails answers ≡ true → AreAnswers register next requests answers last → failing (requests ++ r ∷ []) (answers ++ StoreFailed ∷ []) ≡ failing requests answers)
-    → MatchBool t ((last ≡ state) × AreFailed requests answers) ((next : List Deposit) × IsAfter register state q b next × AreAnswers register next requests answers last)
+failing_step : (register : Register) (state : List Sent) (q : Asked) (b : Answer) (requests : List Asked) (answers : List Answer) (last : List Sent) (r : Asked) (t : Bool) → (t || some_fails answers) ≡ true
+    → ((next : List Sent) → some_fails answers ≡ true → AreAnswers register next requests answers last → failing (requests ++ r ∷ []) (answers ++ StoreFailed ∷ []) ≡ failing requests answers)
+    → MatchBool t ((last ≡ state) × AreFailed requests answers) ((next : List Sent) × IsAfter register state q b next × AreAnswers register next requests answers last)
     → option_map (λ p. p.0) (cond t (Some (q, b)) (find (λ p. is_failed p.1) (zip (requests ++ r ∷ []) (answers ++ StoreFailed ∷ [])))) ≡ option_map (λ p. p.0) (cond t (Some (q, b)) (find (λ p. is_failed p.1) (zip requests answers)))
 failing_step register state q b requests answers last r true e rest w = refl
 failing_step register state q b requests answers last r false e rest w = rest w.0 e w.2
 
-failing_stuck : (register : Register) (state : List Deposit) (requests : List Asked) (answers : List Answer) (last : List Deposit) (r : Asked) → AreAnswers register state requests answers last → some_fails answers ≡ true
+failing_stuck : (register : Register) (state : List Sent) (requests : List Asked) (answers : List Answer) (last : List Sent) (r : Asked) → AreAnswers register state requests answers last → some_fails answers ≡ true
     → failing (requests ++ r ∷ []) (answers ++ StoreFailed ∷ []) ≡ failing requests answers
 failing_stuck register state [] [] last r h some = absurd (true≢false (sym some))
 failing_stuck register state [] (b ∷ answers) last r h some = absurd h
@@ -110,7 +110,7 @@ failing_stuck register state (q ∷ requests) [] last r h some = absurd h
 failing_stuck register state (q ∷ requests) (b ∷ answers) last r h some =
     failing_step register state q b requests answers last r (is_failed b) some (λ next e rest. failing_stuck register next requests answers last r rest e) h.1
 
-none_failing : (register : Register) (state : List Deposit) (requests : List Asked) (answers : List Answer) (last : List Deposit) → AreAnswers register state requests answers last → some_fails answers ≡ false → failing requests answers ≡ None
+none_failing : (register : Register) (state : List Sent) (requests : List Asked) (answers : List Answer) (last : List Sent) → AreAnswers register state requests answers last → some_fails answers ≡ false → failing requests answers ≡ None
 none_failing register state [] [] last h none = refl
 none_failing register state [] (b ∷ answers) last h none = absurd h
 none_failing register state (q ∷ requests) [] last h none = absurd h
@@ -136,7 +136,7 @@ pub record Going {K : Type 0} (keep : Ghosts K) (rules : List Rule) (old now : K
 
 -- a keep that has not failed leaves its own list alone
 abbrev pub Settled : {K : Type 0} → Ghosts K → Type 0
-Settled {K} keep = (k : K) (list : List Deposit) → keep.is_sound k → keep.has_failed k ≡ false → keep.may_leave k list → list ≡ keep.deposits k
+Settled {K} keep = (k : K) (list : List Sent) → keep.is_sound k → keep.has_failed k ≡ false → keep.may_leave k list → list ≡ keep.deposits k
 
 -- a keep that has not failed leaves a register of some list
 abbrev pub Unbroken : {K : Type 0} → Ghosts K → Type 0
@@ -166,8 +166,8 @@ runs_told : {K : Type 0} (keep : Ghosts K) (rules : List Rule) (old mid new : K)
 runs_told keep rules old mid new requests answers r a settled register sound none lives serves is runs =
     let state = keep.deposits old in
     let now : keep.deposits mid ≡ runs.last = runs.kept (none_failing (register_at keep rules old) state requests answers runs.last runs.answered none) in
-    let told = subst (λ (s : List Deposit). IsAnswer (register_at keep rules old) s r a) now (subst (λ (g : Register). IsAnswer g (keep.deposits mid) r a) register is) in
-    let after = subst (λ (s : List Deposit). IsAfter (register_at keep rules old) s r a (keep.deposits new)) now (subst (λ (g : Register). IsAfter g (keep.deposits mid) r a (keep.deposits new)) register (serves.kept sound)) in
+    let told = subst (λ (s : List Sent). IsAnswer (register_at keep rules old) s r a) now (subst (λ (g : Register). IsAnswer g (keep.deposits mid) r a) register is) in
+    let after = subst (λ (s : List Sent). IsAfter (register_at keep rules old) s r a (keep.deposits new)) now (subst (λ (g : Register). IsAfter g (keep.deposits mid) r a (keep.deposits new)) register (serves.kept sound)) in
     record {
       last = keep.deposits new;
       answered = answers_told (register_at keep rules old) state requests answers runs.last (keep.deposits new) r a runs.answered none lives told after;
@@ -182,7 +182,7 @@ runs_fail : {K : Type 0} (keep : Ghosts K) (rules : List Rule) (old mid new : K)
 runs_fail keep rules old mid new requests answers r a settled register sound works none fails serves is runs =
     let state = keep.deposits old in
     let now : keep.deposits mid ≡ runs.last = runs.kept (none_failing (register_at keep rules old) state requests answers runs.last runs.answered none) in
-    let told = subst (λ (s : List Deposit). IsAnswer (register_at keep rules old) s r a) now (subst (λ (g : Register). IsAnswer g (keep.deposits mid) r a) register is) in
+    let told = subst (λ (s : List Sent). IsAnswer (register_at keep rules old) s r a) now (subst (λ (g : Register). IsAnswer g (keep.deposits mid) r a) register is) in
     let this_fails : failing (requests ++ r ∷ []) (answers ++ a ∷ []) ≡ Some r = failing_more (register_at keep rules old) state requests answers runs.last r a runs.answered none ∙ one_fails (is_failed a) fails in
     record {
       last = runs.last;
@@ -191,7 +191,7 @@ runs_fail keep rules old mid new requests answers r a settled register sound wor
       left = λ list may.
           elim (serves.crash sound list may) [
             | inl was ↦ inl (settled mid list (serves.sound sound) works was ∙ now)
-            | inr adds ↦ inr (r, this_fails, subst (λ (s : List Deposit). AddsAsked r s list) now adds)
+            | inr adds ↦ inr (r, this_fails, subst (λ (s : List Sent). AddsAsked r s list) now adds)
           ];
       whole = λ may. runs.whole (serves.whole sound may);
     }

@@ -11,7 +11,7 @@ use Rattle.reg_policy.specs.declared.callers.Caller.{Caller}
 use Rattle.reg_policy.specs.declared.subject.Decision.{Decision}
 use Rattle.reg_policy.specs.declared.subject.Decision.TheVariants.{Permit, Deny}
 use Rattle.reg_policy.specs.declared.subject.Verb.TheVariants as verbs
-use Rattle.reg_store.specs.Deposit.{Deposit, is_repeat}
+use Rattle.reg_store.specs.Sent.{Sent, is_repeat}
 use Rattle.reg_desk.specs.Asked.{deposit}
 use Rattle.reg_desk.specs.declared.answer.Answer.{Answer}
 use Rattle.reg_desk.specs.declared.answer.Answer.TheVariants.{Receipt, Findings, Denied, TooLarge, Full}
@@ -19,7 +19,7 @@ use Rattle.reg_desk.specs.Machine.{Register, decided, OrDenied, OrFound, OrRefus
 use Rattle.reg_desk.specs.Laws.{TakenIsReceived}
 
 -- what stands of the receipt
-abbrev IsReceipt : Register → List Deposit → Caller → List ℕ → ℤ → List ℕ → Answer → Type 0
+abbrev IsReceipt : Register → List Sent → Caller → List ℕ → ℤ → List ℕ → Answer → Type 0
 IsReceipt register state caller project embargo bytes r = r ≡ receipt_of register embargo (length state) (first_equal 1 caller.firm project bytes state)
 
 -- ---- a body that is taken
@@ -30,7 +30,7 @@ clean_stands register bytes P r small clean h =
     let found : Found = subst (λ (b : Bool). MatchBool b (r ≡ TooLarge) Found) (le-ltb LIMIT (length bytes) small) h in
     subst (λ (l : List Finding). OrFound l P r) (one_list register.given bytes found.0 [] found.1 clean) found.2
 
-received : (register : Register) (state : List Deposit) (caller : Caller) (project : List ℕ) (embargo : ℤ) (bytes : List ℕ) (day : ℤ) (reply : Answer)
+received : (register : Register) (state : List Sent) (caller : Caller) (project : List ℕ) (embargo : ℤ) (bytes : List ℕ) (day : ℤ) (reply : Answer)
     → IsReply register state (deposit caller project embargo bytes day) reply → IsTaken register state (deposit caller project embargo bytes day) → reply ≡ Receipt (length state + 1) embargo
 received register state caller project embargo bytes day reply h t =
     let stands = IsReceipt register state caller project embargo bytes in
@@ -58,7 +58,7 @@ first_step true n x more k e m h rest = let same : n ≡ k = ap (λ (p : ℕ × 
 first_step false n x more k e m h rest = let lt = rest h in omega (arith, lt)
 
 -- the number of an equal deposit is that of a deposit held
-first_held : (firm project bytes : List ℕ) (n : ℕ) (state : List Deposit) (k : ℕ) (e : ℤ) → first_equal n firm project bytes state ≡ Some (k, e) → k < n + length state
+first_held : (firm project bytes : List ℕ) (n : ℕ) (state : List Sent) (k : ℕ) (e : ℤ) → first_equal n firm project bytes state ≡ Some (k, e) → k < n + length state
 first_held firm project bytes n [] k e h = absurd cc
 first_held firm project bytes n (d ∷ state) k e h =
     first_step (is_repeat firm project bytes d) n d.embargo (first_equal (n + 1) firm project bytes state) k e (length state) h (first_held firm project bytes (n + 1) state k e)
@@ -72,7 +72,7 @@ new_number : (register : Register) (embargo : ℤ) (count : ℕ) (first : Option
 new_number register embargo count (Some held) low h = let same : held.0 ≡ count + 1 = cc in let lt = low held.0 held.1 refl in absurd (omega (arith, same, lt))
 new_number register embargo count None low h = (refl, ltb-true count register.limit (room_for (nat_lt count register.limit) (count + 1) embargo h))
 
-taken : (register : Register) (state : List Deposit) (caller : Caller) (project : List ℕ) (embargo : ℤ) (bytes : List ℕ) (day : ℤ) (reply : Answer)
+taken : (register : Register) (state : List Sent) (caller : Caller) (project : List ℕ) (embargo : ℤ) (bytes : List ℕ) (day : ℤ) (reply : Answer)
     → IsReply register state (deposit caller project embargo bytes day) reply → reply ≡ Receipt (length state + 1) embargo
     → IsTaken register state (deposit caller project embargo bytes day)
 taken register state caller project embargo bytes day reply h is =

@@ -13,7 +13,7 @@ use Rattle.reg_policy.specs.declared.callers.Caller.{Caller}
 use Rattle.reg_policy.specs.declared.subject.Decision.TheVariants.{Permit, Deny}
 use Rattle.reg_policy.specs.declared.subject.Verb.TheVariants as verbs
 use Rattle.reg_store.specs.ApartLaws.{parts_of}
-use Rattle.reg_store.specs.Deposit.{Deposit, number_of}
+use Rattle.reg_store.specs.Sent.{Sent, number_of}
 use Rattle.reg_store.specs.Fit.{IsFileOf, IsFit}
 use Rattle.reg_store.specs.Keep.{is_store, Adds, IsHeadOf}
 use Rattle.reg_store.specs.declared.keep.Keep.{Ghosts}
@@ -34,7 +34,7 @@ use Rattle.reg_desk.proofs.Serves.{told_answer, told_after, memory_answer, memor
 -- ---- the reply
 
 -- the receipt, or that the register is full
-abbrev IsReceipt : Register → List Deposit → Caller → List ℕ → ℤ → List ℕ → Answer → Type 0
+abbrev IsReceipt : Register → List Sent → Caller → List ℕ → ℤ → List ℕ → Answer → Type 0
 IsReceipt register state caller project embargo bytes r = r ≡ receipt_of register embargo (length state) (first_equal 1 caller.firm project bytes state)
 
 -- a body that is permitted and not too large
@@ -50,7 +50,7 @@ pub record IsFine (register : Register) (caller : Caller) (project bytes : List 
   pub small : length bytes ≤ LIMIT
   pub clean : AreFindings register.given bytes []
 
-fine_reply : (register : Register) (state : List Deposit) (caller : Caller) (project : List ℕ) (embargo : ℤ) (bytes : List ℕ) (day : ℤ) (answer : Answer) → IsFine register caller project bytes
+fine_reply : (register : Register) (state : List Sent) (caller : Caller) (project : List ℕ) (embargo : ℤ) (bytes : List ℕ) (day : ℤ) (answer : Answer) → IsFine register caller project bytes
     → IsReceipt register state caller project embargo bytes answer → IsReply register state (deposit caller project embargo bytes day) answer
 fine_reply register state caller project embargo bytes day answer fine is =
     let Stands = IsReceipt register state caller project embargo bytes in
@@ -64,7 +64,7 @@ receipt_asks register embargo count None = full (nat_lt count register.limit)
     full true = ((λ n e. cc, λ e. cc), λ found e. cc, λ e. cc)
     full false = ((λ n e. cc, λ e. cc), λ found e. cc, λ e. cc)
 
-fine_asks : (register : Register) (state : List Deposit) (caller : Caller) (project : List ℕ) (embargo : ℤ) (bytes : List ℕ) (day : ℤ) → IsFine register caller project bytes
+fine_asks : (register : Register) (state : List Sent) (caller : Caller) (project : List ℕ) (embargo : ℤ) (bytes : List ℕ) (day : ℤ) → IsFine register caller project bytes
     → AsksStore (IsReply register state (deposit caller project embargo bytes day))
 fine_asks register state caller project embargo bytes day fine =
     let request = deposit caller project embargo bytes day in
@@ -87,11 +87,11 @@ receipt_full : (register : Register) (embargo : ℤ) (count : ℕ) (first : Opti
 receipt_full register embargo count first none full =
     ap (λ (t : Bool). cond t (Receipt (count + 1) embargo) Full) (sym (ltb_of count register.limit full)) ∙ ap (receipt_of register embargo count) (sym none)
 
-abbrev fine_of : (register : Register) (state : List Deposit) (caller : Caller) (project : List ℕ) (embargo : ℤ) (bytes : List ℕ) (day : ℤ) → IsTaken register state (deposit caller project embargo bytes day) → IsFine register caller project bytes
+abbrev fine_of : (register : Register) (state : List Sent) (caller : Caller) (project : List ℕ) (embargo : ℤ) (bytes : List ℕ) (day : ℤ) → IsTaken register state (deposit caller project embargo bytes day) → IsFine register caller project bytes
 fine_of register state caller project embargo bytes day taken = record { number = taken.0.0; permitted = taken.0.1; small = taken.1; clean = taken.2 }
 
 -- a reply that is not the receipt of a new deposit takes nothing
-untaken : (register : Register) (state : List Deposit) (caller : Caller) (project : List ℕ) (embargo : ℤ) (bytes : List ℕ) (day : ℤ) (answer : Answer) → answer ≢ Receipt (length state + 1) embargo
+untaken : (register : Register) (state : List Sent) (caller : Caller) (project : List ℕ) (embargo : ℤ) (bytes : List ℕ) (day : ℤ) (answer : Answer) → answer ≢ Receipt (length state + 1) embargo
     → IsReply register state (deposit caller project embargo bytes day) answer → IsNext register state (deposit caller project embargo bytes day) state
 untaken register state caller project embargo bytes day answer other is =
     let request = deposit caller project embargo bytes day in
@@ -106,7 +106,7 @@ untaken register state caller project embargo bytes day answer other is =
 refusal_other : (register : Register) (bytes : List ℕ) (n : ℕ) (e : ℤ) (answer : Answer) → IsRefusal register.given bytes answer → answer ≢ Receipt n e
 refusal_other register bytes n e answer refusal same = subst (IsRefusal register.given bytes) same refusal
 
-receipt_needs : (register : Register) (state : List Deposit) (caller : Caller) (project : List ℕ) (embargo : ℤ) (bytes : List ℕ) → NeedsMemory (IsReceipt register state caller project embargo bytes)
+receipt_needs : (register : Register) (state : List Sent) (caller : Caller) (project : List ℕ) (embargo : ℤ) (bytes : List ℕ) → NeedsMemory (IsReceipt register state caller project embargo bytes)
 receipt_needs register state caller project embargo bytes = (receipt_asks register embargo (length state) (first_equal 1 caller.firm project bytes state)).0
 
 -- ---- the answers to a deposit
@@ -129,7 +129,7 @@ deposit_refused keep rules caller project embargo bytes day old answer k works p
     (λ r h is. untaken register state caller project embargo bytes day r (refusal_other register bytes (length state + 1) embargo r h) is)
 
 -- the reply to a body that is permitted and not too large needs memory
-allowed_needs : (register : Register) (state : List Deposit) (caller : Caller) (project : List ℕ) (embargo : ℤ) (bytes : List ℕ) (day : ℤ) → IsAllowed register caller project bytes
+allowed_needs : (register : Register) (state : List Sent) (caller : Caller) (project : List ℕ) (embargo : ℤ) (bytes : List ℕ) (day : ℤ) → IsAllowed register caller project bytes
     → NeedsMemory (IsReply register state (deposit caller project embargo bytes day))
 allowed_needs register state caller project embargo bytes day allowed =
     small_needs (decided register caller project verbs.Deposit) allowed.number register bytes (IsReceipt register state caller project embargo bytes) allowed.permitted allowed.small
@@ -169,14 +169,14 @@ deposit_repeats keep rules caller project embargo bytes day old new n e allowed 
 -- ---- what the keep finds
 
 -- its number is one of the list
-pub found_within : (firm project bytes : List ℕ) (state : List Deposit) (n : ℕ) → number_of firm project bytes state ≡ Some n → (0 < n) × (n ≤ length state)
+pub found_within : (firm project bytes : List ℕ) (state : List Sent) (n : ℕ) → number_of firm project bytes state ≡ Some n → (0 < n) × (n ≤ length state)
 found_within firm project bytes state n found =
     let first = first_some firm project bytes 1 state n found in
     let within = slice_get_within state first.place first.found first.at in
     (omega (arith, first.number), omega (arith, first.number, within))
 
 -- the first equal deposit, by its number and the head that is kept of it
-pub first_found : (firm project bytes : List ℕ) (state : List Deposit) (n : ℕ) (head : KeptHead) → number_of firm project bytes state ≡ Some n → ((d : Deposit) → slice_get state (n - 1) ≡ Some d → IsHeadOf d head)
+pub first_found : (firm project bytes : List ℕ) (state : List Sent) (n : ℕ) (head : KeptHead) → number_of firm project bytes state ≡ Some n → ((d : Sent) → slice_get state (n - 1) ≡ Some d → IsHeadOf d head)
     → first_equal 1 firm project bytes state ≡ Some (n, head.embargo)
 first_found firm project bytes state n head found of_head =
     let first = first_some firm project bytes 1 state n found in
@@ -185,7 +185,7 @@ first_found firm project bytes state n head found of_head =
     first.first ∙ ap (λ (e : ℤ). Some (n, e)) (sym is.embargo)
 
 -- its body has no finding, as none that is held has
-pub held_clean : (given : Entries) (firm project bytes : List ℕ) (state : List Deposit) (n : ℕ) → All (IsFit given) state → number_of firm project bytes state ≡ Some n → ∥ AreFindings given bytes [] ∥₁
+pub held_clean : (given : Entries) (firm project bytes : List ℕ) (state : List Sent) (n : ℕ) → All (IsFit given) state → number_of firm project bytes state ≡ Some n → ∥ AreFindings given bytes [] ∥₁
 held_clean given firm project bytes state n fit found =
     let first = first_some firm project bytes 1 state n found in
     let d = first.found in
@@ -196,16 +196,16 @@ held_clean given firm project bytes state n fit found =
 -- ---- a deposit that no equal one is held of
 
 -- the call that appends, after calls that read
-abbrev pub Appends : {K : Type 0} → Ghosts K → Deposit → K → K → Result ℕ KeepError → Type 0
+abbrev pub Appends : {K : Type 0} → Ghosts K → Sent → K → K → Result ℕ KeepError → Type 0
 Appends keep d old new result = Adds keep.deposits keep.dictionary keep.limit keep.has_failed keep.may_leave keep.may_break keep.is_sound d old new result
 
 may_have_left : {K : Type 0} (keep : Ghosts K) (caller : Caller) (project : List ℕ) (embargo : ℤ) (bytes : List ℕ) (day : ℤ) (old mid new : K) (result : Result ℕ KeepError)
-    → OnlyReads keep old mid false → Appends keep (asked_deposit caller project embargo bytes) mid new result → keep.is_sound new → (list : List Deposit) → keep.may_leave new list
+    → OnlyReads keep old mid false → Appends keep (asked_deposit caller project embargo bytes) mid new result → keep.is_sound new → (list : List Sent) → keep.may_leave new list
     → keep.may_leave old list ⊎ AddsAsked (deposit caller project embargo bytes day) (keep.deposits old) list
 may_have_left keep caller project embargo bytes day old mid new result reads appends s list may =
     elim (appends.crash s list may) [
       | inl was ↦ inl (reads.crash (appends.sound s) list was)
-      | inr is ↦ inr (is ∙ ap (λ (l : List Deposit). l ++ asked_deposit caller project embargo bytes ∷ []) (reads.same (appends.sound s) refl))
+      | inr is ↦ inr (is ∙ ap (λ (l : List Sent). l ++ asked_deposit caller project embargo bytes ∷ []) (reads.same (appends.sound s) refl))
     ]
 
 no_failure : (t failed : Bool) → t ≡ failed → failed ≡ false → t ≡ true → false ≡ true
@@ -223,7 +223,7 @@ deposit_added keep rules caller project embargo bytes day old mid new n fine rea
     let d = asked_deposit caller project embargo bytes in
     let asks = fine_asks register state caller project embargo bytes day fine in
     let none : keep.is_sound new → first_equal 1 caller.firm project bytes state ≡ None = λ s. unheld (appends.sound s) in
-    let new_list : keep.is_sound new → keep.deposits new ≡ state ++ d ∷ [] = λ s. appends.added s ∙ ap (λ (l : List Deposit). l ++ d ∷ []) (reads.same (appends.sound s) refl) in
+    let new_list : keep.is_sound new → keep.deposits new ≡ state ++ d ∷ [] = λ s. appends.added s ∙ ap (λ (l : List Sent). l ++ d ∷ []) (reads.same (appends.sound s) refl) in
     let has_room : keep.is_sound new → length state < register.limit = λ s. omega (arith, room s, ap length (reads.same (appends.sound s) refl), reads.same_limit) in
     let count : keep.is_sound new → n ≡ length state + 1 = λ s. omega (arith, number s, ap length (new_list s), length-append state (d ∷ [])) in
     record {

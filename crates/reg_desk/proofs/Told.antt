@@ -1,7 +1,7 @@
 -- Answers that memory and store let the desk give are a run of the machine.
 use Rattle.std.proofs.Common.{◌≡◌, true, List, [], ◌∷◌, refl}
 use Rattle.std.specs.List.{AllByRecursion}
-use Rattle.reg_store.specs.Deposit.{Deposit}
+use Rattle.reg_store.specs.Sent.{Sent}
 use Rattle.reg_desk.specs.Asked.{Asked}
 use Rattle.reg_desk.specs.declared.answer.Answer.{Answer}
 use Rattle.reg_desk.specs.declared.answer.Answer.TheVariants.{Receipt, Clean, Findings, Listing, Text, Denied, Unknown, TooLarge, Full, NoMemory, StoreFailed}
@@ -25,7 +25,7 @@ told_is Full told = refl
 told_is NoMemory told = absurd told
 told_is StoreFailed told = absurd told
 
-pub answers_run : (register : Register) (state : List Deposit) (requests : List Asked) (answers : List Answer) (last : List Deposit)
+pub answers_run : (register : Register) (state : List Sent) (requests : List Asked) (answers : List Answer) (last : List Sent)
     → AreAnswers register state requests answers last → AllByRecursion IsTold answers → IsRun register state requests answers last
 answers_run register state [] [] last h told = (refl, h)
 answers_run register state [] (a ∷ answers) last h told = absurd h

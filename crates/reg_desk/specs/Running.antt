@@ -2,7 +2,7 @@
 use Rattle.std.specs.Prelude.{◌≡◌, ◌⊎◌, List, [], ◌∷◌, false, Option, Some, None, MatchBool, option_map, find, zip, ⊤}
 use Rattle.std.specs.List.{AllZip}
 use Rattle.reg_policy.specs.declared.rule.Rule.{Rule}
-use Rattle.reg_store.specs.Deposit.{Deposit}
+use Rattle.reg_store.specs.Sent.{Sent}
 use Rattle.reg_store.specs.declared.keep.Keep.{Ghosts}
 use Rattle.reg_desk.specs.declared.answer.Answer.{Answer}
 use Rattle.reg_desk.specs.declared.answer.Answer.TheVariants.{Receipt, StoreFailed}
@@ -17,12 +17,12 @@ AreFailed requests answers = AllZip (λ request answer. answer ≡ StoreFailed) 
 
 -- One answer for each request. Up to the first StoreFailed each is the machine's reply with its next state, or want of memory
 -- with the state unchanged; from there on all are StoreFailed. `last` is the state before the first StoreFailed, or at the end.
-abbrev pub AreAnswers : Register → List Deposit → List Asked → List Answer → List Deposit → Type 0
+abbrev pub AreAnswers : Register → List Sent → List Asked → List Answer → List Sent → Type 0
 AreAnswers register state [] [] last = last ≡ state
 AreAnswers register state (request ∷ requests) (answer ∷ answers) last =
     IsAnswer register state request answer
     × MatchBool (is_failed answer) ((last ≡ state) × AreFailed requests answers)
-    ((next : List Deposit) × IsAfter register state request answer next × AreAnswers register next requests answers last)
+    ((next : List Sent) × IsAfter register state request answer next × AreAnswers register next requests answers last)
 AreAnswers register state _ _ last = ⊥
 
 -- the request that was first answered by StoreFailed
@@ -30,17 +30,17 @@ abbrev pub failing : List Asked → List Answer → Option Asked
 failing requests answers = option_map (λ p. p.0) (find (λ p. is_failed p.1) (zip requests answers))
 
 -- a deposit that was answered by a receipt is held under its number, with the embargo that the receipt shows
-abbrev pub IsHeldIn : List Deposit → Asked → Answer → Type 0
+abbrev pub IsHeldIn : List Sent → Asked → Answer → Type 0
 IsHeldIn list (deposit caller project embargo bytes day) (Receipt n until) = held n list ≡ Some (asked_deposit caller project until bytes)
 IsHeldIn list _ _ = ⊤
 
 -- The answers of a keep that works at the start, its list at the end where none of them is StoreFailed, and what a crash leaves then.
 pub record Runs {K : Type 0} (keep : Ghosts K) (rules : List Rule) (old new : K) (requests : List Asked) (answers : List Answer) : Type 0 where
-  pub last : List Deposit
+  pub last : List Sent
   pub answered : AreAnswers (register_at keep rules old) (keep.deposits old) requests answers last
   pub kept : failing requests answers ≡ None → keep.deposits new ≡ last
   -- a crash leaves no list but `last`, or, where a request failed, `last` with the one deposit that it asked for
-  pub left : (list : List Deposit) → keep.may_leave new list → (list ≡ last) ⊎ ((r : Asked) × (failing requests answers ≡ Some r) × AddsAsked r last list)
+  pub left : (list : List Sent) → keep.may_leave new list → (list ≡ last) ⊎ ((r : Asked) × (failing requests answers ≡ Some r) × AddsAsked r last list)
   -- a crash leaves a register of some list, so of one of these
   pub whole : keep.may_break new → ⊥
 
@@ -51,4 +51,4 @@ RunsIfSound keep old requests answers new = keep.is_sound new.keep → old.faile
 -- If the desk had not failed and its keep is sound at the end: every list that a crash may leave holds each deposit that was answered
 -- by a receipt, under its number, with the embargo that the receipt shows.
 abbrev pub ReceiptsSurviveIfSound : {K : Type 0} (keep : Ghosts K) → Desk K keep → List Asked → List Answer → Desk K keep → Type 0
-ReceiptsSurviveIfSound keep old requests answers new = keep.is_sound new.keep → old.failed ≡ false → (list : List Deposit) → keep.may_leave new.keep list → ∥ AllZip (IsHeldIn list) requests answers ∥₁
+ReceiptsSurviveIfSound keep old requests answers new = keep.is_sound new.keep → old.failed ≡ false → (list : List Sent) → keep.may_leave new.keep list → ∥ AllZip (IsHeldIn list) requests answers ∥₁

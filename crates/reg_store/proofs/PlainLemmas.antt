@@ -20,25 +20,25 @@ use Rattle.reg_store.specs.declared.keep.KeptRow.{KeptRow}
 use Rattle.reg_store.specs.declared.keep.ProjectRow.{ProjectRow}
 use Rattle.reg_store.specs.Project.{project_of, targets_of}
 use Rattle.reg_store.specs.Keep.{deposit_of}
-use Rattle.reg_store.specs.Deposit.{Deposit, numbers_from}
+use Rattle.reg_store.specs.Sent.{Sent, numbers_from}
 use Rattle.reg_store.specs.Fit.{IsFit, IsFileOf, kept_rows}
 use Rattle.reg_store.specs.PlainLaws.{fit_of}
 
 -- ---- a fit deposit
 
 -- the deposit of a checked file is fit
-pub checked_fit : (dictionary : Entries) (file : CheckedFile) (d : Deposit) → file.given ≡ dictionary → d.bytes ≡ file.bytes → IsClean file → length file.bytes ≤ LIMIT → IsFit dictionary d
+pub checked_fit : (dictionary : Entries) (file : CheckedFile) (d : Sent) → file.given ≡ dictionary → d.bytes ≡ file.bytes → IsClean file → length file.bytes ≤ LIMIT → IsFit dictionary d
 checked_fit dictionary file d given bytes clean short =
     ∣ (file, record { given = given; bytes = sym bytes; clean = clean; short = subst (λ (b : List ℕ). length b ≤ LIMIT) (sym bytes) short }) ∣₁
 
-pub fit_is_short : (dictionary : Entries) (d : Deposit) → IsFit dictionary d → length d.bytes ≤ LIMIT
+pub fit_is_short : (dictionary : Entries) (d : Sent) → IsFit dictionary d → length d.bytes ≤ LIMIT
 fit_is_short dictionary d fit = ∥∥₁_elim fit (Prim.hlevel props) (λ (one : (file : CheckedFile) × IsFileOf dictionary d file). one.1.short)
 
-pub fit_is_readable : (dictionary : Entries) (d : Deposit) → IsFit dictionary d → length d.bytes ≤ READABLE
+pub fit_is_readable : (dictionary : Entries) (d : Sent) → IsFit dictionary d → length d.bytes ≤ READABLE
 fit_is_readable dictionary d fit = let short = fit_is_short dictionary d fit in omega (arith, short)
 
 -- no findings are listed for it
-pub fit_is_clean : (dictionary : Entries) (d : Deposit) (found : List Finding) → IsFit dictionary d → Findings dictionary d.bytes found → found ≢ [] → ⊥
+pub fit_is_clean : (dictionary : Entries) (d : Sent) (found : List Finding) → IsFit dictionary d → Findings dictionary d.bytes found → found ≢ [] → ⊥
 fit_is_clean dictionary d found fit h some = ∥∥₁_elim fit (Prim.hlevel props) none
   where
     none : (file : CheckedFile) × IsFileOf dictionary d file → ⊥
@@ -48,7 +48,7 @@ fit_is_clean dictionary d found fit h some = ∥∥₁_elim fit (Prim.hlevel pro
 
 -- ---- the list of deposits
 
-one_fit : (dictionary : Entries) (d : Deposit) → IsFit dictionary d → All (IsFit dictionary) (d ∷ [])
+one_fit : (dictionary : Entries) (d : Sent) → IsFit dictionary d → All (IsFit dictionary) (d ∷ [])
 one_fit dictionary d h = λ k x low. let first : k ≡ 0 = omega arith in rw first h
 
 -- one deposit more
@@ -64,7 +64,7 @@ pub kept_is_fit : (dictionary : Entries) (kept : List Kept) (k : ℕ) (one : Kep
 kept_is_fit dictionary kept k one all low is =
     subst (IsFit dictionary) (get_or-map deposit_of kept k one ∙ ap deposit_of (sym is)) (fit_of dictionary (map deposit_of kept) all k (deposit_of one) low)
 
-pub kept_is_deposit : (kept : List Kept) (k : ℕ) (one : Kept) (d : Deposit) → one ≡ get_or kept k one → slice_get (map deposit_of kept) k ≡ Some d → d ≡ deposit_of one
+pub kept_is_deposit : (kept : List Kept) (k : ℕ) (one : Kept) (d : Sent) → one ≡ get_or kept k one → slice_get (map deposit_of kept) k ≡ Some d → d ≡ deposit_of one
 kept_is_deposit kept k one d is there = sym (get_or_from_slice_get (map deposit_of kept) k d (deposit_of one) there) ∙ get_or-map deposit_of kept k one ∙ ap deposit_of (sym is)
 
 -- the list has the deposit at its place
@@ -88,25 +88,25 @@ numbers_more project kept i n one old new all low is told before =
 -- ---- its file
 
 -- a deposit has one checked file
-one_file : (dictionary : Entries) (d : Deposit) (a b : CheckedFile) → IsFileOf dictionary d a → IsFileOf dictionary d b → a ≡ b
+one_file : (dictionary : Entries) (d : Sent) (a b : CheckedFile) → IsFileOf dictionary d a → IsFileOf dictionary d b → a ≡ b
 one_file dictionary d a b x y = one_clean_file a b x.clean y.clean (x.given ∙ sym y.given) (x.bytes ∙ sym y.bytes)
 
-pub rows_are : {X E : Type 0} (items : X → List KeptRow) (dictionary : Entries) (d : Deposit) (checked : CheckedFile) (groups : List Group) (r : Result X E) → IsFileOf dictionary d checked → groups ≡ checked.groups
+pub rows_are : {X E : Type 0} (items : X → List KeptRow) (dictionary : Entries) (d : Sent) (checked : CheckedFile) (groups : List Group) (r : Result X E) → IsFileOf dictionary d checked → groups ≡ checked.groups
     → IfOk r (λ rows. items rows ≡ kept_rows groups) → IfOk r (λ rows. (file : CheckedFile) → IsFileOf dictionary d file → items rows ≡ kept_rows file.groups)
 rows_are items dictionary d checked groups (Ok rows) its of read = λ file other. read ∙ ap kept_rows (of ∙ ap (λ (f : CheckedFile). f.groups) (one_file dictionary d checked file its other))
 rows_are items dictionary d checked groups (Err e) its of read = tt
 
-pub graph_is : {E : Type 0} (dictionary : Entries) (d : Deposit) (checked : CheckedFile) (graph : Wiring) (r : Result Wiring E) → IsFileOf dictionary d checked → graph ≡ checked.graph
+pub graph_is : {E : Type 0} (dictionary : Entries) (d : Sent) (checked : CheckedFile) (graph : Wiring) (r : Result Wiring E) → IsFileOf dictionary d checked → graph ≡ checked.graph
     → IfOk r (λ copied. copied ≡ graph) → IfOk r (λ copied. (file : CheckedFile) → IsFileOf dictionary d file → copied ≡ file.graph)
 graph_is dictionary d checked graph (Ok copied) its of same = λ file other. same ∙ of ∙ ap (λ (f : CheckedFile). f.graph) (one_file dictionary d checked file its other)
 graph_is dictionary d checked graph (Err e) its of same = tt
 
-pub project_is : {E : Type 0} (dictionary : Entries) (d : Deposit) (rows read : List KeptRow) (r : Result (Option ProjectRow) E) → read ≡ rows → ((file : CheckedFile) → IsFileOf dictionary d file → rows ≡ kept_rows file.groups)
+pub project_is : {E : Type 0} (dictionary : Entries) (d : Sent) (rows read : List KeptRow) (r : Result (Option ProjectRow) E) → read ≡ rows → ((file : CheckedFile) → IsFileOf dictionary d file → rows ≡ kept_rows file.groups)
     → IfOk r (λ found. found ≡ project_of read) → IfOk r (λ found. (file : CheckedFile) → IsFileOf dictionary d file → found ≡ project_of (kept_rows file.groups))
 project_is dictionary d rows read (Ok found) same are is = λ file its. is ∙ ap project_of (same ∙ are file its)
 project_is dictionary d rows read (Err e) same are is = tt
 
-pub targets_are : {X E : Type 0} (items : X → List ℕ) (dictionary : Entries) (d : Deposit) (checked : CheckedFile) (row : ℕ) (graph : Wiring) (steps : List (ℕ × ℕ)) (r : Result X E) → IsFileOf dictionary d checked → graph ≡ checked.graph
+pub targets_are : {X E : Type 0} (items : X → List ℕ) (dictionary : Entries) (d : Sent) (checked : CheckedFile) (row : ℕ) (graph : Wiring) (steps : List (ℕ × ℕ)) (r : Result X E) → IsFileOf dictionary d checked → graph ≡ checked.graph
     → steps ≡ graph.steps → IfOk r (λ x. items x ≡ targets_of row steps) → IfOk r (λ x. (file : CheckedFile) → IsFileOf dictionary d file → items x ≡ targets_of row file.graph.steps)
 targets_are items dictionary d checked row graph steps (Ok x) its of same is = λ file other.
     is ∙ ap (targets_of row) (same ∙ ap (λ (g : Wiring). g.steps) (of ∙ ap (λ (f : CheckedFile). f.graph) (one_file dictionary d checked file its other)))

@@ -7,14 +7,14 @@ use Rattle.std.proofs.Props.{props}
 use Rattle.ags_dict.specs.Entries.{Entries}
 use Rattle.reg_store.specs.declared.keep.Kept.{Kept}
 use Rattle.reg_store.specs.Keep.{deposit_of}
-use Rattle.reg_store.specs.Deposit.{Deposit}
+use Rattle.reg_store.specs.Sent.{Sent}
 use Rattle.reg_store.specs.Fit.{IsFit}
 
-is_fit_prop : (dictionary : Entries) (d : Deposit) → IsProp (IsFit dictionary d)
+is_fit_prop : (dictionary : Entries) (d : Sent) → IsProp (IsFit dictionary d)
 is_fit_prop dictionary d = Prim.hlevel props
 
 -- Each deposit of the list is fit: without the truncation.
-pub fit_of : (dictionary : Entries) (list : List Deposit) → ∥ All (IsFit dictionary) list ∥₁ → All (IsFit dictionary) list
+pub fit_of : (dictionary : Entries) (list : List Sent) → ∥ All (IsFit dictionary) list ∥₁ → All (IsFit dictionary) list
 fit_of dictionary list h = λ k d low.
     let fact : IsFit dictionary (slice_index_or list k d) = ∥∥₁_elim h (is_fit_prop dictionary (slice_index_or list k d)) (λ all. all k d low) in fact
 

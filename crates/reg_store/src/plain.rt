@@ -2,7 +2,7 @@
 
 ghost use Rattle.std.specs.Prelude.{◌≡◌, ◌<◌, ◌≤◌, [], IfOk, All, false, ⊤, length, map, refl};
 ghost use Rattle.reg_store.specs.Keep.{deposit_of, IsHeadOf};
-ghost use Rattle.reg_store.specs.Deposit.{number_of, numbers_from};
+ghost use Rattle.reg_store.specs.Sent.{number_of, numbers_from};
 ghost use Rattle.reg_store.specs.Fit.{IsFit, IsFileOf};
 ghost use Rattle.reg_store.specs.Reading.{HasGraph, HasKeptRows, HasProjectRow, HasTargets, OfFile};
 ghost use Rattle.reg_store.specs.PlainLaws.{few_of, fit_of};

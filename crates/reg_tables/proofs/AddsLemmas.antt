@@ -12,7 +12,7 @@ use Rattle.sqlite.specs.State.{State, KeepsCommit, IsUnchanged, IsRolledBack, Ex
 use Rattle.ags_dict.specs.Entries.{Entries}
 use Rattle.reg_store.specs.declared.keep.KeptRow.{KeptRow}
 use Rattle.reg_tables.specs.Tables.{register_schema}
-use Rattle.reg_store.specs.Deposit.{Deposit}
+use Rattle.reg_store.specs.Sent.{Sent}
 use Rattle.reg_tables.specs.Rows.{columns_5, columns_3, joined, line_row, line_rows, step_row, step_rows, IsMore}
 use Rattle.reg_tables.specs.Inserts.{AddsDeposit, AddsLines, AddsSteps, AddsFile}
 use Rattle.reg_tables.specs.Inside.{Inside}
@@ -127,7 +127,7 @@ steps_rest n at m steps a b c past one two =
     subst (λ xs. Inside (AddsSteps (step_rows n xs)) a c) (take_all (at + m) steps past) (steps_further n at m m steps a b c refl one two)
 
 -- the deposit without its body, then its lines, then its steps, then its body
-pub file_then : (n : ℕ) (d : Deposit) (rows : List KeptRow) (graph : List (ℕ × ℕ)) (a b c e f : State) → Inside (AddsDeposit n (bare d)) a b → Inside (AddsLines (line_rows n 0 rows)) b c → Inside (AddsSteps (step_rows n graph)) c e
+pub file_then : (n : ℕ) (d : Sent) (rows : List KeptRow) (graph : List (ℕ × ℕ)) (a b c e f : State) → Inside (AddsDeposit n (bare d)) a b → Inside (AddsLines (line_rows n 0 rows)) b c → Inside (AddsSteps (step_rows n graph)) c e
     → Inside (SetsBody n d) e f → Inside (AddsFile n d rows graph) a f
 file_then n d rows graph a b c e f one two three four = record {
   change = record {
@@ -142,7 +142,7 @@ file_then n d rows graph a b c e f one two three four = record {
   committed = four.committed ∙ three.committed ∙ two.committed ∙ one.committed;
 }
 
-pub bare_then : (n : ℕ) (d : Deposit) (xs ys : List Row) (a b c e : State) → Inside (AddsDeposit n (bare d)) a b → Inside (AddsLines xs) b c → Inside (AddsSteps ys) c e → IsBare n d e.now
+pub bare_then : (n : ℕ) (d : Sent) (xs ys : List Row) (a b c e : State) → Inside (AddsDeposit n (bare d)) a b → Inside (AddsLines xs) b c → Inside (AddsSteps ys) c e → IsBare n d e.now
 bare_then n d xs ys a b c e one two three = bare_in n d a.now b.now one.change e.now (three.change.deposits ∙ two.change.deposits)
 
 -- ---- what a transaction leaves committed

@@ -25,7 +25,7 @@ use Rattle.reg_store.specs.declared.keep.KeepError.{KeepError}
 use Rattle.reg_tables.specs.declared.heads.DigestedHead.{DigestedHead}
 use Rattle.reg_tables.specs.declared.repeats.Digests.{Digests}
 use Rattle.reg_store.specs.declared.keep.KeptRow.{KeptRow}
-use Rattle.reg_store.specs.Deposit.{Deposit, is_repeat}
+use Rattle.reg_store.specs.Sent.{Sent, is_repeat}
 use Rattle.reg_store.specs.Fit.{IsFileOf, IsNamed, kept_rows}
 use Rattle.reg_tables.specs.Rows.{columns_3, deposit_table, given_deposit, line_table, step_table, placed_rows, step_pair, rows_under}
 use Rattle.reg_tables.specs.Tables.{register_schema}
@@ -61,7 +61,7 @@ tests_both is A B one two = record { yes = λ e. pair (one.yes refl) (two.yes e)
 pub tests_as : (is : Bool) (A B : Type 0) → (A → B) → (B → A) → Tests is A → Tests is B
 tests_as is A B there back test = record { yes = λ e. ∥∥₁_map (test.yes e) there; no = λ e b. test.no e (back b) }
 
-pub counts_by : (db : Database) (rows : List Row) (found : Option ℕ) → IsPermutation rows (map id_of (deposit_table db.trees)) → ((list : List Deposit) → IsPermutation (deposit_rows 1 list) (deposit_table db.trees) → rows ≡ number_rows 1 (length list))
+pub counts_by : (db : Database) (rows : List Row) (found : Option ℕ) → IsPermutation rows (map id_of (deposit_table db.trees)) → ((list : List Sent) → IsPermutation (deposit_rows 1 list) (deposit_table db.trees) → rows ≡ number_rows 1 (length list))
     → IfSome found (λ count. count ≤ 999999) → IfSome found (λ count. rows ≡ number_rows 1 count) → (found ≡ None → (count : ℕ) → count ≤ 999999 → rows ≡ number_rows 1 count → ⊥) → Counts db found
 counts_by db rows (Some count) all are few some none = (few, subst (λ r. IsPermutation r (map id_of (deposit_table db.trees))) some all)
 counts_by db rows None all are few some none = λ list low holds. none refl (length list) low (are list holds)
@@ -90,14 +90,14 @@ file_tests (Ok is) db n file lines steps lines_are steps_are test = tests_as is 
     back held = (subst Lines (sym lines_are) held.lines, subst Steps (sym steps_are) held.steps)
 
 -- a deposit, by the lines and steps of its file
-pub body_tests : (r : Result Bool KeepError) (db : Database) (dictionary : Entries) (n : ℕ) (d : Deposit) (file : CheckedFile) → IsFileOf dictionary d file → IfOk r (λ is. Tests is (HoldsFile db n file)) → IfOk r (λ is. Tests is (HoldsBody db dictionary n d))
+pub body_tests : (r : Result Bool KeepError) (db : Database) (dictionary : Entries) (n : ℕ) (d : Sent) (file : CheckedFile) → IsFileOf dictionary d file → IfOk r (λ is. Tests is (HoldsFile db n file)) → IfOk r (λ is. Tests is (HoldsBody db dictionary n d))
 body_tests (Err e) db dictionary n d file its test = tt
 body_tests (Ok is) db dictionary n d file its test = tests_as is (HoldsFile db n file) (HoldsBody db dictionary n d) (λ held. (file, its, held)) back test
   where
     back : HoldsBody db dictionary n d → HoldsFile db n file
     back held = subst (HoldsFile db n) (one_clean_file held.0 file held.1.clean its.clean (held.1.given ∙ sym its.given) (held.1.bytes ∙ sym its.bytes)) held.2
 
-pub whole_tests : (r : Result (Option DigestedHead) KeepError) (db mid : Database) (dictionary : Entries) (n : ℕ) (d : Deposit) (rows : List Row) (digests : Digests) → mid ≡ db → IsPermutation rows (filter (has_number n) (deposit_table db.trees)) → rows ≡ given_deposit n d ∷ [] → IsNamed d
+pub whole_tests : (r : Result (Option DigestedHead) KeepError) (db mid : Database) (dictionary : Entries) (n : ℕ) (d : Sent) (rows : List Row) (digests : Digests) → mid ≡ db → IsPermutation rows (filter (has_number n) (deposit_table db.trees)) → rows ≡ given_deposit n d ∷ [] → IsNamed d
     → AreBelow digests n → HoldsDigests db n digests → IfOk r (λ found. Tests (is_some found) (HoldsBody mid dictionary n d × IsNew mid (numbers_under digests (own_digest d)) d)) → IfOk r (λ found. Tests (is_some found) (IsWhole db dictionary n))
 whole_tests (Err e) db mid dictionary n d rows digests same found read named below held test = tt
 whole_tests (Ok one) db mid dictionary n d rows digests same found read named below held test =
@@ -130,7 +130,7 @@ pub only_shown : (db : Database) (dictionary : Entries) (n : ℕ) (rows : List R
 only_shown db dictionary n rows found w = one_permutation (given_deposit n w.deposit) rows (IsPermutation-sym _ _ (subst (λ all. IsPermutation rows all) w.row found))
 
 -- so the head and the digest of what is shown are those of the deposit
-pub head_shown : (r : Result (Option DigestedHead) KeepError) (db : Database) (n : ℕ) (kept : Deposit) (rows : List Row) → IsPermutation rows (filter (has_number n) (deposit_table db.trees)) → rows ≡ given_deposit n kept ∷ []
+pub head_shown : (r : Result (Option DigestedHead) KeepError) (db : Database) (n : ℕ) (kept : Sent) (rows : List Row) → IsPermutation rows (filter (has_number n) (deposit_table db.trees)) → rows ≡ given_deposit n kept ∷ []
     → IfOk r (λ found. IfSome found (λ one. (one.head ≡ head_of kept) × (one.digest ≡ own_digest kept))) → IfOk r (λ found. IfSome found (IsDigestedAt db n))
 head_shown (Err e) db n kept rows found read its = tt
 head_shown (Ok None) db n kept rows found read its = tt
@@ -140,10 +140,10 @@ head_shown (Ok (Some one)) db n kept rows found read its = λ d row.
     (its.0 ∙ ap head_of same, its.1 ∙ ap own_digest same))
 
 -- what is found under the digest tells whether a deposit is new
-pub new_tests : (db : Database) (numbers : List ℕ) (d : Deposit) → HasNoEqual db numbers d.firm d.project d.bytes → Tests true (IsNew db numbers d)
+pub new_tests : (db : Database) (numbers : List ℕ) (d : Sent) → HasNoEqual db numbers d.firm d.project d.bytes → Tests true (IsNew db numbers d)
 new_tests db numbers d none = record { yes = λ e. ∣ none ∣₁; no = λ e. absurd cc }
 
-pub old_tests : (db : Database) (numbers : List ℕ) (d : Deposit) (n : ℕ) → HasEqual db d.firm d.project d.bytes n → is_among n numbers ≡ true → Tests false (IsNew db numbers d)
+pub old_tests : (db : Database) (numbers : List ℕ) (d : Sent) (n : ℕ) → HasEqual db d.firm d.project d.bytes n → is_among n numbers ≡ true → Tests false (IsNew db numbers d)
 old_tests db numbers d n has among = record { yes = λ e. absurd cc; no = λ e none. absurd (let clash : true ≡ false = sym has.2 ∙ none n among has.0 has.1 in cc) }
 
 pub tests_true : {is : Bool} {P : Type 0} → is ≡ true → Tests is P → Tests true P
@@ -171,13 +171,13 @@ pub whole_not : (old mid : Database) (dictionary : Entries) (at count : ℕ) →
 whole_not old mid dictionary at count same low test = record { yes = λ e. absurd cc; no = λ e all. test.no refl (subst (λ (db : Database). IsWhole db dictionary (at + 1)) (sym same) (all at low)) }
 
 -- a file with a finding is no file of the register
-pub no_file : (dictionary : Entries) (d : Deposit) (found : List Finding) → Findings dictionary d.bytes found → found ≢ [] → (file : CheckedFile) → IsFileOf dictionary d file → ⊥
+pub no_file : (dictionary : Entries) (d : Sent) (found : List Finding) → Findings dictionary d.bytes found → found ≢ [] → (file : CheckedFile) → IsFileOf dictionary d file → ⊥
 no_file dictionary d found stands some file its =
     let none : Findings dictionary d.bytes [] = subst₂ (λ (g : Entries) (b : List ℕ). Findings g b []) its.given its.bytes its.clean.file.findings in
     absurd (some (one_list dictionary d.bytes found [] stands none))
 
 -- a file that is longer than it may be, or that has a finding, is held of no deposit
-pub no_body : (db : Database) (dictionary : Entries) (n : ℕ) (d : Deposit) → ((file : CheckedFile) → IsFileOf dictionary d file → ⊥) → Tests false (HoldsBody db dictionary n d)
+pub no_body : (db : Database) (dictionary : Entries) (n : ℕ) (d : Sent) → ((file : CheckedFile) → IsFileOf dictionary d file → ⊥) → Tests false (HoldsBody db dictionary n d)
 no_body db dictionary n d none = record { yes = λ e. absurd cc; no = λ e held. none held.0 held.1 }
 
 -- ---- meta
@@ -233,7 +233,7 @@ meta_of (Err NotRegister) db rows schema all found reads =
 meta_of (Err Store) db rows schema all found reads = tt
 meta_of (Err NoMemory) db rows schema all found reads = tt
 
-pub register_meta : (db : Database) (dictionary : Entries) (list : List Deposit) → IsRegister db dictionary list → HasMeta db dictionary
+pub register_meta : (db : Database) (dictionary : Entries) (list : List Sent) → IsRegister db dictionary list → HasMeta db dictionary
 register_meta db dictionary list r = record { text = r.text; short = r.short; reads = r.reads; meta = r.meta }
 
 -- ---- a register is found

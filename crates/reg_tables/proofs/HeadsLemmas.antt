@@ -12,7 +12,7 @@ use Rattle.sqlite.specs.Effect.{Database}
 use Rattle.sqlite.specs.State.{State, HasCleanDisk}
 use Rattle.reg_store.specs.declared.keep.KeptHead.{KeptHead}
 use Rattle.reg_store.specs.declared.keep.KeepError.{KeepError}
-use Rattle.reg_store.specs.Deposit.{Deposit, numbers_from}
+use Rattle.reg_store.specs.Sent.{Sent, numbers_from}
 use Rattle.reg_store.specs.Keep.{IsHeadOf}
 use Rattle.reg_tables.specs.Rows.{deposit_table}
 use Rattle.reg_tables.specs.Register.{deposit_rows, deposits_in, KeepsRegister}
@@ -24,7 +24,7 @@ use Rattle.reg_tables.specs.Shows.{row_of_number}
 
 -- ---- what is looked up
 
-its_head : (head : KeptHead) (d : Deposit) → head ≡ head_of d → IsHeadOf d head
+its_head : (head : KeptHead) (d : Sent) → head ≡ head_of d → IsHeadOf d head
 its_head head d e = record { firm = ap (λ (h : KeptHead). h.firm) e; project = ap (λ (h : KeptHead). h.project) e; embargo = ap (λ (h : KeptHead). h.embargo) e }
 
 some_is : (a b : KeptHead) → Some a ≡ Some b → a ≡ b
@@ -35,14 +35,14 @@ some_is a b e = ap (λ (o : Option KeptHead). unwrap o) e
     unwrap None = a
 
 -- the head of a place is that of the deposit there
-pub head_there : (heads : List KeptHead) (list : List Deposit) (k : ℕ) (r : Result KeptHead KeepError) → AreHeads heads list → IfOk r (λ head. slice_get heads k ≡ Some head)
-    → IfOk r (λ head. (d : Deposit) → slice_get list k ≡ Some d → IsHeadOf d head)
+pub head_there : (heads : List KeptHead) (list : List Sent) (k : ℕ) (r : Result KeptHead KeepError) → AreHeads heads list → IfOk r (λ head. slice_get heads k ≡ Some head)
+    → IfOk r (λ head. (d : Sent) → slice_get list k ≡ Some d → IsHeadOf d head)
 head_there heads list k (Ok head) are ok = λ d at.
     its_head head d (some_is head (head_of d) (sym ok ∙ ap (λ all. slice_get all k) are ∙ slice_get-map head_of list k ∙ ap (option_map head_of) at))
 head_there heads list k (Err e) are ok = tt
 
 -- the numbers of a project are told by the heads
-numbers_told : (n : ℕ) (project : List ℕ) (list : List Deposit) → numbers_from n project (map bare_of (map head_of list)) ≡ numbers_from n project list
+numbers_told : (n : ℕ) (project : List ℕ) (list : List Sent) → numbers_from n project (map bare_of (map head_of list)) ≡ numbers_from n project list
 numbers_told n project [] = refl
 numbers_told n project (d ∷ list) = go (bytes_eq d.project project) (numbers_told (n + 1) project list)
   where
@@ -52,14 +52,14 @@ numbers_told n project (d ∷ list) = go (bytes_eq d.project project) (numbers_t
     go true h = ap (λ all. n ∷ all) h
     go false h = h
 
-pub numbers_there : {X : Type 0} (items : X → List ℕ) (heads : List KeptHead) (list : List Deposit) (project : List ℕ) (r : Result X KeepError) → AreHeads heads list → IfOk r (λ x. items x ≡ numbers_from 1 project (map bare_of heads))
+pub numbers_there : {X : Type 0} (items : X → List ℕ) (heads : List KeptHead) (list : List Sent) (project : List ℕ) (r : Result X KeepError) → AreHeads heads list → IfOk r (λ x. items x ≡ numbers_from 1 project (map bare_of heads))
     → IfOk r (λ x. items x ≡ numbers_from 1 project list)
 numbers_there items heads list project (Ok x) are ok = ok ∙ ap (λ all. numbers_from 1 project (map bare_of all)) are ∙ numbers_told 1 project list
 numbers_there items heads list project (Err e) are ok = tt
 
 -- ---- they stay, and grow
 
-pub no_heads : (heads : List KeptHead) (list : List Deposit) → heads ≡ [] → list ≡ [] → AreHeads heads list
+pub no_heads : (heads : List KeptHead) (list : List Sent) → heads ≡ [] → list ≡ [] → AreHeads heads list
 no_heads heads list none empty = none ∙ ap (map head_of) (sym empty)
 
 -- where the connection is still, the heads stay
@@ -72,7 +72,7 @@ pub heads_same : (heads : List KeptHead) (old new : Database) → AreHeads heads
 heads_same heads old new are same = are ∙ ap (λ (db : Database). map head_of (deposits_in db.trees)) (sym same)
 
 -- one deposit more, one head more
-pub heads_push : (heads : List KeptHead) (list more : List Deposit) (d : Deposit) → AreHeads heads list → more ≡ list ++ d ∷ [] → AreHeads (heads ++ head_of d ∷ []) more
+pub heads_push : (heads : List KeptHead) (list more : List Sent) (d : Sent) → AreHeads heads list → more ≡ list ++ d ∷ [] → AreHeads (heads ++ head_of d ∷ []) more
 heads_push heads list more d are e = ap (λ all. all ++ head_of d ∷ []) are ∙ sym (map-append head_of list (d ∷ [])) ∙ ap (map head_of) (sym e)
 
 -- ---- they are read as a register is examined
@@ -89,7 +89,7 @@ taken_all (x ∷ xs) zero e = absurd (omega (arith, e))
 taken_all (x ∷ xs) (suc k) e = ap (λ all. x ∷ all) (taken_all xs k (omega (arith, e)))
 
 -- the heads of the first deposits, and that of the next
-pub heads_read : (db : Database) (heads : List KeptHead) (head : KeptHead) (k : ℕ) (list : List Deposit) → AreHeads heads (take k list) → ((d : Deposit) → IsRowOf db (k + 1) d → head ≡ head_of d) → IsPermutation (deposit_rows 1 list) (deposit_table db.trees) → k < length list
+pub heads_read : (db : Database) (heads : List KeptHead) (head : KeptHead) (k : ℕ) (list : List Sent) → AreHeads heads (take k list) → ((d : Sent) → IsRowOf db (k + 1) d → head ≡ head_of d) → IsPermutation (deposit_rows 1 list) (deposit_table db.trees) → k < length list
     → AreHeads (heads ++ head ∷ []) (take (k + 1) list)
 heads_read db heads head k list are is there low =
     let found = slice_get_in list k low in

@@ -9,7 +9,7 @@ use Rattle.sqlite.specs.Files.{AreFoundIn}
 use Rattle.sqlite.specs.Start.{FindsIn}
 use Rattle.ags_dict.specs.Entries.{Entries}
 use Rattle.reg_tables.specs.declared.adopting.AdoptError.{AdoptError}
-use Rattle.reg_store.specs.Deposit.{Deposit}
+use Rattle.reg_store.specs.Sent.{Sent}
 use Rattle.reg_tables.specs.Register.{IsRegister}
 use Rattle.reg_tables.specs.Adoption.{Adopts}
 use Rattle.reg_tables.specs.Opened.{FindsTables, FindsSchema, HoldsRegister, RefusesFiles}
@@ -19,7 +19,7 @@ found_tables {image} s opened found =
     let same : s.committed.trees ≡ s.now.trees = ap (λ (d : Database). d.trees) (sym opened.clean) in
     record { found = subst (AreFoundIn image) same found.reads; only = λ held has. sym same ∙ found.holds held has }
 
-pub found_register : {image : Image} {dictionary : Entries} {list : List Deposit} (s : State) → Opens s → FindsIn image s → ∥ IsRegister s.now dictionary list ∥₁ → ∥ HoldsRegister image dictionary list ∥₁
+pub found_register : {image : Image} {dictionary : Entries} {list : List Sent} (s : State) → Opens s → FindsIn image s → ∥ IsRegister s.now dictionary list ∥₁ → ∥ HoldsRegister image dictionary list ∥₁
 found_register {image} {dictionary} {list} s opened found register =
     ∥∥₁_map register (λ (is : IsRegister s.now dictionary list). record { db = s.now; found = found_tables {image = image} s opened found; register = is })
 

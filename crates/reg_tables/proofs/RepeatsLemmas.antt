@@ -24,7 +24,7 @@ use Rattle.reg_store.specs.declared.keep.KeepError.{KeepError}
 use Rattle.reg_tables.specs.declared.repeats.Digests.{Digests}
 use Rattle.reg_store.specs.Apart.{AreApart}
 use Rattle.reg_store.specs.ApartLaws.{none_at, parts_of}
-use Rattle.reg_store.specs.Deposit.{Deposit, is_repeat, number_of}
+use Rattle.reg_store.specs.Sent.{Sent, is_repeat, number_of}
 use Rattle.reg_tables.specs.Digests.{AddsNumber, AreBelow, AreDigested, HasEqual, HasNoEqual, HoldsDigests, IsRowOf, digest_of, is_among, numbers_under, own_digest}
 use Rattle.reg_tables.specs.Methods.{same_deposit, slice_get_in}
 use Rattle.reg_tables.specs.Quiet.{IsStill, clean_before}
@@ -120,7 +120,7 @@ below_more old new digest n low adds below other m h = elim (under_only old new 
   | inr e ↦ (omega (arith, low, e), omega (arith, e))
 ]
 
-pub held_more : (db : Database) (old new : Digests) (digest : List ℕ) (n : ℕ) → AddsNumber old new digest n → ((d : Deposit) → IsRowOf db n d → digest ≡ own_digest d) → HoldsDigests db n old → HoldsDigests db (n + 1) new
+pub held_more : (db : Database) (old new : Digests) (digest : List ℕ) (n : ℕ) → AddsNumber old new digest n → ((d : Sent) → IsRowOf db n d → digest ≡ own_digest d) → HoldsDigests db n old → HoldsDigests db (n + 1) new
 held_more db old new digest n adds own held m low high d row = elim (cases_lt m n) [
   | inl below ↦ under_kept old new digest (own_digest d) n m adds (held m low below d row)
   | inr up ↦ (let e : n ≡ m = omega (arith, up, high) in
@@ -130,21 +130,21 @@ held_more db old new digest n adds own held m low high d row = elim (cases_lt m 
 
 -- ---- digests of a list
 
-push_cases : (list : List Deposit) (d e : Deposit) (k : ℕ) → slice_get (list ++ d ∷ []) k ≡ Some e → (slice_get list k ≡ Some e) ⊎ ((k ≡ length list) × (d ≡ e))
+push_cases : (list : List Sent) (d e : Sent) (k : ℕ) → slice_get (list ++ d ∷ []) k ≡ Some e → (slice_get list k ≡ Some e) ⊎ ((k ≡ length list) × (d ≡ e))
 push_cases [] d e zero at = inr (refl, cc)
 push_cases [] d e (suc k) at = absurd cc
 push_cases (x ∷ list) d e zero at = inl at
 push_cases (x ∷ list) d e (suc k) at = elim (push_cases list d e k at) [ inl h ↦ inl h | inr p ↦ inr (ap suc p.0, p.1) ]
 
-pub digested_push : (old new : Digests) (digest : List ℕ) (list more : List Deposit) (d : Deposit) (n : ℕ) → AreDigested old list → AddsNumber old new digest n → digest ≡ own_digest d → n ≡ length list + 1 → more ≡ list ++ d ∷ [] → AreDigested new more
+pub digested_push : (old new : Digests) (digest : List ℕ) (list more : List Sent) (d : Sent) (n : ℕ) → AreDigested old list → AddsNumber old new digest n → digest ≡ own_digest d → n ≡ length list + 1 → more ≡ list ++ d ∷ [] → AreDigested new more
 digested_push old new digest list more d n are adds own long grown k e at = elim (push_cases list d e k (sym (ap (λ all. slice_get all k) grown) ∙ at)) [
   | inl h ↦ under_kept old new digest (own_digest e) n (k + 1) adds (are k e h)
   | inr p ↦ (let same : n ≡ k + 1 = omega (arith, long, p.0) in
-      subst (λ (x : Deposit). is_among (k + 1) (numbers_under new (own_digest x)) ≡ true) p.1
+      subst (λ (x : Sent). is_among (k + 1) (numbers_under new (own_digest x)) ≡ true) p.1
       (subst (λ (x : List ℕ). is_among (k + 1) (numbers_under new x) ≡ true) own (subst (λ (m : ℕ). is_among m (numbers_under new digest) ≡ true) same (under_new old new digest n adds))))
 ]
 
-pub digested_same : (old new : Digests) (list other : List Deposit) → ((digest : List ℕ) → numbers_under new digest ≡ numbers_under old digest) → other ≡ list → AreDigested old list → AreDigested new other
+pub digested_same : (old new : Digests) (list other : List Sent) → ((digest : List ℕ) → numbers_under new digest ≡ numbers_under old digest) → other ≡ list → AreDigested old list → AreDigested new other
 digested_same old new list other same is are k d at = ap (is_among (k + 1)) (same (own_digest d)) ∙ are k d (sym (ap (λ all. slice_get all k) is) ∙ at)
 
 pub below_same : (old new : Digests) (n : ℕ) → ((digest : List ℕ) → numbers_under new digest ≡ numbers_under old digest) → AreBelow old n → AreBelow new n
@@ -159,7 +159,7 @@ noted_adds old mid new digest numbers n same more noted other = noted other ∙ 
     go true = more
     go false = same other
 
-pub none_digested : (digests : Digests) (list : List Deposit) → list ≡ [] → AreDigested digests list
+pub none_digested : (digests : Digests) (list : List Sent) → list ≡ [] → AreDigested digests list
 none_digested digests list empty k d at = absurd (let none = subst (λ all. slice_get all k ≡ Some d) empty at in cc)
 
 -- where the connection is still, the digests stay
@@ -169,12 +169,12 @@ digested_quiet old new digests are quiet clean well =
     subst (λ (db : Database). AreDigested digests (deposits_in db.trees)) (sym (quiet.same clean well).1) (are (clean_before old new quiet.survives clean))
 
 -- what stands under digests is that of the list, where the tables hold it
-pub digested_held : (db : Database) (digests : Digests) (list : List Deposit) → IsPermutation (deposit_rows 1 list) (deposit_table db.trees) → HoldsDigests db (length list + 1) digests → AreDigested digests list
+pub digested_held : (db : Database) (digests : Digests) (list : List Sent) → IsPermutation (deposit_rows 1 list) (deposit_table db.trees) → HoldsDigests db (length list + 1) digests → AreDigested digests list
 digested_held db digests list there held k d at =
     let e : (k + 1) - 1 ≡ k = omega arith in
     held (k + 1) (omega arith) (omega (arith, place list k d at)) d (row_of_number (k + 1) list (deposit_table db.trees) d (omega arith) there (ap (slice_get list) e ∙ at))
   where
-    place : (list : List Deposit) (k : ℕ) (d : Deposit) → slice_get list k ≡ Some d → k < length list
+    place : (list : List Sent) (k : ℕ) (d : Sent) → slice_get list k ≡ Some d → k < length list
     place [] k d at = absurd cc
     place (x ∷ list) zero d at = omega arith
     place (x ∷ list) (suc k) d at = omega (arith, place list k d at)
@@ -194,16 +194,16 @@ false_if true h = h refl
 false_if false h = refl
 
 -- equal deposits have equal digests
-pub same_digest : (firm project bytes : List ℕ) (d : Deposit) → is_repeat firm project bytes d ≡ true → own_digest d ≡ digest_of firm project bytes
+pub same_digest : (firm project bytes : List ℕ) (d : Sent) → is_repeat firm project bytes d ≡ true → own_digest d ≡ digest_of firm project bytes
 same_digest firm project bytes d is =
     let it = parts_of firm project bytes d is in
     ap (λ (x : List ℕ). digest_of x d.project d.bytes) it.0 ∙ ap (λ (x : List ℕ). digest_of firm x d.bytes) it.1 ∙ ap (λ (x : List ℕ). digest_of firm project x) it.2
 
-first_found : (n : ℕ) (firm project bytes : List ℕ) (list : List Deposit) (k : ℕ) (d : Deposit) → AreApart list → slice_get list k ≡ Some d → is_repeat firm project bytes d ≡ true → position_from (is_repeat firm project bytes) n list ≡ Some (n + k)
+first_found : (n : ℕ) (firm project bytes : List ℕ) (list : List Sent) (k : ℕ) (d : Sent) → AreApart list → slice_get list k ≡ Some d → is_repeat firm project bytes d ≡ true → position_from (is_repeat firm project bytes) n list ≡ Some (n + k)
 first_found n firm project bytes [] k d apart at is = absurd cc
 first_found n firm project bytes (x ∷ list) zero d apart at is =
     let same : x ≡ d = cc in
-    let here : is_repeat firm project bytes x ≡ true = subst (λ (y : Deposit). is_repeat firm project bytes y ≡ true) (sym same) is in
+    let here : is_repeat firm project bytes x ≡ true = subst (λ (y : Sent). is_repeat firm project bytes y ≡ true) (sym same) is in
     let e : n ≡ n + 0 = omega arith in
     rw here (ap Some e)
 first_found n firm project bytes (x ∷ list) (suc k) d apart at is =
@@ -217,23 +217,23 @@ first_found n firm project bytes (x ∷ list) (suc k) d apart at is =
         let clash : is_repeat firm project bytes d ≡ false = rw (it.0, it.1, it.2) at (none_at (is_repeat x.firm x.project x.bytes) list k d apart.0 at) in
         absurd (let no : true ≡ false = sym is ∙ clash in cc)
 
-not_found : (n : ℕ) (firm project bytes : List ℕ) (list : List Deposit) → ((k : ℕ) (d : Deposit) → slice_get list k ≡ Some d → is_repeat firm project bytes d ≡ false) → position_from (is_repeat firm project bytes) n list ≡ None
+not_found : (n : ℕ) (firm project bytes : List ℕ) (list : List Sent) → ((k : ℕ) (d : Sent) → slice_get list k ≡ Some d → is_repeat firm project bytes d ≡ false) → position_from (is_repeat firm project bytes) n list ≡ None
 not_found n firm project bytes [] none = refl
 not_found n firm project bytes (x ∷ list) none = rw (none 0 x refl) (not_found (n + 1) firm project bytes list (λ k d at. none (suc k) d at))
 
-found_some : (db : Database) (firm project bytes : List ℕ) (list : List Deposit) (n : ℕ) → IsPermutation (deposit_rows 1 list) (deposit_table db.trees) → AreApart list → 0 < n → n < length list + 1 → HasEqual db firm project bytes n → Some n ≡ number_of firm project bytes list
+found_some : (db : Database) (firm project bytes : List ℕ) (list : List Sent) (n : ℕ) → IsPermutation (deposit_rows 1 list) (deposit_table db.trees) → AreApart list → 0 < n → n < length list + 1 → HasEqual db firm project bytes n → Some n ≡ number_of firm project bytes list
 found_some db firm project bytes list n there apart low high has =
     let place = slice_get_in list (n - 1) (omega (arith, low, high)) in
     let one : place.0 ≡ has.0 = same_deposit n place.0 has.0 _ (row_of_number n list (deposit_table db.trees) place.0 low there place.1) has.1 in
-    let is : is_repeat firm project bytes place.0 ≡ true = subst (λ (x : Deposit). is_repeat firm project bytes x ≡ true) (sym one) has.2 in
+    let is : is_repeat firm project bytes place.0 ≡ true = subst (λ (x : Sent). is_repeat firm project bytes x ≡ true) (sym one) has.2 in
     let e : 1 + (n - 1) ≡ n = omega (arith, low) in
     sym (first_found 1 firm project bytes list (n - 1) place.0 apart place.1 is ∙ ap Some e)
 
-found_none : (db : Database) (firm project bytes : List ℕ) (list : List Deposit) (digests : Digests) → IsPermutation (deposit_rows 1 list) (deposit_table db.trees) → AreDigested digests list
+found_none : (db : Database) (firm project bytes : List ℕ) (list : List Sent) (digests : Digests) → IsPermutation (deposit_rows 1 list) (deposit_table db.trees) → AreDigested digests list
     → HasNoEqual db (numbers_under digests (digest_of firm project bytes)) firm project bytes → None ≡ number_of firm project bytes list
 found_none db firm project bytes list digests there are none = sym (not_found 1 firm project bytes list each)
   where
-    each : (k : ℕ) (d : Deposit) → slice_get list k ≡ Some d → is_repeat firm project bytes d ≡ false
+    each : (k : ℕ) (d : Sent) → slice_get list k ≡ Some d → is_repeat firm project bytes d ≡ false
     each k d at = false_if (is_repeat firm project bytes d) (λ yes.
         (let e : (k + 1) - 1 ≡ k = omega arith in
         let row = row_of_number (k + 1) list (deposit_table db.trees) d (omega arith) there (ap (slice_get list) e ∙ at) in
@@ -257,21 +257,21 @@ repeat_told {s} {dictionary} {count} firm project bytes digests numbers (Ok None
 repeat_told firm project bytes digests numbers (Err e) kept own below are equal among none = tt
 
 -- one number more of which the deposit is not equal
-no_more : (db : Database) (firm project bytes : List ℕ) (numbers : List ℕ) (i : ℕ) (d : Deposit) → i < length numbers → HasNoEqual db (take i numbers) firm project bytes → IsRowOf db (get_or numbers i 0) d → is_repeat firm project bytes d ≡ false
+no_more : (db : Database) (firm project bytes : List ℕ) (numbers : List ℕ) (i : ℕ) (d : Sent) → i < length numbers → HasNoEqual db (take i numbers) firm project bytes → IsRowOf db (get_or numbers i 0) d → is_repeat firm project bytes d ≡ false
     → HasNoEqual db (take (i + 1) numbers) firm project bytes
 no_more db firm project bytes numbers i d low none row is m among e its = elim (among_either m (get_or numbers i 0) (take i numbers) (sym (ap (is_among m) (take_more numbers i 0 low)) ∙ among)) [
   | inl before ↦ none m before e its
   | inr here ↦ (let same : d ≡ e = same_deposit m d e _ (subst (λ (k : ℕ). IsRowOf db k d) (sym here) row) its in
-      subst (λ (x : Deposit). is_repeat firm project bytes x ≡ false) same is)
+      subst (λ (x : Sent). is_repeat firm project bytes x ≡ false) same is)
 ]
 
 -- the deposit of the next number was tested, and is not equal
 pub no_more_by : (old mid : Database) (firm project bytes numbers : List ℕ) (i : ℕ) (is : Bool) → mid ≡ old → i < length numbers → HasNoEqual old (take i numbers) firm project bytes
-    → (d : Deposit) × IsRowOf mid (get_or numbers i 0) d × (is ≡ is_repeat firm project bytes d) → is ≡ false → HasNoEqual old (take (i + 1) numbers) firm project bytes
+    → (d : Sent) × IsRowOf mid (get_or numbers i 0) d × (is ≡ is_repeat firm project bytes d) → is ≡ false → HasNoEqual old (take (i + 1) numbers) firm project bytes
 no_more_by old mid firm project bytes numbers i is same low none it told = no_more old firm project bytes numbers i it.0 low none (subst (λ (db : Database). IsRowOf db (get_or numbers i 0) it.0) same it.1) (sym it.2 ∙ told)
 
 -- it was tested, and is equal
-pub equal_by : (old mid : Database) (firm project bytes : List ℕ) (n : ℕ) (is : Bool) → mid ≡ old → (d : Deposit) × IsRowOf mid n d × (is ≡ is_repeat firm project bytes d) → is ≡ true → HasEqual old firm project bytes n
+pub equal_by : (old mid : Database) (firm project bytes : List ℕ) (n : ℕ) (is : Bool) → mid ≡ old → (d : Sent) × IsRowOf mid n d × (is ≡ is_repeat firm project bytes d) → is ≡ true → HasEqual old firm project bytes n
 equal_by old mid firm project bytes n is same it told = (it.0, subst (λ (db : Database). IsRowOf db n it.0) same it.1, sym it.2 ∙ told)
 
 -- of no number yet

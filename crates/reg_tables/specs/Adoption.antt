@@ -10,7 +10,7 @@ use Rattle.reg_tables.specs.declared.adopting.AdoptError.{AdoptError}
 use Rattle.reg_tables.specs.declared.adopting.AdoptError.TheVariants.{NotRegister, Version, Store, NoMemory}
 use Rattle.reg_store.specs.declared.keep.KeepError.{KeepError}
 use Rattle.reg_store.specs.declared.keep.KeepError.TheVariants as keep
-use Rattle.reg_store.specs.Deposit.{Deposit}
+use Rattle.reg_store.specs.Sent.{Sent}
 use Rattle.reg_tables.specs.Formats.{HasFormat, IsFormatRow}
 use Rattle.reg_tables.specs.Register.{IsRegister, deposits_in, meta_columns}
 use Rattle.reg_tables.specs.Whole.{HasMeta}
@@ -62,15 +62,15 @@ MetaOf db (Err NoMemory) = Unit {0}
 
 -- How many deposits the register of a dictionary has, where the tables are one.
 abbrev pub CountsDeposits : Database → Entries → Option ℕ → Type 0
-CountsDeposits db dictionary (Some count) = ∥ ((list : List Deposit) × IsRegister db dictionary list × (length list ≡ count)) ∥₁
-CountsDeposits db dictionary None = (list : List Deposit) → IsRegister db dictionary list → ⊥
+CountsDeposits db dictionary (Some count) = ∥ ((list : List Sent) × IsRegister db dictionary list × (length list ≡ count)) ∥₁
+CountsDeposits db dictionary None = (list : List Sent) → IsRegister db dictionary list → ⊥
 
 -- What a database is answered. The tables are a register of this dictionary and of so many deposits; or the row `format` has another number, whatever
 -- else is wrong; or it has no other number, and the tables are no register of any list.
 abbrev pub Adopts : Database → Result (Entries × ℕ) AdoptError → Type 0
-Adopts db (Ok found) = ∥ ((list : List Deposit) × IsRegister db found.0 list × (length list ≡ found.1)) ∥₁
+Adopts db (Ok found) = ∥ ((list : List Sent) × IsRegister db found.0 list × (length list ≡ found.1)) ∥₁
 Adopts db (Err (Version n)) = (n ≢ pos 1) × HasFormat db n
-Adopts db (Err NotRegister) = ((n : ℤ) → HasFormat db n → n ≡ pos 1) × ((dictionary : Entries) (list : List Deposit) → IsRegister db dictionary list → ⊥)
+Adopts db (Err NotRegister) = ((n : ℤ) → HasFormat db n → n ≡ pos 1) × ((dictionary : Entries) (list : List Sent) → IsRegister db dictionary list → ⊥)
 Adopts db (Err Store) = Unit {0}
 Adopts db (Err NoMemory) = Unit {0}
 

@@ -10,7 +10,7 @@ use Rattle.sqlite.specs.Query.{Output}
 use Rattle.sqlite.specs.State.{State, Shown}
 use Rattle.sqlite_value.proofs.OrderLemmas.{value_cmp_total}
 use Rattle.sqlite_keyed.proofs.ListLemmas.{filter-map, filter-filter, IsPermutation-filter}
-use Rattle.reg_store.specs.Deposit.{Deposit}
+use Rattle.reg_store.specs.Sent.{Sent}
 use Rattle.reg_tables.specs.Tables.{register_schema}
 use Rattle.reg_tables.specs.Texts.{select_all_numbers, select_deposit, select_meta}
 use Rattle.reg_tables.specs.Meaning.{all_numbers, all_numbers_read, by_number, deposit_read, all_meta, all_meta_read}
@@ -111,8 +111,8 @@ above : (m n count : ℕ) → m < n → filter (λ c. not (has_number m c)) (num
 above m n zero low = refl
 above m n (suc count) low = rw (apart_at n m (λ e. absurd (omega (arith, e)))) (ap (λ all. (Int (pos n) ∷ []) ∷ all) (above m (n + 1) count (omega arith)))
 
-pub by_numbers : (m : ℕ) (list : List Deposit) (table : List Row) → IsPermutation (number_rows m (length list)) (map id_of table)
-    → ((k : ℕ) (d : Deposit) → slice_get list k ≡ Some d → filter (has_number (m + k)) table ≡ given_deposit (m + k) d ∷ []) → IsPermutation (deposit_rows m list) table
+pub by_numbers : (m : ℕ) (list : List Sent) (table : List Row) → IsPermutation (number_rows m (length list)) (map id_of table)
+    → ((k : ℕ) (d : Sent) → slice_get list k ≡ Some d → filter (has_number (m + k)) table ≡ given_deposit (m + k) d ∷ []) → IsPermutation (deposit_rows m list) table
 by_numbers m [] [] ids one = IsPermutation-refl []
 by_numbers m [] (r ∷ table) ids one = absurd (let e : suc (length (map id_of table)) ≡ 0 = length_permutation _ _ ids in omega (arith, e))
 by_numbers m (d ∷ list) table ids one =
@@ -133,7 +133,7 @@ by_numbers m (d ∷ list) table ids one =
 -- ---- a register is adopted
 
 -- All that `adopt` reads of a database: the two rows of meta, the numbers, the row of each deposit, and its lines and steps. The foreign keys leave no other lines and steps.
-pub record IsRead (db : Database) (dictionary : Entries) (list : List Deposit) : Type 0 where
+pub record IsRead (db : Database) (dictionary : Entries) (list : List Sent) : Type 0 where
   pub schema : db.schema ≡ register_schema
   pub sound : IsDatabase db
   pub text : List ℕ
@@ -141,7 +141,7 @@ pub record IsRead (db : Database) (dictionary : Entries) (list : List Deposit) :
   pub reads : IsDictionary text dictionary
   pub meta : IsPermutation (meta_columns text) (map columns_3 (db.trees 0))
   pub numbers : IsPermutation (number_rows 1 (length list)) (map id_of (deposit_table db.trees))
-  pub deposits : (k : ℕ) (d : Deposit) → slice_get list k ≡ Some d → filter (has_number (1 + k)) (deposit_table db.trees) ≡ given_deposit (1 + k) d ∷ []
+  pub deposits : (k : ℕ) (d : Sent) → slice_get list k ≡ Some d → filter (has_number (1 + k)) (deposit_table db.trees) ≡ given_deposit (1 + k) d ∷ []
   pub files : List CheckedFile
   pub each : AllZip (IsFileOf dictionary) list files
   pub named : AllByRecursion IsNamed list
@@ -176,7 +176,7 @@ outside count n table ids low =
     let kept = IsPermutation-filter (has_number n) _ _ ids in
     empty_map (filter (has_number n) table) (subst₂ IsPermutation (none_above 1 n count (omega arith)) (filter-map (has_number n) id_of table) kept)
 
-pub adopts : (db : Database) (dictionary : Entries) (list : List Deposit) → IsRead db dictionary list → IsRegister db dictionary list
+pub adopts : (db : Database) (dictionary : Entries) (list : List Sent) → IsRead db dictionary list → IsRegister db dictionary list
 adopts db dictionary list read =
     let sound : IsSound register_schema db.trees = subst (λ k. IsSound k db.trees) read.schema read.sound in
     let keyed = sound.obeys.rules ForeignKey in

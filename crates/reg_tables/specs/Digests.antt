@@ -12,7 +12,7 @@ use Rattle.sha2.specs.Sha256.{sha256}
 use Rattle.sqlite.specs.Effect.{Database}
 use Rattle.ags_text.specs.Bytes.{line_feed}
 use Rattle.reg_tables.specs.declared.repeats.Digests.{Digests}
-use Rattle.reg_store.specs.Deposit.{Deposit, is_repeat}
+use Rattle.reg_store.specs.Sent.{Sent, is_repeat}
 use Rattle.reg_tables.specs.Rows.{deposit_table, given_deposit}
 use Rattle.reg_tables.specs.Register.{has_number}
 
@@ -20,7 +20,7 @@ use Rattle.reg_tables.specs.Register.{has_number}
 abbrev pub digest_of : List ℕ → List ℕ → List ℕ → List ℕ
 digest_of firm project bytes = sha256 ((((firm ++ line_feed ∷ []) ++ project) ++ line_feed ∷ []) ++ bytes)
 
-abbrev pub own_digest : Deposit → List ℕ
+abbrev pub own_digest : Sent → List ℕ
 own_digest d = digest_of d.firm d.project d.bytes
 
 -- what stands at a digest
@@ -44,33 +44,33 @@ abbrev pub AddsNumber : Digests → Digests → List ℕ → ℕ → Type 0
 AddsNumber old new digest number = PutsNumbers old new digest (numbers_under old digest ++ number ∷ [])
 
 -- Each deposit's number, from 1, stands under its digest.
-abbrev pub AreDigested : Digests → List Deposit → Type 0
-AreDigested digests list = (k : ℕ) (d : Deposit) → slice_get list k ≡ Some d → is_among (k + 1) (numbers_under digests (own_digest d)) ≡ true
+abbrev pub AreDigested : Digests → List Sent → Type 0
+AreDigested digests list = (k : ℕ) (d : Sent) → slice_get list k ≡ Some d → is_among (k + 1) (numbers_under digests (own_digest d)) ≡ true
 
 -- What stands under a digest are numbers from 1 on, below this one.
 abbrev pub AreBelow : Digests → ℕ → Type 0
 AreBelow digests n = (digest : List ℕ) (m : ℕ) → is_among m (numbers_under digests digest) ≡ true → (0 < m) × (m < n)
 
 -- The deposit's row is the only one of the number.
-abbrev pub IsRowOf : Database → ℕ → Deposit → Type 0
+abbrev pub IsRowOf : Database → ℕ → Sent → Type 0
 IsRowOf db n d = filter (has_number n) (deposit_table db.trees) ≡ given_deposit n d ∷ []
 
 -- Each deposit of a number below this one stands under its digest.
 abbrev pub HoldsDigests : Database → ℕ → Digests → Type 0
-HoldsDigests db n digests = (m : ℕ) → 0 < m → m < n → (d : Deposit) → IsRowOf db m d → is_among m (numbers_under digests (own_digest d)) ≡ true
+HoldsDigests db n digests = (m : ℕ) → 0 < m → m < n → (d : Sent) → IsRowOf db m d → is_among m (numbers_under digests (own_digest d)) ≡ true
 
 -- The deposit of the number is equal.
 abbrev pub HasEqual : Database → List ℕ → List ℕ → List ℕ → ℕ → Type 0
-HasEqual db firm project bytes n = (d : Deposit) × IsRowOf db n d × (is_repeat firm project bytes d ≡ true)
+HasEqual db firm project bytes n = (d : Sent) × IsRowOf db n d × (is_repeat firm project bytes d ≡ true)
 
 -- No deposit of these numbers is equal.
 abbrev pub HasNoEqual : Database → List ℕ → List ℕ → List ℕ → List ℕ → Type 0
-HasNoEqual db numbers firm project bytes = (n : ℕ) → is_among n numbers ≡ true → (d : Deposit) → IsRowOf db n d → is_repeat firm project bytes d ≡ false
+HasNoEqual db numbers firm project bytes = (n : ℕ) → is_among n numbers ≡ true → (d : Sent) → IsRowOf db n d → is_repeat firm project bytes d ≡ false
 
 -- No deposit of these numbers is equal to this one.
-abbrev pub IsNew : Database → List ℕ → Deposit → Type 0
+abbrev pub IsNew : Database → List ℕ → Sent → Type 0
 IsNew db numbers d = HasNoEqual db numbers d.firm d.project d.bytes
 
 -- No deposit of a number below this one is equal.
-abbrev pub IsFirst : Database → ℕ → Deposit → Type 0
-IsFirst db n d = (m : ℕ) → 0 < m → m < n → (e : Deposit) → IsRowOf db m e → is_repeat d.firm d.project d.bytes e ≡ false
+abbrev pub IsFirst : Database → ℕ → Sent → Type 0
+IsFirst db n d = (m : ℕ) → 0 < m → m < n → (e : Sent) → IsRowOf db m e → is_repeat d.firm d.project d.bytes e ≡ false

@@ -5,7 +5,7 @@ use Rattle.sqlite.specs.State.{State, Survives}
 use Rattle.ags_check.specs.Findings.{CheckedFile}
 use Rattle.reg_store.specs.declared.keep.KeptRow.{KeptRow}
 use Rattle.reg_tables.specs.declared.statements.Filed.{Filed}
-use Rattle.reg_store.specs.Deposit.{Deposit}
+use Rattle.reg_store.specs.Sent.{Sent}
 use Rattle.reg_store.specs.Fit.{kept_rows}
 use Rattle.reg_tables.specs.Rows.{deposit_from}
 use Rattle.reg_tables.specs.Inserts.{AddsDeposit, AddsFile}
@@ -13,7 +13,7 @@ use Rattle.reg_tables.specs.Late.{SetsBody, bare}
 use Rattle.reg_tables.specs.KeepLaws.{PutsOf}
 use Rattle.reg_tables.specs.Commits.{Changes}
 
-abbrev pub filed_deposit : Filed → Deposit
+abbrev pub filed_deposit : Filed → Sent
 filed_deposit filed = record { firm = filed.firm.now; project = filed.project.now; embargo = pos filed.embargo; bytes = filed.body.now }
 
 -- The deposit is added under its number, without its body.

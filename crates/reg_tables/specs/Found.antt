@@ -9,7 +9,7 @@ use Rattle.sqlite.specs.Effect.{Database}
 use Rattle.sqlite.specs.State.{State, HasCleanDisk, Shown}
 use Rattle.ags_links.specs.Steps.{IsBefore}
 use Rattle.reg_store.specs.declared.keep.KeptRow.{KeptRow}
-use Rattle.reg_store.specs.Deposit.{Deposit, is_repeat}
+use Rattle.reg_store.specs.Sent.{Sent, is_repeat}
 use Rattle.reg_tables.specs.Rows.{columns_3, deposit_table}
 use Rattle.reg_tables.specs.Register.{deposit_rows, has_number, meta_columns}
 use Rattle.reg_tables.specs.Quiet.{FindsThat, ShowsTheSame}
@@ -61,7 +61,7 @@ rows_numbered n db = filter (has_number n) (deposit_table db.trees)
 
 -- Where the table `deposits` holds a list of deposits, the rows are their numbers, from 1 on, rising.
 abbrev pub AreNumbersFromOne : Database → List Row → Type 0
-AreNumbersFromOne db rows = (list : List Deposit) → IsPermutation (deposit_rows 1 list) (deposit_table db.trees) → rows ≡ number_rows 1 (length list)
+AreNumbersFromOne db rows = (list : List Sent) → IsPermutation (deposit_rows 1 list) (deposit_table db.trees) → rows ≡ number_rows 1 (length list)
 
 -- Where the table `meta` holds the two rows of a dictionary's bytes, the rows are these, ordered by name.
 abbrev pub AreMetaByName : Database → List Row → Type 0
@@ -70,7 +70,7 @@ AreMetaByName db rows = (text : List ℕ) → IsPermutation (meta_columns text) 
 -- On a clean disk, one deposit alone has the number, and the answer is whether it is equal.
 abbrev pub FindsIfEqual : {E : Type 0} → Result Bool E → ℕ → List ℕ → List ℕ → List ℕ → State → State → Type 0
 FindsIfEqual result n firm project bytes old new =
-    FindsThat result (λ db is. (d : Deposit) × IsRowOf db n d × (is ≡ is_repeat firm project bytes d)) old new
+    FindsThat result (λ db is. (d : Sent) × IsRowOf db n d × (is ≡ is_repeat firm project bytes d)) old new
 
 -- On a clean disk, the deposit of the number that is found, if one is, is equal.
 abbrev pub FindsEqual : {E : Type 0} → Result (Option ℕ) E → List ℕ → List ℕ → List ℕ → State → State → Type 0

@@ -7,7 +7,7 @@ use Rattle.ags_dict.specs.Entries.{Entries}
 use Rattle.reg_tables.specs.declared.fronts.Fronts.{Fronts}
 use Rattle.reg_store.specs.declared.keep.KeepError.{KeepError}
 use Rattle.reg_store.specs.declared.keep.ProjectRow.{ProjectRow}
-use Rattle.reg_store.specs.Deposit.{Deposit}
+use Rattle.reg_store.specs.Sent.{Sent}
 use Rattle.reg_store.specs.Fit.{kept_rows}
 use Rattle.reg_store.specs.Keep.{OfDeposit}
 use Rattle.reg_tables.specs.Places.{entry_at}
@@ -22,11 +22,11 @@ abbrev pub alone_at : Fronts → ℕ → Option ℕ
 alone_at fronts n = (entry_at fronts.entries.items n).alone
 
 -- A deposit has the number.
-abbrev pub IsHeldNumber : ℕ → List Deposit → Type 0
+abbrev pub IsHeldNumber : ℕ → List Sent → Type 0
 IsHeldNumber n list = (0 < n) × (n ≤ length list)
 
 -- What stands in memory under a number is said by the file of that deposit.
-pub record HoldsFronts (fronts : Fronts) (dictionary : Entries) (list : List Deposit) : Type 0 where
+pub record HoldsFronts (fronts : Fronts) (dictionary : Entries) (list : List Sent) : Type 0 where
   pub rows : (n : ℕ) (row : ProjectRow) → front_at fronts n ≡ Some row
       → IsHeldNumber n list × OfDeposit dictionary list n (λ file. Some row ≡ project_of (kept_rows file.groups))
   pub alone : (n row : ℕ) → alone_at fronts n ≡ Some row

@@ -8,33 +8,33 @@ use Rattle.sqlite.specs.State.{State, HasCleanDisk}
 use Rattle.reg_tables.specs.declared.heads.DigestedHead.{DigestedHead}
 use Rattle.reg_tables.specs.declared.repeats.Digests.{Digests}
 use Rattle.reg_store.specs.declared.keep.KeptHead.{KeptHead}
-use Rattle.reg_store.specs.Deposit.{Deposit}
+use Rattle.reg_store.specs.Sent.{Sent}
 use Rattle.reg_tables.specs.Digests.{AddsNumber, IsRowOf, own_digest}
 use Rattle.reg_tables.specs.Rows.{deposit_table}
 use Rattle.reg_tables.specs.Register.{deposit_rows}
 
-abbrev pub head_of : Deposit → KeptHead
+abbrev pub head_of : Sent → KeptHead
 head_of d = record { firm = d.firm; project = d.project; embargo = d.embargo }
 
 -- The heads are, in order, those of the deposits.
-abbrev pub AreHeads : List KeptHead → List Deposit → Type 0
+abbrev pub AreHeads : List KeptHead → List Sent → Type 0
 AreHeads heads list = heads ≡ map head_of list
 
 -- A deposit of this head that has no bytes.
-abbrev pub bare_of : KeptHead → Deposit
+abbrev pub bare_of : KeptHead → Sent
 bare_of head = record { firm = head.firm; project = head.project; embargo = head.embargo; bytes = [] }
 
 -- The head and the digest are those of the deposit.
-abbrev pub IsDigestedFrom : Deposit → DigestedHead → Type 0
+abbrev pub IsDigestedFrom : Sent → DigestedHead → Type 0
 IsDigestedFrom d one = (one.head ≡ head_of d) × (one.digest ≡ own_digest d)
 
 -- The head and the digest are those of the deposit whose row is the only one of the number.
 abbrev pub IsDigestedAt : Database → ℕ → DigestedHead → Type 0
-IsDigestedAt db n one = (d : Deposit) → IsRowOf db n d → IsDigestedFrom d one
+IsDigestedAt db n one = (d : Sent) → IsRowOf db n d → IsDigestedFrom d one
 
 -- The heads are those of the deposits in the tables, of which there are so many.
 abbrev pub HoldsHeads : Database → ℕ → List KeptHead → Type 0
-HoldsHeads db count heads = (list : List Deposit) → IsPermutation (deposit_rows 1 list) (deposit_table db.trees) → length list ≡ count → AreHeads heads list
+HoldsHeads db count heads = (list : List Sent) → IsPermutation (deposit_rows 1 list) (deposit_table db.trees) → length list ≡ count → AreHeads heads list
 
 -- Where the answer is yes, a head stands behind the others, and the number under its digest; on a clean disk both are of the number's deposit.
 abbrev pub AddsHead : {E : Type 0} → Result Bool E → ℕ → Vec KeptHead Global → Vec KeptHead Global → Digests → Digests → State → State → Type 0

@@ -26,7 +26,7 @@ use Rattle.sqlite.specs.Listing.{understood}
 use Rattle.sqlite.specs.State.{State, mode_of, Executes}
 use Rattle.sqlite.proofs.Callers.{IsPlain, command_of, statement_of, runs_as, one_step}
 use Rattle.reg_store.specs.declared.keep.KeptRow.{KeptRow}
-use Rattle.reg_store.specs.Deposit.{Deposit}
+use Rattle.reg_store.specs.Sent.{Sent}
 use Rattle.reg_tables.specs.Tables.{meta, deposits, lines, steps, register_schema}
 use Rattle.reg_tables.specs.Texts.{insert_deposit, insert_line, insert_step, insert_eight_lines, insert_eight_steps, fill_meta}
 use Rattle.reg_tables.specs.Meaning.{deposit_terms, deposit_is, deposit_plain, line_terms, line_is, line_plain, step_terms, step_is, step_plain, eight_line_terms, eight_lines_are, eight_lines_plain, eight_step_terms, eight_steps_are, eight_steps_plain, fill_terms, fill_is, fill_plain}
@@ -56,7 +56,7 @@ pub record AddsSteps (more : List Row) (old new : Database) : Type 0 where
   pub lines : new.trees 3 ≡ old.trees 3
   pub steps : IsMore (step_table old.trees) more (step_table new.trees)
 
-pub record AddsDeposit (n : ℕ) (d : Deposit) (old new : Database) : Type 0 where
+pub record AddsDeposit (n : ℕ) (d : Sent) (old new : Database) : Type 0 where
   -- no row had the number
   pub alone : AllByRecursion (λ c. has_number n c ≡ false) (deposit_table old.trees)
   pub schema : new.schema ≡ register_schema
@@ -73,7 +73,7 @@ pub record FillsMeta (dictionary : List ℕ) (old new : Database) : Type 0 where
   pub steps : new.trees 5 ≡ old.trees 5
 
 -- a deposit with its rows and its steps
-pub record AddsFile (n : ℕ) (d : Deposit) (rows : List KeptRow) (graph : List (ℕ × ℕ)) (old new : Database) : Type 0 where
+pub record AddsFile (n : ℕ) (d : Sent) (rows : List KeptRow) (graph : List (ℕ × ℕ)) (old new : Database) : Type 0 where
   pub schema : new.schema ≡ register_schema
   pub meta : new.trees 0 ≡ old.trees 0
   pub deposits : IsMore (deposit_table old.trees) (given_deposit n d ∷ []) (deposit_table new.trees)
@@ -221,7 +221,7 @@ untaken n row rows b is h =
     not_so true b h = absurd cc
     not_so false b h = refl
 
-pub puts_deposit : (old new : State) (n : ℕ) (d : Deposit) (count : ℕ) → old.now.schema ≡ register_schema → Executes insert_deposit (given_deposit n d) old new (Ok count) → AddsDeposit n d old.now new.now
+pub puts_deposit : (old new : State) (n : ℕ) (d : Sent) (count : ℕ) → old.now.schema ≡ register_schema → Executes insert_deposit (given_deposit n d) old new (Ok count) → AddsDeposit n d old.now new.now
 puts_deposit old new n d count has h =
     let params = given_deposit n d in
     let db = old.now.trees in

@@ -16,7 +16,7 @@ use Rattle.sqlite.specs.State.{State, Survives, HasCleanDisk}
 use Rattle.ags_dict.specs.Entries.{Entries}
 use Rattle.ags_check.specs.Findings.{CheckedFile}
 use Rattle.reg_store.specs.declared.keep.KeptRow.{KeptRow}
-use Rattle.reg_store.specs.Deposit.{Deposit}
+use Rattle.reg_store.specs.Sent.{Sent}
 use Rattle.reg_tables.specs.Tables.{register_schema}
 use Rattle.reg_tables.specs.Rows.{given_deposit, deposit_table, IsMore}
 use Rattle.reg_tables.specs.Inserts.{AddsFile}
@@ -29,11 +29,11 @@ use Rattle.reg_tables.specs.Quiet.{IsIdle, IsStill, clean_before}
 
 -- ---- no kept body has a finding
 
-one_more : (dictionary : Entries) (d : Deposit) (list : List Deposit) → IsFit dictionary d → All (IsFit dictionary) list → All (IsFit dictionary) (d ∷ list)
+one_more : (dictionary : Entries) (d : Sent) (list : List Sent) → IsFit dictionary d → All (IsFit dictionary) list → All (IsFit dictionary) (d ∷ list)
 one_more dictionary d list first more zero x low = first
 one_more dictionary d list first more (suc k) x low = more k x (omega arith)
 
-fits_each : (dictionary : Entries) (list : List Deposit) (files : List CheckedFile) → AllZip (IsFileOf dictionary) list files → All (IsFit dictionary) list
+fits_each : (dictionary : Entries) (list : List Sent) (files : List CheckedFile) → AllZip (IsFileOf dictionary) list files → All (IsFit dictionary) list
 fits_each dictionary [] [] h = λ k x low. absurd (omega arith)
 fits_each dictionary [] (file ∷ files) h = absurd h
 fits_each dictionary (d ∷ list) [] h = absurd h
@@ -44,7 +44,7 @@ fit_at {s} {dictionary} {count} h = fit_of dictionary (deposits_in s.committed.t
 
 -- ---- what is committed is a register under this schema
 
-under_schema : (db : Database) (dictionary : Entries) (list : List Deposit) → IsRegister db dictionary list → IsRegister (tables db.trees) dictionary list
+under_schema : (db : Database) (dictionary : Entries) (list : List Sent) → IsRegister db dictionary list → IsRegister (tables db.trees) dictionary list
 under_schema db dictionary list r = record {
   schema = refl;
   sound = subst (λ k. IsSound k db.trees) r.schema r.sound;
@@ -85,7 +85,7 @@ pub settled_of : {s : State} {dictionary : Entries} {count : ℕ} → ∥ KeepsR
 settled_of {s} h = same_database s.committed s.now (schemas_at h) (trees_at h)
 
 pub settled_at : {s : State} {dictionary : Entries} {count : ℕ} → ∥ KeepsRegister s dictionary count ∥₁ → ((db : Trees) → IsTrue s.is_open → s.may_leave db → db ≡ s.committed.trees)
-    → (list : List Deposit) → LeavesList s.may_leave dictionary list → list ≡ deposits_in s.committed.trees
+    → (list : List Sent) → LeavesList s.may_leave dictionary list → list ≡ deposits_in s.committed.trees
 settled_at {s} {dictionary} {count} kept law list left =
     let is_open : IsTrue s.is_open = ∥∥₁_elim kept (Prim.hlevel props) (λ (k : KeepsRegister s dictionary count). k.is_open) in
     sym (read_back left.0 list left.2.deposits) ∙ ap deposits_in (law left.0 is_open left.1)
@@ -99,7 +99,7 @@ unbroken_at {s} {dictionary} {count} kept law left =
     let none : KeepsRegister s dictionary count → ⊥ = λ k. (let same = law left.0 k.is_open left.1 in left.2 (deposits_in s.committed.trees) (subst (λ t. IsRegister (tables t) dictionary (deposits_in s.committed.trees)) (sym same) (settled_register k))) in
     ∥∥₁_elim kept (Prim.hlevel props) none
 
-pub remains_at : (may_leave : Trees → Type 0) (dictionary : Entries) → ∥ ((trees : Trees) × may_leave trees) ∥₁ → (LeavesBroken may_leave dictionary → ⊥) → ((list : List Deposit) → LeavesList may_leave dictionary list → ⊥) → ⊥
+pub remains_at : (may_leave : Trees → Type 0) (dictionary : Entries) → ∥ ((trees : Trees) × may_leave trees) ∥₁ → (LeavesBroken may_leave dictionary → ⊥) → ((list : List Sent) → LeavesList may_leave dictionary list → ⊥) → ⊥
 remains_at may_leave dictionary some whole none =
     let left : (trees : Trees) × may_leave trees → ⊥ = λ p. whole (p.0, p.1, λ list register. none list (p.0, p.1, register)) in
     ∥∥₁_elim some (Prim.hlevel props) left
@@ -115,18 +115,18 @@ keeps_equal {old} {new} {dictionary} {count} k is_open now committed = record {
 pub keeps_same : {old new : State} {dictionary : Entries} {count : ℕ} → ∥ KeepsRegister old dictionary count ∥₁ → IsTrue new.is_open → new.now ≡ old.now → new.committed ≡ old.committed → ∥ KeepsRegister new dictionary count ∥₁
 keeps_same {old} {new} {dictionary} {count} h is_open now committed = ∥∥₁_map h (λ (k : KeepsRegister old dictionary count). keeps_equal {old = old} {new = new} {dictionary = dictionary} {count = count} k is_open now committed)
 
-list_set : (a b : List Deposit) → IsProp (a ≡ b)
+list_set : (a b : List Sent) → IsProp (a ≡ b)
 list_set a b = Prim.hlevel props
 
 pub counted_at : {s : State} {dictionary : Entries} {count : ℕ} → ∥ KeepsRegister s dictionary count ∥₁ → count ≡ length (deposits_in s.committed.trees)
 counted_at {s} {dictionary} {count} h = ∥∥₁_elim h (Prim.hlevel props) (λ (k : KeepsRegister s dictionary count). k.counted)
 
 -- all that a deposit which was added makes of the keep
-pub record HoldsMore (old new : State) (dictionary : Entries) (count : ℕ) (d : Deposit) : Type 0 where
+pub record HoldsMore (old new : State) (dictionary : Entries) (count : ℕ) (d : Sent) : Type 0 where
   pub kept : ∥ KeepsRegister new dictionary (count + 1) ∥₁
   pub list : deposits_in new.committed.trees ≡ deposits_in old.committed.trees ++ d ∷ []
 
-pub adds_at : {old new : State} {dictionary : Entries} {count : ℕ} (d : Deposit) (file : CheckedFile) → ∥ KeepsRegister old dictionary count ∥₁ → count < 999999
+pub adds_at : {old new : State} {dictionary : Entries} {count : ℕ} (d : Sent) (file : CheckedFile) → ∥ KeepsRegister old dictionary count ∥₁ → count < 999999
     → AddsFile (count + 1) d (kept_rows file.groups) file.graph.steps old.now new.now → IsDatabase new.now → new.committed ≡ new.now → IsTrue new.is_open → IsReady dictionary (deposits_in old.committed.trees) d file
     → HoldsMore old new dictionary count d
 adds_at {old} {new} {dictionary} {count} d file h low put sound settled is_open ready =
@@ -137,10 +137,10 @@ adds_at {old} {new} {dictionary} {count} d file h low put sound settled is_open 
     }
 
 -- what a crash within the adding may leave beside what was there: the database with the deposit
-abbrev pub PutsOf : State → ℕ → Deposit → List KeptRow → List (ℕ × ℕ) → Trees → Type 0
+abbrev pub PutsOf : State → ℕ → Sent → List KeptRow → List (ℕ × ℕ) → Trees → Type 0
 PutsOf old n d rows steps trees = (db : Database) × AddsFile n d rows steps old.now db × IsDatabase db × (trees ≡ db.trees)
 
-after_put : {old : State} {dictionary : Entries} {count : ℕ} (d : Deposit) (rows : List KeptRow) (steps : List (ℕ × ℕ)) (db : Database) (trees : Trees) (list : List Deposit) → KeepsRegister old dictionary count
+after_put : {old : State} {dictionary : Entries} {count : ℕ} (d : Sent) (rows : List KeptRow) (steps : List (ℕ × ℕ)) (db : Database) (trees : Trees) (list : List Sent) → KeepsRegister old dictionary count
     → AddsFile (count + 1) d rows steps old.now db → trees ≡ db.trees → IsPermutation (deposit_rows 1 list) (deposit_table trees)
     → list ≡ deposits_in old.committed.trees ++ d ∷ []
 after_put {old} {dictionary} {count} d rows steps db trees list k put same are =
@@ -152,8 +152,8 @@ after_put {old} {dictionary} {count} d rows steps db trees list k put same are =
     sym (read_back trees list are) ∙ read_back trees (L ++ d ∷ []) there
 
 -- a crash leaves the list from before, or with the new deposit
-pub crash_at : {old new : State} {dictionary : Entries} {count : ℕ} (d : Deposit) (rows : List KeptRow) (steps : List (ℕ × ℕ)) → ∥ KeepsRegister old dictionary count ∥₁ → Survives old new (PutsOf old (count + 1) d rows steps) → HasCleanDisk new
-    → (list : List Deposit) → LeavesList new.may_leave dictionary list → LeavesList old.may_leave dictionary list ⊎ (list ≡ deposits_in old.committed.trees ++ d ∷ [])
+pub crash_at : {old new : State} {dictionary : Entries} {count : ℕ} (d : Sent) (rows : List KeptRow) (steps : List (ℕ × ℕ)) → ∥ KeepsRegister old dictionary count ∥₁ → Survives old new (PutsOf old (count + 1) d rows steps) → HasCleanDisk new
+    → (list : List Sent) → LeavesList new.may_leave dictionary list → LeavesList old.may_leave dictionary list ⊎ (list ≡ deposits_in old.committed.trees ++ d ∷ [])
 crash_at {old} {new} {dictionary} {count} d rows steps h survives clean list left = go (survives.crash clean left.0 left.1)
   where
     go : old.may_leave left.0 ⊎ PutsOf old (count + 1) d rows steps left.0 → LeavesList old.may_leave dictionary list ⊎ (list ≡ deposits_in old.committed.trees ++ d ∷ [])
@@ -161,7 +161,7 @@ crash_at {old} {new} {dictionary} {count} d rows steps h survives clean list lef
     go (inr put) = inr (∥∥₁_elim h (list_set _ _) (λ (k : KeepsRegister old dictionary count). after_put {old = old} {dictionary = dictionary} {count = count} d rows steps put.0 left.0 list k put.1 put.3 left.2.deposits))
 
 -- and it leaves a register: that from before, or with the new deposit, whole with its rows and steps
-pub whole_put : {old new : State} {dictionary : Entries} {count : ℕ} (d : Deposit) (file : CheckedFile) → ∥ KeepsRegister old dictionary count ∥₁ → count < 999999 → Survives old new (PutsOf old (count + 1) d (kept_rows file.groups) file.graph.steps)
+pub whole_put : {old new : State} {dictionary : Entries} {count : ℕ} (d : Sent) (file : CheckedFile) → ∥ KeepsRegister old dictionary count ∥₁ → count < 999999 → Survives old new (PutsOf old (count + 1) d (kept_rows file.groups) file.graph.steps)
     → IsReady dictionary (deposits_in old.committed.trees) d file → HasCleanDisk new → LeavesBroken new.may_leave dictionary → LeavesBroken old.may_leave dictionary
 whole_put {old} {new} {dictionary} {count} d file h low survives ready clean left = go (survives.crash clean left.0 left.1)
   where
@@ -188,7 +188,7 @@ keeps_quiet old new kept quiet clean well =
     let same = quiet.same clean well in
     keeps_same {old = old} {new = new} (kept (clean_before old new quiet.survives clean)) (still_open {s = old} (kept (clean_before old new quiet.survives clean)) (quiet.is_open clean well)) same.0 same.1
 
-pub crash_same : (old new : State) {dictionary : Entries} → Survives old new (λ _. ⊥) → HasCleanDisk new → (list : List Deposit) → LeavesList new.may_leave dictionary list → LeavesList old.may_leave dictionary list
+pub crash_same : (old new : State) {dictionary : Entries} → Survives old new (λ _. ⊥) → HasCleanDisk new → (list : List Sent) → LeavesList new.may_leave dictionary list → LeavesList old.may_leave dictionary list
 crash_same old new survives clean list left = elim (survives.crash clean left.0 left.1) [ inl may ↦ (left.0, may, left.2) | inr none ↦ absurd none ]
 
 pub whole_same : (old new : State) {dictionary : Entries} → Survives old new (λ _. ⊥) → HasCleanDisk new → LeavesBroken new.may_leave dictionary → LeavesBroken old.may_leave dictionary
@@ -198,16 +198,16 @@ pub few_at : {s : State} {dictionary : Entries} {count : ℕ} → ∥ KeepsRegis
 few_at {s} {dictionary} {count} h = (∥∥₁_elim h (Prim.hlevel props) (λ (k : KeepsRegister s dictionary count). k.register.few), omega arith)
 
 -- a register that was found is kept
-pub adopted_keeps : (old new : State) (dictionary : Entries) (count : ℕ) → IsTrue new.is_open → new.now ≡ old.now → new.committed ≡ new.now → ∥ ((list : List Deposit) × IsRegister old.now dictionary list × (length list ≡ count)) ∥₁ → ∥ KeepsRegister new dictionary count ∥₁
+pub adopted_keeps : (old new : State) (dictionary : Entries) (count : ℕ) → IsTrue new.is_open → new.now ≡ old.now → new.committed ≡ new.now → ∥ ((list : List Sent) × IsRegister old.now dictionary list × (length list ≡ count)) ∥₁ → ∥ KeepsRegister new dictionary count ∥₁
 adopted_keeps old new dictionary count is_open same settled found = ∥∥₁_map found keep
   where
-    keep : (list : List Deposit) × IsRegister old.now dictionary list × (length list ≡ count) → KeepsRegister new dictionary count
+    keep : (list : List Sent) × IsRegister old.now dictionary list × (length list ≡ count) → KeepsRegister new dictionary count
     keep p =
         let there : IsRegister new.now dictionary p.0 = subst (λ (db : Database). IsRegister db dictionary p.0) (sym same) p.1 in
         let read : deposits_in new.committed.trees ≡ p.0 = ap (λ (db : Database). deposits_in db.trees) settled ∙ read_back new.now.trees p.0 there.deposits in
         record { is_open = is_open; settled = settled; register = subst (IsRegister new.now dictionary) (sym read) there; counted = sym p.2 ∙ ap length (sym read) }
 
-pub adopted_list : (old new : State) (dictionary : Entries) (count : ℕ) → new.now ≡ old.now → new.committed ≡ new.now → ∥ ((list : List Deposit) × IsRegister old.now dictionary list × (length list ≡ count)) ∥₁ → ∥ IsRegister old.now dictionary (deposits_in new.committed.trees) ∥₁
-adopted_list old new dictionary count same settled found = ∥∥₁_map found (λ (p : (list : List Deposit) × IsRegister old.now dictionary list × (length list ≡ count)).
+pub adopted_list : (old new : State) (dictionary : Entries) (count : ℕ) → new.now ≡ old.now → new.committed ≡ new.now → ∥ ((list : List Sent) × IsRegister old.now dictionary list × (length list ≡ count)) ∥₁ → ∥ IsRegister old.now dictionary (deposits_in new.committed.trees) ∥₁
+adopted_list old new dictionary count same settled found = ∥∥₁_map found (λ (p : (list : List Sent) × IsRegister old.now dictionary list × (length list ≡ count)).
     (let read : deposits_in new.committed.trees ≡ p.0 = ap (λ (db : Database). deposits_in db.trees) (settled ∙ same) ∙ read_back old.now.trees p.0 p.1.deposits in
     let register : IsRegister old.now dictionary (deposits_in new.committed.trees) = subst (IsRegister old.now dictionary) (sym read) p.1 in register))

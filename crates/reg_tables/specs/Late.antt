@@ -26,7 +26,7 @@ use Rattle.sqlite_tied.specs.Compute.{everything}
 use Rattle.sqlite.specs.Listing.{understood}
 use Rattle.sqlite.specs.State.{State, mode_of, Executes}
 use Rattle.sqlite.proofs.Callers.{IsPlain, command_of, statement_of, runs_as, one_step, one_permutation}
-use Rattle.reg_store.specs.Deposit.{Deposit}
+use Rattle.reg_store.specs.Sent.{Sent}
 use Rattle.reg_tables.specs.Tables.{deposits, register_schema}
 use Rattle.reg_tables.specs.Meaning.{query}
 use Rattle.reg_tables.specs.Rows.{deposit_columns, deposit_table, deposit_row, given_deposit, IsMore}
@@ -55,11 +55,11 @@ unfolding understood everything
 set_body_plain = (refl, refl)
 
 -- the deposit before its body is set
-abbrev pub bare : Deposit → Deposit
+abbrev pub bare : Sent → Sent
 bare d = record { firm = d.firm; project = d.project; embargo = d.embargo; bytes = [] }
 
 -- the deposit of the number has the body of d, and all else is as it was
-pub record SetsBody (n : ℕ) (d : Deposit) (old new : Database) : Type 0 where
+pub record SetsBody (n : ℕ) (d : Sent) (old new : Database) : Type 0 where
   pub schema : new.schema ≡ register_schema
   pub meta : new.trees 0 ≡ old.trees 0
   pub deposits : IsPermutation (filter (λ c. not (has_number n c)) (deposit_table old.trees) ++ given_deposit n d ∷ []) (deposit_table new.trees)
@@ -67,26 +67,26 @@ pub record SetsBody (n : ℕ) (d : Deposit) (old new : Database) : Type 0 where
   pub steps : new.trees 5 ≡ old.trees 5
 
 -- one row has the number: that of the deposit without its body
-abbrev pub IsBare : ℕ → Deposit → Database → Type 0
+abbrev pub IsBare : ℕ → Sent → Database → Type 0
 IsBare n d db = filter (has_number n) (deposit_table db.trees) ≡ given_deposit n (bare d) ∷ []
 
-abbrev pub body_params : ℕ → Deposit → Row
+abbrev pub body_params : ℕ → Sent → Row
 body_params n d = Int (pos n) ∷ Bytes d.bytes ∷ []
 
 -- the row as the update shows it, by the columns
-abbrev changed : Deposit → Row → Row
+abbrev changed : Sent → Row → Row
 changed d c = column c 0 ∷ column c 0 ∷ Null ∷ column c 1 ∷ column c 2 ∷ column c 3 ∷ Bytes d.bytes ∷ []
 
-abbrev test_bare : ℕ → Deposit → Row → Bool
+abbrev test_bare : ℕ → Sent → Row → Bool
 test_bare n d = passes of_number (body_params n d)
 
-abbrev show_bare : ℕ → Deposit → Row → Output
+abbrev show_bare : ℕ → Sent → Row → Output
 show_bare n d = shown_of 2 of_number with_body [] (body_params n d)
 
-test_bare_is : (n : ℕ) (d : Deposit) (r : Row) → test_bare n d r ≡ has_number n (deposit_columns r)
+test_bare_is : (n : ℕ) (d : Sent) (r : Row) → test_bare n d r ≡ has_number n (deposit_columns r)
 test_bare_is n d r = and_true _ ∙ eq_int (column r 0) n
 
-bare_selected : (n : ℕ) (d : Deposit) (rows : List Row) → map (λ (o : Output). o.1) (map (show_bare n d) (filter (test_bare n d) rows)) ≡ map (changed d) (filter (has_number n) (map deposit_columns rows))
+bare_selected : (n : ℕ) (d : Sent) (rows : List Row) → map (λ (o : Output). o.1) (map (show_bare n d) (filter (test_bare n d) rows)) ≡ map (changed d) (filter (has_number n) (map deposit_columns rows))
 bare_selected n d [] = refl
 bare_selected n d (r ∷ rows) = rw (test_bare_is n d r) (go (has_number n (deposit_columns r)) (bare_selected n d rows))
   where
@@ -96,10 +96,10 @@ bare_selected n d (r ∷ rows) = rw (test_bare_is n d r) (go (has_number n (depo
     go false h = h
 
 -- the row that the update writes, behind its rowid
-abbrev source : ℕ → Deposit → Row
+abbrev source : ℕ → Sent → Row
 source n d = Int (pos n) ∷ deposit_row n d
 
-pub sets_body : (old new : State) (n : ℕ) (d : Deposit) (count : ℕ) → old.now.schema ≡ register_schema → IsBare n d old.now → Executes set_body (body_params n d) old new (Ok count) → SetsBody n d old.now new.now
+pub sets_body : (old new : State) (n : ℕ) (d : Sent) (count : ℕ) → old.now.schema ≡ register_schema → IsBare n d old.now → Executes set_body (body_params n d) old new (Ok count) → SetsBody n d old.now new.now
 sets_body old new n d count has is_bare h =
     let params = body_params n d in
     let db = old.now.trees in
@@ -133,7 +133,7 @@ sets_body old new n d count has is_bare h =
     }
 
 -- what the update leaves is a database
-pub body_sound : (old new : State) (n : ℕ) (d : Deposit) (count : ℕ) → old.now.schema ≡ register_schema → Executes set_body (body_params n d) old new (Ok count) → IsDatabase new.now
+pub body_sound : (old new : State) (n : ℕ) (d : Sent) (count : ℕ) → old.now.schema ≡ register_schema → Executes set_body (body_params n d) old new (Ok count) → IsDatabase new.now
 body_sound old new n d count has h =
     let program : Program = record { lets = []; body = query (inner 2 end) of_number with_body [] } in
     let w = runs_as set_body (body_params n d) old new register_schema has (Update 1 program) set_body_is set_body_plain count h in
@@ -141,7 +141,7 @@ body_sound old new n d count has h =
 
 -- ---- after the insert of the deposit without its body
 
-module _ (n : ℕ) (d : Deposit) (a b : Database) (put : AddsDeposit n (bare d) a b) (now : Database) (same : now.trees 2 ≡ b.trees 2) where
+module _ (n : ℕ) (d : Sent) (a b : Database) (put : AddsDeposit n (bare d) a b) (now : Database) (same : now.trees 2 ≡ b.trees 2) where
   there : IsPermutation (deposit_table a.trees ++ given_deposit n (bare d) ∷ []) (deposit_table now.trees)
   there = subst (λ (rows : List Row). IsPermutation (deposit_table a.trees ++ given_deposit n (bare d) ∷ []) (map deposit_columns rows)) (sym same) put.deposits
 

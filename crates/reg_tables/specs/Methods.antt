@@ -16,7 +16,7 @@ use Rattle.reg_store.specs.declared.keep.Kept.{Kept}
 use Rattle.reg_store.specs.declared.keep.KeptRow.{KeptRow}
 use Rattle.reg_store.specs.declared.keep.KeepError.{KeepError}
 use Rattle.reg_store.specs.Keep.{deposit_of}
-use Rattle.reg_store.specs.Deposit.{Deposit}
+use Rattle.reg_store.specs.Sent.{Sent}
 use Rattle.reg_tables.specs.Rows.{deposit_table, given_deposit, line_table, step_table, placed_rows, rows_under, step_pair}
 use Rattle.reg_store.specs.Fit.{IsFileOf, kept_rows}
 use Rattle.reg_tables.specs.Register.{deposits_in, has_number, integer_in, file_lines, file_steps, KeepsRegister}
@@ -29,11 +29,11 @@ use Rattle.ags_links.specs.DataRows.{data_rows}
 use Rattle.ags_links.specs.Walks.{Wiring}
 
 -- a row of deposits, by its columns alone
-abbrev of_row : Row → Deposit
+abbrev of_row : Row → Sent
 of_row c = record { firm = bytes (column c 1); project = bytes (column c 2); embargo = integer_in (column c 3); bytes = bytes (column c 4) }
 
 -- one row is that of one deposit
-pub same_deposit : (n : ℕ) (a b : Deposit) (rows : List Row) → rows ≡ given_deposit n a ∷ [] → rows ≡ given_deposit n b ∷ [] → a ≡ b
+pub same_deposit : (n : ℕ) (a b : Sent) (rows : List Row) → rows ≡ given_deposit n a ∷ [] → rows ≡ given_deposit n b ∷ [] → a ≡ b
 same_deposit n a b rows x y = ap (λ (all : List Row). of_row (get_or all 0 [])) (sym x ∙ y)
 
 pub slice_get_in : {X : Type 0} (xs : List X) (k : ℕ) → k < length xs → (x : X) × (slice_get xs k ≡ Some x)
@@ -71,7 +71,7 @@ zip_at R (a ∷ xs) (b ∷ ys) zero x h at = let same : a ≡ x = cc in (b, refl
 zip_at R (a ∷ xs) (b ∷ ys) (suc k) x h at = zip_at R xs ys k x h.1 at
 
 -- the file that the register holds of a deposit, whose groups and graph are those of any other file of it
-pub held_file : {s : State} {dictionary : Entries} {count : ℕ} (n : ℕ) (d : Deposit) (k : KeepsRegister s dictionary count) → 0 < n → slice_get (deposits_in s.committed.trees) (n - 1) ≡ Some d
+pub held_file : {s : State} {dictionary : Entries} {count : ℕ} (n : ℕ) (d : Sent) (k : KeepsRegister s dictionary count) → 0 < n → slice_get (deposits_in s.committed.trees) (n - 1) ≡ Some d
     → (file : CheckedFile) × IsFileOf dictionary d file × IsPermutation (placed_rows 0 (kept_rows file.groups)) (rows_under n (line_table s.now.trees)) × IsPermutation (map step_pair file.graph.steps) (rows_under n (step_table s.now.trees))
 held_file {s} {dictionary} n d k low at =
     let it = zip_at (IsFileOf dictionary) (deposits_in s.committed.trees) k.register.files (n - 1) d k.register.each at in
@@ -80,12 +80,12 @@ held_file {s} {dictionary} n d k low at =
     let steps = subst₂ (λ o (m : ℕ). IsPermutation (file_steps o) (rows_under m (step_table s.now.trees))) it.1 e (k.register.steps (n - 1)) in
     (it.0, it.2, lines, steps)
 
-pub same_file : (dictionary : Entries) (d : Deposit) (a b : CheckedFile) → IsFileOf dictionary d a → IsFileOf dictionary d b → (a.groups ≡ b.groups) × (a.graph ≡ b.graph)
+pub same_file : (dictionary : Entries) (d : Sent) (a b : CheckedFile) → IsFileOf dictionary d a → IsFileOf dictionary d b → (a.groups ≡ b.groups) × (a.graph ≡ b.graph)
 same_file dictionary d a b x y = let one : a ≡ b = one_clean_file a b x.clean y.clean (x.given ∙ sym y.given) (x.bytes ∙ sym y.bytes) in (ap (λ (f : CheckedFile). f.groups) one, ap (λ (f : CheckedFile). f.graph) one)
 
 pub rows_at : {X : Type 0} (items : X → List KeptRow) {s : State} {dictionary : Entries} {count : ℕ} (n : ℕ) (r : Result X KeepError) → 0 < n → ∥ KeepsRegister s dictionary count ∥₁
     → IfOk r (λ x. (rows : List KeptRow) → IsPermutation (placed_rows 0 rows) (rows_under n (line_table s.now.trees)) → items x ≡ rows)
-    → IfOk r (λ x. (d : Deposit) (file : CheckedFile) → slice_get (deposits_in s.committed.trees) (n - 1) ≡ Some d → IsFileOf dictionary d file → items x ≡ kept_rows file.groups)
+    → IfOk r (λ x. (d : Sent) (file : CheckedFile) → slice_get (deposits_in s.committed.trees) (n - 1) ≡ Some d → IsFileOf dictionary d file → items x ≡ kept_rows file.groups)
 rows_at items {s} {dictionary} {count} n (Ok x) low h ok = λ d file at its.
     let read : (k : KeepsRegister s dictionary count) → items x ≡ kept_rows file.groups = λ k.
     (let held = held_file n d k low at in ok (kept_rows held.0.groups) held.2 ∙ ap kept_rows (same_file dictionary d held.0 file held.1 its).0) in
@@ -116,7 +116,7 @@ wiring_set a b = Prim.hlevel props
 
 pub graph_at : {s : State} {dictionary : Entries} {count : ℕ} (n : ℕ) (r : Result Wiring KeepError) → 0 < n → ∥ KeepsRegister s dictionary count ∥₁
     → IfOk r (λ graph. HasRows n (line_table s.now.trees) graph.rows) → IfOk r (λ graph. HasSteps n (step_table s.now.trees) graph.steps)
-    → IfOk r (λ graph. (d : Deposit) (file : CheckedFile) → slice_get (deposits_in s.committed.trees) (n - 1) ≡ Some d → IsFileOf dictionary d file → graph ≡ file.graph)
+    → IfOk r (λ graph. (d : Sent) (file : CheckedFile) → slice_get (deposits_in s.committed.trees) (n - 1) ≡ Some d → IsFileOf dictionary d file → graph ≡ file.graph)
 graph_at {s} {dictionary} {count} n (Ok graph) low h rows steps = λ d file at its.
     let read : (k : KeepsRegister s dictionary count) → graph ≡ file.graph = λ k.
     (let held = held_file n d k low at in

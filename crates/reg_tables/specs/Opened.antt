@@ -8,7 +8,7 @@ use Rattle.sqlite.specs.State.{State, HasCleanDisk}
 use Rattle.sqlite.specs.Files.{AreFoundIn, HoldsDatabase}
 use Rattle.ags_dict.specs.Entries.{Entries}
 use Rattle.reg_tables.specs.declared.adopting.AdoptError.{AdoptError}
-use Rattle.reg_store.specs.Deposit.{Deposit}
+use Rattle.reg_store.specs.Sent.{Sent}
 use Rattle.reg_tables.specs.Tables.{no_schema}
 use Rattle.reg_tables.specs.Register.{IsRegister, deposits_in}
 use Rattle.reg_tables.specs.Adoption.{Adopts}
@@ -19,7 +19,7 @@ pub record FindsTables (image : Image) (trees : Trees) : Type 0 where
   pub only : (held : Trees) → HoldsDatabase image held → trees ≡ held
 
 -- An open finds a register of this list.
-pub record HoldsRegister (image : Image) (dictionary : Entries) (list : List Deposit) : Type 0 where
+pub record HoldsRegister (image : Image) (dictionary : Entries) (list : List Sent) : Type 0 where
   pub db : Database
   pub found : FindsTables image db.trees
   pub register : IsRegister db dictionary list

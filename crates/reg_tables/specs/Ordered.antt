@@ -15,7 +15,7 @@ use Rattle.sqlite_value.proofs.OrderLemmas.{value_cmp-Text}
 use Rattle.sqlite_sql.proofs.QueryLemmas.{key_cmp_total}
 use Rattle.sqlite_keyed.proofs.SortLemmas.{sorted_unique}
 use Rattle.reg_store.specs.declared.keep.KeepError.{KeepError}
-use Rattle.reg_store.specs.Deposit.{Deposit}
+use Rattle.reg_store.specs.Sent.{Sent}
 use Rattle.reg_tables.specs.Tables.{register_schema}
 use Rattle.reg_tables.specs.Texts.{select_all_numbers, select_meta}
 use Rattle.reg_tables.specs.Meaning.{all_numbers, all_numbers_read, all_meta, all_meta_read}
@@ -41,7 +41,7 @@ abbrev number_entries : ℕ → ℕ → List Output
 number_entries n zero = []
 number_entries n (suc count) = number_entry n ∷ number_entries (n + 1) count
 
-numbers_are_entries : (n : ℕ) (list : List Deposit) → map by_id (deposit_rows n list) ≡ number_entries n (length list)
+numbers_are_entries : (n : ℕ) (list : List Sent) → map by_id (deposit_rows n list) ≡ number_entries n (length list)
 numbers_are_entries n [] = refl
 numbers_are_entries n (d ∷ list) = ap (λ all. number_entry n ∷ all) (numbers_are_entries (n + 1) list)
 
@@ -60,7 +60,7 @@ numbers_rise : (n count : ℕ) → IsAscending (λ a b. output_cmp all_numbers a
 numbers_rise n zero = tt
 numbers_rise n (suc count) = (number_below_all n (n + 1) count (omega arith), numbers_rise (n + 1) count)
 
-pub shows_all_numbers : (old new : State) (list : List Deposit) (rows : List Row) → old.now.schema ≡ register_schema → IsPermutation (deposit_rows 1 list) (deposit_table old.now.trees) → Shown select_all_numbers [] old new rows
+pub shows_all_numbers : (old new : State) (list : List Sent) (rows : List Row) → old.now.schema ≡ register_schema → IsPermutation (deposit_rows 1 list) (deposit_table old.now.trees) → Shown select_all_numbers [] old new rows
     → rows ≡ number_rows 1 (length list)
 shows_all_numbers old new list rows has are h =
     let a = answers select_all_numbers 2 [] all_numbers.project all_numbers.order _ all_numbers_read old new [] rows refl has h in
@@ -76,7 +76,7 @@ numbers_by items old new (Ok x) has h = shows_numbers old new (items x) has h
 numbers_by items old new (Err e) has h = tt
 
 pub numbers_found_by : {X : Type 0} (items : X → List Row) (old new : State) (r : Result X KeepError) → old.now.schema ≡ register_schema → IfOk r (λ x. Shown select_all_numbers [] old new (items x))
-    → IfOk r (λ x. (list : List Deposit) → IsPermutation (deposit_rows 1 list) (deposit_table old.now.trees) → items x ≡ number_rows 1 (length list))
+    → IfOk r (λ x. (list : List Sent) → IsPermutation (deposit_rows 1 list) (deposit_table old.now.trees) → items x ≡ number_rows 1 (length list))
 numbers_found_by items old new (Ok x) has h = λ list are. shows_all_numbers old new list (items x) has are h
 numbers_found_by items old new (Err e) has h = tt
 

@@ -15,19 +15,19 @@ use Rattle.sqlite.specs.declared.types.Value.TheVariants.{Int}
 use Rattle.sqlite.specs.Order.{Row, value_cmp}
 use Rattle.ags_check.specs.Findings.{CheckedFile}
 use Rattle.reg_store.specs.declared.keep.KeptRow.{KeptRow}
-use Rattle.reg_store.specs.Deposit.{Deposit}
+use Rattle.reg_store.specs.Sent.{Sent}
 use Rattle.reg_tables.specs.Rows.{given_deposit, is_of, rows_under, placed_row, placed_rows, line_rows, step_pair, step_rows, IsMore}
 use Rattle.reg_tables.specs.Register.{deposit_rows}
 
 -- ---- the deposits
 
-pub rows-push : (n : ℕ) (list : List Deposit) (d : Deposit) → deposit_rows n (list ++ d ∷ []) ≡ deposit_rows n list ++ given_deposit (n + length list) d ∷ []
+pub rows-push : (n : ℕ) (list : List Sent) (d : Sent) → deposit_rows n (list ++ d ∷ []) ≡ deposit_rows n list ++ given_deposit (n + length list) d ∷ []
 rows-push n [] d = let e : n + 0 ≡ n = omega arith in rw e refl
 rows-push n (x ∷ list) d =
     let e : (n + 1) + length list ≡ n + suc (length list) = omega arith in
     ap (λ more. given_deposit n x ∷ more) (rows-push (n + 1) list d ∙ ap (λ k. deposit_rows (n + 1) list ++ given_deposit k d ∷ []) e)
 
-pub deposits_push : (list : List Deposit) (d : Deposit) (old new : List Row) → IsPermutation (deposit_rows 1 list) old → IsMore old (given_deposit (1 + length list) d ∷ []) new → IsPermutation (deposit_rows 1 (list ++ d ∷ [])) new
+pub deposits_push : (list : List Sent) (d : Sent) (old new : List Row) → IsPermutation (deposit_rows 1 list) old → IsMore old (given_deposit (1 + length list) d ∷ []) new → IsPermutation (deposit_rows 1 (list ++ d ∷ [])) new
 deposits_push list d old new was more =
     subst (λ rows. IsPermutation rows new) (sym (rows-push 1 list d)) (IsPermutation-trans _ _ _ (IsPermutation-append_left (given_deposit (1 + length list) d ∷ []) _ _ was) more)
 

@@ -10,7 +10,7 @@ use Rattle.reg_tables.specs.declared.recent.Recent.{Recent}
 use Rattle.reg_tables.specs.declared.recent.RecentDeposit.{RecentDeposit}
 use Rattle.reg_tables.specs.declared.recent.RecentGraph.{RecentGraph}
 use Rattle.reg_tables.specs.declared.recent.RecentRows.{RecentRows}
-use Rattle.reg_store.specs.Deposit.{number_of}
+use Rattle.reg_store.specs.Sent.{number_of}
 use Rattle.reg_tables.specs.Methods.{HasRows, HasSteps}
 use Rattle.reg_tables.specs.Register.{deposits_in}
 use Rattle.reg_tables.specs.Rows.{line_table, placed_rows, rows_under, step_table}

@@ -13,7 +13,7 @@ use Rattle.ags_rows.specs.declared.TheConstants.{READABLE}
 use Rattle.ags_dict.specs.Entries.{Entries}
 use Rattle.ags_dict.specs.Reading.{IsDictionary}
 use Rattle.ags_check.specs.Findings.{CheckedFile}
-use Rattle.reg_store.specs.Deposit.{Deposit}
+use Rattle.reg_store.specs.Sent.{Sent}
 use Rattle.reg_tables.specs.Tables.{register_schema}
 use Rattle.reg_tables.specs.Rows.{columns_3, deposit_table, line_table, step_table, placed_rows, step_pair, rows_under}
 use Rattle.reg_store.specs.Fit.{IsFileOf, IsNamed, kept_rows}
@@ -22,7 +22,7 @@ use Rattle.reg_store.specs.Apart.{AreApart}
 -- ---- the deposits
 
 -- the deposits as rows, numbered from n
-abbrev pub deposit_rows : ℕ → List Deposit → List Row
+abbrev pub deposit_rows : ℕ → List Sent → List Row
 deposit_rows n [] = []
 deposit_rows n (d ∷ more) = (Int (pos n) ∷ Words d.firm ∷ Words d.project ∷ Int d.embargo ∷ Bytes d.bytes ∷ []) ∷ deposit_rows (n + 1) more
 
@@ -31,7 +31,7 @@ abbrev pub integer_in : Value → ℤ
 integer_in (Int n) = n
 integer_in _ = pos 0
 
-abbrev pub deposit_in : Row → Deposit
+abbrev pub deposit_in : Row → Sent
 deposit_in r = record { firm = bytes (column r 2); project = bytes (column r 3); embargo = integer_in (column r 4); bytes = bytes (column r 5) }
 
 -- the row has the number
@@ -39,16 +39,16 @@ abbrev pub has_number : ℕ → Row → Bool
 has_number n r = is_eq (value_cmp (column r 0) (Int (pos n)))
 
 -- the deposit of a number
-abbrev pub deposit_at : List Row → ℕ → Deposit
+abbrev pub deposit_at : List Row → ℕ → Sent
 deposit_at rows n = deposit_in (unwrap_or (find (has_number n) rows) [])
 
 -- so many deposits, from a number on
-abbrev pub deposits_from : List Row → ℕ → ℕ → List Deposit
+abbrev pub deposits_from : List Row → ℕ → ℕ → List Sent
 deposits_from rows n zero = []
 deposits_from rows n (suc count) = deposit_at rows n ∷ deposits_from rows (n + 1) count
 
 -- what the table `deposits` says: as many deposits as it has rows, by their numbers from 1
-unfoldable pub deposits_in : Trees → List Deposit
+unfoldable pub deposits_in : Trees → List Sent
 deposits_in trees = deposits_from (trees 2) 1 (length (trees 2))
 
 -- ---- the rows and steps of a deposit, where there is one
@@ -67,7 +67,7 @@ meta_columns text = (Words (codes "dictionary") ∷ Int (pos 0) ∷ Bytes text �
 
 -- The tables are a register of this list, under the dictionary that they hold. Rows are compared by their columns, in whatever order they stand;
 -- of the rowids only the number of a deposit counts.
-pub record IsRegister (db : Database) (dictionary : Entries) (list : List Deposit) : Type 0 where
+pub record IsRegister (db : Database) (dictionary : Entries) (list : List Sent) : Type 0 where
   pub schema : db.schema ≡ register_schema
   pub sound : IsDatabase db
   pub text : List ℕ
@@ -88,12 +88,12 @@ abbrev pub tables : Trees → Database
 tables trees = record { schema = register_schema; trees = trees }
 
 -- a crash may leave tables that are a register of this list
-abbrev pub LeavesList : (Trees → Type 0) → Entries → List Deposit → Type 0
+abbrev pub LeavesList : (Trees → Type 0) → Entries → List Sent → Type 0
 LeavesList may_leave dictionary list = (trees : Trees) × may_leave trees × IsRegister (tables trees) dictionary list
 
 -- a crash may leave tables that are a register of no list
 abbrev pub LeavesBroken : (Trees → Type 0) → Entries → Type 0
-LeavesBroken may_leave dictionary = (trees : Trees) × may_leave trees × ((list : List Deposit) → IsRegister (tables trees) dictionary list → ⊥)
+LeavesBroken may_leave dictionary = (trees : Trees) × may_leave trees × ((list : List Sent) → IsRegister (tables trees) dictionary list → ⊥)
 
 -- what a keep that has not failed keeps true of its connection
 pub record KeepsRegister (s : State) (dictionary : Entries) (count : ℕ) : Type 0 where

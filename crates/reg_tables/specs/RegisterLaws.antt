@@ -13,7 +13,7 @@ use Rattle.sqlite.specs.Effect.{Database, IsDatabase}
 use Rattle.sqlite.specs.State.{State}
 use Rattle.ags_dict.specs.Entries.{Entries}
 use Rattle.ags_check.specs.Findings.{CheckedFile}
-use Rattle.reg_store.specs.Deposit.{Deposit, number_of}
+use Rattle.reg_store.specs.Sent.{Sent, number_of}
 use Rattle.reg_tables.specs.Rows.{given_deposit, deposit_columns, deposit_table, IsMore, columns_3, rows_under, line_table, step_table, placed_rows, line_rows, step_pair, step_rows}
 use Rattle.reg_tables.specs.Inserts.{AddsFile}
 use Rattle.reg_store.specs.Fit.{IsFileOf, IsNamed, kept_rows}
@@ -22,26 +22,26 @@ use Rattle.reg_tables.specs.Register.{meta_columns, deposit_rows, integer_in, de
 use Rattle.reg_tables.specs.Pushes.{equal_at, apart_at, deposits_push, own_lines, other_lines, own_steps, other_steps, table_push}
 
 -- a row of deposits, by its columns alone
-abbrev from_columns : Row → Deposit
+abbrev from_columns : Row → Sent
 from_columns c = record { firm = bytes (column c 1); project = bytes (column c 2); embargo = integer_in (column c 3); bytes = bytes (column c 4) }
 
 -- among the rows of a list one has the number of a deposit
-pub none_before : (n m : ℕ) (list : List Deposit) → n < m → filter (has_number n) (deposit_rows m list) ≡ []
+pub none_before : (n m : ℕ) (list : List Sent) → n < m → filter (has_number n) (deposit_rows m list) ≡ []
 none_before n m [] low = refl
 none_before n m (d ∷ list) low = rw (apart_at m n (λ e. absurd (omega (arith, e)))) (none_before n (m + 1) list (omega arith))
 
-one_row : (n m : ℕ) (before : List Deposit) (d : Deposit) (after : List Deposit) → n ≡ m + length before → filter (has_number n) (deposit_rows m (before ++ d ∷ after)) ≡ given_deposit n d ∷ []
+one_row : (n m : ℕ) (before : List Sent) (d : Sent) (after : List Sent) → n ≡ m + length before → filter (has_number n) (deposit_rows m (before ++ d ∷ after)) ≡ given_deposit n d ∷ []
 one_row n m [] d after e =
     let same : n ≡ m = omega (arith, e) in
     subst (λ k. filter (has_number n) (deposit_rows k (d ∷ after)) ≡ given_deposit n d ∷ []) same
     (rw (equal_at n) (ap (λ more. given_deposit n d ∷ more) (none_before n (n + 1) after (omega arith))))
 one_row n m (x ∷ before) d after e = rw (apart_at m n (λ same. absurd (omega (arith, same, e)))) (one_row n (m + 1) before d after (omega (arith, e)))
 
-its_columns : (n : ℕ) (d : Deposit) (rows : List Row) → map deposit_columns rows ≡ given_deposit n d ∷ [] → deposit_in (unwrap_or (slice_get rows 0) []) ≡ d
+its_columns : (n : ℕ) (d : Sent) (rows : List Row) → map deposit_columns rows ≡ given_deposit n d ∷ [] → deposit_in (unwrap_or (slice_get rows 0) []) ≡ d
 its_columns n d [] h = absurd cc
 its_columns n d (r ∷ rows) h = ap (λ (all : List Row). from_columns (get_or all 0 [])) h
 
-reads_one : (before : List Deposit) (d : Deposit) (after : List Deposit) (rows : List Row) → IsPermutation (deposit_rows 1 (before ++ d ∷ after)) (map deposit_columns rows) → deposit_at rows (1 + length before) ≡ d
+reads_one : (before : List Sent) (d : Sent) (after : List Sent) (rows : List Row) → IsPermutation (deposit_rows 1 (before ++ d ∷ after)) (map deposit_columns rows) → deposit_at rows (1 + length before) ≡ d
 reads_one before d after rows h =
     let n = 1 + length before in
     let one : IsPermutation (given_deposit n d ∷ []) (filter (has_number n) (map deposit_columns rows)) =
@@ -49,18 +49,18 @@ reads_one before d after rows h =
     let alone : map deposit_columns (filter (has_number n) rows) ≡ given_deposit n d ∷ [] = sym (filter-map (has_number n) deposit_columns rows) ∙ one_permutation (given_deposit n d) _ one in
     ap (λ o. deposit_in (unwrap_or o [])) (sym (slice_get-filter (has_number n) rows)) ∙ its_columns n d (filter (has_number n) rows) alone
 
-reads_all : (before rest : List Deposit) (rows : List Row) → IsPermutation (deposit_rows 1 (before ++ rest)) (map deposit_columns rows) → deposits_from rows (1 + length before) (length rest) ≡ rest
+reads_all : (before rest : List Sent) (rows : List Row) → IsPermutation (deposit_rows 1 (before ++ rest)) (map deposit_columns rows) → deposits_from rows (1 + length before) (length rest) ≡ rest
 reads_all before [] rows h = refl
 reads_all before (d ∷ rest) rows h =
     let e : (1 + length before) + 1 ≡ 1 + length (before ++ d ∷ []) = omega (arith, length-append before (d ∷ [])) in
     let more = reads_all (before ++ d ∷ []) rest rows (subst (λ list. IsPermutation (deposit_rows 1 list) (map deposit_columns rows)) (sym (append_assoc before (d ∷ []) rest)) h) in
     ap (λ x. x ∷ deposits_from rows ((1 + length before) + 1) (length rest)) (reads_one before d rest rows h) ∙ ap (λ all. d ∷ all) (ap (λ k. deposits_from rows k (length rest)) e ∙ more)
 
-pub rows-length : (n : ℕ) (list : List Deposit) → length (deposit_rows n list) ≡ length list
+pub rows-length : (n : ℕ) (list : List Sent) → length (deposit_rows n list) ≡ length list
 rows-length n [] = refl
 rows-length n (d ∷ list) = ap suc (rows-length (n + 1) list)
 
-pub read_back : (trees : Trees) (list : List Deposit) → IsPermutation (deposit_rows 1 list) (deposit_table trees) → deposits_in trees ≡ list
+pub read_back : (trees : Trees) (list : List Sent) → IsPermutation (deposit_rows 1 list) (deposit_table trees) → deposits_in trees ≡ list
 unfolding deposits_in
 read_back trees list is =
     let long : length (trees 2) ≡ length list = sym (length-map (trees 2) deposit_columns) ∙ length_permutation _ _ is ∙ rows-length 1 list in
@@ -73,12 +73,12 @@ zip_push R (a ∷ xs) [] x y h r = absurd h
 zip_push R (a ∷ xs) (b ∷ ys) x y h r = (h.0, zip_push R xs ys x y h.1 r)
 
 -- what the adding of a deposit needs
-pub record IsReady (dictionary : Entries) (list : List Deposit) (d : Deposit) (file : CheckedFile) : Type 0 where
+pub record IsReady (dictionary : Entries) (list : List Sent) (d : Sent) (file : CheckedFile) : Type 0 where
   pub its : IsFileOf dictionary d file
   pub named : IsNamed d
   pub fresh : number_of d.firm d.project d.bytes list ≡ None
 
-pub register_push : (dictionary : Entries) (old new : Database) (list : List Deposit) (d : Deposit) (file : CheckedFile) (count : ℕ) → IsRegister old dictionary list → count ≡ length list → count < 999999
+pub register_push : (dictionary : Entries) (old new : Database) (list : List Sent) (d : Sent) (file : CheckedFile) (count : ℕ) → IsRegister old dictionary list → count ≡ length list → count < 999999
     → AddsFile (count + 1) d (kept_rows file.groups) file.graph.steps old new → IsDatabase new → IsReady dictionary list d file → IsRegister new dictionary (list ++ d ∷ [])
 register_push dictionary old new list d file count was counted low put sound ready =
     let long : length was.files ≡ length list = AllZip-long (IsFileOf dictionary) list was.files was.each in
@@ -105,11 +105,11 @@ register_push dictionary old new list d file count was counted low put sound rea
           (λ m differ. other_steps m (count + 1) file.graph.steps (λ e. differ (at ∙ e))) put.steps was.steps;
     }
 
-pub record Pushed (dictionary : Entries) (old new : State) (count : ℕ) (d : Deposit) : Type 0 where
+pub record Pushed (dictionary : Entries) (old new : State) (count : ℕ) (d : Sent) : Type 0 where
   pub kept : KeepsRegister new dictionary (count + 1)
   pub list : deposits_in new.committed.trees ≡ deposits_in old.committed.trees ++ d ∷ []
 
-pub keeps_push : (dictionary : Entries) (old new : State) (d : Deposit) (file : CheckedFile) (count : ℕ) → KeepsRegister old dictionary count → count < 999999
+pub keeps_push : (dictionary : Entries) (old new : State) (d : Sent) (file : CheckedFile) (count : ℕ) → KeepsRegister old dictionary count → count < 999999
     → AddsFile (count + 1) d (kept_rows file.groups) file.graph.steps old.now new.now → IsDatabase new.now → new.committed ≡ new.now → IsTrue new.is_open → IsReady dictionary (deposits_in old.committed.trees) d file
     → Pushed dictionary old new count d
 keeps_push dictionary old new d file count was low put sound settled is_open ready =

@@ -10,7 +10,7 @@ use Rattle.ags_rows.specs.declared.TheConstants.{READABLE}
 use Rattle.ags_dict.specs.Entries.{Entries}
 use Rattle.ags_dict.specs.Reading.{IsDictionary}
 use Rattle.ags_check.specs.Findings.{CheckedFile}
-use Rattle.reg_store.specs.Deposit.{Deposit, is_repeat}
+use Rattle.reg_store.specs.Sent.{Sent, is_repeat}
 use Rattle.reg_store.specs.declared.keep.Kept.{Kept}
 use Rattle.reg_store.specs.declared.keep.KeptRow.{KeptRow}
 use Rattle.reg_store.specs.Keep.{deposit_of}
@@ -36,7 +36,7 @@ pub record HoldsFile (db : Database) (n : ℕ) (file : CheckedFile) : Type 0 whe
   pub steps : IsPermutation (map step_pair file.graph.steps) (rows_under n (step_table db.trees))
 
 -- The deposit's bytes have no finding, and the lines and steps of the number are theirs.
-abbrev pub HoldsBody : Database → Entries → ℕ → Deposit → Type 0
+abbrev pub HoldsBody : Database → Entries → ℕ → Sent → Type 0
 HoldsBody db dictionary n d = (file : CheckedFile) × IsFileOf dictionary d file × HoldsFile db n file
 
 -- The lines and steps of a number are these.
@@ -57,7 +57,7 @@ IsWholeKept dictionary n digests kept db = HoldsNew dictionary n (numbers_under 
 
 -- The deposit of a number is whole: its row is the only one, with names and a day; its bytes have no finding; its lines and steps are there; and no deposit of a smaller number is equal.
 pub record IsWhole (db : Database) (dictionary : Entries) (n : ℕ) : Type 0 where
-  pub deposit : Deposit
+  pub deposit : Sent
   pub row : filter (has_number n) (deposit_table db.trees) ≡ given_deposit n deposit ∷ []
   pub named : IsNamed deposit
   pub body : HoldsBody db dictionary n deposit
@@ -66,7 +66,7 @@ pub record IsWhole (db : Database) (dictionary : Entries) (n : ℕ) : Type 0 whe
 -- The numbers of the deposits are those from 1 to the count, which is at most 999,999; or they are not.
 abbrev pub Counts : Database → Option ℕ → Type 0
 Counts db (Some count) = (count ≤ 999999) × IsPermutation (number_rows 1 count) (map id_of (deposit_table db.trees))
-Counts db None = (list : List Deposit) → length list ≤ 999999 → IsPermutation (deposit_rows 1 list) (deposit_table db.trees) → ⊥
+Counts db None = (list : List Sent) → length list ≤ 999999 → IsPermutation (deposit_rows 1 list) (deposit_table db.trees) → ⊥
 
 -- Every deposit is whole.
 abbrev pub AreWhole : Database → Entries → ℕ → Type 0
@@ -81,7 +81,7 @@ pub record HasMeta (db : Database) (dictionary : Entries) : Type 0 where
 
 -- ---- a register has whole deposits
 
-pub whole_at : (db : Database) (dictionary : Entries) (list : List Deposit) → IsRegister db dictionary list → AreWhole db dictionary (length list)
+pub whole_at : (db : Database) (dictionary : Entries) (list : List Sent) → IsRegister db dictionary list → AreWhole db dictionary (length list)
 whole_at db dictionary list r k low =
     let found = slice_get_in list k low in
     let d = found.0 in
@@ -103,10 +103,10 @@ whole_at db dictionary list r k low =
       alone = λ m above below x row.
           (let there = slice_get_in list (m - 1) (omega (arith, above, below, low)) in
           let one : there.0 ≡ x = same_deposit m there.0 x _ (row_of_number m list (deposit_table db.trees) there.0 above r.deposits there.1) row in
-          subst (λ (y : Deposit). is_repeat d.firm d.project d.bytes y ≡ false) one (apart_pair list (m - 1) k d there.0 r.apart (omega (arith, above, below)) there.1 found.1));
+          subst (λ (y : Sent). is_repeat d.firm d.project d.bytes y ≡ false) one (apart_pair list (m - 1) k d there.0 r.apart (omega (arith, above, below)) there.1 found.1));
     }
   where
-    named_at : (list : List Deposit) (k : ℕ) (d : Deposit) → AllByRecursion IsNamed list → slice_get list k ≡ Some d → IsNamed d
+    named_at : (list : List Sent) (k : ℕ) (d : Sent) → AllByRecursion IsNamed list → slice_get list k ≡ Some d → IsNamed d
     named_at [] k d all at = absurd cc
     named_at (x ∷ list) zero d all at = let same : x ≡ d = cc in subst IsNamed same all.0
     named_at (x ∷ list) (suc k) d all at = named_at list k d all.1 at
@@ -147,13 +147,13 @@ of_all P (suc count) each = both (each 0 (omega arith)) (of_all (λ k. P (suc k)
     both : ∥ P 0 ∥₁ → ∥ ((k : ℕ) → k < count → P (suc k)) ∥₁ → ∥ ((k : ℕ) → k < suc count → P k) ∥₁
     both first rest = ∥∥₁_elim first (Prim.hlevel props) (λ one. ∥∥₁_map rest (λ more. join one more))
 
-pub adopts_whole : (db : Database) (dictionary : Entries) (count : ℕ) → db.schema ≡ register_schema → IsDatabase db → HasMeta db dictionary → Counts db (Some count) → AreWhole db dictionary count → (list : List Deposit) × IsRegister db dictionary list × (length list ≡ count)
+pub adopts_whole : (db : Database) (dictionary : Entries) (count : ℕ) → db.schema ≡ register_schema → IsDatabase db → HasMeta db dictionary → Counts db (Some count) → AreWhole db dictionary count → (list : List Sent) × IsRegister db dictionary list × (length list ≡ count)
 adopts_whole db dictionary count schema sound meta counts all = (list, adopts db dictionary list read, long)
   where
     P : ℕ → Type 0
     P k = IsWhole db dictionary (k + 1)
 
-    list : List Deposit
+    list : List Sent
     list = list_by P (λ k p. p.deposit) count all
 
     files : List CheckedFile
@@ -168,16 +168,16 @@ adopts_whole db dictionary count schema sound meta counts all = (list, adopts db
     numbers : IsPermutation (number_rows 1 (length list)) (map id_of table)
     numbers = subst (λ n. IsPermutation (number_rows 1 n) (map id_of table)) (sym long) counts.1
 
-    rows : (k : ℕ) (d : Deposit) → slice_get list k ≡ Some d → filter (has_number (1 + k)) table ≡ given_deposit (1 + k) d ∷ []
+    rows : (k : ℕ) (d : Sent) → slice_get list k ≡ Some d → filter (has_number (1 + k)) table ≡ given_deposit (1 + k) d ∷ []
     rows k d at =
         let it = list_at P (λ k p. p.deposit) count all k d at in
         let e : k + 1 ≡ 1 + k = omega arith in
-        subst₂ (λ (n : ℕ) (x : Deposit). filter (has_number n) table ≡ given_deposit n x ∷ []) e it.1 it.0.row
+        subst₂ (λ (n : ℕ) (x : Sent). filter (has_number n) table ≡ given_deposit n x ∷ []) e it.1 it.0.row
 
-    earlier : (j k : ℕ) (d x : Deposit) → j < k → slice_get list j ≡ Some x → slice_get list k ≡ Some d → is_repeat d.firm d.project d.bytes x ≡ false
+    earlier : (j k : ℕ) (d x : Sent) → j < k → slice_get list j ≡ Some x → slice_get list k ≡ Some d → is_repeat d.firm d.project d.bytes x ≡ false
     earlier j k d x low first second =
         let it = list_at P (λ k p. p.deposit) count all k d second in
-        subst (λ (y : Deposit). is_repeat y.firm y.project y.bytes x ≡ false) it.1 (it.0.alone (1 + j) (omega arith) (omega (arith, low)) x (rows j x first))
+        subst (λ (y : Sent). is_repeat y.firm y.project y.bytes x ≡ false) it.1 (it.0.alone (1 + j) (omega arith) (omega (arith, low)) x (rows j x first))
 
     read : IsRead db dictionary list
     read = record {

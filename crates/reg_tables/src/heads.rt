@@ -2,7 +2,7 @@
 
 ghost use Rattle.std.specs.Prelude.{◌≡◌, ◌≢◌, ◌<◌, ◌≤◌, ◌-◌, length, map, false, slice_get, vec_len, vec_capacity, Some, Err, IfOk, IfErr, OnOk};
 ghost use Rattle.reg_store.specs.Keep.{deposit_of, fails};
-ghost use Rattle.reg_store.specs.Deposit.{numbers_from};
+ghost use Rattle.reg_store.specs.Sent.{numbers_from};
 ghost use Rattle.reg_tables.specs.Heads.{bare_of, head_of};
 
 use reg_policy::{Day, Name};

@@ -5,7 +5,7 @@ ghost use Rattle.sqlite.specs.Order.{Row as Values, column};
 ghost use Rattle.sqlite.specs.declared.types.Value.TheVariants.{Int, Text as Words, Blob};
 ghost use Rattle.reg_policy.specs.Names.{is_name};
 ghost use Rattle.reg_policy.specs.Days.{is_day_number};
-ghost use Rattle.reg_store.specs.Deposit.{Deposit};
+ghost use Rattle.reg_store.specs.Sent.{Sent};
 ghost use Rattle.reg_store.specs.Keep.{deposit_of};
 ghost use Rattle.reg_tables.specs.Rows.{given_deposit, placed_row, placed_rows, step_pair};
 ghost use Rattle.reg_tables.specs.DataCount.{is_shown_data};
@@ -115,7 +115,7 @@ pub(crate) fn read_deposit(alloc: Global, number: u32, rows: &[Row]) -> Result<K
     ensures read { IfOk result (λ kept. rows.now ≡ given_deposit number (deposit_of kept) ∷ []) }
     ensures is_named { IfOk result (λ kept. IsNamed (deposit_of kept)) }
     ensures refused { IfErr result (λ e. e ≢ KeepError.Full) }
-    ensures other { result ≡ Err KeepError.Store → (d : Deposit) → IsNamed d
+    ensures other { result ≡ Err KeepError.Store → (d : Sent) → IsNamed d
         → rows.now ≡ given_deposit number d ∷ [] → ⊥ }
 {
     let row = match only_row(rows, 5) {

@@ -2,7 +2,7 @@
 
 ghost use Rattle.std.specs.Prelude.{◌≡◌, ◌≢◌, ◌<◌, ◌≤◌, false, length, Some, Err, IfOk};
 ghost use Rattle.reg_store.specs.Keep.{fails};
-ghost use Rattle.reg_store.specs.Deposit.{Deposit, numbers_from};
+ghost use Rattle.reg_store.specs.Sent.{Sent, numbers_from};
 ghost use Rattle.reg_desk.specs.Alike.{AreAlikeBy};
 ghost use Rattle.reg_desk.specs.Asked.{listing as asks_listing};
 ghost use Rattle.reg_desk.specs.Machine.{held};
@@ -147,7 +147,7 @@ fn listed<K: Keep>(
 ) -> Result<Option<Listed>, KeepError>
     requires working { K.has_failed keep.old ≡ false }
     requires number { K.is_sound keep.old → (0 < number) × (number ≤ length (K.deposits keep.old)) }
-    requires project { K.is_sound keep.old → (d : Deposit)
+    requires project { K.is_sound keep.old → (d : Sent)
         → held number (K.deposits keep.old) ≡ Some d → d.project ≡ lister.now.project.now }
     requires alike { AreAlikeBy lister.now.policy.now lister.now.caller.now lister.now.project.now lister.now.alike }
     ensures reads { OnlyReads K.Keep keep.old keep.new (fails result) }

@@ -1,7 +1,7 @@
 use Rattle.std.proofs.Common.{◌≡◌, ◌+◌, map, drop}
 use Rattle.std.specs.List.{position_from}
 use Rattle.reg_store.specs.Keep.{deposit_of}
-use Rattle.reg_store.specs.Deposit.{is_repeat, number_of}
+use Rattle.reg_store.specs.Sent.{is_repeat, number_of}
 use Rattle.reg_store.proofs.plain.find_in.Given as goal
 
 -- what is left of the list is searched from the next number on

@@ -1,6 +1,6 @@
 use Rattle.std.proofs.Common.{◌≡◌, ◌+◌, ◌++◌, map, drop}
 use Rattle.reg_store.specs.Keep.{deposit_of}
-use Rattle.reg_store.specs.Deposit.{numbers_from}
+use Rattle.reg_store.specs.Sent.{numbers_from}
 use Rattle.reg_store.proofs.plain.numbers_in.Given as goal
 
 -- the numbers so far, and those of what is left of the list

@@ -1,7 +1,7 @@
 use Rattle.std.proofs.Common.{◌∙◌, sym, ap, subst, List, [], ℕ, Err, refl}
 use Rattle.ags_dict.specs.Entries.{Entries}
 use Rattle.ags_check.specs.Findings.{Findings as AreFindings}
-use Rattle.reg_store.specs.Deposit.{number_of}
+use Rattle.reg_store.specs.Sent.{number_of}
 use Rattle.reg_desk.specs.Asked.{deposit}
 use Rattle.reg_desk.specs.Machine.{first_equal}
 use Rattle.reg_desk.specs.Serving.{Serves, register_at}

@@ -1,6 +1,6 @@
 use Rattle.std.proofs.Common.{◌≡◌, ◌∙◌, sym, ap, subst, refl, ◌+◌, ◌<◌, ◌≤◌, List, length, drop, get_or, false, Vec, Global, Some}
 use Rattle.std.proofs.lemmas.Result.{err_from_is_err_and}
-use Rattle.reg_store.specs.Deposit.{Deposit}
+use Rattle.reg_store.specs.Sent.{Sent}
 use Rattle.reg_store.specs.Keep.{fails, is_store}
 use Rattle.reg_desk.specs.declared.answer.Listed.{Listed}
 use Rattle.reg_desk.specs.Machine.{Register, held}
@@ -29,7 +29,7 @@ pub listed-requires-clause-number : goal.listed-requires-clause-number
 listed-requires-clause-number g c = λ s.
     let items = c.args.numbers.now in
     let n = get_or items c.loop-number.number-index 0 in
-    subst (λ (l : List Deposit). (0 < n) × (n ≤ length l)) (sym (c.loop-number.invariant.reads.same s refl))
+    subst (λ (l : List Sent). (0 < n) × (n ≤ length l)) (sym (c.loop-number.invariant.reads.same s refl))
     (number_within c.args.lister.now.project.now (g.K.Keep.deposits c.args.keep.now) items c.loop-number.number-index (c.requires.numbers (c.loop-number.invariant.reads.sound s)) c.loop-number-test.true)
 
 pub listed-requires-clause-project : goal.listed-requires-clause-project
@@ -57,7 +57,7 @@ loop-number-preserved g c =
       reads = reads_more g.K.Keep c.args.keep.now c.loop-number.keep c.listed.new.keep false was.reads c.in_ok-line.ensures.reads;
       so_far = λ s.
           let s1 = c.in_ok-line.ensures.reads.sound s in
-          let seen : (d : Deposit) → held n state ≡ Some d → ∥ IsLineFor register c.args.lister.now.caller.now c.args.lister.now.day n d c.in_ok-line.field-0 ∥₁ = λ d holds.
+          let seen : (d : Sent) → held n state ≡ Some d → ∥ IsLineFor register c.args.lister.now.caller.now c.args.lister.now.day n d c.in_ok-line.field-0 ∥₁ = λ d holds.
           subst (λ (r : Register). ∥ IsLineFor r c.args.lister.now.caller.now c.args.lister.now.day n d c.in_ok-line.field-0 ∥₁) (register_same g.K.Keep c.args.lister.now.policy.now c.args.keep.now c.loop-number.keep false was.reads)
           (c.in_ok-line.ensures.seen s d (ap (held n) (was.reads.same s1 refl) ∙ holds)) in
           let same : put_line c.loop-number.lines.items c.in_ok-line.field-0 ≡ c.match-branch-2.lines.items =

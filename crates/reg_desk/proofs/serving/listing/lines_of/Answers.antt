@@ -1,7 +1,7 @@
 use Rattle.std.proofs.Common.{◌≡◌, ◌∙◌, arith, vec_len, sym, ap, subst, refl, List, length, Vec, Global}
 use Rattle.std.proofs.lemmas.Bool.{eqb-true}
 use Rattle.std.proofs.lemmas.Result.{IfOk-weaker}
-use Rattle.reg_store.specs.Deposit.{Deposit, numbers_from}
+use Rattle.reg_store.specs.Sent.{Sent, numbers_from}
 use Rattle.reg_store.specs.Keep.{fails}
 use Rattle.reg_desk.specs.declared.answer.Listed.{Listed}
 use Rattle.reg_desk.specs.Machine.{IsListing, Register}
@@ -43,4 +43,4 @@ returns-clause-listed g c = λ s.
     let s1 = c.lines_at.ensures.reads.sound s in
     IfOk-weaker c.lines_at.result _ _ (λ (lines : Vec Listed Global) is.
     subst (λ (r : Register). ∥ IsListing r c.args.caller.now c.args.project.now c.args.day 1 (K.deposits keep) lines.items ∥₁) (register_same K c.args.policy.now keep mid _ first)
-    (subst (λ (l : List Deposit). ∥ IsListing (register_at K c.args.policy.now mid) c.args.caller.now c.args.project.now c.args.day 1 l lines.items ∥₁) (first.same s1 refl) is)) (c.lines_at.ensures.listed s)
+    (subst (λ (l : List Sent). ∥ IsListing (register_at K c.args.policy.now mid) c.args.caller.now c.args.project.now c.args.day 1 l lines.items ∥₁) (first.same s1 refl) is)) (c.lines_at.ensures.listed s)

@@ -1,6 +1,6 @@
 use Rattle.std.proofs.Common.{◌≡◌, ℕ, Option, Some, None, List, IfSome, ap, map, sym, ◌∙◌}
 use Rattle.reg_store.specs.declared.keep.Kept.{Kept}
-use Rattle.reg_store.specs.Deposit.{number_of}
+use Rattle.reg_store.specs.Sent.{number_of}
 use Rattle.reg_store.specs.Keep.{deposit_of}
 use Rattle.reg_store.proofs.plain.PlainKeepKeep.recall.Goals as goal
 

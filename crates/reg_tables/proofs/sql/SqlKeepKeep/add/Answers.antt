@@ -3,7 +3,7 @@ use Rattle.std.proofs.lemmas.List.{length_push}
 use Rattle.sqlite.specs.Effect.{Database}
 use Rattle.sqlite.specs.State.{HasCleanDisk}
 use Rattle.sqlite.specs.Held.{state}
-use Rattle.reg_store.specs.Deposit.{Deposit}
+use Rattle.reg_store.specs.Sent.{Sent}
 use Rattle.reg_store.specs.Keep.{is_store}
 use Rattle.reg_tables.specs.Quiet.{clean_before}
 use Rattle.reg_tables.specs.Rows.{deposit_from}
@@ -26,7 +26,7 @@ add_checked-added-requires g c =
 
 -- ---- where the file was added
 
-abbrev added : (g : Over) → goal.After-note g → Deposit
+abbrev added : (g : Over) → goal.After-note g → Sent
 added g c = deposit_from c.args.firm.now c.args.project.now c.args.embargo c.args.checked.now.bytes
 
 -- the keep that held the list holds it with the deposit

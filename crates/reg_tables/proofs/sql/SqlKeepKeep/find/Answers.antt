@@ -1,7 +1,7 @@
 use Rattle.std.proofs.Common.{◌≡◌, IfOk, ap, refl, subst, sym, ◌∙◌}
 use Rattle.sqlite.specs.Effect.{Database}
 use Rattle.sqlite.specs.Held.{state}
-use Rattle.reg_store.specs.Deposit.{number_of}
+use Rattle.reg_store.specs.Sent.{number_of}
 use Rattle.reg_tables.specs.Digests.{digest_of, numbers_under}
 use Rattle.reg_tables.specs.Quiet.{clean_before}
 use Rattle.reg_tables.specs.KeepLaws.{idle_at, keeps_quiet, settled_of}

@@ -1,6 +1,6 @@
 use Rattle.std.proofs.Common.{rules, ◌≡◌, IfOk, map, refl, sym, subst, ◌∙◌}
 use Rattle.sqlite.specs.Held.{state}
-use Rattle.reg_store.specs.Deposit.{numbers_from}
+use Rattle.reg_store.specs.Sent.{numbers_from}
 use Rattle.reg_tables.specs.Heads.{bare_of}
 use Rattle.reg_tables.specs.Quiet.{quiet_none}
 use Rattle.reg_tables.specs.Register.{deposits_in}

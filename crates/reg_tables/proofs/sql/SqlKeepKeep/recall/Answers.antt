@@ -1,7 +1,7 @@
 use Rattle.std.proofs.Common.{◌≡◌, ℕ, IfSome, Some, subst, sym}
 use Rattle.sqlite.specs.Effect.{Database}
 use Rattle.sqlite.specs.Held.{state}
-use Rattle.reg_store.specs.Deposit.{number_of}
+use Rattle.reg_store.specs.Sent.{number_of}
 use Rattle.reg_tables.specs.KeepLaws.{settled_of}
 use Rattle.reg_tables.specs.Register.{deposits_in}
 use Rattle.reg_tables.proofs.sql.SqlKeepKeep.recall.Goals as goal

@@ -1,0 +1,13 @@
+-- Why a store holds no register that can be opened.
+use Rattle.reg_cli.specs.declared.fault.Fault.TheVariants as faults
+use Rattle.reg_cli.specs.declared.refusal.Refusal.{Refusal}
+use Rattle.reg_cli.specs.declared.refusal.Refusal.TheVariants.{Plain, Version}
+use Rattle.reg_tables.specs.declared.adopting.AdoptError.{AdoptError}
+use Rattle.reg_tables.specs.declared.adopting.AdoptError.TheVariants as adopts
+
+-- what is refused for it
+abbrev pub adopting : AdoptError → Refusal
+adopting adopts.NotRegister = Plain faults.NotRegister
+adopting (adopts.Version number) = Version number
+adopting adopts.Store = Plain faults.StoreFailed
+adopting adopts.NoMemory = Plain faults.NoMemory

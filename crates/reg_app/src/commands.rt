@@ -1,0 +1,293 @@
+//! What each command does.
+
+ghost use Rattle.std.specs.Prelude.{◌≡◌, ◌≤◌, false, length};
+ghost use Rattle.reg_cli.specs.Checking.{ChecksInput};
+ghost use Rattle.reg_cli.specs.Streams.{has_failed};
+
+use crate::serving::{serve, serve_desk};
+use crate::stores::{create_store, not_made, open_store};
+use ags_rows::LIMIT;
+use reg_cli::{
+    Asker, Fault, Refusal, Session, Watched, Words, ask_deposit, ask_extract, ask_list,
+    check_given, day_or, read_path, read_rights, read_words, run_without_words, session_of, tell,
+};
+use reg_desk::Desk;
+use reg_http::{groups_listed, number_of_deposit};
+use reg_policy::{Callers, Day, Policy};
+use reg_store::Keep;
+use reg_tables::SqlKeep;
+use sqlite::Alter;
+use std::alloc::Global;
+use std::convert::AsStr;
+use std::io::{Read, Write};
+
+/// What is done with a register once it is open.
+#[derive(Drop)]
+pub(crate) enum Task<'t> {
+    Deposit {
+        session: &'t Session<'t>,
+        embargo: Day,
+        bytes: &'t [u8],
+    },
+    List {
+        session: &'t Session<'t>,
+    },
+    Extract {
+        session: &'t Session<'t>,
+        number: u32,
+        groups: &'t [&'t [u8]],
+    },
+    Serve {
+        callers: &'t Callers,
+        day: Day,
+        port: u16,
+        connections: u32,
+    },
+}
+
+/// Makes a register.
+fn init<'w, W: Write>(
+    rt: &HostRuntime,
+    alloc: Global,
+    store: &'w str,
+    dictionary: &'w str,
+    out: &mut Watched<W>,
+) -> Result<u8, Refusal<'w>> {
+    let bytes = read_path(rt, alloc, dictionary)?;
+    if bytes.len() > LIMIT {
+        return Err(Refusal::Plain(Fault::DictionaryRefused));
+    }
+    match create_store(rt, alloc, store, &bytes) {
+        Ok(()) => Ok(tell(out, b"created\n", 0)),
+        Err(error) => Err(not_made(error)),
+    }
+}
+
+/// Checks a file under the dictionary of another.
+fn check_file<'w, W: Write, E: Write>(
+    rt: &HostRuntime,
+    alloc: Global,
+    dictionary: &'w str,
+    file: &'w str,
+    out: &mut Watched<W>,
+    err: &mut Watched<E>,
+) -> Result<u8, Refusal<'w>>
+    requires out { has_failed out.old ≡ false }
+    requires err { has_failed err.old ≡ false }
+{
+    let dictionary = read_path(rt, alloc, dictionary)?;
+    check_given(alloc, &dictionary, read_path(rt, alloc, file), out, err)
+}
+
+fn deposit<'w, W: Write>(
+    rt: &HostRuntime,
+    alloc: Global,
+    asker: &Asker<'w>,
+    embargo: Option<&'w str>,
+    file: &'w str,
+    today: Option<Day>,
+    out: &mut Watched<W>,
+) -> Result<u8, Refusal<'w>> {
+    let (policy, callers) = read_rights(rt, alloc, asker.policy, asker.callers)?;
+    let session = session_of(alloc, &callers, asker, today)?;
+    deposit_as(rt, alloc, asker.store, policy, &session, embargo, file, out)
+}
+
+/// Deposits a file as the one who asks.
+fn deposit_as<'w, W: Write>(
+    rt: &HostRuntime,
+    alloc: Global,
+    store: &'w str,
+    policy: Policy,
+    session: &Session<'_>,
+    embargo: Option<&'w str>,
+    file: &'w str,
+    out: &mut Watched<W>,
+) -> Result<u8, Refusal<'w>> {
+    let embargo = day_or(embargo, Some(session.day))?;
+    let bytes = read_path(rt, alloc, file)?;
+    let task = Task::Deposit {
+        session,
+        embargo,
+        bytes: &bytes,
+    };
+    use_store(rt, alloc, store, policy, &task, out)
+}
+
+fn list<'w, W: Write>(
+    rt: &HostRuntime,
+    alloc: Global,
+    asker: &Asker<'w>,
+    today: Option<Day>,
+    out: &mut Watched<W>,
+) -> Result<u8, Refusal<'w>> {
+    let (policy, callers) = read_rights(rt, alloc, asker.policy, asker.callers)?;
+    let session = session_of(alloc, &callers, asker, today)?;
+    let task = Task::List { session: &session };
+    use_store(rt, alloc, asker.store, policy, &task, out)
+}
+
+/// The groups that a text lists; none for all.
+fn groups_of<'w>(alloc: Global, text: Option<&'w str>) -> Result<Vec<&'w [u8]>, Fault> {
+    let text = text.unwrap_or("");
+    match groups_listed(alloc, text.as_bytes())? {
+        Some(groups) => Ok(groups),
+        None => Err(Fault::GroupsRefused),
+    }
+}
+
+fn extract<'w, W: Write>(
+    rt: &HostRuntime,
+    alloc: Global,
+    asker: &Asker<'w>,
+    groups: Option<&'w str>,
+    number: &'w str,
+    today: Option<Day>,
+    out: &mut Watched<W>,
+) -> Result<u8, Refusal<'w>> {
+    let (policy, callers) = read_rights(rt, alloc, asker.policy, asker.callers)?;
+    let session = session_of(alloc, &callers, asker, today)?;
+    let groups = groups_of(alloc, groups)?;
+    let number = number_of_deposit(number.as_bytes()).ok_or(Fault::NumberRefused)?;
+    let task = Task::Extract {
+        session: &session,
+        number,
+        groups: &groups,
+    };
+    use_store(rt, alloc, asker.store, policy, &task, out)
+}
+
+/// Opens the register in the file at a path, and does with it what is asked. Each command that opens one comes here: a keep is
+/// shown to be one at length where its type is named, so that is once over the store of a file, and once over any store.
+pub(crate) fn use_store<'w, W: Write>(
+    rt: &HostRuntime,
+    alloc: Global,
+    store: &'w str,
+    policy: Policy,
+    task: &Task<'_>,
+    out: &mut Watched<W>,
+) -> Result<u8, Refusal<'w>> {
+    let keep = open_store(rt, alloc, store)?;
+    let (done, keep) = use_tables(rt, alloc, keep, policy, task, out);
+    keep.close();
+    done
+}
+
+/// Does what is asked with a keep in tables, of any store, and hands it back.
+fn use_tables<'w, S: Alter, W: Write>(
+    rt: &HostRuntime,
+    alloc: Global,
+    keep: SqlKeep<S>,
+    policy: Policy,
+    task: &Task<'_>,
+    out: &mut Watched<W>,
+) -> (Result<u8, Refusal<'w>>, SqlKeep<S>)
+    requires { keep.has_failed ≡ false }
+{
+    use_keep(rt, alloc, keep, policy, task, out)
+}
+
+/// Does what is asked with a keep, and hands it back.
+fn use_keep<'w, K: Keep, W: Write>(
+    rt: &HostRuntime,
+    alloc: Global,
+    keep: K,
+    policy: Policy,
+    task: &Task<'_>,
+    out: &mut Watched<W>,
+) -> (Result<u8, Refusal<'w>>, K)
+    requires { K.has_failed keep ≡ false }
+{
+    let mut desk = Desk::new(keep, policy);
+    let done = do_task(rt, alloc, &mut desk, task, out);
+    (done, desk.into_keep())
+}
+
+/// Does what is asked at a desk.
+fn do_task<'w, K: Keep, W: Write>(
+    rt: &HostRuntime,
+    alloc: Global,
+    desk: &mut Desk<K>,
+    task: &Task<'_>,
+    out: &mut Watched<W>,
+) -> Result<u8, Refusal<'w>> {
+    match task {
+        Task::Deposit {
+            session,
+            embargo,
+            bytes,
+        } => ask_deposit(alloc, desk, session, *embargo, bytes, out),
+        Task::List { session } => ask_list(alloc, desk, session, out),
+        Task::Extract {
+            session,
+            number,
+            groups,
+        } => ask_extract(alloc, desk, session, *number, groups, out),
+        Task::Serve {
+            callers,
+            day,
+            port,
+            connections,
+        } => serve_desk(rt, alloc, desk, callers, *day, *port, *connections, out),
+    }
+}
+
+/// Does what the words ask.
+fn run_command<'w, W: Write, E: Write>(
+    rt: &HostRuntime,
+    alloc: Global,
+    words: Words<'w>,
+    today: Option<Day>,
+    out: &mut Watched<W>,
+    err: &mut Watched<E>,
+) -> Result<u8, Refusal<'w>>
+    requires out { has_failed out.old ≡ false }
+    requires err { has_failed err.old ≡ false }
+{
+    match words {
+        Words::Init { store, dictionary } => init(rt, alloc, store, dictionary, out),
+        Words::Check { dictionary, file } => check_file(rt, alloc, dictionary, file, out, err),
+        Words::Deposit {
+            asker,
+            embargo,
+            file,
+        } => deposit(rt, alloc, &asker, embargo, file, today, out),
+        Words::Extract {
+            asker,
+            groups,
+            number,
+        } => extract(rt, alloc, &asker, groups, number, today, out),
+        Words::List(asker) => list(rt, alloc, &asker, today, out),
+        Words::Serve(service) => serve(rt, alloc, &service, today, out),
+    }
+}
+
+/// Runs the program on its words, of which the first is its name; without others it checks the file that the input carries.
+/// `today` is what the clock tells, if it tells a day. No clause says what is done with further words, or with `today`.
+pub fn run_words<S: AsStr, R: Read, W: Write, E: Write>(
+    rt: &HostRuntime,
+    words: &[S],
+    today: Option<Day>,
+    input: &mut Watched<R>,
+    out: &mut Watched<W>,
+    err: &mut Watched<E>,
+) -> u8
+    requires input { has_failed input.old ≡ false }
+    requires out { has_failed out.old ≡ false }
+    requires err { has_failed err.old ≡ false }
+    ensures wordless { length words.now ≤ 1
+        → ChecksInput R.Read W.Write E.Write input.old input.new out.old out.new err.old err.new result }
+{
+    let alloc = rt.alloc();
+    if words.len() <= 1 {
+        return run_without_words(alloc, input, out, err);
+    }
+    let words = match read_words(alloc, words) {
+        Ok(words) => words,
+        Err(fault) => return fault.tell(err),
+    };
+    match run_command(rt, alloc, words, today, out, err) {
+        Ok(status) => status,
+        Err(refusal) => refusal.tell(err),
+    }
+}

@@ -1,0 +1,5 @@
+//! Tests of `reg_cli` and `reg_app`. Apart from them, so that they are proved once.
+#![tactic(auto)]
+
+#[cfg(test)]
+mod tests;

@@ -1,0 +1,64 @@
+//! Who asks, for which project, and on which day.
+
+ghost use Rattle.std.specs.Prelude.{◌≡◌, IfOk, Some};
+ghost use Rattle.reg_policy.specs.Callers.{caller_of};
+ghost use Rattle.reg_cli.specs.Sessions.{IsDayOr};
+
+use crate::fault::Fault;
+use crate::words::Asker;
+use reg_policy::{Caller, Callers, Day, Name, NameError};
+use std::alloc::Global;
+
+/// Who asks, for which project, and on which day.
+#[derive(Drop)]
+pub struct Session<'c> {
+    pub caller: &'c Caller,
+    pub project: Name,
+    pub day: Day,
+}
+
+/// The day that a text writes, or the one for where none is given. `DayRefused` where that is none; no clause names the refusal.
+pub fn day_or(text: Option<&str>, other: Option<Day>) -> Result<Day, Fault>
+    ensures { IfOk result (λ day. IsDayOr text.entry other day) }
+{
+    match text {
+        Some(text) => Day::read(text).ok_or(Fault::DayRefused),
+        None => other.ok_or(Fault::DayRefused),
+    }
+}
+
+/// The project of a name.
+fn project_of(alloc: Global, text: &str) -> Result<Name, Fault>
+    ensures { IfOk result (λ project. project ≡ text.now) }
+{
+    match Name::read(alloc, text) {
+        Ok(name) => Ok(name),
+        Err(NameError::BadName) => Err(Fault::ProjectRefused),
+        Err(NameError::NoMemory) => Err(Fault::NoMemory),
+    }
+}
+
+/// Who asks by this token, for the project and on the day that the words give, or on `today` where they give none.
+/// A token of no caller, a project that is no name and a day that is none are refused. No clause says which of them is named.
+pub fn session_of<'c>(
+    alloc: Global,
+    callers: &'c Callers,
+    asker: &Asker<'_>,
+    today: Option<Day>,
+) -> Result<Session<'c>, Fault>
+    ensures caller { IfOk result (λ session.
+        caller_of asker.now.token.now callers.now ≡ Some session.caller.now) }
+    ensures project { IfOk result (λ session. session.project ≡ asker.now.project.now) }
+    ensures day { IfOk result (λ session. IsDayOr asker.now.day today session.day) }
+{
+    let Some(caller) = callers.find(asker.token.as_bytes()) else {
+        return Err(Fault::TokenRefused);
+    };
+    let project = project_of(alloc, asker.project)?;
+    let day = day_or(asker.day, today)?;
+    Ok(Session {
+        caller,
+        project,
+        day,
+    })
+}

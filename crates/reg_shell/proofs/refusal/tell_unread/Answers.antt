@@ -1,9 +1,0 @@
-use Rattle.std.proofs.Common.{subst}
-use Rattle.reg_shell.specs.Faults.{Tells}
-use Rattle.reg_shell.specs.Refusals.{unread_text}
-use Rattle.reg_shell.proofs.refusal.tell_unread.Goals as goal
-
-pub returns : goal.returns
-returns g c =
-    subst (λ text. Tells (g.E.Write.contents c.args.err.now.inner) (g.E.Write.contents c.tell_line.new.out.inner) (unread_text text) c.args.err.now.failed c.tell_line.new.out.failed 6 c.tell_line.result)
-    c.as_bytes.ensures.value c.tell_line.ensures

@@ -1,5 +1,0 @@
-use Rattle.std.proofs.Common.{rules}
-use Rattle.reg_shell.proofs.session.session_of.Goals as goal
-
-pub returns-clause-caller : goal.returns-clause-caller
-returns-clause-caller c = search rules
