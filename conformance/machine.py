@@ -78,9 +78,10 @@ def is_one_of(*words):
     return lambda text: isinstance(text, str) and text in words
 
 
+VERBS = ("deposit", "check", "list", "extract", "see")
 RULE_VALUES = {
     "firm": is_name, "role": is_name, "project": is_name, "group": is_group_name,
-    "verb": is_one_of("deposit", "check", "list", "extract", "see"),
+    "verb": is_one_of(*VERBS),
     "owner": is_one_of("own", "other"), "embargo": is_one_of("past", "running"),
 }
 
