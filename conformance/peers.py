@@ -4,7 +4,7 @@
 usage: peers.py PROGRAM     the last line is 'N passed, M failed'
 
 `serve` has a patience of a second or two. A peer that is silent, sends a byte each 100 ms, stops in a body, reads nothing of a reply of 16 MB or a byte of it
-each 100 ms, breaks off, or sends on without end is cut in time, and the request that waits behind it is answered as the machine of machine.py has it. Then 200
+each 100 ms, breaks off, sends on without end or never closes is cut in time, and the request that waits behind it is answered as the machine of machine.py has it. Then 200
 peers come at once, five of them such ones, three times; the greatest resident memory (VmHWM, from /proc) may grow by 64 KiB from the first time to the third.
 A refused POST of 3 MB has to get its status 20 times of 20, by Python's http.client and by curl. `samples/proxy` asks the same through nginx."""
 import collections
@@ -107,8 +107,15 @@ def endless(connection, over):
         connection.sendall(b"x" * 65536)
 
 
-# What `serve` prints of each. The reply to the last is written, and what it sends on is thrown away.
-KINDS = {silent: "fault", dribbling: "fault", stopped: "fault", deaf: "fault", sipping: "fault", broken: "fault", endless: "413"}
+def lingering(connection, over):
+    """Has its reply, and neither closes nor sends."""
+    connection.sendall(LISTING)
+    waits(connection, over)
+    over.wait()
+
+
+# What `serve` prints of each. The last two have their replies; what they send on is thrown away, and they are waited for no longer than two seconds.
+KINDS = {silent: "fault", dribbling: "fault", stopped: "fault", deaf: "fault", sipping: "fault", broken: "fault", endless: "413", lingering: "200"}
 AMONG_MANY = [silent, dribbling, stopped, deaf, broken]
 
 
