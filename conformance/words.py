@@ -104,20 +104,6 @@ serve|&|--port=80|--connections=0
 serve|&|--port=80|--connections=1000001
 serve|&|--port=80|--connections=+1
 serve|&|--port=80|--connections=1|--token=t-delta
-serve|&|--port=80|--connections=1|--patience=0
-serve|&|--port=80|--connections=1|--patience=3601
-serve|&|--port=80|--connections=1|--patience=+30
-serve|&|--port=80|--connections=1|--patience=
-serve|&|--port=80|--connections=1|--patience
-serve|&|--port=80|--connections=1|--day=2024-05-01|--day-by-clock
-serve|&|--port=80|--connections=1|--day-by-clock|--day-by-clock
-serve|&|--port=80|--connections=1|--day-by-clock=yes
-serve|&|--port=80|--connections=1|--end-on-failure=
-serve|&|--port=80|--connections=1|--end-on-failure|yes
-serve|&|--port=80|--connections=1|--log
-list|@|--day-by-clock
-list|@|--patience=30
-list|@|--log=l
 """
 
 IN_ANY_ORDER = """
@@ -187,11 +173,7 @@ deposit|@|--day=2024-02-30|--embargo=2024-06-01|gone => 4 ! day refused
 deposit|@|--embargo=2023-02-29|gone => 4 ! day refused
 extract|@|--day=2024-6-1|--groups=loca|07 => 4 ! day refused
 list|@|--day=1 => 4 ! day refused
-serve|&|--day=tomorrow|--port=80|--connections=1|--log=gone/l => 4 ! day refused
-serve|&|--port=80|--connections=1|--log=gone/l => 6 ! cannot write gone/l
-serve|&|--port=80|--connections=1|--log=. => 6 ! cannot write .
-serve|&|--port=80|--connections=1|--day-by-clock|--patience=1|--end-on-failure|--log=l => 4 ! not a register
-serve|&|--port=80|--connections=1|--day-by-clock|--patience=3600|--end-on-failure => 4 ! not a register
+serve|&|--day=tomorrow|--port=80|--connections=1 => 4 ! day refused
 extract|@|--groups=loca|07 => 4 ! groups refused
 extract|@|--groups=LOCA,|07 => 4 ! groups refused
 extract|@|07 => 4 ! number refused
