@@ -12,7 +12,6 @@ import resource
 import shutil
 import socket
 import sqlite3
-import struct
 import subprocess
 import sys
 import tempfile
@@ -23,12 +22,11 @@ import bodies  # noqa: E402
 import files  # noqa: E402
 import hostile  # noqa: E402
 import machine  # noqa: E402
-import reference  # noqa: E402
+import servers  # noqa: E402
 import stories  # noqa: E402
+from servers import DAY, Server, head, reset  # noqa: E402
 
 LIMIT = machine.LIMIT
-PATIENCE = 300
-DAY = "2024-06-01"
 ASKING = ["--store=register", "--policy=policy", "--callers=callers", "--project=N1", "--day=" + DAY, "--embargo=" + DAY]
 CLEAN, TOO_LARGE, NO_WORDS = (b"clean\n", b"", 0), (b"", b"groundreg: too large\n", 4), (b"", b"groundreg: words refused\n", 4)
 LISTING = b"GET /v1/projects/N1/deposits HTTP/1.1\r\nAuthorization: Bearer t-delta\r\n\r\n"
@@ -39,31 +37,18 @@ def refused(name):
     return b"", f"groundreg: {name} refused\n".encode(), 4
 
 
-class Place:
-    """A folder in which the program is started; what passed and failed, and what took how long."""
+class Place(servers.Place):
+    """A folder in which the program is started, and what took how long there."""
 
     def __init__(self, program, folder):
-        self.program, self.folder, self.passed, self.failed, self.slow = program, folder, 0, 0, []
-        self.mini = machine.spelled_dictionary(reference.built_in())
-        for name, data in (("mini", self.mini), ("policy", machine.POLICY.encode()), ("callers", machine.CALLERS.encode()), ("a", machine.FILE_A)):
-            self.put(name, data)
+        super().__init__(program, folder)
+        self.slow = []
         self.start("init", ["init", "--store=register", "--dictionary=mini"], (b"created\n", b"", 0))
-
-    def put(self, name, data):
-        with open(os.path.join(self.folder, name), "wb") as file:
-            file.write(data)
-
-    def check(self, name, want, got):
-        self.passed += got == want
-        self.failed += got != want
-        if got != want:
-            print(f"{name}: wanted {str(want)[:300]}, got {str(got)[:300]}", flush=True)
 
     def start(self, name, words, want, given=b""):
         begun = time.monotonic()
         try:
-            run = subprocess.run([self.program, *words], cwd=self.folder, input=given, capture_output=True, timeout=PATIENCE)
-            got = run.stdout, run.stderr, run.returncode
+            got = self.run(*words, given=given)
         except subprocess.TimeoutExpired:
             got = "no answer"
         taken = time.monotonic() - begun
@@ -193,50 +178,6 @@ def words(place):
 
 # ---- a server
 
-class Server:
-    """`serve` on the register, and what it has to print for the connections made so far."""
-
-    def __init__(self, place, connections):
-        self.place, self.port, self.printed = place, bodies.free_port(), b""
-        self.process = subprocess.Popen([place.program, "serve", "--store=register", "--policy=policy", "--callers=callers", f"--port={self.port}", f"--connections={connections}", "--day=" + DAY],
-                                        cwd=place.folder, stdin=subprocess.DEVNULL, stdout=subprocess.PIPE, stderr=subprocess.PIPE)
-        stories.printed_line(self.process, time.monotonic() + PATIENCE)
-
-    def connect(self, receives=None):
-        connection = socket.socket()
-        connection.settimeout(PATIENCE)
-        if receives:
-            connection.setsockopt(socket.SOL_SOCKET, socket.SO_RCVBUF, receives)
-        connection.connect(("127.0.0.1", self.port))
-        return connection
-
-    def ask(self, data, is_ended=True):
-        connection = self.connect()
-        stories.sent(connection, data, not is_ended)
-        return stories.received(connection)
-
-    def line(self, want):
-        """The next line that is printed has to be one of these."""
-        line = stories.printed_line(self.process, time.monotonic() + PATIENCE).decode().strip()
-        return line if line in want.split("|") else f"line {line!r}, wanted {want}"
-
-    def memory(self):
-        with open(f"/proc/{self.process.pid}/status", encoding="ascii") as file:
-            return int(next(line for line in file if line.startswith("VmHWM:")).split()[1])
-
-    def end(self, name):
-        try:
-            out, fault = self.process.communicate(timeout=PATIENCE)
-            self.place.check(f"{name}: the end", (b"", b"", 0), (out, fault, self.process.returncode))
-        except subprocess.TimeoutExpired:
-            self.place.check(f"{name}: the end", "an end", "none")
-            self.process.kill()
-
-
-def head(target, fields, method=b"GET"):
-    return method + b" " + target + b" HTTP/1.1\r\n" + b"".join(field + b"\r\n" for field in [b"Authorization: Bearer t-delta", *fields]) + b"\r\n"
-
-
 def padded(length, more=()):
     """A head of a listing of that many bytes."""
     short = head(b"/v1/projects/N1/deposits", [*more, b"P: "])
@@ -296,11 +237,6 @@ def served(place):
         if time.monotonic() - begun > 0.1:
             place.slow.append(f"{name}, over a connection: {time.monotonic() - begun:.2f} s")
     server.end("limits of heads and bodies")
-
-
-def reset(connection):
-    connection.setsockopt(socket.SOL_SOCKET, socket.SO_LINGER, struct.pack("ii", 1, 0))
-    connection.close()
 
 
 def peers(place, seconds):

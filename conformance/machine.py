@@ -445,12 +445,25 @@ def serve(register, rules, callers, day, data):
     return reply(register.extract(rules, caller, project, number_in(number.decode()), groups, day))
 
 
+def logged(callers, data, status, text):
+    """What the log of `serve` has of a connection: who asked what, the status, and the bytes of the reply."""
+    head = head_of(data)
+    if head is None:
+        return f"- - - - {status}", len(text)
+    method, target, fields, _ = head
+    given = values(fields, b"authorization")
+    caller = callers.get(given[0][7:].decode("latin-1")) if len(given) == 1 and given[0].startswith(b"Bearer ") else None
+    path = "".join(chr(b) if 32 < b < 127 and b != 92 else f"\\x{b:02x}" for b in target.partition(b"?")[0])
+    return f"{caller['firm'] if caller else '-'} {caller['role'] if caller else '-'} {method.decode()} {path} {status}", len(text)
+
+
 # ---- the command line
 
 OPTIONS = {"init": "store dictionary", "check": "dictionary", "deposit": "store policy callers token project day embargo",
            "extract": "store policy callers token project day groups", "list": "store policy callers token project day",
-           "serve": "store policy callers port connections day"}
-MAY_LACK = {"day", "embargo", "groups"}
+           "serve": "store policy callers port connections day day-by-clock patience end-on-failure log"}
+FLAGS = {"day-by-clock", "end-on-failure"}
+MAY_LACK = {"day", "embargo", "groups", "patience", "log", *FLAGS}
 PLACES = {"init": 0, "check": 1, "deposit": 1, "extract": 1, "list": 0, "serve": 0}
 
 
@@ -475,16 +488,20 @@ def words_of(words):
         name, is_joined, value = word[2:].partition("=")
         if not word.startswith("--") or name not in OPTIONS[command].split() or name in options:
             raise Fault("words refused", 4)
-        if not is_joined:
+        if name in FLAGS and is_joined:
+            raise Fault("words refused", 4)
+        if not is_joined and name not in FLAGS:
             if not rest or (rest[0].startswith("-") and rest[0] != "-"):
                 raise Fault("words refused", 4)
             value = rest.pop(0)
         options[name] = value
     if len(places) != PLACES[command] or any(name not in options for name in OPTIONS[command].split() if name not in MAY_LACK):
         raise Fault("words refused", 4)
-    for name, most in (("port", 65535), ("connections", 1000000)):
+    for name, most in (("port", 65535), ("connections", 1000000), ("patience", 3600)):
         if name in options and not (re.fullmatch(r"[0-9]+", options[name]) and 1 <= int(options[name]) <= most):
             raise Fault("words refused", 4)
+    if "day" in options and "day-by-clock" in options:
+        raise Fault("words refused", 4)
     return command, options, places
 
 
@@ -564,6 +581,8 @@ class Computer:
             day = day_of(options.get("day", today))
             if day is None:
                 raise Fault("day refused", 4)
+            if "log" in options and not self.can_open(options["log"]):
+                raise Fault(f"cannot write {options['log']}", 6)
             register = self.store(options["store"])
             if not is_free:
                 raise Fault("cannot listen", 6)

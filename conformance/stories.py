@@ -12,6 +12,7 @@ import functools
 import multiprocessing
 import os
 import random
+import re
 import select
 import shutil
 import socket
@@ -133,7 +134,7 @@ def spelling(chance, command, options, places):
     """The words of a command: options in any order and in both spellings, before, between and behind the other words."""
     items = []
     for name, value in options.items():
-        items.append([f"--{name}={value}"] if value.startswith("-") or chance.random() < 0.3 else [f"--{name}", value])
+        items.append([f"--{name}"] if value is None else [f"--{name}={value}"] if value.startswith("-") or chance.random() < 0.3 else [f"--{name}", value])
     items += [[place] for place in places]
     chance.shuffle(items)
     return [command, *(word for item in items for word in item)]
@@ -361,9 +362,21 @@ class Story:
                 out += self.talk(process, port, words, given, replies)
             rest, fault = process.communicate(timeout=PATIENCE)
             self.compare(words, want, (out + rest, fault, process.returncode))
+            if replies and "log" in options:
+                self.compare_log(words, options, given, want[0].decode().split()[2:], replies)
         finally:
             process.kill()
             process.wait()
+
+    def compare_log(self, words, options, given, statuses, replies):
+        """Compares the lines that were appended to the log. Of a connection that broke off it may have a head or none."""
+        callers = machine.read_callers(self.computer.files[options["callers"]].decode())
+        with open(os.path.join(self.folder, options["log"]), encoding="ascii") as file:
+            lines = file.read().splitlines()[-len(given):]
+        for data, status, reply, line in zip(given, statuses, replies, lines, strict=True):
+            parts = re.fullmatch(r"\d{4}-\d\d-\d\dT\d\d:\d\d:\d\dZ (.*) \d+ (\d+) \d+", line)
+            got = parts and (parts[1], int(parts[2]))
+            self.compare((words, data, "its line of the log", line), ("fault", 0) if data is None else machine.logged(callers, data, status, reply), got and (got[0].split()[-1], got[1]) if data is None else got)
 
     def talk(self, process, port, words, given, replies):
         """Makes the connections; what was printed meanwhile."""
@@ -457,6 +470,10 @@ class Story:
         options = {"store": self.mostly(["s"], ["none", "junk"]), "policy": self.mostly(["p", "p", "p-more"], ["p-bad", "none"]), "callers": self.mostly(["c"], ["c-bad", "none"])}
         if chance.random() < 0.85:
             options["day"] = self.mostly(DAYS, BAD_DAYS)
+        elif chance.random() < 0.5:
+            options["day-by-clock"] = None
+        more = {"patience": chance.choice(["60", "3600"]), "end-on-failure": None, "log": self.mostly(["log", "sub/log"], ["sub", "nowhere/log"])}
+        options.update((name, value) for name, value in more.items() if chance.random() < 0.2)
         given, count = [], self.count()
         for _ in range(chance.randrange(1, 12)):
             luck = chance.random()
