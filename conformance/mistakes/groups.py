@@ -4,8 +4,8 @@ Names are such as ground investigation files have. Which headings a group has, w
 group belongs to which, was chosen here, so that the files can show mistakes. No file of a real project is to be checked
 under it.
 
-A line is a group, its parent and its headings: `*` behind a heading is KEY+REQUIRED, `+` KEY, `!` REQUIRED; behind the
-colon stands its type, behind the second its unit."""
+A line is a group, its parent and its headings: `*` after a heading is KEY+REQUIRED, `+` KEY, `!` REQUIRED; after the
+first colon is its type, after the second its unit."""
 
 GROUPS = """
 PROJ - PROJ_ID*:ID PROJ_NAME!:X PROJ_LOC:X PROJ_CLNT:X PROJ_CONT:X FILE_FSET:X

@@ -220,10 +220,10 @@ def of_headings():
     moved = group("SAMP", ["SAMP_LINK", "LOCA_ID", "SAMP_TOP", "SAMP_REF", "SAMP_TYPE", "SAMP_DTIM"], ["", "BH101", "1.50", "S9", "U", "2024-05-02"],
                   ["", "BH101", "3.00", "S10", "B", "2024-05-02"], ["", "BH102", "2.20", "S1", "U", "2024-05-06"])
     yield "one_heading_out_of_order", with_part("SAMP", moved), 5, 1, ("7", SAMP + 1, "SAMP_TOP"), \
-        "SAMP_LINK has to move: it belongs behind SAMP_DTIM;can stay"
+        "SAMP_LINK has to move: it belongs after SAMP_DTIM;can stay"
     two = group("ISPT", ["ISPT_NVAL", "LOCA_ID", "ISPT_TOP"], ["12", "BH101", "1.50"])
     yield "first_heading_out_of_order", with_part("ISPT", two), 2, 1, ("7", line_of('"HEADING","LOCA_ID","ISPT_TOP"'), "LOCA_ID"), \
-        "ISPT_NVAL has to move: it belongs behind ISPT_TOP"
+        "ISPT_NVAL has to move: it belongs after ISPT_TOP"
     yield "heading_misspelled", put('"LOCA_NATE"', '"LOCA_NATX"'), 1, 1, ("18", LOCA + 1, "LOCA_NATX"), "no heading of LOCA;nearest heading;LOCA_NATE"
     yield "heading_of_another_group", put('"MONG_TRZ"', '"GEOL_BASE"'), 1, 1, ("18", line_of('"GROUP","MONG"') + 1, "GEOL_BASE"), "It is a heading of GEOL"
     yield "heading_of_another_edition", put('"LNMC_ISNT"', '"LNMC_TEMP"'), 1, 1, ("18", LNMC + 1, "LNMC_TEMP"), \
@@ -280,7 +280,7 @@ def of_forms():
             ("day_first", '"2024-05-31","4.1"', '"31/05/2024","4.1"', 11, "TRAN_DATE", 'another order of day, month and year;Write "2024-05-31"'),
             ("day_or_month_first", '"2024-05-07","Beside', '"07/05/2024","Beside', TP103, "LOCA_STAR", "the day or the month first;which of the two"),
             ("space_between_day_and_time", '"2024-05-20T09:30"', '"2024-05-20 09:30"', line_of('"DATA","BH101","P1","2024-05-20'), "MOND_DTIM",
-             'a space where a T stands;Write "2024-05-20T09:30"'),
+             'a space between day and time, where a T belongs;Write "2024-05-20T09:30"'),
             ("day_that_is_not", '"2024-05-02","North', '"2024-06-31","North', gl, "LOCA_STAR", "no day of the calendar"),
             ("exponent_of_a_spreadsheet", '"523160.50"', '"5.23E+05"', BH101 + 1, "LOCA_NATE", 'an exponent, as spreadsheets show;Write "523000.00"'),
             ("less_than", '"1.250"', '"<1.250"', line_of('"DATA","BH102","1","0.02"'), "SCPT_RES", 'the sign "<";three decimals, as 1.500'),
@@ -307,7 +307,7 @@ def of_keys():
         f'LNMC row needs a SAMP row with LOCA_ID=BH101, SAMP_TOP=1.50, SAMP_REF=9; line {SAMP + 4} differs in SAMP_REF;"S9"'
     depth = SOUND[14][:3] + [row("TYPE", "ID", "1DP", "X", "2DP", "MC", "YN"), row("DATA", "BH101", "1.5", "S9", "1.60", "23", "N"), row("DATA", "BH101", "1.5", "S9", "1.70", "24", "N")]
     yield "depth_of_other_decimals", with_part("LNMC", depth), 2, 1, ("10c", test, "LNMC"), \
-        f'line {SAMP + 4} differs in SAMP_TOP;"1.5" here and "1.50" there;the same number, spelled in another way;2 rows need it'
+        f'line {SAMP + 4} differs in SAMP_TOP;"1.5" here and "1.50" there;the same number, spelled in another way;2 rows need it;give the heading the TYPE 2DP in LNMC too'
     yield "borehole_with_a_hyphen", put('"DATA","BH102","2.20","S1","U"', '"DATA","BH-102","2.20","S1","U"'), 2, 2, ("10c", SAMP + 6, "SAMP"), \
         f'LOCA_ID=BH-102; line {BH101 + 1} differs in LOCA_ID;"BH102" there;signs between the letters'
     yield "borehole_left_out", put('"DATA","BH101","3.00","18"', '"DATA","BH7","3.00","18"'), 1, 1, ("10c", first + 1, "ISPT"), \

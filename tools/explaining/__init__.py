@@ -5,11 +5,14 @@
     told.causes()                                            # groups, each with what is wrong here and its fix
     report.text(told), report.as_json(told), report.sarif(told), report.html(told)
 
-It stands on conformance/reference.py and on the texts of docs/RULES.md."""
+It is built on conformance/reference.py and on the texts of docs/RULES.md."""
 import json
 import re
 
 from . import ags, cause, context
+
+
+LINE = re.compile(rb"(\w+) ([0-9]{1,10}) (.*)")
 
 
 def read_findings(given):
@@ -22,7 +25,7 @@ def read_findings(given):
         return findings_of_json(answer, given)
     findings, others = [], []
     for line in given.splitlines():
-        match = re.fullmatch(rb"(\w+) ([0-9]{1,10}) (.*)", line)
+        match = LINE.fullmatch(line)
         if match and match[1].decode() in ags.RANK:
             findings.append(ags.Finding(int(match[2]), match[1].decode(), b"" if match[3] == b"-" else match[3]))
         elif line:
@@ -56,7 +59,7 @@ class Told:
         """Whether the findings are those of this file under this dictionary."""
         def printed(findings):
             return {(f.line, f.code, ags.shown(f.subject).replace("-", "", f.subject == b"-")) for f in findings}
-        return printed(self.findings) == printed(self.own())
+        return self.findings == self.own() or printed(self.findings) == printed(self.own())
 
     def grouped(self):
         return self.context.kept("grouped", lambda: cause.grouped(self.context, self.findings))

@@ -20,6 +20,8 @@ DESCRIPTORS = reference.DESCRIPTORS
 DEFINITIONS = reference.DEFINITIONS
 FOLLOWS = reference.FOLLOWS
 LIMIT = 4_194_304
+# The types of any text, and those whose entries have to be listed somewhere: reference.fits takes any entry of them.
+TEXTS, LISTED = (b"X", b"ID", b"XN", b"U", b""), (b"PA", b"PT", b"PU", b"RL")
 PHASES = {1: "lines", 2: "order of rows", 3: "groups by themselves", 4: "groups against the dictionary", 5: "DATA rows"}
 MARK = b"\xef\xbb\xbf"
 RANK = {code: rank for rank, code in enumerate(CODES)}
@@ -35,9 +37,12 @@ class Finding(NamedTuple):
         return f"{self.code} {self.line} {shown(self.subject) or '-'}"
 
 
+PRINTED = bytes(byte if 32 <= byte < 127 else 63 for byte in range(256))
+
+
 def shown(text):
     """Bytes as ASCII text; what does not print is a question mark."""
-    return "".join(chr(byte) if 32 <= byte < 127 else "?" for byte in text)
+    return text.translate(PRINTED).decode("ascii")
 
 
 def in_order(found):
@@ -94,7 +99,9 @@ class Group:
         return self.entry(self.unit, heading)
 
     def entries(self, row, headings):
-        return tuple(self.entry(row, heading) for heading in headings)
+        items, find = row.items, self.columns.get
+        size = len(items)
+        return tuple([items[column] if (column := find(heading, size)) < size else b"" for heading in headings])
 
 
 class File:
@@ -180,7 +187,7 @@ class Dictionary:
         self.required_lists = {group: self.with_part(group, b"REQUIRED") for group in self.orders}
 
     def extended(self, own):
-        """This dictionary with a file's own entries behind its own."""
+        """This dictionary with a file's own entries after its own."""
         return Dictionary(self.standard, own, self.is_built_in, self.edition)
 
     def with_part(self, group, part):
@@ -394,11 +401,13 @@ def column_findings(group, listed):
             found.add(Finding(group.unit.line, "15", heading))
         if kind and kind not in listed.types:
             found.add(Finding(group.type.line, "17", heading))
+        if kind in TEXTS:
+            continue
         codes = {b"": None}
         for row in group.data:
             entry = row.items[column]
             if entry not in codes:
-                fits = reference.fits(kind, unit, entry)
+                fits = kind in LISTED or reference.fits(kind, unit, entry)
                 codes[entry] = listed.fits(kind, unit, heading, is_data, entry) if fits else "8"
             if codes[entry]:
                 found.add(Finding(row.line, codes[entry], heading))

@@ -1,4 +1,4 @@
-"""A preview of the phases behind the one that has findings: what they would find, as far as that can be seen.
+"""A preview of the phases after the one that has findings: what they would find, as far as that can be seen.
 
     for phase, causes, count in preview(told): ..
 
@@ -39,10 +39,13 @@ def of_quotes(file):
     for first, last in quotes.broken_fields(file):
         out[first] = b" ".join(line.replace(b"\r", b" ") for line in file.lines[first - 1:last])
         out.update({line: b"" for line in range(first + 1, last + 1)})
-    for line in file.unreadable:
-        right = None if line in out else quotes.mistake(file.line(line))[2]
+    headings, width = {row.line: row for row in file.rows if row.descriptor == b"HEADING"}, None
+    for line in sorted([*file.unreadable, *headings]):
+        right = None if line in out or line in headings else quotes.mistake(file.line(line), width)[2]
         if right is not None:
             out[line] = right
+        row = headings[line].items if line in headings else (ags.fields_of(right) or [])[1:] if (right or b"").startswith(b'"HEADING"') else None
+        width = width if row is None else len(row)
     for line in file.descriptorless:
         descriptor, *items = ags.fields_of(file.line(line))
         if descriptor.strip().upper() in ags.DESCRIPTORS:

@@ -11,6 +11,9 @@ from . import ags, entries, groups, headings, kinds, lines, texts
 ORDER = {code: rank for rank, code in enumerate(
     "1 2a 6 5 3 2b 2 P1 19 19a P2 4 13 14 17 15 18 9 10a 10b 7 10c 19b 11a 11b 16 8 11c 20".split())}
 IN_ENTRIES = {code: rank for rank, code in enumerate("17 15 16 20 8 10b 10a 10c 11c".split())}
+# The phase of the codes that one phase alone has.
+OF_PHASE = {code: phase for phase, codes in ((1, "1 2a 3 5 6"), (2, "2b"), (3, "19 19a P1 P2"), (4, "7 9 18 19b 11a 11b 13 14"), (5, "8 11c 16 20"))
+            for code in codes.split()}
 NO_TEXT = ("ZIP", "PDF", "gzip", "HTML", "UTF-16", "AGS3")
 
 
@@ -25,7 +28,12 @@ class Cause:
     findings: list
     here: list
     fix: str
-    place: tuple
+    context: object
+
+    @property
+    def place(self):
+        """Where its first finding is, as `place` gives it."""
+        return (0, 0, 0) if self.context.kind[0] in NO_TEXT else place(self.context, self.findings[0])
 
     @property
     def lines(self):
@@ -35,14 +43,14 @@ class Cause:
 def phase_of(context, finding):
     """The phase that gives a finding."""
     code, line = finding.code, finding.line
+    if code in OF_PHASE:
+        return OF_PHASE[code]
     row = context.file.by_line.get(line)
-    if code in ("1", "2a", "3", "5", "6"):
-        return 1
-    if code == "2b" or code == "2" and line == 0 or code == "4" and row and row.descriptor == b"GROUP":
+    if code == "2" and line == 0 or code == "4" and row and row.descriptor == b"GROUP":
         return 2
-    if code in ("2", "4", "19", "19a", "P1", "P2"):
+    if code in ("2", "4"):
         return 3
-    if code in ("7", "9", "18", "19b", "11a", "11b", "13", "14") or line == 0:
+    if line == 0:
         return 4
     if code in ("10a", "10b", "10c") and row and row.descriptor in (b"GROUP", b"HEADING"):
         return 4
@@ -53,10 +61,11 @@ TELLERS = {1: lines, 2: groups, 3: groups, 4: headings, 5: entries}
 
 
 def key_of(context, finding):
-    """What findings of one cause have alike: the code by which it is told, and more."""
+    """What findings of one cause have alike: the phase, the code by which it is told, and more."""
     if context.kind[0] in NO_TEXT:
-        return ("file", context.kind[0])
-    return TELLERS[phase_of(context, finding)].key(context, finding)
+        return 1, "file", context.kind[0]
+    phase = phase_of(context, finding)
+    return phase, *TELLERS[phase].key(context, finding)
 
 
 def place(context, finding):
@@ -68,17 +77,17 @@ def place(context, finding):
 
 def cause_of(context, key, findings):
     """The cause of findings that have a key alike."""
-    first = findings[0]
+    first, (phase, *key) = findings[0], key
     if key[0] == "file":
         rule = context.rules[first.code]
         said = context.kind[1]
-        return Cause(first.code, rule.title, rule.rule, "", context.kind[0], findings, said[:1], " ".join(said[1:]) or rule.fix, (0, 0, 0))
+        return Cause(first.code, rule.title, rule.rule, "", context.kind[0], findings, said[:1], " ".join(said[1:]) or rule.fix, context)
     rule = context.rules[key[0]]
     same = [finding for finding in findings if finding.code == key[0]] or findings
     subjects = list(dict.fromkeys(finding.subject for finding in same if finding.subject))
-    value, here, fix = TELLERS[phase_of(context, same[0])].tell(context, key, same)
-    return Cause(key[0], rule.title, rule.rule, texts.names(subjects, 4) if subjects else "", value, findings, here, fix or rule.fix,
-                 place(context, same[0]))
+    value, here, fix = TELLERS[phase].tell(context, tuple(key), same)
+    return Cause(key[0], rule.title, rule.rule, texts.names(subjects, 4) if subjects else "", value, [*same, *(one for one in findings if one.code != key[0])],
+                 here, fix or rule.fix, context)
 
 
 def grouped(context, findings):
@@ -88,15 +97,13 @@ def grouped(context, findings):
         if finding.code in context.rules:
             found.setdefault(key_of(context, finding), []).append(finding)
 
+    depths = {group.name: context.words.depth(group.name) for group in context.file.groups}
+
     def order(item):
-        key, given = item
-        if key[0] == "file":
-            return 0, 0, 0, given[0].line
-        phase = phase_of(context, given[0])
+        (phase, code, *_), given = item
         ranks = IN_ENTRIES if phase == 5 else ORDER
-        group = context.file.group_at(given[0].line)
-        depth = context.words.depth(group.name) if phase == 5 and group and key[0] in ("10a", "10c") else 0
-        return phase, ranks.get(key[0], 99) if phase in (1, 4, 5) else 0, depth, given[0].line
+        group = context.file.group_at(given[0].line) if phase == 5 and code in ("10a", "10c") else None
+        return phase, ranks.get(code, 0) if phase in (1, 4, 5) else 0, depths[group.name] if group else 0, given[0].line
     return sorted(found.items(), key=order)
 
 

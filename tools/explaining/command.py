@@ -1,5 +1,6 @@
 """The command bin/explain: findings on standard input, what explains them on standard output."""
 import argparse
+import gc
 import os
 import sys
 
@@ -47,6 +48,7 @@ def write_page(path, page):
 def main(given):
     """0, or 2 where an argument is wrong or a file cannot be read or written."""
     asked = arguments(given)
+    gc.disable()
     try:
         dictionary = bytes_of(asked.dictionary) if asked.dictionary else None
         data = bytes_of(asked.file)

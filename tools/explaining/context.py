@@ -79,11 +79,14 @@ class Context:
 
     def mistake(self, line):
         """What Rule 5 finds wrong with a line."""
-        return self.kept(("5", line), lambda: quotes.mistake(self.file.line(line)))
+        above = self.heading_row(line)
+        return self.kept(("5", line), lambda: quotes.mistake(self.file.line(line), len(above.items) if above else None))
 
     def parents(self, group):
         """The index of the rows that a group's rows may belong to."""
-        parent = self.words.parent(group.name)
+        return self.kept(("10c", group.line), lambda: self.parents_by(self.words.parent(group.name), group))
+
+    def parents_by(self, parent, group):
         joined = tuple(heading for heading in self.words.keys(parent) if heading in group.columns)
         return self.kept(("10c", parent, joined), lambda: Parents(self.file.by_name.get(parent), joined))
 
@@ -100,7 +103,7 @@ class Context:
         return self.near(group, lambda: self.words.order(group)).nearest(heading, given.columns if given else ())
 
     def heading_row(self, line):
-        """The last HEADING row that stands above a line or in it."""
+        """The last HEADING row above a line or in it."""
         rows = self.kept("heading rows", lambda: [row for row in self.file.rows if row.descriptor == b"HEADING"])
         at = bisect.bisect_right(self.kept("their lines", lambda: [row.line for row in rows]), line)
         return rows[at - 1] if at else None

@@ -133,7 +133,11 @@ def orphan(context, key, findings):
         why = difference(one, two) if one and two else ""
         told.append(f"{ags.shown(heading)} is {texts.value(one)} here and {texts.value(two)} there{f' ({why})' if why else ''}.")
     if len(differ) == 1 and normal(differ[0][1]) == normal(differ[0][2]) and all(differ[0][1:]):
-        fix = f"Write {texts.value(differ[0][2])} under {ags.shown(differ[0][0])} in {at(findings)}, as line {row.line} does."
+        heading, _, right = differ[0]
+        fix = f"Write {texts.value(right)} under {ags.shown(heading)} in {at(findings)}, as line {row.line} does"
+        if not ags.reference.fits(group.kind(heading), group.measure(heading), right):
+            fix += f", and give the heading the TYPE {ags.shown(parents.group.kind(heading))} in {named} too"
+        fix += "."
     return wanted, told + several(findings), fix
 
 
@@ -209,7 +213,7 @@ def nearest_row(context, name, key):
 def unknown_target(context, part, name):
     sign = sign_between(context, part)
     if sign:
-        return f": it is cut at {texts.value(context.listed.delimiter)}, and stands with {texts.value(sign)} between its entries."
+        return f": it is cut at {texts.value(context.listed.delimiter)}, and it has {texts.value(sign)} between its entries."
     if not name or name == part and name not in context.words.parents:
         return f": it does not begin with a group and {texts.value(context.listed.delimiter)}."
     near = next((one for one in context.file.by_name if one.upper() == name.strip().upper()), None)
@@ -217,7 +221,7 @@ def unknown_target(context, part, name):
 
 
 def sign_between(context, part):
-    """Another sign that stands where the delimiter should, or None."""
+    """Another sign in the places of the delimiter, or None."""
     for byte in SIGNS:
         sign = bytes([byte])
         if sign != context.listed.delimiter and part.split(sign)[0] in context.file.by_name and sign in part:

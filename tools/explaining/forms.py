@@ -64,6 +64,8 @@ def wrong_number(kind, entry):
     text = entry.strip()
     if text != entry and as_number(kind, text):
         return "spaces", "spaces at an end", as_number(kind, text)
+    if re.fullmatch(rb"[+-]?([0-9]+\.?[0-9]*|\.[0-9]+)", text):
+        return wrong_decimals(kind, text)
     plain = text.replace(b",", b"")
     if re.fullmatch(rb"[+-]?[0-9]{1,3}(,[0-9]{3})+(\.[0-9]*)?", text):
         return "thousands", "a comma between thousands, as spreadsheets show it", as_number(kind, plain)
@@ -78,8 +80,6 @@ def wrong_number(kind, entry):
     if re.fullmatch(rb"[+-]?[0-9]+(\.[0-9]+)?[Ee][+-]?[0-9]{1,3}", text):
         value = spelled(kind, Decimal(text.decode())) if abs(int(re.split(rb"[Ee]", text)[1])) < 30 else None
         return "exponent", "an exponent, as spreadsheets show small and large numbers", value
-    if re.fullmatch(rb"[+-]?[0-9]*\.?[0-9]*", text) and any(48 <= byte < 58 for byte in text):
-        return wrong_decimals(kind, text)
     if text.upper() in NULLS:
         return "word", "a word for no value", b""
     parts = re.fullmatch(rb"([+-]?[0-9]+(?:\.[0-9]+)?) *[A-Za-z%][A-Za-z%/0-9]{0,11}", text)
@@ -131,7 +131,7 @@ def wrong_day(unit, entry):
         words = "the day or the month first, and nothing in the entry says which" if both else "another order of day, month and year"
         return "day and month" if both else "day first", words, None if more or both else right
     if re.fullmatch(rb"[0-9]{4}-[0-9]{2}-[0-9]{2} [0-9:]+", text) and has_time:
-        return "blank for T", "a space where a T stands between day and time", text.replace(b" ", b"T", 1)
+        return "blank for T", "a space between day and time, where a T belongs", text.replace(b" ", b"T", 1)
     parts = re.fullmatch(rb"([0-9]{4})[-/.]?([0-9]{1,2})[-/.]?([0-9]{1,2})", text)
     if parts and unit.startswith(b"yyyy-mm-dd"):
         right = day(*parts.groups())

@@ -61,7 +61,7 @@ def names_of(group):
 
 
 def without_group_row(group):
-    """The first HEADING row of a group after its own, which a GROUP row should stand above, or None."""
+    """The first HEADING row of a group after its own, above which a GROUP row is missing, or None."""
     seen = False
     for before, row in zip(group.rows, group.rows[1:]):
         if row.descriptor == b"HEADING" and seen and before.descriptor in (b"DATA", b"TYPE"):
@@ -206,7 +206,7 @@ def heading_name(context, key, findings):
         fix = f"Write {ags.shown(near)}."
     elif name == b"" and group:
         empty = [heading for heading in group.headings if heading == b""]
-        fix = f"Take the {texts.count(len(empty), 'empty item')} out of the HEADING row, with what stands under it in the rows of the group."
+        fix = f"Take the {texts.count(len(empty), 'empty item')} out of the HEADING row, with what is under it in the rows of the group."
     return ags.shown(name), here, fix
 
 

@@ -102,7 +102,7 @@ def order(context, key, findings):
     moved = [heading for heading in known if heading not in kept]
     for heading in moved[:6]:
         at = right.index(heading)
-        where = f"behind {ags.shown(right[at - 1])}" if at else f"before {ags.shown(right[1])}"
+        where = f"after {ags.shown(right[at - 1])}" if at else f"before {ags.shown(right[1])}"
         here.append(f"{ags.shown(heading)} has to move: it belongs {where}.")
     if len(moved) > 6:
         here.append(f"{len(moved) - 6} more headings have to move.")

@@ -98,7 +98,7 @@ def returns(context, key, findings):
     line = findings[0].line
     right = context.file.line(line).replace(b"\r", b" ")
     fix = None if ags.fields_of(right) is None else f"Write line {line} as: {texts.clipped(ags.shown(right))}"
-    return "CR", [f"A CR stands within a field ({texts.lines(f.line for f in findings)})."], fix
+    return "CR", [f"A CR is within a field ({texts.lines(f.line for f in findings)})."], fix
 
 
 def over_lines(context, findings):
@@ -163,12 +163,15 @@ def place(context, finding):
         return len(line), 1
     if code == "6":
         return (line.index(b"\r"), 1) if b"\r" in line else None
+    row, group = file.by_line.get(finding.line), file.group_at(finding.line)
+    column = group.columns.get(subject) if group else None
+    if code in ("10a", "10c", "2") and column is None and row is not None and row.descriptor == b"DATA":
+        return None
     spans, end = spans_of(line)
     if code == "5":
         return end, 1
     if code in ("3", "2b", "13", "14") and spans:
         return spans[0]
-    row = file.by_line.get(finding.line)
     if code == "4":
         is_group, above = row is not None and row.descriptor == b"GROUP", context.heading_row(finding.line)
         count = 2 if is_group else len(above.items) + 1 if above else 0
@@ -176,6 +179,4 @@ def place(context, finding):
     if row is not None and row.descriptor in (b"GROUP", b"HEADING"):
         same = [at for at, item in enumerate(row.items, 1) if item == subject]
         return spans[same[1 if code == "P2" and len(same) > 1 else 0]] if same else None
-    group = file.group_at(finding.line)
-    column = group.columns.get(subject) if group else None
     return spans[column + 1] if column is not None and column + 1 < len(spans) else None

@@ -3,15 +3,17 @@
     Near([b"FINAL", b"PRELIM"]).nearest(b"Final")     # b"FINAL"
     difference(b"Final", b"FINAL")                    # 'capitals'"""
 import difflib
+import functools
 import re
 from decimal import Decimal, InvalidOperation
 
 LONGEST = 40
+NUMBER = re.compile(rb" *[+-]?[0-9]+(\.[0-9]*)? *")
 
 
 def number(text):
     """The number that a text spells, or None."""
-    if not re.fullmatch(rb" *[+-]?[0-9]+(\.[0-9]*)? *", text) or len(text) > LONGEST:
+    if len(text) > LONGEST or not NUMBER.fullmatch(text):
         return None
     try:
         return Decimal(text.strip().decode())
@@ -19,6 +21,7 @@ def number(text):
         return None
 
 
+@functools.lru_cache(1 << 17)
 def normal(text):
     """The same for texts that differ in capitals, spaces, signs between letters, or in how a number is spelled."""
     value = number(text)

@@ -50,13 +50,14 @@ def with_tabs(text):
     return None
 
 
-def of_a_spreadsheet(text):
-    """What a line is that begins with a descriptor without quotes, or None."""
+def of_a_spreadsheet(text, width):
+    """What a line is that begins with a descriptor without quotes, or None; of a row with more items than headings, nulls at its end are cut."""
     for sign, name, words in ((b",", "no quotes", "fields without quotes, as a spreadsheet saves CSV"),
                               (b";", "semicolons", "semicolons between fields without quotes, as a spreadsheet saves CSV")):
         if text.split(sign)[0].strip() in ags.DESCRIPTORS:
             parts = next(csv.reader([text.decode("latin-1")], delimiter=sign.decode()), [])
-            while len(parts) > 1 and not parts[-1].strip():
+            least = {"GROUP": 2, "HEADING": 2}.get(parts[0], len(parts) if width is None else width + 1)
+            while len(parts) > least and not parts[-1].strip():
                 parts.pop()
             return name, words, right_or_none(b",".join(texts.quoted(part.strip().encode("latin-1")) for part in parts))
     return None
@@ -117,15 +118,16 @@ def unclosed(text):
     return None
 
 
-def mistake(content):
-    """What is wrong with a line: a name that is the same for lines with the same mistake, words, and the line put right or None."""
+def mistake(content, width=None):
+    """What is wrong with a line: a name that is the same for lines with the same mistake, words, and the line put right or None.
+    `width` is how many headings the row has, where that is known."""
     text = content.strip(b" ")
     if re.fullmatch(rb"[,; ]+", text):
         return "padding", "commas alone, as spreadsheets pad an empty row", b""
     found = with_tabs(text) if b"\t" in re.sub(FIELD, b"", text) else None
     if found:
         return found
-    found = of_a_spreadsheet(text)
+    found = of_a_spreadsheet(text, width)
     if found:
         return found
     bare = text.rstrip(b", ")

@@ -60,7 +60,7 @@ def shown_causes(told):
     """The causes that are shown in full, and of each rule and subject how many more there are, as (code, subject, causes, findings)."""
     full, more, kinds = [], {}, {}
     for key, given in told.grouped():
-        kind = (key[0], given[0].subject if key[0] not in ("15", "17") else b"")
+        kind = (given[0].code if key[1] == "file" else key[1], given[0].subject if key[1] not in ("15", "17") else b"")
         kinds[kind] = kinds.get(kind, 0) + 1
         if kinds[kind] <= OF_A_KIND:
             full.append(cause.cause_of(told.context, key, given))
