@@ -1,0 +1,140 @@
+"""A preview of the phases after the one that has findings: what they would find, as far as that can be seen.
+
+    for phase, causes, count in preview(told): ..
+
+Line ends, mark and encoding are put right in memory, and quotes where it is plain how. Lines that are no rows then, and
+groups without a sound header, are left out of what follows them, and so is every finding that would follow from that
+alone. It is not the program's answer."""
+from . import ags, cause, context, kinds, quotes, texts
+
+LISTS = {b"UNIT": "15", b"TYPE": "17", b"ABBR": "16", b"FILE": "20"}
+
+
+def without_lines(file, numbers):
+    """The file with these lines emptied, so that the others keep their numbers."""
+    numbers = set(numbers)
+    return changed(file, {number: b"" for number in numbers})
+
+
+def changed(file, lines):
+    kept = [lines.get(number, line) for number, line in enumerate(file.lines, 1)]
+    return ags.File(b"".join(line + b"\r\n" for line in kept))
+
+
+def of_items(file):
+    """The rows of another count than their HEADING row, filled up or cut to it."""
+    out = {}
+    for group in file.groups:
+        for row in group.rows[2:]:
+            size = len(group.headings)
+            if len(row.items) != size:
+                items = (row.items + [b""] * size)[:size]
+                out[row.line] = b",".join(map(texts.quoted, [row.descriptor, *items]))
+    return out
+
+
+def of_quotes(file):
+    """The lines whose quotes, commas or descriptor can be put right: a row that goes on in the next lines is put into its first."""
+    out = {}
+    for first, last in quotes.broken_fields(file):
+        out[first] = b" ".join(line.replace(b"\r", b" ") for line in file.lines[first - 1:last])
+        out.update({line: b"" for line in range(first + 1, last + 1)})
+    headings, width = {row.line: row for row in file.rows if row.descriptor == b"HEADING"}, None
+    for line in sorted([*file.unreadable, *headings]):
+        right = None if line in out or line in headings else quotes.mistake(file.line(line), width)[2]
+        if right is not None:
+            out[line] = right
+        row = headings[line].items if line in headings else (ags.fields_of(right) or [])[1:] if (right
+            or b"").startswith(b'"HEADING"') else None
+        width = width if row is None else len(row)
+    for line in file.descriptorless:
+        descriptor, *items = ags.fields_of(file.line(line))
+        if descriptor.strip().upper() in ags.DESCRIPTORS:
+            out[line] = b",".join(map(texts.quoted, [descriptor.strip().upper(), *items]))
+    return out
+
+
+def rows_of(groups):
+    return [row.line for group in groups for row in group.rows]
+
+
+def is_sound(group):
+    """Whether a group has its header rows in order, with a name and headings, and DATA rows alone below them."""
+    order = [row.descriptor for row in group.rows]
+    return order[:4] == list(ags.DESCRIPTORS[:4]) and set(order[4:]) <= {b"DATA"} and len(group.rows[0].items) == 1 and bool(group.headings)
+
+
+class Preview:
+    """The file as each phase would see it, and the groups that are not there for it."""
+
+    def __init__(self, told):
+        self.standard, self.rules, self.out = told.standard, told.context.rules, []
+        self.gone, self.lists, self.shown_from = set(), set(), (told.phase or 0) + 1
+        self.file = ags.File(kinds.put_right(told.file))
+        self.run()
+
+    def note(self, phase, found):
+        if phase >= self.shown_from and found:
+            self.out.append((phase, context.Context(self.file, self.standard, self.rules), ags.in_order(found)))
+
+    def run(self):
+        right = of_quotes(self.file)
+        self.file = changed(self.file, right) if right else self.file
+        rest = {finding.line for finding in ags.line_findings(self.file)}
+        self.left_out = len(rest)
+        self.file = without_lines(self.file, rest) if rest else self.file
+        found = ags.order_findings(self.file)
+        self.note(2, found)
+        if not self.file.rows:
+            return
+        self.leave_out([group for group in self.file.groups if not is_sound(group)])
+        if not self.file.rows:
+            return
+        found = ags.group_findings(self.file)
+        self.note(3, found)
+        self.leave_out([self.file.group_at(finding.line) for finding in found if finding.code in ("P1", "P2")
+                        or not finding.subject])
+        items = of_items(self.file)
+        self.file = changed(self.file, items) if items else self.file
+        if self.file.rows:
+            self.entries()
+
+    def leave_out(self, groups):
+        if groups:
+            self.gone |= {group.name for group in groups}
+            self.file = without_lines(self.file, rows_of(groups))
+
+    def entries(self):
+        """The fourth and fifth phase, without what follows from groups that were left out or are missing."""
+        words = self.standard.extended(ags.own_entries(self.file))
+        found = {f for f in ags.dictionary_findings(self.file, words) if not self.follows(f, words)}
+        self.note(4, found)
+        absent = {f.subject for f in found if f.line == 0} | self.gone
+        keyless = {self.file.group_at(f.line).name for f in found if f.code == "10a"}
+        lists = {code for name, code in LISTS.items() if name in absent}
+        self.note(5, {f for f in ags.entry_findings(self.file, words) if f.code not in lists
+                      and not self.echoes(f, words, keyless)})
+
+    def follows(self, finding, words):
+        """Whether a finding of the fourth phase follows from a group that was left out."""
+        missing = finding.subject if finding.line == 0 else words.parent(finding.subject) if finding.code == "10c" else None
+        return missing in self.gone or finding.code in ("9", "18") and b"DICT" in self.gone
+
+    def echoes(self, finding, words, keyless):
+        """Whether a finding of the fifth phase follows from a group that is not there, or has not its KEY headings."""
+        if finding.code not in ("10a", "10c", "11c"):
+            return False
+        group = self.file.group_at(finding.line).name
+        parent = words.parent(group)
+        return group in keyless or finding.code == "10c" and (parent in keyless or parent not in self.file.by_name) \
+            or finding.code == "11c" and bool(keyless | self.gone)
+
+
+def preview(told):
+    """(phase, its causes' number, the first of them, the findings' number) of each later phase with findings, and how many lines were left out."""
+    seen = Preview(told)
+    out = []
+    for phase, given, found in seen.out:
+        grouped = cause.grouped(given, found)
+        out.append((phase, len(grouped), [cause.cause_of(given, key, some) for key, some in grouped[:10]], len(found)))
+    return out, seen.left_out

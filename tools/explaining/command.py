@@ -1,0 +1,72 @@
+"""The command bin/explain: findings on standard input, what explains them on standard output."""
+import argparse
+import gc
+import os
+import sys
+
+from . import ags, explain, read_findings, report
+
+ABOUT = "Explains findings: reads them from standard input as groundreg prints them, or as the JSON of HTTP."
+ADVICE = {"too large": f"A file has at most {ags.LIMIT:,} bytes; docs/COMMANDS.md says how one is split."}
+
+
+def arguments(given):
+    parser = argparse.ArgumentParser(prog="explain", usage="bin/groundreg < FILE | bin/explain [options] FILE",
+                                     description=ABOUT)
+    parser.add_argument("--dictionary", metavar="D",
+                        help="the dictionary that the file was checked under, if not the built-in one")
+    parser.add_argument("--all", action="store_true", help="each finding, and not each cause")
+    parser.add_argument("--ahead", action="store_true", help="a preview of what the later phases would find")
+    form = parser.add_mutually_exclusive_group()
+    form.add_argument("--json", action="store_true", help="the causes as JSON")
+    form.add_argument("--sarif", action="store_true", help="the findings as SARIF 2.1.0")
+    form.add_argument("--html", metavar="PAGE", help="write one HTML page there")
+    parser.add_argument("file", metavar="FILE")
+    return parser.parse_args(given)
+
+
+def bytes_of(path):
+    with open(path, "rb") as file:
+        return file.read()
+
+
+def lines_of(told, asked, others):
+    """What is printed."""
+    if asked.json:
+        return [report.as_json(told, asked.ahead)] if told.findings else ['{"causes": []}']
+    if asked.sarif:
+        return [report.sarif(told)]
+    out = list(others) + [ADVICE[line] for line in others if line in ADVICE]
+    if told.findings:
+        out += report.every(told) if asked.all else report.text(told)
+    return out + (report.preview(told) if asked.ahead and told.findings else [])
+
+
+def write_page(path, page):
+    with open(path, "w", encoding="utf-8") as file:
+        file.write(page)
+
+
+def main(given):
+    """0, or 2 where an argument is wrong or a file cannot be read or written."""
+    asked = arguments(given)
+    gc.disable()
+    try:
+        dictionary = bytes_of(asked.dictionary) if asked.dictionary else None
+        data = bytes_of(asked.file)
+        findings, others = read_findings(sys.stdin.buffer.read())
+        told = explain(data, findings, dictionary, asked.file)
+        if asked.html:
+            write_page(asked.html, report.html(told) if findings else report.page_of(others))
+            return 0
+        print("\n".join(lines_of(told, asked, others)))
+        sys.stdout.flush()
+    except ags.NoDictionary as fault:
+        print(f"explain: dictionary refused: {fault}", file=sys.stderr)
+        return 2
+    except BrokenPipeError:
+        os.dup2(os.open(os.devnull, os.O_WRONLY), sys.stdout.fileno())
+    except OSError as fault:
+        print(f"explain: cannot read or write {fault.filename}", file=sys.stderr)
+        return 2
+    return 0

@@ -1,0 +1,261 @@
+"""The second and third phase: the order of rows, and groups by themselves (Rules 2, 2b, 4, 19, 19a, P1, P2)."""
+import bisect
+import re
+
+from . import ags, texts
+
+HEADER = (b"GROUP", b"HEADING", b"UNIT", b"TYPE")
+
+
+def key(context, finding):
+    code, line, subject = finding.code, finding.line, finding.subject
+    row = context.file.by_line.get(line)
+    if code == "2":
+        return "2", "file" if line == 0 else "group"
+    if code == "2b":
+        return "2b", signature(concerned(context.file, line)) if row else ()
+    if code == "4" and row:
+        above, group = context.heading_row(line), context.file.group_at(line)
+        if row.descriptor not in (b"GROUP", b"HEADING") and is_of_heading_row(group):
+            return "4", subject, "all rows", len(row.items), len(above.items)
+        return "4", subject, row.descriptor, len(row.items), len(above.items) if above else 0
+    return code, subject
+
+
+def concerned(file, line):
+    """The group whose rows are out of order: a GROUP row that comes too early cuts the group before it short."""
+    at = bisect.bisect_right(file.starts, line) - 1
+    is_early = at > 0 and file.starts[at] == line and file.by_line[line].descriptor == b"GROUP"
+    return file.groups[at - 1 if is_early else at] if at >= 0 else None
+
+
+def is_of_heading_row(group):
+    """Whether all rows of a group have one count of items, which the HEADING row alone has not."""
+    rows = [row for row in group.rows if row.descriptor not in (b"GROUP", b"HEADING")]
+    return len(rows) > 2 and len({len(row.items) for row in rows}) == 1 and any(any(row.items[len(group.headings):])
+        for row in rows)
+
+
+def signature(group):
+    """The descriptors of a group's rows, rows of the same descriptor one after the other as one or two."""
+    out = []
+    for row in group.rows if group else ():
+        if out[-1:] != [row.descriptor] or row.descriptor != b"DATA" and out[-2:] != [row.descriptor] * 2:
+            out.append(row.descriptor)
+        if len(out) > 12:
+            break
+    return tuple(out)
+
+
+def tell(context, key, findings):
+    tellers = {"2": no_data, "2b": order, "4": counts, "19": group_name, "19a": heading_name, "P1": group_twice,
+               "P2": heading_twice}
+    return tellers[key[0]](context, key, findings)
+
+
+def no_data(context, key, findings):
+    if key[1] == "file":
+        size = len(context.file.data)
+        here = "The file has no bytes." if size == 0 else f"None of its {texts.count(size, 'byte')} belongs to a row."
+        return "", [here], "Send the file itself. curl without the file that it names sends nothing."
+    empty = [finding.subject for finding in findings]
+    here = [f"{texts.names(empty)}: no DATA row below the TYPE row."]
+    return texts.names(empty), here, "Take the groups without DATA rows out, with their GROUP, HEADING, UNIT and TYPE rows, or add their rows."
+
+
+def names_of(group):
+    """The group that headings begin with, or None."""
+    found = [re.match(rb"[A-Z0-9]{1,4}(?=_)", heading) for row in group for heading in row.items]
+    begins = [match[0] for match in found if match]
+    return max(sorted(set(begins)), key=begins.count) if begins else None
+
+
+def without_group_row(group):
+    """The first HEADING row of a group after its own, above which a GROUP row is missing, or None."""
+    seen = False
+    for before, row in zip(group.rows, group.rows[1:]):
+        if row.descriptor == b"HEADING" and seen and before.descriptor in (b"DATA", b"TYPE"):
+            return row
+        seen = seen or row.descriptor in (b"UNIT", b"TYPE", b"DATA")
+    return None
+
+
+def order(context, key, findings):
+    """What is wrong with the order of a group's rows."""
+    group, line = concerned(context.file, findings[0].line), findings[0].line
+    if group is None:
+        return "", [], None
+    name = f"Group {ags.shown(group.name)} (line {group.line})" if group.name else f"The first rows (from line {group.line})"
+    kinds = [row.descriptor for row in group.rows if row.descriptor != b"DATA"]
+    lost = without_group_row(group)
+    if kinds[:1] != [b"GROUP"]:
+        return before_any_group(group)
+    if lost:
+        begins = names_of([lost])
+        says = f": its headings begin with {ags.shown(begins)}_" if begins else ""
+        fix = f"Put the row \"GROUP\",\"{ags.shown(begins)}\" above line {lost.line}." if begins else None
+        return "GROUP", [f"The GROUP row is missing above the HEADING row in line {lost.line}{says}."], fix
+    missing = [one for one in HEADER if one not in kinds]
+    twice = next((row for row in group.rows if kinds.count(row.descriptor) > 1
+                  and row is not first_of(group, row.descriptor)), None)
+    more = len({concerned(context.file, finding.line).line for finding in findings}) - 1
+    also = [f"{texts.count(more, 'more group')} in the same way."] if more else []
+    if missing:
+        return missing_row(context, group, name, missing, also)
+    if twice:
+        word = ags.shown(twice.descriptor)
+        return word, [f"{name} has a second {word} row in line {twice.line}."] + also, \
+            f"Take the second {word} row out, or put the GROUP row of its own group above it."
+    return order_of(group, name, line, also)
+
+
+def first_of(group, descriptor):
+    return next(row for row in group.rows if row.descriptor == descriptor)
+
+
+def before_any_group(group):
+    first = group.rows[0]
+    begins = names_of([row for row in group.rows if row.descriptor == b"HEADING"][:1])
+    says = f": the headings begin with {ags.shown(begins)}_" if begins else ""
+    fix = f"Put the row \"GROUP\",\"{ags.shown(begins)}\" above line {first.line}." if begins else None
+    return "GROUP", [f"The first row, line {first.line}, is {ags.shown(first.descriptor)}; a GROUP row is missing above it{says}."], fix
+
+
+def missing_row(context, group, name, missing, also):
+    """A group lacks a row of its header."""
+    words = texts.names(missing)
+    above = [first_of(group, one) for one in HEADER[:HEADER.index(missing[0])]][-1]
+    after = next((row for row in group.rows if row.line > above.line), None)
+    if after is None and group is not context.file.groups[-1]:
+        after = context.file.groups[context.file.groups.index(group) + 1].rows[0]
+    if after is None:
+        here = f"The file ends after the {ags.shown(above.descriptor)} row in line {above.line}: {words} and DATA rows of " \
+               f"{ags.shown(group.name)} are missing. Was it cut off?"
+    else:
+        place = f"between line {above.line} ({ags.shown(above.descriptor)}) and line {after.line} ({ags.shown(after.descriptor)})"
+        here = f"{name} has no {words} row{'' if len(missing) == 1 else 's'}: {'it belongs' if len(missing) == 1 else 'they belong'} {place}."
+    items = len(group.headings) or len(above.items)
+    example = {b"UNIT": [b""] * items, b"TYPE": [b"X"] * items}.get(missing[0])
+    fix = f"Add the row, with {texts.count(items, 'item')}, one for each heading: {texts.clipped(texts.row(missing[0], example))}" \
+        if example is not None and b"HEADING" not in missing else None
+    return words, [here] + also, fix
+
+
+def order_of(group, name, line, also):
+    """A group has each row of its header, in another order."""
+    header = sorted((first_of(group, one) for one in HEADER), key=lambda row: row.line)
+    rows = ", ".join(f"{ags.shown(row.descriptor)} (line {row.line})" for row in header)
+    data = [row for row in group.data if row.line < header[-1].line]
+    here = [f"{name} has its rows in the order {rows}; it has to be GROUP, HEADING, UNIT, TYPE, then DATA."]
+    if data:
+        here.append(f"{texts.count(len(data), 'DATA row')} from line {data[0].line} above the {ags.shown(header[-1].descriptor)} row.")
+    return "order", here + also, None
+
+
+def counts(context, key, findings):
+    """A row has more or fewer items than its HEADING row."""
+    _, subject, descriptor, items, wanted = key
+    row, above = context.file.by_line[findings[0].line], context.heading_row(findings[0].line)
+    here, at = [], texts.lines(finding.line for finding in findings)
+    if descriptor == "all rows":
+        return heading_row_count(context, items, wanted, above, findings)
+    word = ags.shown(descriptor)
+    if descriptor == b"GROUP":
+        here.append(f"The GROUP row has {texts.count(items, 'item')} ({at}); it has one, the group's name.")
+        fix = f"Write line {row.line} as: {texts.row(b'GROUP', row.items[:1])}" if items else None
+        if items > 1 and not any(row.items[1:]):
+            here.append("What is too many is null, as spreadsheets pad short rows.")
+        return str(items), here, fix
+    if descriptor == b"HEADING" or above is None:
+        return str(items), [f"The HEADING row has no headings ({at})."], "Name the headings of the group in it."
+    is_one = len(findings) == 1
+    here.append(f"{texts.count(len(findings), word + ' row')} ({at}) {'has' if is_one else 'have'} {texts.count(items, 'item')}, "
+                f"and the HEADING row (line {above.line}) has {texts.count(wanted, 'heading')}: "
+                f"{texts.count(abs(items - wanted), 'item')} too {'many' if items > wanted else 'few'}.")
+    return str(items), here + count_hints(context, row, above, findings), count_fix(row, above)
+
+
+def heading_row_count(context, items, wanted, above, findings):
+    """All rows of a group have the same count of items, and the HEADING row another."""
+    group = context.file.group_at(above.line)
+    word = "few" if wanted < items else "many"
+    here = [f"The HEADING row (line {above.line}) has {texts.count(wanted, 'heading')}, and all other rows of {ags.shown(group.name)} "
+            f"have {texts.count(items, 'item')}: {texts.count(abs(items - wanted), 'heading')} too {word}."]
+    absent = [heading for heading in context.words.order(group.name) if heading not in group.columns]
+    if wanted < items and absent:
+        here.append(f"Headings of {ags.shown(group.name)} in the dictionary that it does not have: {texts.names(absent, 8)}.")
+    fix = "Name the heading that is missing" if wanted < items else "Take the heading out that has no items"
+    return str(items), here, f"{fix} in the HEADING row, line {above.line}."
+
+
+def count_hints(context, row, above, findings):
+    hints = []
+    if len(row.items) > len(above.items) and not any(row.items[len(above.items):]):
+        hints.append("What is too many is null, as spreadsheets pad short rows.")
+    elif len(row.items) < len(above.items):
+        hints.append(f"Without an item at the end of the row: {texts.names(above.items[len(row.items):])}.")
+    else:
+        hints.append(f"The first item beyond the headings is {texts.value(row.items[len(above.items)])}.")
+    return hints
+
+
+def count_fix(row, above):
+    spare = row.items[len(above.items):]
+    if len(row.items) < len(above.items):
+        return 'Give the row an item for each heading, "" for a null, in the order of the headings.'
+    return "Take the empty items at the end out." if not any(spare) else "Take the item that is too many out, or name its heading in the HEADING row."
+
+
+def group_name(context, key, findings):
+    name = findings[0].subject
+    upper = name.strip().upper()
+    near = upper if context.words.has_group(upper) else context.near_group(name)
+    here = [f"{texts.value(name)} is no name of a group: one to four capital letters or digits."]
+    if len(name) > 4:
+        here.append(f"It has {len(name)} characters.")
+    return ags.shown(name), here, f"Write {ags.shown(near)} ({texts.lines(f.line for f in findings)})." if near else None
+
+
+def heading_name(context, key, findings):
+    name, group = findings[0].subject, context.file.group_at(findings[0].line)
+    upper = name.strip().upper()
+    known = group is not None and (group.name, upper) in context.words.status
+    near = upper if known else context.near_heading(group.name, name) if group else None
+    here = [f"{texts.value(name)} is no name of a heading: one to nine capital letters, digits or underscores."]
+    if len(name) > 9:
+        here.append(f"It has {len(name)} characters.")
+    fix = None
+    if near:
+        fix = f"Write {ags.shown(near)}."
+    elif name == b"" and group:
+        empty = [heading for heading in group.headings if heading == b""]
+        fix = f"Take the {texts.count(len(empty), 'empty item')} out of the HEADING row, with what is under it in the rows of the group."
+    return ags.shown(name), here, fix
+
+
+def group_twice(context, key, findings):
+    name = findings[0].subject
+    first = context.file.by_name[name]
+    here, same = [], True
+    for finding in findings:
+        again = context.file.group_at(finding.line)
+        same = same and again.headings == first.headings
+        here.append(f"{ags.shown(name)} is in line {first.line} and again in line {finding.line}, with {texts.count(len(again.data), 'DATA row')}.")
+    here = here[:4]
+    if same:
+        again = context.file.group_at(findings[0].line)
+        first_line, last_line = (again.data or again.rows)[0].line, (again.data or again.rows)[-1].line
+        rows = f"line {first_line}" if first_line == last_line else f"lines {first_line} to {last_line}"
+        return ags.shown(name), here + ["Its headings are the same in each place."], \
+            f"Move the DATA rows ({rows}) below the last DATA row of the first, line {(first.data or first.rows)[-1].line}, and take the second header out."
+    return ags.shown(name), here + ["Its headings differ."], \
+        "Put all rows under one HEADING row with the headings of both, and \"\" where a row has no entry."
+
+
+def heading_twice(context, key, findings):
+    name, group = findings[0].subject, context.file.group_at(findings[0].line)
+    columns = [column for column, heading in enumerate(group.headings) if heading == name]
+    equal = all(len({row.items[column] for column in columns if column < len(row.items)}) <= 1 for row in group.data)
+    here = [f"{ags.shown(name)} is heading {texts.listing([str(column + 1) for column in columns])} of the HEADING row in line {group.heading.line}."]
+    here.append("The entries under them are the same in each row." if equal else "The entries under them differ.")
+    return ags.shown(name), here, None if equal else "Give one of the two its right name, or take it out with its item in each row."
