@@ -1,23 +1,27 @@
 -- Changes, one after the other.
-use Rattle.std.proofs.Common.{◌≡◌, ℕ, suc, ◌+◌, ◌<◌, ◌≤◌, drop, List, [], ◌∷◌, ◌++◌, map, length, take, get_or, append_assoc, append-nil, IsTrue, Result, Ok, Err, inl, inr, refl, sym, ap, subst, subst₂, ◌∙◌, arith}
+use Rattle.std.proofs.Common.{◌≡◌, ◌≢◌, ◌==◌, true, false, ℕ, suc, ◌+◌, ◌<◌, ◌≤◌, drop, List, [], ◌∷◌, ◌++◌, map, length, take, get_or, append_assoc, append-nil, IsTrue, Result, Ok, Err, inl, inr, refl, sym, ap, subst, subst₂, ◌∙◌, arith}
 use Rattle.std.proofs.Math.Logic.{∥∥₁_elim}
 use Rattle.std.proofs.Math.Seq.{take-add, take-suc}
 use Rattle.std.proofs.Props.{props}
+use Rattle.std.proofs.lemmas.Bool.{eq-eqb}
 use Rattle.std.proofs.lemmas.List.{map-append, length-take-le, take_all}
+use Rattle.std.specs.List.{AllByRecursion}
 use Rattle.std.specs.List.Sorted.{IsPermutation}
 use Rattle.std.proofs.lemmas.List.Sorted.{IsPermutation-refl, IsPermutation-trans, IsPermutation-append_left}
 use Rattle.sqlite.specs.Order.{Row}
+use Rattle.sqlite.specs.Table.{Table}
+use Rattle.sqlite.specs.Tree.{Trees}
+use Rattle.sqlite.specs.Effect.{IsDatabase}
 use Rattle.sqlite.specs.declared.error.Error.{Error}
 use Rattle.sqlite.specs.State.{State, KeepsCommit, IsUnchanged, IsRolledBack, ExecutesInside}
 use Rattle.ags_dict.specs.Entries.{Entries}
 use Rattle.reg_store.specs.declared.keep.KeptRow.{KeptRow}
 use Rattle.reg_tables.specs.Tables.{register_schema}
 use Rattle.reg_store.specs.Sent.{Sent}
-use Rattle.reg_tables.specs.Rows.{columns_5, columns_3, joined, line_row, line_rows, step_row, step_rows, IsMore}
-use Rattle.reg_tables.specs.Inserts.{AddsDeposit, AddsLines, AddsSteps, AddsFile}
+use Rattle.reg_tables.specs.Rows.{columns_5, columns_3, given_deposit, joined, line_row, line_rows, step_row, step_rows, IsMore}
+use Rattle.reg_tables.specs.Inserts.{Adds, AddsDeposit, AddsLines, AddsSteps, AddsFile}
 use Rattle.reg_tables.specs.Inside.{Inside}
 use Rattle.reg_tables.specs.Register.{KeepsRegister}
-use Rattle.reg_tables.specs.Late.{bare, IsBare, SetsBody, bare_in, whole_in}
 
 pub more_none : (old : List Row) → IsMore old [] old
 more_none old = subst (λ rows. IsPermutation rows old) (sym (append-nil old)) (IsPermutation-refl old)
@@ -25,44 +29,33 @@ more_none old = subst (λ rows. IsPermutation rows old) (sym (append-nil old)) (
 pub more_then : (old xs mid ys new : List Row) → IsMore old xs mid → IsMore mid ys new → IsMore old (xs ++ ys) new
 more_then old xs mid ys new a b = subst (λ rows. IsPermutation rows new) (append_assoc old xs ys) (IsPermutation-trans _ _ _ (IsPermutation-append_left ys _ _ a) b)
 
-pub lines_none : (s : State) → s.now.schema ≡ register_schema → IsTrue s.in_transaction → IsTrue s.is_open → Inside (AddsLines []) s s
-lines_none s has inside is_open = record {
-  change = record { schema = has; meta = refl; deposits = refl; lines = more_none _; steps = refl };
+-- trees that are as they were, by their tables
+abbrev AsBefore : ℕ → Trees → Trees → List Table → Type 0
+AsBefore tree old new = AllByRecursion (λ t. t.tree ≢ tree → new t.tree ≡ old t.tree)
+
+none_changed : (tree : ℕ) (trees : Trees) (tables : List Table) → AsBefore tree trees trees tables
+none_changed tree trees [] = tt
+none_changed tree trees (t ∷ tables) = ((λ _. refl), none_changed tree trees tables)
+
+still_as_before : (tree : ℕ) (a b c : Trees) (tables : List Table) → AsBefore tree a b tables → AsBefore tree b c tables → AsBefore tree a c tables
+still_as_before tree a b c [] one two = tt
+still_as_before tree a b c (t ∷ tables) one two = ((λ apart. two.0 apart ∙ one.0 apart), still_as_before tree a b c tables one.1 two.1)
+
+pub adds_none : (tree : ℕ) (see : Row → Row) (s : State) → s.now.schema ≡ register_schema → IsDatabase s.now → IsTrue s.in_transaction → IsTrue s.is_open → Inside (Adds tree see []) s s
+adds_none tree see s has sound inside is_open = record {
+  change = record { schema = has; sound = sound; rows = more_none _; others = none_changed tree s.now.trees register_schema.tables };
   goes_on = inside;
   is_open = is_open;
   committed = refl;
 }
 
-pub lines_then : (xs ys : List Row) (a b c : State) → Inside (AddsLines xs) a b → Inside (AddsLines ys) b c → Inside (AddsLines (xs ++ ys)) a c
-lines_then xs ys a b c one two = record {
+pub adds_then : (tree : ℕ) (see : Row → Row) (xs ys : List Row) (a b c : State) → Inside (Adds tree see xs) a b → Inside (Adds tree see ys) b c → Inside (Adds tree see (xs ++ ys)) a c
+adds_then tree see xs ys a b c one two = record {
   change = record {
     schema = two.change.schema;
-    meta = two.change.meta ∙ one.change.meta;
-    deposits = two.change.deposits ∙ one.change.deposits;
-    lines = more_then _ xs _ ys _ one.change.lines two.change.lines;
-    steps = two.change.steps ∙ one.change.steps;
-  };
-  goes_on = two.goes_on;
-  is_open = two.is_open;
-  committed = two.committed ∙ one.committed;
-}
-
-pub steps_none : (s : State) → s.now.schema ≡ register_schema → IsTrue s.in_transaction → IsTrue s.is_open → Inside (AddsSteps []) s s
-steps_none s has inside is_open = record {
-  change = record { schema = has; meta = refl; deposits = refl; lines = refl; steps = more_none _ };
-  goes_on = inside;
-  is_open = is_open;
-  committed = refl;
-}
-
-pub steps_then : (xs ys : List Row) (a b c : State) → Inside (AddsSteps xs) a b → Inside (AddsSteps ys) b c → Inside (AddsSteps (xs ++ ys)) a c
-steps_then xs ys a b c one two = record {
-  change = record {
-    schema = two.change.schema;
-    meta = two.change.meta ∙ one.change.meta;
-    deposits = two.change.deposits ∙ one.change.deposits;
-    lines = two.change.lines ∙ one.change.lines;
-    steps = more_then _ xs _ ys _ one.change.steps two.change.steps;
+    sound = two.change.sound;
+    rows = more_then _ xs _ ys _ one.change.rows two.change.rows;
+    others = still_as_before tree a.now.trees b.now.trees c.now.trees register_schema.tables one.change.others two.change.others;
   };
   goes_on = two.goes_on;
   is_open = two.is_open;
@@ -83,7 +76,7 @@ pub lines_joined : (n from at : ℕ) (rows more : List KeptRow) (a b c : State) 
     → Inside (AddsLines (line_rows n from (rows ++ more))) a c
 lines_joined n from at rows more a b c len one two =
     let whole = line_rows-append n from rows more ∙ ap (λ k. line_rows n from rows ++ line_rows n (from + k) more) len in
-    subst (λ all. Inside (AddsLines all) a c) (sym whole) (lines_then _ _ a b c one two)
+    subst (λ all. Inside (AddsLines all) a c) (sym whole) (adds_then 4 columns_5 _ _ a b c one two)
 
 -- one row more
 pub lines_more : (n from at : ℕ) (rows : List KeptRow) (row : KeptRow) (a b c : State) → at < length rows → get_or rows at row ≡ row
@@ -111,14 +104,14 @@ pub steps_more : (n at : ℕ) (steps : List (ℕ × ℕ)) (step : ℕ × ℕ) (a
     → Inside (AddsSteps (step_rows n (take at steps))) a b → Inside (AddsSteps (step_row n step ∷ [])) b c → Inside (AddsSteps (step_rows n (take (at + 1) steps))) a c
 steps_more n at steps step a b c low is one two =
     let whole = ap (step_rows n) (taken steps step at low is) ∙ map-append (step_row n) (take at steps) (step ∷ []) in
-    subst (λ more. Inside (AddsSteps more) a c) (sym whole) (steps_then _ _ a b c one two)
+    subst (λ more. Inside (AddsSteps more) a c) (sym whole) (adds_then 6 columns_3 _ _ a b c one two)
 
 -- some steps more
 pub steps_further : (n at k m : ℕ) (steps : List (ℕ × ℕ)) (a b c : State) → m ≡ k
     → Inside (AddsSteps (step_rows n (take at steps))) a b → Inside (AddsSteps (step_rows n (take m (drop at steps)))) b c → Inside (AddsSteps (step_rows n (take (at + k) steps))) a c
 steps_further n at k m steps a b c same one two =
     let whole = sym (map-append (step_row n) (take at steps) (take m (drop at steps))) ∙ ap (step_rows n) (sym (take-add at m steps) ∙ ap (λ l. take (at + l) steps) same) in
-    subst (λ all. Inside (AddsSteps all) a c) whole (steps_then _ _ a b c one two)
+    subst (λ all. Inside (AddsSteps all) a c) whole (adds_then 6 columns_3 _ _ a b c one two)
 
 -- the steps that are left
 pub steps_rest : (n at m : ℕ) (steps : List (ℕ × ℕ)) (a b c : State) → length steps ≤ at + m
@@ -126,24 +119,30 @@ pub steps_rest : (n at m : ℕ) (steps : List (ℕ × ℕ)) (a b c : State) → 
 steps_rest n at m steps a b c past one two =
     subst (λ xs. Inside (AddsSteps (step_rows n xs)) a c) (take_all (at + m) steps past) (steps_further n at m m steps a b c refl one two)
 
--- the deposit without its body, then its lines, then its steps, then its body
-pub file_then : (n : ℕ) (d : Sent) (rows : List KeptRow) (graph : List (ℕ × ℕ)) (a b c e f : State) → Inside (AddsDeposit n (bare d)) a b → Inside (AddsLines (line_rows n 0 rows)) b c → Inside (AddsSteps (step_rows n graph)) c e
-    → Inside (SetsBody n d) e f → Inside (AddsFile n d rows graph) a f
-file_then n d rows graph a b c e f one two three four = record {
-  change = record {
-    schema = four.change.schema;
-    meta = four.change.meta ∙ three.change.meta ∙ two.change.meta ∙ one.change.meta;
-    deposits = whole_in n d a.now b.now one.change e.now (three.change.deposits ∙ two.change.deposits) f.now four.change;
-    lines = subst₂ (λ (old new : List Row). IsMore (map columns_5 old) (line_rows n 0 rows) (map columns_5 new)) one.change.lines (sym (four.change.lines ∙ three.change.lines)) two.change.lines;
-    steps = subst₂ (λ (old new : List Row). IsMore (map columns_3 old) (step_rows n graph) (map columns_3 new)) (two.change.steps ∙ one.change.steps) (sym four.change.steps) three.change.steps;
-  };
-  goes_on = four.goes_on;
-  is_open = four.is_open;
-  committed = four.committed ∙ three.committed ∙ two.committed ∙ one.committed;
-}
-
-pub bare_then : (n : ℕ) (d : Sent) (xs ys : List Row) (a b c e : State) → Inside (AddsDeposit n (bare d)) a b → Inside (AddsLines xs) b c → Inside (AddsSteps ys) c e → IsBare n d e.now
-bare_then n d xs ys a b c e one two three = bare_in n d a.now b.now one.change e.now (three.change.deposits ∙ two.change.deposits)
+-- the deposit, then its lines, then its steps
+pub file_then : (n : ℕ) (d : Sent) (rows : List KeptRow) (graph : List (ℕ × ℕ)) (a b c e : State) → Inside (AddsDeposit n d) a b → Inside (AddsLines (line_rows n 0 rows)) b c → Inside (AddsSteps (step_rows n graph)) c e
+    → Inside (AddsFile n d rows graph) a e
+file_then n d rows graph a b c e one two three =
+    let meta : e.now.trees 0 ≡ a.now.trees 0 = three.change.others.0 (apart 0 6 refl) ∙ two.change.others.0 (apart 0 4 refl) ∙ one.change.others.0 (apart 0 2 refl) in
+    let deposits : e.now.trees 2 ≡ b.now.trees 2 = three.change.others.1.0 (apart 2 6 refl) ∙ two.change.others.1.0 (apart 2 4 refl) in
+    let first : b.now.trees 4 ≡ a.now.trees 4 = one.change.others.1.1.0 (apart 4 2 refl) in
+    let last : e.now.trees 4 ≡ c.now.trees 4 = three.change.others.1.1.0 (apart 4 6 refl) in
+    let before : c.now.trees 6 ≡ a.now.trees 6 = two.change.others.1.1.1.0 (apart 6 4 refl) ∙ one.change.others.1.1.1.0 (apart 6 2 refl) in
+    record {
+      change = record {
+        schema = three.change.schema;
+        meta = meta;
+        deposits = subst (λ (new : List Row). IsMore (map columns_5 (a.now.trees 2)) (given_deposit n d ∷ []) (map columns_5 new)) (sym deposits) one.change.rows;
+        lines = subst₂ (λ (old new : List Row). IsMore (map columns_5 old) (line_rows n 0 rows) (map columns_5 new)) first (sym last) two.change.rows;
+        steps = subst (λ (old : List Row). IsMore (map columns_3 old) (step_rows n graph) (map columns_3 (e.now.trees 6))) before three.change.rows;
+      };
+      goes_on = three.goes_on;
+      is_open = three.is_open;
+      committed = three.committed ∙ two.committed ∙ one.committed;
+    }
+  where
+    apart : (m n : ℕ) → (m == n) ≡ false → m ≢ n
+    apart m n differ same = absurd (let clash : true ≡ false = sym (eq-eqb m n same) ∙ differ in cc)
 
 -- ---- what a transaction leaves committed
 

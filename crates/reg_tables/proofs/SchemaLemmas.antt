@@ -19,9 +19,8 @@ use Rattle.sqlite_schema.specs.declared.schema.Stamps.{Stamps}
 use Rattle.sqlite_schema.specs.declared.schema.Action.{Action}
 use Rattle.sqlite_schema.specs.declared.schema.Action.TheVariants as acts
 use Rattle.sqlite_value.specs.declared.keys.Order.{Order}
-use Rattle.sqlite_value.specs.Keys.{plain}
 use Rattle.reg_tables.specs.Tables as tables
-use Rattle.reg_tables.specs.Schemas.{is_integer, is_text, is_blob, is_binary, is_null, is_no_action, is_nil, is_none, is_strict, is_integers, is_texts, is_blobs, is_rowids, is_unstamped, is_plain, is_one, is_two, is_three, is_bytes_order, refers_by_column, meta_keys, deposit_key, has_line_keys, has_step_keys, is_of_deposits, refers_to_deposits, has_meta_columns, has_deposit_columns, has_line_columns, has_step_columns, is_meta, is_deposits, is_lines, is_steps, is_key, has_indexes, has_tables, is_register}
+use Rattle.reg_tables.specs.Schemas.{is_integer, is_text, is_blob, is_binary, is_null, is_no_action, is_nil, is_none, is_strict, is_integers, is_texts, is_blobs, is_unstamped, is_plain, is_one, is_two, is_three, is_order, refers_by_column, meta_keys, deposit_keys, has_line_keys, has_step_keys, is_of_deposits, refers_to_deposits, has_meta_columns, has_deposit_columns, has_line_columns, has_step_columns, is_meta, is_deposits, is_lines, is_steps, is_key, has_indexes, has_tables, is_register}
 
 both : (a b : Bool) → (a && b) ≡ true → (a ≡ true) × (b ≡ true)
 both true b h = (refl, h)
@@ -100,9 +99,6 @@ texts c name h = let a = both _ _ h in let b = both _ _ a.1 in column_is c name 
 blobs : (c : Column) (name : List ℕ) → is_blobs c name ≡ true → c ≡ column_of name kinds.Blob true
 blobs c name h = let a = both _ _ h in let b = both _ _ a.1 in column_is c name kinds.Blob true a.0 (blob c.kind b.0) b.1
 
-rowids : (c : Column) (name : List ℕ) → is_rowids c name ≡ true → c ≡ column_of name kinds.Integer false
-rowids c name h = let a = both _ _ h in let b = both _ _ a.1 in column_is c name kinds.Integer false a.0 (integer c.kind b.0) (untrue c.not_null b.1)
-
 one : (xs : List ℕ) (first : ℕ) → is_one xs first ≡ true → xs ≡ first ∷ []
 one [] first h = absurd cc
 one (a ∷ []) first h = ap (λ (x : ℕ). x ∷ []) (eqb-true a first h)
@@ -121,13 +117,16 @@ three (a ∷ b ∷ []) h = absurd cc
 three (a ∷ b ∷ c ∷ []) h = let e = both _ _ h in let f = both _ _ e.1 in let p = eqb-true a 1 e.0 in let q = eqb-true b 2 f.0 in let r = eqb-true c 3 f.1 in λ i. p i ∷ q i ∷ r i ∷ []
 three (a ∷ b ∷ c ∷ d ∷ xs) h = absurd cc
 
-order : (o : Order) → (o.digits == 0) ≡ true → o ≡ plain
-order o h = let p = eqb-true o.digits 0 h in λ i. record { digits = p i }
+abbrev order_of : ℕ → Order
+order_of digits = record { digits = digits }
 
-bytes_order : (os : List Order) → is_bytes_order os ≡ true → os ≡ plain ∷ []
-bytes_order [] h = absurd cc
-bytes_order (o ∷ []) h = ap (λ (x : Order). x ∷ []) (order o h)
-bytes_order (o ∷ p ∷ os) h = absurd cc
+order : (o : Order) (digits : ℕ) → (o.digits == digits) ≡ true → o ≡ order_of digits
+order o digits h = let p = eqb-true o.digits digits h in λ i. record { digits = p i }
+
+one_order : (os : List Order) (digits : ℕ) → is_order os digits ≡ true → os ≡ order_of digits ∷ []
+one_order [] digits h = absurd cc
+one_order (o ∷ []) digits h = ap (λ (x : Order). x ∷ []) (order o digits h)
+one_order (o ∷ p ∷ os) digits h = absurd cc
 
 abbrev bare : Stamps
 bare = record { places = []; terms = []; formats = [] }
@@ -170,7 +169,7 @@ deposit_columns (a ∷ b ∷ c ∷ []) h = absurd cc
 deposit_columns (a ∷ b ∷ c ∷ d ∷ []) h = absurd cc
 deposit_columns (a ∷ b ∷ c ∷ d ∷ e ∷ []) h =
     let f = both _ _ h in let g = both _ _ f.1 in let k = both _ _ g.1 in let l = both _ _ k.1 in
-    let p = rowids a (codes "number") f.0 in let q = texts b (codes "firm") g.0 in let r = texts c (codes "project") k.0 in let s = integers d (codes "embargo") l.0 in let t = blobs e (codes "body") l.1 in
+    let p = integers a (codes "number") f.0 in let q = texts b (codes "firm") g.0 in let r = texts c (codes "project") k.0 in let s = integers d (codes "embargo") l.0 in let t = blobs e (codes "body") l.1 in
     λ i. p i ∷ q i ∷ r i ∷ s i ∷ t i ∷ []
 deposit_columns (a ∷ b ∷ c ∷ d ∷ e ∷ f ∷ cs) h = absurd cc
 
@@ -223,16 +222,17 @@ meta t h = go t.uniques refl h
     go (u ∷ v ∷ us) is h = absurd cc
     go (u ∷ []) is h =
         let a = seven _ _ _ _ _ _ _ h in
-        table_is t _ _ _ _ _ _ _ _ (plainly t (codes "meta") 0 a.0) (meta_columns t.columns a.1) (none t.key a.2) (one t.primary 1 a.3) (is ∙ ap (λ (x : List ℕ). x ∷ []) (one u 1 a.4)) (bytes_order t.orders a.5) (nil t.references a.6)
+        table_is t _ _ _ _ _ _ _ _ (plainly t (codes "meta") 0 a.0) (meta_columns t.columns a.1) (none t.key a.2) (one t.primary 1 a.3) (is ∙ ap (λ (x : List ℕ). x ∷ []) (one u 1 a.4)) (one_order t.orders 0 a.5) (nil t.references a.6)
 
 deposits : (t : Table) → is_deposits t ≡ true → t ≡ tables.deposits
-deposits t h = go t.key refl h
+deposits t h = go t.uniques refl h
   where
-    go : (k : Option ℕ) → t.key ≡ k → deposit_key t k ≡ true → t ≡ tables.deposits
-    go None is h = absurd cc
-    go (Some k) is h =
+    go : (us : List (List ℕ)) → t.uniques ≡ us → deposit_keys t us ≡ true → t ≡ tables.deposits
+    go [] is h = absurd cc
+    go (u ∷ v ∷ us) is h = absurd cc
+    go (u ∷ []) is h =
         let a = seven _ _ _ _ _ _ _ h in
-        table_is t _ _ _ _ _ _ _ _ (plainly t (codes "deposits") 2 a.0) (deposit_columns t.columns a.1) (is ∙ ap (λ (x : ℕ). Some x) (eqb-true k 0 a.2)) (one t.primary 0 a.3) (nil t.uniques a.4) (nil t.orders a.5) (nil t.references a.6)
+        table_is t _ _ _ _ _ _ _ _ (plainly t (codes "deposits") 2 a.0) (deposit_columns t.columns a.1) (none t.key a.2) (one t.primary 1 a.3) (is ∙ ap (λ (x : List ℕ). x ∷ []) (one u 1 a.4)) (one_order t.orders 1 a.5) (nil t.references a.6)
 
 lines : (t : Table) → is_lines t ≡ true → t ≡ tables.lines
 lines t h = go t.uniques refl h
@@ -242,7 +242,7 @@ lines t h = go t.uniques refl h
     go (u ∷ v ∷ us) is h = absurd cc
     go (u ∷ []) is h =
         let a = seven _ _ _ _ _ _ _ h in
-        table_is t _ _ _ _ _ _ _ _ (plainly t (codes "lines") 3 a.0) (line_columns t.columns a.1) (none t.key a.2) (two t.primary a.3) (is ∙ ap (λ (x : List ℕ). x ∷ []) (two u a.4)) (bytes_order t.orders a.5) (references t.references a.6)
+        table_is t _ _ _ _ _ _ _ _ (plainly t (codes "lines") 4 a.0) (line_columns t.columns a.1) (none t.key a.2) (two t.primary a.3) (is ∙ ap (λ (x : List ℕ). x ∷ []) (two u a.4)) (one_order t.orders 0 a.5) (references t.references a.6)
 
 steps : (t : Table) → is_steps t ≡ true → t ≡ tables.steps
 steps t h = go t.uniques refl h
@@ -252,23 +252,26 @@ steps t h = go t.uniques refl h
     go (u ∷ v ∷ us) is h = absurd cc
     go (u ∷ []) is h =
         let a = seven _ _ _ _ _ _ _ h in
-        table_is t _ _ _ _ _ _ _ _ (plainly t (codes "steps") 5 a.0) (step_columns t.columns a.1) (none t.key a.2) (three t.primary a.3) (is ∙ ap (λ (x : List ℕ). x ∷ []) (three u a.4)) (bytes_order t.orders a.5) (references t.references a.6)
+        table_is t _ _ _ _ _ _ _ _ (plainly t (codes "steps") 6 a.0) (step_columns t.columns a.1) (none t.key a.2) (three t.primary a.3) (is ∙ ap (λ (x : List ℕ). x ∷ []) (three u a.4)) (one_order t.orders 0 a.5) (references t.references a.6)
 
-key_is : (k : Index) (name : List ℕ) (tree table : ℕ) (columns : List ℕ) → is_key k name tree table ≡ true → k.columns ≡ columns → k ≡ record { name = name; tree = tree; table = table; columns = columns; order = plain; is_unique = true }
-key_is k name tree table columns h is =
+key_is : (k : Index) (name : List ℕ) (tree table digits : ℕ) (columns : List ℕ) → is_key k name tree table digits ≡ true → k.columns ≡ columns
+    → k ≡ record { name = name; tree = tree; table = table; columns = columns; order = order_of digits; is_unique = true }
+key_is k name tree table digits columns h is =
     let a = both _ _ h in let b = both _ _ a.1 in let c = both _ _ b.1 in let d = both _ _ c.1 in
-    let p = text k.name name a.0 in let q = eqb-true k.tree tree b.0 in let r = eqb-true k.table table c.0 in let s = order k.order d.0 in
+    let p = text k.name name a.0 in let q = eqb-true k.tree tree b.0 in let r = eqb-true k.table table c.0 in let s = order k.order digits d.0 in
     λ i. record { name = p i; tree = q i; table = r i; columns = is i; order = s i; is_unique = d.1 i }
 
-indexes : (is : List Index) → has_indexes is ≡ true → is ≡ tables.meta_names ∷ tables.line_keys ∷ tables.step_keys ∷ []
+indexes : (is : List Index) → has_indexes is ≡ true → is ≡ tables.meta_names ∷ tables.deposit_numbers ∷ tables.line_keys ∷ tables.step_keys ∷ []
 indexes [] h = absurd cc
 indexes (a ∷ []) h = absurd cc
 indexes (a ∷ b ∷ []) h = absurd cc
-indexes (a ∷ b ∷ c ∷ []) h =
-    let p = both _ _ h in let q = both _ _ p.1 in let r = both _ _ p.0 in let s = both _ _ q.0 in let t = both _ _ q.1 in
-    let x = key_is a _ _ _ _ r.0 (one a.columns 1 r.1) in let y = key_is b _ _ _ _ s.0 (two b.columns s.1) in let z = key_is c _ _ _ _ t.0 (three c.columns t.1) in
-    λ i. x i ∷ y i ∷ z i ∷ []
-indexes (a ∷ b ∷ c ∷ d ∷ is) h = absurd cc
+indexes (a ∷ b ∷ c ∷ []) h = absurd cc
+indexes (a ∷ b ∷ c ∷ d ∷ []) h =
+    let p = both _ _ h in let q = both _ _ p.1 in let m = both _ _ q.1 in let r = both _ _ p.0 in let n = both _ _ q.0 in let s = both _ _ m.0 in let t = both _ _ m.1 in
+    let x = key_is a _ _ _ _ _ r.0 (one a.columns 1 r.1) in let w = key_is b _ _ _ _ _ n.0 (one b.columns 1 n.1) in
+    let y = key_is c _ _ _ _ _ s.0 (two c.columns s.1) in let z = key_is d _ _ _ _ _ t.0 (three d.columns t.1) in
+    λ i. x i ∷ w i ∷ y i ∷ z i ∷ []
+indexes (a ∷ b ∷ c ∷ d ∷ e ∷ is) h = absurd cc
 
 all_tables : (ts : List Table) → has_tables ts ≡ true → ts ≡ tables.meta ∷ tables.deposits ∷ tables.lines ∷ tables.steps ∷ []
 all_tables [] h = absurd cc

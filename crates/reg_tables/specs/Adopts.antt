@@ -14,7 +14,7 @@ use Rattle.reg_store.specs.Sent.{Sent}
 use Rattle.reg_tables.specs.Tables.{register_schema}
 use Rattle.reg_tables.specs.Texts.{select_all_numbers, select_deposit, select_meta}
 use Rattle.reg_tables.specs.Meaning.{all_numbers, all_numbers_read, by_number, deposit_read, all_meta, all_meta_read}
-use Rattle.reg_tables.specs.Rows.{deposit_columns, deposit_table, given_deposit, columns_3, line_table, step_table, rows_under, placed_rows, step_pair}
+use Rattle.reg_tables.specs.Rows.{columns_5, deposit_table, given_deposit, columns_3, line_table, step_table, rows_under, placed_rows, step_pair}
 use Rattle.std.specs.List.{AllByRecursion, AllZip}
 use Rattle.std.proofs.lemmas.Slice.Zip.{AllZip-long}
 use Rattle.sqlite.specs.Effect.{Database, IsDatabase}
@@ -56,12 +56,12 @@ shows_numbers old new rows has h =
     let seen = IsPermutation-map (λ (o : Output). o.1) _ _ a.same in
     let show_number = shown_of 2 [] all_numbers.project all_numbers.order [] in
     let all : map (λ (o : Output). o.1) (map show_number (filter (passes [] []) (old.now.trees 2))) ≡ map id_of (deposit_table old.now.trees) =
-    ap (λ rows. map (λ (o : Output). o.1) (map show_number rows)) (all_pass [] (old.now.trees 2)) ∙ seconds_of show_number (λ r. id_of (deposit_columns r)) (λ _. refl) (old.now.trees 2) ∙ sym (twice (old.now.trees 2)) in
+    ap (λ rows. map (λ (o : Output). o.1) (map show_number rows)) (all_pass [] (old.now.trees 2)) ∙ seconds_of show_number (λ r. id_of (columns_5 r)) (λ _. refl) (old.now.trees 2) ∙ sym (twice (old.now.trees 2)) in
     IsPermutation-sym _ _ (subst₂ IsPermutation all (sym a.shown) seen)
   where
-    twice : (rows : List Row) → map id_of (map deposit_columns rows) ≡ map (λ r. id_of (deposit_columns r)) rows
+    twice : (rows : List Row) → map id_of (map columns_5 rows) ≡ map (λ r. id_of (columns_5 r)) rows
     twice [] = refl
-    twice (r ∷ rows) = ap (λ all. id_of (deposit_columns r) ∷ all) (twice rows)
+    twice (r ∷ rows) = ap (λ all. id_of (columns_5 r) ∷ all) (twice rows)
 
 pub shows_meta : (old new : State) (rows : List Row) → old.now.schema ≡ register_schema → Shown select_meta [] old new rows → IsPermutation rows (map columns_3 (old.now.trees 0))
 shows_meta old new rows has h =
@@ -78,16 +78,16 @@ test_number n = passes by_number.filter (Int (pos n) ∷ [])
 abbrev show_number : ℕ → Row → Output
 show_number n = shown_of 2 by_number.filter by_number.project by_number.order (Int (pos n) ∷ [])
 
-test_number_is : (n : ℕ) (r : Row) → test_number n r ≡ has_number n (deposit_columns r)
-test_number_is n r = and_true _ ∙ eq_int (column r 0) n
+test_number_is : (n : ℕ) (r : Row) → test_number n r ≡ has_number n (columns_5 r)
+test_number_is n r = and_true _ ∙ eq_int (column r 1) n
 
-numbered : (n : ℕ) (rows : List Row) → map (λ (o : Output). o.1) (map (show_number n) (filter (test_number n) rows)) ≡ filter (has_number n) (map deposit_columns rows)
+numbered : (n : ℕ) (rows : List Row) → map (λ (o : Output). o.1) (map (show_number n) (filter (test_number n) rows)) ≡ filter (has_number n) (map columns_5 rows)
 numbered n [] = refl
-numbered n (r ∷ rows) = rw (test_number_is n r) (go (has_number n (deposit_columns r)) (numbered n rows))
+numbered n (r ∷ rows) = rw (test_number_is n r) (go (has_number n (columns_5 r)) (numbered n rows))
   where
-    go : (b : Bool) → map (λ (o : Output). o.1) (map (show_number n) (filter (test_number n) rows)) ≡ filter (has_number n) (map deposit_columns rows)
-        → map (λ (o : Output). o.1) (map (show_number n) (if b then r ∷ filter (test_number n) rows else filter (test_number n) rows)) ≡ (if b then deposit_columns r ∷ filter (has_number n) (map deposit_columns rows) else filter (has_number n) (map deposit_columns rows))
-    go true h = ap (λ all. deposit_columns r ∷ all) h
+    go : (b : Bool) → map (λ (o : Output). o.1) (map (show_number n) (filter (test_number n) rows)) ≡ filter (has_number n) (map columns_5 rows)
+        → map (λ (o : Output). o.1) (map (show_number n) (if b then r ∷ filter (test_number n) rows else filter (test_number n) rows)) ≡ (if b then columns_5 r ∷ filter (has_number n) (map columns_5 rows) else filter (has_number n) (map columns_5 rows))
+    go true h = ap (λ all. columns_5 r ∷ all) h
     go false h = h
 
 -- the rows that are shown of a number are the table's
@@ -194,6 +194,6 @@ adopts db dictionary list read =
       named = read.named;
       apart = read.apart;
       few = read.few;
-      lines = each_of file_lines refl read.files (line_table db.trees) read.lines (λ k low. no_lines db.trees (k + 1) (db.trees 3) (outside (length list) (k + 1) (deposit_table db.trees) read.numbers (omega (arith, low, long))) keyed.1.1.0);
-      steps = each_of file_steps refl read.files (step_table db.trees) read.steps (λ k low. no_steps db.trees (k + 1) (db.trees 5) (outside (length list) (k + 1) (deposit_table db.trees) read.numbers (omega (arith, low, long))) keyed.1.1.1.0);
+      lines = each_of file_lines refl read.files (line_table db.trees) read.lines (λ k low. no_lines db.trees (k + 1) (db.trees 4) (outside (length list) (k + 1) (deposit_table db.trees) read.numbers (omega (arith, low, long))) keyed.1.1.0);
+      steps = each_of file_steps refl read.files (step_table db.trees) read.steps (λ k low. no_steps db.trees (k + 1) (db.trees 6) (outside (length list) (k + 1) (deposit_table db.trees) read.numbers (omega (arith, low, long))) keyed.1.1.1.0);
     }

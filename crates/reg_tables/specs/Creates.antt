@@ -1,8 +1,9 @@
 -- What the making of a register does.
-use Rattle.std.proofs.Common.{◌≡◌, ℕ, ◌+◌, ◌≤◌, pos, List, [], ◌∷◌, map, length, false, None, Ok, refl, sym, ap, subst, ◌∙◌, arith}
+use Rattle.std.proofs.Common.{◌≡◌, ℕ, ◌+◌, ◌≤◌, pos, List, [], ◌∷◌, ◌++◌, map, length, false, None, Ok, refl, sym, ap, subst, ◌∙◌, arith}
 use Rattle.std.specs.List.Sorted.{IsPermutation}
-use Rattle.std.proofs.lemmas.List.Sorted.{IsPermutation-refl, IsPermutation-append_comm}
+use Rattle.std.proofs.lemmas.List.Sorted.{IsPermutation-refl, IsPermutation-trans, IsPermutation-append_comm}
 use Rattle.sqlite.specs.declared.types.Value.TheVariants.{Int, Text as Words, Blob as Bytes}
+use Rattle.sqlite.specs.Order.{Row}
 use Rattle.sqlite.specs.Schema.{Schema}
 use Rattle.sqlite.specs.Command.TheVariants.{CreateTable}
 use Rattle.sqlite.specs.Change.{created, next_tree, KeepsRows}
@@ -19,7 +20,7 @@ use Rattle.ags_dict.specs.Reading.{IsDictionary}
 use Rattle.reg_tables.specs.Tables.{meta, deposits, lines, steps, no_schema, register_schema}
 use Rattle.reg_tables.specs.Texts.{create_meta, create_deposits, create_lines, create_steps}
 use Rattle.reg_tables.specs.Meaning.{meta_is, deposits_is, lines_is, steps_is, with_meta, with_deposits, with_lines, schema_is, meta_text, deposits_text, lines_text, steps_text}
-use Rattle.reg_tables.specs.Rows.{deposit_columns, columns_3, columns_5, meta_rows, rows_under}
+use Rattle.reg_tables.specs.Rows.{columns_3, columns_5, meta_rows, rows_under}
 use Rattle.reg_tables.specs.Inserts.{FillsMeta, same_value, went}
 use Rattle.std.specs.Prelude.{codes}
 use Rattle.reg_tables.specs.Register.{deposits_in, meta_columns, IsRegister}
@@ -73,16 +74,17 @@ pub record HasAll (db : Database) : Type 0 where
   pub schema : db.schema ≡ register_schema
   pub meta : db.trees 0 ≡ []
   pub deposits : db.trees 2 ≡ []
-  pub lines : db.trees 3 ≡ []
-  pub steps : db.trees 5 ≡ []
+  pub lines : db.trees 4 ≡ []
+  pub steps : db.trees 6 ≡ []
 
 -- an empty register
 pub record IsNewRegister (text : List ℕ) (db : Database) : Type 0 where
   pub schema : db.schema ≡ register_schema
-  pub meta : db.trees 0 ≡ meta_rows text
+  pub sound : IsDatabase db
+  pub meta : IsPermutation (meta_columns text) (map columns_3 (db.trees 0))
   pub deposits : db.trees 2 ≡ []
-  pub lines : db.trees 3 ≡ []
-  pub steps : db.trees 5 ≡ []
+  pub lines : db.trees 4 ≡ []
+  pub steps : db.trees 6 ≡ []
 
 -- On a clean disk the connection shows an empty register.
 abbrev pub ShowsNewRegister : List ℕ → State → Type 0
@@ -113,17 +115,32 @@ last_two a b c was one two = record {
 }
 
 pub filled : (text : List ℕ) (a b : Database) → HasAll a → FillsMeta text a b → IsNewRegister text b
-filled text a b was put = record { schema = put.schema; meta = put.meta; deposits = put.deposits ∙ was.deposits; lines = put.lines ∙ was.lines; steps = put.steps ∙ was.steps }
+filled text a b was put =
+    let added : IsPermutation (meta_rows text) (map columns_3 (b.trees 0)) = subst (λ (rows : List Row). IsPermutation (map columns_3 rows ++ meta_rows text) (map columns_3 (b.trees 0))) was.meta put.rows in
+    record {
+      schema = put.schema;
+      sound = put.sound;
+      meta = IsPermutation-trans _ _ _ (IsPermutation-append_comm (dictionary_row ∷ []) (format_row ∷ [])) added;
+      deposits = put.others.1.0 (λ e. absurd (let no : 2 ≡ 0 = e in omega arith)) ∙ was.deposits;
+      lines = put.others.1.1.0 (λ e. absurd (let no : 4 ≡ 0 = e in omega arith)) ∙ was.lines;
+      steps = put.others.1.1.1.0 (λ e. absurd (let no : 6 ≡ 0 = e in omega arith)) ∙ was.steps;
+    }
+  where
+    dictionary_row : Row
+    dictionary_row = Words (codes "dictionary") ∷ Int (pos 0) ∷ Bytes text ∷ []
 
-pub new_register : (text : List ℕ) (dictionary : Entries) (db : Database) → IsNewRegister text db → IsDatabase db → length text ≤ READABLE → IsDictionary text dictionary → IsRegister db dictionary []
-new_register text dictionary db it sound short reads = record {
+    format_row : Row
+    format_row = Words (codes "format") ∷ Int (pos 1) ∷ Bytes [] ∷ []
+
+pub new_register : (text : List ℕ) (dictionary : Entries) (db : Database) → IsNewRegister text db → length text ≤ READABLE → IsDictionary text dictionary → IsRegister db dictionary []
+new_register text dictionary db it short reads = record {
   schema = it.schema;
-  sound = sound;
+  sound = it.sound;
   text = text;
   short = short;
   reads = reads;
-  meta = subst (λ rows. IsPermutation (meta_columns text) (map columns_3 rows)) (sym it.meta) (IsPermutation-append_comm ((Words (codes "dictionary") ∷ Int (pos 0) ∷ Bytes text ∷ []) ∷ []) ((Words (codes "format") ∷ Int (pos 1) ∷ Bytes [] ∷ []) ∷ []));
-  deposits = subst (λ rows. IsPermutation [] (map deposit_columns rows)) (sym it.deposits) (IsPermutation-refl []);
+  meta = it.meta;
+  deposits = subst (λ rows. IsPermutation [] (map columns_5 rows)) (sym it.deposits) (IsPermutation-refl []);
   files = [];
   each = tt;
   named = tt;

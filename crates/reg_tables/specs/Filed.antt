@@ -9,20 +9,15 @@ use Rattle.reg_store.specs.Sent.{Sent}
 use Rattle.reg_store.specs.Fit.{kept_rows}
 use Rattle.reg_tables.specs.Rows.{deposit_from}
 use Rattle.reg_tables.specs.Inserts.{AddsDeposit, AddsFile}
-use Rattle.reg_tables.specs.Late.{SetsBody, bare}
 use Rattle.reg_tables.specs.KeepLaws.{PutsOf}
 use Rattle.reg_tables.specs.Commits.{Changes}
 
 abbrev pub filed_deposit : Filed → Sent
 filed_deposit filed = record { firm = filed.firm.now; project = filed.project.now; embargo = pos filed.embargo; bytes = filed.body.now }
 
--- The deposit is added under its number, without its body.
-abbrev pub AddsBare : Filed → Database → Database → Type 0
-AddsBare filed = AddsDeposit filed.number (bare (filed_deposit filed))
-
--- The deposit of the number has the body that is filed, and all else is as it was.
-abbrev pub SetsFiledBody : Filed → Database → Database → Type 0
-SetsFiledBody filed = SetsBody filed.number (filed_deposit filed)
+-- The deposit is added under its number.
+abbrev pub AddsRow : Filed → Database → Database → Type 0
+AddsRow filed = AddsDeposit filed.number (filed_deposit filed)
 
 -- the deposit is added under its number, with these rows and steps
 abbrev pub AddsFiled : Filed → List KeptRow → List (ℕ × ℕ) → Database → Database → Type 0

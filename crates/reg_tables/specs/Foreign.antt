@@ -16,16 +16,16 @@ use Rattle.sqlite_value.proofs.OrderLemmas.{value_cmp_total}
 use Rattle.sqlite.specs.Ops.{binary}
 use Rattle.reg_tables.specs.Reads.{equal_order, truth_is}
 use Rattle.reg_tables.specs.Register.{has_number}
-use Rattle.reg_tables.specs.Rows.{deposit_columns, deposit_table, columns_3, columns_5, is_of, rows_under}
+use Rattle.reg_tables.specs.Rows.{columns_3, columns_5, deposit_table, is_of, rows_under}
 use Rattle.reg_tables.specs.Tables.{lines, steps, register_schema}
 
 -- a row of lines has a row of deposits with its number
-pub has_deposit : (trees : Trees) (r : Row) → passes ForeignKey register_schema trees lines r ≡ true → (((is_null (column r 1) || false) || list_any (λ p. equal Binary (column p 0) (column r 1) && true) (trees 2)) && true) ≡ true
+pub has_deposit : (trees : Trees) (r : Row) → passes ForeignKey register_schema trees lines r ≡ true → (((is_null (column r 1) || false) || list_any (λ p. equal Binary (column p 1) (column r 1) && true) (trees 2)) && true) ≡ true
 unfolding same_name first_key joined
 has_deposit trees r h = h
 
 -- a row of steps has a row of deposits with its number
-pub step_has_deposit : (trees : Trees) (r : Row) → passes ForeignKey register_schema trees steps r ≡ true → (((is_null (column r 1) || false) || list_any (λ p. equal Binary (column p 0) (column r 1) && true) (trees 2)) && true) ≡ true
+pub step_has_deposit : (trees : Trees) (r : Row) → passes ForeignKey register_schema trees steps r ≡ true → (((is_null (column r 1) || false) || list_any (λ p. equal Binary (column p 1) (column r 1) && true) (trees 2)) && true) ≡ true
 unfolding same_name first_key joined
 step_has_deposit trees r h = h
 
@@ -88,13 +88,13 @@ apart_from u v n is differ = go (is_null_or u)
     go (inl e) = rw e (null_left v)
     go (inr e) = eq_both u v e (not_null v n is) ∙ tested (is_eq (value_cmp u v)) refl
 
-no_parent : (n : ℕ) (v : Value) (rows : List Row) → is_eq (value_cmp v (Int (pos n))) ≡ true → filter (has_number n) (map deposit_columns rows) ≡ [] → list_any (λ p. equal Binary (column p 0) v && true) rows ≡ false
+no_parent : (n : ℕ) (v : Value) (rows : List Row) → is_eq (value_cmp v (Int (pos n))) ≡ true → filter (has_number n) (map columns_5 rows) ≡ [] → list_any (λ p. equal Binary (column p 1) v && true) rows ≡ false
 no_parent n v [] is none = refl
-no_parent n v (p ∷ rows) is none = go (no_parent n v rows is) (has_number n (deposit_columns p)) refl none
+no_parent n v (p ∷ rows) is none = go (no_parent n v rows is) (has_number n (columns_5 p)) refl none
   where
-    go : (filter (has_number n) (map deposit_columns rows) ≡ [] → list_any (λ p. equal Binary (column p 0) v && true) rows ≡ false) → (b : Bool) → has_number n (deposit_columns p) ≡ b → (if b then deposit_columns p ∷ filter (has_number n) (map deposit_columns rows) else filter (has_number n) (map deposit_columns rows)) ≡ [] → list_any (λ p. equal Binary (column p 0) v && true) (p ∷ rows) ≡ false
+    go : (filter (has_number n) (map columns_5 rows) ≡ [] → list_any (λ p. equal Binary (column p 1) v && true) rows ≡ false) → (b : Bool) → has_number n (columns_5 p) ≡ b → (if b then columns_5 p ∷ filter (has_number n) (map columns_5 rows) else filter (has_number n) (map columns_5 rows)) ≡ [] → list_any (λ p. equal Binary (column p 1) v && true) (p ∷ rows) ≡ false
     go more true e h = absurd cc
-    go more false e h = rw (apart_from (column p 0) v n is e) (more h)
+    go more false e h = rw (apart_from (column p 1) v n is e) (more h)
 
 -- no row of lines has a number that no deposit has
 pub no_lines : (trees : Trees) (n : ℕ) (rows : List Row) → filter (has_number n) (deposit_table trees) ≡ [] → AllByRecursion (λ r. passes ForeignKey register_schema trees lines r ≡ true) rows → rows_under n (map columns_5 rows) ≡ []

@@ -1,25 +1,26 @@
 -- What the inserts do.
-use Rattle.std.proofs.Common.{◌≡◌, ◌⊎◌, inl, inr, ℕ, ◌+◌, ◌/◌, drop, pos, List, [], ◌∷◌, ◌++◌, map, length, Bool, true, false, not, ◌&&◌, None, Ok, Err, Result, refl, sym, ap, subst, ◌∙◌, arith}
+use Rattle.std.proofs.Common.{◌≡◌, ◌≢◌, ◌⊎◌, inl, inr, ℕ, ◌+◌, ◌/◌, drop, pos, List, [], ◌∷◌, ◌++◌, map, length, Some, None, slice_get, Ok, Err, Result, refl, sym, ap, subst, ◌∙◌, arith}
 use Rattle.std.specs.List.{AllByRecursion}
-use Rattle.std.specs.Ordering.{is_eq}
 use Rattle.std.specs.List.Sorted.{IsPermutation}
-use Rattle.sqlite_keyed.proofs.ListLemmas.{none_from_any, all_map}
-use Rattle.sqlite_rules.specs.Edit.{is_taken}
 use Rattle.sqlite.specs.declared.types.Value.TheVariants.{Null, Int, Blob as Bytes}
-use Rattle.sqlite.specs.Order.{Row, value_cmp}
+use Rattle.sqlite.specs.Order.{Row}
 use Rattle.sqlite.specs.Term.{Term}
 use Rattle.sqlite.specs.Source.TheVariants.{Values}
 use Rattle.sqlite.specs.Command.TheVariants.{Insert}
 use Rattle.sqlite.specs.Edit.{edit_of}
 use Rattle.sqlite.specs.Rowids.TheVariants.{Chosen}
-use Rattle.sqlite.specs.Does.{Tally, Does}
-use Rattle.sqlite.specs.Effect.{Database, value_rows}
+use Rattle.sqlite.specs.Does.{Tally, Does, AtPlace, OnRows}
+use Rattle.sqlite.specs.Effect.{Database, IsDatabase, value_rows}
 use Rattle.sqlite.specs.Rows.{Written, stamped}
-use Rattle.sqlite.specs.Tree.{Trees, put_row, rowid}
+use Rattle.sqlite.specs.Tree.{Trees}
 use Rattle.sqlite_rules.specs.Cast.{cast_row}
 use Rattle.sqlite_rules.specs.Edit.{put_all}
 use Rattle.sqlite_rules.specs.Action.{works}
+use Rattle.sqlite_schema.specs.declared.schema.Column.{Column}
+use Rattle.sqlite_schema.specs.declared.schema.Reference.{Reference}
 use Rattle.sqlite_schema.specs.declared.schema.Table.{Table}
+use Rattle.sqlite_value.specs.declared.keys.Order.{Order}
+use Rattle.sqlite_value.specs.Keys.{plain}
 use Rattle.sqlite_rules.specs.Action as action
 use Rattle.sqlite_schema.specs.declared.schema.Keys.TheVariants.{Enforced}
 use Rattle.sqlite.specs.Listing.{understood}
@@ -27,12 +28,11 @@ use Rattle.sqlite.specs.State.{State, mode_of, Executes}
 use Rattle.sqlite.proofs.Callers.{IsPlain, command_of, statement_of, runs_as, one_step}
 use Rattle.reg_store.specs.declared.keep.KeptRow.{KeptRow}
 use Rattle.reg_store.specs.Sent.{Sent}
-use Rattle.reg_tables.specs.Tables.{meta, deposits, lines, steps, register_schema}
+use Rattle.reg_tables.specs.Tables.{keyed, falling, meta, deposits, lines, steps, register_schema}
 use Rattle.reg_tables.specs.Texts.{insert_deposit, insert_line, insert_step, insert_eight_lines, insert_eight_steps, fill_meta}
 use Rattle.reg_tables.specs.Meaning.{deposit_terms, deposit_is, deposit_plain, line_terms, line_is, line_plain, step_terms, step_is, step_plain, eight_line_terms, eight_lines_are, eight_lines_plain, eight_step_terms, eight_steps_are, eight_steps_plain, fill_terms, fill_is, fill_plain}
-use Rattle.reg_tables.specs.Rows.{columns_5, columns_3, joined, line_table, line_row, line_rows, step_table, step_row, step_rows, deposit_row, given_deposit, deposit_columns, deposit_table, meta_rows, IsMore}
-use Rattle.reg_tables.specs.Register.{has_number}
-use Rattle.reg_tables.specs.Put.{less, put_seen, cast_null, cast_int, IsBlind, all_seen}
+use Rattle.reg_tables.specs.Rows.{columns_5, columns_3, joined, line_table, line_row, line_rows, step_table, step_row, step_rows, given_deposit, deposit_table, meta_rows, IsMore}
+use Rattle.reg_tables.specs.Put.{cast_int, IsBlind, all_seen}
 
 pub same_value : {B E : Type 0} {a b : B} → ◌≡◌ {A = Result B E} (Ok a) (Ok b) → a ≡ b
 same_value e = cc
@@ -41,36 +41,24 @@ pub went : {B E R : Type 0} {b : B} {Stops : E → Type 0} → ((stop : E) × St
 went (inl stopped) = absurd (let e = stopped.2 in cc)
 went (inr on) = on
 
--- the tables but one are as they were
-pub record AddsLines (more : List Row) (old new : Database) : Type 0 where
+-- One table holds more rows, by their columns, and the database is sound; the other tables are as they were.
+pub record Adds (tree : ℕ) (see : Row → Row) (more : List Row) (old new : Database) : Type 0 where
   pub schema : new.schema ≡ register_schema
-  pub meta : new.trees 0 ≡ old.trees 0
-  pub deposits : new.trees 2 ≡ old.trees 2
-  pub lines : IsMore (line_table old.trees) more (line_table new.trees)
-  pub steps : new.trees 5 ≡ old.trees 5
+  pub sound : IsDatabase new
+  pub rows : IsMore (map see (old.trees tree)) more (map see (new.trees tree))
+  pub others : AllByRecursion (λ t. t.tree ≢ tree → new.trees t.tree ≡ old.trees t.tree) register_schema.tables
 
-pub record AddsSteps (more : List Row) (old new : Database) : Type 0 where
-  pub schema : new.schema ≡ register_schema
-  pub meta : new.trees 0 ≡ old.trees 0
-  pub deposits : new.trees 2 ≡ old.trees 2
-  pub lines : new.trees 3 ≡ old.trees 3
-  pub steps : IsMore (step_table old.trees) more (step_table new.trees)
+abbrev pub FillsMeta : List ℕ → Database → Database → Type 0
+FillsMeta dictionary = Adds 0 columns_3 (meta_rows dictionary)
 
-pub record AddsDeposit (n : ℕ) (d : Sent) (old new : Database) : Type 0 where
-  -- no row had the number
-  pub alone : AllByRecursion (λ c. has_number n c ≡ false) (deposit_table old.trees)
-  pub schema : new.schema ≡ register_schema
-  pub meta : new.trees 0 ≡ old.trees 0
-  pub deposits : IsMore (deposit_table old.trees) (given_deposit n d ∷ []) (deposit_table new.trees)
-  pub lines : new.trees 3 ≡ old.trees 3
-  pub steps : new.trees 5 ≡ old.trees 5
+abbrev pub AddsDeposit : ℕ → Sent → Database → Database → Type 0
+AddsDeposit n d = Adds 2 columns_5 (given_deposit n d ∷ [])
 
-pub record FillsMeta (dictionary : List ℕ) (old new : Database) : Type 0 where
-  pub schema : new.schema ≡ register_schema
-  pub meta : new.trees 0 ≡ meta_rows dictionary
-  pub deposits : new.trees 2 ≡ old.trees 2
-  pub lines : new.trees 3 ≡ old.trees 3
-  pub steps : new.trees 5 ≡ old.trees 5
+abbrev pub AddsLines : List Row → Database → Database → Type 0
+AddsLines = Adds 4 columns_5
+
+abbrev pub AddsSteps : List Row → Database → Database → Type 0
+AddsSteps = Adds 6 columns_3
 
 -- a deposit with its rows and its steps
 pub record AddsFile (n : ℕ) (d : Sent) (rows : List KeptRow) (graph : List (ℕ × ℕ)) (old new : Database) : Type 0 where
@@ -114,33 +102,47 @@ by_eight P all (a ∷ b ∷ c ∷ d ∷ e ∷ f ∷ []) eight = absurd (omega ar
 by_eight P all (a ∷ b ∷ c ∷ d ∷ e ∷ f ∷ g ∷ []) eight = absurd (omega arith)
 by_eight P all (a ∷ b ∷ c ∷ d ∷ e ∷ f ∷ g ∷ i ∷ j ∷ more) eight = absurd (omega arith)
 
--- what is put in `lines`, where no other table is written
-puts_lines : (sql : List ℕ) (terms : List Term) → command_of (understood register_schema sql) ≡ Insert 2 (Values terms 6) → IsPlain (understood register_schema sql)
-    → (params : Row) → IsLone lines 6 terms params → (more : List Row) → map columns_5 (taken_as lines 6 terms params) ≡ more
-    → (old new : State) (count : ℕ) → old.now.schema ≡ register_schema → Executes sql params old new (Ok count) → AddsLines more old.now new.now
-puts_lines sql terms is plain params lone more seen_as old new count has h =
+-- What an insert puts in a table, where no foreign key acts on it.
+puts : (at : ℕ) (name : List ℕ) (tree : ℕ) (columns : List Column) (key : List ℕ) (order : Order) (references : List Reference) → slice_get register_schema.tables at ≡ Some (keyed name tree columns key order references)
+    → (see : Row → Row) → IsBlind see → (width : ℕ) (sql : List ℕ) (terms : List Term) → command_of (understood register_schema sql) ≡ Insert at (Values terms width) → IsPlain (understood register_schema sql)
+    → (params : Row) → IsLone (keyed name tree columns key order references) width terms params → (more : List Row) → map see (taken_as (keyed name tree columns key order references) width terms params) ≡ more
+    → (old new : State) (count : ℕ) → old.now.schema ≡ register_schema → Executes sql params old new (Ok count) → Adds tree see more old.now new.now
+puts at name tree columns key order references here see blind width sql terms is plain params lone more seen_as old new count has h =
+    let table = keyed name tree columns key order references in
     let db = old.now.trees in
-    let command = Insert 2 (Values terms 6) in
+    let command = Insert at (Values terms width) in
     let w = runs_as sql params old new register_schema has command is plain count h in
     let text = statement_of sql (understood register_schema sql) in
-    let done = went (subst (λ s. Does old.step_limit (mode_of old) params (record old.now { schema = s }) text None command (Ok (w.tally, new.now))) has w.changed) in
+    let mode = mode_of old in
+    let known = subst (λ s. Does old.step_limit mode params (record old.now { schema = s }) text None command (Ok (w.tally, new.now))) has w.changed in
+    let done = went (subst (λ o. AtPlace (λ t. OnRows (record { limit = old.step_limit; keys = mode.keys; schema = register_schema; table = t; params = params }) mode None command db) o (Ok (w.tally, new.now))) here known) in
     let now = ap (λ (p : Tally × Database). p.1) (same_value (went (went done.2).2).2) in
     let given = went done.1 in
     let written = went (went given.2).2 in
     let counted = went written.2 in
     let trees : done.0.trees ≡ written.0 = ap (λ (it : Written). it.trees) (same_value counted.2) ∙ same_value counted.1 in
-    let edit = edit_of db lines [] Chosen 0 (sources lines 6 terms params) in
-    let wrote : action.Writes register_schema Enforced db edit (Ok written.0) = subst (λ all. action.Writes register_schema Enforced db (edit_of db lines [] Chosen 0 all) (Ok written.0)) given.1.1 written.1 in
+    let same : new.now.trees ≡ written.0 = ap (λ (d : Database). d.trees) now ∙ trees in
+    let edit = edit_of db table [] Chosen 0 (sources table width terms params) in
+    let wrote : action.Writes register_schema Enforced db edit (Ok written.0) = subst (λ all. action.Writes register_schema Enforced db (edit_of db table [] Chosen 0 all) (Ok written.0)) given.1.1 written.1 in
     let step = one_step register_schema Enforced db written.0 edit (lone db) wrote in
-    let seen = subst (λ rows. IsPermutation (map columns_5 (db 3) ++ rows) (map columns_5 (put_all (db 3) edit.news))) seen_as
-    (all_seen columns_5 columns_5_blind (db 3) (taken_as lines 6 terms params) step.fresh) in
+    let seen = subst (λ rows. IsPermutation (map see (db tree) ++ rows) (map see (put_all (db tree) edit.news))) seen_as
+    (all_seen see blind (db tree) (taken_as table width terms params) step.fresh) in
     record {
       schema = ap (λ (d : Database). d.schema) now;
-      meta = ap (λ (d : Database). d.trees 0) now ∙ ap (λ (t : Trees). t 0) trees ∙ step.tables.0 (λ e. absurd (let no : 0 ≡ 3 = e in omega arith));
-      deposits = ap (λ (d : Database). d.trees 2) now ∙ ap (λ (t : Trees). t 2) trees ∙ step.tables.1.0 (λ e. absurd (let no : 2 ≡ 3 = e in omega arith));
-      lines = subst (λ rows. IsPermutation (map columns_5 (db 3) ++ more) (map columns_5 rows)) (sym (ap (λ (d : Database). d.trees 3) now ∙ ap (λ (t : Trees). t 3) trees ∙ step.rows)) seen;
-      steps = ap (λ (d : Database). d.trees 5) now ∙ ap (λ (t : Trees). t 5) trees ∙ step.tables.1.1.1.0 (λ e. absurd (let no : 5 ≡ 3 = e in omega arith));
+      sound = w.sound;
+      rows = subst (λ rows. IsPermutation (map see (db tree) ++ more) (map see rows)) (sym (ap (λ (t : Trees). t tree) same ∙ step.rows)) seen;
+      others = subst (λ (t : Trees). AllByRecursion (λ k. k.tree ≢ tree → t k.tree ≡ db k.tree) register_schema.tables) (sym same) step.tables;
     }
+
+puts_lines : (sql : List ℕ) (terms : List Term) → command_of (understood register_schema sql) ≡ Insert 2 (Values terms 6) → IsPlain (understood register_schema sql)
+    → (params : Row) → IsLone lines 6 terms params → (more : List Row) → map columns_5 (taken_as lines 6 terms params) ≡ more
+    → (old new : State) (count : ℕ) → old.now.schema ≡ register_schema → Executes sql params old new (Ok count) → AddsLines more old.now new.now
+puts_lines = puts 2 lines.name lines.tree lines.columns lines.primary plain lines.references refl columns_5 columns_5_blind 6
+
+puts_steps : (sql : List ℕ) (terms : List Term) → command_of (understood register_schema sql) ≡ Insert 3 (Values terms 4) → IsPlain (understood register_schema sql)
+    → (params : Row) → IsLone steps 4 terms params → (more : List Row) → map columns_3 (taken_as steps 4 terms params) ≡ more
+    → (old new : State) (count : ℕ) → old.now.schema ≡ register_schema → Executes sql params old new (Ok count) → AddsSteps more old.now new.now
+puts_steps = puts 3 steps.name steps.tree steps.columns steps.primary plain steps.references refl columns_3 columns_3_blind 4
 
 -- a row of a file, as the table takes it
 line_taken : (n at : ℕ) (row : KeptRow) → columns_5 (cast_row lines (Null ∷ line_row n at row)) ≡ line_row n at row
@@ -163,34 +165,6 @@ puts_eight_lines old new n at rows count eight has = by_eight (λ all. Executes 
     puts_lines insert_eight_lines eight_line_terms eight_lines_are eight_lines_plain (joined (line_rows n at all)) (λ db. refl) (line_rows n at all) (lines_taken n at all) old new count has)
     rows eight
 
--- what is put in `steps`, where no other table is written
-puts_steps : (sql : List ℕ) (terms : List Term) → command_of (understood register_schema sql) ≡ Insert 3 (Values terms 4) → IsPlain (understood register_schema sql)
-    → (params : Row) → IsLone steps 4 terms params → (more : List Row) → map columns_3 (taken_as steps 4 terms params) ≡ more
-    → (old new : State) (count : ℕ) → old.now.schema ≡ register_schema → Executes sql params old new (Ok count) → AddsSteps more old.now new.now
-puts_steps sql terms is plain params lone more seen_as old new count has h =
-    let db = old.now.trees in
-    let command = Insert 3 (Values terms 4) in
-    let w = runs_as sql params old new register_schema has command is plain count h in
-    let text = statement_of sql (understood register_schema sql) in
-    let done = went (subst (λ s. Does old.step_limit (mode_of old) params (record old.now { schema = s }) text None command (Ok (w.tally, new.now))) has w.changed) in
-    let now = ap (λ (p : Tally × Database). p.1) (same_value (went (went done.2).2).2) in
-    let given = went done.1 in
-    let written = went (went given.2).2 in
-    let counted = went written.2 in
-    let trees : done.0.trees ≡ written.0 = ap (λ (it : Written). it.trees) (same_value counted.2) ∙ same_value counted.1 in
-    let edit = edit_of db steps [] Chosen 0 (sources steps 4 terms params) in
-    let wrote : action.Writes register_schema Enforced db edit (Ok written.0) = subst (λ all. action.Writes register_schema Enforced db (edit_of db steps [] Chosen 0 all) (Ok written.0)) given.1.1 written.1 in
-    let step = one_step register_schema Enforced db written.0 edit (lone db) wrote in
-    let seen = subst (λ rows. IsPermutation (map columns_3 (db 5) ++ rows) (map columns_3 (put_all (db 5) edit.news))) seen_as
-    (all_seen columns_3 columns_3_blind (db 5) (taken_as steps 4 terms params) step.fresh) in
-    record {
-      schema = ap (λ (d : Database). d.schema) now;
-      meta = ap (λ (d : Database). d.trees 0) now ∙ ap (λ (t : Trees). t 0) trees ∙ step.tables.0 (λ e. absurd (let no : 0 ≡ 5 = e in omega arith));
-      deposits = ap (λ (d : Database). d.trees 2) now ∙ ap (λ (t : Trees). t 2) trees ∙ step.tables.1.0 (λ e. absurd (let no : 2 ≡ 5 = e in omega arith));
-      lines = ap (λ (d : Database). d.trees 3) now ∙ ap (λ (t : Trees). t 3) trees ∙ step.tables.1.1.0 (λ e. absurd (let no : 3 ≡ 5 = e in omega arith));
-      steps = subst (λ rows. IsPermutation (map columns_3 (db 5) ++ more) (map columns_3 rows)) (sym (ap (λ (d : Database). d.trees 5) now ∙ ap (λ (t : Trees). t 5) trees ∙ step.rows)) seen;
-    }
-
 -- a step, as the table takes it
 step_taken : (n : ℕ) (step : ℕ × ℕ) → columns_3 (cast_row steps (Null ∷ step_row n step)) ≡ step_row n step
 step_taken n step = rw (cast_int (pos n), cast_int (pos step.0), cast_int (pos step.1))
@@ -212,67 +186,18 @@ puts_eight_steps old new n graph count eight has = by_eight (λ all. Executes in
     puts_steps insert_eight_steps eight_step_terms eight_steps_are eight_steps_plain (joined (step_rows n all)) (λ db. refl) (step_rows n all) (steps_taken n all) old new count has)
     graph eight
 
-untaken : (n : ℕ) (row : Row) (rows : List Row) (b : Bool) → rowid row ≡ Int (pos n) → (not (is_taken rows row) && b) ≡ true → AllByRecursion (λ c. has_number n c ≡ false) (map deposit_columns rows)
-untaken n row rows b is h =
-    let none = none_from_any (λ r. is_eq (value_cmp (rowid r) (rowid row))) rows (not_so _ b h) in
-    all_map (λ c. has_number n c ≡ false) deposit_columns rows (subst (λ v. AllByRecursion (λ r. is_eq (value_cmp (rowid r) v) ≡ false) rows) is none)
-  where
-    not_so : (a b : Bool) → (not a && b) ≡ true → a ≡ false
-    not_so true b h = absurd cc
-    not_so false b h = refl
+deposit_taken : (n : ℕ) (d : Sent) → map columns_5 (map (λ row. cast_row deposits (drop 0 row)) ((Null ∷ given_deposit n d) ∷ [])) ≡ given_deposit n d ∷ []
+deposit_taken n d = rw (cast_int (pos n), cast_int d.embargo) refl
 
 pub puts_deposit : (old new : State) (n : ℕ) (d : Sent) (count : ℕ) → old.now.schema ≡ register_schema → Executes insert_deposit (given_deposit n d) old new (Ok count) → AddsDeposit n d old.now new.now
-puts_deposit old new n d count has h =
-    let params = given_deposit n d in
-    let db = old.now.trees in
-    let command = Insert 1 (Values deposit_terms 6) in
-    let w = runs_as insert_deposit params old new register_schema has command deposit_is deposit_plain count h in
-    let text = statement_of insert_deposit (understood register_schema insert_deposit) in
-    let done = went (subst (λ s. Does old.step_limit (mode_of old) params (record old.now { schema = s }) text None command (Ok (w.tally, new.now))) has w.changed) in
-    let now = ap (λ (p : Tally × Database). p.1) (same_value (went (went done.2).2).2) in
-    let given = went done.1 in
-    let written = went (went given.2).2 in
-    let counted = went written.2 in
-    let trees : done.0.trees ≡ written.0 = ap (λ (it : Written). it.trees) (same_value counted.2) ∙ same_value counted.1 in
-    let source = value_rows params 6 1 deposit_terms in
-    let edit = edit_of db deposits [] Chosen 0 source in
-    let wrote : action.Writes register_schema Enforced db edit (Ok written.0) = subst (λ all. action.Writes register_schema Enforced db (edit_of db deposits [] Chosen 0 all) (Ok written.0)) given.1.1 written.1 in
-    let step = one_step register_schema Enforced db written.0 edit refl wrote in
-    let new_row = deposit_row n d in
-    let put : written.0 2 ≡ put_row new_row (db 2) = step.rows ∙ rw (cast_null, cast_int (pos n), cast_int d.embargo) in
-    let fresh = rw (cast_int (pos n)) at step.fresh in
-    let seen : IsPermutation (map deposit_columns (db 2) ++ params ∷ []) (map deposit_columns (put_row new_row (db 2))) = put_seen deposit_columns new_row (db 2) true fresh in
-    record {
-      alone = untaken n new_row (db 2) true refl fresh;
-      schema = ap (λ (b : Database). b.schema) now;
-      meta = ap (λ (b : Database). b.trees 0) now ∙ ap (λ (t : Trees). t 0) trees ∙ step.tables.0 (λ e. absurd (let no : 0 ≡ 2 = e in omega arith));
-      deposits = subst (λ rows. IsPermutation (map deposit_columns (db 2) ++ params ∷ []) (map deposit_columns rows)) (sym (ap (λ (b : Database). b.trees 2) now ∙ ap (λ (t : Trees). t 2) trees ∙ put)) seen;
-      lines = ap (λ (b : Database). b.trees 3) now ∙ ap (λ (t : Trees). t 3) trees ∙ step.tables.1.1.0 (λ e. absurd (let no : 3 ≡ 2 = e in omega arith));
-      steps = ap (λ (b : Database). b.trees 5) now ∙ ap (λ (t : Trees). t 5) trees ∙ step.tables.1.1.1.0 (λ e. absurd (let no : 5 ≡ 2 = e in omega arith));
-    }
+puts_deposit old new n d count =
+    puts 1 deposits.name deposits.tree deposits.columns deposits.primary falling deposits.references refl columns_5 columns_5_blind 6 insert_deposit deposit_terms deposit_is deposit_plain
+    (given_deposit n d) (λ db. refl) (given_deposit n d ∷ []) (deposit_taken n d) old new count
 
-pub fills_meta : (old new : State) (dictionary : List ℕ) (count : ℕ) → old.now.schema ≡ register_schema → old.now.trees 0 ≡ [] → Executes fill_meta (Bytes dictionary ∷ []) old new (Ok count) → FillsMeta dictionary old.now new.now
-fills_meta old new dictionary count has none h =
-    let params = Bytes dictionary ∷ [] in
-    let db = old.now.trees in
-    let command = Insert 0 (Values fill_terms 4) in
-    let w = runs_as fill_meta params old new register_schema has command fill_is fill_plain count h in
-    let text = statement_of fill_meta (understood register_schema fill_meta) in
-    let done = went (subst (λ s. Does old.step_limit (mode_of old) params (record old.now { schema = s }) text None command (Ok (w.tally, new.now))) has w.changed) in
-    let now = ap (λ (p : Tally × Database). p.1) (same_value (went (went done.2).2).2) in
-    let given = went done.1 in
-    let written = went (went given.2).2 in
-    let counted = went written.2 in
-    let trees : done.0.trees ≡ written.0 = ap (λ (it : Written). it.trees) (same_value counted.2) ∙ same_value counted.1 in
-    let source = value_rows params 4 2 fill_terms in
-    let edit = edit_of db meta [] Chosen 0 source in
-    let wrote : action.Writes register_schema Enforced db edit (Ok written.0) = subst (λ all. action.Writes register_schema Enforced db (edit_of db meta [] Chosen 0 all) (Ok written.0)) given.1.1 written.1 in
-    let step = one_step register_schema Enforced db written.0 edit refl wrote in
-    let put : written.0 0 ≡ meta_rows dictionary = step.rows ∙ rw (none, cast_null, cast_int (pos 1), cast_int (pos 0), less 1 2 (omega arith)) in
-    record {
-      schema = ap (λ (d : Database). d.schema) now;
-      meta = ap (λ (b : Database). b.trees 0) now ∙ ap (λ (t : Trees). t 0) trees ∙ put;
-      deposits = ap (λ (b : Database). b.trees 2) now ∙ ap (λ (t : Trees). t 2) trees ∙ step.tables.1.0 (λ e. absurd (let no : 2 ≡ 0 = e in omega arith));
-      lines = ap (λ (b : Database). b.trees 3) now ∙ ap (λ (t : Trees). t 3) trees ∙ step.tables.1.1.0 (λ e. absurd (let no : 3 ≡ 0 = e in omega arith));
-      steps = ap (λ (b : Database). b.trees 5) now ∙ ap (λ (t : Trees). t 5) trees ∙ step.tables.1.1.1.0 (λ e. absurd (let no : 5 ≡ 0 = e in omega arith));
-    }
+meta_taken : (dictionary : List ℕ) → map columns_3 (taken_as meta 4 fill_terms (Bytes dictionary ∷ [])) ≡ meta_rows dictionary
+meta_taken dictionary = rw (cast_int (pos 1), cast_int (pos 0)) refl
+
+pub fills_meta : (old new : State) (dictionary : List ℕ) (count : ℕ) → old.now.schema ≡ register_schema → Executes fill_meta (Bytes dictionary ∷ []) old new (Ok count) → FillsMeta dictionary old.now new.now
+fills_meta old new dictionary count =
+    puts 0 meta.name meta.tree meta.columns meta.primary plain meta.references refl columns_3 columns_3_blind 4 fill_meta fill_terms fill_is fill_plain
+    (Bytes dictionary ∷ []) (λ db. refl) (meta_rows dictionary) (meta_taken dictionary) old new count

@@ -19,7 +19,6 @@ pub mod Answers
 pub mod Reads
 pub mod Adopts
 pub mod Foreign
-pub mod Late
 pub mod Shows
 pub mod ReadsSteps
 pub mod ReadsProject

@@ -4,8 +4,8 @@ use Rattle.sqlite.specs.Compile.{table_defined_by}
 use Rattle.sqlite.specs.Change.{created}
 use Rattle.sqlite.specs.Schema.{Schema}
 use Rattle.sqlite.specs.Term.{Term, lit, col, op2}
-use Rattle.sqlite_sql.specs.declared.ops.BinaryOp.TheVariants.{Compare, Or}
-use Rattle.sqlite_sql.specs.declared.ops.CompareOp.TheVariants.{Eq, Lt, Gt}
+use Rattle.sqlite_sql.specs.declared.ops.BinaryOp.TheVariants.{Compare}
+use Rattle.sqlite_sql.specs.declared.ops.CompareOp.TheVariants.{Eq, Lt}
 use Rattle.sqlite.specs.Collation.TheVariants.{Binary}
 use Rattle.sqlite.specs.Query.{Query, Join, inner, end}
 use Rattle.sqlite_value.specs.declared.keys.Key.{Key}
@@ -17,7 +17,7 @@ use Rattle.sqlite_tied.specs.Compute.{everything}
 use Rattle.sqlite.specs.Listing.{understood, reads_listing}
 use Rattle.sqlite.proofs.Callers.{IsPlain, command_of, statement_of}
 use Rattle.reg_tables.specs.Tables.{meta, deposits, lines, steps, no_schema, register_schema}
-use Rattle.reg_tables.specs.Texts.{create_meta, create_deposits, create_lines, create_steps, fill_meta, insert_deposit, insert_line, insert_step, insert_eight_lines, insert_eight_steps, select_deposit, select_lines, select_steps, select_front, select_targets, select_all_numbers, select_meta, select_other_lines, select_other_steps}
+use Rattle.reg_tables.specs.Texts.{create_meta, create_deposits, create_lines, create_steps, fill_meta, insert_deposit, insert_line, insert_step, insert_eight_lines, insert_eight_steps, select_deposit, select_lines, select_steps, select_front, select_targets, select_all_numbers, select_meta}
 
 -- ---- the tables
 
@@ -81,7 +81,7 @@ unfolding understood everything
 fill_plain = (refl, refl)
 
 abbrev pub deposit_terms : List Term
-deposit_terms = col 0 0 ∷ lit Null ∷ col 0 1 ∷ col 0 2 ∷ col 0 3 ∷ col 0 4 ∷ []
+deposit_terms = lit Null ∷ col 0 0 ∷ col 0 1 ∷ col 0 2 ∷ col 0 3 ∷ col 0 4 ∷ []
 
 pub deposit_is : command_of (understood register_schema insert_deposit) ≡ Insert 1 (Values deposit_terms 6)
 unfolding understood everything
@@ -177,42 +177,42 @@ abbrev pub Asks : List ℕ → Query → List (List ℕ) → Type 0
 Asks text q names = (command_of (understood register_schema text) ≡ plainly q names) × IsPlain (understood register_schema text) × (reads_listing register_schema text ≡ false)
 
 abbrev pub by_number : Query
-by_number = query (inner 2 end) (op2 (Compare Eq Binary) (col 1 0) (col 0 0) ∷ []) (col 1 0 ∷ col 1 2 ∷ col 1 3 ∷ col 1 4 ∷ col 1 5 ∷ []) []
+by_number = query (inner 2 end) (op2 (Compare Eq Binary) (col 1 1) (col 0 0) ∷ []) (col 1 1 ∷ col 1 2 ∷ col 1 3 ∷ col 1 4 ∷ col 1 5 ∷ []) []
 
 pub deposit_read : Asks select_deposit by_number (codes "number" ∷ codes "firm" ∷ codes "project" ∷ codes "embargo" ∷ codes "body" ∷ [])
 unfolding understood everything
 deposit_read = (refl, (refl, refl), refl)
 
 abbrev pub lines_of_deposit : Query
-lines_of_deposit = query (inner 3 end) (op2 (Compare Eq Binary) (col 1 1) (col 0 0) ∷ []) (col 1 2 ∷ col 1 3 ∷ col 1 4 ∷ col 1 5 ∷ []) (rising (col 1 2) ∷ [])
+lines_of_deposit = query (inner 4 end) (op2 (Compare Eq Binary) (col 1 1) (col 0 0) ∷ []) (col 1 2 ∷ col 1 3 ∷ col 1 4 ∷ col 1 5 ∷ []) (rising (col 1 2) ∷ [])
 
 pub lines_read : Asks select_lines lines_of_deposit (codes "seq" ∷ codes "grp" ∷ codes "kind" ∷ codes "line" ∷ [])
 unfolding understood everything
 lines_read = (refl, (refl, refl), refl)
 
 abbrev pub steps_of_deposit : Query
-steps_of_deposit = query (inner 5 end) (op2 (Compare Eq Binary) (col 1 1) (col 0 0) ∷ []) (col 1 2 ∷ col 1 3 ∷ []) (rising (col 1 2) ∷ rising (col 1 3) ∷ [])
+steps_of_deposit = query (inner 6 end) (op2 (Compare Eq Binary) (col 1 1) (col 0 0) ∷ []) (col 1 2 ∷ col 1 3 ∷ []) (rising (col 1 2) ∷ rising (col 1 3) ∷ [])
 
 pub steps_read : Asks select_steps steps_of_deposit (codes "child" ∷ codes "target" ∷ [])
 unfolding understood everything
 steps_read = (refl, (refl, refl), refl)
 
 abbrev pub front_of_deposit : Query
-front_of_deposit = query (inner 3 end) (op2 (Compare Eq Binary) (col 1 1) (col 0 0) ∷ op2 (Compare Lt Binary) (col 1 2) (lit (Int (pos 5))) ∷ []) (col 1 2 ∷ col 1 3 ∷ col 1 4 ∷ col 1 5 ∷ []) (rising (col 1 2) ∷ [])
+front_of_deposit = query (inner 4 end) (op2 (Compare Eq Binary) (col 1 1) (col 0 0) ∷ op2 (Compare Lt Binary) (col 1 2) (lit (Int (pos 5))) ∷ []) (col 1 2 ∷ col 1 3 ∷ col 1 4 ∷ col 1 5 ∷ []) (rising (col 1 2) ∷ [])
 
 pub front_read : Asks select_front front_of_deposit (codes "seq" ∷ codes "grp" ∷ codes "kind" ∷ codes "line" ∷ [])
 unfolding understood everything
 front_read = (refl, (refl, refl), refl)
 
 abbrev pub targets_of_row : Query
-targets_of_row = query (inner 5 end) (op2 (Compare Eq Binary) (col 1 1) (col 0 0) ∷ op2 (Compare Eq Binary) (col 1 2) (col 0 1) ∷ []) (col 1 3 ∷ []) (rising (col 1 3) ∷ [])
+targets_of_row = query (inner 6 end) (op2 (Compare Eq Binary) (col 1 1) (col 0 0) ∷ op2 (Compare Eq Binary) (col 1 2) (col 0 1) ∷ []) (col 1 3 ∷ []) (rising (col 1 3) ∷ [])
 
 pub targets_read : Asks select_targets targets_of_row (codes "target" ∷ [])
 unfolding understood everything
 targets_read = (refl, (refl, refl), refl)
 
 abbrev pub all_numbers : Query
-all_numbers = query (inner 2 end) [] (col 1 0 ∷ []) (rising (col 1 0) ∷ [])
+all_numbers = query (inner 2 end) [] (col 1 1 ∷ []) (rising (col 1 1) ∷ [])
 
 pub all_numbers_read : Asks select_all_numbers all_numbers (codes "number" ∷ [])
 unfolding understood everything
@@ -224,14 +224,3 @@ all_meta = query (inner 0 end) [] (col 1 1 ∷ col 1 2 ∷ col 1 3 ∷ []) (risi
 pub all_meta_read : Asks select_meta all_meta (codes "name" ∷ codes "num" ∷ codes "body" ∷ [])
 unfolding understood everything
 all_meta_read = (refl, (refl, refl), refl)
-
-abbrev pub other_deposits : ℕ → Query
-other_deposits tree = query (inner tree end) (op2 Or (op2 (Compare Lt Binary) (col 1 1) (lit (Int (pos 1)))) (op2 (Compare Gt Binary) (col 1 1) (col 0 0)) ∷ []) (col 1 1 ∷ []) []
-
-pub other_lines_read : Asks select_other_lines (other_deposits 3) (codes "deposit" ∷ [])
-unfolding understood everything
-other_lines_read = (refl, (refl, refl), refl)
-
-pub other_steps_read : Asks select_other_steps (other_deposits 5) (codes "deposit" ∷ [])
-unfolding understood everything
-other_steps_read = (refl, (refl, refl), refl)

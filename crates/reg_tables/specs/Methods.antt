@@ -6,7 +6,7 @@ use Rattle.std.proofs.Props.{props}
 use Rattle.std.specs.List.{AllZip}
 use Rattle.std.specs.List.Sorted.{IsPermutation}
 use Rattle.sqlite.specs.Tree.{IsAscending}
-use Rattle.sqlite.specs.Order.{Row, bytes, column}
+use Rattle.sqlite.specs.Order.{Row}
 use Rattle.sqlite.specs.Effect.{Database}
 use Rattle.sqlite.specs.State.{State}
 use Rattle.ags_dict.specs.Entries.{Entries}
@@ -19,7 +19,7 @@ use Rattle.reg_store.specs.Keep.{deposit_of}
 use Rattle.reg_store.specs.Sent.{Sent}
 use Rattle.reg_tables.specs.Rows.{deposit_table, given_deposit, line_table, step_table, placed_rows, rows_under, step_pair}
 use Rattle.reg_store.specs.Fit.{IsFileOf, kept_rows}
-use Rattle.reg_tables.specs.Register.{deposits_in, has_number, integer_in, file_lines, file_steps, KeepsRegister}
+use Rattle.reg_tables.specs.Register.{deposits_in, deposit_in, has_number, file_lines, file_steps, KeepsRegister}
 use Rattle.reg_tables.specs.Shows.{row_of_number}
 use Rattle.ags_links.proofs.Lemmas.{steps_ascend}
 use Rattle.ags_check.proofs.Lemmas.{one_clean_file}
@@ -28,13 +28,9 @@ use Rattle.ags_rows.specs.Contents.{contents_of}
 use Rattle.ags_links.specs.DataRows.{data_rows}
 use Rattle.ags_links.specs.Walks.{Wiring}
 
--- a row of deposits, by its columns alone
-abbrev of_row : Row → Sent
-of_row c = record { firm = bytes (column c 1); project = bytes (column c 2); embargo = integer_in (column c 3); bytes = bytes (column c 4) }
-
 -- one row is that of one deposit
 pub same_deposit : (n : ℕ) (a b : Sent) (rows : List Row) → rows ≡ given_deposit n a ∷ [] → rows ≡ given_deposit n b ∷ [] → a ≡ b
-same_deposit n a b rows x y = ap (λ (all : List Row). of_row (get_or all 0 [])) (sym x ∙ y)
+same_deposit n a b rows x y = ap (λ (all : List Row). deposit_in (get_or all 0 [])) (sym x ∙ y)
 
 pub slice_get_in : {X : Type 0} (xs : List X) (k : ℕ) → k < length xs → (x : X) × (slice_get xs k ≡ Some x)
 slice_get_in [] k low = absurd (omega (arith, low))
@@ -47,7 +43,7 @@ deposit_read_at {s} {dictionary} {count} n (Ok kept) low high h ok =
     let list = deposits_in s.committed.trees in
     let d = slice_get_in list (n - 1) (omega (arith, low, high)) in
     let row : (k : KeepsRegister s dictionary count) → slice_get list (n - 1) ≡ Some (deposit_of kept) = λ k.
-    d.1 ∙ ap (λ (all : List Row). Some (of_row (get_or all 0 []))) (sym (row_of_number n list (deposit_table s.now.trees) d.0 low k.register.deposits d.1) ∙ ok) in
+    d.1 ∙ ap (λ (all : List Row). Some (deposit_in (get_or all 0 []))) (sym (row_of_number n list (deposit_table s.now.trees) d.0 low k.register.deposits d.1) ∙ ok) in
     let same : slice_get list (n - 1) ≡ Some (deposit_of kept) = ∥∥₁_elim h (Prim.hlevel props) row in same
 deposit_read_at n (Err e) low high h ok = tt
 

@@ -20,7 +20,7 @@ use Rattle.reg_tables.specs.Tables.{register_schema}
 use Rattle.reg_tables.specs.Texts.{select_all_numbers, select_meta}
 use Rattle.reg_tables.specs.Meaning.{all_numbers, all_numbers_read, all_meta, all_meta_read}
 use Rattle.reg_tables.specs.Put.{less}
-use Rattle.reg_tables.specs.Rows.{columns_3, deposit_columns, deposit_table}
+use Rattle.reg_tables.specs.Rows.{columns_3, columns_5, deposit_table}
 use Rattle.reg_tables.specs.Register.{deposit_rows, meta_columns}
 use Rattle.reg_tables.specs.Answers.{passes, shown_of, answers}
 use Rattle.reg_tables.specs.Adopts.{by_id, id_of, number_rows, shows_meta, shows_numbers}
@@ -30,9 +30,9 @@ use Rattle.reg_tables.specs.Adopts.{by_id, id_of, number_rows, shows_meta, shows
 abbrev show_any : Row → Output
 show_any = shown_of 2 [] all_numbers.project all_numbers.order []
 
-any_selected : (rows : List Row) → map show_any (filter (passes [] []) rows) ≡ map by_id (map deposit_columns rows)
+any_selected : (rows : List Row) → map show_any (filter (passes [] []) rows) ≡ map by_id (map columns_5 rows)
 any_selected [] = refl
-any_selected (r ∷ rows) = ap (λ all. by_id (deposit_columns r) ∷ all) (any_selected rows)
+any_selected (r ∷ rows) = ap (λ all. by_id (columns_5 r) ∷ all) (any_selected rows)
 
 abbrev number_entry : ℕ → Output
 number_entry n = (Int (pos n) ∷ [], Int (pos n) ∷ [])

@@ -61,7 +61,7 @@ abbrev test_line : ℕ → Row → Bool
 test_line n = passes lines_of_deposit.filter (Int (pos n) ∷ [])
 
 abbrev show_line : ℕ → Row → Output
-show_line n = shown_of 3 lines_of_deposit.filter lines_of_deposit.project lines_of_deposit.order (Int (pos n) ∷ [])
+show_line n = shown_of 4 lines_of_deposit.filter lines_of_deposit.project lines_of_deposit.order (Int (pos n) ∷ [])
 
 test_line_is : (n : ℕ) (r : Row) → test_line n r ≡ is_of n (columns_5 r)
 test_line_is n r = and_true (is_true (binary (Compare Eq Binary) (column r 1) (Int (pos n)))) ∙ eq_int (column r 1) n
@@ -106,8 +106,8 @@ lines_rise at (row ∷ rows) = (line_below_all at (at + 1) row rows (omega arith
 pub reads_lines : (old new : State) (n : ℕ) (file : List KeptRow) (rows : List Row) → old.now.schema ≡ register_schema → IsPermutation (placed_rows 0 file) (rows_under n (line_table old.now.trees))
     → Shown select_lines (Int (pos n) ∷ []) old new rows → rows ≡ placed_rows 0 file
 reads_lines old new n file rows has holds h =
-    let a = answers select_lines 3 lines_of_deposit.filter lines_of_deposit.project lines_of_deposit.order _ lines_read old new (Int (pos n) ∷ []) rows refl has h in
-    let same : IsPermutation (map by_seq (rows_under n (line_table old.now.trees))) a.ordered = subst (λ all. IsPermutation all a.ordered) (lines_selected n (old.now.trees 3)) a.same in
+    let a = answers select_lines 4 lines_of_deposit.filter lines_of_deposit.project lines_of_deposit.order _ lines_read old new (Int (pos n) ∷ []) rows refl has h in
+    let same : IsPermutation (map by_seq (rows_under n (line_table old.now.trees))) a.ordered = subst (λ all. IsPermutation all a.ordered) (lines_selected n (old.now.trees 4)) a.same in
     let mine : IsPermutation (line_entries 0 file) a.ordered = subst (λ all. IsPermutation all a.ordered) (lines_are_entries 0 file) (IsPermutation-trans _ _ _ (IsPermutation-map by_seq _ _ holds) same) in
     let ordered : a.ordered ≡ line_entries 0 file = sorted_unique (output_cmp lines_of_deposit) (on_total (λ (o : Output). o.0) (key_cmp_total (map (λ k. k.1) lines_of_deposit.order) 0)) (line_entries 0 file) a.ordered (lines_rise 0 file) mine a.sorted in
     a.shown ∙ ap (map (λ (o : Output). o.1)) ordered ∙ line_entries_show 0 file
@@ -126,7 +126,7 @@ lines_shown n (r ∷ rows) = go (is_of n (columns_5 r)) (lines_shown n rows)
 -- Where the query shows these rows, the table holds them under the number, and no others: so a register is adopted.
 pub holds_lines : (old new : State) (n : ℕ) (rows : List Row) → old.now.schema ≡ register_schema → Shown select_lines (Int (pos n) ∷ []) old new rows → IsPermutation rows (rows_under n (line_table old.now.trees))
 holds_lines old new n rows has h =
-    let a = answers select_lines 3 lines_of_deposit.filter lines_of_deposit.project lines_of_deposit.order _ lines_read old new (Int (pos n) ∷ []) rows refl has h in
-    let same : IsPermutation (map by_seq (rows_under n (line_table old.now.trees))) a.ordered = subst (λ all. IsPermutation all a.ordered) (lines_selected n (old.now.trees 3)) a.same in
+    let a = answers select_lines 4 lines_of_deposit.filter lines_of_deposit.project lines_of_deposit.order _ lines_read old new (Int (pos n) ∷ []) rows refl has h in
+    let same : IsPermutation (map by_seq (rows_under n (line_table old.now.trees))) a.ordered = subst (λ all. IsPermutation all a.ordered) (lines_selected n (old.now.trees 4)) a.same in
     let second = IsPermutation-map (λ (o : Output). o.1) _ _ same in
-    IsPermutation-sym _ _ (subst₂ IsPermutation (lines_shown n (old.now.trees 3)) (sym a.shown) second)
+    IsPermutation-sym _ _ (subst₂ IsPermutation (lines_shown n (old.now.trees 4)) (sym a.shown) second)

@@ -63,7 +63,7 @@ abbrev test_front : ℕ → Row → Bool
 test_front n = passes front_of_deposit.filter (Int (pos n) ∷ [])
 
 abbrev show_front : ℕ → Row → Output
-show_front n = shown_of 3 front_of_deposit.filter front_of_deposit.project front_of_deposit.order (Int (pos n) ∷ [])
+show_front n = shown_of 4 front_of_deposit.filter front_of_deposit.project front_of_deposit.order (Int (pos n) ∷ [])
 
 test_front_is : (n : ℕ) (r : Row) → test_front n r ≡ (is_of n (columns_5 r) && is_early (drop 1 (columns_5 r)))
 test_front_is n r = ap (λ b. b && (is_early (drop 1 (columns_5 r)) && true)) (eq_int (column r 1) n) ∙ ap (λ b. is_of n (columns_5 r) && b) (and_true (is_early (drop 1 (columns_5 r))))
@@ -83,8 +83,8 @@ pub reads_front : (old new : State) (n : ℕ) (file : List KeptRow) (rows : List
     → Shown select_front (Int (pos n) ∷ []) old new rows → rows ≡ placed_rows 0 (take 5 file)
 reads_front old new n file rows has holds h =
     let front = take 5 file in
-    let a = answers select_front 3 front_of_deposit.filter front_of_deposit.project front_of_deposit.order _ front_read old new (Int (pos n) ∷ []) rows refl has h in
-    let same : IsPermutation (map by_seq (filter is_early (rows_under n (line_table old.now.trees)))) a.ordered = subst (λ all. IsPermutation all a.ordered) (front_selected n (old.now.trees 3)) a.same in
+    let a = answers select_front 4 front_of_deposit.filter front_of_deposit.project front_of_deposit.order _ front_read old new (Int (pos n) ∷ []) rows refl has h in
+    let same : IsPermutation (map by_seq (filter is_early (rows_under n (line_table old.now.trees)))) a.ordered = subst (λ all. IsPermutation all a.ordered) (front_selected n (old.now.trees 4)) a.same in
     let early : IsPermutation (placed_rows 0 front) (filter is_early (rows_under n (line_table old.now.trees))) =
     subst (λ all. IsPermutation all (filter is_early (rows_under n (line_table old.now.trees)))) (early_rows 5 0 file refl) (IsPermutation-filter is_early _ _ holds) in
     let mine : IsPermutation (line_entries 0 front) a.ordered = subst (λ all. IsPermutation all a.ordered) (lines_are_entries 0 front) (IsPermutation-trans _ _ _ (IsPermutation-map by_seq _ _ early) same) in
@@ -104,7 +104,7 @@ abbrev test_target : ℕ → ℕ → Row → Bool
 test_target n row = passes targets_of_row.filter (Int (pos n) ∷ Int (pos row) ∷ [])
 
 abbrev show_target : ℕ → ℕ → Row → Output
-show_target n row = shown_of 5 targets_of_row.filter targets_of_row.project targets_of_row.order (Int (pos n) ∷ Int (pos row) ∷ [])
+show_target n row = shown_of 6 targets_of_row.filter targets_of_row.project targets_of_row.order (Int (pos n) ∷ Int (pos row) ∷ [])
 
 test_target_is : (n row : ℕ) (r : Row) → test_target n row r ≡ (is_of n (columns_3 r) && is_of row (drop 1 (columns_3 r)))
 test_target_is n row r =
@@ -179,8 +179,8 @@ pub reads_targets : (old new : State) (n row : ℕ) (steps : List (ℕ × ℕ)) 
     → Shown select_targets (Int (pos n) ∷ Int (pos row) ∷ []) old new rows → rows ≡ map target_cell (targets_of row steps)
 reads_targets old new n row steps rows has up holds h =
     let targets = targets_of row steps in
-    let a = answers select_targets 5 targets_of_row.filter targets_of_row.project targets_of_row.order _ targets_read old new (Int (pos n) ∷ Int (pos row) ∷ []) rows refl has h in
-    let same : IsPermutation (map by_target (filter (is_of row) (rows_under n (step_table old.now.trees)))) a.ordered = subst (λ all. IsPermutation all a.ordered) (targets_selected n row (old.now.trees 5)) a.same in
+    let a = answers select_targets 6 targets_of_row.filter targets_of_row.project targets_of_row.order _ targets_read old new (Int (pos n) ∷ Int (pos row) ∷ []) rows refl has h in
+    let same : IsPermutation (map by_target (filter (is_of row) (rows_under n (step_table old.now.trees)))) a.ordered = subst (λ all. IsPermutation all a.ordered) (targets_selected n row (old.now.trees 6)) a.same in
     let from = IsPermutation-map by_target _ _ (IsPermutation-filter (is_of row) _ _ holds) in
     let mine : IsPermutation (map target_entry targets) a.ordered = subst (λ all. IsPermutation all a.ordered) (targets_are_entries row steps) (IsPermutation-trans _ _ _ from same) in
     let ordered : a.ordered ≡ map target_entry targets =

@@ -34,7 +34,7 @@ abbrev test_step : ℕ → Row → Bool
 test_step n = passes steps_of_deposit.filter (Int (pos n) ∷ [])
 
 abbrev show_step : ℕ → Row → Output
-show_step n = shown_of 5 steps_of_deposit.filter steps_of_deposit.project steps_of_deposit.order (Int (pos n) ∷ [])
+show_step n = shown_of 6 steps_of_deposit.filter steps_of_deposit.project steps_of_deposit.order (Int (pos n) ∷ [])
 
 test_step_is : (n : ℕ) (r : Row) → test_step n r ≡ is_of n (columns_3 r)
 test_step_is n r = and_true _ ∙ eq_int (column r 1) n
@@ -73,8 +73,8 @@ steps_rise steps h = ascending-map (λ a b. output_cmp steps_of_deposit a b ≡ 
 pub reads_steps : (old new : State) (n : ℕ) (steps : List (ℕ × ℕ)) (rows : List Row) → old.now.schema ≡ register_schema → IsAscending IsBefore steps → IsPermutation (map step_pair steps) (rows_under n (step_table old.now.trees))
     → Shown select_steps (Int (pos n) ∷ []) old new rows → rows ≡ map step_pair steps
 reads_steps old new n steps rows has up holds h =
-    let a = answers select_steps 5 steps_of_deposit.filter steps_of_deposit.project steps_of_deposit.order _ steps_read old new (Int (pos n) ∷ []) rows refl has h in
-    let same : IsPermutation (map by_pair (rows_under n (step_table old.now.trees))) a.ordered = subst (λ all. IsPermutation all a.ordered) (steps_selected n (old.now.trees 5)) a.same in
+    let a = answers select_steps 6 steps_of_deposit.filter steps_of_deposit.project steps_of_deposit.order _ steps_read old new (Int (pos n) ∷ []) rows refl has h in
+    let same : IsPermutation (map by_pair (rows_under n (step_table old.now.trees))) a.ordered = subst (λ all. IsPermutation all a.ordered) (steps_selected n (old.now.trees 6)) a.same in
     let mine : IsPermutation (map step_entry steps) a.ordered = subst (λ all. IsPermutation all a.ordered) (steps_are_entries steps) (IsPermutation-trans _ _ _ (IsPermutation-map by_pair _ _ holds) same) in
     let ordered : a.ordered ≡ map step_entry steps = sorted_unique (output_cmp steps_of_deposit) (on_total (λ (o : Output). o.0) (key_cmp_total (map (λ k. k.1) steps_of_deposit.order) 0)) (map step_entry steps) a.ordered (steps_rise steps up) mine a.sorted in
     a.shown ∙ ap (map (λ (o : Output). o.1)) ordered ∙ step_entries_show steps
@@ -92,10 +92,10 @@ steps_shown n (r ∷ rows) = go (is_of n (columns_3 r)) (steps_shown n rows)
 -- Where the query shows these rows, the table holds them under the number, and no others.
 pub holds_steps : (old new : State) (n : ℕ) (rows : List Row) → old.now.schema ≡ register_schema → Shown select_steps (Int (pos n) ∷ []) old new rows → IsPermutation rows (rows_under n (step_table old.now.trees))
 holds_steps old new n rows has h =
-    let a = answers select_steps 5 steps_of_deposit.filter steps_of_deposit.project steps_of_deposit.order _ steps_read old new (Int (pos n) ∷ []) rows refl has h in
-    let same : IsPermutation (map by_pair (rows_under n (step_table old.now.trees))) a.ordered = subst (λ all. IsPermutation all a.ordered) (steps_selected n (old.now.trees 5)) a.same in
+    let a = answers select_steps 6 steps_of_deposit.filter steps_of_deposit.project steps_of_deposit.order _ steps_read old new (Int (pos n) ∷ []) rows refl has h in
+    let same : IsPermutation (map by_pair (rows_under n (step_table old.now.trees))) a.ordered = subst (λ all. IsPermutation all a.ordered) (steps_selected n (old.now.trees 6)) a.same in
     let second = IsPermutation-map (λ (o : Output). o.1) _ _ same in
-    IsPermutation-sym _ _ (subst₂ IsPermutation (steps_shown n (old.now.trees 5)) (sym a.shown) second)
+    IsPermutation-sym _ _ (subst₂ IsPermutation (steps_shown n (old.now.trees 6)) (sym a.shown) second)
 
 -- ---- the rows of an answer give back what was kept
 

@@ -31,12 +31,13 @@ abbrev pub integer_in : Value → ℤ
 integer_in (Int n) = n
 integer_in _ = pos 0
 
+-- a row of deposits, by its columns
 abbrev pub deposit_in : Row → Sent
-deposit_in r = record { firm = bytes (column r 2); project = bytes (column r 3); embargo = integer_in (column r 4); bytes = bytes (column r 5) }
+deposit_in c = record { firm = bytes (column c 1); project = bytes (column c 2); embargo = integer_in (column c 3); bytes = bytes (column c 4) }
 
 -- the row has the number
 abbrev pub has_number : ℕ → Row → Bool
-has_number n r = is_eq (value_cmp (column r 0) (Int (pos n)))
+has_number n c = is_eq (value_cmp (column c 0) (Int (pos n)))
 
 -- the deposit of a number
 abbrev pub deposit_at : List Row → ℕ → Sent
@@ -49,7 +50,7 @@ deposits_from rows n (suc count) = deposit_at rows n ∷ deposits_from rows (n +
 
 -- what the table `deposits` says: as many deposits as it has rows, by their numbers from 1
 unfoldable pub deposits_in : Trees → List Sent
-deposits_in trees = deposits_from (trees 2) 1 (length (trees 2))
+deposits_in trees = deposits_from (deposit_table trees) 1 (length (deposit_table trees))
 
 -- ---- the rows and steps of a deposit, where there is one
 

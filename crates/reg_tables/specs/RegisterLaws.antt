@@ -1,29 +1,24 @@
 -- Reading back, and a deposit more.
-use Rattle.std.proofs.Common.{◌≡◌, ℕ, suc, ◌+◌, ◌<◌, List, [], ◌∷◌, ◌++◌, map, filter, unwrap_or, get_or, append_assoc, length, length-append, IsTrue, None, slice_get, refl, sym, ap, subst, ◌∙◌, arith}
+use Rattle.std.proofs.Common.{◌≡◌, ℕ, suc, ◌+◌, ◌<◌, List, [], ◌∷◌, ◌++◌, map, filter, unwrap_or, append_assoc, length, length-append, IsTrue, None, slice_get, refl, sym, ap, subst, ◌∙◌, arith}
 use Rattle.std.specs.List.{AllZip}
 use Rattle.std.specs.List.Sorted.{IsPermutation}
 use Rattle.std.proofs.lemmas.Slice.Zip.{AllZip-long}
-use Rattle.sqlite_keyed.proofs.ListLemmas.{all-append, filter-map, slice_get-filter, IsPermutation-filter}
+use Rattle.sqlite_keyed.proofs.ListLemmas.{all-append, slice_get-filter, IsPermutation-filter}
 use Rattle.std.proofs.lemmas.List.Sorted.{length_permutation}
-use Rattle.std.proofs.lemmas.List.{length-map}
 use Rattle.sqlite.proofs.Callers.{one_permutation}
-use Rattle.sqlite.specs.Order.{Row, bytes, column}
+use Rattle.sqlite.specs.Order.{Row}
 use Rattle.sqlite.specs.Tree.{Trees}
 use Rattle.sqlite.specs.Effect.{Database, IsDatabase}
 use Rattle.sqlite.specs.State.{State}
 use Rattle.ags_dict.specs.Entries.{Entries}
 use Rattle.ags_check.specs.Findings.{CheckedFile}
 use Rattle.reg_store.specs.Sent.{Sent, number_of}
-use Rattle.reg_tables.specs.Rows.{given_deposit, deposit_columns, deposit_table, IsMore, columns_3, rows_under, line_table, step_table, placed_rows, line_rows, step_pair, step_rows}
+use Rattle.reg_tables.specs.Rows.{given_deposit, deposit_table, IsMore, columns_3, rows_under, line_table, step_table, placed_rows, line_rows, step_pair, step_rows}
 use Rattle.reg_tables.specs.Inserts.{AddsFile}
 use Rattle.reg_store.specs.Fit.{IsFileOf, IsNamed, kept_rows}
 use Rattle.reg_store.specs.ApartLaws.{apart_push}
-use Rattle.reg_tables.specs.Register.{meta_columns, deposit_rows, integer_in, deposit_in, has_number, deposit_at, deposits_from, deposits_in, file_lines, file_steps, IsRegister, KeepsRegister}
+use Rattle.reg_tables.specs.Register.{meta_columns, deposit_rows, deposit_in, has_number, deposit_at, deposits_from, deposits_in, file_lines, file_steps, IsRegister, KeepsRegister}
 use Rattle.reg_tables.specs.Pushes.{equal_at, apart_at, deposits_push, own_lines, other_lines, own_steps, other_steps, table_push}
-
--- a row of deposits, by its columns alone
-abbrev from_columns : Row → Sent
-from_columns c = record { firm = bytes (column c 1); project = bytes (column c 2); embargo = integer_in (column c 3); bytes = bytes (column c 4) }
 
 -- among the rows of a list one has the number of a deposit
 pub none_before : (n m : ℕ) (list : List Sent) → n < m → filter (has_number n) (deposit_rows m list) ≡ []
@@ -37,23 +32,18 @@ one_row n m [] d after e =
     (rw (equal_at n) (ap (λ more. given_deposit n d ∷ more) (none_before n (n + 1) after (omega arith))))
 one_row n m (x ∷ before) d after e = rw (apart_at m n (λ same. absurd (omega (arith, same, e)))) (one_row n (m + 1) before d after (omega (arith, e)))
 
-its_columns : (n : ℕ) (d : Sent) (rows : List Row) → map deposit_columns rows ≡ given_deposit n d ∷ [] → deposit_in (unwrap_or (slice_get rows 0) []) ≡ d
-its_columns n d [] h = absurd cc
-its_columns n d (r ∷ rows) h = ap (λ (all : List Row). from_columns (get_or all 0 [])) h
-
-reads_one : (before : List Sent) (d : Sent) (after : List Sent) (rows : List Row) → IsPermutation (deposit_rows 1 (before ++ d ∷ after)) (map deposit_columns rows) → deposit_at rows (1 + length before) ≡ d
+reads_one : (before : List Sent) (d : Sent) (after : List Sent) (rows : List Row) → IsPermutation (deposit_rows 1 (before ++ d ∷ after)) rows → deposit_at rows (1 + length before) ≡ d
 reads_one before d after rows h =
     let n = 1 + length before in
-    let one : IsPermutation (given_deposit n d ∷ []) (filter (has_number n) (map deposit_columns rows)) =
-    subst (λ all. IsPermutation all (filter (has_number n) (map deposit_columns rows))) (one_row n 1 before d after refl) (IsPermutation-filter (has_number n) _ _ h) in
-    let alone : map deposit_columns (filter (has_number n) rows) ≡ given_deposit n d ∷ [] = sym (filter-map (has_number n) deposit_columns rows) ∙ one_permutation (given_deposit n d) _ one in
-    ap (λ o. deposit_in (unwrap_or o [])) (sym (slice_get-filter (has_number n) rows)) ∙ its_columns n d (filter (has_number n) rows) alone
+    let one : IsPermutation (given_deposit n d ∷ []) (filter (has_number n) rows) =
+    subst (λ all. IsPermutation all (filter (has_number n) rows)) (one_row n 1 before d after refl) (IsPermutation-filter (has_number n) _ _ h) in
+    ap (λ o. deposit_in (unwrap_or o [])) (sym (slice_get-filter (has_number n) rows)) ∙ ap (λ (all : List Row). deposit_in (unwrap_or (slice_get all 0) [])) (one_permutation (given_deposit n d) _ one)
 
-reads_all : (before rest : List Sent) (rows : List Row) → IsPermutation (deposit_rows 1 (before ++ rest)) (map deposit_columns rows) → deposits_from rows (1 + length before) (length rest) ≡ rest
+reads_all : (before rest : List Sent) (rows : List Row) → IsPermutation (deposit_rows 1 (before ++ rest)) rows → deposits_from rows (1 + length before) (length rest) ≡ rest
 reads_all before [] rows h = refl
 reads_all before (d ∷ rest) rows h =
     let e : (1 + length before) + 1 ≡ 1 + length (before ++ d ∷ []) = omega (arith, length-append before (d ∷ [])) in
-    let more = reads_all (before ++ d ∷ []) rest rows (subst (λ list. IsPermutation (deposit_rows 1 list) (map deposit_columns rows)) (sym (append_assoc before (d ∷ []) rest)) h) in
+    let more = reads_all (before ++ d ∷ []) rest rows (subst (λ list. IsPermutation (deposit_rows 1 list) rows) (sym (append_assoc before (d ∷ []) rest)) h) in
     ap (λ x. x ∷ deposits_from rows ((1 + length before) + 1) (length rest)) (reads_one before d rest rows h) ∙ ap (λ all. d ∷ all) (ap (λ k. deposits_from rows k (length rest)) e ∙ more)
 
 pub rows-length : (n : ℕ) (list : List Sent) → length (deposit_rows n list) ≡ length list
@@ -63,8 +53,8 @@ rows-length n (d ∷ list) = ap suc (rows-length (n + 1) list)
 pub read_back : (trees : Trees) (list : List Sent) → IsPermutation (deposit_rows 1 list) (deposit_table trees) → deposits_in trees ≡ list
 unfolding deposits_in
 read_back trees list is =
-    let long : length (trees 2) ≡ length list = sym (length-map (trees 2) deposit_columns) ∙ length_permutation _ _ is ∙ rows-length 1 list in
-    ap (deposits_from (trees 2) 1) long ∙ reads_all [] list (trees 2) is
+    let table = deposit_table trees in
+    ap (deposits_from table 1) (length_permutation _ _ is ∙ rows-length 1 list) ∙ reads_all [] list table is
 
 zip_push : {A B : Type 0} (R : A → B → Type 0) (xs : List A) (ys : List B) (x : A) (y : B) → AllZip R xs ys → R x y → AllZip R (xs ++ x ∷ []) (ys ++ y ∷ [])
 zip_push R [] [] x y h r = (r, tt)

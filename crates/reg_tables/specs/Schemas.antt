@@ -62,9 +62,6 @@ is_texts c name = is_strict c name && (is_text c.kind && c.not_null)
 abbrev pub is_blobs : Column → List ℕ → Bool
 is_blobs c name = is_strict c name && (is_blob c.kind && c.not_null)
 
-abbrev pub is_rowids : Column → List ℕ → Bool
-is_rowids c name = is_strict c name && (is_integer c.kind && not c.not_null)
-
 abbrev pub is_unstamped : Stamps → Bool
 is_unstamped s = is_nil s.places && (is_nil s.terms && is_nil s.formats)
 
@@ -83,9 +80,9 @@ abbrev pub is_three : List ℕ → Bool
 is_three (a ∷ b ∷ c ∷ []) = a == 1 && (b == 2 && c == 3)
 is_three _ = false
 
-abbrev pub is_bytes_order : List Order → Bool
-is_bytes_order (o ∷ []) = o.digits == 0
-is_bytes_order _ = false
+abbrev pub is_order : List Order → ℕ → Bool
+is_order (o ∷ []) digits = o.digits == digits
+is_order _ digits = false
 
 abbrev pub is_parent_column : List (List ℕ) → Bool
 is_parent_column (c ∷ []) = bytes_eq c (codes "number")
@@ -110,7 +107,7 @@ has_meta_columns (a ∷ b ∷ c ∷ []) = is_texts a (codes "name") && (is_integ
 has_meta_columns _ = false
 
 abbrev pub has_deposit_columns : List Column → Bool
-has_deposit_columns (a ∷ b ∷ c ∷ d ∷ e ∷ []) = is_rowids a (codes "number") && (is_texts b (codes "firm") && (is_texts c (codes "project") && (is_integers d (codes "embargo") && is_blobs e (codes "body"))))
+has_deposit_columns (a ∷ b ∷ c ∷ d ∷ e ∷ []) = is_integers a (codes "number") && (is_texts b (codes "firm") && (is_texts c (codes "project") && (is_integers d (codes "embargo") && is_blobs e (codes "body"))))
 has_deposit_columns _ = false
 
 abbrev pub has_line_columns : List Column → Bool
@@ -121,60 +118,60 @@ abbrev pub has_step_columns : List Column → Bool
 has_step_columns (a ∷ b ∷ c ∷ []) = is_integers a (codes "deposit") && (is_integers b (codes "child") && is_integers c (codes "target"))
 has_step_columns _ = false
 
-abbrev pub has_meta_key : Table → List ℕ → Bool
-has_meta_key t key = is_none t.key && (is_one t.primary 1 && (is_one key 1 && (is_bytes_order t.orders && is_nil t.references)))
+abbrev pub has_first_key : Table → List ℕ → ℕ → Bool
+has_first_key t key digits = is_none t.key && (is_one t.primary 1 && (is_one key 1 && (is_order t.orders digits && is_nil t.references)))
 
 abbrev pub meta_keys : Table → List (List ℕ) → Bool
-meta_keys t (key ∷ []) = is_plain t (codes "meta") 0 && (has_meta_columns t.columns && has_meta_key t key)
+meta_keys t (key ∷ []) = is_plain t (codes "meta") 0 && (has_meta_columns t.columns && has_first_key t key 0)
 meta_keys t _ = false
 
 abbrev pub is_meta : Table → Bool
 is_meta t = meta_keys t t.uniques
 
-abbrev pub has_deposit_key : Table → ℕ → Bool
-has_deposit_key t key = key == 0 && (is_one t.primary 0 && (is_nil t.uniques && (is_nil t.orders && is_nil t.references)))
-
-abbrev pub deposit_key : Table → Option ℕ → Bool
-deposit_key t (Some key) = is_plain t (codes "deposits") 2 && (has_deposit_columns t.columns && has_deposit_key t key)
-deposit_key t None = false
+abbrev pub deposit_keys : Table → List (List ℕ) → Bool
+deposit_keys t (key ∷ []) = is_plain t (codes "deposits") 2 && (has_deposit_columns t.columns && has_first_key t key 1)
+deposit_keys t _ = false
 
 abbrev pub is_deposits : Table → Bool
-is_deposits t = deposit_key t t.key
+is_deposits t = deposit_keys t t.uniques
 
 abbrev pub has_line_key : Table → List ℕ → Bool
-has_line_key t key = is_none t.key && (is_two t.primary && (is_two key && (is_bytes_order t.orders && refers_to_deposits t.references)))
+has_line_key t key = is_none t.key && (is_two t.primary && (is_two key && (is_order t.orders 0 && refers_to_deposits t.references)))
 
 abbrev pub has_line_keys : Table → List (List ℕ) → Bool
-has_line_keys t (key ∷ []) = is_plain t (codes "lines") 3 && (has_line_columns t.columns && has_line_key t key)
+has_line_keys t (key ∷ []) = is_plain t (codes "lines") 4 && (has_line_columns t.columns && has_line_key t key)
 has_line_keys t _ = false
 
 abbrev pub is_lines : Table → Bool
 is_lines t = has_line_keys t t.uniques
 
 abbrev pub has_step_key : Table → List ℕ → Bool
-has_step_key t key = is_none t.key && (is_three t.primary && (is_three key && (is_bytes_order t.orders && refers_to_deposits t.references)))
+has_step_key t key = is_none t.key && (is_three t.primary && (is_three key && (is_order t.orders 0 && refers_to_deposits t.references)))
 
 abbrev pub has_step_keys : Table → List (List ℕ) → Bool
-has_step_keys t (key ∷ []) = is_plain t (codes "steps") 5 && (has_step_columns t.columns && has_step_key t key)
+has_step_keys t (key ∷ []) = is_plain t (codes "steps") 6 && (has_step_columns t.columns && has_step_key t key)
 has_step_keys t _ = false
 
 abbrev pub is_steps : Table → Bool
 is_steps t = has_step_keys t t.uniques
 
-abbrev pub is_key : Index → List ℕ → ℕ → ℕ → Bool
-is_key i name tree table = bytes_eq i.name name && (i.tree == tree && (i.table == table && (i.order.digits == 0 && i.is_unique)))
+abbrev pub is_key : Index → List ℕ → ℕ → ℕ → ℕ → Bool
+is_key i name tree table digits = bytes_eq i.name name && (i.tree == tree && (i.table == table && (i.order.digits == digits && i.is_unique)))
 
 abbrev pub is_meta_index : Index → Bool
-is_meta_index i = is_key i (codes "sqlite_autoindex_meta_1") 1 0 && is_one i.columns 1
+is_meta_index i = is_key i (codes "sqlite_autoindex_meta_1") 1 0 0 && is_one i.columns 1
+
+abbrev pub is_deposit_index : Index → Bool
+is_deposit_index i = is_key i (codes "sqlite_autoindex_deposits_1") 3 2 1 && is_one i.columns 1
 
 abbrev pub is_line_index : Index → Bool
-is_line_index i = is_key i (codes "sqlite_autoindex_lines_1") 4 3 && is_two i.columns
+is_line_index i = is_key i (codes "sqlite_autoindex_lines_1") 5 4 0 && is_two i.columns
 
 abbrev pub is_step_index : Index → Bool
-is_step_index i = is_key i (codes "sqlite_autoindex_steps_1") 6 5 && is_three i.columns
+is_step_index i = is_key i (codes "sqlite_autoindex_steps_1") 7 6 0 && is_three i.columns
 
 abbrev pub has_indexes : List Index → Bool
-has_indexes (a ∷ b ∷ c ∷ []) = is_meta_index a && (is_line_index b && is_step_index c)
+has_indexes (a ∷ b ∷ c ∷ d ∷ []) = is_meta_index a && (is_deposit_index b && (is_line_index c && is_step_index d))
 has_indexes _ = false
 
 abbrev pub has_tables : List Table → Bool

@@ -32,7 +32,7 @@ fn create_first<S: Alter>(tx: &mut Transaction<'_, S>) -> Result<(), Error>
     )?;
     run(
         tx,
-        "CREATE TABLE deposits (number INTEGER PRIMARY KEY, firm TEXT NOT NULL, project TEXT NOT NULL, embargo INTEGER NOT NULL, body BLOB NOT NULL) STRICT",
+        "CREATE TABLE deposits (number INTEGER PRIMARY KEY DESC, firm TEXT NOT NULL, project TEXT NOT NULL, embargo INTEGER NOT NULL, body BLOB NOT NULL) STRICT",
         &[],
     )
 }

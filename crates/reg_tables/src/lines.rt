@@ -1,6 +1,7 @@
 //! The rows of the tables `lines` and `steps`.
 
 ghost use Rattle.std.specs.Prelude.{◌≡◌, ◌+◌, ◌<◌, ◌≤◌, ◌^◌, [], ◌∷◌, ◌++◌, length, IfOk, IsTrue, OnOk};
+ghost use Rattle.sqlite.specs.Effect.{IsDatabase};
 ghost use Rattle.sqlite.specs.State.{HasCleanDisk, Survives};
 ghost use Rattle.reg_tables.specs.Tables.{register_schema};
 ghost use Rattle.sqlite.specs.Values.{bound};
@@ -127,6 +128,7 @@ fn insert_each_line<S: Alter>(
     requires few { from + length rows.now ≤ 2 ^ 32 }
     requires inside { HasTransaction (state_in S.Store tx.old) }
     requires is_open { HasCleanDisk (state_in S.Store tx.old) → IsTrue (state_in S.Store tx.old).is_open }
+    requires sound { HasCleanDisk (state_in S.Store tx.old) → IsDatabase (state_in S.Store tx.old).now }
     requires schema { HasSchema (state_in S.Store tx.old) register_schema }
     ensures same_reference { tx.new.conn.ghost_name ≡ tx.old.conn.ghost_name }
     ensures put { ChangesInside result (AddsLines (line_rows number from rows.now))
@@ -151,6 +153,7 @@ pub(crate) fn insert_lines<S: Alter>(
     requires few { length rows.now < 2 ^ 32 }
     requires inside { HasTransaction (state_in S.Store tx.old) }
     requires is_open { HasCleanDisk (state_in S.Store tx.old) → IsTrue (state_in S.Store tx.old).is_open }
+    requires sound { HasCleanDisk (state_in S.Store tx.old) → IsDatabase (state_in S.Store tx.old).now }
     requires schema { HasSchema (state_in S.Store tx.old) register_schema }
     ensures same_reference { tx.new.conn.ghost_name ≡ tx.old.conn.ghost_name }
     ensures put { ChangesInside result (AddsLines (line_rows number 0 rows.now))
@@ -247,6 +250,7 @@ fn insert_each_step<S: Alter>(
 ) -> Result<(), Error>
     requires inside { HasTransaction (state_in S.Store tx.old) }
     requires is_open { HasCleanDisk (state_in S.Store tx.old) → IsTrue (state_in S.Store tx.old).is_open }
+    requires sound { HasCleanDisk (state_in S.Store tx.old) → IsDatabase (state_in S.Store tx.old).now }
     requires schema { HasSchema (state_in S.Store tx.old) register_schema }
     ensures same_reference { tx.new.conn.ghost_name ≡ tx.old.conn.ghost_name }
     ensures put { ChangesInside result (AddsSteps (step_rows number steps.now))
@@ -270,6 +274,7 @@ pub(crate) fn insert_steps<S: Alter>(
 ) -> Result<(), Error>
     requires inside { HasTransaction (state_in S.Store tx.old) }
     requires is_open { HasCleanDisk (state_in S.Store tx.old) → IsTrue (state_in S.Store tx.old).is_open }
+    requires sound { HasCleanDisk (state_in S.Store tx.old) → IsDatabase (state_in S.Store tx.old).now }
     requires schema { HasSchema (state_in S.Store tx.old) register_schema }
     ensures same_reference { tx.new.conn.ghost_name ≡ tx.old.conn.ghost_name }
     ensures put { ChangesInside result (AddsSteps (step_rows number steps.now))

@@ -67,13 +67,6 @@ fn is_blobs(column: &Column, name: &[u8]) -> bool
     is_strict(column, name) && is_blob(column.kind) && column.not_null
 }
 
-/// The column of the rowid, which is not marked NOT NULL.
-fn is_rowids(column: &Column, name: &[u8]) -> bool
-    ensures { result ≡ test.is_rowids column.now name.now }
-{
-    is_strict(column, name) && is_integer(column.kind) && !column.not_null
-}
-
 fn has_no_terms(terms: &Terms) -> bool
     ensures { result ≡ test.is_nil terms.now }
 {
@@ -127,11 +120,11 @@ fn is_three(places: &[usize]) -> bool
     }
 }
 
-fn is_bytes_order(orders: &[Order]) -> bool
-    ensures { result ≡ test.is_bytes_order orders.now }
+fn is_order(orders: &[Order], digits: u64) -> bool
+    ensures { result ≡ test.is_order orders.now digits }
 {
     match orders {
-        [order] => order.digits == 0,
+        [order] => order.digits == digits,
         _ => false,
     }
 }
@@ -179,13 +172,14 @@ fn has_meta_columns(columns: &[Column]) -> bool
     }
 }
 
-fn has_meta_key(table: &Table, key: &[usize]) -> bool
-    ensures { result ≡ test.has_meta_key table.now key.now }
+/// The key of the first column, in this order.
+fn has_first_key(table: &Table, key: &[usize], digits: u64) -> bool
+    ensures { result ≡ test.has_first_key table.now key.now digits }
 {
     table.key.is_none()
         && is_one(table.primary.as_slice(), 1)
         && is_one(key, 1)
-        && is_bytes_order(table.orders.as_slice())
+        && is_order(table.orders.as_slice(), digits)
         && table.references.as_slice().is_empty()
 }
 
@@ -196,7 +190,7 @@ pub(crate) fn is_meta(table: &Table) -> bool
         [key] => {
             is_plain(table, b"meta", 0)
                 && has_meta_columns(table.columns.as_slice())
-                && has_meta_key(table, key.as_slice())
+                && has_first_key(table, key.as_slice(), 0)
         }
         _ => false,
     }
@@ -207,7 +201,7 @@ fn has_deposit_columns(columns: &[Column]) -> bool
 {
     match columns {
         [number, firm, project, embargo, body] => {
-            is_rowids(number, b"number")
+            is_integers(number, b"number")
                 && is_texts(firm, b"firm")
                 && is_texts(project, b"project")
                 && is_integers(embargo, b"embargo")
@@ -217,26 +211,16 @@ fn has_deposit_columns(columns: &[Column]) -> bool
     }
 }
 
-fn has_deposit_key(table: &Table, key: usize) -> bool
-    ensures { result ≡ test.has_deposit_key table.now key }
-{
-    key == 0
-        && is_one(table.primary.as_slice(), 0)
-        && table.uniques.as_slice().is_empty()
-        && table.orders.as_slice().is_empty()
-        && table.references.as_slice().is_empty()
-}
-
 fn is_deposits(table: &Table) -> bool
     ensures { result ≡ test.is_deposits table.now }
 {
-    match table.key {
-        Some(key) => {
+    match table.uniques.as_slice() {
+        [key] => {
             is_plain(table, b"deposits", 2)
                 && has_deposit_columns(table.columns.as_slice())
-                && has_deposit_key(table, key)
+                && has_first_key(table, key.as_slice(), 1)
         }
-        None => false,
+        _ => false,
     }
 }
 
@@ -261,7 +245,7 @@ fn has_line_key(table: &Table, key: &[usize]) -> bool
     table.key.is_none()
         && is_two(table.primary.as_slice())
         && is_two(key)
-        && is_bytes_order(table.orders.as_slice())
+        && is_order(table.orders.as_slice(), 0)
         && refers_to_deposits(table.references.as_slice())
 }
 
@@ -270,7 +254,7 @@ fn is_lines(table: &Table) -> bool
 {
     match table.uniques.as_slice() {
         [key] => {
-            is_plain(table, b"lines", 3)
+            is_plain(table, b"lines", 4)
                 && has_line_columns(table.columns.as_slice())
                 && has_line_key(table, key.as_slice())
         }
@@ -297,7 +281,7 @@ fn has_step_key(table: &Table, key: &[usize]) -> bool
     table.key.is_none()
         && is_three(table.primary.as_slice())
         && is_three(key)
-        && is_bytes_order(table.orders.as_slice())
+        && is_order(table.orders.as_slice(), 0)
         && refers_to_deposits(table.references.as_slice())
 }
 
@@ -306,7 +290,7 @@ fn is_steps(table: &Table) -> bool
 {
     match table.uniques.as_slice() {
         [key] => {
-            is_plain(table, b"steps", 5)
+            is_plain(table, b"steps", 6)
                 && has_step_columns(table.columns.as_slice())
                 && has_step_key(table, key.as_slice())
         }
@@ -315,39 +299,50 @@ fn is_steps(table: &Table) -> bool
 }
 
 /// A unique index that a key makes.
-fn is_key(index: &Index, name: &[u8], tree: u32, table: u32) -> bool
-    ensures { result ≡ test.is_key index.now name.now tree table }
+fn is_key(index: &Index, name: &[u8], tree: u32, table: u32, digits: u64) -> bool
+    ensures { result ≡ test.is_key index.now name.now tree table digits }
 {
     index.name.as_slice() == name
         && index.tree == tree
         && index.table == table
-        && index.order.digits == 0
+        && index.order.digits == digits
         && index.is_unique
 }
 
 fn is_meta_index(index: &Index) -> bool
     ensures { result ≡ test.is_meta_index index.now }
 {
-    is_key(index, b"sqlite_autoindex_meta_1", 1, 0) && is_one(index.columns.as_slice(), 1)
+    is_key(index, b"sqlite_autoindex_meta_1", 1, 0, 0) && is_one(index.columns.as_slice(), 1)
+}
+
+fn is_deposit_index(index: &Index) -> bool
+    ensures { result ≡ test.is_deposit_index index.now }
+{
+    is_key(index, b"sqlite_autoindex_deposits_1", 3, 2, 1) && is_one(index.columns.as_slice(), 1)
 }
 
 fn is_line_index(index: &Index) -> bool
     ensures { result ≡ test.is_line_index index.now }
 {
-    is_key(index, b"sqlite_autoindex_lines_1", 4, 3) && is_two(index.columns.as_slice())
+    is_key(index, b"sqlite_autoindex_lines_1", 5, 4, 0) && is_two(index.columns.as_slice())
 }
 
 fn is_step_index(index: &Index) -> bool
     ensures { result ≡ test.is_step_index index.now }
 {
-    is_key(index, b"sqlite_autoindex_steps_1", 6, 5) && is_three(index.columns.as_slice())
+    is_key(index, b"sqlite_autoindex_steps_1", 7, 6, 0) && is_three(index.columns.as_slice())
 }
 
 fn has_indexes(indexes: &[Index]) -> bool
     ensures { result ≡ test.has_indexes indexes.now }
 {
     match indexes {
-        [meta, lines, steps] => is_meta_index(meta) && is_line_index(lines) && is_step_index(steps),
+        [meta, deposits, lines, steps] => {
+            is_meta_index(meta)
+                && is_deposit_index(deposits)
+                && is_line_index(lines)
+                && is_step_index(steps)
+        }
         _ => false,
     }
 }

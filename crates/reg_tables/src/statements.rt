@@ -7,8 +7,7 @@ ghost use Rattle.sqlite.specs.State.{HasCleanDisk, Survives};
 ghost use Rattle.sqlite.specs.Held.{state};
 ghost use Rattle.reg_tables.specs.Tables.{register_schema};
 ghost use Rattle.reg_tables.specs.Commits.{Changes, CommitsAll, UndoesIfOpen, UndoesUnlessFailed};
-ghost use Rattle.reg_tables.specs.Filed.{AddsBare, AddsFiled, SetsFiledBody, SurvivesFiling, filed_deposit};
-ghost use Rattle.reg_tables.specs.Late.{IsBare};
+ghost use Rattle.reg_tables.specs.Filed.{AddsFiled, AddsRow, SurvivesFiling};
 ghost use Rattle.reg_tables.specs.Inside.{ChangesInside, CommitsNothing, HasSchema, HasTransaction, state_in};
 
 use crate::lines::{insert_lines, insert_steps};
@@ -28,16 +27,15 @@ pub(crate) struct Filed<'a> {
     pub body: &'a [u8],
 }
 
-/// Adds a deposit without its body, rows and steps. Nothing is committed.
+/// Adds the row of a deposit. Nothing is committed.
 fn insert_deposit<S: Alter>(tx: &mut Transaction<'_, S>, filed: Filed<'_>) -> Result<(), Error>
     requires inside { HasTransaction (state_in S.Store tx.old) }
     requires schema { HasSchema (state_in S.Store tx.old) register_schema }
     ensures same_reference { tx.new.conn.ghost_name ≡ tx.old.conn.ghost_name }
-    ensures put { ChangesInside result (AddsBare filed.entry) (state_in S.Store tx.old) (state_in S.Store tx.new) }
+    ensures put { ChangesInside result (AddsRow filed.entry) (state_in S.Store tx.old) (state_in S.Store tx.new) }
     ensures kept { CommitsNothing (state_in S.Store tx.old) (state_in S.Store tx.new) }
     ensures survives { Survives (state_in S.Store tx.old) (state_in S.Store tx.new) (λ _. ⊥) }
 {
-    let empty: &[u8] = &[];
     run(
         tx,
         "INSERT INTO deposits VALUES (?1, ?2, ?3, ?4, ?5)",
@@ -46,33 +44,12 @@ fn insert_deposit<S: Alter>(tx: &mut Transaction<'_, S>, filed: Filed<'_>) -> Re
             filed.firm,
             filed.project,
             filed.embargo,
-            empty
+            filed.body
         ],
     )
 }
 
-/// Sets the body of a deposit that was added without it. Nothing is committed.
-///
-/// The foreign keys of lines and steps read the deposit's whole row, so they read a short one until now.
-fn set_body<S: Alter>(tx: &mut Transaction<'_, S>, filed: Filed<'_>) -> Result<(), Error>
-    requires inside { HasTransaction (state_in S.Store tx.old) }
-    requires schema { HasSchema (state_in S.Store tx.old) register_schema }
-    requires bare { HasCleanDisk (state_in S.Store tx.old)
-        → IsBare filed.number (filed_deposit filed) (state_in S.Store tx.old).now }
-    ensures same_reference { tx.new.conn.ghost_name ≡ tx.old.conn.ghost_name }
-    ensures put { ChangesInside result (SetsFiledBody filed.entry) (state_in S.Store tx.old) (state_in S.Store tx.new) }
-    ensures sound { HasCleanDisk (state_in S.Store tx.new) → OnOk result (IsDatabase (state_in S.Store tx.new).now) }
-    ensures kept { CommitsNothing (state_in S.Store tx.old) (state_in S.Store tx.new) }
-    ensures survives { Survives (state_in S.Store tx.old) (state_in S.Store tx.new) (λ _. ⊥) }
-{
-    run(
-        tx,
-        "UPDATE deposits SET body = ?2 WHERE number = ?1",
-        params![filed.number, filed.body],
-    )
-}
-
-/// Adds a deposit with its rows and steps, its body last. Nothing is committed.
+/// Adds a deposit with its rows and steps. Nothing is committed.
 #[tactic(auto, using(crate::proofs::AddsLemmas::kept_then))]
 fn insert_file<S: Alter>(
     alloc: Global,
@@ -93,8 +70,7 @@ fn insert_file<S: Alter>(
 {
     insert_deposit(tx, filed)?;
     insert_lines(alloc, tx, filed.number, rows)?;
-    insert_steps(alloc, tx, filed.number, steps)?;
-    set_body(tx, filed)
+    insert_steps(alloc, tx, filed.number, steps)
 }
 
 /// Adds a deposit with its rows and steps in one transaction.

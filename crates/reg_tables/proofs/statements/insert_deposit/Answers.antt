@@ -4,7 +4,6 @@ use Rattle.sqlite.specs.State.{HasCleanDisk}
 use Rattle.sqlite.specs.Held.{state}
 use Rattle.reg_tables.specs.Filed.{filed_deposit}
 use Rattle.reg_tables.specs.Inserts.{puts_deposit}
-use Rattle.reg_tables.specs.Late.{bare}
 use Rattle.reg_tables.proofs.statements.insert_deposit.Goals as goal
 
 pub returns-clause-put : goal.returns-clause-put
@@ -13,4 +12,4 @@ returns-clause-put g c clean =
     let new = state g.S.Store c.run.new.tx.conn.now in
     let first : HasCleanDisk old = omega (arith, c.run.ensures.survives.clean) in
     let filed = c.args.filed in
-    on_ok_weaker c.run.result (λ one. record { change = puts_deposit old new filed.number (bare (filed_deposit filed)) one.count (c.requires.schema first) one.ran; goes_on = one.goes_on; is_open = one.is_open; committed = one.committed }) (rw (c.params-to_sql.ensures, c.params-to_sql-2.ensures, c.params-to_sql-3.ensures, c.params-to_sql-4.ensures, c.params-to_sql-5.ensures) at (c.run.ensures.ran clean))
+    on_ok_weaker c.run.result (λ one. record { change = puts_deposit old new filed.number (filed_deposit filed) one.count (c.requires.schema first) one.ran; goes_on = one.goes_on; is_open = one.is_open; committed = one.committed }) (rw (c.params-to_sql.ensures, c.params-to_sql-2.ensures, c.params-to_sql-3.ensures, c.params-to_sql-4.ensures, c.params-to_sql-5.ensures) at (c.run.ensures.ran clean))

@@ -18,7 +18,7 @@ invariant_of-result g c =
       idle = made.mode;
       few = search rules;
       long = search rules;
-      kept = λ _ clean. new_keeps c.args.bytes.now c.args.dictionary new (made.put clean) (made.sound clean) (made.open clean) (made.settled clean) c.requires.short c.requires.read;
+      kept = λ _ clean. new_keeps c.args.bytes.now c.args.dictionary new (made.put clean) (made.open clean) (made.settled clean) c.requires.short c.requires.read;
       headed = λ _ clean. no_heads _ _ (search rules) (new_list c.args.bytes.now new (made.put clean) (made.settled clean));
       below = none_below c.new-in-Ok.result 1 c.new-in-Ok.ensures;
       digested = λ _ clean k d at. absurd (let none = subst (λ (all : List Sent). slice_get all k ≡ Some d) (new_list c.args.bytes.now new (made.put clean) (made.settled clean)) at in cc);
