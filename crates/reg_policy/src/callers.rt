@@ -1,6 +1,7 @@
 //! The callers, each known by a token.
 ghost use Rattle.std.specs.Prelude.{◌≡◌, List, IfErr, IfOk, codes, option_map};
 ghost use Rattle.std.specs.List.{list_all};
+ghost use Rattle.std.specs.Str.{bytes_eq};
 ghost use Rattle.toml.specs.Data.{get_member};
 ghost use Rattle.toml.specs.View.{table_view};
 ghost use Rattle.reg_policy.specs.Callers.{IsCaller, IsText, ReadsCallers, are_unique, caller_key, caller_keys, caller_of, callers_error};
@@ -92,17 +93,31 @@ impl Callers {
         Ok(Callers { credentials })
     }
 
-    /// The caller who has the token.
+    /// The caller who has the token. The time that this takes does not depend on where a token differs; no clause says so.
     pub fn find(&self, token: &[u8]) -> Option<&Caller>
         ensures { option_map (λ c. c.now) result ≡ caller_of token.now self.now }
     {
         for credential in &self.credentials {
-            if token == credential.token.as_slice() {
+            if is_same(token, credential.token.as_slice()) {
                 return Some(&credential.caller);
             }
         }
         None
     }
+}
+
+/// Whether two texts are the same. Each byte of theirs is compared, so the time depends on their lengths alone.
+fn is_same(a: &[u8], b: &[u8]) -> bool
+    ensures { result ≡ bytes_eq a.now b.now }
+{
+    if a.len() != b.len() {
+        return false;
+    }
+    let mut differ = false;
+    for i in 0..a.len() {
+        differ |= a[i] != b[i];
+    }
+    !differ
 }
 
 impl FromTable for Credential {
