@@ -119,20 +119,20 @@ pub check_denied : {K : Type 0} (keep : Ghosts K) (rules : List Rule) (caller : 
 check_denied keep rules caller project bytes day old m works deny =
     let register = register_at keep rules old in
     replies_at_once keep rules (check caller project bytes day) old (Denied m) works refl
-    (denied_reply (decided register caller project verbs.Check) m (OrRefused register bytes IsCleanAnswer) deny) (inr (λ taken. taken, refl))
+    (denied_reply (decided register caller project verbs.Check) m (OrRefused register bytes IsCleanAnswer) deny) (inr (λ list change. change, refl))
 
 check_refused : {K : Type 0} (keep : Ghosts K) (rules : List Rule) (caller : Caller) (project bytes : List ℕ) (day : ℤ) (old : K) (answer : Answer) (k : ℕ) → keep.has_failed old ≡ false
     → decided (register_at keep rules old) caller project verbs.Check ≡ Permit k → IsRefusal (keep.dictionary old) bytes answer → Serves keep rules (check caller project bytes day) old old answer
 check_refused keep rules caller project bytes day old answer k works permit refusal =
     refusal_serves keep rules (check caller project bytes day) old answer (decided (register_at keep rules old) caller project verbs.Check) k bytes IsCleanAnswer works permit refusal clean_needs
-    (λ r h. h) (λ r h. h) (λ r h is. inr (λ taken. taken, refl))
+    (λ r h. h) (λ r h. h) (λ r h is. inr (λ list change. change, refl))
 
 check_clean : {K : Type 0} (keep : Ghosts K) (rules : List Rule) (caller : Caller) (project bytes : List ℕ) (day : ℤ) (old : K) (k : ℕ) → keep.has_failed old ≡ false
     → decided (register_at keep rules old) caller project verbs.Check ≡ Permit k → length bytes ≤ LIMIT → AreFindings (keep.dictionary old) bytes [] → Serves keep rules (check caller project bytes day) old old Clean
 check_clean keep rules caller project bytes day old k works permit le are =
     let register = register_at keep rules old in
     replies_at_once keep rules (check caller project bytes day) old Clean works refl
-    (permitted_reply (decided register caller project verbs.Check) k (OrRefused register bytes IsCleanAnswer) Clean permit (refused_none register bytes IsCleanAnswer Clean le are refl)) (inr (λ taken. taken, refl))
+    (permitted_reply (decided register caller project verbs.Check) k (OrRefused register bytes IsCleanAnswer) Clean permit (refused_none register bytes IsCleanAnswer Clean le are refl)) (inr (λ list change. change, refl))
 
 -- the body is refused, or it has no finding
 pub check_answered : {K : Type 0} (keep : Ghosts K) (rules : List Rule) (caller : Caller) (project bytes : List ℕ) (day : ℤ) (old : K) (given : Entries) (answer : Answer) (k : ℕ) → keep.has_failed old ≡ false

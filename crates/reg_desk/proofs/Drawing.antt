@@ -167,7 +167,7 @@ pub extract_denied : {K : Type 0} (keep : Ghosts K) (rules : List Rule) (caller 
 extract_denied keep rules caller project number groups day old m works deny =
     let register = register_at keep rules old in
     replies_at_once keep rules (extract caller project number groups day) old (Denied m) works refl
-    (denied_reply (decided register caller project verbs.Extract) m (IsDrawnFrom register caller project groups day (held number (keep.deposits old))) deny) (inr (λ taken. taken, refl))
+    (denied_reply (decided register caller project verbs.Extract) m (IsDrawnFrom register caller project groups day (held number (keep.deposits old))) deny) (inr (λ list change. change, refl))
 
 pub extract_unread : {K : Type 0} (keep : Ghosts K) (rules : List Rule) (caller : Caller) (project : List ℕ) (number : ℕ) (groups : List (List ℕ)) (day : ℤ) (old new : K) (k : ℕ) (e : KeepError)
     → decided (register_at keep rules old) caller project verbs.Extract ≡ Permit k → OnlyReads keep old new (is_store e) → e ≢ errors.Full → Serves keep rules (extract caller project number groups day) old new (answer_of e)
@@ -186,7 +186,7 @@ extract_replies keep rules caller project number groups day old new k answer per
     let state = keep.deposits old in
     replies_serves keep rules (extract caller project number groups day) old new answer reads told
     (λ s. ∥∥₁_map (drawn s) (permitted_reply (decided register caller project verbs.Extract) k (IsDrawnFrom register caller project groups day (held number state)) answer permit))
-    (λ s. inr (λ taken. taken, refl)) (extract_asks register state caller project number groups day k permit).0
+    (λ s. inr (λ list change. change, refl)) (extract_asks register state caller project number groups day k permit).0
 
 -- ---- what is seen
 

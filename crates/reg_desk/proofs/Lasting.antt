@@ -19,7 +19,7 @@ use Rattle.reg_store.specs.declared.keep.Keep.{Ghosts}
 use Rattle.reg_desk.specs.Asked.{Asked, deposit, check, listing, extract}
 use Rattle.reg_desk.specs.declared.answer.Answer.{Answer}
 use Rattle.reg_desk.specs.declared.answer.Answer.TheVariants.{Receipt, Clean, Findings, Listing, Text, Denied, Unknown, TooLarge, Full, NoMemory, StoreFailed}
-use Rattle.reg_desk.specs.Machine.{Register, decided, OrDenied, OrFound, OrRefused, first_equal, receipt_of, held, IsReply, asked_deposit, AddsAsked, IsNext}
+use Rattle.reg_desk.specs.Machine.{Register, decided, OrDenied, OrFound, OrRefused, first_equal, receipt_of, held, IsReply, asked_deposit, Changes, IsNext}
 use Rattle.reg_desk.specs.Serving.{is_failed, IsAnswer, IsAfter, register_at}
 use Rattle.reg_desk.specs.Running.{AreFailed, AreAnswers, failing, Runs, IsHeldIn}
 use Rattle.reg_desk.proofs.Taken.{taken_received}
@@ -51,14 +51,14 @@ get_last (k ∷ state) d = get_last state d
 held_last : (state : List Sent) (d : Sent) (n : ℕ) → n ≡ length state + 1 → held n (state ++ d ∷ []) ≡ Some d
 held_last state d n same = let e : n ≡ suc (length state) = omega (arith, same) in subst (λ (k : ℕ). held k (state ++ d ∷ []) ≡ Some d) (sym e) (get_last state d)
 
-adds_front : (request : Asked) (state list : List Sent) → AddsAsked request state list → IsFront state list
-adds_front (deposit caller project embargo bytes day) state list h = (asked_deposit caller project embargo bytes ∷ [], h)
-adds_front (check caller project bytes day) state list h = absurd h
-adds_front (listing caller project day) state list h = absurd h
-adds_front (extract caller project number groups day) state list h = absurd h
+changes_front : (register : Register) (request : Asked) (state list : List Sent) → Changes register state request list → IsFront state list
+changes_front register (deposit caller project embargo bytes day) state list h = (asked_deposit caller project embargo bytes ∷ [], h.1)
+changes_front register (check caller project bytes day) state list h = absurd h
+changes_front register (listing caller project day) state list h = absurd h
+changes_front register (extract caller project number groups day) state list h = absurd h
 
 next_front : (register : Register) (request : Asked) (state next : List Sent) → IsNext register state request next → IsFront state next
-next_front register request state next (inl h) = adds_front request state next h.1
+next_front register request state next (inl h) = changes_front register request state next h
 next_front register request state next (inr h) = front_itself state next h.1
 
 after_front : (register : Register) (request : Asked) (state next : List Sent) (a : Answer) → is_failed a ≡ false → IsAfter register state request a next → IsFront state next
@@ -140,7 +140,7 @@ receipt_held register caller project embargo bytes day state next n e is (inl h)
 receipt_held register caller project embargo bytes day state next n e is (inr h) =
     let first = first_equal 1 caller.firm project bytes state in
     let stands = stands_of (decided register caller project verbs.Deposit) register bytes (λ r. r ≡ receipt_of register embargo (length state) first) n e is in
-    let equal = receipt_first register embargo (length state) first n e stands (λ new. h.0 ((taken_received register state caller project embargo bytes day (Receipt n e) is).1 new)) in
+    let equal = receipt_first register embargo (length state) first n e stands (λ new. h.0 _ ((taken_received register state caller project embargo bytes day (Receipt n e) is).1 new, refl)) in
     let at = first_at caller.firm project bytes 1 state n e equal in
     let number : n ≡ suc at.0 = omega (arith, at.1) in
     ap (held n) h.1 ∙ subst (λ (k : ℕ). held k state ≡ Some (asked_deposit caller project e bytes)) (sym number) at.2
@@ -234,11 +234,12 @@ lasts register state (r ∷ requests) [] last list h front = absurd h
 lasts register state (r ∷ requests) (a ∷ answers) last list h front =
     lasts_step register state r requests a answers last list (is_failed a) refl h.0 front (λ next k. lasts register next requests answers last list k front) h.1
 
-left_front : (requests : List Asked) (answers : List Answer) (state list : List Sent) → (list ≡ state) ⊎ ((r : Asked) × (failing requests answers ≡ Some r) × AddsAsked r state list) → IsFront state list
-left_front requests answers state list (inl h) = front_itself state list h
-left_front requests answers state list (inr h) = adds_front h.0 state list h.2
+left_front : (register : Register) (requests : List Asked) (answers : List Answer) (state list : List Sent)
+    → (list ≡ state) ⊎ ((r : Asked) × (failing requests answers ≡ Some r) × Changes register state r list) → IsFront state list
+left_front register requests answers state list (inl h) = front_itself state list h
+left_front register requests answers state list (inr h) = changes_front register h.0 state list h.2
 
 pub receipts_last : {K : Type 0} (keep : Ghosts K) (rules : List Rule) (old new : K) (requests : List Asked) (answers : List Answer) → Runs keep rules old new requests answers
     → (list : List Sent) → keep.may_leave new list → AllZip (IsHeldIn list) requests answers
 receipts_last keep rules old new requests answers runs list may =
-    (lasts (register_at keep rules old) (keep.deposits old) requests answers runs.last list runs.answered (left_front requests answers runs.last list (runs.left list may))).1
+    (lasts (register_at keep rules old) (keep.deposits old) requests answers runs.last list runs.answered (left_front (register_at keep rules old) requests answers runs.last list (runs.left list may))).1

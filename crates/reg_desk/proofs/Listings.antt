@@ -168,7 +168,7 @@ pub listing_denied : {K : Type 0} (keep : Ghosts K) (rules : List Rule) (caller 
 listing_denied keep rules caller project day old m works deny =
     let register = register_at keep rules old in
     replies_at_once keep rules (listing caller project day) old (Denied m) works refl
-    (denied_reply (decided register caller project verbs.List) m (IsListingAnswer register (keep.deposits old) caller project day) deny) (inr (λ taken. taken, refl))
+    (denied_reply (decided register caller project verbs.List) m (IsListingAnswer register (keep.deposits old) caller project day) deny) (inr (λ list change. change, refl))
 
 pub listing_unread : {K : Type 0} (keep : Ghosts K) (rules : List Rule) (caller : Caller) (project : List ℕ) (day : ℤ) (old new : K) (k : ℕ) (e : KeepError)
     → decided (register_at keep rules old) caller project verbs.List ≡ Permit k → OnlyReads keep old new (is_store e) → e ≢ errors.Full → Serves keep rules (listing caller project day) old new (answer_of e)
@@ -188,4 +188,4 @@ listing_replies keep rules caller project day old new k lines permit reads is =
     replies_serves keep rules (listing caller project day) old new (Listing lines) reads refl
     (λ s. ∥∥₁_map (is s) (λ (h : IsListing register caller project day 1 state lines).
     permitted_reply (decided register caller project verbs.List) k (IsListingAnswer register state caller project day) (Listing lines) permit (lines, h, refl)))
-    (λ s. inr (λ taken. taken, refl)) (listing_asks register state caller project day k permit).0
+    (λ s. inr (λ list change. change, refl)) (listing_asks register state caller project day k permit).0

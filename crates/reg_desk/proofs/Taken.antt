@@ -31,7 +31,7 @@ clean_stands register bytes P r small clean h =
     subst (λ (l : List Finding). OrFound l P r) (one_list register.given bytes found.0 [] found.1 clean) found.2
 
 received : (register : Register) (state : List Sent) (caller : Caller) (project : List ℕ) (embargo : ℤ) (bytes : List ℕ) (day : ℤ) (reply : Answer)
-    → IsReply register state (deposit caller project embargo bytes day) reply → IsTaken register state (deposit caller project embargo bytes day) → reply ≡ Receipt (length state + 1) embargo
+    → IsReply register state (deposit caller project embargo bytes day) reply → IsTaken register state caller project bytes → reply ≡ Receipt (length state + 1) embargo
 received register state caller project embargo bytes day reply h t =
     let stands = IsReceipt register state caller project embargo bytes in
     let permitted = subst (λ (d : Decision). OrDenied d (OrRefused register bytes stands) reply) t.0.1 h in
@@ -74,7 +74,7 @@ new_number register embargo count None low h = (refl, ltb-true count register.li
 
 taken : (register : Register) (state : List Sent) (caller : Caller) (project : List ℕ) (embargo : ℤ) (bytes : List ℕ) (day : ℤ) (reply : Answer)
     → IsReply register state (deposit caller project embargo bytes day) reply → reply ≡ Receipt (length state + 1) embargo
-    → IsTaken register state (deposit caller project embargo bytes day)
+    → IsTaken register state caller project bytes
 taken register state caller project embargo bytes day reply h is =
     let stands = IsReceipt register state caller project embargo bytes in
     let permit = not_denied (decided register caller project verbs.Deposit) (OrRefused register bytes stands) reply h (λ n e. cc) in

@@ -2,19 +2,16 @@
 use Rattle.std.proofs.Common.{◌≡◌, ◌≢◌, ℕ, ◌+◌, ◌-◌, ◌<◌, ◌≤◌, Bool, true, false, cond, Option, Some, None, Ok, Err, List, [], ◌∷◌, ◌++◌, refl, sym, ap, subst, ◌∙◌, inl, inr, ◌⊎◌, arith, length-append}
 use Rattle.std.proofs.Math.Logic.{∥∥₁_elim, ∥∥₁_map}
 use Rattle.std.proofs.Props.{props}
-use Rattle.std.specs.Prelude.{ℤ, All, nat_lt, length, slice_get, Result}
+use Rattle.std.specs.Prelude.{ℤ, nat_lt, length, slice_get, Result}
 use Rattle.std.proofs.lemmas.Bool.{cases_Bool, ltb-true, lt-ltb}
 use Rattle.std.proofs.lemmas.Option.{slice_get_within}
 use Rattle.ags_rows.specs.declared.TheConstants.{LIMIT}
-use Rattle.ags_dict.specs.Entries.{Entries}
-use Rattle.ags_check.specs.Findings.{CheckedFile, Findings as AreFindings}
+use Rattle.ags_check.specs.Findings.{Findings as AreFindings}
 use Rattle.reg_policy.specs.declared.rule.Rule.{Rule}
 use Rattle.reg_policy.specs.declared.callers.Caller.{Caller}
 use Rattle.reg_policy.specs.declared.subject.Decision.TheVariants.{Permit, Deny}
 use Rattle.reg_policy.specs.declared.subject.Verb.TheVariants as verbs
-use Rattle.reg_store.specs.ApartLaws.{parts_of}
 use Rattle.reg_store.specs.Sent.{Sent, number_of}
-use Rattle.reg_store.specs.Fit.{IsFileOf, IsFit}
 use Rattle.reg_store.specs.Keep.{is_store, Adds, IsHeadOf}
 use Rattle.reg_store.specs.declared.keep.Keep.{Ghosts}
 use Rattle.reg_store.specs.declared.keep.KeepError.{KeepError}
@@ -23,12 +20,11 @@ use Rattle.reg_store.specs.declared.keep.KeepError.TheVariants as errors
 use Rattle.reg_desk.specs.Asked.{deposit}
 use Rattle.reg_desk.specs.declared.answer.Answer.{Answer}
 use Rattle.reg_desk.specs.declared.answer.Answer.TheVariants.{Receipt, Denied, Full}
-use Rattle.reg_desk.specs.Machine.{Register, decided, OrRefused, first_equal, receipt_of, IsReply, IsTaken, asked_deposit, AddsAsked, IsNext}
+use Rattle.reg_desk.specs.Machine.{Register, decided, OrRefused, first_equal, receipt_of, IsReply, IsTaken, asked_deposit, Changes, IsNext}
 use Rattle.reg_desk.specs.Serving.{AsksStore, NeedsMemory, IsRefusal, register_at, OnlyReads, Serves, answer_of}
-use Rattle.reg_desk.proofs.Replies.{reply_same, finds_itself}
+use Rattle.reg_desk.proofs.Taken.{taken_received}
 use Rattle.reg_desk.proofs.Firsts.{first_some}
 use Rattle.reg_desk.proofs.Bodies.{refused_none, refusal_serves, small_needs}
-use Rattle.reg_desk.proofs.Drawing.{clean_of, fit_at}
 use Rattle.reg_desk.proofs.Serves.{told_answer, told_after, memory_answer, memory_after, failed_answer, failed_after, one_owed, asks_of, replies_at_once, refused_serves, replies_serves, permitted_reply, denied_reply}
 
 -- ---- the reply
@@ -87,21 +83,10 @@ receipt_full : (register : Register) (embargo : ℤ) (count : ℕ) (first : Opti
 receipt_full register embargo count first none full =
     ap (λ (t : Bool). cond t (Receipt (count + 1) embargo) Full) (sym (ltb_of count register.limit full)) ∙ ap (receipt_of register embargo count) (sym none)
 
-abbrev fine_of : (register : Register) (state : List Sent) (caller : Caller) (project : List ℕ) (embargo : ℤ) (bytes : List ℕ) (day : ℤ) → IsTaken register state (deposit caller project embargo bytes day) → IsFine register caller project bytes
-fine_of register state caller project embargo bytes day taken = record { number = taken.0.0; permitted = taken.0.1; small = taken.1; clean = taken.2 }
-
 -- a reply that is not the receipt of a new deposit takes nothing
 untaken : (register : Register) (state : List Sent) (caller : Caller) (project : List ℕ) (embargo : ℤ) (bytes : List ℕ) (day : ℤ) (answer : Answer) → answer ≢ Receipt (length state + 1) embargo
     → IsReply register state (deposit caller project embargo bytes day) answer → IsNext register state (deposit caller project embargo bytes day) state
-untaken register state caller project embargo bytes day answer other is =
-    let request = deposit caller project embargo bytes day in
-    inr (
-      (λ taken.
-          other (reply_same register request state state (finds_itself register request state) answer (Receipt (length state + 1) embargo) is
-          (fine_reply register state caller project embargo bytes day (Receipt (length state + 1) embargo) (fine_of register state caller project embargo bytes day taken)
-          (receipt_new register embargo (length state) (first_equal 1 caller.firm project bytes state) taken.3 taken.4)))),
-      refl,
-    )
+untaken register state caller project embargo bytes day answer other is = inr (λ list change. other ((taken_received register state caller project embargo bytes day answer is).0 change.0), refl)
 
 refusal_other : (register : Register) (bytes : List ℕ) (n : ℕ) (e : ℤ) (answer : Answer) → IsRefusal register.given bytes answer → answer ≢ Receipt n e
 refusal_other register bytes n e answer refusal same = subst (IsRefusal register.given bytes) same refusal
@@ -159,7 +144,7 @@ deposit_repeats keep rules caller project embargo bytes day old new n e allowed 
     replies_serves keep rules (deposit caller project embargo bytes day) old new (Receipt n e) reads refl
     (λ s. ∥∥₁_map (clean s) (λ (none : AreFindings register.given bytes []).
     fine_reply register state caller project embargo bytes day (Receipt n e) (fine_with register caller project bytes allowed none) (ap (receipt_of register embargo (length state)) (sym (first s)))))
-    (λ s. inr ((λ taken. none_some (first_equal 1 caller.firm project bytes state) (n, e) taken.3 (first s)), refl))
+    (λ s. inr (λ list change. none_some (first_equal 1 caller.firm project bytes state) (n, e) change.0.3 (first s), refl))
     (allowed_needs register state caller project embargo bytes day allowed)
   where
     none_some : (o : Option (ℕ × ℤ)) (p : ℕ × ℤ) → o ≡ None → o ≡ Some p → ⊥
@@ -184,47 +169,43 @@ first_found firm project bytes state n head found of_head =
     let is = of_head first.found (subst (λ (i : ℕ). slice_get state i ≡ Some first.found) place first.at) in
     first.first ∙ ap (λ (e : ℤ). Some (n, e)) (sym is.embargo)
 
--- its body has no finding, as none that is held has
-pub held_clean : (given : Entries) (firm project bytes : List ℕ) (state : List Sent) (n : ℕ) → All (IsFit given) state → number_of firm project bytes state ≡ Some n → ∥ AreFindings given bytes [] ∥₁
-held_clean given firm project bytes state n fit found =
-    let first = first_some firm project bytes 1 state n found in
-    let d = first.found in
-    let same : d.bytes ≡ bytes = (parts_of firm project bytes d first.equal).2 in
-    ∥∥₁_map (fit_at given state first.place d fit first.at) (λ (f : (file : CheckedFile) × IsFileOf given d file).
-    subst (λ (b : List ℕ). AreFindings given b []) same (clean_of given d f.0 f.1).findings)
-
 -- ---- a deposit that no equal one is held of
 
 -- the call that appends, after calls that read
 abbrev pub Appends : {K : Type 0} → Ghosts K → Sent → K → K → Result ℕ KeepError → Type 0
 Appends keep d old new result = Adds keep.deposits keep.dictionary keep.limit keep.has_failed keep.may_leave keep.may_break keep.is_sound d old new result
 
-may_have_left : {K : Type 0} (keep : Ghosts K) (caller : Caller) (project : List ℕ) (embargo : ℤ) (bytes : List ℕ) (day : ℤ) (old mid new : K) (result : Result ℕ KeepError)
-    → OnlyReads keep old mid false → Appends keep (asked_deposit caller project embargo bytes) mid new result → keep.is_sound new → (list : List Sent) → keep.may_leave new list
-    → keep.may_leave old list ⊎ AddsAsked (deposit caller project embargo bytes day) (keep.deposits old) list
-may_have_left keep caller project embargo bytes day old mid new result reads appends s list may =
+-- a body that is fine is taken where no equal one is held and there is room
+pub is_taken : {K : Type 0} (keep : Ghosts K) (rules : List Rule) (caller : Caller) (project bytes : List ℕ) (old mid : K) → IsFine (register_at keep rules old) caller project bytes → OnlyReads keep old mid false
+    → (keep.is_sound mid → first_equal 1 caller.firm project bytes (keep.deposits old) ≡ None) → (keep.is_sound mid → length (keep.deposits mid) < keep.limit mid)
+    → keep.is_sound mid → IsTaken (register_at keep rules old) (keep.deposits old) caller project bytes
+is_taken keep rules caller project bytes old mid fine reads unheld room s =
+    ((fine.number, fine.permitted), fine.small, fine.clean, unheld s, omega (arith, room s, ap length (reads.same s refl), reads.same_limit))
+
+may_have_left : {K : Type 0} (keep : Ghosts K) (rules : List Rule) (caller : Caller) (project : List ℕ) (embargo : ℤ) (bytes : List ℕ) (day : ℤ) (old mid new : K) (result : Result ℕ KeepError)
+    → OnlyReads keep old mid false → (keep.is_sound mid → IsTaken (register_at keep rules old) (keep.deposits old) caller project bytes)
+    → Appends keep (asked_deposit caller project embargo bytes) mid new result → keep.is_sound new → (list : List Sent) → keep.may_leave new list
+    → keep.may_leave old list ⊎ Changes (register_at keep rules old) (keep.deposits old) (deposit caller project embargo bytes day) list
+may_have_left keep rules caller project embargo bytes day old mid new result reads taken appends s list may =
     elim (appends.crash s list may) [
       | inl was ↦ inl (reads.crash (appends.sound s) list was)
-      | inr is ↦ inr (is ∙ ap (λ (l : List Sent). l ++ asked_deposit caller project embargo bytes ∷ []) (reads.same (appends.sound s) refl))
+      | inr is ↦ inr (taken (appends.sound s), is ∙ ap (λ (l : List Sent). l ++ asked_deposit caller project embargo bytes ∷ []) (reads.same (appends.sound s) refl))
     ]
 
 no_failure : (t failed : Bool) → t ≡ failed → failed ≡ false → t ≡ true → false ≡ true
 no_failure t failed is lives e = sym lives ∙ sym is ∙ e
 
 pub deposit_added : {K : Type 0} (keep : Ghosts K) (rules : List Rule) (caller : Caller) (project : List ℕ) (embargo : ℤ) (bytes : List ℕ) (day : ℤ) (old mid new : K) (n : ℕ)
-    → IsFine (register_at keep rules old) caller project bytes → OnlyReads keep old mid false → (keep.is_sound mid → first_equal 1 caller.firm project bytes (keep.deposits old) ≡ None)
-    → Appends keep (asked_deposit caller project embargo bytes) mid new (Ok n)
-    → (keep.is_sound new → n ≡ length (keep.deposits new)) → (keep.is_sound new → length (keep.deposits mid) < keep.limit mid)
+    → IsFine (register_at keep rules old) caller project bytes → OnlyReads keep old mid false → (keep.is_sound mid → IsTaken (register_at keep rules old) (keep.deposits old) caller project bytes)
+    → Appends keep (asked_deposit caller project embargo bytes) mid new (Ok n) → (keep.is_sound new → n ≡ length (keep.deposits new))
     → Serves keep rules (deposit caller project embargo bytes day) old new (Receipt n embargo)
-deposit_added keep rules caller project embargo bytes day old mid new n fine reads unheld appends number room =
+deposit_added keep rules caller project embargo bytes day old mid new n fine reads taken appends number =
     let register = register_at keep rules old in
     let state = keep.deposits old in
     let request = deposit caller project embargo bytes day in
     let d = asked_deposit caller project embargo bytes in
     let asks = fine_asks register state caller project embargo bytes day fine in
-    let none : keep.is_sound new → first_equal 1 caller.firm project bytes state ≡ None = λ s. unheld (appends.sound s) in
     let new_list : keep.is_sound new → keep.deposits new ≡ state ++ d ∷ [] = λ s. appends.added s ∙ ap (λ (l : List Sent). l ++ d ∷ []) (reads.same (appends.sound s) refl) in
-    let has_room : keep.is_sound new → length state < register.limit = λ s. omega (arith, room s, ap length (reads.same (appends.sound s) refl), reads.same_limit) in
     let count : keep.is_sound new → n ≡ length state + 1 = λ s. omega (arith, number s, ap length (new_list s), length-append state (d ∷ [])) in
     record {
       sound = λ s. reads.sound (appends.sound s);
@@ -235,47 +216,51 @@ deposit_added keep rules caller project embargo bytes day old mid new n fine rea
       answered = λ s.
           ∣ (told_answer register state request (Receipt n embargo) refl).0
           (fine_reply register state caller project embargo bytes day (Receipt n embargo) fine
-          (ap (λ (k : ℕ). Receipt k embargo) (count s) ∙ receipt_new register embargo (length state) (first_equal 1 caller.firm project bytes state) (none s) (has_room s))) ∣₁;
-      kept = λ s.
-          (told_after register state (keep.deposits new) request (Receipt n embargo) refl).0
-          (inl (((fine.number, fine.permitted), fine.small, fine.clean, none s, has_room s), new_list s));
+          (ap (λ (k : ℕ). Receipt k embargo) (count s) ∙ receipt_new register embargo (length state) (first_equal 1 caller.firm project bytes state) (taken (appends.sound s)).3 (taken (appends.sound s)).4)) ∣₁;
+      kept = λ s. (told_after register state (keep.deposits new) request (Receipt n embargo) refl).0 (inl (taken (appends.sound s), new_list s));
       denied = λ m h. absurd (asks.0.0 m h);
       too_large = λ h. absurd (asks.0.1 h);
-      crash = may_have_left keep caller project embargo bytes day old mid new (Ok n) reads appends;
+      crash = may_have_left keep rules caller project embargo bytes day old mid new (Ok n) reads taken appends;
       whole = λ s may. reads.whole (appends.sound s) (appends.whole s may);
     }
 
+-- there is no room
+pub deposit_full : {K : Type 0} (keep : Ghosts K) (rules : List Rule) (caller : Caller) (project : List ℕ) (embargo : ℤ) (bytes : List ℕ) (day : ℤ) (old mid : K)
+    → IsFine (register_at keep rules old) caller project bytes → OnlyReads keep old mid false → (keep.is_sound mid → first_equal 1 caller.firm project bytes (keep.deposits old) ≡ None)
+    → (keep.is_sound mid → keep.limit mid ≤ length (keep.deposits mid)) → Serves keep rules (deposit caller project embargo bytes day) old mid Full
+deposit_full keep rules caller project embargo bytes day old mid fine reads unheld full =
+    let register = register_at keep rules old in
+    let state = keep.deposits old in
+    let no_room : keep.is_sound mid → register.limit ≤ length state = λ s. omega (arith, full s, ap length (reads.same s refl), reads.same_limit) in
+    replies_serves keep rules (deposit caller project embargo bytes day) old mid Full reads refl
+    (λ s. ∣ fine_reply register state caller project embargo bytes day Full fine (receipt_full register embargo (length state) (first_equal 1 caller.firm project bytes state) (unheld s) (no_room s)) ∣₁)
+    (λ s. inr (λ list change. omega (arith, change.0.4, no_room s), refl)) (fine_asks register state caller project embargo bytes day fine).0
+
 -- the keep refuses to append
 pub deposit_unadded : {K : Type 0} (keep : Ghosts K) (rules : List Rule) (caller : Caller) (project : List ℕ) (embargo : ℤ) (bytes : List ℕ) (day : ℤ) (old mid new : K) (e : KeepError)
-    → IsFine (register_at keep rules old) caller project bytes → OnlyReads keep old mid false → (keep.is_sound mid → first_equal 1 caller.firm project bytes (keep.deposits old) ≡ None)
+    → IsFine (register_at keep rules old) caller project bytes → OnlyReads keep old mid false → (keep.is_sound mid → IsTaken (register_at keep rules old) (keep.deposits old) caller project bytes)
     → Appends keep (asked_deposit caller project embargo bytes) mid new (Err e)
     → (keep.is_sound new → e ≡ errors.Full → length (keep.deposits mid) ≡ keep.limit mid)
     → Serves keep rules (deposit caller project embargo bytes day) old new (answer_of e)
-deposit_unadded keep rules caller project embargo bytes day old mid new errors.Full fine reads unheld appends full =
+deposit_unadded keep rules caller project embargo bytes day old mid new errors.Full fine reads taken appends full =
     let register = register_at keep rules old in
     let state = keep.deposits old in
-    let request = deposit caller project embargo bytes day in
     let asks = fine_asks register state caller project embargo bytes day fine in
-    let none : keep.is_sound new → first_equal 1 caller.firm project bytes state ≡ None = λ s. unheld (appends.sound s) in
-    let no_room : keep.is_sound new → register.limit ≤ length state = λ s. omega (arith, full s refl, ap length (reads.same (appends.sound s) refl), reads.same_limit) in
+    let never : keep.is_sound new → ⊥ = λ s. omega (arith, full s refl, ap length (reads.same (appends.sound s) refl), reads.same_limit, (taken (appends.sound s)).4) in
     record {
       sound = λ s. reads.sound (appends.sound s);
       same_dictionary = appends.same_dictionary ∙ reads.same_dictionary;
       same_limit = appends.same_limit ∙ reads.same_limit;
       failure = no_failure (keep.has_failed new) false appends.failing refl;
       cause = λ s. sym appends.failing;
-      answered = λ s.
-          ∣ (told_answer register state request Full refl).0
-          (fine_reply register state caller project embargo bytes day Full fine (receipt_full register embargo (length state) (first_equal 1 caller.firm project bytes state) (none s) (no_room s))) ∣₁;
-      kept = λ s.
-          (told_after register state (keep.deposits new) request Full refl).0
-          (inr ((λ taken. omega (arith, taken.4, no_room s)), appends.refused s refl ∙ reads.same (appends.sound s) refl));
+      answered = λ s. absurd (never s);
+      kept = λ s. absurd (never s);
       denied = λ m h. absurd (asks.0.0 m h);
       too_large = λ h. absurd (asks.0.1 h);
-      crash = may_have_left keep caller project embargo bytes day old mid new (Err errors.Full) reads appends;
-      whole = λ s may. reads.whole (appends.sound s) (appends.whole s may);
+      crash = λ s list may. absurd (never s);
+      whole = λ s may. absurd (never s);
     }
-deposit_unadded keep rules caller project embargo bytes day old mid new errors.NoMemory fine reads unheld appends full =
+deposit_unadded keep rules caller project embargo bytes day old mid new errors.NoMemory fine reads taken appends full =
     let register = register_at keep rules old in
     let state = keep.deposits old in
     let request = deposit caller project embargo bytes day in
@@ -290,10 +275,10 @@ deposit_unadded keep rules caller project embargo bytes day old mid new errors.N
       kept = λ s. memory_after register state (keep.deposits new) request (appends.refused s refl ∙ reads.same (appends.sound s) refl);
       denied = λ m h. absurd (asks.0.0 m h);
       too_large = λ h. absurd (asks.0.1 h);
-      crash = may_have_left keep caller project embargo bytes day old mid new (Err errors.NoMemory) reads appends;
+      crash = may_have_left keep rules caller project embargo bytes day old mid new (Err errors.NoMemory) reads taken appends;
       whole = λ s may. reads.whole (appends.sound s) (appends.whole s may);
     }
-deposit_unadded keep rules caller project embargo bytes day old mid new errors.Store fine reads unheld appends full =
+deposit_unadded keep rules caller project embargo bytes day old mid new errors.Store fine reads taken appends full =
     let register = register_at keep rules old in
     let state = keep.deposits old in
     let request = deposit caller project embargo bytes day in
@@ -308,6 +293,6 @@ deposit_unadded keep rules caller project embargo bytes day old mid new errors.S
       kept = λ s. failed_after register state (keep.deposits new) request;
       denied = λ m h. absurd (asks.0.0 m h);
       too_large = λ h. absurd (asks.0.1 h);
-      crash = may_have_left keep caller project embargo bytes day old mid new (Err errors.Store) reads appends;
+      crash = may_have_left keep rules caller project embargo bytes day old mid new (Err errors.Store) reads taken appends;
       whole = λ s may. reads.whole (appends.sound s) (appends.whole s may);
     }

@@ -8,7 +8,7 @@ use Rattle.reg_desk.specs.declared.answer.Answer.{Answer}
 use Rattle.reg_desk.specs.declared.answer.Answer.TheVariants.{Receipt, StoreFailed}
 use Rattle.reg_desk.specs.declared.desk.Desk.{Desk}
 use Rattle.reg_desk.specs.Asked.{Asked, deposit}
-use Rattle.reg_desk.specs.Machine.{Register, held, asked_deposit, AddsAsked}
+use Rattle.reg_desk.specs.Machine.{Register, held, asked_deposit, Changes}
 use Rattle.reg_desk.specs.Serving.{is_failed, IsAnswer, IsAfter, register_at}
 
 -- one StoreFailed for each request
@@ -39,8 +39,9 @@ pub record Runs {K : Type 0} (keep : Ghosts K) (rules : List Rule) (old new : K)
   pub last : List Sent
   pub answered : AreAnswers (register_at keep rules old) (keep.deposits old) requests answers last
   pub kept : failing requests answers ≡ None → keep.deposits new ≡ last
-  -- a crash leaves no list but `last`, or, where a request failed, `last` with the one deposit that it asked for
-  pub left : (list : List Sent) → keep.may_leave new list → (list ≡ last) ⊎ ((r : Asked) × (failing requests answers ≡ Some r) × AddsAsked r last list)
+  -- a crash leaves no list but `last`, or, where a request failed, one to which that request changes `last`
+  pub left : (list : List Sent) → keep.may_leave new list
+      → (list ≡ last) ⊎ ((r : Asked) × (failing requests answers ≡ Some r) × Changes (register_at keep rules old) last r list)
   -- a crash leaves a register of some list, so of one of these
   pub whole : keep.may_break new → ⊥
 

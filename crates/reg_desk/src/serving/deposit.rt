@@ -67,10 +67,15 @@ fn serve_checked<K: Keep>(
     match held_already(keep, &caller.firm, project, checked.bytes()) {
         Err(error) => refused(error),
         Ok(Some((number, until))) => receipt(number, Some(until), embargo),
-        Ok(None) => match keep.add(&caller.firm, project, embargo, checked) {
-            Err(error) => refused(error),
-            Ok(number) => receipt(number, None, embargo),
-        },
+        Ok(None) => {
+            if keep.count() >= keep.limit() {
+                return Answer::Full;
+            }
+            match keep.add(&caller.firm, project, embargo, checked) {
+                Err(error) => refused(error),
+                Ok(number) => receipt(number, None, embargo),
+            }
+        }
     }
 }
 

@@ -1,4 +1,4 @@
-use Rattle.std.proofs.Common.{◌∙◌, sym, ap, subst, List, [], ℕ, Err, refl}
+use Rattle.std.proofs.Common.{◌∙◌, sym, ap, subst, List, [], ℕ, Err, refl, arith}
 use Rattle.ags_dict.specs.Entries.{Entries}
 use Rattle.ags_check.specs.Findings.{Findings as AreFindings}
 use Rattle.reg_store.specs.Sent.{number_of}
@@ -7,7 +7,7 @@ use Rattle.reg_desk.specs.Machine.{first_equal}
 use Rattle.reg_desk.specs.Serving.{Serves, register_at}
 use Rattle.reg_desk.proofs.Firsts.{none_number}
 use Rattle.reg_desk.proofs.Serves.{still_works}
-use Rattle.reg_desk.proofs.Taking.{IsAllowed, IsFine, deposit_unread, deposit_repeats, deposit_added, deposit_unadded}
+use Rattle.reg_desk.proofs.Taking.{IsAllowed, IsFine, deposit_unread, deposit_repeats, is_taken, deposit_full, deposit_added, deposit_unadded}
 use Rattle.reg_desk.proofs.serving.deposit.serve_checked.Goals as goal
 
 pub held_already-requires : goal.held_already-requires
@@ -54,6 +54,20 @@ add-requires-clause-fresh g c = λ s.
     ∙ ap (λ (b : List ℕ). number_of c.args.caller.now.firm c.args.project.now b state) (sym c.bytes.ensures.bytes)
     ∙ none_number c.args.caller.now.firm c.args.project.now c.bytes.result.now 1 state (sym {b = first_equal 1 c.args.caller.now.firm c.args.project.now c.bytes.result.now state} (held s))
 
+pub returns-then-count-limit : goal.returns-then-count-limit
+returns-then-count-limit g c = λ rules number day permit.
+    let K = g.K.Keep in
+    let keep = c.args.keep.now in
+    let mid = c.held_already.new.keep in
+    let bytes = c.args.checked.now.bytes in
+    let held = rw c.in-Ok-None.field-0-is at c.in-Ok-None.ensures.held in
+    let works = still_works K keep mid c.in-Ok-None.ensures.reads in
+    deposit_full K rules c.args.caller.now c.args.project.now c.args.embargo bytes day keep mid
+    (record { number = number; permitted = permit; small = c.requires.short; clean = subst (λ (e : Entries). AreFindings e bytes []) c.requires.dictionary c.bytes.ensures.clean.file.findings })
+    c.in-Ok-None.ensures.reads
+    (λ s. ap (λ (b : List ℕ). first_equal 1 c.args.caller.now.firm c.args.project.now b (K.deposits keep)) (sym c.bytes.ensures.bytes) ∙ sym {b = first_equal 1 c.args.caller.now.firm c.args.project.now c.bytes.result.now (K.deposits keep)} (held s))
+    (λ s. omega (arith, c.count.ensures s works, c.limit.ensures))
+
 pub returns-in-Err-add : goal.returns-in-Err-add
 returns-in-Err-add g c = λ rules number day permit.
     let K = g.K.Keep in
@@ -69,7 +83,9 @@ returns-in-Err-add g c = λ rules number day permit.
     subst (Serves K rules (deposit c.args.caller.now c.args.project.now c.args.embargo bytes day) keep c.add.new.self) (sym c.refused-in-Err-add.ensures)
     (deposit_unadded K rules c.args.caller.now c.args.project.now c.args.embargo bytes day keep c.held_already.new.keep c.add.new.self c.in-Err-add.error fine
     c.in-Ok-None.ensures.reads
+    (is_taken K rules c.args.caller.now c.args.project.now bytes keep c.held_already.new.keep fine c.in-Ok-None.ensures.reads
     (λ s. ap (λ (b : List ℕ). first_equal 1 c.args.caller.now.firm c.args.project.now b (K.deposits keep)) (sym c.bytes.ensures.bytes) ∙ sym {b = first_equal 1 c.args.caller.now.firm c.args.project.now c.bytes.result.now (K.deposits keep)} (held s))
+    (λ s. omega (arith, c.count.ensures s (still_works K keep c.held_already.new.keep c.in-Ok-None.ensures.reads), c.limit.ensures)))
     c.in-Err-add.ensures.leaves (λ s e. c.in-Err-add.ensures.full s (ap (λ x. Err x) e)))
 
 pub returns-in-Ok : goal.returns-in-Ok
@@ -87,5 +103,7 @@ returns-in-Ok g c = λ rules number day permit.
     subst (Serves K rules (deposit c.args.caller.now c.args.project.now c.args.embargo bytes day) keep c.add.new.self) (sym (c.receipt-in-Ok.ensures.new refl))
     (deposit_added K rules c.args.caller.now c.args.project.now c.args.embargo bytes day keep c.held_already.new.keep c.add.new.self c.in-Ok.number fine
     c.in-Ok-None.ensures.reads
+    (is_taken K rules c.args.caller.now c.args.project.now bytes keep c.held_already.new.keep fine c.in-Ok-None.ensures.reads
     (λ s. ap (λ (b : List ℕ). first_equal 1 c.args.caller.now.firm c.args.project.now b (K.deposits keep)) (sym c.bytes.ensures.bytes) ∙ sym {b = first_equal 1 c.args.caller.now.firm c.args.project.now c.bytes.result.now (K.deposits keep)} (held s))
-    c.in-Ok.ensures.leaves c.in-Ok.ensures.number c.in-Ok.ensures.room)
+    (λ s. omega (arith, c.count.ensures s (still_works K keep c.held_already.new.keep c.in-Ok-None.ensures.reads), c.limit.ensures)))
+    c.in-Ok.ensures.leaves c.in-Ok.ensures.number)
