@@ -1,6 +1,6 @@
 //! The files that words name.
 
-ghost use Rattle.std.specs.Prelude.{◌≡◌, IfOk, IfSome};
+ghost use Rattle.std.specs.Prelude.{◌≡◌, ◌≤◌, IfOk, IfSome, length};
 ghost use Rattle.ags_dict.specs.Reading.{IsDictionary};
 ghost use Rattle.reg_policy.specs.Callers.{HasCallers};
 ghost use Rattle.reg_policy.specs.Rules.{HasRules};
@@ -80,7 +80,8 @@ fn callers_in(alloc: Global, bytes: &[u8]) -> Result<Callers, Fault>
 
 /// The dictionary that bytes are.
 pub fn dictionary_in(alloc: Global, bytes: &[u8]) -> Result<Dictionary, Fault>
-    ensures { IfOk result (λ dictionary. IsDictionary bytes.now dictionary) }
+    ensures read { IfOk result (λ dictionary. IsDictionary bytes.now dictionary) }
+    ensures short { IfOk result (λ _. length bytes.now ≤ LIMIT) }
 {
     if bytes.len() > LIMIT {
         return Err(Fault::DictionaryRefused);

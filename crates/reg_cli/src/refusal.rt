@@ -2,7 +2,7 @@
 
 ghost use Rattle.std.specs.Prelude.{◌≡◌};
 ghost use Rattle.reg_cli.specs.Faults.{TellsTo};
-ghost use Rattle.reg_cli.specs.Refusals.{TellsRefusal, unread_text, version_text};
+ghost use Rattle.reg_cli.specs.Refusals.{TellsRefusal, unread_text, unwritten_text, version_text};
 ghost use Rattle.reg_cli.specs.declared.fault.Fault.TheVariants.{NoMemory};
 ghost use Rattle.reg_cli.specs.declared.refusal.Refusal.TheVariants.{Plain};
 
@@ -19,6 +19,8 @@ pub enum Refusal<'w> {
     Plain(Fault),
     /// The file that this word names can not be read.
     CannotRead(&'w str),
+    /// The file that this word names can not be written.
+    CannotWrite(&'w str),
     /// The register has a format of this number, and not 1.
     Version(i64),
     /// The port can not be listened on.
@@ -49,6 +51,7 @@ impl<'w> Refusal<'w> {
         match self {
             Refusal::Plain(fault) => fault.tell(err),
             Refusal::CannotRead(path) => tell_unread(err, path),
+            Refusal::CannotWrite(path) => tell_unwritten(err, path),
             Refusal::Version(number) => tell_version(err, *number),
             Refusal::CannotListen => tell(err, b"groundreg: cannot listen\n", 6),
         }
@@ -60,6 +63,13 @@ fn tell_unread<E: Write>(err: &mut Watched<E>, path: &str) -> u8
     ensures { TellsTo E.Write err.old err.new (unread_text path.now) 6 result }
 {
     tell_line(err, b"groundreg: cannot read ", path.as_bytes(), 6)
+}
+
+/// Says that the file at a path can not be written.
+fn tell_unwritten<E: Write>(err: &mut Watched<E>, path: &str) -> u8
+    ensures { TellsTo E.Write err.old err.new (unwritten_text path.now) 6 result }
+{
+    tell_line(err, b"groundreg: cannot write ", path.as_bytes(), 6)
 }
 
 /// Says that the register has a format of this number.

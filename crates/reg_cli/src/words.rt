@@ -25,11 +25,20 @@ pub struct Service<'w> {
     pub store: &'w str,
     pub policy: &'w str,
     pub callers: &'w str,
+    /// None where the day is that of the clock. No clause says so.
     pub day: Option<&'w str>,
+    /// Whether the day of each request is that of the clock.
+    pub is_day_by_clock: bool,
     /// 1 to 65,535, as `read_words` reads it. No clause says so.
     pub port: u16,
     /// 1 to 1,000,000, as `read_words` reads it. No clause says so.
     pub connections: u32,
+    /// The seconds for reading a request, and for writing its reply: 1 to 3,600, as `read_words` reads it. No clause says so.
+    pub patience: u32,
+    /// Whether `serve` ends behind an answer that the store failed.
+    pub ends_on_failure: bool,
+    /// The file to which a line is appended for each connection.
+    pub log: Option<&'w str>,
 }
 
 /// A command with the texts that its words give.
@@ -60,6 +69,12 @@ pub enum Words<'w> {
 /// The greatest number of connections that `serve` serves.
 const MOST_CONNECTIONS: u32 = 1_000_000;
 
+/// The greatest patience with a connection, in seconds.
+const MOST_PATIENCE: u32 = 3_600;
+
+/// The patience where none is given.
+const USUAL_PATIENCE: u32 = 30;
+
 /// What a command does.
 enum Task {
     Init,
@@ -76,6 +91,8 @@ enum Word {
     Required(&'static str),
     /// An option that may be left out.
     Optional(&'static str),
+    /// An option without a value, which may be left out.
+    Flag(&'static str),
     /// A word without an option's name.
     Plain(&'static str),
 }
@@ -148,6 +165,10 @@ static FORMS: [Form; 6] = [
             Word::Required("port"),
             Word::Required("connections"),
             Word::Optional("day"),
+            Word::Flag("day-by-clock"),
+            Word::Optional("patience"),
+            Word::Flag("end-on-failure"),
+            Word::Optional("log"),
         ],
     },
 ];
@@ -166,10 +187,15 @@ fn option<'w>(alloc: Global, name: &'w str) -> Arg<'w> {
     Arg::new(alloc, name).long(name).action(ArgAction::Set)
 }
 
+fn flag<'w>(alloc: Global, name: &'w str) -> Arg<'w> {
+    Arg::new(alloc, name).long(name).action(ArgAction::SetTrue)
+}
+
 fn argument<'w>(alloc: Global, word: &Word) -> Arg<'w> {
     match word {
         Word::Required(name) => option(alloc, name).required(true),
         Word::Optional(name) => option(alloc, name),
+        Word::Flag(name) => flag(alloc, name),
         Word::Plain(name) => Arg::new(alloc, name).required(true).action(ArgAction::Set),
     }
 }
@@ -216,14 +242,31 @@ fn asker_in<'w>(given: &ArgMatches<'w>) -> Option<Asker<'w>> {
     })
 }
 
+/// The seconds of patience with a connection.
+fn patience_in(given: &ArgMatches<'_>) -> Option<u32> {
+    match text(given, "patience") {
+        Some(_) => number(given, "patience", MOST_PATIENCE),
+        None => Some(USUAL_PATIENCE),
+    }
+}
+
 fn service_in<'w>(given: &ArgMatches<'w>) -> Option<Service<'w>> {
+    let day = text(given, "day");
+    let is_day_by_clock = given.get_flag("day-by-clock");
+    if is_day_by_clock && day.is_some() {
+        return None;
+    }
     Some(Service {
         store: text(given, "store")?,
         policy: text(given, "policy")?,
         callers: text(given, "callers")?,
-        day: text(given, "day"),
+        day,
+        is_day_by_clock,
         port: number(given, "port", 65_535)? as u16,
         connections: number(given, "connections", MOST_CONNECTIONS)?,
+        patience: patience_in(given)?,
+        ends_on_failure: given.get_flag("end-on-failure"),
+        log: text(given, "log"),
     })
 }
 
