@@ -122,9 +122,10 @@ class Site:
         with open(f"{self.folder}/site.conf", "w", encoding="utf-8") as file:
             file.write(text)
         places = "".join(f"{name}_temp_path {self.folder}/{name};\n" for name in ("client_body", "proxy", "fastcgi", "uwsgi", "scgi"))
+        types = "include /etc/nginx/mime.types;\n" if os.path.exists("/etc/nginx/mime.types") else ""
         kind = f"worker_processes {workers};\n" if workers else "master_process off;\n"
         with open(f"{self.folder}/nginx.conf", "w", encoding="utf-8") as file:
-            file.write(f"daemon off;\n{kind}pid {self.folder}/pid;\nerror_log {self.folder}/errors;\nevents {{ worker_connections 2000; }}\nhttp {{\naccess_log off;\n{places}include {self.folder}/site.conf;\n}}\n")
+            file.write(f"daemon off;\n{kind}pid {self.folder}/pid;\nerror_log {self.folder}/errors;\nevents {{ worker_connections 2000; }}\nhttp {{\naccess_log off;\n{types}{places}include {self.folder}/site.conf;\n}}\n")
 
     def connect(self, receives=None):
         context = ssl.create_default_context(cafile=f"{self.certificate}.crt")
