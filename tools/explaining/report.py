@@ -3,6 +3,7 @@
     text(told), every(told), as_json(told), sarif(told), html(told)"""
 import html as markup
 import json
+import urllib.parse
 
 from . import ags, ahead, cause, texts
 
@@ -24,8 +25,8 @@ def above(told):
     said = list(told.context.kind[1])
     if not told.is_of_file():
         under = "the built-in dictionary" if told.standard.is_built_in else "this dictionary"
-        said.append(f"These are not the findings of this file under {under}: is it the file that was checked, "
-                    "and the dictionary that it was checked under (--dictionary)?")
+        said.append(f"These are not the findings of this file under {under}: is it the file that was checked, and the "
+                    "dictionary that it was checked under (--dictionary)?")
     return said
 
 
@@ -52,12 +53,14 @@ def block(told, one):
 def summary_line(one):
     about = f", {one.subject}" if one.subject else ""
     first = one.here[0].split(". ")[0].rstrip(".") if one.here else one.rule
-    where = f"from line {one.lines[0]}" if len(one.lines) > 1 else f"line {one.lines[0]}" if one.lines[0] else "the file"
+    where = (f"from line {one.lines[0]}" if len(one.lines) > 1 else f"line {one.lines[0]}" if one.lines[0]
+             else "the file")
     return f"Rule {one.code}{about}: {texts.clipped(first)} ({texts.count(len(one.findings), 'finding')}, {where})"
 
 
 def shown_causes(told):
-    """The causes that are shown in full, and of each rule and subject how many more there are, as (code, subject, causes, findings)."""
+    """The causes that are shown in full, and of each rule and subject how many more there are, as (code, subject,
+    causes, findings)."""
     full, more, kinds = [], {}, {}
     for key, given in told.grouped():
         kind = (given[0].code if key[1] == "file" else key[1], given[0].subject if key[1] not in ("15", "17") else b"")
@@ -87,7 +90,8 @@ def text(told):
         out += block(told, one)
     for code, subject, causes, findings in more:
         about = f", {ags.shown(subject)}" if subject else ""
-        out += ["", f"{texts.count(causes, 'more cause')} of Rule {code}{about} ({texts.count(findings, 'finding')}): --all shows each finding."]
+        out += ["", f"{texts.count(causes, 'more cause')} of Rule {code}{about} ({texts.count(findings, 'finding')}): "
+                    "--all shows each finding."]
     return out
 
 
@@ -103,11 +107,12 @@ def preview(told):
     """What the later phases would find."""
     phases, left_out = ahead.preview(told)
     out = ["", "Ahead: a preview, and not the program's answer. Line ends, mark and encoding are put right in memory, "
-           "and quotes where it is plain how."]
+               "and quotes where it is plain how."]
     if left_out:
         out.append(f"{texts.count(left_out, 'line')} with other findings {'is' if left_out == 1 else 'are'} left out.")
     for phase, causes, first, findings in phases:
-        out.append(f"Phase {phase} ({ags.PHASES[phase]}): {texts.count(findings, 'finding')} of {texts.count(causes, 'cause')}.")
+        out.append(f"Phase {phase} ({ags.PHASES[phase]}): {texts.count(findings, 'finding')} of "
+                   f"{texts.count(causes, 'cause')}.")
         out += [f"  {number}. {summary_line(one)}" for number, one in enumerate(first, 1)]
         out += [f"  and {texts.count(causes - len(first), 'more cause')}"] if causes > len(first) else []
     return out + ([] if phases else ["The later phases would find nothing."])
@@ -117,8 +122,7 @@ def preview(told):
 
 def cause_as_json(one):
     return {"code": one.code, "title": one.title, "rule": one.rule, "subject": one.subject, "value": one.value,
-            "count": len(one.findings),
-            "lines": one.lines, "here": one.here, "fix": one.fix,
+            "count": len(one.findings), "lines": one.lines, "here": one.here, "fix": one.fix,
             "findings": [{"code": f.code, "line": f.line, "subject": ags.shown(f.subject)} for f in one.findings]}
 
 
@@ -136,7 +140,7 @@ def as_json(told, is_ahead=False):
 
 def sarif_result(told, one, finding, index):
     line, at, size = cause.place(told.context, finding)
-    where = {"artifactLocation": {"uri": told.name}}
+    where = {"artifactLocation": {"uri": urllib.parse.quote(told.name)}}
     if line:
         where["region"] = {"startLine": line, **({"startColumn": at + 1, "endColumn": at + 1 + size} if size else {})}
     return {"ruleId": finding.code, "ruleIndex": index[finding.code], "level": "error",
@@ -159,7 +163,8 @@ PAGE = """<!doctype html>
 <html lang="en"><head><meta charset="utf-8"><title>{title}</title>
 <meta name="viewport" content="width=device-width, initial-scale=1">
 <style>
-body {{ font: 16px/1.5 system-ui, sans-serif; max-width: 70rem; margin: 2rem auto; padding: 0 1rem; color: #1a1a1a; background: #fff; }}
+body {{ font: 16px/1.5 system-ui, sans-serif; max-width: 70rem; margin: 2rem auto; padding: 0 1rem; color: #1a1a1a;
+background: #fff; }}
 pre {{ background: #f2f2f2; padding: .6rem; overflow-x: auto; }}
 section {{ border-top: 1px solid #999; margin-top: 1.5rem; }}
 .fix {{ font-weight: 600; }}
@@ -177,8 +182,9 @@ def section(told, number, one):
     about = f" ({one.subject})" if one.subject else ""
     shown = "\n".join(line_shown(told, one.place))
     here = "".join(f"<p>{escaped(said)}</p>\n" for said in one.here)
-    more = f"<details><summary>All {texts.count(len(one.lines), 'line')}</summary><p>{', '.join(map(str, one.lines))}</p></details>\n" \
-        if len(one.lines) > texts.FEW + 1 else ""
+    more = ("<details><summary>All "
+            f"{texts.count(len(one.lines), 'line')}</summary><p>{', '.join(map(str, one.lines))}</p></details>\n"
+        if len(one.lines) > texts.FEW + 1 else "")
     return f'<section id="cause-{number}"><h2>{number}. Rule {one.code}, {escaped(one.title + about)}</h2>\n' \
         f"<p>{texts.count(len(one.findings), 'finding')}, {texts.lines(one.lines)}</p>\n<pre>{escaped(shown)}</pre>\n" \
         f'<p>{escaped(one.rule)}</p>\n{here}<p class="fix">Fix: {escaped(one.fix)}</p>\n{more}</section>\n'
