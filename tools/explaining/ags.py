@@ -226,7 +226,9 @@ def own_entries(file):
     """The entries of a file's group DICT."""
     given, entries = file.by_name.get(b"DICT"), []
     for row in given.data if given else ():
-        kind, group, heading, status, parent = given.entries(row, (b"DICT_TYPE", b"DICT_GRP", b"DICT_HDNG", b"DICT_STAT", b"DICT_PGRP"))
+        kind, group, heading, status, parent = given.entries(row,
+                                                             (b"DICT_TYPE", b"DICT_GRP", b"DICT_HDNG", b"DICT_STAT",
+                                                              b"DICT_PGRP"))
         if kind == b"GROUP":
             entries.append(("G", group, parent))
         elif kind == b"HEADING":
@@ -328,7 +330,8 @@ def heading_findings(group, words, unknown):
         if (group.name, heading) in words.own and is_misnamed:
             found.add(Finding(line, "19b", heading))
     found |= {Finding(line, "10a", heading) for heading in words.keys(group.name) if heading not in group.columns}
-    return found | {Finding(line, "10b", heading) for heading in words.required(group.name) if heading not in group.columns}
+    return found | {Finding(line, "10b", heading) for heading in words.required(group.name)
+                    if heading not in group.columns}
 
 
 def dictionary_findings(file, words):

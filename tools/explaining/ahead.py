@@ -44,7 +44,8 @@ def of_quotes(file):
         right = None if line in out or line in headings else quotes.mistake(file.line(line), width)[2]
         if right is not None:
             out[line] = right
-        row = headings[line].items if line in headings else (ags.fields_of(right) or [])[1:] if (right or b"").startswith(b'"HEADING"') else None
+        row = headings[line].items if line in headings else (ags.fields_of(right) or [])[1:] if (right
+            or b"").startswith(b'"HEADING"') else None
         width = width if row is None else len(row)
     for line in file.descriptorless:
         descriptor, *items = ags.fields_of(file.line(line))
@@ -91,7 +92,8 @@ class Preview:
             return
         found = ags.group_findings(self.file)
         self.note(3, found)
-        self.leave_out([self.file.group_at(finding.line) for finding in found if finding.code in ("P1", "P2") or not finding.subject])
+        self.leave_out([self.file.group_at(finding.line) for finding in found if finding.code in ("P1", "P2")
+                        or not finding.subject])
         items = of_items(self.file)
         self.file = changed(self.file, items) if items else self.file
         if self.file.rows:
@@ -110,7 +112,8 @@ class Preview:
         absent = {f.subject for f in found if f.line == 0} | self.gone
         keyless = {self.file.group_at(f.line).name for f in found if f.code == "10a"}
         lists = {code for name, code in LISTS.items() if name in absent}
-        self.note(5, {f for f in ags.entry_findings(self.file, words) if f.code not in lists and not self.echoes(f, words, keyless)})
+        self.note(5, {f for f in ags.entry_findings(self.file, words) if f.code not in lists
+                      and not self.echoes(f, words, keyless)})
 
     def follows(self, finding, words):
         """Whether a finding of the fourth phase follows from a group that was left out."""

@@ -12,7 +12,9 @@ ORDER = {code: rank for rank, code in enumerate(
     "1 2a 6 5 3 2b 2 P1 19 19a P2 4 13 14 17 15 18 9 10a 10b 7 10c 19b 11a 11b 16 8 11c 20".split())}
 IN_ENTRIES = {code: rank for rank, code in enumerate("17 15 16 20 8 10b 10a 10c 11c".split())}
 # The phase of the codes that one phase alone has.
-OF_PHASE = {code: phase for phase, codes in ((1, "1 2a 3 5 6"), (2, "2b"), (3, "19 19a P1 P2"), (4, "7 9 18 19b 11a 11b 13 14"), (5, "8 11c 16 20"))
+OF_PHASE = {code: phase for phase,
+            codes in ((1, "1 2a 3 5 6"), (2, "2b"), (3, "19 19a P1 P2"), (4, "7 9 18 19b 11a 11b 13 14"),
+                      (5, "8 11c 16 20"))
             for code in codes.split()}
 NO_TEXT = ("ZIP", "PDF", "gzip", "HTML", "UTF-16", "AGS3")
 
@@ -81,12 +83,14 @@ def cause_of(context, key, findings):
     if key[0] == "file":
         rule = context.rules[first.code]
         said = context.kind[1]
-        return Cause(first.code, rule.title, rule.rule, "", context.kind[0], findings, said[:1], " ".join(said[1:]) or rule.fix, context)
+        return Cause(first.code, rule.title, rule.rule, "", context.kind[0], findings, said[:1],
+                     " ".join(said[1:]) or rule.fix, context)
     rule = context.rules[key[0]]
     same = [finding for finding in findings if finding.code == key[0]] or findings
     subjects = list(dict.fromkeys(finding.subject for finding in same if finding.subject))
     value, here, fix = TELLERS[phase].tell(context, tuple(key), same)
-    return Cause(key[0], rule.title, rule.rule, texts.names(subjects, 4) if subjects else "", value, [*same, *(one for one in findings if one.code != key[0])],
+    return Cause(key[0], rule.title, rule.rule, texts.names(subjects, 4) if subjects else "", value,
+                 [*same, *(one for one in findings if one.code != key[0])],
                  here, fix or rule.fix, context)
 
 

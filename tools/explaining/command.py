@@ -11,8 +11,10 @@ ADVICE = {"too large": f"A file has at most {ags.LIMIT:,} bytes; docs/COMMANDS.m
 
 
 def arguments(given):
-    parser = argparse.ArgumentParser(prog="explain", usage="bin/groundreg < FILE | bin/explain [options] FILE", description=ABOUT)
-    parser.add_argument("--dictionary", metavar="D", help="the dictionary that the file was checked under, if not the built-in one")
+    parser = argparse.ArgumentParser(prog="explain", usage="bin/groundreg < FILE | bin/explain [options] FILE",
+                                     description=ABOUT)
+    parser.add_argument("--dictionary", metavar="D",
+                        help="the dictionary that the file was checked under, if not the built-in one")
     parser.add_argument("--all", action="store_true", help="each finding, and not each cause")
     parser.add_argument("--ahead", action="store_true", help="a preview of what the later phases would find")
     form = parser.add_mutually_exclusive_group()

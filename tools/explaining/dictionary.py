@@ -9,8 +9,10 @@ from . import ags, texts
 from .command import bytes_of
 
 STATUS = (b"KEY", b"REQUIRED", b"OTHER", b"")
-SPELLED = {b"KEYREQUIRED": b"KEY+REQUIRED", b"REQUIREDKEY": b"KEY+REQUIRED", b"KEY": b"KEY", b"REQUIRED": b"REQUIRED", b"OTHER": b"OTHER",
-           b"*R": b"KEY+REQUIRED", b"R*": b"KEY+REQUIRED", b"*": b"KEY", b"R": b"REQUIRED", b"GROUP": b"GROUP", b"HEADING": b"HEADING"}
+SPELLED = {b"KEYREQUIRED": b"KEY+REQUIRED", b"REQUIREDKEY": b"KEY+REQUIRED", b"KEY": b"KEY", b"REQUIRED": b"REQUIRED",
+           b"OTHER": b"OTHER",
+           b"*R": b"KEY+REQUIRED", b"R*": b"KEY+REQUIRED", b"*": b"KEY", b"R": b"REQUIRED", b"GROUP": b"GROUP",
+           b"HEADING": b"HEADING"}
 
 
 class Said:
@@ -50,11 +52,13 @@ def warnings_of(words, said):
         right = spelling(status)
         names = texts.listing(f"{ags.shown(heading)} of {ags.shown(group)}" for _, (group, heading) in rows)
         out.append(f"DICT_STAT {texts.value(status)} makes no KEY and no REQUIRED heading where that is meant ({names}; "
-                   f"{texts.lines(line for line, _ in rows)})" + (f": it is spelled {texts.value(right)}." if right else "."))
+                   f"{texts.lines(line for line, _ in rows)})"
+                   + (f": it is spelled {texts.value(right)}." if right else "."))
     for kind, lines in said.kinds.items():
         right = spelling(kind)
         out.append(f"DICT_TYPE {texts.value(kind)} makes no entry ({texts.count(len(lines), 'row')}, {texts.lines(lines)})"
-                   + (f": it is spelled {texts.value(right)}." if right in (b"GROUP", b"HEADING") else ": it is GROUP or HEADING."))
+                   + (f": it is spelled {texts.value(right)}." if right in (b"GROUP", b"HEADING")
+                      else ": it is GROUP or HEADING."))
     for name, first, line in said.twice:
         out.append(f"{ags.shown(b' '.join(name))} has an entry in line {first} and again in line {line}: the first counts.")
     return out + warnings_of_tree(words, said)
@@ -171,5 +175,6 @@ def main(given):
     except OSError as fault:
         print(f"dictionary: cannot read {fault.filename}", file=sys.stderr)
         return 2
-    print("\n".join(out + [f"{texts.count(len(warnings), 'warning')}{':' if warnings else '.'}"] + [f"  {one}" for one in warnings]))
+    print("\n".join(out + [f"{texts.count(len(warnings), 'warning')}{':' if warnings else '.'}"]
+                    + [f"  {one}" for one in warnings]))
     return 1 if warnings else 0

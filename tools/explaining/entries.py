@@ -17,7 +17,8 @@ def key(context, finding):
     if code == "10a":
         return "10a", group.name, group.entries(row, context.words.keys(group.name))
     if code == "10c":
-        return "10c", group.name, group.entries(row, context.parents(group).joined)
+        joined = context.parents(group).joined
+        return "10c", context.words.parent(group.name), joined, group.entries(row, joined)
     if code == "11c":
         return "11c", group.name, subject, broken_part(context, group.entry(row, subject))
     if code in ("15", "17"):
@@ -33,7 +34,8 @@ def key(context, finding):
 def tell(context, key, findings):
     if key[1:] == ("gone",):
         return "", ["The line is no row of this file."], None
-    tellers = {"8": entry_form, "10a": repeated_key, "10b": null_entry, "10c": orphan, "11c": link, "15": listed, "16": abbreviation,
+    tellers = {"8": entry_form, "10a": repeated_key, "10b": null_entry, "10c": orphan, "11c": link, "15": listed,
+               "16": abbreviation,
                "17": listed, "20": file_set}
     return tellers[key[0]](context, key, findings)
 
@@ -91,11 +93,13 @@ def repeated_key(context, key, findings):
     if not any(entries):
         here.append("All of them are null.")
     if not other:
-        return texts.pairs(keys, entries), here + ["The two rows are the same in every entry."], f"Take line {line} out."
+        return texts.pairs(keys,
+                           entries), here + ["The two rows are the same in every entry."], f"Take line {line} out."
     differ = texts.listing(f"{ags.shown(heading)} ({texts.value(group.entry(first, heading))} in line {first.line}, "
                            f"{texts.value(group.entry(row, heading))} in line {line})" for heading in other[:4])
     here.append(f"They differ in {differ}.")
-    return texts.pairs(keys, entries), here, f"Correct the entry that is wrong under {texts.names(keys, 12)} in one of the two rows."
+    return texts.pairs(keys,
+                       entries), here, f"Correct the entry that is wrong under {texts.names(keys, 12)} in one of the two rows."
 
 
 def null_entry(context, key, findings):
@@ -108,41 +112,66 @@ def null_entry(context, key, findings):
 
 
 def orphan(context, key, findings):
-    _, name, entries = key
-    group = context.file.by_name[name]
-    parents, parent = context.parents(group), context.words.parent(name)
-    named, over = ags.shown(name), ags.shown(parent)
-    wanted = texts.pairs(parents.joined, entries)
-    if not parents.joined:
-        return over, [f"{named} row needs a row of {over}, and the group has none."], f"Add the {over} row."
+    """Rows whose parent row is missing: which row it is, and the nearest one that is there."""
+    _, parent, joined, entries = key
+    group = context.file.group_at(findings[0].line)
+    parents, over = context.parents(group), ags.shown(parent)
+    wanted = texts.pairs(joined, entries)
+    if not joined:
+        said = f"{ags.shown(group.name)} row needs a row of {over}, and the group has none."
+        return over, [said], f"Add the {over} row."
+    here = f"{ags.shown(group.name)} row needs {texts.a(over)} row with {wanted}"
     row = parents.nearest(entries)
-    here = f"{named} row needs {texts.a(over)} row with {wanted}"
-    fix = f"Correct the entries in {at(findings)}, or add the {over} row."
     if row is None:
-        given = context.file.by_name[parent]
-        near = context.near(("10c", parent), lambda: [given.entry(one, parents.joined[0]) for one in given.data]).nearest(entries[0])
-        more = f"; the nearest is {texts.value(near)}" if near else ""
-        told = [here + f"; no {over} row has {texts.pairs(parents.joined[:1], entries[:1])}{more}."]
-        if near and difference(entries[0], near):
-            told.append(f"They differ in {difference(entries[0], near)}.")
-        return wanted, told + several(findings), fix
-    given = parents.group.entries(row, parents.joined)
-    differ = [(heading, one, two) for heading, one, two in zip(parents.joined, entries, given) if one != two]
+        told = no_near_row(context, parents, entries, here)
+        return wanted, told + several(context,
+                                      findings), f"Correct the entries in {at(findings)}, or add the {over} row."
+    given = parents.group.entries(row, joined)
+    differ = [(heading, one, two) for heading, one, two in zip(joined, entries, given) if one != two]
     told = [here + f"; line {row.line} differs in {texts.names(heading for heading, _, _ in differ)}."]
     for heading, one, two in differ[:3]:
         why = difference(one, two) if one and two else ""
         told.append(f"{ags.shown(heading)} is {texts.value(one)} here and {texts.value(two)} there{f' ({why})' if why else ''}.")
-    if len(differ) == 1 and normal(differ[0][1]) == normal(differ[0][2]) and all(differ[0][1:]):
-        heading, _, right = differ[0]
-        fix = f"Write {texts.value(right)} under {ags.shown(heading)} in {at(findings)}, as line {row.line} does"
-        if not ags.reference.fits(group.kind(heading), group.measure(heading), right):
-            fix += f", and give the heading the TYPE {ags.shown(parents.group.kind(heading))} in {named} too"
-        fix += "."
-    return wanted, told + several(findings), fix
+    return wanted, told + several(context, findings), orphan_fix(context, parents, row, differ, findings)
 
 
-def several(findings):
-    return [f"{len(findings):,} rows need it ({at(findings)})."] if len(findings) > 1 else []
+def no_near_row(context, parents, entries, here):
+    """No row of the parent group has even the first of the entries."""
+    first = parents.joined[0]
+    listed = context.near(("10c", parents.group.name),
+                          lambda: [parents.group.entry(row, first) for row in parents.group.data])
+    near = listed.nearest(entries[0])
+    more = f"; the nearest is {texts.value(near)}" if near else ""
+    name = ags.shown(parents.group.name)
+    told = [f"{here}; no {name} row has {texts.pairs(parents.joined[:1], entries[:1])}{more}."]
+    if near and difference(entries[0], near):
+        told.append(f"They differ in {difference(entries[0], near)}.")
+    return told
+
+
+def orphan_fix(context, parents, row, differ, findings):
+    """How rows without a parent row are fixed, where this row is the nearest."""
+    above = context.words.parent(parents.group.name)
+    if above in context.file.by_name:
+        over = context.parents(parents.group)
+        if over.joined and parents.group.entries(row, over.joined) not in over.keys:
+            return f"Line {row.line} comes first: that row has no parent row itself. Fix it, then check again."
+    heading, given, right = differ[0]
+    if len(differ) > 1 or not given or not right or normal(given) != normal(right):
+        return f"Correct the entries in {at(findings)}, or add the {ags.shown(parents.group.name)} row."
+    fix = f"Write {texts.value(right)} under {ags.shown(heading)} in {at(findings)}, as line {row.line} does"
+    group = context.file.group_at(findings[0].line)
+    if not ags.reference.fits(group.kind(heading), group.measure(heading), right):
+        kind = ags.shown(parents.group.kind(heading))
+        fix += f", and give the heading the TYPE {kind} in {ags.shown(group.name)} too"
+    return fix + "."
+
+
+def several(context, findings):
+    if len(findings) == 1:
+        return []
+    names = list(dict.fromkeys(context.file.group_at(finding.line).name for finding in findings))
+    return [f"{len(findings):,} rows of {texts.names(names, 4)} need it ({at(findings)})."]
 
 
 # ---- Rule 11c
@@ -253,7 +282,8 @@ def nearest_listed(context, name, names, given):
 def listed(context, key, findings):
     """A unit or a type that is used and not listed."""
     code, value = key
-    group, heading, names = {"15": ("UNIT", b"UNIT_UNIT", context.listed.units), "17": ("TYPE", b"TYPE_TYPE", context.listed.types)}[code]
+    group, heading, names = {"15": ("UNIT", b"UNIT_UNIT", context.listed.units),
+                             "17": ("TYPE", b"TYPE_TYPE", context.listed.types)}[code]
     subjects = list(dict.fromkeys(finding.subject for finding in findings))
     here = [f"{texts.value(value)} is not listed in {group}; it is used under {texts.names(subjects, 5)} ({at(findings)})."]
     near, words = nearest_listed(context, code, sorted(names), value)
@@ -286,7 +316,8 @@ def abbreviation(context, key, findings):
     if near:
         here.append(words)
         fix = f"Write {texts.value(near)}, if that is meant; else a" + fix[1:]
-    others = [other for other in context.kept("headings", lambda: headings_by_code(context)).get(part, ()) if other != heading]
+    others = [other for other in context.kept("headings", lambda: headings_by_code(context)).get(part, ())
+              if other != heading]
     if others:
         here.append(f"It is listed under {texts.names(others, 4)}, which does not count for {ags.shown(heading)}.")
     elif not near and codes.get(heading):

@@ -14,9 +14,11 @@ UNITS = {
     b"yyyy-mm-dd": ("a day of the calendar", "2024-02-29"),
     b"yyyy-mm-ddThh:mm": ("a day, alone or with T and a time", "2024-02-29T09:30"),
     b"yyyy-mm-ddThh:mm:ss": ("a day, alone or with T and a time", "2024-02-29T09:30:00"),
-    b"hh:mm": ("hours and minutes, two digits each", "09:30"), b"hh:mm:ss": ("hours, minutes and seconds, two digits each", "09:30:00")}
+    b"hh:mm": ("hours and minutes, two digits each", "09:30"),
+         b"hh:mm:ss": ("hours, minutes and seconds, two digits each", "09:30:00")}
 WORDS = {b"YES": b"Y", b"TRUE": b"Y", b"1": b"Y", b"NO": b"N", b"FALSE": b"N", b"0": b"N"}
-NULLS = (b"-", b"--", b"N/A", b"NA", b"NIL", b"NONE", b"NULL", b"NP", b"ND", b"#N/A", b"?", b"UNKNOWN", b"TBC", b"NM", b".")
+NULLS = (b"-", b"--", b"N/A", b"NA", b"NIL", b"NONE", b"NULL", b"NP", b"ND", b"#N/A", b"?", b"UNKNOWN", b"TBC", b"NM",
+         b".")
 
 
 def form(kind, unit):
@@ -140,7 +142,8 @@ def wrong_day(unit, entry):
         return "day's signs", "other signs or fewer digits than yyyy-mm-dd", right
     if re.fullmatch(rb"[0-9]{4}-[0-9]{2}-[0-9]{2}.+", text):
         right = text[:10] if unit == b"yyyy-mm-dd" else text[:10] + b"T" + text[11:16]
-        return "time", f"a time in another form than {ags.shown(unit)}", right if ags.reference.fits(b"DT", unit, right) else None
+        return "time", f"a time in another form than {ags.shown(unit)}", right if ags.reference.fits(b"DT", unit,
+            right) else None
     if re.fullmatch(rb"[0-9]:[0-5][0-9](:[0-5][0-9])?", text) and unit.startswith(b"hh"):
         right = b"0" + text
         return "one digit", "an hour of one digit", right if ags.reference.fits(b"T", unit, right) else None

@@ -15,7 +15,9 @@ def key(context, finding):
     if code == "2b":
         return "2b", signature(concerned(context.file, line)) if row else ()
     if code == "4" and row:
-        above = context.heading_row(line)
+        above, group = context.heading_row(line), context.file.group_at(line)
+        if row.descriptor not in (b"GROUP", b"HEADING") and is_of_heading_row(group):
+            return "4", subject, "all rows", len(row.items), len(above.items)
         return "4", subject, row.descriptor, len(row.items), len(above.items) if above else 0
     return code, subject
 
@@ -25,6 +27,13 @@ def concerned(file, line):
     at = bisect.bisect_right(file.starts, line) - 1
     is_early = at > 0 and file.starts[at] == line and file.by_line[line].descriptor == b"GROUP"
     return file.groups[at - 1 if is_early else at] if at >= 0 else None
+
+
+def is_of_heading_row(group):
+    """Whether all rows of a group have one count of items, which the HEADING row alone has not."""
+    rows = [row for row in group.rows if row.descriptor not in (b"GROUP", b"HEADING")]
+    return len(rows) > 2 and len({len(row.items) for row in rows}) == 1 and any(any(row.items[len(group.headings):])
+        for row in rows)
 
 
 def signature(group):
@@ -39,7 +48,8 @@ def signature(group):
 
 
 def tell(context, key, findings):
-    tellers = {"2": no_data, "2b": order, "4": counts, "19": group_name, "19a": heading_name, "P1": group_twice, "P2": heading_twice}
+    tellers = {"2": no_data, "2b": order, "4": counts, "19": group_name, "19a": heading_name, "P1": group_twice,
+               "P2": heading_twice}
     return tellers[key[0]](context, key, findings)
 
 
@@ -86,7 +96,8 @@ def order(context, key, findings):
         fix = f"Put the row \"GROUP\",\"{ags.shown(begins)}\" above line {lost.line}." if begins else None
         return "GROUP", [f"The GROUP row is missing above the HEADING row in line {lost.line}{says}."], fix
     missing = [one for one in HEADER if one not in kinds]
-    twice = next((row for row in group.rows if kinds.count(row.descriptor) > 1 and row is not first_of(group, row.descriptor)), None)
+    twice = next((row for row in group.rows if kinds.count(row.descriptor) > 1
+                  and row is not first_of(group, row.descriptor)), None)
     more = len({concerned(context.file, finding.line).line for finding in findings}) - 1
     also = [f"{texts.count(more, 'more group')} in the same way."] if more else []
     if missing:
@@ -146,6 +157,8 @@ def counts(context, key, findings):
     _, subject, descriptor, items, wanted = key
     row, above = context.file.by_line[findings[0].line], context.heading_row(findings[0].line)
     here, at = [], texts.lines(finding.line for finding in findings)
+    if descriptor == "all rows":
+        return heading_row_count(context, items, wanted, above, findings)
     word = ags.shown(descriptor)
     if descriptor == b"GROUP":
         here.append(f"The GROUP row has {texts.count(items, 'item')} ({at}); it has one, the group's name.")
@@ -162,12 +175,22 @@ def counts(context, key, findings):
     return str(items), here + count_hints(context, row, above, findings), count_fix(row, above)
 
 
+def heading_row_count(context, items, wanted, above, findings):
+    """All rows of a group have the same count of items, and the HEADING row another."""
+    group = context.file.group_at(above.line)
+    word = "few" if wanted < items else "many"
+    here = [f"The HEADING row (line {above.line}) has {texts.count(wanted, 'heading')}, and all other rows of {ags.shown(group.name)} "
+            f"have {texts.count(items, 'item')}: {texts.count(abs(items - wanted), 'heading')} too {word}."]
+    absent = [heading for heading in context.words.order(group.name) if heading not in group.columns]
+    if wanted < items and absent:
+        here.append(f"Headings of {ags.shown(group.name)} in the dictionary that it does not have: {texts.names(absent, 8)}.")
+    fix = "Name the heading that is missing" if wanted < items else "Take the heading out that has no items"
+    return str(items), here, f"{fix} in the HEADING row, line {above.line}."
+
+
 def count_hints(context, row, above, findings):
-    hints, group = [], context.file.group_at(row.line)
-    same = [other for other in group.rows if other.descriptor not in (b"GROUP", b"HEADING")]
-    if len(same) > 2 and all(len(other.items) == len(row.items) for other in same):
-        hints.append(f"All other rows of the group have {texts.count(len(row.items), 'item')}: the HEADING row may lack or repeat a heading.")
-    elif len(row.items) > len(above.items) and not any(row.items[len(above.items):]):
+    hints = []
+    if len(row.items) > len(above.items) and not any(row.items[len(above.items):]):
         hints.append("What is too many is null, as spreadsheets pad short rows.")
     elif len(row.items) < len(above.items):
         hints.append(f"Without an item at the end of the row: {texts.names(above.items[len(row.items):])}.")

@@ -17,6 +17,8 @@ def key(context, finding):
         return "7", line
     if code in ("13", "14") and line:
         return code, "rows"
+    if code == "10c":
+        return code, "group", context.words.parent(subject)
     return code, "heading" if row and row.descriptor == b"HEADING" else "group", subject, group.name if group and line else b""
 
 
@@ -28,7 +30,8 @@ def tell(context, key, findings):
         return order(context, key, findings)
     if code in ("10a", "10b"):
         return absent_heading(context, key, findings)
-    tellers = {"10c": absent_parent, "11a": sign, "11b": sign, "13": one_row, "14": one_row, "15": one_row, "17": one_row, "19b": own_name}
+    tellers = {"10c": absent_parent, "11a": sign, "11b": sign, "13": one_row, "14": one_row, "15": one_row,
+               "17": one_row, "19b": own_name}
     return tellers[code](context, key, findings)
 
 
@@ -117,7 +120,8 @@ def order(context, key, findings):
 
 def absent_heading(context, key, findings):
     heading, group = findings[0].subject, context.file.group_at(findings[0].line)
-    what, all_of = ("KEY", context.words.keys(group.name)) if key[0] == "10a" else ("REQUIRED", context.words.required(group.name))
+    what, all_of = ("KEY", context.words.keys(group.name)) if key[0] == "10a" else ("REQUIRED",
+        context.words.required(group.name))
     here = [f"The {what} heading {ags.shown(heading)} is not in the HEADING row of {ags.shown(group.name)}, line {group.heading.line}."]
     here.append(f"{what} headings of {ags.shown(group.name)}: {texts.names(all_of, 12)}.")
     strange = [name for name in group.headings if name not in context.words.places.get(group.name, {})]
@@ -129,18 +133,21 @@ def absent_heading(context, key, findings):
 
 
 def absent_parent(context, key, findings):
-    """The parent group is missing: which group, its joining headings, and the entries that its rows need."""
-    group = context.file.group_at(findings[0].line)
-    parent = context.words.parent(group.name)
-    joined = [heading for heading in context.words.keys(parent) if heading in group.columns]
-    needed = list(dict.fromkeys(group.entries(row, joined) for row in group.data))
-    name, over = ags.shown(group.name), ags.shown(parent)
-    here = [f"{name} belongs to the group {over}, and the file has no group {over}."]
-    if joined:
-        here.append(f"It needs {texts.a(over)} row for each of {texts.count(len(needed), 'set')} of entries under {texts.names(joined)}: "
-                    f"{texts.listing((texts.pairs(joined, one) for one in needed[:3]), 3, 'and')}{' and so on' if len(needed) > 3 else ''}.")
+    """The parent group is missing: which group, its joining headings, and the entries that rows need."""
+    parent, needed = key[2], {}
+    for finding in findings:
+        group = context.file.by_name[finding.subject]
+        joined = tuple(heading for heading in context.words.keys(parent) if heading in group.columns)
+        needed.update(((joined, group.entries(row, joined)), None) for row in group.data)
+    names, over = texts.names([finding.subject for finding in findings]), ags.shown(parent)
+    belong = "belongs" if len(findings) == 1 else "belong"
+    here = [f"{names} {belong} to the group {over}, and the file has no group {over}."]
+    if any(joined for joined, _ in needed):
+        rows = [f"({texts.pairs(joined, entries)})" for joined, entries in needed]
+        here.append(f"Its rows need {texts.count(len(rows), over + ' row')}: {texts.listing(rows, 3)}.")
     keys = context.words.keys(parent)
-    return over, here, f"Add the group {over}, with the KEY headings {texts.names(keys, 12)} and these rows." if keys else f"Add the group {over}."
+    with_keys = f", with the KEY headings {texts.names(keys, 12)} and these rows" if keys else ""
+    return over, here, f"Add the group {over}{with_keys}."
 
 
 def sign(context, key, findings):
@@ -155,7 +162,8 @@ def one_row(context, key, findings):
     if findings[0].line == 0:
         near = next((other for other in context.file.by_name if other.upper() == name and other != name), None)
         here = [f"The file has no group {ags.shown(name)}, with {WANTED[name]}."]
-        return ags.shown(name), here + ([f"It has {ags.shown(near)}."] if near else []), f"Add the group {ags.shown(name)}, with {WANTED[name]}."
+        return ags.shown(name), here + ([f"It has {ags.shown(near)}."] if near
+                                        else []), f"Add the group {ags.shown(name)}, with {WANTED[name]}."
     rows = context.file.by_name[name].data
     here = [f"{ags.shown(name)} has {texts.count(len(rows), 'DATA row')}, from line {rows[0].line} to line {rows[-1].line}; it has one."]
     if any(row.items == rows[0].items for row in rows[1:]):

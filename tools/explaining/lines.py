@@ -38,7 +38,8 @@ def return_at(file, line):
 
 
 def tell(context, key, findings):
-    return {"1": beyond_ascii, "2a": line_ends, "3": descriptors, "5": quotes, "6": returns}[key[0]](context, key, findings)
+    return {"1": beyond_ascii, "2a": line_ends, "3": descriptors, "5": quotes, "6": returns}[key[0]](context, key,
+        findings)
 
 
 def beyond_ascii(context, key, findings):
@@ -113,7 +114,8 @@ def over_lines(context, findings):
 
 FIXES = {
     "tab": "Take the tab out.", "tabs for commas": "Save the file as CSV with commas and every field in quotes.",
-    "no quotes": "Save the file with every field in quotes.", "semicolons": "Save the file with commas, and every field in quotes.",
+    "no quotes": "Save the file with every field in quotes.",
+         "semicolons": "Save the file with commas, and every field in quotes.",
     "AGS3": "Export the file as AGS4 from the program that made it.", "control": "Take the sign out.",
     "no row": "Take the line out, or begin it with its descriptor and put each field in quotes.",
     "padding": "Take the commas at the end out.", "unquoted": "Put each of these fields in quotes.",

@@ -33,7 +33,8 @@ def normal(text):
 def spaces(text):
     """The spaces and tabs at the ends of a text, by name."""
     told = []
-    for name, size in (("at its start", len(text) - len(text.lstrip())), ("at its end", len(text) - len(text.rstrip()))):
+    for name, size in (("at its start", len(text) - len(text.lstrip())),
+                       ("at its end", len(text) - len(text.rstrip()))):
         if size:
             part = text[:size] if name == "at its start" else text[len(text) - size:]
             sort = "tab" if b"\t" in part else "space"

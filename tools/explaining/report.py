@@ -116,7 +116,8 @@ def preview(told):
 # ---- for programs
 
 def cause_as_json(one):
-    return {"code": one.code, "title": one.title, "rule": one.rule, "subject": one.subject, "value": one.value, "count": len(one.findings),
+    return {"code": one.code, "title": one.title, "rule": one.rule, "subject": one.subject, "value": one.value,
+            "count": len(one.findings),
             "lines": one.lines, "here": one.here, "fix": one.fix,
             "findings": [{"code": f.code, "line": f.line, "subject": ags.shown(f.subject)} for f in one.findings]}
 
@@ -138,7 +139,8 @@ def sarif_result(told, one, finding, index):
     where = {"artifactLocation": {"uri": told.name}}
     if line:
         where["region"] = {"startLine": line, **({"startColumn": at + 1, "endColumn": at + 1 + size} if size else {})}
-    return {"ruleId": finding.code, "ruleIndex": index[finding.code], "level": "error", "locations": [{"physicalLocation": where}],
+    return {"ruleId": finding.code, "ruleIndex": index[finding.code], "level": "error",
+            "locations": [{"physicalLocation": where}],
             "message": {"text": " ".join([*one.here, f"Fix: {one.fix}"])}}
 
 
@@ -187,7 +189,8 @@ def html(told):
     causes = told.causes(MOST_IN_PAGE)
     body = f"<h1>{escaped(heading(told))}</h1>\n" + "".join(f"<p>{escaped(said)}</p>\n" for said in above(told))
     if len(causes) > 1:
-        items = "".join(f'<li><a href="#cause-{number}">{escaped(summary_line(one))}</a></li>\n' for number, one in enumerate(causes, 1))
+        items = "".join(f'<li><a href="#cause-{number}">{escaped(summary_line(one))}</a></li>\n' for number,
+                        one in enumerate(causes, 1))
         body += f"<p>Fix in this order, then check again:</p>\n<ol>\n{items}</ol>\n"
     body += "".join(section(told, number, one) for number, one in enumerate(causes, 1))
     rest = len(told.grouped()) - len(causes)

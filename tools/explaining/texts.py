@@ -45,7 +45,8 @@ def names(given, few=8):
 
 def pairs(headings, entries):
     """`LOCA_ID=BH1, SAMP_TOP=1.50`, a null as `""`."""
-    return ", ".join(f'{ags.shown(heading)}={ags.shown(entry) or chr(34) * 2}' for heading, entry in zip(headings, entries))
+    return ", ".join(f'{ags.shown(heading)}={ags.shown(entry) or chr(34) * 2}' for heading,
+                     entry in zip(headings, entries))
 
 
 def row(descriptor, items):
