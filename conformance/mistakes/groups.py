@@ -1,11 +1,13 @@
-"""The dictionary of these files: some 50 groups, this project's own. It is not the published dictionary of AGS4 and no copy of it.
+"""The dictionary of these files: some 50 groups, this project's own. It is neither the published dictionary of AGS4
+nor a copy of it.
 
-Names are such as ground investigation files have. Which headings a group has, which of them are KEY or REQUIRED, and which
-group belongs to which, was chosen here, so that the files can show mistakes. No file of a real project is to be checked
-under it.
+Names are such as ground investigation files have. Which headings a group has, which of them are KEY or REQUIRED, and
+which group belongs to which, was chosen here, so that the files can show mistakes. No file of a real project is to be
+checked under it.
 
-A line is a group, its parent and its headings: `*` after a heading is KEY+REQUIRED, `+` KEY, `!` REQUIRED; after the
-first colon is its type, after the second its unit."""
+A line is a group, its parent and its headings; a line that begins with spaces goes on with the one above. `*` after a
+heading is KEY+REQUIRED, `+` KEY, `!` REQUIRED; after the first colon is its type, after the second its unit."""
+import re
 
 GROUPS = """
 PROJ - PROJ_ID*:ID PROJ_NAME!:X PROJ_LOC:X PROJ_CLNT:X PROJ_CONT:X FILE_FSET:X
@@ -15,7 +17,8 @@ UNIT - UNIT_UNIT+:X UNIT_DESC:X
 TYPE - TYPE_TYPE+:X TYPE_DESC:X
 DICT - DICT_TYPE+:PA DICT_GRP+:X DICT_HDNG+:X DICT_STAT:PA DICT_DTYP:PT DICT_DESC:X DICT_UNIT:PU DICT_PGRP:X
 FILE - FILE_FSET+:X FILE_NAME+:X FILE_DESC:X
-LOCA PROJ LOCA_ID*:ID LOCA_TYPE:PA LOCA_STAT:PA LOCA_NATE:2DP:m LOCA_NATN:2DP:m LOCA_GL:2DP:m LOCA_FDEP:2DP:m LOCA_STAR:DT:yyyy-mm-dd LOCA_REM:X FILE_FSET:X
+LOCA PROJ LOCA_ID*:ID LOCA_TYPE:PA LOCA_STAT:PA LOCA_NATE:2DP:m LOCA_NATN:2DP:m LOCA_GL:2DP:m LOCA_FDEP:2DP:m
+  LOCA_STAR:DT:yyyy-mm-dd LOCA_REM:X FILE_FSET:X
 HDPH LOCA LOCA_ID+:ID HDPH_TOP+:2DP:m HDPH_BASE+:2DP:m HDPH_STAR:DT:yyyy-mm-ddThh:mm HDPH_EXC:PA
 HDIA LOCA LOCA_ID+:ID HDIA_DEP+:2DP:m HDIA_DIAM:0DP:mm
 CDIA LOCA LOCA_ID+:ID CDIA_DEP+:2DP:m CDIA_DIAM+:0DP:mm
@@ -54,9 +57,11 @@ GRAT GRAG LOCA_ID+:ID SAMP_TOP+:2DP:m SAMP_REF+:X SPEC_DPTH+:2DP:m GRAT_SIZE+:3S
 CMPG SAMP LOCA_ID+:ID SAMP_TOP+:2DP:m SAMP_REF+:X SPEC_DPTH+:2DP:m CMPG_TYPE+:PA CMPG_MAXD:2DP:Mg/m3 CMPG_MCOP:2SF:%
 CBRG SAMP LOCA_ID+:ID SAMP_TOP+:2DP:m SAMP_REF+:X SPEC_DPTH+:2DP:m CBRG_COND:PA CBRG_CBR:2SF:%
 TRIG SAMP LOCA_ID+:ID SAMP_TOP+:2DP:m SAMP_REF+:X SPEC_DPTH+:2DP:m TRIG_TYPE+:PA TRIG_COND:PA
-TRIT TRIG LOCA_ID+:ID SAMP_TOP+:2DP:m SAMP_REF+:X SPEC_DPTH+:2DP:m TRIG_TYPE+:PA TRIT_TESN+:X TRIT_CELL:0DP:kPa TRIT_CU:0DP:kPa
+TRIT TRIG LOCA_ID+:ID SAMP_TOP+:2DP:m SAMP_REF+:X SPEC_DPTH+:2DP:m TRIG_TYPE+:PA TRIT_TESN+:X TRIT_CELL:0DP:kPa
+  TRIT_CU:0DP:kPa
 CONG SAMP LOCA_ID+:ID SAMP_TOP+:2DP:m SAMP_REF+:X SPEC_DPTH+:2DP:m CONG_TYPE+:PA
-CONS CONG LOCA_ID+:ID SAMP_TOP+:2DP:m SAMP_REF+:X SPEC_DPTH+:2DP:m CONG_TYPE+:PA CONS_INCN+:0DP CONS_INCF:0DP:kPa CONS_INCE:3DP
+CONS CONG LOCA_ID+:ID SAMP_TOP+:2DP:m SAMP_REF+:X SPEC_DPTH+:2DP:m CONG_TYPE+:PA CONS_INCN+:0DP CONS_INCF:0DP:kPa
+  CONS_INCE:3DP
 RUCS SAMP LOCA_ID+:ID SAMP_TOP+:2DP:m SAMP_REF+:X SPEC_DPTH+:2DP:m RUCS_UCS:1DP:MPa
 RPLT SAMP LOCA_ID+:ID SAMP_TOP+:2DP:m SAMP_REF+:X SPEC_DPTH+:2DP:m RPLT_PLS:1DP:MPa
 GCHM SAMP LOCA_ID+:ID SAMP_TOP+:2DP:m SAMP_REF+:X SPEC_DPTH+:2DP:m GCHM_CODE+:PA GCHM_RESL:3SF:%
@@ -67,7 +72,7 @@ STATUS = {"*": "KEY+REQUIRED", "+": "KEY", "!": "REQUIRED"}
 def headings():
     """(group, parent, [(heading, status, type, unit)]) of each group."""
     out = []
-    for line in GROUPS.strip().splitlines():
+    for line in re.sub(r"\n +", " ", GROUPS.strip()).splitlines():
         name, parent, *given = line.split(" ")
         out.append((name, parent, [heading(one) for one in given]))
     return out

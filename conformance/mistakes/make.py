@@ -1,10 +1,11 @@
 #!/usr/bin/env python3
-"""Broken AGS4 files as firms make them, over this project's own dictionary (groups.py), and what bin/explain must name in each.
+"""Broken AGS4 files as firms make them, and what bin/explain must name in each.
 
 usage: make.py          writes dictionary.ags, sound.ags, NAME.ags for each mistake, and expected.tsv
-A row of expected.tsv is a file, how many findings conformance/reference.py has in it, of how many causes, one finding (code, line,
-subject), and the words that the explanation of that finding's cause must have, `;` between two. All but the number of a line
-was written by hand; a line is that of the row that was changed."""
+The dictionary is this project's own (groups.py). A row of expected.tsv has a file, how many findings
+conformance/reference.py has in it, of how many causes, one finding (code, line, subject), and the words that the
+explanation of its cause must have, `;` between two. All but the number of a line was written by hand; the line is
+that of the row that was changed."""
 import csv
 import io
 import os
@@ -95,7 +96,8 @@ def line_of(content, within=None):
 
 
 def put(old, new, times=1):
-    """The sound file with one text in place of another, which it has so many times, or at least once where `times` is 0."""
+    """The sound file with one text in place of another, which it has so many times, or at least once where `times` is
+    0."""
     assert TEXT.count(old) == times or times == 0 and old in TEXT, (old, TEXT.count(old))
     return TEXT.replace(old, new).encode("latin-1")
 
@@ -142,78 +144,108 @@ def cases():
 
 
 def of_lines():
-    yield "line_ends_of_unix", TEXT.replace("\r\n", "\n").encode(), COUNT, 1, ("2a", 1,
-        "-"), f"All {COUNT} lines end with LF alone;unix2dos"
-    yield "line_ends_of_unix_in_one_group", TEXT.replace("\r\n", "\n", 5).encode(), 5, 1, ("2a", 5,
-        "-"), f"LF alone ends 5 of {COUNT} lines;unix2dos"
-    yield "line_ends_of_old_macintosh", TEXT.replace("\r\n", "\r").encode(), 1, 1, ("6", 1,
-        "-"), "CR alone;the whole file is one line"
-    yield "line_ends_converted_twice", TEXT.replace("\r\n", "\r\r\n").encode(), COUNT, 1, ("6", 1,
-        "-"), "one CR too many;conversion"
+    yield ("line_ends_of_unix", TEXT.replace("\r\n", "\n").encode(),
+           COUNT, 1, ("2a", 1, "-"),
+           f"All {COUNT} lines end with LF alone;unix2dos")
+    yield ("line_ends_of_unix_in_one_group", TEXT.replace("\r\n", "\n", 5).encode(),
+           5, 1, ("2a", 5, "-"),
+           f"LF alone ends 5 of {COUNT} lines;unix2dos")
+    yield ("line_ends_of_old_macintosh", TEXT.replace("\r\n", "\r").encode(),
+           1, 1, ("6", 1, "-"),
+           "CR alone;the whole file is one line")
+    yield ("line_ends_converted_twice", TEXT.replace("\r\n", "\r\r\n").encode(),
+           COUNT, 1, ("6", 1, "-"),
+           "one CR too many;conversion")
     degree = TEXT.replace("Soft CLAY", "Soft CLAY dipping 20\u00b0, 5 m\u00b2").encode()
-    yield "degree_sign_in_utf8", degree, 1, 1, ("1", line_of('"DATA","TP103","0.00"'), "-"), \
-        "U+00B0 degree sign: write deg;U+00B2 superscript two: write 2;UTF-8"
+    yield ("degree_sign_in_utf8", degree,
+           1, 1, ("1", line_of('"DATA","TP103","0.00"'), "-"),
+           "U+00B0 degree sign: write deg;U+00B2 superscript two: write 2;UTF-8")
     quotes = TEXT.replace("Firm brown CLAY", "Firm \u2018brown\u2019 CLAY \u2013 sandy").encode()
-    yield "typographic_quotes_and_dash", quotes, 1, 1, ("1", line_of('"DATA","BH101","0.60"'), "-"), \
-        "U+2013 en dash: write -;U+2019 right single quotation mark: write '"
-    yield "windows_1252_names", TEXT.replace("North bank", "Stra\xdfe \xb5").encode("latin-1"), 1, 1, ("1", 5, "-"), \
-        "Windows-1252;write ss;U+00B5 micro sign: write u"
-    yield "no_break_spaces_from_a_web_page", TEXT.replace("Made ground", "Made\u00a0ground").encode(), 1, 1, \
-        ("1", line_of('"DATA","BH101","0.00"'), "-"), "U+00A0 no-break space: write a space"
-    yield "mark_twice", b"\xef\xbb\xbf\xef\xbb\xbf" + TEXT.encode(), 2, 2, ("1", 1, "-"), "U+FEFF;take it out"
-    yield "utf16_of_a_spreadsheet", b"\xff\xfe" + TEXT.encode("utf-16-le"), None, 1, ("1", 1,
-        "-"), "UTF-16;iconv -f UTF-16"
-    yield "workbook_instead_of_text", b"PK\x03\x04\x14\x00\x06\x00\x08\x00\x00\x00" + bytes(range(256)) * 4, None, 1, ("2a", 1, "-"), "workbook"
+    yield ("typographic_quotes_and_dash", quotes,
+           1, 1, ("1", line_of('"DATA","BH101","0.60"'), "-"),
+           "U+2013 en dash: write -;U+2019 right single quotation mark: write '")
+    yield ("windows_1252_names", TEXT.replace("North bank", "Stra\xdfe \xb5").encode("latin-1"),
+           1, 1, ("1", 5, "-"),
+           "Windows-1252;write ss;U+00B5 micro sign: write u")
+    yield ("no_break_spaces_from_a_web_page", TEXT.replace("Made ground", "Made\u00a0ground").encode(),
+           1, 1, ("1", line_of('"DATA","BH101","0.00"'), "-"),
+           "U+00A0 no-break space: write a space")
+    yield ("mark_twice", b"\xef\xbb\xbf\xef\xbb\xbf" + TEXT.encode(),
+           2, 2, ("1", 1, "-"),
+           "U+FEFF;take it out")
+    yield ("utf16_of_a_spreadsheet", b"\xff\xfe" + TEXT.encode("utf-16-le"),
+           None, 1, ("1", 1, "-"),
+           "UTF-16;iconv -f UTF-16")
+    yield ("workbook_instead_of_text", b"PK\x03\x04\x14\x00\x06\x00\x08\x00\x00\x00" + bytes(range(256)) * 4,
+           None, 1, ("2a", 1, "-"),
+           "workbook")
     ags3 = "\r\n".join(AGS3 * 3).encode()
-    yield "ags3_file", ags3, 21, 1, ("3", 1, "-"), "The file is AGS3;Export it as AGS4"
+    yield ("ags3_file", ags3,
+           21, 1, ("3", 1, "-"),
+           "The file is AGS3;Export it as AGS4")
 
 
 def of_quotes():
     rows = sum(bool(line) for line in TEXT.split("\r\n"))
-    yield "spreadsheet_csv_without_quotes", as_csv(","), rows, 1, ("5", 1,
-                                                                   "-"), 'fields without quotes, as a spreadsheet saves CSV;"GROUP","PROJ"'
-    yield "spreadsheet_csv_with_semicolons", as_csv(";"), rows, 1, ("5", 1,
-                                                                    "-"), 'semicolons between fields;"GROUP","PROJ"'
-    yield "spreadsheet_padding_of_short_rows", put('"GROUP","PROJ"', '"GROUP","PROJ",,,'), 1, 1, ("5", 1, "-"), \
-        '3 commas at the end, as spreadsheets pad;Write line 1 as: "GROUP","PROJ"'
+    yield ("spreadsheet_csv_without_quotes", as_csv(","),
+           rows, 1, ("5", 1, "-"),
+           'fields without quotes, as a spreadsheet saves CSV;"GROUP","PROJ"')
+    yield ("spreadsheet_csv_with_semicolons", as_csv(";"),
+           rows, 1, ("5", 1, "-"),
+           'semicolons between fields;"GROUP","PROJ"')
+    yield ("spreadsheet_padding_of_short_rows", put('"GROUP","PROJ"', '"GROUP","PROJ",,,'),
+           1, 1, ("5", 1, "-"),
+           '3 commas at the end, as spreadsheets pad;Write line 1 as: "GROUP","PROJ"')
     empty = TEXT.split("\r\n").index("") + 1
-    yield "spreadsheet_padding_of_empty_rows", put("\r\n\r\n", "\r\n,,,,\r\n", 0), 15, 1, ("5", empty,
-        "-"), "Commas alone;Make the line empty"
-    yield "numbers_without_quotes", put('"DATA","BH101","1.50","12"', '"DATA","BH101",1.50,12'), 1, 1, ("5",
-        line_of('"DATA","BH101","1.50","12"'), "-"), \
-        '2 fields without quotes: 1.50 and 12;as: "DATA","BH101","1.50","12"'
-    yield "line_break_in_a_remark", put("North of the road", "North of\r\nthe road"), 2, 1, ("5", BH101, "-"), \
-        f"A line break within a field: lines {BH101} to {BH101 + 1} are one row;North of the road"
-    yield "line_break_of_a_spreadsheet_cell", put("North of the road", "North of\nthe road"), 3, 1, ("5", BH101 + 1,
-        "-"), \
-        f"A line break within a field: lines {BH101} to {BH101 + 1} are one row;North of the road"
-    yield "inch_sign_in_a_description", put("Made ground", 'Made ground with 2" pipe'), 1, 1, ("5",
-        line_of('"DATA","BH101","0.00"'), "-"), \
-        'a quote within a field that is not doubled: made ground with 2" pipe;2"" pipe'
-    yield "quote_left_out_at_the_end", put('"North of the road"', '"North of the road'), 1, 1, ("5", BH101,
-        "-"), 'a quote missing at its end;"North of the road"'
-    yield "tab_between_fields", put('"DATA","BH101","P1","3.00"', '"DATA","BH101"\t"P1"\t"3.00"'), 1, 1, ("5",
-        line_of('"DATA","BH101","P1","3.00"'), "-"), \
-        'Tabs between the fields;"DATA","BH101","P1","3.00"'
-    yield "tab_at_the_end_of_a_line", put('"DATA","BH102","1"\r\n', '"DATA","BH102","1"\t\r\n'), 1, 1, ("5",
-        line_of('"DATA","BH102","1"'), "-"), "A tab beside a field;Take the tab out"
-    yield "null_without_quotes", put('"2024-05-06",""', '"2024-05-06",'), 1, 1, ("5", line_of('"DATA","BH102","CP"'),
-        "-"), "comma at the end"
-    yield "nulls_without_quotes_within", put('"PRELIM","523171.25"', '"PRELIM",'), 1, 1, ("5", TP103,
-        "-"), 'Nothing between two commas, where a null is "";"PRELIM","","11.90"'
-    yield "title_above_the_file", b"Exported by our program on 31 May\r\n" + TEXT.encode(), 1, 1, ("5", 1,
-        "-"), "text that is no row;Take the line out"
-    yield "end_sign_of_an_old_program", TEXT.encode() + b"\x1a", 1, 1, ("5", COUNT + 1,
-        "-"), "control sign, 1A;Take the sign out"
-    yield "single_quotes", put('"DATA","BH101","2.80","Y"', "'DATA','BH101','2.80','Y'"), 1, 1, ("5",
-        line_of('"DATA","BH101","2.80"'), "-"), "Single quotes;double"
-    yield "descriptor_in_other_capitals", put('"DATA","P7"', '"Data","P7"'), 1, 1, ("3", 5,
-        "-"), '"Data" is no descriptor;DATA differs in capitals'
-    yield "descriptor_with_a_trailing_space", put('"DATA","P7"', '"DATA ","P7"'), 1, 1, ("3", 5,
-        "-"), "a space at its end"
-    yield "descriptor_units", put('"UNIT","","m",""\r\n"TYPE","ID","2DP","YN"',
-                                  '"UNITS","","m",""\r\n"TYPE","ID","2DP","YN"'), 1, 1, \
-        ("3", line_of('"DATA","BH101","2.80"') - 2, "-"), '"UNITS" is no descriptor;Begin the row with "UNIT"'
+    yield ("spreadsheet_padding_of_empty_rows", put("\r\n\r\n", "\r\n,,,,\r\n", 0),
+           15, 1, ("5", empty, "-"),
+           "Commas alone;Make the line empty")
+    yield ("numbers_without_quotes", put('"DATA","BH101","1.50","12"', '"DATA","BH101",1.50,12'),
+           1, 1, ("5", line_of('"DATA","BH101","1.50","12"'), "-"),
+           '2 fields without quotes: 1.50 and 12;as: "DATA","BH101","1.50","12"')
+    yield ("line_break_in_a_remark", put("North of the road", "North of\r\nthe road"),
+           2, 1, ("5", BH101, "-"),
+           f"A line break within a field: lines {BH101} to {BH101 + 1} are one row;North of the road")
+    yield ("line_break_of_a_spreadsheet_cell", put("North of the road", "North of\nthe road"),
+           3, 1, ("5", BH101 + 1, "-"),
+           f"A line break within a field: lines {BH101} to {BH101 + 1} are one row;North of the road")
+    yield ("inch_sign_in_a_description", put("Made ground", 'Made ground with 2" pipe'),
+           1, 1, ("5", line_of('"DATA","BH101","0.00"'), "-"),
+           'a quote within a field that is not doubled: made ground with 2" pipe;2"" pipe')
+    yield ("quote_left_out_at_the_end", put('"North of the road"', '"North of the road'),
+           1, 1, ("5", BH101, "-"),
+           'a quote missing at its end;"North of the road"')
+    yield ("tab_between_fields", put('"DATA","BH101","P1","3.00"', '"DATA","BH101"\t"P1"\t"3.00"'),
+           1, 1, ("5", line_of('"DATA","BH101","P1","3.00"'), "-"),
+           'Tabs between the fields;"DATA","BH101","P1","3.00"')
+    yield ("tab_at_the_end_of_a_line", put('"DATA","BH102","1"\r\n', '"DATA","BH102","1"\t\r\n'),
+           1, 1, ("5", line_of('"DATA","BH102","1"'), "-"),
+           "A tab beside a field;Take the tab out")
+    yield ("null_without_quotes", put('"2024-05-06",""', '"2024-05-06",'),
+           1, 1, ("5", line_of('"DATA","BH102","CP"'), "-"),
+           "comma at the end")
+    yield ("nulls_without_quotes_within", put('"PRELIM","523171.25"', '"PRELIM",'),
+           1, 1, ("5", TP103, "-"),
+           'Nothing between two commas, where a null is "";"PRELIM","","11.90"')
+    yield ("title_above_the_file", b"Exported by our program on 31 May\r\n" + TEXT.encode(),
+           1, 1, ("5", 1, "-"),
+           "text that is no row;Take the line out")
+    yield ("end_sign_of_an_old_program", TEXT.encode() + b"\x1a",
+           1, 1, ("5", COUNT + 1, "-"),
+           "control sign, 1A;Take the sign out")
+    yield ("single_quotes", put('"DATA","BH101","2.80","Y"', "'DATA','BH101','2.80','Y'"),
+           1, 1, ("5", line_of('"DATA","BH101","2.80"'), "-"),
+           "Single quotes;double")
+    yield ("descriptor_in_other_capitals", put('"DATA","P7"', '"Data","P7"'),
+           1, 1, ("3", 5, "-"),
+           '"Data" is no descriptor;DATA differs in capitals')
+    yield ("descriptor_with_a_trailing_space", put('"DATA","P7"', '"DATA ","P7"'),
+           1, 1, ("3", 5, "-"),
+           "a space at its end")
+    yield ("descriptor_units",
+           put('"UNIT","","m",""\r\n"TYPE","ID","2DP","YN"', '"UNITS","","m",""\r\n"TYPE","ID","2DP","YN"'),
+           1, 1, ("3", line_of('"DATA","BH101","2.80"') - 2, "-"),
+           '"UNITS" is no descriptor;Begin the row with "UNIT"')
 
 
 def of_order():
@@ -221,131 +253,170 @@ def of_order():
     lines = TEXT.split("\r\n")
     swapped = lines[:unit - 1] + [lines[kind - 1], lines[unit - 1]] + lines[kind:]
     joined = "\r\n".join
-    yield "unit_row_left_out", joined(lines[:unit - 1] + lines[unit:]).encode(), 1, 1, ("2b", unit, "-"), \
-        f"Group LOCA (line {LOCA}) has no UNIT row;between line {LOCA + 1} (HEADING) and line {LOCA + 2} (TYPE)"
-    yield "unit_and_type_row_exchanged", joined(swapped).encode(), 3, 1, ("2b", unit,
-        "-"), "in the order GROUP;it has to be GROUP, HEADING, UNIT, TYPE"
-    yield "group_row_left_out", joined(lines[:GEOL - 1] + lines[GEOL:]).encode(), 1, 1, ("2b", GEOL, "-"), \
-        f'The GROUP row is missing above the HEADING row in line {GEOL};Put the row "GROUP","GEOL"'
-    yield "file_cut_off", joined(lines[:LNMC + 1]).encode() + b"\r\n", 1, 1, ("2b", LNMC + 1,
-        "-"), "The file ends after the HEADING row;Was it cut off?"
-    yield "header_on_each_page", joined(lines[:GEOL + 4] + lines[GEOL:GEOL + 3]
-                                        + lines[GEOL + 4:]).encode(), 1, 1, ("2b", GEOL + 5, "-"), \
-        f"The GROUP row is missing above the HEADING row in line {GEOL + 5}"
-    yield "group_row_padded", put('"GROUP","LOCA"', '"GROUP","LOCA","",""'), 1, 1, ("4", LOCA,
-        "-"), f'3 items;Write line {LOCA} as: "GROUP","LOCA"'
-    yield "nothing_sent", b"", 1, 1, ("2", 0, "-"), "The file has no bytes;curl"
+    yield ("unit_row_left_out", joined(lines[:unit - 1] + lines[unit:]).encode(),
+           1, 1, ("2b", unit, "-"),
+           f"Group LOCA (line {LOCA}) has no UNIT row;between line {LOCA + 1} (HEADING) and line {LOCA + 2} (TYPE)")
+    yield ("unit_and_type_row_exchanged", joined(swapped).encode(),
+           3, 1, ("2b", unit, "-"),
+           "in the order GROUP;it has to be GROUP, HEADING, UNIT, TYPE")
+    yield ("group_row_left_out", joined(lines[:GEOL - 1] + lines[GEOL:]).encode(),
+           1, 1, ("2b", GEOL, "-"),
+           f'The GROUP row is missing above the HEADING row in line {GEOL};Put the row "GROUP","GEOL"')
+    yield ("file_cut_off", joined(lines[:LNMC + 1]).encode() + b"\r\n",
+           1, 1, ("2b", LNMC + 1, "-"),
+           "The file ends after the HEADING row;Was it cut off?")
+    yield ("header_on_each_page", joined(lines[:GEOL + 4] + lines[GEOL:GEOL + 3] + lines[GEOL + 4:]).encode(),
+           1, 1, ("2b", GEOL + 5, "-"),
+           f"The GROUP row is missing above the HEADING row in line {GEOL + 5}")
+    yield ("group_row_padded", put('"GROUP","LOCA"', '"GROUP","LOCA","",""'),
+           1, 1, ("4", LOCA, "-"),
+           f'3 items;Write line {LOCA} as: "GROUP","LOCA"')
+    yield ("nothing_sent", b"",
+           1, 1, ("2", 0, "-"),
+           "The file has no bytes;curl")
 
 
 def of_groups():
-    yield "item_too_few", put('"12.40","2024-05-02","North of the road"', '"12.40","2024-05-02"'), 1, 1, ("4", BH101,
-        "LOCA"), \
-        f"has 6 items;(line {LOCA + 1}) has 7 headings;LOCA_REM"
+    yield ("item_too_few", put('"12.40","2024-05-02","North of the road"', '"12.40","2024-05-02"'),
+           1, 1, ("4", BH101, "LOCA"),
+           f"has 6 items;(line {LOCA + 1}) has 7 headings;LOCA_REM")
     rows = "\r\n".join(SOUND[9][4:])
     padded = put(rows, "\r\n".join(line + ',"",""' for line in SOUND[9][4:]))
-    yield "rows_padded_with_nulls", padded, 4, 1, ("4", GEOL + 4,
-                                                   "GEOL"), "4 DATA rows;have 7 items;has 5 headings;2 items too many;spreadsheets pad"
-    yield "heading_left_out_of_its_row", put('"LOCA_ID","ISPT_TOP","ISPT_NVAL"', '"LOCA_ID","ISPT_TOP"'), 5, 1, ("4",
-        line_of('"DATA","BH101","1.50","12"'), "ISPT"), \
-        "has 2 headings;all other rows of ISPT have 3 items;1 heading too few;ISPT_NVAL;Name the heading that is missing"
-    yield "group_without_rows", put('"DATA","BH102","1"\r\n', ""), 1, 1, ("2", line_of('"GROUP","SCPG"'),
-        "SCPG"), "no DATA row below the TYPE row;Take the groups"
-    yield "group_in_lower_case", put('"GROUP","LOCA"', '"GROUP","loca"'), 1, 1, ("19", LOCA,
-        "loca"), "four capital letters;Write LOCA"
-    yield "group_of_five_letters", put('"GROUP","GEOL"', '"GROUP","GEOLO"'), 1, 1, ("19", GEOL,
-        "GEOLO"), "5 characters;Write GEOL"
-    yield "heading_in_lower_case", put('"LOCA_ID","GEOL_TOP","GEOL_BASE","GEOL_DESC"',
-                                       '"LOCA_ID","GEOL_TOP","GEOL_BASE","Geol_Desc"'), 1, 1, \
-        ("19a", GEOL + 1, "Geol_Desc"), "no name of a heading;Write GEOL_DESC"
-    yield "heading_of_ten_characters", put('"LOCA_REM"', '"LOCA_REMAR"'), 1, 1, ("19a", LOCA + 1,
-        "LOCA_REMAR"), "10 characters;Write LOCA_REM"
+    yield ("rows_padded_with_nulls", padded,
+           4, 1, ("4", GEOL + 4, "GEOL"),
+           "4 DATA rows;have 7 items;has 5 headings;2 items too many;spreadsheets pad")
+    yield ("heading_left_out_of_its_row", put('"LOCA_ID","ISPT_TOP","ISPT_NVAL"', '"LOCA_ID","ISPT_TOP"'),
+           5, 1, ("4", line_of('"DATA","BH101","1.50","12"'), "ISPT"),
+           "has 2 headings;all other rows of ISPT have 3 items;1 heading too few;ISPT_NVAL;"
+           "Name the heading that is missing")
+    yield ("group_without_rows", put('"DATA","BH102","1"\r\n', ""),
+           1, 1, ("2", line_of('"GROUP","SCPG"'), "SCPG"),
+           "no DATA row below the TYPE row;Take the groups")
+    yield ("group_in_lower_case", put('"GROUP","LOCA"', '"GROUP","loca"'),
+           1, 1, ("19", LOCA, "loca"),
+           "four capital letters;Write LOCA")
+    yield ("group_of_five_letters", put('"GROUP","GEOL"', '"GROUP","GEOLO"'),
+           1, 1, ("19", GEOL, "GEOLO"),
+           "5 characters;Write GEOL")
+    yield ("heading_in_lower_case",
+           put('"LOCA_ID","GEOL_TOP","GEOL_BASE","GEOL_DESC"', '"LOCA_ID","GEOL_TOP","GEOL_BASE","Geol_Desc"'),
+           1, 1, ("19a", GEOL + 1, "Geol_Desc"),
+           "no name of a heading;Write GEOL_DESC")
+    yield ("heading_of_ten_characters", put('"LOCA_REM"', '"LOCA_REMAR"'),
+           1, 1, ("19a", LOCA + 1, "LOCA_REMAR"),
+           "10 characters;Write LOCA_REM")
     again = "\r\n" + "\r\n".join(SOUND[9][:4]) + "\r\n" + row("DATA", "TP103", "1.90", "2.50", "Dense SAND",
                                                               "101") + "\r\n"
-    yield "group_twice", (TEXT + again).encode(), 1, 1, ("P1", COUNT + 2,
-                                                         "GEOL"), f"line {GEOL} and again in line {COUNT + 2};headings are the same;Move the DATA rows"
-    yield "heading_twice", put('"LOCA_ID","ISPT_TOP","ISPT_NVAL"', '"LOCA_ID","ISPT_TOP","ISPT_TOP"'), 1, 1, \
-        ("P2", line_of('"HEADING","LOCA_ID","ISPT_TOP"'), "ISPT_TOP"), "heading 2 and 3;differ"
+    yield ("group_twice", (TEXT + again).encode(),
+           1, 1, ("P1", COUNT + 2, "GEOL"),
+           f"line {GEOL} and again in line {COUNT + 2};headings are the same;Move the DATA rows")
+    yield ("heading_twice", put('"LOCA_ID","ISPT_TOP","ISPT_NVAL"', '"LOCA_ID","ISPT_TOP","ISPT_TOP"'),
+           1, 1, ("P2", line_of('"HEADING","LOCA_ID","ISPT_TOP"'), "ISPT_TOP"),
+           "heading 2 and 3;differ")
 
 
 def of_headings():
     moved = group("SAMP", ["SAMP_LINK", "LOCA_ID", "SAMP_TOP", "SAMP_REF", "SAMP_TYPE", "SAMP_DTIM"],
                   ["", "BH101", "1.50", "S9", "U", "2024-05-02"],
                   ["", "BH101", "3.00", "S10", "B", "2024-05-02"], ["", "BH102", "2.20", "S1", "U", "2024-05-06"])
-    yield "one_heading_out_of_order", with_part("SAMP", moved), 5, 1, ("7", SAMP + 1, "SAMP_TOP"), \
-        "SAMP_LINK has to move: it belongs after SAMP_DTIM;can stay"
+    yield ("one_heading_out_of_order", with_part("SAMP", moved),
+           5, 1, ("7", SAMP + 1, "SAMP_TOP"),
+           "SAMP_LINK has to move: it belongs after SAMP_DTIM;can stay")
     two = group("ISPT", ["ISPT_NVAL", "LOCA_ID", "ISPT_TOP"], ["12", "BH101", "1.50"])
-    yield "first_heading_out_of_order", with_part("ISPT", two), 2, 1, ("7", line_of('"HEADING","LOCA_ID","ISPT_TOP"'),
-        "LOCA_ID"), \
-        "ISPT_NVAL has to move: it belongs after ISPT_TOP"
-    yield "heading_misspelled", put('"LOCA_NATE"', '"LOCA_NATX"'), 1, 1, ("18", LOCA + 1,
-        "LOCA_NATX"), "no heading of LOCA;nearest heading;LOCA_NATE"
-    yield "heading_of_another_group", put('"MONG_TRZ"', '"GEOL_BASE"'), 1, 1, ("18", line_of('"GROUP","MONG"') + 1,
-        "GEOL_BASE"), "It is a heading of GEOL"
-    yield "heading_of_another_edition", put('"LNMC_ISNT"', '"LNMC_TEMP"'), 1, 1, ("18", LNMC + 1, "LNMC_TEMP"), \
-        "Known under another edition?;TRAN_AGS says 4.1;Define it in the file's group DICT"
+    yield ("first_heading_out_of_order", with_part("ISPT", two),
+           2, 1, ("7", line_of('"HEADING","LOCA_ID","ISPT_TOP"'), "LOCA_ID"),
+           "ISPT_NVAL has to move: it belongs after ISPT_TOP")
+    yield ("heading_misspelled", put('"LOCA_NATE"', '"LOCA_NATX"'),
+           1, 1, ("18", LOCA + 1, "LOCA_NATX"),
+           "no heading of LOCA;nearest heading;LOCA_NATE")
+    yield ("heading_of_another_group", put('"MONG_TRZ"', '"GEOL_BASE"'),
+           1, 1, ("18", line_of('"GROUP","MONG"') + 1, "GEOL_BASE"),
+           "It is a heading of GEOL")
+    yield ("heading_of_another_edition", put('"LNMC_ISNT"', '"LNMC_TEMP"'),
+           1, 1, ("18", LNMC + 1, "LNMC_TEMP"),
+           "Known under another edition?;TRAN_AGS says 4.1;Define it in the file's group DICT")
     strange = text(SOUND
                    + [["\"GROUP\",\"STCN\"", row("HEADING", "LOCA_ID", "STCN_DPTH"), row("UNIT", "", "m"),
                        row("TYPE", "ID", "2DP"), row("DATA", "BH102", "0.02")]])
-    yield "group_of_another_edition", strange, 1, 1, ("18", COUNT + 2,
-                                                      "STCN"), "STCN: no group of the dictionary;Known under another edition?"
-    yield "group_misspelled", put('"GROUP","LDEN"', '"GROUP","LDNE"'), 1, 1, ("18", line_of('"GROUP","LDEN"'),
-        "LDNE"), "The nearest name is L"
+    yield ("group_of_another_edition", strange,
+           1, 1, ("18", COUNT + 2, "STCN"),
+           "STCN: no group of the dictionary;Known under another edition?")
+    yield ("group_misspelled", put('"GROUP","LDEN"', '"GROUP","LDNE"'),
+           1, 1, ("18", line_of('"GROUP","LDEN"'), "LDNE"),
+           "The nearest name is L")
     own = text(SOUND + [group("DICT", DICT,
                               ["HEADING", "LOCA", "LOCA_RIG", "OTHER", ""])]).decode().replace('"LOCA_REM"',
                                   '"LOCA_RIGS"')
-    yield "own_heading_not_as_in_dict", own.encode(), 1, 1, ("9", LOCA + 1,
-                                                             "LOCA_RIGS"), "nor in the file's DICT;LOCA_RIG"
+    yield ("own_heading_not_as_in_dict", own.encode(),
+           1, 1, ("9", LOCA + 1, "LOCA_RIGS"),
+           "nor in the file's DICT;LOCA_RIG")
     other = text(SOUND + [group("DICT", DICT,
                                 ["HEADING", "LOCA", "RIG_NAME", "OTHER", ""])]).decode().replace('"LOCA_REM"',
                                     '"RIG_NAME"')
-    yield "own_heading_of_another_name", other.encode(), 1, 1, ("19b", LOCA + 1,
-                                                                "RIG_NAME"), "begin with LOCA_;LOCA_NAME"
+    yield ("own_heading_of_another_name", other.encode(),
+           1, 1, ("19b", LOCA + 1, "RIG_NAME"),
+           "begin with LOCA_;LOCA_NAME")
     keyless = group("ISPT", ["LOCA_ID", "ISPT_NVAL"], ["BH101", "12"])
-    yield "key_heading_left_out", with_part("ISPT", keyless), 1, 1, ("10a", line_of('"GROUP","ISPT"') + 1,
-                                                                     "ISPT_TOP"), \
-        "The KEY heading ISPT_TOP is not in the HEADING row;LOCA_ID and ISPT_TOP"
+    yield ("key_heading_left_out", with_part("ISPT", keyless),
+           1, 1, ("10a", line_of('"GROUP","ISPT"') + 1, "ISPT_TOP"),
+           "The KEY heading ISPT_TOP is not in the HEADING row;LOCA_ID and ISPT_TOP")
     bare = group("GEOL", ["LOCA_ID", "GEOL_TOP", "GEOL_BASE", "GEOL_LEG"], ["BH101", "0.00", "0.60", "101"])
-    yield "required_heading_left_out", with_part("GEOL", bare), 1, 1, ("10b", GEOL + 1,
-        "GEOL_DESC"), "The REQUIRED heading GEOL_DESC is not in the HEADING row"
+    yield ("required_heading_left_out", with_part("GEOL", bare),
+           1, 1, ("10b", GEOL + 1, "GEOL_DESC"),
+           "The REQUIRED heading GEOL_DESC is not in the HEADING row")
     orphans = without("SAMP")
-    yield "parent_group_left_out", orphans, 2, 1, ("10c", line_of('"GROUP","LNMC"', orphans.decode()), "LNMC"), \
-        "LNMC and LDEN belong to the group SAMP;the file has no group SAMP;3 SAMP rows;(LOCA_ID=BH101, SAMP_TOP=1.50, SAMP_REF=S9);LOCA_ID, SAMP_TOP and SAMP_REF"
-    yield "two_projects", put('"DATA","P7","North bank"',
-                              '"DATA","P7","North bank"\r\n"DATA","P8","South bank"'), 1, 1, ("13", 6,
-                                  "PROJ"), "2 DATA rows;lines 5 and 6"
-    yield "no_transmission", without("TRAN"), 1, 1, ("14", 0, "TRAN"), "The file has no group TRAN"
-    yield "no_units", without("UNIT"), 1, 1, ("15", 0, "UNIT"), "The file has no group UNIT"
-    yield "delimiter_of_two_characters", put('"4.1","|","+"', '"4.1","||","+"'), 1, 1, ("11a", 11,
-        "TRAN_DLIM"), 'TRAN_DLIM is "||";one character'
+    yield ("parent_group_left_out", orphans,
+           2, 1, ("10c", line_of('"GROUP","LNMC"', orphans.decode()), "LNMC"),
+           "LNMC and LDEN belong to the group SAMP;the file has no group SAMP;3 SAMP rows;"
+           "(LOCA_ID=BH101, SAMP_TOP=1.50, SAMP_REF=S9);LOCA_ID, SAMP_TOP and SAMP_REF")
+    yield ("two_projects", put('"DATA","P7","North bank"', '"DATA","P7","North bank"\r\n"DATA","P8","South bank"'),
+           1, 1, ("13", 6, "PROJ"),
+           "2 DATA rows;lines 5 and 6")
+    yield ("no_transmission", without("TRAN"),
+           1, 1, ("14", 0, "TRAN"),
+           "The file has no group TRAN")
+    yield ("no_units", without("UNIT"),
+           1, 1, ("15", 0, "UNIT"),
+           "The file has no group UNIT")
+    yield ("delimiter_of_two_characters", put('"4.1","|","+"', '"4.1","||","+"'),
+           1, 1, ("11a", 11, "TRAN_DLIM"),
+           'TRAN_DLIM is "||";one character')
 
 
 def of_lists():
-    yield "abbreviation_in_other_capitals", put('"CP","FINAL"', '"CP","Final"'), 1, 1, ("16", BH101 + 1, "LOCA_STAT"), \
-        '"Final" is not listed in ABBR under LOCA_STAT;"FINAL";capitals'
-    yield "abbreviation_with_a_trailing_space", put('"TP103","TP","PRELIM"', '"TP103","TP","PRELIM "'), 1, 1, ("16",
-        TP103, "LOCA_STAT"), '"PRELIM";a space at its end'
-    yield "abbreviation_of_two_parts", put('"CP+RC"', '"CP+RO"'), 1, 1, ("16", BH101,
-        "LOCA_TYPE"), '"RO", a part of "CP+RO", is not listed in ABBR under LOCA_TYPE'
-    yield "abbreviation_with_another_sign", put('"CP+RC"', '"CP/RC"'), 1, 1, ("16", BH101,
-        "LOCA_TYPE"), '"CP/RC" is not listed in ABBR under LOCA_TYPE'
-    yield "abbreviation_of_another_heading", put('"BH101","3.00","S10","B"', '"BH101","3.00","S10","TP"'), 1, 1, ("16",
-        SAMP + 5, "SAMP_TYPE"), \
-        '"TP" is not listed in ABBR under SAMP_TYPE;It is listed under LOCA_TYPE'
-    yield "unit_in_other_capitals", put('"UNIT","","m","","m",""', '"UNIT","","m","","m","KPA"'), 1, 1, ("15",
-        line_of('"GROUP","LDEN"') + 2, "LDEN_BDEN"), \
-        '"KPA" is not listed in UNIT;"kPa";capitals'
-    yield "unit_not_listed", put('"UNIT","","m","","m",""', '"UNIT","","m","","m","Mg/m3"'), 1, 1, ("15",
-        line_of('"GROUP","LDEN"') + 2, "LDEN_BDEN"), \
-        '"Mg/m3" is not listed in UNIT;Add a row with UNIT_UNIT "Mg/m3"'
-    yield "type_not_listed", put('"DATA","MC"\r\n', ""), 1, 1, ("17", LNMC + 2,
-                                                                "LNMC_MC"), '"MC" is not listed in TYPE;LNMC_MC'
+    yield ("abbreviation_in_other_capitals", put('"CP","FINAL"', '"CP","Final"'),
+           1, 1, ("16", BH101 + 1, "LOCA_STAT"),
+           '"Final" is not listed in ABBR under LOCA_STAT;"FINAL";capitals')
+    yield ("abbreviation_with_a_trailing_space", put('"TP103","TP","PRELIM"', '"TP103","TP","PRELIM "'),
+           1, 1, ("16", TP103, "LOCA_STAT"),
+           '"PRELIM";a space at its end')
+    yield ("abbreviation_of_two_parts", put('"CP+RC"', '"CP+RO"'),
+           1, 1, ("16", BH101, "LOCA_TYPE"),
+           '"RO", a part of "CP+RO", is not listed in ABBR under LOCA_TYPE')
+    yield ("abbreviation_with_another_sign", put('"CP+RC"', '"CP/RC"'),
+           1, 1, ("16", BH101, "LOCA_TYPE"),
+           '"CP/RC" is not listed in ABBR under LOCA_TYPE')
+    yield ("abbreviation_of_another_heading", put('"BH101","3.00","S10","B"', '"BH101","3.00","S10","TP"'),
+           1, 1, ("16", SAMP + 5, "SAMP_TYPE"),
+           '"TP" is not listed in ABBR under SAMP_TYPE;It is listed under LOCA_TYPE')
+    yield ("unit_in_other_capitals", put('"UNIT","","m","","m",""', '"UNIT","","m","","m","KPA"'),
+           1, 1, ("15", line_of('"GROUP","LDEN"') + 2, "LDEN_BDEN"),
+           '"KPA" is not listed in UNIT;"kPa";capitals')
+    yield ("unit_not_listed", put('"UNIT","","m","","m",""', '"UNIT","","m","","m","Mg/m3"'),
+           1, 1, ("15", line_of('"GROUP","LDEN"') + 2, "LDEN_BDEN"),
+           '"Mg/m3" is not listed in UNIT;Add a row with UNIT_UNIT "Mg/m3"')
+    yield ("type_not_listed", put('"DATA","MC"\r\n', ""),
+           1, 1, ("17", LNMC + 2, "LNMC_MC"),
+           '"MC" is not listed in TYPE;LNMC_MC')
     files = group("SCPG", ["LOCA_ID", "SCPG_TESN", "FILE_FSET"], ["BH102", "1", "FS1"])
-    yield "file_set_without_file_group", with_part("SCPG", files), 1, 1, ("20", line_of('"DATA","BH102","1"'),
-        "FILE_FSET"), 'The file set "FS1" is not listed in FILE;no group FILE'
+    yield ("file_set_without_file_group", with_part("SCPG", files),
+           1, 1, ("20", line_of('"DATA","BH102","1"'), "FILE_FSET"),
+           'The file set "FS1" is not listed in FILE;no group FILE')
     listed = text([files if one[0] == row("GROUP", "SCPG") else one for one in SOUND]
                   + [group("FILE", ["FILE_FSET", "FILE_NAME"], ["fs1", "cpt.pdf"])])
-    yield "file_set_in_other_capitals", listed, 1, 1, ("20", line_of('"DATA","BH102","1"'),
-                                                       "FILE_FSET"), '"FS1" is not listed in FILE;"fs1";capitals'
+    yield ("file_set_in_other_capitals", listed,
+           1, 1, ("20", line_of('"DATA","BH102","1"'), "FILE_FSET"),
+           '"FS1" is not listed in FILE;"fs1";capitals')
 
 
 def of_forms():
@@ -378,50 +449,59 @@ def of_forms():
             ("space_before_the_number", '"12.40"', '" 12.40"', gl, "LOCA_GL", 'spaces at an end;Write "12.40"'),
             ("yes_for_y", '"2.80","Y"', '"2.80","Yes"', line_of('"DATA","BH101","2.80"'), "WSTG_FLOW",
              'Y or N;Write "Y"')):
-        yield name, put(old, new), 1, 1, ("8", line, heading), words
+        yield (name, put(old, new),
+               1, 1, ("8", line, heading),
+               words)
     many = group("ISPT", ["LOCA_ID", "ISPT_TOP", "ISPT_NVAL"],
                  *[["BH101", f"{depth}.5", "12"] for depth in range(1, 9)])
-    yield "one_decimal_in_every_row", with_part("ISPT", many), 8, 1, ("8", line_of('"DATA","BH101","1.50","12"'),
-                                                                      "ISPT_TOP"), \
-        "8 entries of this sort;give the heading the TYPE 1DP"
+    yield ("one_decimal_in_every_row", with_part("ISPT", many),
+           8, 1, ("8", line_of('"DATA","BH101","1.50","12"'), "ISPT_TOP"),
+           "8 entries of this sort;give the heading the TYPE 1DP")
 
 
 def of_keys():
     first = line_of('"DATA","BH101","1.50","12"')
-    yield "row_twice", put('"DATA","BH101","1.50","12"',
-                           '"DATA","BH101","1.50","12"\r\n"DATA","BH101","1.50","12"'), 1, 1, ("10a", first + 1,
-                               "ISPT"), \
-        f"line {first} of ISPT;LOCA_ID=BH101, ISPT_TOP=1.50;the same in every entry;Take line {first + 1} out"
-    yield "key_twice", put('"DATA","BH101","3.00","18"', '"DATA","BH101","1.50","18"'), 1, 1, ("10a", first + 1,
-        "ISPT"), \
-        f'have the same KEY entries: LOCA_ID=BH101, ISPT_TOP=1.50;ISPT_NVAL ("12" in line {first}, "18" in line {first + 1})'
-    yield "required_entry_left_out", put('"Stiff grey CLAY"', '""'), 1, 1, ("10b", GEOL + 6,
-        "GEOL_DESC"), "GEOL_DESC is null;REQUIRED"
+    yield ("row_twice", put('"DATA","BH101","1.50","12"', '"DATA","BH101","1.50","12"\r\n"DATA","BH101","1.50","12"'),
+           1, 1, ("10a", first + 1, "ISPT"),
+           f"line {first} of ISPT;LOCA_ID=BH101, ISPT_TOP=1.50;the same in every entry;Take line {first + 1} out")
+    yield ("key_twice", put('"DATA","BH101","3.00","18"', '"DATA","BH101","1.50","18"'),
+           1, 1, ("10a", first + 1, "ISPT"),
+           'have the same KEY entries: LOCA_ID=BH101, ISPT_TOP=1.50;'
+           f'ISPT_NVAL ("12" in line {first}, "18" in line {first + 1})')
+    yield ("required_entry_left_out", put('"Stiff grey CLAY"', '""'),
+           1, 1, ("10b", GEOL + 6, "GEOL_DESC"),
+           "GEOL_DESC is null;REQUIRED")
     test = line_of('"DATA","BH101","1.50","S9","1.60","23"')
-    yield "sample_of_another_name", put('"BH101","1.50","S9","1.60","23"',
-                                        '"BH101","1.50","9","1.60","23"'), 1, 1, ("10c", test, "LNMC"), \
-        f'LNMC row needs a SAMP row with LOCA_ID=BH101, SAMP_TOP=1.50, SAMP_REF=9; line {SAMP + 4} differs in SAMP_REF;"S9"'
+    yield ("sample_of_another_name", put('"BH101","1.50","S9","1.60","23"', '"BH101","1.50","9","1.60","23"'),
+           1, 1, ("10c", test, "LNMC"),
+           'LNMC row needs a SAMP row with LOCA_ID=BH101, SAMP_TOP=1.50, SAMP_REF=9;'
+           f' line {SAMP + 4} differs in SAMP_REF;"S9"')
     depth = SOUND[14][:3] + [row("TYPE", "ID", "1DP", "X", "2DP", "MC", "YN"),
                              row("DATA", "BH101", "1.5", "S9", "1.60", "23", "N"),
                              row("DATA", "BH101", "1.5", "S9", "1.70", "24", "N")]
-    yield "depth_of_other_decimals", with_part("LNMC", depth), 2, 1, ("10c", test, "LNMC"), \
-        f'line {SAMP + 4} differs in SAMP_TOP;"1.5" here and "1.50" there;the same number, spelled in another way;2 rows of LNMC need it;give the heading the TYPE 2DP in LNMC too'
-    yield "borehole_with_a_hyphen", put('"DATA","BH102","2.20","S1","U"',
-                                        '"DATA","BH-102","2.20","S1","U"'), 2, 2, ("10c", SAMP + 6, "SAMP"), \
-        f'LOCA_ID=BH-102; line {BH101 + 1} differs in LOCA_ID;"BH102" there;signs between the letters'
+    yield ("depth_of_other_decimals", with_part("LNMC", depth),
+           2, 1, ("10c", test, "LNMC"),
+           f'line {SAMP + 4} differs in SAMP_TOP;"1.5" here and "1.50" there;'
+           'the same number, spelled in another way;2 rows of LNMC need it;'
+           'give the heading the TYPE 2DP in LNMC too')
+    yield ("borehole_with_a_hyphen", put('"DATA","BH102","2.20","S1","U"', '"DATA","BH-102","2.20","S1","U"'),
+           2, 2, ("10c", SAMP + 6, "SAMP"),
+           f'LOCA_ID=BH-102; line {BH101 + 1} differs in LOCA_ID;"BH102" there;signs between the letters')
     renamed = put('"DATA","BH101","1.50","S9","U"', '"DATA","BH101","1.50","S99","U"')
-    yield "sample_renamed_in_its_own_row", renamed, 3, 2, ("10c", test, "LNMC"), \
-        f"SAMP_REF=S9; line {SAMP + 4} differs in SAMP_REF;2 rows of LNMC and LDEN need it"
-    yield "borehole_left_out", put('"DATA","BH101","3.00","18"', '"DATA","BH7","3.00","18"'), 1, 1, ("10c", first + 1,
-        "ISPT"), \
-        "ISPT row needs a LOCA row with LOCA_ID=BH7; no LOCA row has LOCA_ID=BH7"
+    yield ("sample_renamed_in_its_own_row", renamed,
+           3, 2, ("10c", test, "LNMC"),
+           f"SAMP_REF=S9; line {SAMP + 4} differs in SAMP_REF;2 rows of LNMC and LDEN need it")
+    yield ("borehole_left_out", put('"DATA","BH101","3.00","18"', '"DATA","BH7","3.00","18"'),
+           1, 1, ("10c", first + 1, "ISPT"),
+           "ISPT row needs a LOCA row with LOCA_ID=BH7; no LOCA row has LOCA_ID=BH7")
 
 
 def of_links():
     link = SAMP + 5
     for name, new, words in (
             ("link_with_too_few_keys", "SAMP|BH101|1.50",
-             f'too few keys;3 KEY headings (LOCA_ID, SAMP_TOP, SAMP_REF);the link gives 2 entries;"SAMP|BH101|1.50|S9" for line {SAMP + 4}'),
+             'too few keys;3 KEY headings (LOCA_ID, SAMP_TOP, SAMP_REF);the link gives 2 entries;"SAMP|BH101|1.50|S9" '
+             f'for line {SAMP + 4}'),
             ("link_with_too_many_keys", "SAMP|BH101|1.50|S9|U", "too many keys;3 KEY headings;4 entries"),
             ("link_of_other_decimals", "SAMP|BH101|1.5|S9",
              f'line {SAMP + 4} of SAMP differs in SAMP_TOP;"1.5" in the link and "1.50" there;the same number'),
@@ -432,8 +512,9 @@ def of_links():
             ("link_without_its_group", "BH101|1.50|S9", "names no row"),
             ("link_of_two_parts", "SAMP|BH101|1.50|S9+SAMP|BH102|2.20|S2",
              f'The part "SAMP|BH102|2.20|S2";line {SAMP + 6} of SAMP differs in SAMP_REF')):
-        yield name, put('"2024-05-02","SAMP|BH101|1.50|S9"', f'"2024-05-02","{new}"'), 1, 1, ("11c", link,
-            "SAMP_LINK"), words
+        yield (name, put('"2024-05-02","SAMP|BH101|1.50|S9"', f'"2024-05-02","{new}"'),
+               1, 1, ("11c", link, "SAMP_LINK"),
+               words)
 
 
 def write(name, data):

@@ -166,7 +166,8 @@ class File:
 # ---- dictionary
 
 class Dictionary:
-    """The entries of a dictionary: ("G", group, parent) and ("H", group, heading, status); the first of a name counts."""
+    """The entries of a dictionary: ("G", group, parent) and ("H", group, heading, status); the first of a name
+    counts."""
 
     def __init__(self, entries, own=(), is_built_in=False, edition=b""):
         self.standard, self.is_built_in, self.edition = entries, is_built_in, edition
@@ -443,7 +444,8 @@ def entry_findings(file, words, listed=None):
 
 
 def first_findings(file, words):
-    """The first phase that has findings, with them in order; (None, []) for a clean file. `words` is the standard dictionary."""
+    """The first phase that has findings, with them in order; (None, []) for a clean file. `words` is the standard
+    dictionary."""
     for phase, find in enumerate((line_findings, order_findings, group_findings), 1):
         found = find(file)
         if found:

@@ -34,7 +34,8 @@ def of_items(file):
 
 
 def of_quotes(file):
-    """The lines whose quotes, commas or descriptor can be put right: a row that goes on in the next lines is put into its first."""
+    """The lines whose quotes, commas or descriptor can be put right: a row that goes on in the next lines is put into
+    its first."""
     out = {}
     for first, last in quotes.broken_fields(file):
         out[first] = b" ".join(line.replace(b"\r", b" ") for line in file.lines[first - 1:last])
@@ -61,7 +62,8 @@ def rows_of(groups):
 def is_sound(group):
     """Whether a group has its header rows in order, with a name and headings, and DATA rows alone below them."""
     order = [row.descriptor for row in group.rows]
-    return order[:4] == list(ags.DESCRIPTORS[:4]) and set(order[4:]) <= {b"DATA"} and len(group.rows[0].items) == 1 and bool(group.headings)
+    return (order[:4] == list(ags.DESCRIPTORS[:4]) and set(order[4:]) <= {b"DATA"} and len(group.rows[0].items) == 1
+            and bool(group.headings))
 
 
 class Preview:
@@ -117,7 +119,8 @@ class Preview:
 
     def follows(self, finding, words):
         """Whether a finding of the fourth phase follows from a group that was left out."""
-        missing = finding.subject if finding.line == 0 else words.parent(finding.subject) if finding.code == "10c" else None
+        missing = (finding.subject if finding.line == 0 else words.parent(finding.subject) if finding.code == "10c"
+                   else None)
         return missing in self.gone or finding.code in ("9", "18") and b"DICT" in self.gone
 
     def echoes(self, finding, words, keyless):
@@ -131,7 +134,8 @@ class Preview:
 
 
 def preview(told):
-    """(phase, its causes' number, the first of them, the findings' number) of each later phase with findings, and how many lines were left out."""
+    """(phase, its causes' number, the first of them, the findings' number) of each later phase with findings, and how
+    many lines were left out."""
     seen = Preview(told)
     out = []
     for phase, given, found in seen.out:

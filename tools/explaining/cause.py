@@ -71,7 +71,8 @@ def key_of(context, finding):
 
 
 def place(context, finding):
-    """Where a finding is, as (line, place in the line, length); a length of 0 marks nothing, a line of 0 is the file as a whole."""
+    """Where a finding is, as (line, place in the line, length); a length of 0 marks nothing, a line of 0 is the file
+    as a whole."""
     if not 1 <= finding.line <= len(context.file.lines):
         return 0, 0, 0
     return finding.line, *(lines.place(context, finding) or (0, 0))

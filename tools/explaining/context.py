@@ -1,4 +1,5 @@
-"""What explaining one file looks up: the file, its dictionary, the texts of the rules, and indexes made when first asked for."""
+"""What explaining one file looks up: the file, its dictionary, the texts of the rules, and indexes made when first
+asked for."""
 import bisect
 import functools
 import os
@@ -18,7 +19,8 @@ class Rule(NamedTuple):
 
 
 def rules_of(path=RULES):
-    """For each code its title, what docs/RULES.md says of the rule without this profile's own choices, and how a file is fixed."""
+    """For each code its title, what docs/RULES.md says of the rule without this profile's own choices, and how a file
+    is fixed."""
     some = r"((?:(?!\n\n).)*?)"
     paragraph = rf"^## (\w+) ([^\n]*)\n+\*\*Rule\.\*\* {some}(?: \*\*Here\.\*\* {some})? \*\*Fix\.\*\* {some}\n\n"
     with open(path, encoding="utf-8") as file:
@@ -42,7 +44,8 @@ class Parents:
                 rest.setdefault(key[:at] + key[at + 1:], row)
 
     def nearest(self, key):
-        """The row that differs least, or None where none has even the first entry: alike but for spelling, in one entry, or with the same first one."""
+        """The row that differs least, or None where none has even the first entry: alike but for spelling, in one
+        entry, or with the same first one."""
         row = self.forms.get(tuple(map(normal, key)))
         for at, rest in reversed(list(enumerate(self.without))):
             if row is None and len(key) > 1:
@@ -51,7 +54,8 @@ class Parents:
 
 
 class Context:
-    """A file, the dictionary that it was checked under (the standard one, without the file's own DICT) and the rules."""
+    """A file, the dictionary that it was checked under (the standard one, without the file's own DICT) and the
+    rules."""
 
     def __init__(self, file, standard, rules=None):
         self.file, self.standard, self.rules = file, standard, rules or rules_of()

@@ -51,16 +51,19 @@ def warnings_of(words, said):
     for status, rows in said.statuses.items():
         right = spelling(status)
         names = texts.listing(f"{ags.shown(heading)} of {ags.shown(group)}" for _, (group, heading) in rows)
-        out.append(f"DICT_STAT {texts.value(status)} makes no KEY and no REQUIRED heading where that is meant ({names}; "
+        out.append(f"DICT_STAT {texts.value(status)} makes no KEY and no REQUIRED heading where that is meant "
+                   f"({names}; "
                    f"{texts.lines(line for line, _ in rows)})"
                    + (f": it is spelled {texts.value(right)}." if right else "."))
     for kind, lines in said.kinds.items():
         right = spelling(kind)
-        out.append(f"DICT_TYPE {texts.value(kind)} makes no entry ({texts.count(len(lines), 'row')}, {texts.lines(lines)})"
+        out.append(f"DICT_TYPE {texts.value(kind)} makes no entry ({texts.count(len(lines), 'row')}, "
+                   f"{texts.lines(lines)})"
                    + (f": it is spelled {texts.value(right)}." if right in (b"GROUP", b"HEADING")
                       else ": it is GROUP or HEADING."))
     for name, first, line in said.twice:
-        out.append(f"{ags.shown(b' '.join(name))} has an entry in line {first} and again in line {line}: the first counts.")
+        out.append(f"{ags.shown(b' '.join(name))} has an entry in line {first} and again in line {line}: the first "
+                   "counts.")
     return out + warnings_of_tree(words, said)
 
 
@@ -72,12 +75,15 @@ def warnings_of_tree(words, said):
             parents.setdefault(parent, []).append(group)
     for parent, children in parents.items():
         if not words.has_group(parent):
-            out.append(f"{ags.shown(parent)} is the parent of {texts.names(children, 4)} and no group: every such group is a finding of Rule 10c.")
+            out.append(f"{ags.shown(parent)} is the parent of {texts.names(children, 4)} and no group: every such "
+                       "group is a finding of Rule 10c.")
         elif not words.keys(parent):
-            out.append(f"{ags.shown(parent)} is the parent of {texts.names(children, 4)} and has no KEY headings: any of its rows is a parent then.")
+            out.append(f"{ags.shown(parent)} is the parent of {texts.names(children, 4)} and has no KEY headings: any "
+                       "of its rows is a parent then.")
     for group in words.orders:
         if not words.has_group(group):
-            out.append(f"{ags.shown(group)} has {texts.count(len(words.order(group)), 'heading')} and no entry of its own (DICT_TYPE GROUP), "
+            out.append(f"{ags.shown(group)} has {texts.count(len(words.order(group)), 'heading')} and no entry of its "
+                       "own (DICT_TYPE GROUP), "
                        f"so that the group is unknown (line {said.seen[group, words.order(group)[0]]}).")
     for group in words.parents:
         if not words.order(group):
@@ -118,9 +124,11 @@ def described(data, name):
     words, file = ags.read_dictionary(data)
     said = Said(file)
     edition, project = words.edition, file.entry_of(b"PROJ", b"PROJ_NAME")
-    names = [f"TRAN_AGS says {texts.value(edition)}"] * bool(edition) + [f"PROJ_NAME says {texts.value(project)}"] * bool(project)
+    names = ([f"TRAN_AGS says {texts.value(edition)}"] * bool(edition)
+             + [f"PROJ_NAME says {texts.value(project)}"] * bool(project))
     keys, required = (sum(map(len, lists.values())) for lists in (words.key_lists, words.required_lists))
-    out = [f"{name}: {texts.count(len(words.parents), 'group')}, {texts.count(len(words.status), 'heading')}, {keys:,} KEY, {required:,} REQUIRED.",
+    out = [f"{name}: {texts.count(len(words.parents), 'group')}, {texts.count(len(words.status), 'heading')}, {keys:,} "
+           f"KEY, {required:,} REQUIRED.",
            f"  {'; '.join(names) if names else 'It names no edition and no project'}."]
     lack = [heading for heading in (b"DICT_DTYP", b"DICT_UNIT") if heading not in file.by_name[b"DICT"].columns]
     if lack:
@@ -140,7 +148,8 @@ def compared(file, name, words, said):
         known = words.places.get(group.name, {})
         lacks = [heading for heading in group.headings if heading not in known]
         if lacks:
-            out.append(f"{ags.shown(group.name)}: {texts.names(lacks, 8)} {'is' if len(lacks) == 1 else 'are'} not in it, "
+            out.append(f"{ags.shown(group.name)}: {texts.names(lacks, 8)} {'is' if len(lacks) == 1 else 'are'} not in "
+                       "it, "
                        f"nor in the file's DICT (line {group.heading.line}).")
         for heading in group.headings:
             kind, unit = said.forms.get((group.name, heading), (b"", b""))
@@ -153,14 +162,16 @@ def differs(group, heading, what, wanted, row, given):
     if row is None or not wanted or given == wanted:
         return []
     of = "DICT_DTYP" if what == b"TYPE" else "DICT_UNIT"
-    return [f"{ags.shown(heading)} of {ags.shown(group.name)} has the {ags.shown(what)} {texts.value(given)} (line {row.line}), "
+    return [f"{ags.shown(heading)} of {ags.shown(group.name)} has the {ags.shown(what)} {texts.value(given)} (line "
+            f"{row.line}), "
             f"and {of} is {texts.value(wanted)}."]
 
 
 def main(given):
     """0 without warnings, 1 with, 2 where an argument is wrong, a file cannot be read or the dictionary is refused."""
     parser = argparse.ArgumentParser(prog="dictionary", usage="bin/dictionary DICTIONARY [FILE.ags ..]",
-                                     description="What a dictionary has, before it is used, and what files have that it lacks.")
+                                     description="What a dictionary has, before it is used, and what files have that "
+                                                 "it lacks.")
     parser.add_argument("dictionary")
     parser.add_argument("files", nargs="*")
     asked = parser.parse_args(given)

@@ -66,18 +66,21 @@ def form_fix(group, key, findings, example):
     _, _, heading, name, _ = key
     entry, line, right = example
     kind = group.kind(heading)
-    fix = f"Write {texts.value(right)} in line {line}{', and the others alike' if len(findings) > 1 else ''}." if right is not None else None
+    fix = (f"Write {texts.value(right)} in line {line}{', and the others alike' if len(findings) > 1 else ''}."
+           if right is not None else None)
     if name in ("more decimals", "fewer decimals") and len(findings) > 1:
         given = [group.entry(row, heading) for row in group.data]
         if sum(map(bool, given)) == len(findings):
             other = len(entry.partition(b".")[2])
-            fix = f"{fix or 'Round each entry.'} Or, as all entries have {forms.decimals(other)}: give the heading the TYPE {other}DP and list it in TYPE."
+            fix = (f"{fix or 'Round each entry.'} Or, as all entries have {forms.decimals(other)}: give the heading "
+                   f"the TYPE {other}DP and list it in TYPE.")
     if name == "more decimals" and right is None:
         fix = fix or f"Round it as {ags.shown(kind)} asks, or give the heading a TYPE of more decimals."
     if name == "day and month":
         fix = "Write the day as yyyy-mm-dd; whoever made the file knows which of the two numbers is the month."
     if name in ("less than", "star"):
-        fix = "Write the number alone and put the sign where the group has a heading for it, or give the heading the TYPE X and leave the entries."
+        fix = ("Write the number alone and put the sign where the group has a heading for it, or give the heading the "
+               "TYPE X and leave the entries.")
     return fix
 
 
@@ -88,7 +91,8 @@ def repeated_key(context, key, findings):
     group, keys, line = context.file.by_name[name], context.words.keys(name), findings[0].line
     first = context.listed.rows_by_key(name)[entries]
     row = context.file.by_line[line]
-    here = [f"{at(findings).capitalize()} and line {first.line} of {ags.shown(name)} have the same KEY entries: {texts.pairs(keys, entries)}."]
+    here = [f"{at(findings).capitalize()} and line {first.line} of {ags.shown(name)} have the same KEY entries: "
+            f"{texts.pairs(keys, entries)}."]
     other = [heading for heading, one, two in zip(group.headings, first.items, row.items) if one != two]
     if not any(entries):
         here.append("All of them are null.")
@@ -98,14 +102,15 @@ def repeated_key(context, key, findings):
     differ = texts.listing(f"{ags.shown(heading)} ({texts.value(group.entry(first, heading))} in line {first.line}, "
                            f"{texts.value(group.entry(row, heading))} in line {line})" for heading in other[:4])
     here.append(f"They differ in {differ}.")
-    return texts.pairs(keys,
-                       entries), here, f"Correct the entry that is wrong under {texts.names(keys, 12)} in one of the two rows."
+    fix = f"Correct the entry that is wrong under {texts.names(keys, 12)} in one of the two rows."
+    return texts.pairs(keys, entries), here, fix
 
 
 def null_entry(context, key, findings):
     _, name, heading = key
     group = context.file.by_name[name]
-    here = [f"{ags.shown(heading)} is null in {texts.count(len(findings), 'row')} of {ags.shown(name)} ({at(findings)}), and it is REQUIRED."]
+    here = [f"{ags.shown(heading)} is null in {texts.count(len(findings), 'row')} of {ags.shown(name)} "
+            f"({at(findings)}), and it is REQUIRED."]
     if len(findings) == len(group.data) > 1:
         here.append("It is null in every row of the group.")
     return "", here, "Fill the entries in."
@@ -131,7 +136,8 @@ def orphan(context, key, findings):
     told = [here + f"; line {row.line} differs in {texts.names(heading for heading, _, _ in differ)}."]
     for heading, one, two in differ[:3]:
         why = difference(one, two) if one and two else ""
-        told.append(f"{ags.shown(heading)} is {texts.value(one)} here and {texts.value(two)} there{f' ({why})' if why else ''}.")
+        told.append(f"{ags.shown(heading)} is {texts.value(one)} here and {texts.value(two)} "
+                    f"there{f' ({why})' if why else ''}.")
     return wanted, told + several(context, findings), orphan_fix(context, parents, row, differ, findings)
 
 
@@ -199,26 +205,32 @@ def link(context, key, findings):
     if row is None:
         return ags.shown(part), [here + f": no {ags.shown(name)} row has {texts.pairs(keys[:1], given[:1])}."], None
     target = context.file.by_name[name].entries(row, keys)
-    said = [here + f": line {row.line} of {ags.shown(name)} differs in {texts.names(h for h, a, b in zip(keys, given, target) if a != b)}."]
+    said = [here + f": line {row.line} of {ags.shown(name)} differs in "
+                   f"{texts.names(h for h, a, b in zip(keys, given, target) if a != b)}."]
     for name_of, one, two in zip(keys, given, target):
         if one != two:
             why = difference(one, two) if one and two else ""
-            said.append(f"{ags.shown(name_of)} is {texts.value(one)} in the link and {texts.value(two)} there{f' ({why})' if why else ''}.")
+            said.append(f"{ags.shown(name_of)} is {texts.value(one)} in the link and {texts.value(two)} "
+                        f"there{f' ({why})' if why else ''}.")
     right = delimiter.join((name, *target))
     return ags.shown(part), said[:4], f"Write {texts.value(right)}, if that row is meant, or add the row."
 
 
 def wrong_count(context, here, name, given):
     """A link with too few or too many entries: what is said, and how it is fixed."""
-    keys, delimiter, few = context.words.keys(name), context.listed.delimiter, len(given) < len(context.words.keys(name))
-    said = [f"{here}: too {'few' if few else 'many'} keys. {ags.shown(name)} has {texts.count(len(keys), 'KEY heading')} "
+    keys, delimiter, few = (context.words.keys(name), context.listed.delimiter,
+                            len(given) < len(context.words.keys(name)))
+    said = [f"{here}: too {'few' if few else 'many'} keys. {ags.shown(name)} has "
+            f"{texts.count(len(keys), 'KEY heading')} "
             f"({', '.join(map(ags.shown, keys))}), and the link gives {texts.count(len(given), 'entry')}."]
     fix = f"Give all KEY entries: {ags.shown(delimiter.join([name, *keys]))}"
     if not few:
-        return said + [f"Is the delimiter {texts.value(delimiter)} within an entry? Such a row cannot be linked to."], fix
+        return (said + [f"Is the delimiter {texts.value(delimiter)} within an entry? Such a row cannot be linked to."],
+                fix)
     rows = context.kept(("11c", name, len(given)), lambda: begins_of(context, name, len(given))).get(tuple(given), [])
     if given and rows:
-        said.append(f"{texts.count(len(rows), 'row')} of {ags.shown(name)} {'begins' if len(rows) == 1 else 'begin'} so ({texts.lines(rows)}).")
+        said.append(f"{texts.count(len(rows), 'row')} of {ags.shown(name)} {'begins' if len(rows) == 1 else 'begin'} "
+                    f"so ({texts.lines(rows)}).")
         group = context.file.by_name[name]
         right = delimiter.join((name, *group.entries(context.file.by_line[rows[0]], keys)))
         fix = f"Give all KEY entries, as {texts.value(right)} for line {rows[0]}."
@@ -242,7 +254,8 @@ def nearest_row(context, name, key):
 def unknown_target(context, part, name):
     sign = sign_between(context, part)
     if sign:
-        return f": it is cut at {texts.value(context.listed.delimiter)}, and it has {texts.value(sign)} between its entries."
+        return (f": it is cut at {texts.value(context.listed.delimiter)}, and it has {texts.value(sign)} between its "
+                "entries.")
     if not name or name == part and name not in context.words.parents:
         return f": it does not begin with a group and {texts.value(context.listed.delimiter)}."
     near = next((one for one in context.file.by_name if one.upper() == name.strip().upper()), None)
@@ -264,7 +277,8 @@ def other_sign(context, part):
         return None
     right = part.replace(sign, delimiter)
     given = context.file.entry_of(b"TRAN", b"TRAN_DLIM")
-    says = f"TRAN_DLIM says {texts.value(delimiter)}" if given else f"TRAN_DLIM says nothing, and it is {texts.value(delimiter)} then"
+    says = (f"TRAN_DLIM says {texts.value(delimiter)}" if given
+            else f"TRAN_DLIM says nothing, and it is {texts.value(delimiter)} then")
     return f"Write {texts.value(right)}, or give TRAN_DLIM {texts.value(sign)} for all links ({says})."
 
 
@@ -285,7 +299,8 @@ def listed(context, key, findings):
     group, heading, names = {"15": ("UNIT", b"UNIT_UNIT", context.listed.units),
                              "17": ("TYPE", b"TYPE_TYPE", context.listed.types)}[code]
     subjects = list(dict.fromkeys(finding.subject for finding in findings))
-    here = [f"{texts.value(value)} is not listed in {group}; it is used under {texts.names(subjects, 5)} ({at(findings)})."]
+    here = [f"{texts.value(value)} is not listed in {group}; it is used under {texts.names(subjects, 5)} "
+            f"({at(findings)})."]
     near, words = nearest_listed(context, code, sorted(names), value)
     fix = f"Add a row with {ags.shown(heading)} {texts.value(value)} to {group}"
     if near:
@@ -304,12 +319,14 @@ def abbreviation(context, key, findings):
     file, part = context.file, parts[0] if parts else b""
     entry = file.group_at(findings[0].line).entry(file.by_line[findings[0].line], heading)
     of = f", a part of {texts.value(entry)}," if part != entry else ""
-    here = [f"{texts.value(part)}{of} is not listed in ABBR under {ags.shown(heading)}; {texts.count(len(findings), 'entry')} "
+    here = [f"{texts.value(part)}{of} is not listed in ABBR under {ags.shown(heading)}; "
+            f"{texts.count(len(findings), 'entry')} "
             f"({at(findings)})."]
     if len(parts) > 1:
         here.append(f"Nor {'is' if len(parts) == 2 else 'are'} {texts.listing(map(texts.value, parts[1:]))}.")
     if b"ABBR" not in file.by_name:
-        return ags.shown(part), here + ["The file has no group ABBR."], "Add the group ABBR with a row for each abbreviation that is used."
+        return (ags.shown(part), here + ["The file has no group ABBR."],
+                "Add the group ABBR with a row for each abbreviation that is used.")
     codes = context.kept("codes", lambda: codes_by_heading(context))
     near, words = nearest_listed(context, ("16", heading), codes.get(heading, []), part)
     fix = f"Add the row to ABBR: ABBR_HDNG {texts.value(heading)}, ABBR_CODE {texts.value(part)}"
@@ -343,10 +360,12 @@ def headings_by_code(context):
 
 def file_set(context, key, findings):
     value = key[1]
-    here = [f"The file set {texts.value(value)} is not listed in FILE; {texts.count(len(findings), 'row')} ({at(findings)})."]
+    here = [f"The file set {texts.value(value)} is not listed in FILE; {texts.count(len(findings), 'row')} "
+            f"({at(findings)})."]
     fix = f"Add a row with FILE_FSET {texts.value(value)} to FILE"
     if b"FILE" not in context.file.by_name:
-        return ags.shown(value), here + ["The file has no group FILE."], f"Add the group FILE, with a row of FILE_FSET {texts.value(value)}."
+        return (ags.shown(value), here + ["The file has no group FILE."],
+                f"Add the group FILE, with a row of FILE_FSET {texts.value(value)}.")
     near, words = nearest_listed(context, "20", sorted(context.listed.sets), value)
     if near:
         here.append(words)

@@ -1,4 +1,5 @@
-"""Rule 8: the form that a TYPE and UNIT ask for, in words with an example, and what is wrong with an entry that does not have it.
+"""Rule 8: the form that a TYPE and UNIT ask for, in words with an example, and what is wrong with an entry that does
+not have it.
 
     form(b"2DP", b"m")                    # 'two decimals, as 1.50'
     mistake(b"2DP", b"m", b"1,234.50")    # ('thousands', 'a comma between thousands', b'1234.50')"""
@@ -15,7 +16,7 @@ UNITS = {
     b"yyyy-mm-ddThh:mm": ("a day, alone or with T and a time", "2024-02-29T09:30"),
     b"yyyy-mm-ddThh:mm:ss": ("a day, alone or with T and a time", "2024-02-29T09:30:00"),
     b"hh:mm": ("hours and minutes, two digits each", "09:30"),
-         b"hh:mm:ss": ("hours, minutes and seconds, two digits each", "09:30:00")}
+    b"hh:mm:ss": ("hours, minutes and seconds, two digits each", "09:30:00")}
 WORDS = {b"YES": b"Y", b"TRUE": b"Y", b"1": b"Y", b"NO": b"N", b"FALSE": b"N", b"0": b"N"}
 NULLS = (b"-", b"--", b"N/A", b"NA", b"NIL", b"NONE", b"NULL", b"NP", b"ND", b"#N/A", b"?", b"UNKNOWN", b"TBC", b"NM",
          b".")
@@ -62,7 +63,8 @@ def as_number(kind, text):
 
 
 def wrong_number(kind, entry):
-    """What is wrong with an entry where a number is asked for, by name and in words, and the entry put right or None."""
+    """What is wrong with an entry where a number is asked for, by name and in words, and the entry put right or
+    None."""
     text = entry.strip()
     if text != entry and as_number(kind, text):
         return "spaces", "spaces at an end", as_number(kind, text)
@@ -130,7 +132,8 @@ def wrong_day(unit, entry):
         first, second, year, more = parts.groups()
         right = day(year, second, first) or day(year, first, second)
         both = day(year, second, first) and day(year, first, second) and first != second
-        words = "the day or the month first, and nothing in the entry says which" if both else "another order of day, month and year"
+        words = ("the day or the month first, and nothing in the entry says which" if both
+                 else "another order of day, month and year")
         return "day and month" if both else "day first", words, None if more or both else right
     if re.fullmatch(rb"[0-9]{4}-[0-9]{2}-[0-9]{2} [0-9:]+", text) and has_time:
         return "blank for T", "a space between day and time, where a T belongs", text.replace(b" ", b"T", 1)
@@ -153,7 +156,8 @@ def wrong_day(unit, entry):
 
 
 def mistake(kind, unit, entry):
-    """What is wrong with an entry, by a name that is the same for entries of the same mistake and in words, and it put right, or None."""
+    """What is wrong with an entry, by a name that is the same for entries of the same mistake and in words, and it put
+    right, or None."""
     if kind == b"YN":
         text = entry.strip().upper()
         return "word", "another word", text if text in (b"Y", b"N") else WORDS.get(text)

@@ -60,7 +60,8 @@ def no_data(context, key, findings):
         return "", [here], "Send the file itself. curl without the file that it names sends nothing."
     empty = [finding.subject for finding in findings]
     here = [f"{texts.names(empty)}: no DATA row below the TYPE row."]
-    return texts.names(empty), here, "Take the groups without DATA rows out, with their GROUP, HEADING, UNIT and TYPE rows, or add their rows."
+    return (texts.names(empty), here,
+            "Take the groups without DATA rows out, with their GROUP, HEADING, UNIT and TYPE rows, or add their rows.")
 
 
 def names_of(group):
@@ -85,7 +86,8 @@ def order(context, key, findings):
     group, line = concerned(context.file, findings[0].line), findings[0].line
     if group is None:
         return "", [], None
-    name = f"Group {ags.shown(group.name)} (line {group.line})" if group.name else f"The first rows (from line {group.line})"
+    name = (f"Group {ags.shown(group.name)} (line {group.line})" if group.name
+            else f"The first rows (from line {group.line})")
     kinds = [row.descriptor for row in group.rows if row.descriptor != b"DATA"]
     lost = without_group_row(group)
     if kinds[:1] != [b"GROUP"]:
@@ -118,7 +120,8 @@ def before_any_group(group):
     begins = names_of([row for row in group.rows if row.descriptor == b"HEADING"][:1])
     says = f": the headings begin with {ags.shown(begins)}_" if begins else ""
     fix = f"Put the row \"GROUP\",\"{ags.shown(begins)}\" above line {first.line}." if begins else None
-    return "GROUP", [f"The first row, line {first.line}, is {ags.shown(first.descriptor)}; a GROUP row is missing above it{says}."], fix
+    return "GROUP", [f"The first row, line {first.line}, is {ags.shown(first.descriptor)}; a GROUP row is missing "
+                     f"above it{says}."], fix
 
 
 def missing_row(context, group, name, missing, also):
@@ -129,15 +132,19 @@ def missing_row(context, group, name, missing, also):
     if after is None and group is not context.file.groups[-1]:
         after = context.file.groups[context.file.groups.index(group) + 1].rows[0]
     if after is None:
-        here = f"The file ends after the {ags.shown(above.descriptor)} row in line {above.line}: {words} and DATA rows of " \
-               f"{ags.shown(group.name)} are missing. Was it cut off?"
+        here = (f"The file ends after the {ags.shown(above.descriptor)} row in line {above.line}: {words} and DATA "
+                "rows of "
+               f"{ags.shown(group.name)} are missing. Was it cut off?")
     else:
-        place = f"between line {above.line} ({ags.shown(above.descriptor)}) and line {after.line} ({ags.shown(after.descriptor)})"
-        here = f"{name} has no {words} row{'' if len(missing) == 1 else 's'}: {'it belongs' if len(missing) == 1 else 'they belong'} {place}."
+        place = (f"between line {above.line} ({ags.shown(above.descriptor)}) and line {after.line} "
+                 f"({ags.shown(after.descriptor)})")
+        here = (f"{name} has no {words} row{'' if len(missing) == 1 else 's'}: "
+                f"{'it belongs' if len(missing) == 1 else 'they belong'} {place}.")
     items = len(group.headings) or len(above.items)
     example = {b"UNIT": [b""] * items, b"TYPE": [b"X"] * items}.get(missing[0])
-    fix = f"Add the row, with {texts.count(items, 'item')}, one for each heading: {texts.clipped(texts.row(missing[0], example))}" \
-        if example is not None and b"HEADING" not in missing else None
+    fix = (f"Add the row, with {texts.count(items, 'item')}, one for each heading: "
+           f"{texts.clipped(texts.row(missing[0], example))}"
+        if example is not None and b"HEADING" not in missing else None)
     return words, [here] + also, fix
 
 
@@ -148,7 +155,8 @@ def order_of(group, name, line, also):
     data = [row for row in group.data if row.line < header[-1].line]
     here = [f"{name} has its rows in the order {rows}; it has to be GROUP, HEADING, UNIT, TYPE, then DATA."]
     if data:
-        here.append(f"{texts.count(len(data), 'DATA row')} from line {data[0].line} above the {ags.shown(header[-1].descriptor)} row.")
+        here.append(f"{texts.count(len(data), 'DATA row')} from line {data[0].line} above the "
+                    f"{ags.shown(header[-1].descriptor)} row.")
     return "order", here + also, None
 
 
@@ -169,7 +177,8 @@ def counts(context, key, findings):
     if descriptor == b"HEADING" or above is None:
         return str(items), [f"The HEADING row has no headings ({at})."], "Name the headings of the group in it."
     is_one = len(findings) == 1
-    here.append(f"{texts.count(len(findings), word + ' row')} ({at}) {'has' if is_one else 'have'} {texts.count(items, 'item')}, "
+    here.append(f"{texts.count(len(findings), word + ' row')} ({at}) {'has' if is_one else 'have'} "
+                f"{texts.count(items, 'item')}, "
                 f"and the HEADING row (line {above.line}) has {texts.count(wanted, 'heading')}: "
                 f"{texts.count(abs(items - wanted), 'item')} too {'many' if items > wanted else 'few'}.")
     return str(items), here + count_hints(context, row, above, findings), count_fix(row, above)
@@ -179,11 +188,13 @@ def heading_row_count(context, items, wanted, above, findings):
     """All rows of a group have the same count of items, and the HEADING row another."""
     group = context.file.group_at(above.line)
     word = "few" if wanted < items else "many"
-    here = [f"The HEADING row (line {above.line}) has {texts.count(wanted, 'heading')}, and all other rows of {ags.shown(group.name)} "
+    here = [f"The HEADING row (line {above.line}) has {texts.count(wanted, 'heading')}, and all other rows of "
+            f"{ags.shown(group.name)} "
             f"have {texts.count(items, 'item')}: {texts.count(abs(items - wanted), 'heading')} too {word}."]
     absent = [heading for heading in context.words.order(group.name) if heading not in group.columns]
     if wanted < items and absent:
-        here.append(f"Headings of {ags.shown(group.name)} in the dictionary that it does not have: {texts.names(absent, 8)}.")
+        here.append(f"Headings of {ags.shown(group.name)} in the dictionary that it does not have: "
+                    f"{texts.names(absent, 8)}.")
     fix = "Name the heading that is missing" if wanted < items else "Take the heading out that has no items"
     return str(items), here, f"{fix} in the HEADING row, line {above.line}."
 
@@ -203,7 +214,8 @@ def count_fix(row, above):
     spare = row.items[len(above.items):]
     if len(row.items) < len(above.items):
         return 'Give the row an item for each heading, "" for a null, in the order of the headings.'
-    return "Take the empty items at the end out." if not any(spare) else "Take the item that is too many out, or name its heading in the HEADING row."
+    return ("Take the empty items at the end out." if not any(spare)
+            else "Take the item that is too many out, or name its heading in the HEADING row.")
 
 
 def group_name(context, key, findings):
@@ -213,7 +225,8 @@ def group_name(context, key, findings):
     here = [f"{texts.value(name)} is no name of a group: one to four capital letters or digits."]
     if len(name) > 4:
         here.append(f"It has {len(name)} characters.")
-    return ags.shown(name), here, f"Write {ags.shown(near)} ({texts.lines(f.line for f in findings)})." if near else None
+    return (ags.shown(name), here,
+            f"Write {ags.shown(near)} ({texts.lines(f.line for f in findings)})." if near else None)
 
 
 def heading_name(context, key, findings):
@@ -229,7 +242,8 @@ def heading_name(context, key, findings):
         fix = f"Write {ags.shown(near)}."
     elif name == b"" and group:
         empty = [heading for heading in group.headings if heading == b""]
-        fix = f"Take the {texts.count(len(empty), 'empty item')} out of the HEADING row, with what is under it in the rows of the group."
+        fix = (f"Take the {texts.count(len(empty), 'empty item')} out of the HEADING row, with what is under it in the "
+               "rows of the group.")
     return ags.shown(name), here, fix
 
 
@@ -240,14 +254,17 @@ def group_twice(context, key, findings):
     for finding in findings:
         again = context.file.group_at(finding.line)
         same = same and again.headings == first.headings
-        here.append(f"{ags.shown(name)} is in line {first.line} and again in line {finding.line}, with {texts.count(len(again.data), 'DATA row')}.")
+        here.append(f"{ags.shown(name)} is in line {first.line} and again in line {finding.line}, with "
+                    f"{texts.count(len(again.data), 'DATA row')}.")
     here = here[:4]
     if same:
         again = context.file.group_at(findings[0].line)
         first_line, last_line = (again.data or again.rows)[0].line, (again.data or again.rows)[-1].line
         rows = f"line {first_line}" if first_line == last_line else f"lines {first_line} to {last_line}"
-        return ags.shown(name), here + ["Its headings are the same in each place."], \
-            f"Move the DATA rows ({rows}) below the last DATA row of the first, line {(first.data or first.rows)[-1].line}, and take the second header out."
+        last = (first.data or first.rows)[-1].line
+        fix = (f"Move the DATA rows ({rows}) below the last DATA row of the first, line {last}, and take the second "
+               "header out.")
+        return ags.shown(name), here + ["Its headings are the same in each place."], fix
     return ags.shown(name), here + ["Its headings differ."], \
         "Put all rows under one HEADING row with the headings of both, and \"\" where a row has no entry."
 
@@ -256,6 +273,8 @@ def heading_twice(context, key, findings):
     name, group = findings[0].subject, context.file.group_at(findings[0].line)
     columns = [column for column, heading in enumerate(group.headings) if heading == name]
     equal = all(len({row.items[column] for column in columns if column < len(row.items)}) <= 1 for row in group.data)
-    here = [f"{ags.shown(name)} is heading {texts.listing([str(column + 1) for column in columns])} of the HEADING row in line {group.heading.line}."]
+    here = [f"{ags.shown(name)} is heading {texts.listing([str(column + 1) for column in columns])} of the HEADING row "
+            f"in line {group.heading.line}."]
     here.append("The entries under them are the same in each row." if equal else "The entries under them differ.")
-    return ags.shown(name), here, None if equal else "Give one of the two its right name, or take it out with its item in each row."
+    return (ags.shown(name), here,
+            None if equal else "Give one of the two its right name, or take it out with its item in each row.")

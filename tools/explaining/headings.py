@@ -19,7 +19,8 @@ def key(context, finding):
         return code, "rows"
     if code == "10c":
         return code, "group", context.words.parent(subject)
-    return code, "heading" if row and row.descriptor == b"HEADING" else "group", subject, group.name if group and line else b""
+    return (code, "heading" if row and row.descriptor == b"HEADING" else "group", subject,
+            group.name if group and line else b"")
 
 
 def tell(context, key, findings):
@@ -38,19 +39,24 @@ def tell(context, key, findings):
 def edition(context):
     """Whether the name may be one of another edition."""
     says = ags.shown(context.file.entry_of(b"TRAN", b"TRAN_AGS"))
-    here = "the built-in dictionary has ten groups alone" if context.standard.is_built_in else \
-        f"the dictionary is of {ags.shown(context.standard.edition)}" if context.standard.edition else "the dictionary names no edition"
+    named = context.standard.edition
+    here = f"the dictionary is of {ags.shown(named)}" if named else "the dictionary names no edition"
+    if context.standard.is_built_in:
+        here = "the built-in dictionary has ten groups alone"
     return f"Known under another edition? TRAN_AGS says {says or 'nothing'}; {here}."
 
 
 def unknown_group(context, key, findings):
     known = [finding.subject for finding in findings]
-    here = [f"{texts.names(known)}: no {'group' if len(known) == 1 else 'groups'} of the dictionary, nor of the file's DICT."]
+    here = [f"{texts.names(known)}: no {'group' if len(known) == 1 else 'groups'} of the dictionary, nor of the file's "
+            "DICT."]
     near = context.near_group(known[0]) if len(known) == 1 else None
     if near and near not in context.file.by_name:
-        return texts.names(known), here + [f"The nearest name is {ags.shown(near)}."], f"Write {ags.shown(near)}, if that is meant."
+        return (texts.names(known), here + [f"The nearest name is {ags.shown(near)}."],
+                f"Write {ags.shown(near)}, if that is meant.")
     here.append(edition(context))
-    fix = "Check under the dictionary that has them: groundreg check --dictionary DICT.ags FILE" if context.standard.is_built_in else None
+    fix = ("Check under the dictionary that has them: groundreg check --dictionary DICT.ags FILE"
+           if context.standard.is_built_in else None)
     return texts.names(known), here, fix
 
 
@@ -61,7 +67,8 @@ def unknown_heading(context, key, findings):
     others = [name for name in context.words.groups_of.get(heading, ()) if name != group.name]
     fix = None
     if near:
-        here.append(f"The nearest heading of {ags.shown(group.name)} that its HEADING row does not have is {ags.shown(near)}.")
+        here.append(f"The nearest heading of {ags.shown(group.name)} that its HEADING row does not have is "
+                    f"{ags.shown(near)}.")
         fix = f"Write {ags.shown(near)}, if that is meant; else define {ags.shown(heading)} in the file's DICT."
     elif others:
         here.append(f"It is a heading of {texts.names(others, 4)}.")
@@ -111,25 +118,31 @@ def order(context, key, findings):
         here.append(f"{len(moved) - 6} more headings have to move.")
     passed = [heading for heading in dict.fromkeys(finding.subject for finding in findings) if heading in kept]
     if passed:
-        here.append(f"{texts.names(passed, 5)} can stay: {'a heading that has to move comes' if len(moved) == 1 else 'headings that have to move come'} first.")
+        here.append(f"{texts.names(passed, 5)} can stay: "
+                    f"{'a heading that has to move comes' if len(moved) == 1 else 'headings that have to move come'} "
+                    "first.")
     right_row = iter(right)
     whole = [next(right_row) if heading in places else heading for heading in group.headings]
-    return texts.names(moved), here, f"Write the headings of line {group.heading.line} as {texts.names(whole, 30)}, and the items of each row " \
-        f"of {ags.shown(group.name)} in the same order."
+    return (texts.names(moved), here,
+            f"Write the headings of line {group.heading.line} as {texts.names(whole, 30)}, and the items of each row "
+        f"of {ags.shown(group.name)} in the same order.")
 
 
 def absent_heading(context, key, findings):
     heading, group = findings[0].subject, context.file.group_at(findings[0].line)
     what, all_of = ("KEY", context.words.keys(group.name)) if key[0] == "10a" else ("REQUIRED",
         context.words.required(group.name))
-    here = [f"The {what} heading {ags.shown(heading)} is not in the HEADING row of {ags.shown(group.name)}, line {group.heading.line}."]
+    here = [f"The {what} heading {ags.shown(heading)} is not in the HEADING row of {ags.shown(group.name)}, line "
+            f"{group.heading.line}."]
     here.append(f"{what} headings of {ags.shown(group.name)}: {texts.names(all_of, 12)}.")
     strange = [name for name in group.headings if name not in context.words.places.get(group.name, {})]
     near = next((name for name in strange if context.near_heading(group.name, name) == heading), None)
     if near:
         here.append(f"Is {ags.shown(near)} meant for it? The dictionary does not have that one.")
-    return ags.shown(heading), here, f"Add {ags.shown(heading)} to the HEADING row, and an item to each other row of {ags.shown(group.name)}: " \
-        f"its unit, its type and {'the entry that makes the row its own' if key[0] == '10a' else 'an entry that is not null'}."
+    return (ags.shown(heading), here,
+            f"Add {ags.shown(heading)} to the HEADING row, and an item to each other row of {ags.shown(group.name)}: "
+        "its unit, its type and "
+        f"{'the entry that makes the row its own' if key[0] == '10a' else 'an entry that is not null'}.")
 
 
 def absent_parent(context, key, findings):
@@ -165,7 +178,8 @@ def one_row(context, key, findings):
         return ags.shown(name), here + ([f"It has {ags.shown(near)}."] if near
                                         else []), f"Add the group {ags.shown(name)}, with {WANTED[name]}."
     rows = context.file.by_name[name].data
-    here = [f"{ags.shown(name)} has {texts.count(len(rows), 'DATA row')}, from line {rows[0].line} to line {rows[-1].line}; it has one."]
+    here = [f"{ags.shown(name)} has {texts.count(len(rows), 'DATA row')}, from line {rows[0].line} to line "
+            f"{rows[-1].line}; it has one."]
     if any(row.items == rows[0].items for row in rows[1:]):
         here.append("One of them is the same as the first.")
     return ags.shown(name), here, f"Keep one of {texts.lines(row.line for row in rows)}, and take the others out."
@@ -174,7 +188,8 @@ def one_row(context, key, findings):
 def own_name(context, key, findings):
     heading, group = findings[0].subject, context.file.group_at(findings[0].line)
     begins = ags.shown(group.name) + "_"
-    here = [f"{ags.shown(heading)} is one of the file's own headings of {ags.shown(group.name)}: it has to begin with {begins}, "
+    here = [f"{ags.shown(heading)} is one of the file's own headings of {ags.shown(group.name)}: it has to begin with "
+            f"{begins}, "
             "or be a heading of another group."]
     rest = ags.shown(heading.removeprefix(group.name)).rpartition("_")[2] or "X"
     right = (begins + rest)[:9]

@@ -63,7 +63,8 @@ def characters(text):
 def character_told(one):
     character, times, line, right = one
     name = unicodedata.name(character, "no name").lower()
-    write = "take it out" if right == "" else "write a space" if right == " " else f"write {right}" if right else "no usual spelling in ASCII"
+    write = ("take it out" if right == "" else "write a space" if right == " " else f"write {right}" if right
+             else "no usual spelling in ASCII")
     return f"U+{ord(character):04X} {name}: {write} ({texts.count(times, 'time')}, first in line {line})"
 
 
@@ -81,7 +82,8 @@ def kind_of(file):
     """A name and sentences that say what the file is; the name is None for a text of AGS4."""
     data, said = file.data, []
     if data[:4] == ZIP:
-        return "ZIP", ["The file is a ZIP archive or a workbook (.xlsx), and no text: take the AGS file out of it, or export it as AGS4."]
+        return "ZIP", ["The file is a ZIP archive or a workbook (.xlsx), and no text: take the AGS file out of it, or "
+                       "export it as AGS4."]
     if data[:4] == PDF:
         return "PDF", ["The file is a PDF, and no AGS text."]
     if data[:2] == b"\x1f\x8b":
@@ -90,20 +92,26 @@ def kind_of(file):
         return "HTML", ["The file is HTML or XML, such as a page that a download left in its place, and no AGS text."]
     text, encoding = decoded(data)
     if encoding == "UTF-16":
-        return encoding, ["The file is UTF-16 (\"Unicode text\" of a spreadsheet): two bytes a character, so that no line can be read.",
-                          "Save it as plain text in ASCII, with CR LF, or convert it: iconv -f UTF-16 -t ASCII//TRANSLIT FILE > NEW"]
+        return encoding, ["The file is UTF-16 (\"Unicode text\" of a spreadsheet): two bytes a character, so that no "
+                          "line can be read.",
+                          "Save it as plain text in ASCII, with CR LF, or convert it: iconv -f UTF-16 -t "
+                          "ASCII//TRANSLIT FILE > NEW"]
     if is_ags3(file):
         return "AGS3", ["The file is AGS3: its groups begin with **, its headings with *. This checker reads AGS4.",
                         "Export it as AGS4 from the program that made it; changing single lines does not make it AGS4."]
     if encoding != "ASCII":
-        what = "is UTF-8 with characters beyond ASCII" if encoding == "UTF-8" else "is no UTF-8; it is read as Windows-1252 here"
-        said.append(f"The file {what}: {texts.count(len(characters(text.removeprefix(chr(0xfeff)))), 'character')}, named below.")
+        what = ("is UTF-8 with characters beyond ASCII" if encoding == "UTF-8"
+                else "is no UTF-8; it is read as Windows-1252 here")
+        said.append(f"The file {what}: {texts.count(len(characters(text.removeprefix(chr(0xfeff)))), 'character')}, "
+                    "named below.")
     for sign, name in ((b",", "commas"), (b";", "semicolons"), (b"\t", "tabs")):
         if bare_descriptors(file, sign) >= 2:
-            said.append(f"The file is a spreadsheet's CSV: fields between {name} without quotes. Each field of AGS4 is in quotes.")
+            said.append(f"The file is a spreadsheet's CSV: fields between {name} without quotes. Each field of AGS4 is "
+                        "in quotes.")
             return "CSV", said
     if data and b"\n" not in data and data.count(b"\r") > 2:
-        return "CR", said + ["The lines end with CR alone, as on old Macintosh computers, so that the whole file is one line."]
+        return "CR", said + ["The lines end with CR alone, as on old Macintosh computers, so that the whole file is "
+                             "one line."]
     return encoding if encoding != "ASCII" else None, said
 
 

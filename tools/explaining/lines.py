@@ -1,4 +1,5 @@
-"""The first phase: characters, line ends, quotes and descriptors (Rules 1, 2a, 3, 5, 6); and where in its line a finding is."""
+"""The first phase: characters, line ends, quotes and descriptors (Rules 1, 2a, 3, 5, 6); and where in its line a
+finding is."""
 import re
 
 from . import ags, kinds, texts
@@ -63,7 +64,8 @@ def line_ends(context, key, findings):
     if alone == whole:
         here = [f"All {whole:,} lines end with LF alone, as Unix and some editors write them."]
     else:
-        here = [f"LF alone ends {alone:,} of {whole:,} lines, CR LF the others ({texts.lines(f.line for f in findings)})."]
+        here = [f"LF alone ends {alone:,} of {whole:,} lines, CR LF the others "
+                f"({texts.lines(f.line for f in findings)})."]
     return "LF", here, None
 
 
@@ -94,8 +96,9 @@ def returns(context, key, findings):
     if key[1] == "last line":
         return "CR", ["The last line ends with CR alone: its LF is missing."], "End it with CR LF, or with nothing."
     if key[1] == "doubled":
-        return "CR CR LF", [f"{texts.count(len(findings), 'line')} with one CR too many before the line end, as after a conversion that "
-                            f"was done twice ({texts.lines(f.line for f in findings)})."], "Take the extra CR out, so that each line ends with one CR LF."
+        here = (f"{texts.count(len(findings), 'line')} with one CR too many before the line end, as after a conversion "
+                f"that was done twice ({texts.lines(f.line for f in findings)}).")
+        return "CR CR LF", [here], "Take the extra CR out, so that each line ends with one CR LF."
     line = findings[0].line
     right = context.file.line(line).replace(b"\r", b" ")
     fix = None if ags.fields_of(right) is None else f"Write line {line} as: {texts.clipped(ags.shown(right))}"
@@ -109,7 +112,8 @@ def over_lines(context, findings):
     here = [f"A line break within a field: lines {a} to {b} are one row." for a, b in spans[:3]]
     if len(spans) > 3:
         here.append(f"{len(spans) - 3:,} more rows that go on in the next line.")
-    return "line break", here, f"Take the line break out: write lines {first} to {last} as one: {texts.clipped(ags.shown(joined), 200)}"
+    return ("line break", here,
+            f"Take the line break out: write lines {first} to {last} as one: {texts.clipped(ags.shown(joined), 200)}")
 
 
 FIXES = {

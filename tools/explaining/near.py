@@ -67,7 +67,8 @@ def shortened(text, times):
 
 
 class Near:
-    """The names of a list, indexed by what they are in normal form and by what is left of them without a character or two."""
+    """The names of a list, indexed by what they are in normal form and by what is left of them without a character or
+    two."""
 
     def __init__(self, names):
         self.names, self.forms, self.parts = list(dict.fromkeys(names)), {}, None
@@ -75,7 +76,8 @@ class Near:
             self.forms.setdefault(normal(name), name)
 
     def times(self, name):
-        """How many characters may be taken out: two of names as long as a heading's, where there are few; none of short ones."""
+        """How many characters may be taken out: two of names as long as a heading's, where there are few; none of
+        short ones."""
         return 0 if len(name) < 4 or len(name) > LONGEST else 2 if len(name) <= 9 and len(self.names) <= 4000 else 1
 
     def index(self):

@@ -14,7 +14,8 @@ MOST_LINES = 8
 
 
 def broken_fields(file):
-    """(first line, last line) of each field that a line end cuts: the lines are a row where the line ends are taken out."""
+    """(first line, last line) of each field that a line end cuts: the lines are a row where the line ends are taken
+    out."""
     spans, done = [], 0
     for first in file.unreadable:
         if first <= done or file.lines[first - 1].count(b'"') % 2 == 0:
@@ -51,9 +52,11 @@ def with_tabs(text):
 
 
 def of_a_spreadsheet(text, width):
-    """What a line is that begins with a descriptor without quotes, or None; of a row with more items than headings, nulls at its end are cut."""
+    """What a line is that begins with a descriptor without quotes, or None; of a row with more items than headings,
+    nulls at its end are cut."""
     for sign, name, words in ((b",", "no quotes", "fields without quotes, as a spreadsheet saves CSV"),
-                              (b";", "semicolons", "semicolons between fields without quotes, as a spreadsheet saves CSV")):
+                              (b";", "semicolons", "semicolons between fields without quotes, as a spreadsheet saves "
+                                                   "CSV")):
         if text.split(sign)[0].strip() in ags.DESCRIPTORS:
             parts = next(csv.reader([text.decode("latin-1")], delimiter=sign.decode()), [])
             least = {"GROUP": 2, "HEADING": 2}.get(parts[0], len(parts) if width is None else width + 1)
@@ -91,7 +94,8 @@ def some_unquoted(text):
         return None
     if not any(bare):
         return "nothing between commas", 'nothing between two commas, where a null is ""', right
-    return "unquoted", f"{texts.count(len(bare), 'field')} without quotes: {texts.names([name for name in bare if name], 3)}", right
+    return ("unquoted", f"{texts.count(len(bare), 'field')} without quotes: "
+                        f"{texts.names([name for name in bare if name], 3)}", right)
 
 
 def quote_within(text):
@@ -119,7 +123,8 @@ def unclosed(text):
 
 
 def mistake(content, width=None):
-    """What is wrong with a line: a name that is the same for lines with the same mistake, words, and the line put right or None.
+    """What is wrong with a line: a name that is the same for lines with the same mistake, words, and the line put
+    right or None.
     `width` is how many headings the row has, where that is known."""
     text = content.strip(b" ")
     if re.fullmatch(rb"[,; ]+", text):
@@ -132,7 +137,8 @@ def mistake(content, width=None):
         return found
     bare = text.rstrip(b", ")
     if bare != text and right_or_none(bare):
-        return "padding", f"{texts.count(text[len(bare):].count(b','), 'comma')} at the end, as spreadsheets pad short rows", bare
+        return ("padding", f"{texts.count(text[len(bare):].count(b','), 'comma')} at the end, as spreadsheets pad "
+                           "short rows", bare)
     if b'"' not in text and b"'" in text and right_or_none(text.replace(b"'", b'"')):
         return "single quotes", "single quotes, where double ones belong", text.replace(b"'", b'"')
     if b'"' not in text:

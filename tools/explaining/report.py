@@ -52,12 +52,14 @@ def block(told, one):
 def summary_line(one):
     about = f", {one.subject}" if one.subject else ""
     first = one.here[0].split(". ")[0].rstrip(".") if one.here else one.rule
-    where = f"from line {one.lines[0]}" if len(one.lines) > 1 else f"line {one.lines[0]}" if one.lines[0] else "the file"
+    where = (f"from line {one.lines[0]}" if len(one.lines) > 1 else f"line {one.lines[0]}" if one.lines[0]
+             else "the file")
     return f"Rule {one.code}{about}: {texts.clipped(first)} ({texts.count(len(one.findings), 'finding')}, {where})"
 
 
 def shown_causes(told):
-    """The causes that are shown in full, and of each rule and subject how many more there are, as (code, subject, causes, findings)."""
+    """The causes that are shown in full, and of each rule and subject how many more there are, as (code, subject,
+    causes, findings)."""
     full, more, kinds = [], {}, {}
     for key, given in told.grouped():
         kind = (given[0].code if key[1] == "file" else key[1], given[0].subject if key[1] not in ("15", "17") else b"")
@@ -87,7 +89,8 @@ def text(told):
         out += block(told, one)
     for code, subject, causes, findings in more:
         about = f", {ags.shown(subject)}" if subject else ""
-        out += ["", f"{texts.count(causes, 'more cause')} of Rule {code}{about} ({texts.count(findings, 'finding')}): --all shows each finding."]
+        out += ["", f"{texts.count(causes, 'more cause')} of Rule {code}{about} ({texts.count(findings, 'finding')}): "
+                    "--all shows each finding."]
     return out
 
 
@@ -107,7 +110,8 @@ def preview(told):
     if left_out:
         out.append(f"{texts.count(left_out, 'line')} with other findings {'is' if left_out == 1 else 'are'} left out.")
     for phase, causes, first, findings in phases:
-        out.append(f"Phase {phase} ({ags.PHASES[phase]}): {texts.count(findings, 'finding')} of {texts.count(causes, 'cause')}.")
+        out.append(f"Phase {phase} ({ags.PHASES[phase]}): {texts.count(findings, 'finding')} of "
+                   f"{texts.count(causes, 'cause')}.")
         out += [f"  {number}. {summary_line(one)}" for number, one in enumerate(first, 1)]
         out += [f"  and {texts.count(causes - len(first), 'more cause')}"] if causes > len(first) else []
     return out + ([] if phases else ["The later phases would find nothing."])
@@ -159,7 +163,8 @@ PAGE = """<!doctype html>
 <html lang="en"><head><meta charset="utf-8"><title>{title}</title>
 <meta name="viewport" content="width=device-width, initial-scale=1">
 <style>
-body {{ font: 16px/1.5 system-ui, sans-serif; max-width: 70rem; margin: 2rem auto; padding: 0 1rem; color: #1a1a1a; background: #fff; }}
+body {{ font: 16px/1.5 system-ui, sans-serif; max-width: 70rem; margin: 2rem auto; padding: 0 1rem; color: #1a1a1a;
+background: #fff; }}
 pre {{ background: #f2f2f2; padding: .6rem; overflow-x: auto; }}
 section {{ border-top: 1px solid #999; margin-top: 1.5rem; }}
 .fix {{ font-weight: 600; }}
@@ -177,8 +182,9 @@ def section(told, number, one):
     about = f" ({one.subject})" if one.subject else ""
     shown = "\n".join(line_shown(told, one.place))
     here = "".join(f"<p>{escaped(said)}</p>\n" for said in one.here)
-    more = f"<details><summary>All {texts.count(len(one.lines), 'line')}</summary><p>{', '.join(map(str, one.lines))}</p></details>\n" \
-        if len(one.lines) > texts.FEW + 1 else ""
+    more = ("<details><summary>All "
+            f"{texts.count(len(one.lines), 'line')}</summary><p>{', '.join(map(str, one.lines))}</p></details>\n"
+        if len(one.lines) > texts.FEW + 1 else "")
     return f'<section id="cause-{number}"><h2>{number}. Rule {one.code}, {escaped(one.title + about)}</h2>\n' \
         f"<p>{texts.count(len(one.findings), 'finding')}, {texts.lines(one.lines)}</p>\n<pre>{escaped(shown)}</pre>\n" \
         f'<p>{escaped(one.rule)}</p>\n{here}<p class="fix">Fix: {escaped(one.fix)}</p>\n{more}</section>\n'
