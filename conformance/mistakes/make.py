@@ -340,7 +340,7 @@ def of_headings():
                        row("TYPE", "ID", "2DP"), row("DATA", "BH102", "0.02")]])
     yield ("group_of_another_edition", strange,
            1, 1, ("18", COUNT + 2, "STCN"),
-           "STCN: no group of the dictionary;Known under another edition?")
+           "STCN is no group of the dictionary;Known under another edition?")
     yield ("group_misspelled", put('"GROUP","LDEN"', '"GROUP","LDNE"'),
            1, 1, ("18", line_of('"GROUP","LDEN"'), "LDNE"),
            "The nearest name is L")

@@ -50,6 +50,9 @@ def write_page(path, page):
 def main(given):
     """0, or 2 where an argument is wrong or a file cannot be read or written."""
     asked = arguments(given)
+    if sys.stdin.isatty():
+        print("explain: findings come on standard input: bin/groundreg < FILE | bin/explain FILE", file=sys.stderr)
+        return 2
     gc.disable()
     try:
         dictionary = bytes_of(asked.dictionary) if asked.dictionary else None

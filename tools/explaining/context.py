@@ -77,6 +77,11 @@ class Context:
         return kinds.kind_of(self.file)
 
     @functools.cached_property
+    def has_strange_groups(self):
+        """Whether the file has a group that the dictionary does not have, and no name near it."""
+        return any(not self.words.has_group(name) and self.near_group(name) is None for name in self.file.by_name)
+
+    @functools.cached_property
     def broken(self):
         """The first and last line of each field over several lines, by each of its lines."""
         return {line: span for span in quotes.broken_fields(self.file) for line in range(span[0], span[1] + 1)}

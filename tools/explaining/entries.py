@@ -285,8 +285,8 @@ def other_sign(context, part):
 # ---- Rules 15, 16, 17, 20: what has to be listed
 
 def nearest_listed(context, name, names, given):
-    """The nearest name of a list and in what it differs, in words."""
-    near = context.near(("listed", name), lambda: names).nearest(given)
+    """The nearest name of a list, which `names` gives, and in what it differs, in words."""
+    near = context.near(("listed", name), names).nearest(given)
     if near is None:
         return None, ""
     why = difference(given, near)
@@ -301,7 +301,7 @@ def listed(context, key, findings):
     subjects = list(dict.fromkeys(finding.subject for finding in findings))
     here = [f"{texts.value(value)} is not listed in {group}; it is used under {texts.names(subjects, 5)} "
             f"({at(findings)})."]
-    near, words = nearest_listed(context, code, sorted(names), value)
+    near, words = nearest_listed(context, code, lambda: sorted(names), value)
     fix = f"Add a row with {ags.shown(heading)} {texts.value(value)} to {group}"
     if near:
         here.append(words)
@@ -328,7 +328,7 @@ def abbreviation(context, key, findings):
         return (ags.shown(part), here + ["The file has no group ABBR."],
                 "Add the group ABBR with a row for each abbreviation that is used.")
     codes = context.kept("codes", lambda: codes_by_heading(context))
-    near, words = nearest_listed(context, ("16", heading), codes.get(heading, []), part)
+    near, words = nearest_listed(context, ("16", heading), lambda: codes.get(heading, []), part)
     fix = f"Add the row to ABBR: ABBR_HDNG {texts.value(heading)}, ABBR_CODE {texts.value(part)}"
     if near:
         here.append(words)
@@ -338,7 +338,8 @@ def abbreviation(context, key, findings):
     if others:
         here.append(f"It is listed under {texts.names(others, 4)}, which does not count for {ags.shown(heading)}.")
     elif not near and codes.get(heading):
-        here.append(f"Listed under {ags.shown(heading)}: {texts.listing(map(texts.value, codes[heading]), 5)}.")
+        few, more = [texts.value(code) for code in codes[heading][:5]], len(codes[heading]) - 5
+        here.append(f"Listed under {ags.shown(heading)}: {texts.listing(few + [f'{more:,} more'] * (more > 0), 6)}.")
     elif not codes.get(heading):
         here.append(f"ABBR has no row of {ags.shown(heading)}.")
     return ags.shown(part), here, fix + "."
@@ -366,7 +367,7 @@ def file_set(context, key, findings):
     if b"FILE" not in context.file.by_name:
         return (ags.shown(value), here + ["The file has no group FILE."],
                 f"Add the group FILE, with a row of FILE_FSET {texts.value(value)}.")
-    near, words = nearest_listed(context, "20", sorted(context.listed.sets), value)
+    near, words = nearest_listed(context, "20", lambda: sorted(context.listed.sets), value)
     if near:
         here.append(words)
         fix += f", or write {texts.value(near)}"

@@ -13,10 +13,12 @@ def key(context, finding):
     if code == "2":
         return "2", "file" if line == 0 else "group"
     if code == "2b":
-        return "2b", signature(concerned(context.file, line)) if row else ()
+        group = concerned(context.file, line) if row else None
+        return "2b", context.kept(("2b", group.line), lambda: signature(group)) if group else ()
     if code == "4" and row:
         above, group = context.heading_row(line), context.file.group_at(line)
-        if row.descriptor not in (b"GROUP", b"HEADING") and is_of_heading_row(group):
+        if row.descriptor not in (b"GROUP", b"HEADING") and context.kept(("4", group.line),
+            lambda: is_of_heading_row(group)):
             return "4", subject, "all rows", len(row.items), len(above.items)
         return "4", subject, row.descriptor, len(row.items), len(above.items) if above else 0
     return code, subject

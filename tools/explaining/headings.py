@@ -10,9 +10,8 @@ WANTED = {b"PROJ": "one DATA row that names the project", b"TRAN": "one DATA row
 def key(context, finding):
     code, line, subject = finding.code, finding.line, finding.subject
     row, group = context.file.by_line.get(line), context.file.group_at(line)
-    if code in ("9", "18") and row and row.descriptor == b"GROUP":
-        is_far = context.standard.is_built_in and context.near_group(subject) is None
-        return code, "groups" if is_far else "group", b"" if is_far else subject
+    if code in ("9", "18"):
+        return name_key(context, code, subject, row, group)
     if code == "7":
         return "7", line
     if code in ("13", "14") and line:
@@ -23,10 +22,21 @@ def key(context, finding):
             group.name if group and line else b"")
 
 
+def name_key(context, code, subject, row, group):
+    """Unknown names are a cause each. Under the built-in dictionary those of a file with unknown groups are one."""
+    is_group = row is not None and row.descriptor == b"GROUP"
+    if context.standard.is_built_in and context.has_strange_groups:
+        near = context.near_group(subject) if is_group else context.near_heading(group.name, subject) if group else None
+        if near is None:
+            return code, "names"
+    return code, "group" if is_group else "heading", subject, b"" if is_group or group is None else group.name
+
+
 def tell(context, key, findings):
     code = key[0]
     if code in ("9", "18"):
-        return (unknown_heading if key[1] == "heading" else unknown_group)(context, key, findings)
+        tellers = {"heading": unknown_heading, "group": unknown_group, "names": unknown_names}
+        return tellers[key[1]](context, key, findings)
     if code == "7":
         return order(context, key, findings)
     if code in ("10a", "10b"):
@@ -46,18 +56,28 @@ def edition(context):
     return f"Known under another edition? TRAN_AGS says {says or 'nothing'}; {here}."
 
 
+def unknown_names(context, key, findings):
+    """Groups and headings that the built-in dictionary does not have."""
+    strange = [f.subject for f in findings if context.file.by_line[f.line].descriptor == b"GROUP"]
+    others = [f.subject for f in findings if context.file.by_line[f.line].descriptor == b"HEADING"]
+    here = []
+    if strange:
+        here.append(f"The built-in dictionary has ten groups, and not {texts.names(strange)}.")
+    if others:
+        here.append(f"The built-in dictionary does not have {texts.count(len(others), 'heading')} of this file: "
+                    f"{texts.names(others)}.")
+    fix = "Check under the dictionary that has them: groundreg check --dictionary DICT.ags FILE"
+    return texts.names(strange or others), here + [edition(context)], fix
+
+
 def unknown_group(context, key, findings):
-    known = [finding.subject for finding in findings]
-    here = [f"{texts.names(known)}: no {'group' if len(known) == 1 else 'groups'} of the dictionary, nor of the file's "
-            "DICT."]
-    near = context.near_group(known[0]) if len(known) == 1 else None
+    name = findings[0].subject
+    here = [f"{ags.shown(name)} is no group of the dictionary, nor of the file's DICT."]
+    near = context.near_group(name)
     if near and near not in context.file.by_name:
-        return (texts.names(known), here + [f"The nearest name is {ags.shown(near)}."],
+        return (ags.shown(name), here + [f"The nearest name is {ags.shown(near)}."],
                 f"Write {ags.shown(near)}, if that is meant.")
-    here.append(edition(context))
-    fix = ("Check under the dictionary that has them: groundreg check --dictionary DICT.ags FILE"
-           if context.standard.is_built_in else None)
-    return texts.names(known), here, fix
+    return ags.shown(name), here + [edition(context)], None
 
 
 def unknown_heading(context, key, findings):

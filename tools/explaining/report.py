@@ -3,6 +3,7 @@
     text(told), every(told), as_json(told), sarif(told), html(told)"""
 import html as markup
 import json
+import urllib.parse
 
 from . import ags, ahead, cause, texts
 
@@ -140,7 +141,7 @@ def as_json(told, is_ahead=False):
 
 def sarif_result(told, one, finding, index):
     line, at, size = cause.place(told.context, finding)
-    where = {"artifactLocation": {"uri": told.name}}
+    where = {"artifactLocation": {"uri": urllib.parse.quote(told.name)}}
     if line:
         where["region"] = {"startLine": line, **({"startColumn": at + 1, "endColumn": at + 1 + size} if size else {})}
     return {"ruleId": finding.code, "ruleIndex": index[finding.code], "level": "error",
