@@ -35,11 +35,14 @@ def read_findings(given):
 
 def findings_of_json(answer, given):
     """The findings of a reply to POST .. /check or .. /deposits; any other reply is a line by itself."""
-    found = answer.get("findings")
-    if not isinstance(found, list):
-        return [], ["clean" if answer.get("clean") is True else ags.shown(given.strip())]
-    return [ags.Finding(int(one["line"]), str(one["code"]), str(one["subject"]).encode("latin-1", "replace"))
-            for one in found if one.get("code") in ags.RANK], []
+    try:
+        found = [ags.Finding(int(one["line"]), one["code"], one["subject"].encode("latin-1", "replace"))
+                 for one in answer["findings"]]
+        if all(one.code in ags.RANK for one in found):
+            return found, []
+    except (KeyError, TypeError, ValueError, AttributeError):
+        pass
+    return [], ["clean" if answer.get("clean") is True else ags.shown(given.strip())]
 
 
 class Told:

@@ -52,8 +52,7 @@ def warnings_of(words, said):
         right = spelling(status)
         names = texts.listing(f"{ags.shown(heading)} of {ags.shown(group)}" for _, (group, heading) in rows)
         out.append(f"DICT_STAT {texts.value(status)} makes no KEY and no REQUIRED heading where that is meant "
-                   f"({names}; "
-                   f"{texts.lines(line for line, _ in rows)})"
+                   f"({names}; {texts.lines(line for line, _ in rows)})"
                    + (f": it is spelled {texts.value(right)}." if right else "."))
     for kind, lines in said.kinds.items():
         right = spelling(kind)
@@ -83,8 +82,8 @@ def warnings_of_tree(words, said):
     for group in words.orders:
         if not words.has_group(group):
             out.append(f"{ags.shown(group)} has {texts.count(len(words.order(group)), 'heading')} and no entry of its "
-                       "own (DICT_TYPE GROUP), "
-                       f"so that the group is unknown (line {said.seen[group, words.order(group)[0]]}).")
+                       "own (DICT_TYPE GROUP), so that the group is unknown (line "
+                       f"{said.seen[group, words.order(group)[0]]}).")
     for group in words.parents:
         if not words.order(group):
             out.append(f"{ags.shown(group)} has no headings (line {said.seen[(group,)]}).")
@@ -149,8 +148,7 @@ def compared(file, name, words, said):
         lacks = [heading for heading in group.headings if heading not in known]
         if lacks:
             out.append(f"{ags.shown(group.name)}: {texts.names(lacks, 8)} {'is' if len(lacks) == 1 else 'are'} not in "
-                       "it, "
-                       f"nor in the file's DICT (line {group.heading.line}).")
+                       f"it, nor in the file's DICT (line {group.heading.line}).")
         for heading in group.headings:
             kind, unit = said.forms.get((group.name, heading), (b"", b""))
             out += differs(group, heading, b"TYPE", kind, group.type, group.kind(heading))
@@ -163,8 +161,7 @@ def differs(group, heading, what, wanted, row, given):
         return []
     of = "DICT_DTYP" if what == b"TYPE" else "DICT_UNIT"
     return [f"{ags.shown(heading)} of {ags.shown(group.name)} has the {ags.shown(what)} {texts.value(given)} (line "
-            f"{row.line}), "
-            f"and {of} is {texts.value(wanted)}."]
+            f"{row.line}), and {of} is {texts.value(wanted)}."]
 
 
 def main(given):

@@ -221,8 +221,8 @@ def wrong_count(context, here, name, given):
     keys, delimiter, few = (context.words.keys(name), context.listed.delimiter,
                             len(given) < len(context.words.keys(name)))
     said = [f"{here}: too {'few' if few else 'many'} keys. {ags.shown(name)} has "
-            f"{texts.count(len(keys), 'KEY heading')} "
-            f"({', '.join(map(ags.shown, keys))}), and the link gives {texts.count(len(given), 'entry')}."]
+            f"{texts.count(len(keys), 'KEY heading')} ({', '.join(map(ags.shown, keys))}), and the link gives "
+            f"{texts.count(len(given), 'entry')}."]
     fix = f"Give all KEY entries: {ags.shown(delimiter.join([name, *keys]))}"
     if not few:
         return (said + [f"Is the delimiter {texts.value(delimiter)} within an entry? Such a row cannot be linked to."],
@@ -320,8 +320,7 @@ def abbreviation(context, key, findings):
     entry = file.group_at(findings[0].line).entry(file.by_line[findings[0].line], heading)
     of = f", a part of {texts.value(entry)}," if part != entry else ""
     here = [f"{texts.value(part)}{of} is not listed in ABBR under {ags.shown(heading)}; "
-            f"{texts.count(len(findings), 'entry')} "
-            f"({at(findings)})."]
+            f"{texts.count(len(findings), 'entry')} ({at(findings)})."]
     if len(parts) > 1:
         here.append(f"Nor {'is' if len(parts) == 2 else 'are'} {texts.listing(map(texts.value, parts[1:]))}.")
     if b"ABBR" not in file.by_name:

@@ -17,8 +17,8 @@ def key(context, finding):
         return "2b", context.kept(("2b", group.line), lambda: signature(group)) if group else ()
     if code == "4" and row:
         above, group = context.heading_row(line), context.file.group_at(line)
-        if row.descriptor not in (b"GROUP", b"HEADING") and context.kept(("4", group.line),
-            lambda: is_of_heading_row(group)):
+        is_of_heading = context.kept(("4", group.line), lambda: is_of_heading_row(group))
+        if is_of_heading and row.descriptor not in (b"GROUP", b"HEADING"):
             return "4", subject, "all rows", len(row.items), len(above.items)
         return "4", subject, row.descriptor, len(row.items), len(above.items) if above else 0
     return code, subject
@@ -135,8 +135,7 @@ def missing_row(context, group, name, missing, also):
         after = context.file.groups[context.file.groups.index(group) + 1].rows[0]
     if after is None:
         here = (f"The file ends after the {ags.shown(above.descriptor)} row in line {above.line}: {words} and DATA "
-                "rows of "
-               f"{ags.shown(group.name)} are missing. Was it cut off?")
+                f"rows of {ags.shown(group.name)} are missing. Was it cut off?")
     else:
         place = (f"between line {above.line} ({ags.shown(above.descriptor)}) and line {after.line} "
                  f"({ags.shown(after.descriptor)})")
@@ -144,9 +143,10 @@ def missing_row(context, group, name, missing, also):
                 f"{'it belongs' if len(missing) == 1 else 'they belong'} {place}.")
     items = len(group.headings) or len(above.items)
     example = {b"UNIT": [b""] * items, b"TYPE": [b"X"] * items}.get(missing[0])
-    fix = (f"Add the row, with {texts.count(items, 'item')}, one for each heading: "
-           f"{texts.clipped(texts.row(missing[0], example))}"
-        if example is not None and b"HEADING" not in missing else None)
+    fix = None
+    if example is not None and b"HEADING" not in missing:
+        spelled = texts.clipped(texts.row(missing[0], example))
+        fix = f"Add the row, with {texts.count(items, 'item')}, one for each heading: {spelled}"
     return words, [here] + also, fix
 
 
@@ -180,8 +180,8 @@ def counts(context, key, findings):
         return str(items), [f"The HEADING row has no headings ({at})."], "Name the headings of the group in it."
     is_one = len(findings) == 1
     here.append(f"{texts.count(len(findings), word + ' row')} ({at}) {'has' if is_one else 'have'} "
-                f"{texts.count(items, 'item')}, "
-                f"and the HEADING row (line {above.line}) has {texts.count(wanted, 'heading')}: "
+                f"{texts.count(items, 'item')}, and the HEADING row (line {above.line}) has "
+                f"{texts.count(wanted, 'heading')}: "
                 f"{texts.count(abs(items - wanted), 'item')} too {'many' if items > wanted else 'few'}.")
     return str(items), here + count_hints(context, row, above, findings), count_fix(row, above)
 
@@ -191,8 +191,8 @@ def heading_row_count(context, items, wanted, above, findings):
     group = context.file.group_at(above.line)
     word = "few" if wanted < items else "many"
     here = [f"The HEADING row (line {above.line}) has {texts.count(wanted, 'heading')}, and all other rows of "
-            f"{ags.shown(group.name)} "
-            f"have {texts.count(items, 'item')}: {texts.count(abs(items - wanted), 'heading')} too {word}."]
+            f"{ags.shown(group.name)} have {texts.count(items, 'item')}: {texts.count(abs(items - wanted), 'heading')} "
+            f"too {word}."]
     absent = [heading for heading in context.words.order(group.name) if heading not in group.columns]
     if wanted < items and absent:
         here.append(f"Headings of {ags.shown(group.name)} in the dictionary that it does not have: "

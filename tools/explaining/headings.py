@@ -145,7 +145,7 @@ def order(context, key, findings):
     whole = [next(right_row) if heading in places else heading for heading in group.headings]
     return (texts.names(moved), here,
             f"Write the headings of line {group.heading.line} as {texts.names(whole, 30)}, and the items of each row "
-        f"of {ags.shown(group.name)} in the same order.")
+            f"of {ags.shown(group.name)} in the same order.")
 
 
 def absent_heading(context, key, findings):
@@ -161,8 +161,8 @@ def absent_heading(context, key, findings):
         here.append(f"Is {ags.shown(near)} meant for it? The dictionary does not have that one.")
     return (ags.shown(heading), here,
             f"Add {ags.shown(heading)} to the HEADING row, and an item to each other row of {ags.shown(group.name)}: "
-        "its unit, its type and "
-        f"{'the entry that makes the row its own' if key[0] == '10a' else 'an entry that is not null'}.")
+            "its unit, its type and "
+            f"{'the entry that makes the row its own' if key[0] == '10a' else 'an entry that is not null'}.")
 
 
 def absent_parent(context, key, findings):
@@ -209,8 +209,7 @@ def own_name(context, key, findings):
     heading, group = findings[0].subject, context.file.group_at(findings[0].line)
     begins = ags.shown(group.name) + "_"
     here = [f"{ags.shown(heading)} is one of the file's own headings of {ags.shown(group.name)}: it has to begin with "
-            f"{begins}, "
-            "or be a heading of another group."]
+            f"{begins}, or be a heading of another group."]
     rest = ags.shown(heading.removeprefix(group.name)).rpartition("_")[2] or "X"
     right = (begins + rest)[:9]
     return ags.shown(heading), here, f"Name it {right}, say, in the HEADING row and in DICT."

@@ -25,8 +25,8 @@ def above(told):
     said = list(told.context.kind[1])
     if not told.is_of_file():
         under = "the built-in dictionary" if told.standard.is_built_in else "this dictionary"
-        said.append(f"These are not the findings of this file under {under}: is it the file that was checked, "
-                    "and the dictionary that it was checked under (--dictionary)?")
+        said.append(f"These are not the findings of this file under {under}: is it the file that was checked, and the "
+                    "dictionary that it was checked under (--dictionary)?")
     return said
 
 
@@ -107,7 +107,7 @@ def preview(told):
     """What the later phases would find."""
     phases, left_out = ahead.preview(told)
     out = ["", "Ahead: a preview, and not the program's answer. Line ends, mark and encoding are put right in memory, "
-           "and quotes where it is plain how."]
+               "and quotes where it is plain how."]
     if left_out:
         out.append(f"{texts.count(left_out, 'line')} with other findings {'is' if left_out == 1 else 'are'} left out.")
     for phase, causes, first, findings in phases:
@@ -122,8 +122,7 @@ def preview(told):
 
 def cause_as_json(one):
     return {"code": one.code, "title": one.title, "rule": one.rule, "subject": one.subject, "value": one.value,
-            "count": len(one.findings),
-            "lines": one.lines, "here": one.here, "fix": one.fix,
+            "count": len(one.findings), "lines": one.lines, "here": one.here, "fix": one.fix,
             "findings": [{"code": f.code, "line": f.line, "subject": ags.shown(f.subject)} for f in one.findings]}
 
 
