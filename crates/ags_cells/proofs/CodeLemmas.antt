@@ -2,7 +2,7 @@
 use Rattle.std.proofs.Common.{◌≡◌, ℕ, ◌-◌, cond, List, [], ◌∷◌, codes, refl, sym, ap, ◌∙◌, subst, inl, inr, arith}
 use Rattle.std.specs.Str.{bytes_eq}
 use Rattle.ags_cells.specs.Bytes.{digit}
-use Rattle.ags_cells.specs.CellTypes.{IsListedTypeCode, IsTypeCodeOf}
+use Rattle.ags_cells.specs.CellTypes.{IsRestrictedCode, IsTypeCodeOf}
 use Rattle.ags_cells.specs.Fits.{IsEntryOf, IsOfTypeCode}
 use Rattle.ags_cells.specs.Laws.{OneType, FitsItsTypeCode}
 use Rattle.ags_cells.specs.declared.cell_type.CellType.{CellType}
@@ -26,7 +26,7 @@ type_of (first ∷ rest) = type_by first rest
 number_of : (n : ℕ) → digit n - digit 0 ≡ n
 number_of n = omega arith
 
-type_of-code : (code : List ℕ) (t : CellType) → IsListedTypeCode code t → type_of code ≡ t
+type_of-code : (code : List ℕ) (t : CellType) → IsRestrictedCode code t → type_of code ≡ t
 type_of-code code (DecimalPlaces n) w = rw w.1 (ap DecimalPlaces (number_of n))
 type_of-code code (SignificantFigures n) w = rw w.1 (ap SignificantFigures (number_of n))
 type_of-code code (Scientific n) w = rw w.1 (ap Scientific (number_of n))
@@ -38,7 +38,7 @@ type_of-code code ElapsedTime e = rw e
 type_of-code code Any e = absurd e
 
 -- a type whose code is listed, and one of the same code
-listed_type : (code : List ℕ) (t u : CellType) → IsListedTypeCode code t → IsTypeCodeOf code u → t ≡ u
+listed_type : (code : List ℕ) (t u : CellType) → IsRestrictedCode code t → IsTypeCodeOf code u → t ≡ u
 listed_type code t (DecimalPlaces n) h w = sym (type_of-code code t h) ∙ type_of-code code (DecimalPlaces n) w
 listed_type code t (SignificantFigures n) h w = sym (type_of-code code t h) ∙ type_of-code code (SignificantFigures n) w
 listed_type code t (Scientific n) h w = sym (type_of-code code t h) ∙ type_of-code code (Scientific n) w
@@ -74,7 +74,7 @@ one_type code Any u h w = unlisted_type code u h w
 entry_under : (code unit text : List ℕ) (t : CellType) → IsTypeCodeOf code t → IsEntryOf t unit text → IsOfTypeCode code unit text
 entry_under code unit text t h fact =
     let P : CellType → Type 0 = λ u. IsEntryOf u unit text in
-    let of : (u : CellType) → IsListedTypeCode code u → P u = λ u w. subst P (sym (listed_type code u t w h)) fact in
+    let of : (u : CellType) → IsRestrictedCode code u → P u = λ u w. subst P (sym (listed_type code u t w h)) fact in
     record {
       decimal = λ n small e. of (DecimalPlaces n) (small, e);
       significant = λ n small e. of (SignificantFigures n) (small, e);

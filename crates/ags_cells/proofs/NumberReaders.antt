@@ -3,8 +3,8 @@ use Rattle.std.proofs.Common.{◌≡◌, ℕ, Bool, true, false, List, [], ◌++
 use Rattle.std.proofs.lemmas.Bool.Decides.{nat_tests}
 use Rattle.std.specs.Char.{is_ascii_digit}
 use Rattle.ags_cells.specs.Bytes.{decimal_point, colon, capital_e, small_e}
-use Rattle.ags_cells.specs.Parts.{◌⨾◌, Optional, Mark, Digits, DigitsOf, Sign, TwoDigits}
-use Rattle.ags_cells.specs.Numbers.{PlacesAfterPoint, Fraction, Exponent, Sixtieth}
+use Rattle.ags_cells.specs.Parts.{◌⨾◌, Optional, OneByteOf, Digits, DigitsOf, Sign, TwoDigits}
+use Rattle.ags_cells.specs.Numbers.{PlacesAfterPoint, Fraction, Exponent, MinutesOrSeconds}
 use Rattle.ags_cells.specs.Readers.{◌>>=◌, if_any, after_sign, after_digits, after_some_digits, after_fraction, after_places, after_exponent, after_sixtieth, after_decimal, after_moisture, after_significant, after_scientific, after_angle}
 use Rattle.ags_cells.proofs.Strips.{Strips, NotFirst, Nothing, is_sign, seq, sign}
 use Rattle.ags_cells.proofs.PartReaders.{Leads, Passes, leads_mark, leads_seq, passes_optional, leads_digits, is_digit_or_point, not_digit, digits, some_digits, fraction, places, exponent_byte, exponent, any, sixtieth}
@@ -13,15 +13,15 @@ not_sign : (c : ℕ) → is_ascii_digit c ≡ true → is_sign c ≡ false
 not_sign c d = grind (arith, nat_tests)
 
 leads_exponent : (p : ℕ → Bool) → p capital_e ≡ false → p small_e ≡ false → Leads p Exponent
-leads_exponent p e f = leads_seq p (Mark (codes "Ee")) _
+leads_exponent p e f = leads_seq p (OneByteOf (codes "Ee")) _
     (λ a r m. elim (exponent_byte m.0 m.1) [ inl x ↦ rw (m.2, x) e | inr x ↦ rw (m.2, x) f ])
 
 passes_fraction : (p : ℕ → Bool) → p decimal_point ≡ false → Passes p Fraction
-passes_fraction p e = passes_optional p _ (leads_seq p (Mark (codes ".")) Digits (leads_mark p decimal_point e))
+passes_fraction p e = passes_optional p _ (leads_seq p (OneByteOf (codes ".")) Digits (leads_mark p decimal_point e))
 
 passes_places : (p : ℕ → Bool) → p decimal_point ≡ false → (n : ℕ) → Passes p (PlacesAfterPoint n)
 passes_places p e n a r (inl x) stop = rw x.1 stop
-passes_places p e n a r (inr x) stop = leads_seq p (Mark (codes ".")) (DigitsOf n n) (leads_mark p decimal_point e) a r x.1
+passes_places p e n a r (inr x) stop = leads_seq p (OneByteOf (codes ".")) (DigitsOf n n) (leads_mark p decimal_point e) a r x.1
 
 -- digits come first, and no sign
 signless : (Q : List ℕ → Type 0) → Leads is_sign (Digits ⨾ Q)
@@ -71,10 +71,10 @@ scientific n = seq (λ t. Some (after_sign t)) (λ t. after_digits 1 1 t >>= (λ
     (λ a r q stop. passes_seq is_ascii_digit (PlacesAfterPoint n) Exponent (passes_places is_ascii_digit refl n) (λ b s w _. leads_exponent is_ascii_digit refl refl b s w) a r q stop))
     (λ a r q stop. signless_of 1 _ a r q)
 
-pub leads_sixtieth : (Q : List ℕ → Type 0) → Leads is_ascii_digit (Sixtieth ⨾ Q)
-leads_sixtieth Q = leads_seq is_ascii_digit Sixtieth Q (leads_seq is_ascii_digit (Mark (codes ":")) (TwoDigits 0 59) (leads_mark is_ascii_digit colon refl))
+pub leads_sixtieth : (Q : List ℕ → Type 0) → Leads is_ascii_digit (MinutesOrSeconds ⨾ Q)
+leads_sixtieth Q = leads_seq is_ascii_digit MinutesOrSeconds Q (leads_seq is_ascii_digit (OneByteOf (codes ":")) (TwoDigits 0 59) (leads_mark is_ascii_digit colon refl))
 
-pub angle : Strips after_angle (Optional Sign ⨾ DigitsOf 1 3 ⨾ Sixtieth ⨾ Sixtieth ⨾ Fraction) (NotFirst is_digit_or_point)
+pub angle : Strips after_angle (Optional Sign ⨾ DigitsOf 1 3 ⨾ MinutesOrSeconds ⨾ MinutesOrSeconds ⨾ Fraction) (NotFirst is_digit_or_point)
 unfolding after_angle
 angle = seq (λ t. Some (after_sign t)) (λ t. after_digits 1 3 t >>= (λ m. after_sixtieth m >>= (λ s. after_sixtieth s >>= after_fraction))) sign
     (seq (after_digits 1 3) (λ m. after_sixtieth m >>= (λ s. after_sixtieth s >>= after_fraction)) (digits 1 3)
@@ -84,5 +84,5 @@ angle = seq (λ t. Some (after_sign t)) (λ t. after_digits 1 3 t >>= (λ m. aft
     (λ a r q stop. leads_sixtieth _ a r q))
     (λ a r q stop. signless_of 3 _ a r q)
 
-pub leads_minutes : Leads is_ascii_digit Sixtieth
-leads_minutes = leads_seq is_ascii_digit (Mark (codes ":")) (TwoDigits 0 59) (leads_mark is_ascii_digit colon refl)
+pub leads_minutes : Leads is_ascii_digit MinutesOrSeconds
+leads_minutes = leads_seq is_ascii_digit (OneByteOf (codes ":")) (TwoDigits 0 59) (leads_mark is_ascii_digit colon refl)

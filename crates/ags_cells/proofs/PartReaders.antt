@@ -9,8 +9,8 @@ use Rattle.std.specs.List.{prefix_len}
 use Rattle.std.specs.Char.{is_ascii_digit, char_set_contains}
 use Rattle.std.specs.Str.{all_ascii_digits}
 use Rattle.ags_cells.specs.Bytes.{decimal_point, colon, capital_e, small_e, digit}
-use Rattle.ags_cells.specs.Parts.{◌⨾◌, Optional, Mark, Digits, DigitsOf, Sign, two_digits, TwoDigits}
-use Rattle.ags_cells.specs.Numbers.{PlacesAfterPoint, Fraction, Exponent, Sixtieth}
+use Rattle.ags_cells.specs.Parts.{◌⨾◌, Optional, OneByteOf, Digits, DigitsOf, Sign, two_digits, TwoDigits}
+use Rattle.ags_cells.specs.Numbers.{PlacesAfterPoint, Fraction, Exponent, MinutesOrSeconds}
 use Rattle.ags_cells.specs.Readers.{◌>>=◌, after_sign, after_mark, after_digits, after_some_digits, fraction_after, after_fraction, after_places, after_exponent_mark, after_exponent, if_any, read_two, after_two_digits, after_sixtieth}
 use Rattle.ags_cells.proofs.Strips.{Strips, NotFirst, Anything, Nothing, only, is_sign, is_digit_yes, is_digit_tells, seq, sign, mark}
 
@@ -21,7 +21,7 @@ Leads p P = (a r : List ℕ) → P a → NotFirst p (a ++ r)
 abbrev pub Passes : (ℕ → Bool) → (List ℕ → Type 0) → Type 0
 Passes p P = (a r : List ℕ) → P a → NotFirst p r → NotFirst p (a ++ r)
 
-pub leads_mark : (p : ℕ → Bool) (m : ℕ) → p m ≡ false → Leads p (Mark (m ∷ []))
+pub leads_mark : (p : ℕ → Bool) (m : ℕ) → p m ≡ false → Leads p (OneByteOf (m ∷ []))
 leads_mark p m fails a r (c, is, e) = rw (e, only m c is) fails
 
 pub leads_seq : (p : ℕ → Bool) (P Q : List ℕ → Type 0) → Leads p P → Leads p (P ⨾ Q)
@@ -152,7 +152,7 @@ exponent_bytes c (inr e) = rw e
 pub exponent_byte : (c : ℕ) → char_set_contains (codes "Ee") c ≡ true → (c ≡ capital_e) ⊎ (c ≡ small_e)
 exponent_byte c is = elim (eqb_tells c capital_e) [ inl y ↦ inl y.1 | inr n ↦ inr (grind (arith, nat_tests)) ]
 
-exponent_mark_sound : (t r : List ℕ) → after_exponent_mark t ≡ Some r → (a : List ℕ) × (t ≡ a ++ r) × Mark (codes "Ee") a
+exponent_mark_sound : (t r : List ℕ) → after_exponent_mark t ≡ Some r → (a : List ℕ) × (t ≡ a ++ r) × OneByteOf (codes "Ee") a
 unfolding after_exponent_mark
 exponent_mark_sound [] r e = cc
 exponent_mark_sound (c ∷ cs) r e = elim (eqb_tells c capital_e) [
@@ -163,11 +163,11 @@ exponent_mark_sound (c ∷ cs) r e = elim (eqb_tells c capital_e) [
   ]
 ]
 
-exponent_mark_complete : (a r : List ℕ) → Mark (codes "Ee") a → Anything r → after_exponent_mark (a ++ r) ≡ Some r
+exponent_mark_complete : (a r : List ℕ) → OneByteOf (codes "Ee") a → Anything r → after_exponent_mark (a ++ r) ≡ Some r
 unfolding after_exponent_mark
 exponent_mark_complete a r (c, is, e) stop = elim (exponent_byte c is) [ inl x ↦ rw (e, x) | inr x ↦ rw (e, x) ]
 
-exponent_mark : Strips after_exponent_mark (Mark (codes "Ee")) Anything
+exponent_mark : Strips after_exponent_mark (OneByteOf (codes "Ee")) Anything
 exponent_mark = record { sound = exponent_mark_sound; complete = exponent_mark_complete }
 
 -- a sign, if there is one, and 1 to 3 digits
@@ -256,6 +256,6 @@ number low high small = record {
   complete = number_complete low high small;
 }
 
-pub sixtieth : Strips after_sixtieth Sixtieth Anything
+pub sixtieth : Strips after_sixtieth MinutesOrSeconds Anything
 unfolding after_sixtieth
 sixtieth = seq (after_mark colon) (after_two_digits 0 59) (mark colon) (number 0 59 (omega arith)) (λ a r q stop. tt)

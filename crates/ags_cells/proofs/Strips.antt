@@ -4,7 +4,7 @@ use Rattle.std.proofs.lemmas.Bool.{false≢true}
 use Rattle.std.proofs.lemmas.Bool.Decides.{eqb_tells, nat_tests}
 use Rattle.std.specs.Char.{is_ascii_digit, char_set_contains}
 use Rattle.ags_cells.specs.Bytes.{plus_sign, hyphen, digit}
-use Rattle.ags_cells.specs.Parts.{◌⨾◌, Optional, Mark, Sign}
+use Rattle.ags_cells.specs.Parts.{◌⨾◌, Optional, OneByteOf, Sign}
 use Rattle.ags_cells.specs.Readers.{◌>>=◌, then_rest, is_empty, after_sign, after_mark}
 
 -- s takes a text of P off the front of a text, where what follows is of Stop
@@ -101,7 +101,7 @@ sign_done a r (inr (c, is, e)) stop = rw (e, signs_are c is)
 pub sign : Strips (λ t. Some (after_sign t)) (Optional Sign) (NotFirst is_sign)
 sign = record { sound = sign_step; complete = λ a r p stop. ap Some (sign_done a r p stop) }
 
-mark_sound : (m : ℕ) (t r : List ℕ) → after_mark m t ≡ Some r → (a : List ℕ) × (t ≡ a ++ r) × Mark (m ∷ []) a
+mark_sound : (m : ℕ) (t r : List ℕ) → after_mark m t ≡ Some r → (a : List ℕ) × (t ≡ a ++ r) × OneByteOf (m ∷ []) a
 unfolding after_mark
 mark_sound m [] r e = cc
 mark_sound m (c ∷ cs) r e = elim (eqb_tells c m) [
@@ -109,7 +109,7 @@ mark_sound m (c ∷ cs) r e = elim (eqb_tells c m) [
   | inr n ↦ let f : None ≡ Some r = rw n.0 at e in cc
 ]
 
-pub mark : (m : ℕ) → Strips (after_mark m) (Mark (m ∷ [])) Anything
+pub mark : (m : ℕ) → Strips (after_mark m) (OneByteOf (m ∷ [])) Anything
 unfolding after_mark
 mark m = record {
   sound = mark_sound m;

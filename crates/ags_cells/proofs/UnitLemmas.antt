@@ -3,11 +3,11 @@ use Rattle.std.proofs.Common.{◌≡◌, ◌≢◌, ℕ, ◌==◌, length, Bool,
 use Rattle.std.proofs.lemmas.Bool.Decides.{Decides-like, Decides-at}
 use Rattle.std.proofs.lemmas.Bool.{false≢true}
 use Rattle.std.specs.Str.{bytes_eq}
-use Rattle.ags_cells.specs.Parts.{◌⨾◌, Mark, DigitsOf, TwoDigits}
-use Rattle.ags_cells.specs.Numbers.{Sixtieth}
+use Rattle.ags_cells.specs.Parts.{◌⨾◌, OneByteOf, DigitsOf, TwoDigits}
+use Rattle.ags_cells.specs.Numbers.{MinutesOrSeconds}
 use Rattle.ags_cells.specs.Times.{CalendarDay, DayWith, FitsUnit}
 use Rattle.ags_cells.specs.Fits.{Fits, IsEntryOf}
-use Rattle.ags_cells.specs.TimeUnits.{IsListedUnit, IsUnitOf}
+use Rattle.ags_cells.specs.TimeUnits.{IsTimeUnit, IsUnitOf}
 use Rattle.ags_cells.specs.declared.time_unit.TimeUnit.{TimeUnit}
 use Rattle.ags_cells.specs.declared.time_unit.TimeUnit.TheVariants as Units
 use Rattle.ags_cells.specs.declared.cell_type.CellType.{CellType}
@@ -27,7 +27,7 @@ unit_of t =
     (cond (bytes_eq t (codes "yyyy-mm-ddThh:mm:ss")) Units.DaySeconds
     (cond (bytes_eq t (codes "hh:mm")) Units.Minutes Units.Seconds)))))
 
-named : (t : List ℕ) (u : TimeUnit) → IsListedUnit t u → unit_of t ≡ u
+named : (t : List ℕ) (u : TimeUnit) → IsTimeUnit t u → unit_of t ≡ u
 named t Units.Year e = rw e
 named t Units.Month e = rw e
 named t Units.Day e = rw e
@@ -37,7 +37,7 @@ named t Units.Minutes e = rw e
 named t Units.Seconds e = rw e
 named t Units.Other e = absurd e
 
-same_unit : (t : List ℕ) (u v : TimeUnit) → IsUnitOf t u → IsListedUnit t v → u ≡ v
+same_unit : (t : List ℕ) (u v : TimeUnit) → IsUnitOf t u → IsTimeUnit t v → u ≡ v
 same_unit t Units.Year v is h = sym (named t Units.Year is) ∙ named t v h
 same_unit t Units.Month v is h = sym (named t Units.Month is) ∙ named t v h
 same_unit t Units.Day v is h = sym (named t Units.Day is) ∙ named t v h
@@ -50,12 +50,12 @@ same_unit t Units.Other v is h = absurd (is v h)
 -- the texts of a unit
 abbrev pub IsUnderUnit : (H : List ℕ → Type 0) → TimeUnit → List ℕ → Type 0
 IsUnderUnit H Units.Year text = DigitsOf 4 4 text
-IsUnderUnit H Units.Month text = (DigitsOf 4 4 ⨾ Mark (codes "-") ⨾ TwoDigits 1 12) text
+IsUnderUnit H Units.Month text = (DigitsOf 4 4 ⨾ OneByteOf (codes "-") ⨾ TwoDigits 1 12) text
 IsUnderUnit H Units.Day text = CalendarDay text
-IsUnderUnit H Units.DayMinutes text = DayWith (TwoDigits 0 23 ⨾ Sixtieth) text
-IsUnderUnit H Units.DaySeconds text = DayWith (TwoDigits 0 23 ⨾ Sixtieth ⨾ Sixtieth) text
-IsUnderUnit H Units.Minutes text = (H ⨾ Sixtieth) text
-IsUnderUnit H Units.Seconds text = (H ⨾ Sixtieth ⨾ Sixtieth) text
+IsUnderUnit H Units.DayMinutes text = DayWith (TwoDigits 0 23 ⨾ MinutesOrSeconds) text
+IsUnderUnit H Units.DaySeconds text = DayWith (TwoDigits 0 23 ⨾ MinutesOrSeconds ⨾ MinutesOrSeconds) text
+IsUnderUnit H Units.Minutes text = (H ⨾ MinutesOrSeconds) text
+IsUnderUnit H Units.Seconds text = (H ⨾ MinutesOrSeconds ⨾ MinutesOrSeconds) text
 IsUnderUnit H Units.Other text = Unit {0}
 
 timed_from : (H : List ℕ → Type 0) (unit text : List ℕ) (u : TimeUnit) → IsUnitOf unit u → IsUnderUnit H u text → FitsUnit H unit text

@@ -11,4 +11,5 @@ OneType = (code : List ℕ) (one other : CellType) → IsTypeCodeOf code one →
 -- under a unit, what fits the type that a code is of is what fits the code
 abbrev pub FitsItsTypeCode : Type 0
 FitsItsTypeCode =
-    (code unit text : List ℕ) (cell_type : CellType) → IsTypeCodeOf code cell_type → Fits cell_type unit text ↔ FitsTypeCode code unit text
+    (code unit text : List ℕ) (cell_type : CellType) → IsTypeCodeOf code cell_type
+    → Fits cell_type unit text ↔ FitsTypeCode code unit text

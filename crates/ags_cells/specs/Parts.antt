@@ -14,12 +14,12 @@ abbrev pub Optional : (List ℕ → Type 0) → List ℕ → Type 0
 Optional P text = (text ≡ []) ⊎ P text
 
 -- one of those bytes, alone
-abbrev pub Mark : List ℕ → List ℕ → Type 0
-Mark bytes text = (byte : ℕ) × IsTrue (char_set_contains bytes byte) × (text ≡ byte ∷ [])
+abbrev pub OneByteOf : List ℕ → List ℕ → Type 0
+OneByteOf bytes text = (byte : ℕ) × IsTrue (char_set_contains bytes byte) × (text ≡ byte ∷ [])
 
 -- `+` or `-`
 abbrev pub Sign : List ℕ → Type 0
-Sign = Mark (codes "+-")
+Sign = OneByteOf (codes "+-")
 
 -- one digit or more
 abbrev pub Digits : List ℕ → Type 0

@@ -1,5 +1,5 @@
--- What each private reader leaves of a text. The contracts of the readers cite this file. The promise of `fits` does not: it is stated by
--- Fits.antt alone, and proofs/ shows that what the readers do is what it says.
+-- What each private reader leaves of a text. The contracts of the readers cite this file. The promise of `fits` does
+-- not: it is stated by Fits.antt alone, and proofs/ shows that what the readers do is what it says.
 use Rattle.std.specs.Prelude.{ℕ, ◌+◌, ◌-◌, ◌*◌, Bool, true, false, ◌&&◌, ◌||◌, ◌==◌, nat_le, if◌then◌else◌, List, [], ◌∷◌, length, Option, Some, None, drop, pos}
 use Rattle.std.specs.List.{prefix_len}
 use Rattle.std.specs.Char.{is_ascii_digit}

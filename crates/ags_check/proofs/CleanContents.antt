@@ -10,10 +10,10 @@ use Rattle.ags_rows.specs.Stands.{StandsInLines, StandsInOrder, StandsInGroups}
 use Rattle.ags_rows.proofs.Lemmas.{same_file, clear_first}
 use Rattle.ags_dict.specs.Entries.{Entries, extended}
 use Rattle.ags_check.specs.Findings.{Findings, dictionary_phases}
-use Rattle.ags_check.specs.HeaderPhase.{header_rules}
+use Rattle.ags_check.specs.Header.{StandsInDictionary}
 use Rattle.ags_check.specs.Keeping.{Keeps, KeepsRules}
 use Rattle.ags_check.specs.Laws.{ClearHeaders, ClearRows, CleanContents}
-use Rattle.ags_check.specs.RowPhase.{entry_rules}
+use Rattle.ags_check.specs.RowRules.{StandsInEntries}
 use Rattle.ags_check.proofs.Keeping.{headers_clear, rows_clear}
 use Rattle.ags_check.proofs.Kept.{headers_kept, rows_kept}
 use Rattle.ags_check.proofs.Whole.{groups_found}
@@ -32,8 +32,8 @@ last_phases file later h =
 
 phases_kept : (given entries : Entries) (groups : List Group) → FirstFound (dictionary_phases given entries groups) [] → Keeps given entries (contents_of groups)
 phases_kept given entries groups h =
-    let a = clear_first (OneOf (header_rules given entries groups)) (OneOf (entry_rules entries groups) ∷ []) h in
-    let b = clear_first (OneOf (entry_rules entries groups)) [] a.1 in
+    let a = clear_first (StandsInDictionary given entries groups) (StandsInEntries entries groups ∷ []) h in
+    let b = clear_first (StandsInEntries entries groups) [] a.1 in
     (headers_kept given entries groups a.0, rows_kept entries groups b.0)
 
 pub clean_keeps : (given : Entries) (bytes : List ℕ) (groups : List Group) → FileGroups bytes groups → Findings given bytes [] → KeepsRules given (contents_of groups)

@@ -1,21 +1,19 @@
 -- Going over the columns of a group, and what is noted of each.
-use Rattle.std.proofs.Common.{◌≡◌, ◌≢◌, ℕ, ◌+◌, ◌<◌, ◌≤◌, List, [], ◌∷◌, length, get_or, map, sym, ap, subst, ◌∙◌, arith}
-use Rattle.std.specs.Prelude.{option_map, codes}
+use Rattle.std.proofs.Common.{◌≡◌, ◌≢◌, ℕ, ◌+◌, ◌<◌, ◌≤◌, List, [], ◌∷◌, length, get_or, map, refl, sym, ap, subst, ◌∙◌, arith}
+use Rattle.std.specs.Prelude.{codes}
 use Rattle.std.proofs.lemmas.List.{length-map}
-use Rattle.std.proofs.lemmas.Option.{slice_get-map, slice_get-get_or}
 use Rattle.ags_rows.specs.declared.code.Code.TheVariants.{Rule8, Rule15, Rule16, Rule17}
 use Rattle.ags_rows.specs.declared.finding.Finding.{Finding}
 use Rattle.ags_rows.specs.Collecting.{At, Adds, Notes, AmongBefore, OneOf}
 use Rattle.ags_rows.specs.Contents.{Contents, group_contents, field_at, under}
 use Rattle.ags_rows.specs.declared.rows.Group.{Group}
-use Rattle.ags_rows.proofs.Lemmas.{among_more, among_all, one_more, two_rules}
+use Rattle.ags_rows.proofs.Lemmas.{at_from_read, at_map, among_more, among_all, one_more, two_rules}
 use Rattle.ags_dict.specs.Entries.{required_of}
 use Rattle.ags_check.specs.declared.rows.columns.Column.{Column}
 use Rattle.ags_check.specs.Columns.{IsColumn, AreColumns, Outlined, column_text}
 use Rattle.ags_cells.specs.Fits.{FitsTypeCode}
 use Rattle.ags_check.specs.Placing.{InSome}
-use Rattle.ags_check.specs.RowRules.{unit_over, type_over, IsUnlistedUnit, IsUnlistedType, IsUnlistedAbbreviation}
-use Rattle.ags_check.specs.RowPhase.{unit_and_type_rules, data_entry_rules}
+use Rattle.ags_check.specs.RowRules.{unit_over, type_over, IsUnlistedUnit, IsUnlistedType, IsUnlistedAbbreviation, unit_and_type_rules, data_entry_rules}
 
 -- the notes on an entry
 pub entry_noted : (file : List Contents) (line : ℕ) (h unit code text : List ℕ) (f0 f1 f2 f3 f4 : List Finding)
@@ -35,7 +33,7 @@ heading_of column = column.heading.now
 
 pub heading_at : (headings : List (List ℕ)) (columns : List Column) (i : ℕ) (d : Column) → map heading_of columns ≡ headings → i < length columns → At headings i (heading_of (get_or columns i d))
 heading_at headings columns i d heads lt =
-    subst (λ (l : List (List ℕ)). At l i (heading_of (get_or columns i d))) heads (slice_get-map heading_of columns i ∙ ap (option_map heading_of) (slice_get-get_or columns i d lt))
+    subst (λ (l : List (List ℕ)). At l i (heading_of (get_or columns i d))) heads (at_map heading_of columns i (get_or columns i d) (at_from_read columns i _ d lt refl))
 
 -- the columns that are read from an outline are those of its group's headings
 pub own_columns : (inside outline : Outlined) (columns kept : List Column) → inside ≡ outline → columns ≡ kept → AreColumns (group_contents inside.group) inside.group.headings kept

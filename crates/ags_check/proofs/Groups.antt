@@ -1,28 +1,16 @@
 -- The groups of a file and their names.
 use Rattle.std.proofs.Common.{◌≡◌, ℕ, Bool, true, false, not, Option, Some, None, List, map, refl, sym, ap, subst, ◌∙◌, inl, inr}
-use Rattle.std.specs.Prelude.{◌↔◌, IsTrue, Contains, is_some, option_map, slice_get}
+use Rattle.std.specs.Prelude.{◌↔◌, IsTrue, Contains, is_some}
 use Rattle.std.proofs.lemmas.Bool.{true≢false}
-use Rattle.std.proofs.lemmas.Option.{none-some, same_Some, slice_get-map}
+use Rattle.std.proofs.lemmas.Option.{same_Some}
 use Rattle.ags_rows.specs.declared.rows.Group.{Group}
 use Rattle.ags_rows.specs.Collecting.{At}
 use Rattle.ags_rows.specs.Contents.{Contents, group_contents, contents_of, place_in}
 use Rattle.ags_dict.specs.Entries.{Entries, parent_of}
 use Rattle.ags_check.specs.Header.{HasGroup, LacksParentGroup}
-use Rattle.ags_rows.proofs.Lemmas.{contains_at, at_contained}
+use Rattle.ags_rows.proofs.Lemmas.{at_map, at_mapped, contains_at, at_contained}
 use Rattle.ags_links.proofs.Lemmas.{placed, place_of}
 use Rattle.ags_check.proofs.HeaderRules.{has_place}
-
--- ---- places in a list, and in what is made of it
-
-some_mapped : {X Y : Type 0} (f : X → Y) (o : Option X) (y : Y) → option_map f o ≡ Some y → (x : X) × (o ≡ Some x) × (f x ≡ y)
-some_mapped f None y e = absurd (none-some y e)
-some_mapped f (Some x) y e = (x, refl, same_Some (f x) y e)
-
-pub map_at : {X Y : Type 0} (f : X → Y) (xs : List X) (k : ℕ) (y : Y) → At (map f xs) k y → (x : X) × At xs k x × (f x ≡ y)
-map_at f xs k y at = some_mapped f (slice_get xs k) y (sym (slice_get-map f xs k) ∙ at)
-
-pub at_map : {X Y : Type 0} (f : X → Y) (xs : List X) (k : ℕ) (x : X) → At xs k x → At (map f xs) k (f x)
-at_map f xs k x at = slice_get-map f xs k ∙ ap (option_map f) at
 
 -- ---- the names of groups
 
@@ -31,14 +19,14 @@ name_of group = group.name
 
 pub contains_name : (groups : List Group) (name : List ℕ) → Contains (map name_of groups) name → HasGroup (contents_of groups) name
 contains_name groups name h =
-    let there = map_at name_of groups h.0 name (at_contained (map name_of groups) name h) in
+    let there = at_mapped name_of groups h.0 name (at_contained (map name_of groups) name h) in
     (group_contents there.0, contains_at (contents_of groups) h.0 (group_contents there.0) (at_map group_contents groups h.0 there.0 there.1), there.2)
 
 pub name_contained : (groups : List Group) (name : List ℕ) → HasGroup (contents_of groups) name → Contains (map name_of groups) name
 name_contained groups name h =
-    let there = map_at group_contents groups h.1.0 h.0 (at_contained (contents_of groups) h.0 h.1) in
+    let there = at_mapped group_contents groups h.1.0 h.0 (at_contained (contents_of groups) h.0 h.1) in
     let same : there.0.name ≡ name = ap (λ (c : Contents). c.name) there.2 ∙ h.2 in
-    contains_at (map name_of groups) h.1.0 name (at_map name_of groups h.1.0 there.0 there.1 ∙ ap Some same)
+    contains_at (map name_of groups) h.1.0 name (subst (At (map name_of groups) h.1.0) same (at_map name_of groups h.1.0 there.0 there.1))
 
 is_some_true : (place : Option ℕ) → is_some place ≡ true → (i : ℕ) × (place ≡ Some i)
 is_some_true None e = absurd (true≢false (sym e))
@@ -72,3 +60,10 @@ lacks_parent entries file group parent b is means = (
       let same : rule.0 ≡ parent = same_Some rule.0 parent (sym rule.1 ∙ is) in
       not_there b (HasGroup file parent) means (λ h. rule.2 (subst (HasGroup file) (sym same) h)),
 )
+
+-- a group that does not fail to be there is there
+pub group_there : (groups : List Group) (name : List ℕ) → ¬ (¬ (HasGroup (contents_of groups) name)) → HasGroup (contents_of groups) name
+group_there groups name some = elim (place_of (place_in (map name_of groups) name)) [
+  | inl k ↦ (named groups name).0 (ap is_some k.1)
+  | inr none ↦ absurd (some (λ h. placed (map name_of groups) name (name_contained groups name h) none))
+]

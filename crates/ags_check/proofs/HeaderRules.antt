@@ -10,7 +10,7 @@ use Rattle.ags_rows.specs.Collecting.{At, Adds}
 use Rattle.ags_rows.specs.Contents.{place_in, group_contents}
 use Rattle.ags_dict.specs.Entries.{Entries, order_of}
 use Rattle.ags_links.proofs.Lemmas.{placed, place_of, at_place}
-use Rattle.ags_check.specs.Header.{IsOnlyIn, IsMisplaced, IsMisnamed}
+use Rattle.ags_check.specs.Header.{IsMisplaced, IsMisnamed}
 use Rattle.ags_check.specs.HeaderSteps.{IsOvertaken, IsMisnamedBy}
 use Rattle.ags_check.specs.Placing.{AtNames, AtHeading}
 use Rattle.ags_rows.proofs.Lemmas.{contains_at, at_contained}
@@ -29,14 +29,18 @@ unplaced names name absent = elim (place_of (place_in names name)) [
   | inr e ↦ e
 ]
 
+-- in this list, and not in that one
+abbrev pub OnlyIn : List (List ℕ) → List (List ℕ) → List ℕ → Type 0
+OnlyIn this that name = Contains this name × ¬ (Contains that name)
+
 -- ---- the rules
 
 pub unknown_rule : (entries : Entries) (group : Group) (code : Code) (names : List (List ℕ)) (old new : List Finding) → names ≡ group.headings
     → Adds (AtNames group.heading_line code names (λ _ name. place_in (order_of entries group.name) name ≡ None)) old new
-    → Adds (AtHeading code (IsOnlyIn group.headings (order_of entries group.name)) group) old new
+    → Adds (AtHeading code (OnlyIn group.headings (order_of entries group.name)) group) old new
 unknown_rule entries group code names old new same x =
     let order = order_of entries group.name in
-    at_heading names group code (λ _ name. place_in order name ≡ None) (IsOnlyIn group.headings (order_of entries group.name)) old new
+    at_heading names group code (λ _ name. place_in order name ≡ None) (OnlyIn group.headings (order_of entries group.name)) old new
     (λ place name at none. (subst (λ (l : List (List ℕ)). Contains l name) same (contains_at names place name at), λ h. placed order name h none))
     (λ name rule.
     let h = subst (λ (l : List (List ℕ)). Contains l name) (sym same) rule.0 in
@@ -61,9 +65,9 @@ misplaced_rule entries group code names old new same x =
 
 -- a heading of the list that is not in the row
 pub lacking_rule : (group : Group) (code : Code) (names listed : List (List ℕ)) (old new : List Finding) → names ≡ listed
-    → Adds (AtNames group.heading_line code names (λ _ name. place_in group.headings name ≡ None)) old new → Adds (AtHeading code (IsOnlyIn listed group.headings) group) old new
+    → Adds (AtNames group.heading_line code names (λ _ name. place_in group.headings name ≡ None)) old new → Adds (AtHeading code (OnlyIn listed group.headings) group) old new
 lacking_rule group code names listed old new same x =
-    at_heading names group code (λ _ name. place_in group.headings name ≡ None) (IsOnlyIn listed group.headings) old new
+    at_heading names group code (λ _ name. place_in group.headings name ≡ None) (OnlyIn listed group.headings) old new
     (λ place name at none. (subst (λ (l : List (List ℕ)). Contains l name) same (contains_at names place name at), λ h. placed group.headings name h none))
     (λ name rule.
     let h = subst (λ (l : List (List ℕ)). Contains l name) (sym same) rule.0 in

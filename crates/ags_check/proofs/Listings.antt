@@ -149,14 +149,14 @@ unlisted_pair file held separator heading text b has same means = (
       let h = means.0 e in
       let found = Any-from_list_any (λ part. not (has_pair held heading part)) (parts_at separator text) h.2 in
       let is_part = subst (λ (s : ℕ). Contains (parts_at s text) found.1) same (found.0, found.2, found.3) in
-      (found.1, h.0, λ k. true≢false (sym (is_pair_of file held heading text has k) ∙ h.1), is_part, λ k. not_true (has_pair held heading found.1) found.4 (is_pair_of file held heading found.1 has k)),
+      (h.0, λ k. true≢false (sym (is_pair_of file held heading text has k) ∙ h.1), (found.1, is_part, λ k. not_true (has_pair held heading found.1) found.4 (is_pair_of file held heading found.1 has k))),
   λ r.
-      let part = subst (λ (s : ℕ). Contains (parts_at s text) r.0) (sym same) r.3 in
+      let part = subst (λ (s : ℕ). Contains (parts_at s text) r.2.0) (sym same) r.2.1 in
       means.1 (
-        r.1,
-        false_from (has_pair held heading text) (λ e. r.2 (pair_is file held heading text has e)),
+        r.0,
+        false_from (has_pair held heading text) (λ e. r.1 (pair_is file held heading text has e)),
         list_any-from_Any (λ p. not (has_pair held heading p)) (parts_at separator text)
-            (part.0, r.0, part.1, part.2, true_not (has_pair held heading r.0) (λ e. r.4 (pair_is file held heading r.0 has e))),
+            (part.0, r.2.0, part.1, part.2, true_not (has_pair held heading r.2.0) (λ e. r.2.2 (pair_is file held heading r.2.0 has e))),
       ),
 )
 

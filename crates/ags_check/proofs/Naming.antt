@@ -1,17 +1,14 @@
 -- Going over a list of names, and what is noted of each.
 use Rattle.std.proofs.Common.{◌≡◌, ℕ, ◌+◌, ◌<◌, ◌≤◌, Bool, true, false, not, Option, Some, None, List, length, get_or, map, refl, sym, ap, subst, ◌∙◌, arith}
-use Rattle.std.specs.Prelude.{option_map, is_some}
+use Rattle.std.specs.Prelude.{is_some}
 use Rattle.std.specs.Borrow.{Bor}
 use Rattle.std.proofs.lemmas.Bool.{true≢false}
 use Rattle.std.proofs.lemmas.List.{length-map}
-use Rattle.std.proofs.lemmas.Option.{slice_get-get_or, slice_get-map}
 use Rattle.ags_rows.specs.declared.code.Code.{Code}
 use Rattle.ags_rows.specs.declared.finding.Finding.{Finding}
 use Rattle.ags_rows.specs.declared.rows.Group.{Group}
-use Rattle.ags_rows.specs.Collecting.{At, Adds}
-use Rattle.ags_rows.specs.Collecting.{Notes, AmongBefore}
-use Rattle.ags_rows.proofs.Lemmas.{at_within, at_read, at_from_read, adds_same, among_more, among_all}
-use Rattle.ags_links.specs.DataRows.{IsAt}
+use Rattle.ags_rows.specs.Collecting.{At, Adds, Notes, AmongBefore}
+use Rattle.ags_rows.proofs.Lemmas.{at_from_read, at_map, adds_same, among_more, among_all}
 use Rattle.ags_check.specs.Placing.{AtNames, AtHeading}
 
 abbrev pub texts : List (Bor (List ℕ)) → List (List ℕ)
@@ -22,7 +19,7 @@ abbrev pub NotesName : ℕ → Code → (ℕ → List ℕ → Type 0) → ℕ �
 NotesName line code Breaks place name found = Notes line code name (Breaks place name) found
 
 pub name_at : (names : List (Bor (List ℕ))) (i : ℕ) (d : Bor (List ℕ)) → i < length names → At (texts names) i (get_or names i d).now
-name_at names i d lt = slice_get-map (λ (k : Bor (List ℕ)). k.now) names i ∙ ap (option_map (λ (k : Bor (List ℕ)). k.now)) (slice_get-get_or names i d lt)
+name_at names i d lt = at_map (λ (k : Bor (List ℕ)). k.now) names i (get_or names i d) (at_from_read names i _ d lt refl)
 
 -- one name more
 pub names_more : (names : List (Bor (List ℕ))) (line : ℕ) (code : Code) (Breaks : ℕ → List ℕ → Type 0) (i : ℕ) (d : Bor (List ℕ)) (old mid new : List Finding)
@@ -47,12 +44,6 @@ is_none_from place true e n = refl
 is_none_from place false e n = absurd (true≢false (sym e ∙ ap is_some n))
 
 -- ---- from the names of a list to the HEADING row
-
-pub stands_at : {X : Type 0} (xs : List X) (k : ℕ) (x : X) → At xs k x → IsAt xs k x
-stands_at xs k x at = (at_within xs k x at, at_read xs k x x at)
-
-pub at_stands : {X : Type 0} (xs : List X) (k : ℕ) (x : X) → IsAt xs k x → At xs k x
-at_stands xs k x is = at_from_read xs k x x is.0 is.1
 
 -- what is noted of the names is the rule of the HEADING row
 pub at_heading : (names : List (List ℕ)) (group : Group) (code : Code) (Breaks : ℕ → List ℕ → Type 0) (Rule : List ℕ → Type 0) (old new : List Finding)

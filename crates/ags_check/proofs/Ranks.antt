@@ -1,10 +1,9 @@
 -- The latest place so far.
 use Rattle.std.proofs.Common.{◌≡◌, ℕ, ◌+◌, ◌≤◌, true, Option, Some, None, List, max, refl, sym, ap, subst, ◌∙◌, arith, inl, inr}
-use Rattle.std.specs.Prelude.{slice_get}
 use Rattle.std.proofs.lemmas.Bool.{true≢false, cases_lt, lt-ltb, ltb-true}
 use Rattle.std.proofs.lemmas.Option.{none-some, same_Some}
 use Rattle.ags_rows.specs.Collecting.{At}
-use Rattle.ags_rows.proofs.Lemmas.{before_or_at, some_same}
+use Rattle.ags_rows.proofs.Lemmas.{before_or_at, at_same}
 use Rattle.ags_rows.specs.Contents.{place_in}
 use Rattle.ags_check.specs.HeaderSteps.{later, is_behind, IsLatest, IsOvertaken}
 
@@ -13,7 +12,7 @@ latest_none rank names = λ place name lt at. absurd (omega (arith, lt))
 
 -- the name at the place is the last of those before the next
 here : (names : List (List ℕ)) (i place : ℕ) (name other : List ℕ) → At names i name → place ≡ i → At names place other → other ≡ name
-here names i place name other at e at_other = some_same other name (slice_get names i) (subst (λ (k : ℕ). At names k other) e at_other) at
+here names i place name other at e at_other = at_same names i other name (subst (λ (k : ℕ). At names k other) e at_other) at
 
 latest_next : (rank : List ℕ → Option ℕ) (names : List (List ℕ)) (i : ℕ) (name : List ℕ) (latest this : Option ℕ) → At names i name → rank name ≡ this
     → IsLatest rank names i latest → IsLatest rank names (i + 1) (later latest this)

@@ -7,46 +7,45 @@ use Rattle.ags_rows.specs.declared.code.Code.TheVariants.{Rule10a, Rule10b, Rule
 use Rattle.ags_rows.specs.declared.finding.Finding.{Finding}
 use Rattle.ags_rows.specs.declared.rows.Group.{Group}
 use Rattle.ags_rows.specs.declared.rows.Row.{Row}
-use Rattle.ags_rows.specs.Collecting.{Adds, Notes, OneOf}
+use Rattle.ags_rows.specs.Collecting.{At, Adds, Notes, OneOf}
 use Rattle.ags_rows.specs.Contents.{Contents, group_contents, fields_of}
 use Rattle.ags_rows.proofs.Lemmas.{one_more, three_rules}
 use Rattle.ags_dict.specs.Entries.{Entries, keys_of, parent_of, required_of}
-use Rattle.ags_links.specs.DataRows.{DataRow, IsDataRow, Between, row_in, entry_of, data_rows}
+use Rattle.ags_links.specs.DataRows.{DataRow, RowsRelate, row_in, entry_of, data_rows}
 use Rattle.ags_links.specs.Keys.{IsFirstOfKey, HasKeyOf}
 use Rattle.ags_links.specs.Parents.{IsParentRow}
-use Rattle.ags_check.specs.RowRules.{IsBrokenLink, RepeatsKey, LacksParentRow, IsUnlistedFileSet}
+use Rattle.ags_check.specs.RowRules.{IsBrokenLink, RepeatsKey, LacksParentRow, IsUnlistedFileSet, data_row_rules}
 use Rattle.ags_check.specs.Placing.{InSome}
-use Rattle.ags_check.specs.RowPhase.{data_row_rules}
 use Rattle.ags_check.proofs.EntryNotes.{entry_rules_in}
 use Rattle.ags_check.proofs.Listings.{not_true, true_not}
 
 -- one row has one number
-same_row : (rows : List DataRow) (n : ℕ) (r s : DataRow) → IsDataRow rows n r → IsDataRow rows n s → r ≡ s
+same_row : (rows : List DataRow) (n : ℕ) (r s : DataRow) → At rows n r → At rows n s → r ≡ s
 same_row rows n r s a b = sym a.1 ∙ get_or_default rows n r s a.0 ∙ b.1
 
 -- rows at one number are of one group
-pub same_group : (rows : List DataRow) (n : ℕ) (r s : DataRow) → IsDataRow rows n r → IsDataRow rows n s → r.group ≡ s.group
+pub same_group : (rows : List DataRow) (n : ℕ) (r s : DataRow) → At rows n r → At rows n s → r.group ≡ s.group
 same_group rows n r s a b = ap (λ (row : DataRow). row.group) (same_row rows n r s a b)
 
 -- the first row of the key stands before a row that repeats it
-pub repeats_means : (entries : Entries) (file : List Contents) (number first : ℕ) (row : DataRow) → keys_of entries row.group ≢ [] → IsDataRow (data_rows file) number row
+pub repeats_means : (entries : Entries) (file : List Contents) (number first : ℕ) (row : DataRow) → keys_of entries row.group ≢ [] → At (data_rows file) number row
     → IsFirstOfKey (data_rows file) entries number first → IsTrue (ltb first number) ↔ RepeatsKey entries file number row
 repeats_means entries file number first row keyed at is_first = (
   λ e. (
       let equal = subst (λ (r : DataRow). HasKeyOf entries r is_first.0.1) (same_row (data_rows file) number is_first.0.0 row is_first.0.2 at) is_first.0.4 in
-      (first, is_first.0.1, keyed, ltb-true first number e, is_first.0.3, equal)
+      (keyed, (first, is_first.0.1, ltb-true first number e, is_first.0.3, equal))
       ),
   λ rule.
-      let le = is_first.1 rule.0 (row, rule.1, at, rule.4, rule.5) in
-      lt-ltb first number (omega (arith, le, rule.3)),
+      let le = is_first.1 rule.1.0 (row, rule.1.1, at, rule.1.3, rule.1.4) in
+      lt-ltb first number (omega (arith, le, rule.1.2)),
 )
 
 some_there : {X : Type 0} (o : Option X) → is_some o ≡ true → (x : X) × (o ≡ Some x)
 some_there None e = absurd (true≢false (sym e))
 some_there (Some x) e = (x, refl)
 
-pub parent_means : (entries : Entries) (file : List Contents) (number : ℕ) (row : DataRow) (has : Bool) → is_some (parent_of entries row.group) ≡ true → IsDataRow (data_rows file) number row
-    → IsTrue has ↔ ((m : ℕ) × Between (data_rows file) (IsParentRow entries) number m) → IsTrue (not has) ↔ LacksParentRow entries file row
+pub parent_means : (entries : Entries) (file : List Contents) (number : ℕ) (row : DataRow) (has : Bool) → is_some (parent_of entries row.group) ≡ true → At (data_rows file) number row
+    → IsTrue has ↔ ((m : ℕ) × RowsRelate (data_rows file) (IsParentRow entries) number m) → IsTrue (not has) ↔ LacksParentRow entries file row
 parent_means entries file number row has parented at means = (
   λ e. (
       let parent = some_there (parent_of entries row.group) parented in
@@ -62,18 +61,19 @@ parent_means entries file number row has parented at means = (
 -- all that is noted of a row
 pub row_noted : (entries : Entries) (file : List Contents) (group : Group) (number : ℕ) (row : Row) (f0 f1 f2 f3 f4 f5 f6 : List Finding)
     → Adds (InSome group.headings (entry_rules_in file row.line (group_contents group) (fields_of row))) f0 f1
-    → Adds (InSome group.headings (λ heading. Notes row.line Rule11c heading (IsBrokenLink entries file (row_in (group_contents group) (fields_of row)) heading) ∷ [])) f1 f2
+    → Adds (Notes row.line Rule10a group.name (RepeatsKey entries file number (row_in (group_contents group) (fields_of row)))) f1 f2
     → Adds (InSome (required_of entries group.name) (λ heading. Notes row.line Rule10b heading (entry_of (row_in (group_contents group) (fields_of row)) heading ≡ []) ∷ [])) f2 f3
-    → Adds (Notes row.line Rule10a group.name (RepeatsKey entries file number (row_in (group_contents group) (fields_of row)))) f3 f4
-    → Adds (Notes row.line Rule10c group.name (LacksParentRow entries file (row_in (group_contents group) (fields_of row)))) f4 f5
+    → Adds (Notes row.line Rule10c group.name (LacksParentRow entries file (row_in (group_contents group) (fields_of row)))) f3 f4
+    → Adds (InSome group.headings (λ heading. Notes row.line Rule11c heading (IsBrokenLink entries file (row_in (group_contents group) (fields_of row)) heading) ∷ [])) f4 f5
     → Adds (Notes row.line Rule20 (codes "FILE_FSET") (IsUnlistedFileSet file (row_in (group_contents group) (fields_of row)))) f5 f6
     → Adds (OneOf (data_row_rules entries file group number row)) f0 f6
-row_noted entries file group number row f0 f1 f2 f3 f4 f5 f6 entry link need key parent set =
+row_noted entries file group number row f0 f1 f2 f3 f4 f5 f6 entry key need parent link set =
     let r : DataRow = row_in (group_contents group) (fields_of row) in
     let sets : List (Finding → Type 0) = Notes row.line Rule20 (codes "FILE_FSET") (IsUnlistedFileSet file r) ∷ [] in
-    let keys : List (Finding → Type 0) = Notes row.line Rule10a group.name (RepeatsKey entries file number r) ∷ Notes row.line Rule10c group.name (LacksParentRow entries file r) ∷ sets in
-    let required : List (Finding → Type 0) = InSome (required_of entries group.name) (λ heading. Notes row.line Rule10b heading (entry_of r heading ≡ []) ∷ []) ∷ keys in
-    let links : List (Finding → Type 0) = InSome group.headings (λ heading. Notes row.line Rule11c heading (IsBrokenLink entries file r heading) ∷ []) ∷ required in
-    one_more _ links f0 f1 f6 entry
-    (one_more _ required f1 f2 f6 link
-    (one_more _ keys f2 f3 f6 need (three_rules f3 f4 f5 f6 key parent set)))
+    let links : List (Finding → Type 0) = InSome group.headings (λ heading. Notes row.line Rule11c heading (IsBrokenLink entries file r heading) ∷ []) ∷ sets in
+    let parents : List (Finding → Type 0) = Notes row.line Rule10c group.name (LacksParentRow entries file r) ∷ links in
+    let required : List (Finding → Type 0) = InSome (required_of entries group.name) (λ heading. Notes row.line Rule10b heading (entry_of r heading ≡ []) ∷ []) ∷ parents in
+    let keys : List (Finding → Type 0) = Notes row.line Rule10a group.name (RepeatsKey entries file number r) ∷ required in
+    one_more _ keys f0 f1 f6 entry
+    (one_more _ required f1 f2 f6 key
+    (one_more _ parents f2 f3 f6 need (three_rules f3 f4 f5 f6 parent link set)))

@@ -14,11 +14,11 @@ use Rattle.ags_dict.specs.declared.entries.HeadingEntry.{HeadingEntry}
 use Rattle.ags_dict.specs.Entries.{Entries, extended}
 use Rattle.ags_check.specs.Findings.{dictionary_phases, IsClear, Findings, HasFindings, CheckedFile, IsClean, first_entries}
 use Rattle.ags_check.specs.declared.checking.CheckError.{CheckError}
-use Rattle.ags_check.specs.HeaderPhase.{header_rules}
-use Rattle.ags_check.specs.RowPhase.{entry_rules}
+use Rattle.ags_check.specs.Header.{StandsInDictionary}
+use Rattle.ags_check.specs.RowRules.{StandsInEntries}
 use Rattle.ags_links.specs.DataRows.{DataFile}
 use Rattle.ags_links.specs.Steps.{IsGraphOf}
-use Rattle.ags_links.specs.Walks.{Wiring}
+use Rattle.ags_links.specs.Walks.{StepGraph}
 use Rattle.ags_rows.specs.Collecting.{OneOf}
 
 -- where they break nothing, what the groups break is
@@ -30,19 +30,9 @@ groups_found given entries bytes groups found read same first =
     subst (λ (gs : List Group). FirstFound (dictionary_phases given (extended given (contents_of gs)) gs) found) (sym read.4) of_groups in
     (read.0, read.1, found_late (phases read.0) (dictionary_phases given (extended given (contents_of read.0.groups)) read.0.groups) found read.2 of_file)
 
--- where the headers break something, that is found
-pub headers_found : (given entries : Entries) (bytes : List ℕ) (groups : List Group) (found : List Finding) → FileGroups bytes groups → entries ≡ extended given (contents_of groups)
-    → AreExactly (OneOf (header_rules given entries groups)) found → found ≢ [] → Findings given bytes found
-headers_found given entries bytes groups found read same lists some = groups_found given entries bytes groups found read same (inl (lists, some))
-
--- where the headers break nothing, what the rows break is found
-pub entries_found : (given entries : Entries) (bytes : List ℕ) (groups : List Group) (found : List Finding) → FileGroups bytes groups → entries ≡ extended given (contents_of groups)
-    → IsClear (header_rules given entries groups) → AreExactly (OneOf (entry_rules entries groups)) found → found ≢ [] → Findings given bytes found
-entries_found given entries bytes groups found read same clear lists some = groups_found given entries bytes groups found read same (inr (clear, inl (lists, some)))
-
--- and where these break nothing either, the file is clean
-pub clean : (given entries : Entries) (bytes : List ℕ) (groups : List Group) (graph : Wiring) → FileGroups bytes groups → entries ≡ extended given (contents_of groups)
-    → IsClear (header_rules given entries groups) → IsClear (entry_rules entries groups) → IsGraphOf (record { contents = contents_of groups; entries = entries }) graph
+-- where neither the headers nor the rows break anything, the file is clean
+pub clean : (given entries : Entries) (bytes : List ℕ) (groups : List Group) (graph : StepGraph) → FileGroups bytes groups → entries ≡ extended given (contents_of groups)
+    → IsClear (StandsInDictionary given entries groups) → IsClear (StandsInEntries entries groups) → IsGraphOf (record { contents = contents_of groups; entries = entries }) graph
     → IsClean (record { given = given; bytes = bytes; groups = groups; entries = entries; graph = graph })
 clean given entries bytes groups graph read same clear clear_rows steps = record {
   groups = read;
@@ -78,12 +68,8 @@ clean_entries checked clean =
     let contents : contents_of checked.groups ≡ contents_of file.groups = ap (λ (f : DataFile). f.contents) file.same in
     ap (λ (f : DataFile). f.entries) file.same ∙ ap (extended checked.given) (sym contents)
 
-abbrev pub checked_file : List ℕ → List Group → Entries → Wiring → Entries → CheckedFile
+abbrev pub checked_file : List ℕ → List Group → Entries → StepGraph → Entries → CheckedFile
 checked_file bytes groups entries graph given = record { given = given; bytes = bytes; groups = groups; entries = entries; graph = graph }
-
--- a test of a list's length
-pub some_found : (found : List Finding) → false ≡ eqb (length found) 0 → found ≢ []
-some_found found e none = eqb-false (length found) 0 (sym e) (ap length none)
 
 -- ---- one list
 
@@ -95,15 +81,15 @@ one_list given bytes found others h k =
 
 -- ---- what one phase finds
 
-pub clear_where : {E : Type 0} (rules : List (Finding → Type 0)) (lists : Result (List Finding) E) → IfOk lists (AreExactly (OneOf rules)) → lists ≡ Ok [] → IsClear rules
-clear_where {E} rules lists are none = none_listed [] (subst (λ (l : Result (List Finding) E). IfOk l (AreExactly (OneOf rules))) none are) refl
+pub clear_where : {E : Type 0} (Stands : Finding → Type 0) (lists : Result (List Finding) E) → IfOk lists (AreExactly Stands) → lists ≡ Ok [] → IsClear Stands
+clear_where {E} Stands lists are none = none_listed [] (subst (λ (l : Result (List Finding) E). IfOk l (AreExactly Stands)) none are) refl
 
-pub clear_phase : {E T F : Type 0} (rules : List (Finding → Type 0)) (lists : Result (List Finding) E) (checked : Result T F) → IfOk lists (AreExactly (OneOf rules)) → OnOk checked (lists ≡ Ok [])
-    → OnOk checked (IsClear rules)
-clear_phase rules lists checked are clear = on_ok_weaker checked (clear_where rules lists are) clear
+pub clear_phase : {E T F : Type 0} (Stands : Finding → Type 0) (lists : Result (List Finding) E) (checked : Result T F) → IfOk lists (AreExactly Stands) → OnOk checked (lists ≡ Ok [])
+    → OnOk checked (IsClear Stands)
+clear_phase Stands lists checked are clear = on_ok_weaker checked (clear_where Stands lists are) clear
 
-pub found_phase : {E T : Type 0} (rules : List (Finding → Type 0)) (lists : Result (List Finding) E) (checked : Result T CheckError) → IfOk lists (AreExactly (OneOf rules))
-    → HasFindings checked (λ found. lists ≡ Ok found) → HasFindings checked (AreExactly (OneOf rules))
-found_phase {E} rules lists checked are has = λ found is.
+pub found_phase : {E T : Type 0} (Stands : Finding → Type 0) (lists : Result (List Finding) E) (checked : Result T CheckError) → IfOk lists (AreExactly Stands)
+    → HasFindings checked (λ found. lists ≡ Ok found) → HasFindings checked (AreExactly Stands)
+found_phase {E} Stands lists checked are has = λ found is.
     let these = has found is in
-    (subst (λ (l : Result (List Finding) E). IfOk l (AreExactly (OneOf rules))) these.0 are, these.1)
+    (subst (λ (l : Result (List Finding) E). IfOk l (AreExactly Stands)) these.0 are, these.1)

@@ -14,7 +14,8 @@ use Rattle.ags_links.specs.RecordLinks.{separators_of}
 
 -- what is read from each row of the groups of this name
 abbrev pub read_rows : {X : Type 0} → List ℕ → (List (List ℕ) → List (List ℕ) → X) → List Contents → List X
-read_rows name read file = flat_map (λ group. if bytes_eq group.name name then map (read group.headings) group.rows else []) file
+read_rows name read file =
+    flat_map (λ group. if bytes_eq group.name name then map (read group.headings) group.rows else []) file
 
 -- the texts under a heading in the groups of this name
 abbrev pub listed_texts : List Contents → List ℕ → List ℕ → List (List ℕ)
@@ -53,12 +54,14 @@ abbrev pub pair_texts : Bor (List ℕ) × Bor (List ℕ) → List ℕ × List �
 pair_texts pair = (pair.0.now, pair.1.now)
 
 -- the new pairs are the old ones, and then these
-abbrev pub AddsPairs : List (List ℕ × List ℕ) → List (Bor (List ℕ) × Bor (List ℕ)) → List (Bor (List ℕ) × Bor (List ℕ)) → Type 0
+abbrev pub AddsPairs : List (List ℕ × List ℕ) → List (Bor (List ℕ) × Bor (List ℕ)) → List (Bor (List ℕ) × Bor (List ℕ))
+    → Type 0
 AddsPairs more old new = map pair_texts new ≡ map pair_texts old ++ more
 
 -- whether the set has the pair of the heading and the text
 abbrev pub has_pair : PairSet → List ℕ → List ℕ → Bool
-has_pair held heading text = contains_by (λ pair. ordering_then (slice_cmp nat_cmp heading pair.0.now) (slice_cmp nat_cmp text pair.1.now)) held
+has_pair held heading text =
+    contains_by (λ pair. ordering_then (slice_cmp nat_cmp heading pair.0.now) (slice_cmp nat_cmp text pair.1.now)) held
 
 -- whether it is this pair
 abbrev pub is_pair : List ℕ → List ℕ → List ℕ × List ℕ → Bool
@@ -79,7 +82,8 @@ IsUnlistedPair held separator heading text =
 
 -- ---- all that is looked up
 
-pub record AreCodeLists (file : List Contents) (unit_texts type_texts : List (List ℕ)) (pair_set : PairSet) (separator : ℕ) : Type 0 where
+pub record AreCodeLists (file : List Contents) (unit_texts type_texts : List (List ℕ)) (pair_set : PairSet)
+    (separator : ℕ) : Type 0 where
   pub units : unit_texts ≡ listed_texts file (codes "UNIT") (codes "UNIT_UNIT")
   pub types : type_texts ≡ listed_texts file (codes "TYPE") (codes "TYPE_TYPE")
   pub pairs : HasPairs pair_set (abbreviations file)

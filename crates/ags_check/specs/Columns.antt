@@ -7,9 +7,8 @@ use Rattle.ags_rows.specs.Contents.{Contents, group_contents, place_in, field_at
 use Rattle.ags_text.specs.Names.{is_definition}
 use Rattle.ags_cells.specs.CellTypes.{IsTypeCodeOf}
 use Rattle.ags_dict.specs.Entries.{Entries, keys_of, required_of, parent_of}
-use Rattle.ags_links.specs.DataRows.{DataRow, IsDataRow}
-use Rattle.ags_check.specs.RowRules.{unit_over, type_over}
-use Rattle.ags_check.specs.RowPhase.{headed_row}
+use Rattle.ags_links.specs.DataRows.{DataRow}
+use Rattle.ags_check.specs.RowRules.{unit_over, type_over, headed_row}
 use Rattle.ags_check.specs.declared.rows.columns.Column.{Column}
 
 -- the type is that of the code
@@ -38,7 +37,8 @@ pub record Outlined : Type 0 where
   pub entries : Entries
 
 -- what the group and the entries say of the group's rows
-pub record IsOutline (group : Group) (entries : Entries) (own_columns required_columns : List Column) (set_place : Option ℕ) (keyed parented of_data : Bool) : Type 0 where
+pub record IsOutline (group : Group) (entries : Entries) (own_columns required_columns : List Column)
+    (set_place : Option ℕ) (keyed parented of_data : Bool) : Type 0 where
   pub columns : AreColumns (group_contents group) group.headings own_columns
   pub required : AreColumns (group_contents group) (required_of entries group.name) required_columns
   pub file_set : set_place ≡ place_in group.headings (codes "FILE_FSET")
@@ -48,4 +48,5 @@ pub record IsOutline (group : Group) (entries : Entries) (own_columns required_c
 
 -- the DATA rows of the group stand among these from number `first` on
 abbrev pub RowsStand : List DataRow → ℕ → Group → Type 0
-RowsStand rows first group = (place : ℕ) (row : Row) → At group.rows place row → IsDataRow rows (first + place) (headed_row group row)
+RowsStand rows first group =
+    (place : ℕ) (row : Row) → At group.rows place row → At rows (first + place) (headed_row group row)

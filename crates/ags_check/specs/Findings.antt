@@ -3,26 +3,26 @@ use Rattle.std.specs.Prelude.{◌≡◌, ◌≢◌, ℕ, List, [], ◌∷◌, �
 use Rattle.ags_rows.specs.declared.finding.Finding.{Finding}
 use Rattle.ags_rows.specs.declared.rows.Group.{Group}
 use Rattle.ags_rows.specs.Contents.{Contents, contents_of}
-use Rattle.ags_rows.specs.Collecting.{OneOf}
 use Rattle.ags_rows.specs.Findings.{FileParts, ArePartsOf, phases, FirstFound, FileGroups}
 use Rattle.ags_dict.specs.Entries.{Entries, extended}
 use Rattle.ags_links.specs.DataRows.{DataFile}
 use Rattle.ags_links.specs.Steps.{IsGraphOf}
-use Rattle.ags_links.specs.Walks.{Wiring}
+use Rattle.ags_links.specs.Walks.{StepGraph}
 use Rattle.ags_check.specs.declared.checking.CheckError.{CheckError}
 use Rattle.ags_check.specs.declared.checking.CheckError.TheVariants as errors
-use Rattle.ags_check.specs.HeaderPhase.{header_rules}
-use Rattle.ags_check.specs.RowPhase.{entry_rules}
+use Rattle.ags_check.specs.Header.{StandsInDictionary}
+use Rattle.ags_check.specs.RowRules.{StandsInEntries}
 
 -- The phases behind those of the rows: a file's groups, against the dictionary given and its extended entries.
 abbrev pub dictionary_phases : Entries → Entries → List Group → List (Finding → Type 0)
-dictionary_phases given entries groups = OneOf (header_rules given entries groups) ∷ OneOf (entry_rules entries groups) ∷ []
+dictionary_phases given entries groups = StandsInDictionary given entries groups ∷ StandsInEntries entries groups ∷ []
 
--- none of the rules is broken
-abbrev pub IsClear : List (Finding → Type 0) → Type 0
-IsClear rules = (found : Finding) → OneOf rules found → ⊥
+-- nothing stands in the phase
+abbrev pub IsClear : (Finding → Type 0) → Type 0
+IsClear Stands = (found : Finding) → ¬ (Stands found)
 
--- The findings of a file under a dictionary, which the file's own DICT extends: those of the first of all phases that has any.
+-- The findings of a file under a dictionary, which the file's own DICT extends: those of the first of all phases that
+-- has any.
 abbrev pub Findings : Entries → List ℕ → List Finding → Type 0
 Findings given bytes found = (file : FileParts) × ArePartsOf bytes file
     × FirstFound (phases file ++ dictionary_phases given (extended given (contents_of file.groups)) file.groups) found
@@ -43,13 +43,14 @@ pub record IsCleanFile (given : Entries) (bytes : List ℕ) (file : DataFile) : 
   pub same : file ≡ read_under given (contents_of groups)
   pub findings : Findings given bytes []
 
--- What is kept of a file that was checked: the entries given, its bytes, its groups, the entries of the extended dictionary, and its graph.
+-- What is kept of a file that was checked: the entries given, its bytes, its groups, the entries of the extended
+-- dictionary, and its graph.
 pub record CheckedFile : Type 0 where
   pub given : Entries
   pub bytes : List ℕ
   pub groups : List Group
   pub entries : Entries
-  pub graph : Wiring
+  pub graph : StepGraph
 
 -- the contents of its groups, under its entries
 abbrev pub file_of : CheckedFile → DataFile
@@ -63,4 +64,5 @@ pub record IsClean (checked : CheckedFile) : Type 0 where
 
 -- the first entries of a dictionary: so many for groups, and so many for headings
 abbrev pub first_entries : ℕ → ℕ → Entries → Entries
-first_entries groups headings entries = record { groups = take groups entries.groups; headings = take headings entries.headings }
+first_entries groups headings entries =
+    record { groups = take groups entries.groups; headings = take headings entries.headings }

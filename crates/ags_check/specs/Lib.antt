@@ -1,9 +1,7 @@
+pub mod Placing
 pub mod Header
 pub mod HeaderSteps
-pub mod Placing
-pub mod HeaderPhase
 pub mod RowRules
-pub mod RowPhase
 pub mod Columns
 pub mod RowSteps
 pub mod CodeLists

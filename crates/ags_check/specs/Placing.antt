@@ -3,16 +3,11 @@ use Rattle.std.specs.Prelude.{◌≡◌, ℕ, List}
 use Rattle.ags_rows.specs.declared.code.Code.{Code}
 use Rattle.ags_rows.specs.declared.finding.Finding.{Finding}
 use Rattle.ags_rows.specs.declared.rows.Group.{Group}
-use Rattle.ags_rows.specs.Contents.{Contents, group_contents, fields_of}
 use Rattle.ags_rows.specs.Collecting.{Notes, Among, OneOf}
 
 -- of the HEADING row; the subject is a heading
 abbrev pub AtHeading : Code → (List ℕ → Type 0) → Group → Finding → Type 0
 AtHeading code Breaks group found = Breaks found.subject × (found.line ≡ group.heading_line) × (found.code ≡ code)
-
--- of a DATA row, at its place in the group, with this subject
-abbrev pub AtRow : Code → List ℕ → (List ℕ → Contents → ℕ → List (List ℕ) → Type 0) → Group → Finding → Type 0
-AtRow code subject Breaks group found = Among group.rows (λ place row f. Notes row.line code subject (Breaks subject (group_contents group) place (fields_of row)) f) found
 
 -- of each name of a list at a line; the subject is the name
 abbrev pub AtNames : ℕ → Code → List (List ℕ) → (ℕ → List ℕ → Type 0) → Finding → Type 0

@@ -4,16 +4,15 @@ use Rattle.ags_rows.specs.declared.code.Code.TheVariants.{Rule10b, Rule11c, Rule
 use Rattle.ags_rows.specs.declared.finding.Finding.{Finding}
 use Rattle.ags_rows.specs.declared.rows.Group.{Group}
 use Rattle.ags_rows.specs.declared.rows.Row.{Row}
-use Rattle.ags_rows.specs.Collecting.{Notes, Among, OneOf}
+use Rattle.ags_rows.specs.Collecting.{At, Notes, Among, OneOf}
 use Rattle.ags_rows.specs.Contents.{Contents, group_contents, under}
 use Rattle.ags_text.specs.Names.{is_definition}
 use Rattle.ags_dict.specs.Entries.{Entries, required_of}
-use Rattle.ags_links.specs.DataRows.{DataFile, DataRow, IsDataRow, entry_of}
+use Rattle.ags_links.specs.DataRows.{DataFile, DataRow, entry_of}
 use Rattle.ags_links.specs.Indexing.{rows_in}
 use Rattle.ags_links.specs.RecordLinks.{separators_of, IsBroken}
 use Rattle.ags_check.specs.Placing.{InSome}
-use Rattle.ags_check.specs.RowRules.{unit_over, type_over, IsBrokenLink, IsUnlistedFileSet}
-use Rattle.ags_check.specs.RowPhase.{headed_row, unit_and_type_rules, data_entry_rules, data_row_rules, entry_rules_of}
+use Rattle.ags_check.specs.RowRules.{unit_over, type_over, IsBrokenLink, IsUnlistedFileSet, headed_row, unit_and_type_rules, row_entry_rules, data_row_rules, entry_rules_of}
 use Rattle.ags_check.specs.declared.rows.columns.Column.{Column}
 
 -- ---- the rules on a group and on a DATA row, one by one
@@ -24,18 +23,19 @@ InUnitsAndTypes file group = InSome group.headings (unit_and_type_rules file gro
 
 -- what the entries of a DATA row break, each under its heading
 abbrev pub InEntries : List Contents → Group → Row → Finding → Type 0
-InEntries file group row = let contents = group_contents group in let stands = headed_row group row in
-    InSome group.headings (λ heading. data_entry_rules file row.line heading (unit_over contents heading) (type_over contents heading) (entry_of stands heading))
+InEntries file group row = InSome group.headings (row_entry_rules file group row)
 
 -- Rule 11c: a record link of a DATA row is broken; the subject is its heading.
 abbrev pub InLinks : Entries → List Contents → Group → Row → Finding → Type 0
 InLinks entries file group row =
-    InSome group.headings (λ heading. Notes row.line Rule11c heading (IsBrokenLink entries file (headed_row group row) heading) ∷ [])
+    InSome group.headings (λ heading.
+    Notes row.line Rule11c heading (IsBrokenLink entries file (headed_row group row) heading) ∷ [])
 
 -- Rule 10b: a REQUIRED entry of a DATA row is null; the subject is its heading.
 abbrev pub InRequired : Entries → Group → Row → Finding → Type 0
 InRequired entries group row =
-    InSome (required_of entries group.name) (λ heading. Notes row.line Rule10b heading (entry_of (headed_row group row) heading ≡ []) ∷ [])
+    InSome (required_of entries group.name) (λ heading.
+    Notes row.line Rule10b heading (entry_of (headed_row group row) heading ≡ []) ∷ [])
 
 -- Rule 20: the file set of a DATA row is unlisted; the subject is FILE_FSET.
 abbrev pub InFileSet : List Contents → Group → Row → Finding → Type 0
@@ -59,14 +59,16 @@ InGroupRows file first group = OneOf (entry_rules_of file.entries file.contents 
 
 -- the answer says whether this holds of the row of this number
 abbrev pub SaysOfRow : DataFile → ℕ → (DataRow → Type 0) → Bool → Type 0
-SaysOfRow file number Holds answer = (row : DataRow) → IsDataRow (rows_in file) number row → IsTrue answer ↔ Holds row
+SaysOfRow file number Holds answer = (row : DataRow) → At (rows_in file) number row → IsTrue answer ↔ Holds row
 
--- the column is of type RL, the text is not null, and some part of the row's entry under the column's heading names no row
+-- the column is of type RL, the text is not null, and some part of the row's entry under the column's heading names no
+-- row
 abbrev pub HasBrokenLink : DataFile → Column → List ℕ → DataRow → Type 0
 HasBrokenLink file column text row = (column.code.now ≡ codes "RL") × (text ≢ [])
     × IsBroken file.entries (separators_of file.contents) (rows_in file) row column.heading.now
 
--- Rule 20: the group is a data group other than FILE, the FILE_FSET among the cells is not null, and there is no file for it
+-- Rule 20: the group is a data group other than FILE, the FILE_FSET among the cells is not null, and there is no file
+-- for it
 abbrev pub LacksFile : Group → List (List ℕ) → Bool → Type 0
 LacksFile group cells has_file = (is_definition group.name ≡ false) × (group.name ≢ codes "FILE")
     × ((under group.headings cells (codes "FILE_FSET") ≢ []) × (has_file ≡ false))

@@ -7,8 +7,8 @@ ghost use Rattle.ags_rows.specs.Findings.{AreExactly, FirstFound, RowFindings, F
 ghost use Rattle.ags_check.specs.declared.checking.CheckError.TheVariants.{NoMemory};
 ghost use Rattle.ags_links.specs.Steps.{IsGraphOf};
 ghost use Rattle.ags_check.specs.Findings.{IsClear, Findings, HasFindings, IsClean, dictionary_phases};
-ghost use Rattle.ags_check.specs.HeaderPhase.{header_rules};
-ghost use Rattle.ags_check.specs.RowPhase.{entry_rules};
+ghost use Rattle.ags_check.specs.Header.{StandsInDictionary};
+ghost use Rattle.ags_check.specs.RowRules.{StandsInEntries};
 
 use crate::checked::Checked;
 use crate::header::header_findings;
@@ -80,8 +80,8 @@ fn check_headers(
     extended: &Dictionary,
     scan: &Scan,
 ) -> Result<(), CheckError>
-    ensures clear { OnOk result (IsClear (header_rules given.now extended.now scan.now)) }
-    ensures findings { HasFindings result (AreExactly (OneOf (header_rules given.now extended.now scan.now))) }
+    ensures clear { OnOk result (IsClear (StandsInDictionary given.now extended.now scan.now)) }
+    ensures findings { HasFindings result (AreExactly (StandsInDictionary given.now extended.now scan.now)) }
 {
     phase(header_findings(alloc, given, extended, scan.groups()))
 }
@@ -96,8 +96,8 @@ fn check_indexed(
     requires contents { index.now.contents ≡ contents_of scan.now }
     requires entries { index.now.entries ≡ dictionary.now }
     ensures graph { IfOk result (IsGraphOf index.now) }
-    ensures clear { OnOk result (IsClear (entry_rules dictionary.now scan.now)) }
-    ensures findings { HasFindings result (AreExactly (OneOf (entry_rules dictionary.now scan.now))) }
+    ensures clear { OnOk result (IsClear (StandsInEntries dictionary.now scan.now)) }
+    ensures findings { HasFindings result (AreExactly (StandsInEntries dictionary.now scan.now)) }
 {
     if let Err(e) = phase(entry_findings(alloc, dictionary, index, scan.groups())) {
         return Err(e);
@@ -112,8 +112,8 @@ fn check_indexed(
 /// it: each would be proved anew, at length.
 fn check_rows(alloc: Global, dictionary: &Dictionary, scan: &Scan) -> Result<Graph, CheckError>
     ensures graph { IfOk result (IsGraphOf (record { contents = contents_of scan.now; entries = dictionary.now })) }
-    ensures clear { OnOk result (IsClear (entry_rules dictionary.now scan.now)) }
-    ensures findings { HasFindings result (AreExactly (OneOf (entry_rules dictionary.now scan.now))) }
+    ensures clear { OnOk result (IsClear (StandsInEntries dictionary.now scan.now)) }
+    ensures findings { HasFindings result (AreExactly (StandsInEntries dictionary.now scan.now)) }
 {
     let index = Index::build(alloc, scan, dictionary)?;
     check_indexed(alloc, dictionary, scan, &index)
@@ -127,8 +127,8 @@ fn check_groups(
     scan: &Scan,
 ) -> Result<Graph, CheckError>
     ensures graph { IfOk result (IsGraphOf (record { contents = contents_of scan.now; entries = extended.now })) }
-    ensures headers { OnOk result (IsClear (header_rules given.now extended.now scan.now)) }
-    ensures rows { OnOk result (IsClear (entry_rules extended.now scan.now)) }
+    ensures headers { OnOk result (IsClear (StandsInDictionary given.now extended.now scan.now)) }
+    ensures rows { OnOk result (IsClear (StandsInEntries extended.now scan.now)) }
     ensures findings { HasFindings result (FirstFound (dictionary_phases given.now extended.now scan.now)) }
 {
     if let Err(e) = check_headers(alloc, given, extended, scan) {
@@ -151,7 +151,7 @@ pub fn check<'a>(
 {
     // the groups are lent, so that few places hold what is proved of them
     let scan = read(alloc, bytes)?;
-    let extended = dictionary.extend(alloc, &scan)?;
+    let extended = dictionary.extend(&scan)?;
     let graph = check_groups(alloc, dictionary, &extended, &scan)?;
     Ok(Checked::of(dictionary, bytes, scan, extended, graph))
 }

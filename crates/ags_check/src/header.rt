@@ -5,8 +5,8 @@ ghost use Rattle.ags_rows.specs.Collecting.{Adds, OneOf};
 ghost use Rattle.ags_rows.specs.Contents.{contents_of};
 ghost use Rattle.ags_rows.specs.Findings.{AreExactly};
 ghost use Rattle.ags_check.specs.Placing.{InSome};
-ghost use Rattle.ags_check.specs.HeaderPhase.{heading_row_rules, only_row_rules, file_rules, header_rules};
-ghost use Rattle.ags_check.specs.HeaderSteps.{InKnownHeadingRow, header_rules_of};
+ghost use Rattle.ags_check.specs.Header.{heading_row_rules, file_rules, StandsInDictionary};
+ghost use Rattle.ags_check.specs.HeaderSteps.{InKnownHeadingRow, InOnlyRows, header_rules_of};
 
 pub(crate) mod groups;
 pub(crate) mod headings;
@@ -26,7 +26,6 @@ use std::alloc::{AllocError, Global};
 
 /// What the HEADING row of a group breaks: these are its headings, where the dictionary knows the group.
 fn note_headings(
-    alloc: Global,
     given: &Dictionary,
     extended: &Dictionary,
     code: Code,
@@ -41,10 +40,10 @@ fn note_headings(
     let name = group.name.as_slice();
     let line = group.heading_line;
     let headings = row.names();
-    note_unknown(extended, name, headings, line, code, findings)?;
     note_misplaced(extended, name, headings, line, findings)?;
-    note_absent_keys(alloc, extended, name, row, line, findings)?;
-    note_absent_required(alloc, extended, name, row, line, findings)?;
+    note_unknown(extended, name, headings, line, code, findings)?;
+    note_absent_keys(extended, name, row, line, findings)?;
+    note_absent_required(extended, name, row, line, findings)?;
     note_misnamed(given, extended, name, headings, line, findings)
 }
 
@@ -61,7 +60,7 @@ fn note_heading_row(
         findings.old findings.new) }
 {
     let row = Places::of_cells(alloc, group.headings.as_slice())?;
-    note_headings(alloc, given, extended, code, group, &row, findings)
+    note_headings(given, extended, code, group, &row, findings)
 }
 
 /// The same, where the dictionary has an entry for the group.
@@ -84,7 +83,7 @@ fn note_known_heading_row(
 
 /// What the DATA rows of PROJ and TRAN break.
 fn note_only_rows(group: &Group, findings: &mut NotedFindings) -> Result<(), AllocError>
-    ensures { OnOk result (Adds (OneOf (only_row_rules group.now)) findings.old findings.new) }
+    ensures { OnOk result (Adds (InOnlyRows group.now) findings.old findings.new) }
 {
     note_long_sign(group, Code::Rule11a, b"TRAN_DLIM", findings)?;
     note_long_sign(group, Code::Rule11b, b"TRAN_RCON", findings)?;
@@ -148,7 +147,7 @@ fn note_file(
     file: &NamedGroups,
     findings: &mut NotedFindings,
 ) -> Result<(), AllocError>
-    ensures { OnOk result (Adds (OneOf (header_rules given.now extended.now file.now)) findings.old findings.new) }
+    ensures { OnOk result (Adds (StandsInDictionary given.now extended.now file.now) findings.old findings.new) }
 {
     let code = unknown_code(file.groups());
     note_all_header_rows(alloc, given, extended, file, code, findings)?;
@@ -163,7 +162,7 @@ fn note_groups(
     groups: &[Group],
     findings: &mut NotedFindings,
 ) -> Result<(), AllocError>
-    ensures { OnOk result (Adds (OneOf (header_rules given.now extended.now groups.now)) findings.old findings.new) }
+    ensures { OnOk result (Adds (StandsInDictionary given.now extended.now groups.now) findings.old findings.new) }
 {
     let file = NamedGroups::of(alloc, groups)?;
     note_file(alloc, given, extended, &file, findings)
@@ -176,7 +175,7 @@ pub(crate) fn header_findings(
     extended: &Dictionary,
     groups: &[Group],
 ) -> Result<FindingList, AllocError>
-    ensures { IfOk result (AreExactly (OneOf (header_rules given.now extended.now groups.now))) }
+    ensures { IfOk result (AreExactly (StandsInDictionary given.now extended.now groups.now)) }
 {
     let mut findings = NotedFindings::new(alloc);
     note_groups(alloc, given, extended, groups, &mut findings)?;

@@ -2,12 +2,11 @@
 
 ghost use Rattle.std.specs.Prelude.{◌≡◌, ◌<◌, ◌+◌, ◌^◌, IfOk, OnOk, length};
 ghost use Rattle.ags_rows.specs.Findings.{AreExactly};
-ghost use Rattle.ags_rows.specs.Collecting.{Adds, OneOf};
+ghost use Rattle.ags_rows.specs.Collecting.{At, Adds, OneOf};
 ghost use Rattle.ags_rows.specs.Contents.{contents_of};
-ghost use Rattle.ags_links.specs.DataRows.{IsDataRow};
 ghost use Rattle.ags_links.specs.Indexing.{rows_in};
 ghost use Rattle.ags_check.specs.Columns.{RowsStand};
-ghost use Rattle.ags_check.specs.RowPhase.{headed_row, entry_rules};
+ghost use Rattle.ags_check.specs.RowRules.{headed_row, StandsInEntries};
 ghost use Rattle.ags_check.specs.RowSteps.{InDataRow, InDataRows, InGroupRows, InFileSet};
 
 pub(crate) mod abbreviations;
@@ -34,7 +33,7 @@ fn note_unlisted_file_set(
     number: u32,
     findings: &mut NotedFindings,
 ) -> Result<(), AllocError>
-    requires { IsDataRow (rows_in index.now) number (headed_row outline.now.group row.now) }
+    requires { At (rows_in index.now) number (headed_row outline.now.group row.now) }
     ensures { OnOk result (Adds (InFileSet index.now.contents outline.now.group row.now)
         findings.old findings.new) }
 {
@@ -54,7 +53,7 @@ fn note_data_row<'a>(
     number: u32,
     findings: &mut NotedFindings,
 ) -> Result<(), AllocError>
-    requires row { IsDataRow (rows_in index.now) number (headed_row outline.now.group row.now) }
+    requires row { At (rows_in index.now) number (headed_row outline.now.group row.now) }
     requires listed { listed.now ≡ index.now.contents }
     requires entries { outline.now.entries ≡ index.now.entries }
     ensures { OnOk result (Adds (InDataRow index.now outline.now.group number row.now)
@@ -62,14 +61,14 @@ fn note_data_row<'a>(
 {
     let name = outline.name();
     note_entries(listed, outline, row, findings)?;
-    note_links(index, outline, row, number, findings)?;
-    note_lacking(outline, row, findings)?;
-    if outline.repeats_key(index, number)? {
+    if outline.repeats_key(index, number) {
         findings.note(row.line, Code::Rule10a, name)?;
     }
-    if outline.lacks_parent(index, number)? {
+    note_lacking(outline, row, findings)?;
+    if outline.lacks_parent(index, number) {
         findings.note(row.line, Code::Rule10c, name)?;
     }
+    note_links(index, outline, row, number, findings)?;
     note_unlisted_file_set(index, outline, row, number, findings)
 }
 
@@ -128,7 +127,7 @@ fn note_groups<'a>(
     requires entries { dictionary.now ≡ index.now.entries }
     requires listed { listed.now ≡ index.now.contents }
     requires few { length (rows_in index.now) < 2 ^ 32 }
-    ensures { OnOk result (Adds (OneOf (entry_rules dictionary.now groups.now)) findings.old findings.new) }
+    ensures { OnOk result (Adds (StandsInEntries dictionary.now groups.now) findings.old findings.new) }
 {
     let mut first = 0;
     for group in groups {
@@ -150,7 +149,7 @@ fn note_all_entries<'a>(
     requires contents { index.now.contents ≡ contents_of groups.now }
     requires entries { dictionary.now ≡ index.now.entries }
     requires few { length (rows_in index.now) < 2 ^ 32 }
-    ensures { OnOk result (Adds (OneOf (entry_rules dictionary.now groups.now)) findings.old findings.new) }
+    ensures { OnOk result (Adds (StandsInEntries dictionary.now groups.now) findings.old findings.new) }
 {
     let listed = CodeLists::of(alloc, groups)?;
     note_groups(alloc, dictionary, index, &listed, groups, findings)
@@ -165,7 +164,7 @@ pub(crate) fn entry_findings<'a>(
 ) -> Result<FindingList, AllocError>
     requires contents { index.now.contents ≡ contents_of groups.now }
     requires entries { dictionary.now ≡ index.now.entries }
-    ensures { IfOk result (AreExactly (OneOf (entry_rules dictionary.now groups.now))) }
+    ensures { IfOk result (AreExactly (StandsInEntries dictionary.now groups.now)) }
 {
     let mut findings = NotedFindings::new(alloc);
     // the index counts its rows with a number below 2^32, so each has its own

@@ -5,7 +5,7 @@ use Rattle.std.specs.List.{filter, find, list_any, list_all}
 use Rattle.std.specs.Option.{option_and_then}
 use Rattle.std.specs.Str.{bytes_eq}
 use Rattle.ags_rows.specs.Contents.{Contents, under}
-use Rattle.ags_text.specs.Bytes.{plus}
+use Rattle.ags_text.specs.Bytes.{plus_sign}
 use Rattle.ags_rows.specs.Parts.{has_part}
 use Rattle.ags_dict.specs.declared.entries.GroupEntry.{GroupEntry}
 use Rattle.ags_dict.specs.declared.entries.HeadingEntry.{HeadingEntry}
@@ -19,13 +19,23 @@ pub record Entries : Type 0 where
 
 -- a row of DICT_TYPE `GROUP` makes an entry for a group, with its parent
 abbrev pub group_entries : List (List ℕ) → List (List ℕ) → List GroupEntry
-group_entries headings fields = let entry = under headings fields in if bytes_eq (entry (codes "DICT_TYPE")) (codes "GROUP")
-    then record { group = entry (codes "DICT_GRP"); parent = entry (codes "DICT_PGRP") } ∷ [] else []
+group_entries headings fields =
+    let entry = under headings fields in
+    if bytes_eq (entry (codes "DICT_TYPE")) (codes "GROUP")
+    then record { group = entry (codes "DICT_GRP"); parent = entry (codes "DICT_PGRP") } ∷ []
+    else []
 
 -- a row of DICT_TYPE `HEADING` makes an entry for a heading of a group, with its status
 abbrev pub heading_entries : List (List ℕ) → List (List ℕ) → List HeadingEntry
-heading_entries headings fields = let entry = under headings fields in if bytes_eq (entry (codes "DICT_TYPE")) (codes "HEADING")
-    then record { group = entry (codes "DICT_GRP"); heading = entry (codes "DICT_HDNG"); status = entry (codes "DICT_STAT") } ∷ [] else []
+heading_entries headings fields =
+    let entry = under headings fields in
+    if bytes_eq (entry (codes "DICT_TYPE")) (codes "HEADING")
+    then record {
+      group = entry (codes "DICT_GRP");
+      heading = entry (codes "DICT_HDNG");
+      status = entry (codes "DICT_STAT");
+    } ∷ []
+    else []
 
 abbrev pub is_dict : Contents → Bool
 is_dict group = bytes_eq group.name (codes "DICT")
@@ -44,32 +54,34 @@ same_group new old = bytes_eq old.group new.group
 abbrev pub same_heading : HeadingEntry → HeadingEntry → Bool
 same_heading new old = bytes_eq old.group new.group && bytes_eq old.heading new.heading
 
--- the entries that restate none before them
-abbrev pub unstated : {X : Type 0} → (X → X → Bool) → List X → List X → List X
-unstated same before [] = []
-unstated same before (x ∷ xs) = if list_any (same x) before then unstated same before xs else x ∷ unstated same (before ++ x ∷ []) xs
+-- of each entry that is the same as none before, the first
+abbrev pub first_of_each : {X : Type 0} → (X → X → Bool) → List X → List X → List X
+first_of_each same before [] = []
+first_of_each same before (x ∷ xs) =
+    if list_any (same x) before then first_of_each same before xs else x ∷ first_of_each same (before ++ x ∷ []) xs
 
--- a list of entries, then the new ones that restate none, in their order
-abbrev pub with_unstated : {X : Type 0} → (X → X → Bool) → List X → List X → List X
-with_unstated same old new = old ++ unstated same old new
+-- the old entries, then the first of each new one
+abbrev pub with_new : {X : Type 0} → (X → X → Bool) → List X → List X → List X
+with_new same old new = old ++ first_of_each same old new
 
--- the new dictionary has the old entries for groups, then those of the list that restate none, in their order
+-- the new dictionary has the old entries for groups, then the first of each new one of the list
 abbrev pub AddsNewGroups : List GroupEntry → Entries → Entries → Type 0
-AddsNewGroups entries old new = new.groups ≡ with_unstated same_group old.groups entries
+AddsNewGroups entries old new = new.groups ≡ with_new same_group old.groups entries
 
 -- the same of the entries for headings of groups
 abbrev pub AddsNewHeadings : List HeadingEntry → Entries → Entries → Type 0
-AddsNewHeadings entries old new = new.headings ≡ with_unstated same_heading old.headings entries
+AddsNewHeadings entries old new = new.headings ≡ with_new same_heading old.headings entries
 
 -- the extended dictionary: entries, then the new ones of a file's own DICT
 abbrev pub extended : Entries → List Contents → Entries
-extended standard contents =
-    let groups = flat_map group_entries_in contents in let headings = flat_map heading_entries_in contents in
-    record { groups = with_unstated same_group standard.groups groups; headings = with_unstated same_heading standard.headings headings }
+extended given contents = record {
+  groups = with_new same_group given.groups (flat_map group_entries_in contents);
+  headings = with_new same_heading given.headings (flat_map heading_entries_in contents);
+}
 
 -- the entries of the dictionary that a file is: those of its DICT alone
-abbrev pub standard_entries : List Contents → Entries
-standard_entries contents = extended (record { groups = []; headings = [] }) contents
+abbrev pub entries_of_file : List Contents → Entries
+entries_of_file contents = extended (record { groups = []; headings = [] }) contents
 
 -- ---- what a dictionary has to have
 
@@ -99,7 +111,8 @@ order_of entries group = map (λ e. e.heading) (filter (λ e. bytes_eq e.group g
 
 -- the group's headings whose status, cut at `+`, has this word, in the order of the dictionary
 abbrev pub of_status : Entries → List ℕ → List ℕ → List (List ℕ)
-of_status entries group word = map (λ e. e.heading) (filter (λ e. bytes_eq e.group group && has_part plus word e.status) entries.headings)
+of_status entries group word =
+    map (λ e. e.heading) (filter (λ e. bytes_eq e.group group && has_part plus_sign word e.status) entries.headings)
 
 -- Rule 10a: the group's KEY headings, in that order
 abbrev pub keys_of : Entries → List ℕ → List (List ℕ)
@@ -115,13 +128,22 @@ has_group entries group = list_any (λ e. bytes_eq e.group group) entries.groups
 
 -- Rule 19b: another group has a heading of this name
 abbrev pub elsewhere : Entries → List ℕ → List ℕ → Bool
-elsewhere entries group heading = list_any (λ e. bytes_eq e.heading heading && not (bytes_eq e.group group)) entries.headings
+elsewhere entries group heading =
+    list_any (λ e. bytes_eq e.heading heading && not (bytes_eq e.group group)) entries.headings
 
 -- the groups that have no parent, whatever their entries say
 abbrev pub has_no_parent : List ℕ → Bool
-has_no_parent group = list_any (bytes_eq group) (codes "PROJ" ∷ codes "TRAN" ∷ codes "ABBR" ∷ codes "DICT" ∷ codes "UNIT" ∷ codes "TYPE" ∷ codes "FILE" ∷ [])
+has_no_parent group =
+    list_any (bytes_eq group)
+    (codes "PROJ" ∷ codes "TRAN" ∷ codes "ABBR" ∷ codes "DICT" ∷ codes "UNIT" ∷ codes "TYPE" ∷ codes "FILE" ∷ [])
 
--- Rule 10c: the parent that the group's entry names: none where that is null or `-`, where there is no entry, and for the groups above
+-- the parent that an entry names: none where it is null or `-`
+abbrev pub parent_in : GroupEntry → Option (List ℕ)
+parent_in entry = if list_any (bytes_eq entry.parent) ([] ∷ codes "-" ∷ []) then None else Some entry.parent
+
+-- Rule 10c: the parent that the group's entry names: none where there is no entry, and for the groups above
 abbrev pub parent_of : Entries → List ℕ → Option (List ℕ)
-parent_of entries group = if has_no_parent group then None else option_and_then
-    (λ e. if list_any (bytes_eq e.parent) ([] ∷ codes "-" ∷ []) then None else Some e.parent) (find (λ e. bytes_eq e.group group) entries.groups)
+parent_of entries group =
+    if has_no_parent group
+    then None
+    else option_and_then parent_in (find (λ e. bytes_eq e.group group) entries.groups)

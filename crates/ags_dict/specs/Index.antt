@@ -66,8 +66,11 @@ is_of_other entries group place = option_map_or (λ e. not (of_group group e)) (
 abbrev pub FindsGroups : List GroupEntry → PlacesByText → Type 0
 FindsGroups entries by_name = (group : List ℕ) → ArePlaces (is_for group) entries (places_at by_name group)
 
--- a group's entries are found by its name, those of a heading by its, and a heading's place in the order of its group by both
-pub record FindsHeadings (entries : List HeadingEntry) (by_group by_heading : PlacesByText) (ranks : Ranks) : Type 0 where
+-- a group's entries are found by its name, those of a heading by its, and a heading's place in the order of its group
+-- by both
+pub record FindsHeadings (entries : List HeadingEntry) (by_group by_heading : PlacesByText) (ranks : Ranks)
+    : Type 0 where
   pub groups : (group : List ℕ) → ArePlaces (of_group group) entries (places_at by_group group)
   pub headings : (heading : List ℕ) → ArePlaces (is_named heading) entries (places_at by_heading heading)
-  pub orders : (group heading : List ℕ) → rank_at ranks group heading ≡ place_in (map (λ e. e.heading) (filter (of_group group) entries)) heading
+  pub orders : (group heading : List ℕ) → rank_at ranks group heading
+      ≡ place_in (map (λ e. e.heading) (filter (of_group group) entries)) heading

@@ -5,7 +5,7 @@ use Rattle.ags_rows.specs.Contents.{Contents, contents_of}
 use Rattle.ags_rows.specs.Findings.{LooseGroups, LooseFindings}
 use Rattle.ags_dict.specs.declared.reading.DictError.{DictError}
 use Rattle.ags_dict.specs.declared.reading.DictError.TheVariants.{NotDictionary, NoDict, MissingHeading, NoMemory}
-use Rattle.ags_dict.specs.Entries.{Entries, has_dict, lacks_heading, standard_entries}
+use Rattle.ags_dict.specs.Entries.{Entries, has_dict, lacks_heading, entries_of_file}
 
 -- The bytes are a file of these contents. Bytes beyond ASCII and lines that end in LF alone are taken.
 abbrev pub HasContents : List ℕ → List Contents → Type 0
@@ -17,12 +17,15 @@ LacksDict bytes = (contents : List Contents) × HasContents bytes contents × (h
 
 -- DICT lacks a heading that makes entries.
 abbrev pub LacksHeading : List ℕ → Type 0
-LacksHeading bytes = (contents : List Contents) × HasContents bytes contents × (has_dict contents ≡ true) × (lacks_heading contents ≡ true)
+LacksHeading bytes =
+    (contents : List Contents) × HasContents bytes contents × (has_dict contents ≡ true)
+    × (lacks_heading contents ≡ true)
 
 -- The bytes are the dictionary of these entries.
 abbrev pub IsDictionary : List ℕ → Entries → Type 0
 IsDictionary bytes entries =
-    (contents : List Contents) × HasContents bytes contents × (has_dict contents ≡ true) × (lacks_heading contents ≡ false) × (entries ≡ standard_entries contents)
+    (contents : List Contents) × HasContents bytes contents × (has_dict contents ≡ true)
+    × (lacks_heading contents ≡ false) × (entries ≡ entries_of_file contents)
 
 -- What reading a dictionary gives: its entries, or the first refusal that holds.
 abbrev pub ReadsDictionary : List ℕ → Result Entries DictError → Type 0

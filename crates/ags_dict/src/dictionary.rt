@@ -14,6 +14,7 @@ use std::marker::Model;
 ///
 /// It keeps nothing of the bytes that it was read from.
 pub struct Dictionary {
+    pub(crate) alloc: Global,
     pub(crate) groups: GroupEntries,
     pub(crate) headings: HeadingEntries,
 }
@@ -22,6 +23,7 @@ pub struct Dictionary {
 impl Drop for Dictionary {
     fn drop(self) {
         let Dictionary {
+            alloc: _,
             groups: _,
             headings: _,
         } = self;
@@ -54,6 +56,7 @@ impl Dictionary {
         ensures { result ≡ record { groups = []; headings = [] } }
     {
         Dictionary {
+            alloc,
             groups: GroupEntries::new(alloc),
             headings: HeadingEntries::new(alloc),
         }
@@ -64,17 +67,22 @@ impl Dictionary {
         ensures groups { result.0 ≡ self.groups }
         ensures headings { result.1 ≡ self.headings }
     {
-        let Dictionary { groups, headings } = self;
+        let Dictionary {
+            alloc: _,
+            groups,
+            headings,
+        } = self;
         (groups, headings)
     }
 
     /// The same entries.
-    pub(crate) fn copied(&self, alloc: Global) -> Result<Dictionary, AllocError>
+    pub(crate) fn copied(&self) -> Result<Dictionary, AllocError>
         ensures { IfOk result (λ copied. copied ≡ self.now) }
     {
         Ok(Dictionary {
-            groups: self.groups.copied(alloc)?,
-            headings: self.headings.copied(alloc)?,
+            alloc: self.alloc,
+            groups: self.groups.copied(self.alloc)?,
+            headings: self.headings.copied(self.alloc)?,
         })
     }
 
@@ -93,11 +101,11 @@ impl Dictionary {
     }
 
     /// The group's headings in the order of the dictionary (Rule 7).
-    pub fn order(&self, alloc: Global, group: &[u8]) -> Result<Vec<&[u8]>, AllocError>
+    pub fn order(&self, group: &[u8]) -> Result<Vec<&[u8]>, AllocError>
         ensures { IfOk result (λ order. map (λ h. h.now) order.items ≡ order_of self.now group.now) }
     {
-        let entries = self.headings.of_group(alloc, group)?;
-        let mut order = Vec::new(alloc);
+        let entries = self.headings.of_group(self.alloc, group)?;
+        let mut order = Vec::new(self.alloc);
         for entry in entries.iter() {
             order.push(entry.heading.as_slice())?;
         }
@@ -105,11 +113,11 @@ impl Dictionary {
     }
 
     /// The group's headings whose status has a word, in the order of the dictionary.
-    fn of_status(&self, alloc: Global, group: &[u8], word: &[u8]) -> Result<Vec<&[u8]>, AllocError>
+    fn of_status(&self, group: &[u8], word: &[u8]) -> Result<Vec<&[u8]>, AllocError>
         ensures { IfOk result (λ found. map (λ h. h.now) found.items ≡ of_status self.now group.now word.now) }
     {
-        let entries = self.headings.of_group(alloc, group)?;
-        let mut found = Vec::new(alloc);
+        let entries = self.headings.of_group(self.alloc, group)?;
+        let mut found = Vec::new(self.alloc);
         for entry in entries.iter() {
             if has_part(entry.status.as_slice(), b'+', word) {
                 found.push(entry.heading.as_slice())?;
@@ -119,17 +127,17 @@ impl Dictionary {
     }
 
     /// The group's KEY headings in the order of the dictionary (Rule 10a).
-    pub fn keys(&self, alloc: Global, group: &[u8]) -> Result<Vec<&[u8]>, AllocError>
+    pub fn keys(&self, group: &[u8]) -> Result<Vec<&[u8]>, AllocError>
         ensures { IfOk result (λ keys. map (λ h. h.now) keys.items ≡ keys_of self.now group.now) }
     {
-        self.of_status(alloc, group, b"KEY")
+        self.of_status(group, b"KEY")
     }
 
     /// The group's REQUIRED headings in the order of the dictionary (Rule 10b).
-    pub fn required(&self, alloc: Global, group: &[u8]) -> Result<Vec<&[u8]>, AllocError>
+    pub fn required(&self, group: &[u8]) -> Result<Vec<&[u8]>, AllocError>
         ensures { IfOk result (λ required. map (λ h. h.now) required.items ≡ required_of self.now group.now) }
     {
-        self.of_status(alloc, group, b"REQUIRED")
+        self.of_status(group, b"REQUIRED")
     }
 
     /// The place of a heading in its group's order, counted from 0 (Rules 7 and 9).

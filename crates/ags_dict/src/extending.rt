@@ -2,14 +2,13 @@
 
 ghost use Rattle.std.specs.Prelude.{◌≡◌, IfOk, flat_map};
 ghost use Rattle.ags_rows.specs.Contents.{group_contents, contents_of};
-ghost use Rattle.ags_dict.specs.Entries.{is_dict, group_entries, heading_entries, group_entries_in, heading_entries_in, same_group, same_heading, with_unstated, AddsNewGroups, AddsNewHeadings, extended};
+ghost use Rattle.ags_dict.specs.Entries.{is_dict, group_entries, heading_entries, group_entries_in, heading_entries_in, same_group, same_heading, with_new, AddsNewGroups, AddsNewHeadings, extended};
 
 use crate::dictionary::Dictionary;
 use crate::entries::{GroupEntry, HeadingEntry};
 use crate::groups::GroupEntries;
 use crate::headings::HeadingEntries;
-use ags_rows::{Group, Scan, under};
-use ags_text::Cell;
+use ags_rows::{Cell, Group, Scan, under};
 use std::alloc::{AllocError, Global};
 
 /// The entries with the group entry of a row of DICT, if it makes a new one.
@@ -19,7 +18,7 @@ fn take_group_row(
     cells: &[Cell],
     entries: GroupEntries,
 ) -> Result<GroupEntries, AllocError>
-    ensures { IfOk result (λ taken. taken ≡ with_unstated same_group entries (group_entries headings.now cells.now)) }
+    ensures { IfOk result (λ taken. taken ≡ with_new same_group entries (group_entries headings.now cells.now)) }
 {
     if under(headings, cells, b"DICT_TYPE") != b"GROUP".as_slice() {
         return Ok(entries);
@@ -27,7 +26,7 @@ fn take_group_row(
     let group = under(headings, cells, b"DICT_GRP");
     let parent = under(headings, cells, b"DICT_PGRP");
     let entry = GroupEntry::of(alloc, group, parent)?;
-    entries.with_unstated(alloc, entry)
+    entries.with_new(alloc, entry)
 }
 
 /// The entries with the heading entry of a row of DICT, if it makes a new one.
@@ -38,7 +37,7 @@ fn take_heading_row(
     entries: HeadingEntries,
 ) -> Result<HeadingEntries, AllocError>
     ensures { IfOk result (λ taken.
-        taken ≡ with_unstated same_heading entries (heading_entries headings.now cells.now)) }
+        taken ≡ with_new same_heading entries (heading_entries headings.now cells.now)) }
 {
     if under(headings, cells, b"DICT_TYPE") != b"HEADING".as_slice() {
         return Ok(entries);
@@ -47,7 +46,7 @@ fn take_heading_row(
     let heading = under(headings, cells, b"DICT_HDNG");
     let status = under(headings, cells, b"DICT_STAT");
     let entry = HeadingEntry::of(alloc, group, heading, status)?;
-    entries.with_unstated(alloc, entry)
+    entries.with_new(alloc, entry)
 }
 
 /// The entries with the new ones of a group's rows.
@@ -64,7 +63,11 @@ fn take_rows(alloc: Global, group: &Group, dictionary: Dictionary) -> Result<Dic
         groups = take_group_row(alloc, names, cells, groups)?;
         headings = take_heading_row(alloc, names, cells, headings)?;
     }
-    Ok(Dictionary { groups, headings })
+    Ok(Dictionary {
+        alloc,
+        groups,
+        headings,
+    })
 }
 
 /// Whether the group is DICT.
@@ -102,9 +105,9 @@ pub(crate) fn take_contents(
 
 impl Dictionary {
     /// The entries, and the new ones of the file's own DICT.
-    pub fn extend(&self, alloc: Global, scan: &Scan) -> Result<Dictionary, AllocError>
+    pub fn extend(&self, scan: &Scan) -> Result<Dictionary, AllocError>
         ensures { IfOk result (λ dictionary. dictionary ≡ extended self.now (contents_of scan.now)) }
     {
-        take_contents(alloc, scan.groups(), self.copied(alloc)?)
+        take_contents(self.alloc, scan.groups(), self.copied()?)
     }
 }

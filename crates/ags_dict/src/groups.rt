@@ -2,7 +2,7 @@
 
 ghost use Rattle.std.specs.Prelude.{◌≡◌, [], ◌∷◌, ◌++◌, IfOk, length, option_copied, slice_get};
 ghost use Rattle.std.specs.List.{find};
-ghost use Rattle.ags_dict.specs.Entries.{same_group, with_unstated};
+ghost use Rattle.ags_dict.specs.Entries.{same_group, with_new};
 ghost use Rattle.ags_dict.specs.Index.{is_for};
 
 use crate::entries::GroupEntry;
@@ -76,12 +76,12 @@ impl GroupEntries {
     }
 
     /// The entries, and one more unless its group has one.
-    pub(crate) fn with_unstated(
+    pub(crate) fn with_new(
         self,
         alloc: Global,
         entry: GroupEntry,
     ) -> Result<GroupEntries, AllocError>
-        ensures { IfOk result (λ entries. entries ≡ with_unstated same_group self (entry ∷ [])) }
+        ensures { IfOk result (λ entries. entries ≡ with_new same_group self (entry ∷ [])) }
     {
         if self.find(entry.group.as_slice()).is_some() {
             return Ok(self);

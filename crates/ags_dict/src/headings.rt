@@ -3,7 +3,7 @@
 ghost use Rattle.std.specs.Prelude.{◌≡◌, [], ◌∷◌, ◌++◌, IfOk, OnOk, length, option_copied, slice_get, map, not, ◌&&◌};
 ghost use Rattle.std.specs.List.{filter, find, list_any};
 ghost use Rattle.ags_rows.specs.Contents.{place_in};
-ghost use Rattle.ags_dict.specs.Entries.{same_heading, with_unstated};
+ghost use Rattle.ags_dict.specs.Entries.{same_heading, with_new};
 ghost use Rattle.ags_dict.specs.Index.{places_at, NotesPlace, NotesRank, of_group, is_named, is_of_other, is_heading};
 
 use crate::entries::HeadingEntry;
@@ -167,12 +167,12 @@ impl HeadingEntries {
     }
 
     /// The entries, and one more unless its group has one for its heading.
-    pub(crate) fn with_unstated(
+    pub(crate) fn with_new(
         self,
         alloc: Global,
         entry: HeadingEntry,
     ) -> Result<HeadingEntries, AllocError>
-        ensures { IfOk result (λ entries. entries ≡ with_unstated same_heading self (entry ∷ [])) }
+        ensures { IfOk result (λ entries. entries ≡ with_new same_heading self (entry ∷ [])) }
     {
         let group = entry.group.as_slice();
         if self.find(group, entry.heading.as_slice()).is_some() {

@@ -11,8 +11,7 @@ ghost use Rattle.ags_dict.specs.Reading.{ReadsDictionary};
 
 use crate::dictionary::Dictionary;
 use crate::extending::{is_dict, take_contents};
-use ags_rows::{FindingList, Group, READABLE, RowsError, Scan};
-use ags_text::Cell;
+use ags_rows::{Cell, FindingList, Group, READABLE, RowsError, Scan};
 use std::alloc::{AllocError, Global};
 use std::fmt;
 use thiserror::Error;

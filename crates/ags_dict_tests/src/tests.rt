@@ -142,7 +142,7 @@ fn own_groups(alloc: Global) -> Result<Scan<'static>, DictError> {
 /// MINI, extended by groups.
 fn extended_by(alloc: Global, scan: &Scan) -> Result<Dictionary, DictError> {
     let mini = read(alloc, MINI)?;
-    Ok(mini.extend(alloc, scan)?)
+    Ok(mini.extend(scan)?)
 }
 
 /// MINI, extended by `OWN_DICT`.
@@ -176,9 +176,9 @@ fn push_texts(text: &mut Vec<u8>, texts: Result<Vec<&[u8]>, AllocError>) -> Resu
 /// What a dictionary says of a group: its order, its keys, its required headings and its parent.
 fn said(alloc: Global, dictionary: &Dictionary, group: &[u8]) -> Result<Vec<u8>, AllocError> {
     let mut text = Vec::new(alloc);
-    push_texts(&mut text, dictionary.order(alloc, group))?;
-    push_texts(&mut text, dictionary.keys(alloc, group))?;
-    push_texts(&mut text, dictionary.required(alloc, group))?;
+    push_texts(&mut text, dictionary.order(group))?;
+    push_texts(&mut text, dictionary.keys(group))?;
+    push_texts(&mut text, dictionary.required(group))?;
     text.extend_from_slice(dictionary.parent(group).unwrap_or(b"none"))?;
     Ok(text)
 }

@@ -4,7 +4,8 @@ use Rattle.std.specs.List.Sorted.{IsStrictlyIncreasing}
 use Rattle.ags_dict.specs.Entries.{Entries, parent_of}
 use Rattle.ags_rows.specs.Parts.{parts_at}
 use Rattle.ags_links.specs.Lookups.{Lookup, FindsAsked}
-use Rattle.ags_links.specs.DataRows.{DataRow, IsDataRow, Between, ListsRows, entry_of}
+use Rattle.ags_rows.specs.Collecting.{At}
+use Rattle.ags_links.specs.DataRows.{DataRow, RowsRelate, ListsRows, entry_of}
 use Rattle.ags_links.specs.Families.{HasText, HasKeyText, HasFileSet}
 use Rattle.ags_links.specs.Keys.{key_of, HasKeyOf, IsFirstOfKey, AreFirstsOfKeys}
 use Rattle.ags_links.specs.KeyTexts.{key_text}
@@ -64,11 +65,11 @@ pub some_same : (p q : List ℕ) → Some p ≡ Some q → p ≡ q
 some_same p q e = cc
 
 -- a row that has the entries in the row's parent group is a parent row, and the other way round
-pub parents_listed : (entries : Entries) (rows : List DataRow) (n : ℕ) (r : DataRow) (names : List (List ℕ)) (lookup : Lookup) (IsAsked : List ℕ → Type 0) (text numbers : List ℕ) → IsDataRow rows n r
-    → ((m : ℕ) (s : DataRow) → IsDataRow rows m s → parent_of entries r.group ≡ Some s.group → AreLinkHeadings entries s.group r.headings names)
-    → FindsAsked lookup IsAsked (HasText rows (HasParentEntries entries r.group names)) → IsAsked text → numbers ≡ found lookup text → text ≡ key_text (map (entry_of r) names) → ListsRows numbers (Between rows (IsParentRow entries) n)
+pub parents_listed : (entries : Entries) (rows : List DataRow) (n : ℕ) (r : DataRow) (names : List (List ℕ)) (lookup : Lookup) (IsAsked : List ℕ → Type 0) (text numbers : List ℕ) → At rows n r
+    → ((m : ℕ) (s : DataRow) → At rows m s → parent_of entries r.group ≡ Some s.group → AreLinkHeadings entries s.group r.headings names)
+    → FindsAsked lookup IsAsked (HasText rows (HasParentEntries entries r.group names)) → IsAsked text → numbers ≡ found lookup text → text ≡ key_text (map (entry_of r) names) → ListsRows numbers (RowsRelate rows (IsParentRow entries) n)
 parents_listed entries rows n r names lookup IsAsked text numbers row headings finds asked e spelled =
-    lists_asked lookup IsAsked (HasText rows (HasParentEntries entries r.group names)) text numbers (Between rows (IsParentRow entries) n) finds asked e
+    lists_asked lookup IsAsked (HasText rows (HasParentEntries entries r.group names)) text numbers (RowsRelate rows (IsParentRow entries) n) finds asked e
     (λ m h.
     let s = h.0 in
     let same : map (entry_of s) names ≡ map (entry_of r) names = key_text_same (map (entry_of s) names) (map (entry_of r) names) (h.2.1 ∙ spelled) in
@@ -95,11 +96,11 @@ contains_first : (numbers : List ℕ) → 0 < length numbers → Contains number
 contains_first [] lt = absurd (omega arith)
 contains_first (n ∷ numbers) lt = contains_head n numbers
 
-pub key_found : (entries : Entries) (rows : List DataRow) (n : ℕ) (r : DataRow) (lookup : Lookup) (text : List ℕ) → IsDataRow rows n r → Finds lookup (HasText rows (HasKeyText entries)) → text ≡ key_text (r.group ∷ key_of entries r)
+pub key_found : (entries : Entries) (rows : List DataRow) (n : ℕ) (r : DataRow) (lookup : Lookup) (text : List ℕ) → At rows n r → Finds lookup (HasText rows (HasKeyText entries)) → text ≡ key_text (r.group ∷ key_of entries r)
     → Contains (found lookup text) n
 key_found entries rows n r lookup text row finds spelled = (finds.exact text n).1 (r, row, sym spelled)
 
-pub first_found : (entries : Entries) (rows : List DataRow) (n : ℕ) (r : DataRow) (lookup : Lookup) (text numbers : List ℕ) → IsDataRow rows n r → Finds lookup (HasText rows (HasKeyText entries)) → text ≡ key_text (r.group ∷ key_of entries r)
+pub first_found : (entries : Entries) (rows : List DataRow) (n : ℕ) (r : DataRow) (lookup : Lookup) (text numbers : List ℕ) → At rows n r → Finds lookup (HasText rows (HasKeyText entries)) → text ≡ key_text (r.group ∷ key_of entries r)
     → numbers ≡ found lookup text → 0 < length numbers → IsFirstOfKey rows entries n (get_or numbers 0 0)
 first_found entries rows n r lookup text numbers row finds spelled e some =
     let first = get_or numbers 0 0 in
@@ -117,18 +118,18 @@ first_found entries rows n r lookup text numbers row finds spelled e some =
 -- ---- parts of record links
 
 pub named_listed : (entries : Entries) (rows : List DataRow) (delimiter : ℕ) (part : List ℕ) (lookup : Lookup) (text numbers : List ℕ) → Finds lookup (HasText rows (HasKeyText entries)) → text ≡ key_text (parts_at delimiter part)
-    → numbers ≡ found lookup text → ListsRows numbers (λ m. (s : DataRow) × IsDataRow rows m s × Names entries delimiter part s)
+    → numbers ≡ found lookup text → ListsRows numbers (λ m. (s : DataRow) × At rows m s × Names entries delimiter part s)
 named_listed entries rows delimiter part lookup text numbers finds spelled e =
-    lists_found lookup (HasText rows (HasKeyText entries)) text numbers (λ m. (s : DataRow) × IsDataRow rows m s × Names entries delimiter part s) finds e
+    lists_found lookup (HasText rows (HasKeyText entries)) text numbers (λ m. (s : DataRow) × At rows m s × Names entries delimiter part s) finds e
     (λ m h. (h.0, h.1, key_text_same (parts_at delimiter part) (h.0.group ∷ key_of entries h.0) (sym (h.2 ∙ spelled))))
     (λ m h. (h.0, h.1, ap key_text (sym h.2) ∙ sym spelled))
 
 -- ---- rows of FILE
 
-pub files_listed : (rows : List DataRow) (n : ℕ) (r : DataRow) (lookup : Lookup) (text numbers : List ℕ) → IsDataRow rows n r → Finds lookup (HasText rows HasFileSet) → text ≡ entry_of r (codes "FILE_FSET") → (text ≡ [] → ⊥)
-    → numbers ≡ found lookup text → ListsRows numbers (Between rows IsFileRow n)
+pub files_listed : (rows : List DataRow) (n : ℕ) (r : DataRow) (lookup : Lookup) (text numbers : List ℕ) → At rows n r → Finds lookup (HasText rows HasFileSet) → text ≡ entry_of r (codes "FILE_FSET") → (text ≡ [] → ⊥)
+    → numbers ≡ found lookup text → ListsRows numbers (RowsRelate rows IsFileRow n)
 files_listed rows n r lookup text numbers row finds spelled some e =
-    lists_found lookup (HasText rows HasFileSet) text numbers (Between rows IsFileRow n) finds e
+    lists_found lookup (HasText rows HasFileSet) text numbers (RowsRelate rows IsFileRow n) finds e
     (λ m h. (r, h.0, row, h.1, (h.2.0, λ null. some (spelled ∙ null), h.2.1 ∙ spelled)))
     (λ m h.
     let is : h.0 ≡ r = one_at rows n h.0 r h.2 row in

@@ -10,7 +10,8 @@ use Rattle.ags_links.specs.declared.placed.PlacedRow.{PlacedRow}
 use Rattle.std.specs.List.Sorted.{IsStrictlyIncreasing}
 use Rattle.std.proofs.lemmas.List.{take_more, take_all, length-map}
 use Rattle.std.proofs.lemmas.List.Elements.{Contains-get_or, Contains-push, Contains-push_cases, Contains-append_left}
-use Rattle.ags_links.specs.DataRows.{DataRow, IsAt, IsDataRow, entry_of}
+use Rattle.ags_rows.specs.Collecting.{At}
+use Rattle.ags_links.specs.DataRows.{DataRow, entry_of}
 use Rattle.ags_links.specs.Families.{HasAmong, HasEntries, HasFamily}
 use Rattle.ags_links.specs.Lookups.{Lookup, Finds, FindsAsked}
 use Rattle.ags_links.specs.ParentRows.{AreCandidates, text_at}
@@ -19,18 +20,19 @@ use Rattle.ags_links.proofs.Finding.{before_next, finds_asked}
 use Rattle.ags_links.proofs.Rising.{rising_nil, rising_push}
 use Rattle.ags_links.proofs.Heading.{entries_at}
 use Rattle.ags_links.proofs.Kept.{kept_family}
-use Rattle.ags_links.proofs.RowLemmas.{at_map, one_at, some_at}
+use Rattle.ags_rows.proofs.Lemmas.{at_map}
+use Rattle.ags_links.proofs.RowLemmas.{one_at, some_at}
 use Rattle.ags_links.proofs.Spelled.{key_text_same}
 
 -- what is made of two lists alike is so at each place
-pub same_at : {X Y Z : Type 0} (f : X → Z) (g : Y → Z) (xs : List X) (ys : List Y) (i : ℕ) (x : X) (y : Y) → map f xs ≡ map g ys → IsAt xs i x → IsAt ys i y → f x ≡ g y
-same_at f g xs ys i x y same at also = one_at (map g ys) i (f x) (g y) (subst (λ l. IsAt l i (f x)) same (at_map f xs i x at)) (at_map g ys i y also)
+pub same_at : {X Y Z : Type 0} (f : X → Z) (g : Y → Z) (xs : List X) (ys : List Y) (i : ℕ) (x : X) (y : Y) → map f xs ≡ map g ys → At xs i x → At ys i y → f x ≡ g y
+same_at f g xs ys i x y same at also = one_at (map g ys) i (f x) (g y) (subst (λ l. At l i (f x)) same (at_map f xs i x at)) (at_map g ys i y also)
 
 pub unequal : (x y : List ℕ) (t : Bool) → t ≡ not (bytes_eq x y) → t ≡ true → x ≡ y → ⊥
 unequal x y t e is same = true≢false (sym is ∙ e ∙ ap not ((bytes_eq-Decides x y).1 same))
 
 -- a row whose entries do not agree does not have the text
-pub has_no_text : (entries : Entries) (families : List Family) (rows : List PlacedRow) (n place : ℕ) (x y : PlacedRow) (family : Family) (places stood : List (Option ℕ)) (names : List (List ℕ)) (t : Bool) → All (HasFamily entries families) rows → IsAt rows n x
+pub has_no_text : (entries : Entries) (families : List Family) (rows : List PlacedRow) (n place : ℕ) (x y : PlacedRow) (family : Family) (places stood : List (Option ℕ)) (names : List (List ℕ)) (t : Bool) → All (HasFamily entries families) rows → At rows n x
     → get_or families place family ≡ family → stood ≡ map (place_in family.headings) names → ((x.place ≡ place → ⊥) → t ≡ true) → (map (field_at (row_of y).fields) places ≡ map (field_at (row_of x).fields) stood → t ≡ true) → t ≡ false
     → HasEntries names (row_of x) (text_at places y) → ⊥
 has_no_text entries families rows n place x y family places stood names t have at is stands apart agree fails has = elim (cases_eq x.place place) [
@@ -44,8 +46,8 @@ has_no_text entries families rows n place x y family places stood names t have a
 ]
 
 -- a row that has the text has its first entry
-pub first_entry : (names : List (List ℕ)) (places : List (Option ℕ)) (x y : PlacedRow) (place : Option ℕ) → IsAt places 0 place → HasEntries names (row_of x) (text_at places y)
-    → (name : List ℕ) × IsAt names 0 name × (entry_of (row_of x) name ≡ field_at (row_of y).fields place)
+pub first_entry : (names : List (List ℕ)) (places : List (Option ℕ)) (x y : PlacedRow) (place : Option ℕ) → At places 0 place → HasEntries names (row_of x) (text_at places y)
+    → (name : List ℕ) × At names 0 name × (entry_of (row_of x) name ≡ field_at (row_of y).fields place)
 first_entry names places x y place placed has =
     let same = key_text_same (map (entry_of (row_of x)) names) (map (field_at (row_of y).fields) places) has in
     let name = some_at names 0 (omega (arith, placed.0, ap length same, length-map names (entry_of (row_of x)), length-map places (field_at (row_of y).fields))) in
@@ -85,7 +87,7 @@ module _ (rows : List DataRow) (numbers : List ℕ) (headings : List (List ℕ))
       })
 
   -- one more of the numbers is passed over
-  pub chosen_over : (chosen : List ℕ) (i : ℕ) (x : DataRow) → i < length numbers → AreCandidates rows (take i numbers) headings text chosen → IsDataRow rows (get_or numbers i 0) x → (HasEntries headings x text → ⊥) → AreCandidates rows (take (i + 1) numbers) headings text chosen
+  pub chosen_over : (chosen : List ℕ) (i : ℕ) (x : DataRow) → i < length numbers → AreCandidates rows (take i numbers) headings text chosen → At rows (get_or numbers i 0) x → (HasEntries headings x text → ⊥) → AreCandidates rows (take (i + 1) numbers) headings text chosen
   chosen_over chosen i x lt so_far at other =
       let n = get_or numbers i 0 in
       let next = take_more numbers i 0 lt in
@@ -94,7 +96,7 @@ module _ (rows : List DataRow) (numbers : List ℕ) (headings : List (List ℕ))
         among = λ m h. subst (λ l. Contains l m) (sym next) (Contains-append_left (take i numbers) (n ∷ []) m (so_far.among m h));
         all = λ m s h row has. elim (Contains-push_cases (take i numbers) n m (subst (λ l. Contains l m) next h)) [
           | inl was ↦ so_far.all m s was row has
-          | inr is ↦ absurd (other (subst (λ r. HasEntries headings r text) (one_at rows m s x row (subst (λ (k : ℕ). IsDataRow rows k x) is at)) has))
+          | inr is ↦ absurd (other (subst (λ r. HasEntries headings r text) (one_at rows m s x row (subst (λ (k : ℕ). At rows k x) is at)) has))
         ];
       }
 

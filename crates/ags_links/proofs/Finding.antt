@@ -7,7 +7,8 @@ use Rattle.std.proofs.lemmas.List.{take_more, length-take-le, length-map, map-ap
 use Rattle.std.proofs.lemmas.List.Elements.{Contains-push, Contains-push_cases, Contains-append_left}
 use Rattle.ags_links.specs.Lookups.{Lookup}
 use Rattle.ags_links.specs.declared.placed.PlacedRow.{PlacedRow}
-use Rattle.ags_links.specs.DataRows.{DataRow, IsDataRow}
+use Rattle.ags_rows.specs.Collecting.{At}
+use Rattle.ags_links.specs.DataRows.{DataRow}
 use Rattle.ags_links.specs.Families.{HasText, HasAmong}
 use Rattle.ags_links.specs.Lookups.{found, Finds, FindsAsked}
 use Rattle.ags_links.specs.Placing.{row_of}
@@ -120,7 +121,7 @@ finds_last : (old new : Lookup) (Has : DataRow → List ℕ → Type 0) (rows : 
 finds_last old new Has rows x n text len so_far added here only = finds_more old new (HasText rows Has) (HasText (rows ++ x ∷ []) Has) n text so_far added
     (λ m q h. omega (arith, h.1.0, len))
     (λ m q h. (h.0, at_before rows x m h.0 h.1, h.2))
-    (x, subst (λ (k : ℕ). IsDataRow (rows ++ x ∷ []) k x) len (at_last rows x), here)
+    (x, subst (λ (k : ℕ). At (rows ++ x ∷ []) k x) len (at_last rows x), here)
     (λ m q h. elim (at_cases rows x m h.0 h.1) [
       | inl was ↦ inl (h.0, was, h.2)
       | inr is ↦ inr (sym (is.0 ∙ len), only q (subst (λ r. Has r q) (sym is.1) h.2))
@@ -164,7 +165,7 @@ before_next numbers i m rises lt h =
     omega (arith, earlier_is_below numbers h.0 i rises below lt, at0)
 
 pub finds_number : (old new : Lookup) (Has : DataRow → List ℕ → Type 0) (rows : List DataRow) (numbers : List ℕ) (i : ℕ) (x : DataRow) (text : List ℕ) → i < length numbers → IsStrictlyIncreasing numbers
-    → Finds old (HasAmong (take i numbers) rows Has) → IsAdded old new text (get_or numbers i 0) → IsDataRow rows (get_or numbers i 0) x → Has x text → ((q : List ℕ) → Has x q → text ≡ q)
+    → Finds old (HasAmong (take i numbers) rows Has) → IsAdded old new text (get_or numbers i 0) → At rows (get_or numbers i 0) x → Has x text → ((q : List ℕ) → Has x q → text ≡ q)
     → Finds new (HasAmong (take (i + 1) numbers) rows Has)
 finds_number old new Has rows numbers i x text lt rises so_far added row here only =
     let n = get_or numbers i 0 in
@@ -175,7 +176,7 @@ finds_number old new Has rows numbers i x text lt rises so_far added row here on
     (subst (λ l. Contains l n) (sym next) (Contains-push (take i numbers) n), (x, row, here))
     (λ m q h. elim (Contains-push_cases (take i numbers) n m (subst (λ l. Contains l m) next h.0)) [
       | inl was ↦ inl (was, h.1)
-      | inr is ↦ inr (is, only q (subst (λ r. Has r q) (one_at rows m h.1.0 x h.1.1 (subst (λ (k : ℕ). IsDataRow rows k x) is row)) h.1.2))
+      | inr is ↦ inr (is, only q (subst (λ r. Has r q) (one_at rows m h.1.0 x h.1.1 (subst (λ (k : ℕ). At rows k x) is row)) h.1.2))
     ])
 
 pub finds_no_number : (lookup : Lookup) (Has : DataRow → List ℕ → Type 0) (rows : List DataRow) → ((q : List ℕ) → found lookup q ≡ []) → Finds lookup (HasAmong [] rows Has)

@@ -11,7 +11,8 @@ use Rattle.ags_links.specs.declared.lookup.Span.{Span}
 use Rattle.ags_links.specs.Lookups.{Lookup}
 use Rattle.ags_links.specs.declared.placed.PlacedRow.{PlacedRow}
 use Rattle.ags_links.specs.declared.separators.Separators.{Separators}
-use Rattle.ags_links.specs.DataRows.{DataFile, DataRow, IsAt}
+use Rattle.ags_rows.specs.Collecting.{At}
+use Rattle.ags_links.specs.DataRows.{DataFile, DataRow}
 use Rattle.ags_links.specs.Families.{AreKept, HasText, HasKeyText, HasFileSet, AreFamilies}
 use Rattle.ags_links.specs.Keys.{AreFirstsOfKeys}
 use Rattle.ags_links.specs.ParentRows.{AreParents, IsParentList, HasLookup}
@@ -56,14 +57,14 @@ pub rows_below : (rows : List PlacedRow) (found : List DataRow) (n : ℕ) → ma
 rows_below rows found n e lt = subst (λ count. n < count) (sym (ap length e) ∙ length-map rows row_of) lt
 
 -- the group of a row stands at its place
-pub group_at : (groups : List Group) (rows : List PlacedRow) (found : List DataRow) (n : ℕ) (x : PlacedRow) → map row_of rows ≡ found → n < length found → All (IsPlaced groups) rows → x ≡ get_or rows n x → IsAt groups x.place x.group.now
+pub group_at : (groups : List Group) (rows : List PlacedRow) (found : List DataRow) (n : ℕ) (x : PlacedRow) → map row_of rows ≡ found → n < length found → All (IsPlaced groups) rows → x ≡ get_or rows n x → At groups x.place x.group.now
 group_at groups rows found n x e lt placed is = placed_at groups rows n x placed (rows_below rows found n e lt, sym is)
 
 -- each row's group has a look-up for its parent rows
 pub have_lookups : (groups : List Group) (entries : Entries) (rows : List PlacedRow) (parents : ParentLookups) → AreParents entries rows groups parents → All (IsPlaced groups) rows → All (HasLookup parents) rows
 have_lookups groups entries rows parents parented placed i d lt =
     let row = get_or rows i d in
-    let at_group : IsAt groups row.place row.group.now = placed i d lt in
+    let at_group : At groups row.place row.group.now = placed i d lt in
     (omega (arith, at_group.0, parented.each_has), λ links at_links. (parented.each row.place row.group.now links at_group at_links).stands.0)
 
 pub inside_firsts : (groups : List Group) (entries : Entries) (rows : List PlacedRow) (kept : List Family) (parents : ParentLists) (spans : List Span) (firsts : List ℕ) (by_key by_file_set : Lookup) (separators : Separators) (f : DataFile) → Indexes groups entries rows kept parents spans firsts by_key by_file_set separators

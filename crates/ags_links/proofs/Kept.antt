@@ -10,12 +10,14 @@ use Rattle.ags_dict.specs.Entries.{Entries}
 use Rattle.ags_links.specs.declared.families.Family.{Family}
 use Rattle.ags_links.specs.Lookups.{Lookup}
 use Rattle.ags_links.specs.declared.placed.PlacedRow.{PlacedRow}
-use Rattle.ags_links.specs.DataRows.{DataRow, IsAt, data_rows, group_rows, row_in}
+use Rattle.ags_rows.specs.Collecting.{At}
+use Rattle.ags_links.specs.DataRows.{DataRow, data_rows, group_rows, row_in}
 use Rattle.ags_links.specs.Families.{HasText, HasGroupName, HasFamily, IsFamily, AreKept, AreFamilies}
 use Rattle.ags_links.specs.Lookups.{found, Finds}
 use Rattle.ags_links.specs.Placing.{IsPlaced, row_of}
 use Rattle.ags_links.proofs.Growing.{flat_map_push}
-use Rattle.ags_links.proofs.RowLemmas.{one_at, at_map, at_cases}
+use Rattle.ags_links.proofs.RowLemmas.{one_at, at_cases}
+use Rattle.ags_rows.proofs.Lemmas.{at_map}
 
 -- the rows of one more group
 pub data_rows_next : (groups : List Group) (i : ℕ) (d : Group) → i < length groups → data_rows (contents_of (take (i + 1) groups)) ≡ data_rows (contents_of (take i groups)) ++ group_rows (group_contents (get_or groups i d))
@@ -41,7 +43,7 @@ pub kept_counted : (groups : List Group) (rows : List PlacedRow) → map row_of 
 kept_counted groups rows e = sym (length-map rows row_of) ∙ ap length e ∙ rows_counted groups
 
 -- a kept row's group stands at its place
-pub placed_at : (groups : List Group) (rows : List PlacedRow) (i : ℕ) (x : PlacedRow) → All (IsPlaced groups) rows → IsAt rows i x → IsAt groups x.place x.group.now
+pub placed_at : (groups : List Group) (rows : List PlacedRow) (i : ℕ) (x : PlacedRow) → All (IsPlaced groups) rows → At rows i x → At groups x.place x.group.now
 placed_at groups rows i x placed h = subst (IsPlaced groups) h.1 (placed i x h.0)
 
 -- nothing yet
@@ -81,18 +83,18 @@ kept_all Has groups i kept le so_far = subst (λ gs. AreKept gs kept Has) (take_
 pub rows_have : (entries : Entries) (groups : List Group) (families : List Family) (rows : List PlacedRow) → AreFamilies entries groups families → All (IsPlaced groups) rows → All (HasFamily entries families) rows
 rows_have entries groups families rows kept placed i d lt =
     let row = get_or rows i d in
-    let at_group : IsAt groups row.place row.group.now = placed i d lt in
+    let at_group : At groups row.place row.group.now = placed i d lt in
     (omega (arith, at_group.0, kept.each_has), λ family at_family. kept.each row.place row.group.now family at_group at_family)
 
-pub row_has : (entries : Entries) (families : List Family) (rows : List PlacedRow) (i : ℕ) (x : PlacedRow) → All (HasFamily entries families) rows → IsAt rows i x → HasFamily entries families x
+pub row_has : (entries : Entries) (families : List Family) (rows : List PlacedRow) (i : ℕ) (x : PlacedRow) → All (HasFamily entries families) rows → At rows i x → HasFamily entries families x
 row_has entries families rows i x have h = subst (HasFamily entries families) h.1 (have i x h.0)
 
 -- there is something kept for a row's group
-pub family_below : (entries : Entries) (families : List Family) (rows : List PlacedRow) (i : ℕ) (x : PlacedRow) → All (HasFamily entries families) rows → IsAt rows i x → x.place < length families
+pub family_below : (entries : Entries) (families : List Family) (rows : List PlacedRow) (i : ℕ) (x : PlacedRow) → All (HasFamily entries families) rows → At rows i x → x.place < length families
 family_below entries families rows i x have h = (row_has entries families rows i x have h).0
 
 -- what is kept for a row's group
-pub kept_family : (entries : Entries) (families : List Family) (rows : List PlacedRow) (i : ℕ) (x : PlacedRow) (family : Family) → All (HasFamily entries families) rows → IsAt rows i x → get_or families x.place family ≡ family → IsFamily entries x.group.now family
+pub kept_family : (entries : Entries) (families : List Family) (rows : List PlacedRow) (i : ℕ) (x : PlacedRow) (family : Family) → All (HasFamily entries families) rows → At rows i x → get_or families x.place family ≡ family → IsFamily entries x.group.now family
 kept_family entries families rows i x family have h is =
     let has = row_has entries families rows i x have h in
     has.1 family (has.0, is)
@@ -114,7 +116,7 @@ found_rising by_group rows group numbers finds e = subst IsStrictlyIncreasing (s
 
 -- the first row that is found is of the group
 pub first_of_group : (by_group : Lookup) (rows : List PlacedRow) (group : List ℕ) (numbers : List ℕ) (x : PlacedRow) → Finds by_group (HasText (map row_of rows) HasGroupName) → numbers ≡ found by_group group → 0 < length numbers
-    → IsAt rows (get_or numbers 0 0) x → x.group.now.name ≡ group
+    → At rows (get_or numbers 0 0) x → x.group.now.name ≡ group
 first_of_group by_group rows group numbers x finds e lt at =
     let n = get_or numbers 0 0 in
     let h = (finds.exact group n).0 (subst (λ l. Contains l n) e (Contains-get_or numbers 0 0 lt)) in

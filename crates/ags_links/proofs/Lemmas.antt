@@ -1,7 +1,8 @@
 -- What proofs and definitions of the crates above cite of this one, beside its contracts and definitions. Each is proved here: nothing in it has to be believed.
 -- What a list contains, and what stands at a place of it.
 pub use Rattle.ags_links.proofs.Members.{contains_head, contains_tail, contains_cons, contains_map, map_contains}
-pub use Rattle.ags_links.proofs.RowLemmas.{one_at, some_at, at_map, map_at}
+pub use Rattle.ags_rows.proofs.Lemmas.{at_map}
+pub use Rattle.ags_links.proofs.RowLemmas.{one_at, some_at, map_at}
 -- The place of a name in a heading, and the parts of a text that a separator cuts.
 pub use Rattle.ags_links.proofs.Heading.{placed, place_of, at_place}
 pub use Rattle.ags_links.proofs.Cutting.{parts_cut, part_left}

@@ -5,7 +5,8 @@ use Rattle.std.proofs.lemmas.Bool.{true≢false, eqb-true}
 use Rattle.std.proofs.lemmas.List.{take_all}
 use Rattle.std.proofs.lemmas.List.Elements.{Contains-get_or, Contains-push, Contains-push_cases, Contains-append_left, Contains-append_right, Contains-append_cases}
 use Rattle.ags_links.specs.Adding.{AddsRows}
-use Rattle.ags_links.specs.DataRows.{DataFile, DataRow, IsDataRow, ListsRows}
+use Rattle.ags_rows.specs.Collecting.{At}
+use Rattle.ags_links.specs.DataRows.{DataFile, DataRow, ListsRows}
 use Rattle.ags_links.specs.Indexing.{rows_in, IsNamedBy, IsNamedAmong, IsLinkedAt}
 use Rattle.ags_links.specs.RecordLinks.{separators_of, IsPartOf, IsBroken}
 use Rattle.ags_links.specs.Steps.{IsLinkedPart, Linked}
@@ -82,7 +83,7 @@ each_next file parts part rows so_far lists t e is other h = elim (Contains-push
 ]
 
 -- what the parts of a row's record links name is what the row links to
-pub linked_rows : (file : DataFile) (n : ℕ) (r : DataRow) (parts : List (List ℕ)) (old new : List ℕ) → IsDataRow (rows_in file) n r
+pub linked_rows : (file : DataFile) (n : ℕ) (r : DataRow) (parts : List (List ℕ)) (old new : List ℕ) → At (rows_in file) n r
     → ((part : List ℕ) → Contains parts part ↔ IsLinkedPart (separators_of file.contents) r part) → AddsRows old new (IsNamedAmong file parts) → AddsRows old new (IsLinkedAt file n)
 linked_rows file n r parts old new row same adds = adds_same old new (IsNamedAmong file parts) (IsLinkedAt file n) adds
     (λ m h. let link = (same h.0).0 h.1 in (r, h.2.0, row, h.2.1, (link.0, link.1, (h.0, link.2, h.2.2))))

@@ -10,7 +10,7 @@ use Rattle.ags_links.specs.declared.parents.LinkPlaces.{LinkPlaces}
 use Rattle.ags_links.specs.declared.parents.ParentLists.{ParentLists}
 use Rattle.ags_links.specs.declared.parents.ParentLookups.{ParentLookups}
 use Rattle.ags_links.specs.declared.placed.PlacedRow.{PlacedRow}
-use Rattle.ags_links.specs.DataRows.{IsAt}
+use Rattle.ags_rows.specs.Collecting.{At}
 use Rattle.ags_links.specs.KeyTexts.{key_text}
 use Rattle.ags_links.specs.Lookups.{Lookup, rows_between}
 use Rattle.ags_links.specs.ParentRows.{AreParents, AreParentSpans, AreParentLists, AreRowsOf, IsAskedOf, IsParentList, part_of, text_at}
@@ -18,7 +18,8 @@ use Rattle.ags_links.specs.Placing.{IsPlaced, row_of}
 use Rattle.ags_links.proofs.Answering.{parents_listed}
 use Rattle.ags_links.proofs.Heading.{entries_at}
 use Rattle.ags_links.proofs.Kept.{placed_at}
-use Rattle.ags_links.proofs.RowLemmas.{at_map, some_at}
+use Rattle.ags_links.proofs.RowLemmas.{some_at}
+use Rattle.ags_rows.proofs.Lemmas.{at_map}
 
 -- the rows of a span are those between its ends
 part_between : (lookup : Lookup) (list : List ℕ) (span : Span) → list ≡ map (λ (p : List ℕ × ℕ). p.1) lookup → part_of list span ≡ rows_between lookup span.first span.end
@@ -33,7 +34,7 @@ lists_made groups entries rows parents kept spans placed parented spanned same a
   each_has = spanned.each_has;
   each = made;
 } where
-  made : (n : ℕ) (row : PlacedRow) (span : Span) → IsAt rows n row → IsAt spans n span → IsParentList entries (map row_of rows) kept n row span
+  made : (n : ℕ) (row : PlacedRow) (span : Span) → At rows n row → At spans n span → IsParentList entries (map row_of rows) kept n row span
   made n row span at_row at_span =
       let at_group = placed_at groups rows n row placed at_row in
       let links = some_at parents.of_groups.items row.place (omega (arith, at_group.0, parented.each_has)) in
@@ -45,7 +46,7 @@ lists_made groups entries rows parents kept spans placed parented spanned same a
       record {
         links = links.0;
         list = list.0;
-        grouped = subst (λ (gs : Vec LinkPlaces Global). IsAt gs.items row.place links.0) (sym same) links.1;
+        grouped = subst (λ (gs : Vec LinkPlaces Global). At gs.items row.place links.0) (sym same) links.1;
         stands = list.1;
         inside = (spans_it.0.0, omega (arith, spans_it.0.1, ap length is, length-map index.lookup (λ (p : List ℕ × ℕ). p.1)));
         lists = parents_listed entries (map row_of rows) n (row_of row) index.names index.lookup (IsAskedOf rows parents.of_groups.items links.0.lookup) text (part_of list.0.items span) (at_map row_of rows n row at_row) index.headings index.finds

@@ -3,20 +3,22 @@ use Rattle.std.proofs.Common.{◌≡◌, ℕ, zero, suc, ◌+◌, ◌-◌, ◌�
 use Rattle.std.proofs.lemmas.Bool.{cases_lt}
 use Rattle.std.proofs.lemmas.List.{length-append, length-map, get_or_append_left, get_or-append-add}
 use Rattle.ags_rows.specs.Contents.{Contents}
-use Rattle.ags_links.specs.DataRows.{DataRow, IsAt, IsDataRow, IsRowOfGroup, row_in, group_rows, data_rows, rows_before}
+use Rattle.ags_rows.specs.Collecting.{At}
+use Rattle.ags_links.specs.DataRows.{DataRow, IsRowOfGroup, row_in, group_rows, data_rows, rows_before}
 use Rattle.ags_links.specs.Laws.{RowsAreNumbered, RowsStandOnce, RowsBeforeAddUp}
-use Rattle.ags_links.proofs.RowLemmas.{some_at, at_map, map_at}
+use Rattle.ags_links.proofs.RowLemmas.{some_at, map_at}
+use Rattle.ags_rows.proofs.Lemmas.{at_map}
 
 -- ---- rows behind other rows
 
-pub front_row : (xs ys : List DataRow) (k : ℕ) (r : DataRow) → IsDataRow xs k r → IsDataRow (xs ++ ys) k r
+pub front_row : (xs ys : List DataRow) (k : ℕ) (r : DataRow) → At xs k r → At (xs ++ ys) k r
 front_row xs ys k r at = (omega (arith, at.0, length-append xs ys), get_or_append_left xs ys r k at.0 ∙ at.1)
 
-pub back_row : (xs ys : List DataRow) (k n : ℕ) (r : DataRow) → n ≡ length xs + k → IsDataRow ys k r → IsDataRow (xs ++ ys) n r
+pub back_row : (xs ys : List DataRow) (k n : ℕ) (r : DataRow) → n ≡ length xs + k → At ys k r → At (xs ++ ys) n r
 back_row xs ys k n r e is = rw e (omega (arith, is.0, length-append xs ys), get_or-append-add xs ys k r ∙ is.1)
 
 -- a row of both lists is one of the first or one of the second
-pub row_cases : (xs ys : List DataRow) (n : ℕ) (r : DataRow) → IsDataRow (xs ++ ys) n r → IsDataRow xs n r ⊎ ((k : ℕ) × (n ≡ length xs + k) × IsDataRow ys k r)
+pub row_cases : (xs ys : List DataRow) (n : ℕ) (r : DataRow) → At (xs ++ ys) n r → At xs n r ⊎ ((k : ℕ) × (n ≡ length xs + k) × At ys k r)
 row_cases xs ys n r at = elim (cases_lt n (length xs)) [
   | inl lt ↦ inl (lt, sym (get_or_append_left xs ys r n lt) ∙ at.1)
   | inr le ↦ (
@@ -32,19 +34,19 @@ row_cases xs ys n r at = elim (cases_lt n (length xs)) [
 pub before_more : (g : Contents) (file : List Contents) (i : ℕ) → rows_before (g ∷ file) (suc i) ≡ length (group_rows g) + rows_before file i
 before_more g file i = length-append (group_rows g) (data_rows (take i file))
 
-pub stands_at : (file : List Contents) (i : ℕ) (g : Contents) → IsAt file i g → (place : ℕ) (fields : List (List ℕ)) → IsAt g.rows place fields → IsDataRow (data_rows file) (rows_before file i + place) (row_in g fields)
+pub stands_at : (file : List Contents) (i : ℕ) (g : Contents) → At file i g → (place : ℕ) (fields : List (List ℕ)) → At g.rows place fields → At (data_rows file) (rows_before file i + place) (row_in g fields)
 stands_at [] i g at = absurd (omega (arith, at.0))
 stands_at (f ∷ file) zero g at = λ place fields there.
     let e : f ≡ g = at.1 in
     let n : place ≡ 0 + place = omega arith in
-    subst (λ (k : ℕ). IsDataRow (group_rows f ++ data_rows file) k (row_in g fields)) n
-    (front_row (group_rows f) (data_rows file) place (row_in g fields) (subst (λ (x : Contents). IsAt (group_rows x) place (row_in g fields)) (sym e) (at_map (row_in g) g.rows place fields there)))
+    subst (λ (k : ℕ). At (group_rows f ++ data_rows file) k (row_in g fields)) n
+    (front_row (group_rows f) (data_rows file) place (row_in g fields) (subst (λ (x : Contents). At (group_rows x) place (row_in g fields)) (sym e) (at_map (row_in g) g.rows place fields there)))
 stands_at (f ∷ file) (suc i) g at = λ place fields there.
     let n : rows_before (f ∷ file) (suc i) + place ≡ length (group_rows f) + (rows_before file i + place) = omega (arith, before_more f file i) in
     back_row (group_rows f) (data_rows file) (rows_before file i + place) (rows_before (f ∷ file) (suc i) + place) (row_in g fields) n (stands_at file i g (omega (arith, at.0), at.1) place fields there)
 
 -- all rows of a group are among those of the file
-pub before_few : (file : List Contents) (i : ℕ) (g : Contents) → IsAt file i g → rows_before file i + length g.rows ≤ length (data_rows file)
+pub before_few : (file : List Contents) (i : ℕ) (g : Contents) → At file i g → rows_before file i + length g.rows ≤ length (data_rows file)
 before_few [] i g at = absurd (omega (arith, at.0))
 before_few (f ∷ file) zero g at =
     let e : length (group_rows f) ≡ length g.rows = length-map f.rows (row_in f) ∙ ap (λ (x : Contents). length x.rows) at.1 in
@@ -53,7 +55,7 @@ before_few (f ∷ file) zero g at =
 before_few (f ∷ file) (suc i) g at = omega (arith, before_few file i g (omega (arith, at.0), at.1), before_more f file i, length-append (group_rows f) (data_rows file))
 
 -- the rows before the next group
-pub before_next : (file : List Contents) (i : ℕ) (g : Contents) → IsAt file i g → rows_before file (suc i) ≡ rows_before file i + length g.rows
+pub before_next : (file : List Contents) (i : ℕ) (g : Contents) → At file i g → rows_before file (suc i) ≡ rows_before file i + length g.rows
 before_next [] i g at = absurd (omega (arith, at.0))
 before_next (f ∷ file) zero g at =
     let e : length (group_rows f) ≡ length g.rows = length-map f.rows (row_in f) ∙ ap (λ (x : Contents). length x.rows) at.1 in
@@ -64,7 +66,7 @@ before_next (f ∷ file) (suc i) g at = omega (arith, before_next file i g (omeg
 
 -- ---- each number is one row of one group
 
-pub row_of_group : (file : List Contents) (n : ℕ) (r : DataRow) → IsDataRow (data_rows file) n r → IsRowOfGroup file n r
+pub row_of_group : (file : List Contents) (n : ℕ) (r : DataRow) → At (data_rows file) n r → IsRowOfGroup file n r
 row_of_group [] n r at = absurd (omega (arith, at.0))
 row_of_group (g ∷ file) n r at = elim (row_cases (group_rows g) (data_rows file) n r at) [
   | inl here ↦ (
@@ -95,10 +97,10 @@ row_of_group (g ∷ file) n r at = elim (row_cases (group_rows g) (data_rows fil
       )
 ]
 
-row_of_file : (file : List Contents) (n : ℕ) (r : DataRow) → IsRowOfGroup file n r → IsDataRow (data_rows file) n r
+row_of_file : (file : List Contents) (n : ℕ) (r : DataRow) → IsRowOfGroup file n r → At (data_rows file) n r
 row_of_file file n r p =
-    subst (λ (k : ℕ). IsDataRow (data_rows file) k r) (sym p.number)
-    (subst (IsDataRow (data_rows file) (rows_before file p.group_place + p.place)) p.same (stands_at file p.group_place p.group p.of_file p.place p.fields p.of_group))
+    subst (λ (k : ℕ). At (data_rows file) k r) (sym p.number)
+    (subst (At (data_rows file) (rows_before file p.group_place + p.place)) p.same (stands_at file p.group_place p.group p.of_file p.place p.fields p.of_group))
 
 pub rows_are_numbered : RowsAreNumbered
 rows_are_numbered file n row = (row_of_group file n row, row_of_file file n row)

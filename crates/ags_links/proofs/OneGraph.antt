@@ -5,7 +5,7 @@ use Rattle.std.specs.List.{AllByRecursion}
 use Rattle.std.proofs.lemmas.List.Elements.{All-from_recursion, All-contains}
 use Rattle.ags_links.specs.Laws.{OneGraph}
 use Rattle.ags_links.specs.Steps.{IsBefore, AreAscending, ListsSteps, StepAt}
-use Rattle.ags_links.specs.Walks.{Wiring}
+use Rattle.ags_links.specs.Walks.{StepGraph}
 use Rattle.ags_links.proofs.Members.{contains_head, contains_tail, contains_cons}
 
 pub before_then : (p q r : ℕ × ℕ) → IsBefore p q → IsBefore q r → IsBefore p r
@@ -62,7 +62,7 @@ pub one_list_of_steps : (steps others : List (ℕ × ℕ)) (IsOne : ℕ → ℕ 
 one_list_of_steps steps others IsOne a b =
     same_ascending steps others (steps_ascend steps IsOne a) (steps_ascend others IsOne b) (λ f h. (b.exact f.0 f.1).1 ((a.exact f.0 f.1).0 h)) (λ f h. (a.exact f.0 f.1).1 ((b.exact f.0 f.1).0 h))
 
-one_wiring : (a b : Wiring) → a.rows ≡ b.rows → a.steps ≡ b.steps → a ≡ b
+one_wiring : (a b : StepGraph) → a.rows ≡ b.rows → a.steps ≡ b.steps → a ≡ b
 one_wiring a b p q = λ i. record { rows = p i; steps = q i }
 
 pub one_graph : OneGraph

@@ -11,7 +11,8 @@ use Rattle.ags_links.specs.Lookups.{Lookup}
 use Rattle.ags_links.specs.declared.parents.ParentLinks.{ParentLinks}
 use Rattle.ags_links.specs.declared.parents.LinkPlaces.{LinkPlaces}
 use Rattle.ags_links.specs.declared.parents.ParentLookups.{ParentLookups}
-use Rattle.ags_links.specs.DataRows.{DataRow, IsAt, IsDataRow}
+use Rattle.ags_rows.specs.Collecting.{At}
+use Rattle.ags_links.specs.DataRows.{DataRow}
 use Rattle.ags_links.specs.Families.{AreKept, AreFamilies, HasText, HasGroupName, HasEntries, HasAmong}
 use Rattle.ags_links.specs.Lookups.{Finds, FindsAsked, found}
 use Rattle.ags_links.specs.ParentRows.{AreLinkHeadings, AreParentLinks, AreLookups, AreNumbers, HasParentEntries, IsParentLinks, IsAskedOf, IsParentIndex, IsPlacedAt, AreParents, ParentLinksTo, link_names, texts_in}
@@ -60,13 +61,13 @@ all_numbers entries by_group rows count groups links counted finds are i d lt =
     let l = get_or links i d in
     subst (λ n. AreNumbers n l) counted (numbers_of entries by_group rows g.0 l (parent_of entries g.0.name) finds (are.each i g.0 l g.1 (read_at links i d lt)))
 
-listed_to : (by_group : Lookup) (entries : Entries) (rows : List DataRow) (g : Group) (l : ParentLinks) (p : Option (List ℕ)) (n : ℕ) (r : DataRow) → Finds by_group (HasText rows HasGroupName) → ParentLinksTo entries by_group g l p → Contains l.rows.now n → IsDataRow rows n r → p ≡ Some r.group
+listed_to : (by_group : Lookup) (entries : Entries) (rows : List DataRow) (g : Group) (l : ParentLinks) (p : Option (List ℕ)) (n : ℕ) (r : DataRow) → Finds by_group (HasText rows HasGroupName) → ParentLinksTo entries by_group g l p → Contains l.rows.now n → At rows n r → p ≡ Some r.group
 listed_to by_group entries rows g l None n r finds is h row = absurd (omega (arith, (subst (λ ns. Contains ns n) is.0 h).1))
 listed_to by_group entries rows g l (Some p) n r finds is h row =
     let has = (finds.exact p n).0 (subst (λ ns. Contains ns n) is.0 h) in
     ap (λ q. Some q) (sym has.2 ∙ ap (λ (s : DataRow). s.group) (one_at rows n has.0 r has.1 row))
 
-to_listed : (by_group : Lookup) (entries : Entries) (rows : List DataRow) (g : Group) (l : ParentLinks) (p : Option (List ℕ)) (n : ℕ) (r : DataRow) → Finds by_group (HasText rows HasGroupName) → ParentLinksTo entries by_group g l p → p ≡ Some r.group → IsDataRow rows n r → Contains l.rows.now n
+to_listed : (by_group : Lookup) (entries : Entries) (rows : List DataRow) (g : Group) (l : ParentLinks) (p : Option (List ℕ)) (n : ℕ) (r : DataRow) → Finds by_group (HasText rows HasGroupName) → ParentLinksTo entries by_group g l p → p ≡ Some r.group → At rows n r → Contains l.rows.now n
 to_listed by_group entries rows g l None n r finds is e row = absurd (none_some r.group e)
 to_listed by_group entries rows g l (Some p) n r finds is e row = subst (λ ns. Contains ns n) (sym is.0) ((finds.exact p n).1 (r, row, some_same r.group p (sym e)))
 
@@ -78,7 +79,7 @@ found_in_parent by_group lookup IsAsked entries rows g l finds is so_far =
     (λ n text h. (h.1.0, h.1.1, (listed_to by_group entries rows g l (parent_of entries g.name) n h.1.0 finds is h.0 h.1.1, h.1.2)))
     (λ n text h. (to_listed by_group entries rows g l (parent_of entries g.name) n h.0 finds is h.2.0 h.1, (h.0, h.1, h.2.1)))
 
-headings_to : (by_group : Lookup) (entries : Entries) (rows : List DataRow) (g : Group) (l : ParentLinks) (p : Option (List ℕ)) (n : ℕ) (s : DataRow) → Finds by_group (HasText rows HasGroupName) → ParentLinksTo entries by_group g l p → IsDataRow rows n s → p ≡ Some s.group
+headings_to : (by_group : Lookup) (entries : Entries) (rows : List DataRow) (g : Group) (l : ParentLinks) (p : Option (List ℕ)) (n : ℕ) (s : DataRow) → Finds by_group (HasText rows HasGroupName) → ParentLinksTo entries by_group g l p → At rows n s → p ≡ Some s.group
     → AreLinkHeadings entries s.group g.headings (link_names l)
 headings_to by_group entries rows g l None n s finds is row e = absurd (none_some s.group e)
 headings_to by_group entries rows g l (Some p) n s finds is row e =
@@ -95,7 +96,7 @@ parents_made entries kept groups by_group families links texts parents of_groups
   each_has = placed.each_has ∙ linked.each_has;
   each = λ place g x at_group at_x. made place g x at_group at_x;
 } where
-  made : (place : ℕ) (g : Group) (x : LinkPlaces) → IsAt groups place g → IsAt parents.of_groups.items place x → IsParentIndex entries kept parents.of_groups.items parents.lookups.items g x
+  made : (place : ℕ) (g : Group) (x : LinkPlaces) → At groups place g → At parents.of_groups.items place x → IsParentIndex entries kept parents.of_groups.items parents.lookups.items g x
   made place g x at_group at_x =
       let l = some_at links place (omega (arith, at_group.0, linked.each_has)) in
       let family = some_at families place (omega (arith, at_group.0, of_groups.each_has)) in
@@ -106,7 +107,7 @@ parents_made entries kept groups by_group families links texts parents of_groups
       let k = some_at links x.lookup below in
       let h = some_at groups x.lookup (omega (arith, below, linked.each_has)) in
       let lookup = some_at parents.lookups.items x.lookup (omega (arith, below, looked.each_has)) in
-      let text : ◌≡◌ {A = List ℕ} k.0.text.items l.0.text.items = map_at (λ (k : ParentLinks). k.text.items) links x.lookup k.0 l.0.text.items k.1 (subst (λ ts. IsAt ts x.lookup l.0.text.items) are (first.0, first.1)) in
+      let text : ◌≡◌ {A = List ℕ} k.0.text.items l.0.text.items = map_at (λ (k : ParentLinks). k.text.items) links x.lookup k.0 l.0.text.items k.1 (subst (λ ts. At ts x.lookup l.0.text.items) are (first.0, first.1)) in
       let same = alike entries by_group h.0 g k.0 l.0 (parent_of entries h.0.name) (parent_of entries g.name) (linked.each x.lookup h.0 k.0 h.1 k.1) is text in
       let IsAsked : List ℕ → Type 0 = IsAskedOf kept parents.of_groups.items x.lookup in
       let among : FindsAsked lookup.0 IsAsked (HasAmong k.0.rows.now (map row_of kept) (HasEntries (link_names k.0))) = looked.each x.lookup k.0 lookup.0 k.1 lookup.1 in

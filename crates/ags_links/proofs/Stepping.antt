@@ -8,7 +8,8 @@ use Rattle.std.proofs.lemmas.List.{get_or_append_left, get_or-append_right, get_
 use Rattle.std.proofs.lemmas.List.Elements.{Contains-append_left, Contains-append_right, Contains-append_cases, Contains-get_or}
 use Rattle.ags_text.specs.Names.{is_definition}
 use Rattle.ags_links.specs.Adding.{AddsRows}
-use Rattle.ags_links.specs.DataRows.{DataFile, DataRow, IsDataRow, ListsRows}
+use Rattle.ags_rows.specs.Collecting.{At}
+use Rattle.ags_links.specs.DataRows.{DataFile, DataRow, ListsRows}
 use Rattle.ags_links.specs.Indexing.{rows_in, IsParentAt, IsLinkedAt, IsLinkStepAt, IsFileRowAt, IsFileStepAt}
 use Rattle.ags_links.specs.Steps.{StepAt, IsBefore, ListsSteps}
 use Rattle.ags_links.specs.Walks.{InRange}
@@ -45,7 +46,7 @@ bytes_differ xs ys e same = true≢false (sym ((bytes_eq-Decides xs ys).1 same) 
 abbrev pub may_have_files : List ℕ → Bool
 may_have_files group = not (is_definition group) && not (bytes_eq group (codes "FILE"))
 
-pub file_steps : (file : DataFile) (n : ℕ) (r : DataRow) (old new rows : List ℕ) → IsDataRow (rows_in file) n r → may_have_files r.group ≡ true → ListsRows rows (IsFileRowAt file n) → new ≡ old ++ rows → AddsRows old new (IsFileStepAt file n)
+pub file_steps : (file : DataFile) (n : ℕ) (r : DataRow) (old new rows : List ℕ) → At (rows_in file) n r → may_have_files r.group ≡ true → ListsRows rows (IsFileRowAt file n) → new ≡ old ++ rows → AddsRows old new (IsFileStepAt file n)
 file_steps file n r old new rows row may lists e =
     let tests = both_true (not (is_definition r.group)) (not (bytes_eq r.group (codes "FILE"))) may in
     let data_group = not_true (is_definition r.group) tests.0 in
@@ -56,7 +57,7 @@ file_steps file n r old new rows row may lists e =
     (h.0, h.1, h.2, h.3, (subst (λ (q : DataRow). is_definition q.group ≡ false) is data_group, subst (λ (q : DataRow). q.group ≡ codes "FILE" → ⊥) is other, h.4)))
     (λ m h. (h.0, h.1, h.2, h.3, h.4.2))
 
-pub no_file_steps : (file : DataFile) (n : ℕ) (r : DataRow) (old : List ℕ) → IsDataRow (rows_in file) n r → may_have_files r.group ≡ false → AddsRows old old (IsFileStepAt file n)
+pub no_file_steps : (file : DataFile) (n : ℕ) (r : DataRow) (old : List ℕ) → At (rows_in file) n r → may_have_files r.group ≡ false → AddsRows old old (IsFileStepAt file n)
 no_file_steps file n r old row may = adds_none old (IsFileStepAt file n) (λ m h.
     let is : h.0 ≡ r = one_at (rows_in file) n h.0 r h.2 row in
     let data_group : not (is_definition r.group) ≡ true = ap (λ (q : DataRow). not (is_definition q.group)) (sym is) ∙ ap not h.4.0 in
@@ -65,14 +66,14 @@ no_file_steps file n r old row may = adds_none old (IsFileStepAt file n) (λ m h
 
 -- ---- record links
 
-pub link_steps : (file : DataFile) (n : ℕ) (r : DataRow) (old new : List ℕ) → IsDataRow (rows_in file) n r → is_definition r.group ≡ false → AddsRows old new (IsLinkedAt file n) → AddsRows old new (IsLinkStepAt file n)
+pub link_steps : (file : DataFile) (n : ℕ) (r : DataRow) (old new : List ℕ) → At (rows_in file) n r → is_definition r.group ≡ false → AddsRows old new (IsLinkedAt file n) → AddsRows old new (IsLinkStepAt file n)
 link_steps file n r old new row data_group adds = adds_same old new (IsLinkedAt file n) (IsLinkStepAt file n) adds
     (λ m h.
     let is : r ≡ h.0 = one_at (rows_in file) n r h.0 row h.2 in
     (h.0, h.1, h.2, h.3, (subst (λ (q : DataRow). is_definition q.group ≡ false) is data_group, h.4)))
     (λ m h. (h.0, h.1, h.2, h.3, h.4.1))
 
-pub no_link_steps : (file : DataFile) (n : ℕ) (r : DataRow) (old : List ℕ) → IsDataRow (rows_in file) n r → is_definition r.group ≡ true → AddsRows old old (IsLinkStepAt file n)
+pub no_link_steps : (file : DataFile) (n : ℕ) (r : DataRow) (old : List ℕ) → At (rows_in file) n r → is_definition r.group ≡ true → AddsRows old old (IsLinkStepAt file n)
 no_link_steps file n r old row defines = adds_none old (IsLinkStepAt file n) (λ m h.
     let is : h.0 ≡ r = one_at (rows_in file) n h.0 r h.2 row in
     let data_group : is_definition r.group ≡ false = subst (λ (q : DataRow). is_definition q.group ≡ false) is h.4.0 in

@@ -8,7 +8,7 @@ use Rattle.ags_links.specs.declared.parents.ParentLinks.{ParentLinks}
 use Rattle.ags_links.specs.declared.parents.LinkPlaces.{LinkPlaces}
 use Rattle.ags_links.specs.declared.parents.Users.{Users}
 use Rattle.ags_links.specs.declared.placed.PlacedRow.{PlacedRow}
-use Rattle.ags_links.specs.DataRows.{IsAt}
+use Rattle.ags_rows.specs.Collecting.{At}
 use Rattle.ags_links.specs.Families.{AreKept, HasFamily}
 use Rattle.ags_links.specs.ParentRows.{HasPlaces, HasUsers, IsAmongUsers, IsAskedOf, IsPlacedAt, IsUserOf, text_at, texts_in}
 use Rattle.ags_links.specs.declared.parents.Users.TheVariants.{Nobody, One}
@@ -20,7 +20,7 @@ abbrev pub UsersBefore : List PlacedRow → List LinkPlaces → ℕ → List Use
 UsersBefore rows of_groups i users = (l : ℕ) (d : Users) (n : ℕ) (row : PlacedRow) (links : LinkPlaces) → l < length users → n < i → IsUserOf rows of_groups l n row links → IsAmongUsers (get_or users l d) n
 
 -- one more row
-pub users_next : (rows : List PlacedRow) (of_groups : List LinkPlaces) (users : List Users) (i : ℕ) (x : PlacedRow) (k : LinkPlaces) (u : Users) → UsersBefore rows of_groups i users → IsAt rows i x → IsAt of_groups x.place k → k.lookup < length users
+pub users_next : (rows : List PlacedRow) (of_groups : List LinkPlaces) (users : List Users) (i : ℕ) (x : PlacedRow) (k : LinkPlaces) (u : Users) → UsersBefore rows of_groups i users → At rows i x → At of_groups x.place k → k.lookup < length users
     → IsAmongUsers u i → ((d : Users) (n : ℕ) → IsAmongUsers (get_or users k.lookup d) n → IsAmongUsers u n) → UsersBefore rows of_groups (i + 1) (set users k.lookup u)
 users_next rows of_groups users i x k u so_far at_x at_k below new old l d n row links lt before is =
     let inside : l < length users = omega (arith, lt, length-set users k.lookup u) in
@@ -39,8 +39,8 @@ users_next rows of_groups users i x k u so_far at_x at_k below new old l d n row
 
       uses : i ≡ n → l ≡ k.lookup
       uses e =
-          let row_is : row ≡ x = one_at rows i row x (subst (λ j. IsAt rows j row) (sym e) is.stands) at_x in
-          let links_are : links ≡ k = one_at of_groups x.place links k (subst (λ (r : PlacedRow). IsAt of_groups r.place links) row_is is.grouped) at_k in
+          let row_is : row ≡ x = one_at rows i row x (subst (λ j. At rows j row) (sym e) is.stands) at_x in
+          let links_are : links ≡ k = one_at of_groups x.place links k (subst (λ (r : PlacedRow). At of_groups r.place links) row_is is.grouped) at_k in
           sym is.uses ∙ ap (λ (j : LinkPlaces). j.lookup) links_are
 
 -- each row's group has link places, and a look-up
@@ -57,15 +57,15 @@ have_places entries families links texts of_groups rows have size are placed i d
     )
 
 -- a look-up that one row uses is asked for that row's text
-pub one_asked : (rows : List PlacedRow) (of_groups : List LinkPlaces) (lookup m : ℕ) (x : PlacedRow) (k : LinkPlaces) (text : List ℕ) → HasUsers rows of_groups lookup (One m) → IsAt rows m x → IsAt of_groups x.place k → IsAskedOf rows of_groups lookup text → text_at k.places.items x ≡ text
+pub one_asked : (rows : List PlacedRow) (of_groups : List LinkPlaces) (lookup m : ℕ) (x : PlacedRow) (k : LinkPlaces) (text : List ℕ) → HasUsers rows of_groups lookup (One m) → At rows m x → At of_groups x.place k → IsAskedOf rows of_groups lookup text → text_at k.places.items x ≡ text
 one_asked rows of_groups lookup m x k text users at_x at_k asked =
     let n = asked.0 in
     let row = asked.1 in
     let links = asked.2 in
     let is = asked.3 in
     let same : m ≡ n = users n row links is in
-    let row_is : x ≡ row = one_at rows n x row (subst (λ j. IsAt rows j x) same at_x) is.stands in
-    let links_are : k ≡ links = one_at of_groups row.place k links (subst (λ (r : PlacedRow). IsAt of_groups r.place k) row_is at_k) is.grouped in
+    let row_is : x ≡ row = one_at rows n x row (subst (λ j. At rows j x) same at_x) is.stands in
+    let links_are : k ≡ links = one_at of_groups row.place k links (subst (λ (r : PlacedRow). At of_groups r.place k) row_is at_k) is.grouped in
     ap (λ (j : LinkPlaces). text_at j.places.items x) links_are ∙ ap (text_at links.places.items) row_is ∙ asked.4
 
 -- one that no row uses is asked for none

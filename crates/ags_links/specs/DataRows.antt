@@ -1,6 +1,7 @@
 -- The DATA rows of a file, each with what its group says of it.
-use Rattle.std.specs.Prelude.{◌≡◌, ◌<◌, ◌+◌, ◌↔◌, ℕ, List, map, flat_map, length, take, slice_index_or, Contains}
+use Rattle.std.specs.Prelude.{◌≡◌, ◌+◌, ◌↔◌, ℕ, List, map, flat_map, length, take, Contains}
 use Rattle.std.specs.List.Sorted.{IsStrictlyIncreasing}
+use Rattle.ags_rows.specs.Collecting.{At}
 use Rattle.ags_rows.specs.Contents.{Contents, under}
 use Rattle.ags_dict.specs.Entries.{Entries}
 
@@ -28,26 +29,18 @@ group_rows group = map (row_in group) group.rows
 abbrev pub data_rows : List Contents → List DataRow
 data_rows contents = flat_map group_rows contents
 
--- row n of these, counted from 0, is r
-abbrev pub IsDataRow : List DataRow → ℕ → DataRow → Type 0
-IsDataRow rows n r = (n < length rows) × (slice_index_or rows n r ≡ r)
-
 -- how many DATA rows stand in the groups before this place
 abbrev pub rows_before : List Contents → ℕ → ℕ
 rows_before file place = length (data_rows (take place file))
-
--- x stands at this place of a list of anything, counted from 0
-abbrev pub IsAt : {X : Type 0} → List X → ℕ → X → Type 0
-IsAt xs place x = (place < length xs) × (slice_index_or xs place x ≡ x)
 
 -- Row n of a file is the row at a place of one of its groups.
 pub record IsRowOfGroup (file : List Contents) (n : ℕ) (row : DataRow) : Type 0 where
   pub group_place : ℕ
   pub group : Contents
-  pub of_file : IsAt file group_place group
+  pub of_file : At file group_place group
   pub place : ℕ
   pub fields : List (List ℕ)
-  pub of_group : IsAt group.rows place fields
+  pub of_group : At group.rows place fields
   pub number : n ≡ rows_before file group_place + place
   pub same : row_in group fields ≡ row
 
@@ -56,8 +49,8 @@ abbrev pub entry_of : DataRow → List ℕ → List ℕ
 entry_of row heading = under row.headings row.fields heading
 
 -- rows n and m of a file are rows of which this holds
-abbrev pub Between : List DataRow → (DataRow → DataRow → Type 0) → ℕ → ℕ → Type 0
-Between rows Related n m = (r : DataRow) × (s : DataRow) × IsDataRow rows n r × IsDataRow rows m s × Related r s
+abbrev pub RowsRelate : List DataRow → (DataRow → DataRow → Type 0) → ℕ → ℕ → Type 0
+RowsRelate rows Related n m = (r : DataRow) × (s : DataRow) × At rows n r × At rows m s × Related r s
 
 -- the list has exactly the numbers of which this holds, rising, each once
 pub record ListsRows (numbers : List ℕ) (IsOne : ℕ → Type 0) : Type 0 where

@@ -4,14 +4,15 @@ use Rattle.std.specs.Borrow.{Bor}
 use Rattle.ags_links.specs.declared.entry_lists.EntryList.{EntryList}
 use Rattle.ags_links.specs.declared.parents.ParentLinks.{ParentLinks}
 use Rattle.ags_links.specs.declared.placed.PlacedRow.{PlacedRow}
-use Rattle.ags_links.specs.DataRows.{IsAt, entry_of}
+use Rattle.ags_rows.specs.Collecting.{At}
+use Rattle.ags_links.specs.DataRows.{entry_of}
 use Rattle.ags_links.specs.Families.{AreKept}
 use Rattle.ags_links.specs.ParentRows.{link_names}
 use Rattle.ags_links.specs.Placing.{row_of}
 
 -- it is what stands in row n under the heading
 abbrev pub IsEntryUnder : List PlacedRow → List ℕ → ℕ → Bor (List ℕ) → Type 0
-IsEntryUnder rows heading n entry = (row : PlacedRow) → IsAt rows n row → entry.now ≡ entry_of (row_of row) heading
+IsEntryUnder rows heading n entry = (row : PlacedRow) → At rows n row → entry.now ≡ entry_of (row_of row) heading
 
 -- these are the entries of the rows under the heading, each at its row's place
 abbrev pub AreEntries : List PlacedRow → List ℕ → List ℕ → List (Bor (List ℕ)) → Type 0
@@ -19,12 +20,15 @@ AreEntries rows numbers heading entries = AreKept numbers entries (λ place. IsE
 
 -- what stands at this place of the list, if anything does, is the text
 abbrev pub AgreesAt : List (Bor (List ℕ)) → ℕ → List ℕ → Type 0
-AgreesAt list place text = (entry : Bor (List ℕ)) → IsAt list place entry → entry.now ≡ text
+AgreesAt list place text = (entry : Bor (List ℕ)) → At list place entry → entry.now ≡ text
 
 abbrev pub IsEntryList : List PlacedRow → EntryList → Type 0
 IsEntryList rows list = AreEntries rows list.rows.now list.heading.now list.entries.items
 
--- what stands in the list at the place of a row of the parent group is what stands in that row under the first link heading
+-- what stands in the list at the place of a row of the parent group is what stands in that row under the first link
+-- heading
 abbrev pub AreLeadingEntries : List PlacedRow → ParentLinks → List (Bor (List ℕ)) → Type 0
-AreLeadingEntries rows links entries = (place n : ℕ) (entry : Bor (List ℕ)) (row : PlacedRow) (name : List ℕ) → IsAt entries place entry → IsAt links.rows.now place n → IsAt rows n row → IsAt (link_names links) 0 name
+AreLeadingEntries rows links entries =
+    (place n : ℕ) (entry : Bor (List ℕ)) (row : PlacedRow) (name : List ℕ) → At entries place entry
+    → At links.rows.now place n → At rows n row → At (link_names links) 0 name
     → entry.now ≡ entry_of (row_of row) name

@@ -6,13 +6,14 @@ use Rattle.ags_rows.specs.declared.rows.Group.{Group}
 use Rattle.ags_dict.specs.Entries.{Entries, keys_of}
 use Rattle.ags_links.specs.declared.families.Family.{Family}
 use Rattle.ags_links.specs.declared.placed.PlacedRow.{PlacedRow}
-use Rattle.ags_links.specs.DataRows.{DataRow, IsAt, IsDataRow, entry_of}
+use Rattle.ags_rows.specs.Collecting.{At}
+use Rattle.ags_links.specs.DataRows.{DataRow, entry_of}
 use Rattle.ags_links.specs.Keys.{key_of}
 use Rattle.ags_links.specs.KeyTexts.{key_text}
 
 -- row n has the text in this sense
 abbrev pub HasText : List DataRow → (DataRow → List ℕ → Type 0) → ℕ → List ℕ → Type 0
-HasText rows Has n text = (r : DataRow) × IsDataRow rows n r × Has r text
+HasText rows Has n text = (r : DataRow) × At rows n r × Has r text
 
 -- the text is the name of its group
 abbrev pub HasGroupName : DataRow → List ℕ → Type 0
@@ -53,11 +54,13 @@ pub record IsFamily (entries : Entries) (group : Group) (family : Family) : Type
 -- of each thing in a list another is kept at the same place, and of both this holds
 pub record AreKept {G X : Type 0} (groups : List G) (kept : List X) (Has : ℕ → G → X → Type 0) : Type 0 where
   pub each_has : length kept ≡ length groups
-  pub each : (place : ℕ) (group : G) (x : X) → IsAt groups place group → IsAt kept place x → Has place group x
+  pub each : (place : ℕ) (group : G) (x : X) → At groups place group → At kept place x → Has place group x
 
 abbrev pub AreFamilies : Entries → List Group → List Family → Type 0
 AreFamilies entries groups families = AreKept groups families (λ place. IsFamily entries)
 
 -- what is kept for the row's group stands at its place
 abbrev pub HasFamily : Entries → List Family → PlacedRow → Type 0
-HasFamily entries families row = (row.place < length families) × ((family : Family) → IsAt families row.place family → IsFamily entries row.group.now family)
+HasFamily entries families row =
+    (row.place < length families) × ((family : Family) → At families row.place family
+    → IsFamily entries row.group.now family)

@@ -12,7 +12,8 @@ use Rattle.ags_links.specs.declared.lookup.Span.{Span}
 use Rattle.ags_links.specs.declared.parents.ParentLists.{ParentLists}
 use Rattle.ags_links.specs.declared.placed.PlacedRow.{PlacedRow}
 use Rattle.ags_links.specs.declared.separators.Separators.{Separators}
-use Rattle.ags_links.specs.DataRows.{DataFile, DataRow, data_rows, IsDataRow, Between}
+use Rattle.ags_rows.specs.Collecting.{At}
+use Rattle.ags_links.specs.DataRows.{DataFile, DataRow, data_rows, RowsRelate}
 use Rattle.ags_links.specs.Families.{HasText, HasKeyText, HasFileSet, AreFamilies}
 use Rattle.ags_links.specs.Keys.{IsFirstOfKey, AreFirstsOfKeys}
 use Rattle.ags_links.specs.Lookups.{Finds}
@@ -24,7 +25,9 @@ use Rattle.ags_links.specs.Steps.{IsFileRow, IsLinkedPart, Linked}
 use Rattle.ags_links.specs.Targets.{AreTargets}
 
 -- the index of these groups under these entries
-pub record Indexes (groups : List Group) (entries : Entries) (rows : List PlacedRow) (kept : List Family) (parents : ParentLists) (spans : List Span) (firsts : List ℕ) (by_key by_file_set : Lookup) (separators : Separators) : Type 0 where
+pub record Indexes (groups : List Group) (entries : Entries) (rows : List PlacedRow) (kept : List Family)
+    (parents : ParentLists) (spans : List Span) (firsts : List ℕ) (by_key by_file_set : Lookup)
+    (separators : Separators) : Type 0 where
   pub placed : All (IsPlaced groups) rows
   pub numbered : map row_of rows ≡ data_rows (contents_of groups)
   pub few : length rows < 2 ^ 32
@@ -41,7 +44,7 @@ rows_in file = data_rows file.contents
 
 -- row m is a parent row of row n
 abbrev pub IsParentAt : DataFile → ℕ → ℕ → Type 0
-IsParentAt file = Between (rows_in file) (IsParentRow file.entries)
+IsParentAt file = RowsRelate (rows_in file) (IsParentRow file.entries)
 
 -- row m is the first row of row n's group with an equal key
 abbrev pub IsFirstOfKeyAt : DataFile → ℕ → ℕ → Type 0
@@ -49,7 +52,7 @@ IsFirstOfKeyAt file = IsFirstOfKey (rows_in file) file.entries
 
 -- row m is a row of FILE with row n's FILE_FSET
 abbrev pub IsFileRowAt : DataFile → ℕ → ℕ → Type 0
-IsFileRowAt file = Between (rows_in file) IsFileRow
+IsFileRowAt file = RowsRelate (rows_in file) IsFileRow
 
 -- the part names row n
 abbrev pub IsNamedBy : DataFile → List ℕ → ℕ → Type 0
@@ -61,31 +64,36 @@ IsNamedAmong file parts n = (part : List ℕ) × Contains parts part × IsNamedB
 
 -- one of row n's record links names row m
 abbrev pub IsLinkedAt : DataFile → ℕ → ℕ → Type 0
-IsLinkedAt file = Between (rows_in file) (Linked file.entries (links.separators_of file.contents))
+IsLinkedAt file = RowsRelate (rows_in file) (Linked file.entries (links.separators_of file.contents))
 
 -- row n has a step to row m by its record links, if it is in a data group
 abbrev pub IsLinkStepAt : DataFile → ℕ → ℕ → Type 0
-IsLinkStepAt file = Between (rows_in file) (λ r s. (is_definition r.group ≡ false) × Linked file.entries (links.separators_of file.contents) r s)
+IsLinkStepAt file =
+    RowsRelate (rows_in file)
+    (λ r s. (is_definition r.group ≡ false) × Linked file.entries (links.separators_of file.contents) r s)
 
 -- row n has a step to row m of FILE, if it is in a data group other than FILE
 abbrev pub IsFileStepAt : DataFile → ℕ → ℕ → Type 0
-IsFileStepAt file = Between (rows_in file) (λ r s. (is_definition r.group ≡ false) × (r.group ≢ codes "FILE") × IsFileRow r s)
+IsFileStepAt file =
+    RowsRelate (rows_in file) (λ r s. (is_definition r.group ≡ false) × (r.group ≢ codes "FILE") × IsFileRow r s)
 
 -- the list has exactly the parts of what stands in row n under the heading
 abbrev pub ListsPartsAt : DataFile → ℕ → List ℕ → List (Bor (List ℕ)) → Type 0
-ListsPartsAt file n heading parts = (r : DataRow) → IsDataRow (rows_in file) n r
+ListsPartsAt file n heading parts = (r : DataRow) → At (rows_in file) n r
     → ListsTexts parts (links.IsPartOf (links.separators_of file.contents) r heading)
 
 -- the list has exactly the parts of row n's record links
 abbrev pub ListsLinkedPartsAt : DataFile → ℕ → List (Bor (List ℕ)) → Type 0
-ListsLinkedPartsAt file n parts = (r : DataRow) → IsDataRow (rows_in file) n r
+ListsLinkedPartsAt file n parts = (r : DataRow) → At (rows_in file) n r
     → ListsTexts parts (IsLinkedPart (links.separators_of file.contents) r)
 
 -- the answer says whether some part of what stands in row n under the heading names no row
 abbrev pub TellsIfBroken : DataFile → ℕ → List ℕ → Bool → Type 0
-TellsIfBroken file n heading answer = (r : DataRow) → IsDataRow (rows_in file) n r
+TellsIfBroken file n heading answer = (r : DataRow) → At (rows_in file) n r
     → IsTrue answer ↔ links.IsBroken file.entries (links.separators_of file.contents) (rows_in file) r heading
 
 -- these are the targets of row n under the heading
 abbrev pub AreTargetsAt : DataFile → ℕ → List ℕ → Targets → Type 0
-AreTargetsAt file n heading targets = (r : DataRow) → IsDataRow (rows_in file) n r → AreTargets file.entries (links.separators_of file.contents) (rows_in file) r heading targets
+AreTargetsAt file n heading targets =
+    (r : DataRow) → At (rows_in file) n r
+    → AreTargets file.entries (links.separators_of file.contents) (rows_in file) r heading targets

@@ -36,15 +36,19 @@ stands_before true text p = is_le (slice_cmp nat_cmp p.0.items text)
 
 -- the last below the place, if there is one, stands before
 abbrev pub IsEnd : Bool → List ℕ → List (Vec ℕ Global × ℕ) → ℕ → Type 0
-IsEnd upto text pairs place = (d : Vec ℕ Global × ℕ) → 0 < place → stands_before upto text (slice_index_or pairs (place - 1) d) ≡ true
+IsEnd upto text pairs place =
+    (d : Vec ℕ Global × ℕ) → 0 < place → stands_before upto text (slice_index_or pairs (place - 1) d) ≡ true
 
 -- the one at the place, if there is one, does not
 abbrev pub IsBegin : Bool → List ℕ → List (Vec ℕ Global × ℕ) → ℕ → Type 0
-IsBegin upto text pairs place = (d : Vec ℕ Global × ℕ) → place < length pairs → stands_before upto text (slice_index_or pairs place d) ≡ false
+IsBegin upto text pairs place =
+    (d : Vec ℕ Global × ℕ) → place < length pairs → stands_before upto text (slice_index_or pairs place d) ≡ false
 
 -- those below the place stand before, and no others
 abbrev pub IsBoundary : Bool → List ℕ → List (Vec ℕ Global × ℕ) → ℕ → Type 0
-IsBoundary upto text pairs place = (place ≤ length pairs) × IsPartitionPoint (λ p. stands_before upto text p ≡ true) (λ p. stands_before upto text p ≡ false) pairs place
+IsBoundary upto text pairs place =
+    (place ≤ length pairs)
+    × IsPartitionPoint (λ p. stands_before upto text p ≡ true) (λ p. stands_before upto text p ≡ false) pairs place
 
 -- the rows of the pairs from one place to another
 abbrev pub rows_between : Lookup → ℕ → ℕ → List ℕ
@@ -70,8 +74,11 @@ pub record FindsAsked (lookup : Lookup) (IsAsked : List ℕ → Type 0) (Has : �
 
 -- no row has two texts
 abbrev pub HasOneText : Lookup → Type 0
-HasOneText lookup = (n : ℕ) (text other : List ℕ) → Contains (found lookup text) n → Contains (found lookup other) n → text ≡ other
+HasOneText lookup =
+    (n : ℕ) (text other : List ℕ) → Contains (found lookup text) n → Contains (found lookup other) n → text ≡ other
 
 -- at the place of each row stands the first row that has its text
 abbrev pub AreFirstWith : Lookup → List ℕ → Type 0
-AreFirstWith lookup firsts = (text : List ℕ) (n : ℕ) → Contains (found lookup text) n → slice_index_or firsts n 0 ≡ slice_index_or (found lookup text) 0 0
+AreFirstWith lookup firsts =
+    (text : List ℕ) (n : ℕ) → Contains (found lookup text) n
+    → slice_index_or firsts n 0 ≡ slice_index_or (found lookup text) 0 0

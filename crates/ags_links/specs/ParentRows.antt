@@ -17,7 +17,8 @@ use Rattle.ags_links.specs.declared.parents.ParentLists.{ParentLists}
 use Rattle.ags_links.specs.declared.parents.Users.{Users}
 use Rattle.ags_links.specs.declared.parents.Users.TheVariants.{Nobody, One, Many}
 use Rattle.ags_links.specs.declared.placed.PlacedRow.{PlacedRow}
-use Rattle.ags_links.specs.DataRows.{DataRow, IsAt, IsDataRow, Between, ListsRows}
+use Rattle.ags_rows.specs.Collecting.{At}
+use Rattle.ags_links.specs.DataRows.{DataRow, RowsRelate, ListsRows}
 use Rattle.ags_links.specs.Families.{AreKept, HasText, HasEntries, HasAmong}
 use Rattle.ags_links.specs.KeyTexts.{key_text}
 use Rattle.ags_links.specs.Lookups.{FindsAsked, found, IsSpanOf}
@@ -26,7 +27,8 @@ use Rattle.ags_links.specs.Placing.{row_of, fields_at}
 
 -- these are the link headings of a group: those of its headings that are KEY headings of its parent group
 abbrev pub AreLinkHeadings : Entries → List ℕ → List (List ℕ) → List (List ℕ) → Type 0
-AreLinkHeadings entries parent headings names = (h : List ℕ) → Contains names h ↔ (Contains (keys_of entries parent) h × Contains headings h)
+AreLinkHeadings entries parent headings names =
+    (h : List ℕ) → Contains names h ↔ (Contains (keys_of entries parent) h × Contains headings h)
 
 -- where the parent group has rows, these are the link headings to it
 abbrev pub AreLinkHeadingsIfRows : Entries → Lookup → List ℕ → List (List ℕ) → List (Bor (List ℕ)) → Type 0
@@ -39,7 +41,8 @@ link_names links = map (λ h. h.now) links.headings.items
 
 -- the rows of this parent group, and the link headings to it where it has rows; nothing where there is no parent group
 abbrev pub ParentLinksTo : Entries → Lookup → Group → ParentLinks → Option (List ℕ) → Type 0
-ParentLinksTo entries by_group group links None = (links.rows.now ≡ []) × (links.headings.items ≡ []) × (links.text.items ≡ [])
+ParentLinksTo entries by_group group links None =
+    (links.rows.now ≡ []) × (links.headings.items ≡ []) × (links.text.items ≡ [])
 ParentLinksTo entries by_group group links (Some parent) = (links.rows.now ≡ found by_group parent)
     × (links.rows.now ≢ [] → AreLinkHeadings entries parent group.headings (link_names links))
     × (links.text.items ≡ key_text (parent ∷ link_names links))
@@ -64,14 +67,17 @@ abbrev pub text_at : List (Option ℕ) → PlacedRow → List ℕ
 text_at places row = key_text (fields_at places row)
 
 -- row n has its parent rows in this look-up
-pub record IsUserOf (rows : List PlacedRow) (of_groups : List LinkPlaces) (lookup n : ℕ) (row : PlacedRow) (links : LinkPlaces) : Type 0 where
-  pub stands : IsAt rows n row
-  pub grouped : IsAt of_groups row.place links
+pub record IsUserOf (rows : List PlacedRow) (of_groups : List LinkPlaces) (lookup n : ℕ) (row : PlacedRow)
+    (links : LinkPlaces) : Type 0 where
+  pub stands : At rows n row
+  pub grouped : At of_groups row.place links
   pub uses : links.lookup ≡ lookup
 
 -- some row that has its parent rows in this look-up has them at this text
 abbrev pub IsAskedOf : List PlacedRow → List LinkPlaces → ℕ → List ℕ → Type 0
-IsAskedOf rows of_groups lookup text = (n : ℕ) × (row : PlacedRow) × (links : LinkPlaces) × IsUserOf rows of_groups lookup n row links × (text_at links.places.items row ≡ text)
+IsAskedOf rows of_groups lookup text =
+    (n : ℕ) × (row : PlacedRow) × (links : LinkPlaces) × IsUserOf rows of_groups lookup n row links
+    × (text_at links.places.items row ≡ text)
 
 -- row n is among the users
 abbrev pub IsAmongUsers : Users → ℕ → Type 0
@@ -87,20 +93,26 @@ AreUsersBelow count Many = Unit {0}
 
 -- the row's group has link places, and a look-up at one of the places
 abbrev pub HasPlaces : List LinkPlaces → PlacedRow → Type 0
-HasPlaces of_groups row = (row.place < length of_groups) × ((links : LinkPlaces) → IsAt of_groups row.place links → links.lookup < length of_groups)
+HasPlaces of_groups row =
+    (row.place < length of_groups) × ((links : LinkPlaces) → At of_groups row.place links
+    → links.lookup < length of_groups)
 
 -- the rows that have their parent rows in the look-up are among its users
 abbrev pub HasUsers : List PlacedRow → List LinkPlaces → ℕ → Users → Type 0
-HasUsers rows of_groups lookup users = (n : ℕ) (row : PlacedRow) (links : LinkPlaces) → IsUserOf rows of_groups lookup n row links → IsAmongUsers users n
+HasUsers rows of_groups lookup users =
+    (n : ℕ) (row : PlacedRow) (links : LinkPlaces) → IsUserOf rows of_groups lookup n row links → IsAmongUsers users n
 
 abbrev pub HaveUsers : List PlacedRow → List LinkPlaces → List Users → Type 0
-HaveUsers rows of_groups users = (lookup : ℕ) (d : Users) → lookup < length users → HasUsers rows of_groups lookup (slice_index_or users lookup d)
+HaveUsers rows of_groups users =
+    (lookup : ℕ) (d : Users) → lookup < length users → HasUsers rows of_groups lookup (slice_index_or users lookup d)
 
--- of these numbers some are chosen, which rise; those of rows with this text of entries under the headings are among them
-pub record AreCandidates (rows : List DataRow) (numbers : List ℕ) (headings : List (List ℕ)) (text : List ℕ) (chosen : List ℕ) : Type 0 where
+-- of these numbers some are chosen, which rise; those of rows with this text of entries under the headings are among
+-- them
+pub record AreCandidates (rows : List DataRow) (numbers : List ℕ) (headings : List (List ℕ)) (text : List ℕ)
+    (chosen : List ℕ) : Type 0 where
   pub rising : IsStrictlyIncreasing chosen
   pub among : (n : ℕ) → Contains chosen n → Contains numbers n
-  pub all : (n : ℕ) (s : DataRow) → Contains numbers n → IsDataRow rows n s → HasEntries headings s text → Contains chosen n
+  pub all : (n : ℕ) (s : DataRow) → Contains numbers n → At rows n s → HasEntries headings s text → Contains chosen n
 
 -- the same of the rows of the parent group, under the link headings to it
 abbrev pub AreCandidatesFor : List PlacedRow → ParentLinks → List ℕ → List ℕ → Type 0
@@ -124,7 +136,9 @@ AreLookups rows of_groups links lookups = AreKept links lookups (IsLookupAt rows
 
 -- the places of the link headings, and the first place of a group with the same links
 abbrev pub IsPlacedAt : List Family → List (List ℕ) → ℕ → ParentLinks → LinkPlaces → Type 0
-IsPlacedAt families texts place links kept = ((family : Family) → IsAt families place family → kept.places.items ≡ map (place_in family.headings) (link_names links))
+IsPlacedAt families texts place links kept =
+    ((family : Family) → At families place family
+    → kept.places.items ≡ map (place_in family.headings) (link_names links))
     × (place_in texts links.text.items ≡ Some kept.lookup)
 
 -- it is a row of the group's parent group, and the text its entries under the headings
@@ -132,25 +146,32 @@ abbrev pub HasParentEntries : Entries → List ℕ → List (List ℕ) → DataR
 HasParentEntries entries group headings r text = (parent_of entries group ≡ Some r.group) × HasEntries headings r text
 
 -- the rows of the group's parent group are found by their entries under its link headings, where some row asks for them
-pub record IsParentIndex (entries : Entries) (rows : List PlacedRow) (of_groups : List LinkPlaces) (lookups : List Lookup) (group : Group) (links : LinkPlaces) : Type 0 where
+pub record IsParentIndex (entries : Entries) (rows : List PlacedRow) (of_groups : List LinkPlaces)
+    (lookups : List Lookup) (group : Group) (links : LinkPlaces) : Type 0 where
   pub names : List (List ℕ)
   pub lookup : Lookup
-  pub stands : IsAt lookups links.lookup lookup
+  pub stands : At lookups links.lookup lookup
   pub places : links.places.items ≡ map (place_in group.headings) names
-  pub headings : (n : ℕ) (s : DataRow) → IsDataRow (map row_of rows) n s → parent_of entries group.name ≡ Some s.group → AreLinkHeadings entries s.group group.headings names
-  pub finds : FindsAsked lookup (IsAskedOf rows of_groups links.lookup) (HasText (map row_of rows) (HasParentEntries entries group.name names))
+  pub headings : (n : ℕ) (s : DataRow) → At (map row_of rows) n s → parent_of entries group.name ≡ Some s.group
+      → AreLinkHeadings entries s.group group.headings names
+  pub finds : FindsAsked lookup (IsAskedOf rows of_groups links.lookup)
+      (HasText (map row_of rows) (HasParentEntries entries group.name names))
 
 abbrev pub AreParents : Entries → List PlacedRow → List Group → ParentLookups → Type 0
-AreParents entries rows groups parents = AreKept groups parents.of_groups.items (λ place. IsParentIndex entries rows parents.of_groups.items parents.lookups.items)
+AreParents entries rows groups parents =
+    AreKept groups parents.of_groups.items
+    (λ place. IsParentIndex entries rows parents.of_groups.items parents.lookups.items)
 
 -- the row's group has link places, and these a look-up
 abbrev pub HasLookup : ParentLookups → PlacedRow → Type 0
 HasLookup parents row = (row.place < length parents.of_groups.items)
-    × ((links : LinkPlaces) → IsAt parents.of_groups.items row.place links → links.lookup < length parents.lookups.items)
+    × ((links : LinkPlaces) → At parents.of_groups.items row.place links → links.lookup < length parents.lookups.items)
 
 -- the span is where the look-up of the row's group has the row's entries under its link headings
 abbrev pub IsParentSpan : ParentLookups → PlacedRow → Span → Type 0
-IsParentSpan parents row span = (links : LinkPlaces) (lookup : Lookup) → IsAt parents.of_groups.items row.place links → IsAt parents.lookups.items links.lookup lookup
+IsParentSpan parents row span =
+    (links : LinkPlaces) (lookup : Lookup) → At parents.of_groups.items row.place links
+    → At parents.lookups.items links.lookup lookup
     → IsSpanOf lookup (text_at links.places.items row) span
 
 abbrev pub AreParentSpans : List PlacedRow → ParentLookups → List Span → Type 0
@@ -169,13 +190,14 @@ abbrev pub part_of : List ℕ → Span → List ℕ
 part_of numbers span = take (span.end - span.first) (drop span.first numbers)
 
 -- row n has its parent rows in the span, among those of the look-up of its group
-pub record IsParentList (entries : Entries) (rows : List DataRow) (parents : ParentLists) (n : ℕ) (row : PlacedRow) (span : Span) : Type 0 where
+pub record IsParentList (entries : Entries) (rows : List DataRow) (parents : ParentLists) (n : ℕ) (row : PlacedRow)
+    (span : Span) : Type 0 where
   pub links : LinkPlaces
   pub list : Vec ℕ Global
-  pub grouped : IsAt parents.of_groups.items row.place links
-  pub stands : IsAt parents.lists.items links.lookup list
+  pub grouped : At parents.of_groups.items row.place links
+  pub stands : At parents.lists.items links.lookup list
   pub inside : IsInside list.items span
-  pub lists : ListsRows (part_of list.items span) (Between rows (IsParentRow entries) n)
+  pub lists : ListsRows (part_of list.items span) (RowsRelate rows (IsParentRow entries) n)
 
 abbrev pub AreParentLists : Entries → List PlacedRow → ParentLists → List Span → Type 0
 AreParentLists entries rows parents spans = AreKept rows spans (IsParentList entries (map row_of rows) parents)

@@ -7,4 +7,5 @@ use Rattle.ags_links.specs.DataRows.{DataRow, entry_of}
 -- a KEY heading of the parent group that stands in r's HEADING row
 abbrev pub IsParentRow : Entries → DataRow → DataRow → Type 0
 IsParentRow entries r s = (parent_of entries r.group ≡ Some s.group)
-    × ((heading : List ℕ) → Contains (keys_of entries s.group) heading × Contains r.headings heading → entry_of r heading ≡ entry_of s heading)
+    × ((heading : List ℕ) → Contains (keys_of entries s.group) heading × Contains r.headings heading
+    → entry_of r heading ≡ entry_of s heading)

@@ -34,4 +34,6 @@ ListsTexts texts IsOne = (text : List ℕ) → Contains (map (λ t. t.now) texts
 
 -- a part of what stands in the row at one of the places; a null has none
 abbrev pub IsPartAmong : ℕ → DataRow → List (Option ℕ) → List ℕ → Type 0
-IsPartAmong separator row places part = (place : Option ℕ) × Contains places place × (field_at row.fields place ≢ []) × Contains (parts_at separator (field_at row.fields place)) part
+IsPartAmong separator row places part =
+    (place : Option ℕ) × Contains places place × (field_at row.fields place ≢ [])
+    × Contains (parts_at separator (field_at row.fields place)) part

@@ -4,11 +4,12 @@ use Rattle.std.specs.List.{find}
 use Rattle.std.specs.Option.{option_map_or}
 use Rattle.std.specs.Str.{bytes_eq}
 use Rattle.ags_rows.specs.Contents.{Contents, under}
-use Rattle.ags_text.specs.Bytes.{plus}
+use Rattle.ags_text.specs.Bytes.{plus_sign}
 use Rattle.ags_dict.specs.Entries.{Entries}
 use Rattle.ags_rows.specs.Parts.{parts_at}
 use Rattle.ags_links.specs.declared.separators.Separators.{Separators}
-use Rattle.ags_links.specs.DataRows.{DataRow, entry_of, IsDataRow}
+use Rattle.ags_rows.specs.Collecting.{At}
+use Rattle.ags_links.specs.DataRows.{DataRow, entry_of}
 use Rattle.ags_links.specs.Keys.{key_of}
 
 -- `|`, which stands between pieces where TRAN does not say otherwise
@@ -21,15 +22,20 @@ one_character entry usual = if length entry == 1 then slice_index entry 0 else u
 
 -- what stands under a heading in the first DATA row of TRAN; null where TRAN or the row is absent
 abbrev pub first_entry : Option Contents → List ℕ → List ℕ
-first_entry tran heading = option_map_or (λ group. under group.headings (slice_index_or group.rows 0 []) heading) tran []
+first_entry tran heading =
+    option_map_or (λ group. under group.headings (slice_index_or group.rows 0 []) heading) tran []
 
 abbrev pub tran_of : List Contents → Option Contents
 tran_of contents = find (λ group. bytes_eq group.name (codes "TRAN")) contents
 
 -- TRAN_DLIM and TRAN_RCON of TRAN's first DATA row where they are one character, else `|` and `+`
 abbrev pub separators_of : List Contents → Separators
-separators_of contents = let entry = first_entry (tran_of contents) in
-    record { delimiter = one_character (entry (codes "TRAN_DLIM")) bar; concatenator = one_character (entry (codes "TRAN_RCON")) plus }
+separators_of contents =
+    let entry = first_entry (tran_of contents) in
+    record {
+      delimiter = one_character (entry (codes "TRAN_DLIM")) bar;
+      concatenator = one_character (entry (codes "TRAN_RCON")) plus_sign;
+    }
 
 -- a part, cut at the delimiter, is the group of s and then all entries of its key, in dictionary order
 abbrev pub Names : Entries → ℕ → List ℕ → DataRow → Type 0
@@ -41,8 +47,9 @@ IsPartOf separators row heading part = Contains (parts_at separators.concatenato
 
 -- the part names row n of the file
 abbrev pub NamesAt : Entries → Separators → List DataRow → List ℕ → ℕ → Type 0
-NamesAt entries separators rows part n = (s : DataRow) × IsDataRow rows n s × Names entries separators.delimiter part s
+NamesAt entries separators rows part n = (s : DataRow) × At rows n s × Names entries separators.delimiter part s
 
 -- some part of what stands in the row under the heading names no row
 abbrev pub IsBroken : Entries → Separators → List DataRow → DataRow → List ℕ → Type 0
-IsBroken entries separators rows row heading = (part : List ℕ) × IsPartOf separators row heading part × ((n : ℕ) → NamesAt entries separators rows part n → ⊥)
+IsBroken entries separators rows row heading =
+    (part : List ℕ) × IsPartOf separators row heading part × ((n : ℕ) → ¬ (NamesAt entries separators rows part n))

@@ -3,7 +3,7 @@
 use Rattle.std.specs.Prelude.{◌≡◌, ◌↔◌, ℕ, ◌<◌, List, [], ◌∷◌, Bool, true, false, Contains, slice_index_or, All}
 
 -- a graph as contracts see it: how many rows there are, and the steps as they were given
-pub record Wiring : Type 0 where
+pub record StepGraph : Type 0 where
   pub rows : ℕ
   pub steps : List (ℕ × ℕ)
 
@@ -41,6 +41,6 @@ abbrev pub AreReachedFrom : List (ℕ × ℕ) → List Bool → List Bool → Ty
 AreReachedFrom steps from marks = (s : ℕ) → IsMarked marks s ↔ IsReached (HasStep steps) (IsMarked from) s
 
 -- of the rows of the graph exactly those are marked from which only permitted rows are reached
-abbrev pub AreShownUnder : Wiring → List Bool → List Bool → Type 0
+abbrev pub AreShownUnder : StepGraph → List Bool → List Bool → Type 0
 AreShownUnder graph permitted marks =
     (r : ℕ) → r < graph.rows → IsMarked marks r ↔ IsShown (HasStep graph.steps) (IsMarked permitted) r

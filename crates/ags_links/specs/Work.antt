@@ -9,7 +9,8 @@ targets steps r = map (λ (p : ℕ × ℕ). p.1) (filter (λ (p : ℕ × ℕ). p
 
 -- each row's list has its targets
 abbrev pub IsAdjacency : List (ℕ × ℕ) → List (Vec ℕ Global) → Type 0
-IsAdjacency steps beside = (r : ℕ) (d : Vec ℕ Global) → r < length beside → (slice_index_or beside r d).items ≡ targets steps r
+IsAdjacency steps beside =
+    (r : ℕ) (d : Vec ℕ Global) → r < length beside → (slice_index_or beside r d).items ≡ targets steps r
 
 -- the step the other way round
 abbrev pub swapped : ℕ × ℕ → ℕ × ℕ

@@ -72,7 +72,7 @@ fn family_of<'s, 'd>(
     ensures { IfOk result (λ family. IsFamily dictionary.now group.now family) }
 {
     let headings = Places::of_cells(alloc, group.headings.as_slice())?;
-    let listed = dictionary.keys(alloc, group.name.as_slice())?;
+    let listed = dictionary.keys(group.name.as_slice())?;
     let key_headings = Places::of(alloc, listed)?;
     let keys = places_of(alloc, &headings, key_headings.names())?;
     let file_set = headings.find(b"FILE_FSET");

@@ -15,9 +15,9 @@ pub struct Graph {
 }
 
 impl Model for Graph {
-    ghost use Rattle.ags_links.specs.Walks.{Wiring, InRange};
+    ghost use Rattle.ags_links.specs.Walks.{StepGraph, InRange};
 
-    ghost Value = { Wiring };
+    ghost Value = { StepGraph };
 
     ghost view = { λ g. record { rows = g.rows; steps = g.steps.items } };
 

@@ -86,7 +86,8 @@ pub(crate) fn each_once(numbers: Vec<u32>) -> Vec<u32>
 }
 
 impl<'s, 'f, 'd> Index<'s, 'f, 'd> {
-    ghost use Rattle.ags_links.specs.DataRows.{ListsRows, IsDataRow};
+    ghost use Rattle.ags_rows.specs.Collecting.{At};
+    ghost use Rattle.ags_links.specs.DataRows.{ListsRows};
     ghost use Rattle.ags_links.specs.Families.{IsFamily};
     ghost use Rattle.ags_links.specs.Placing.{row_of};
     ghost use Rattle.ags_links.specs.Indexing.{rows_in, IsParentAt, IsFirstOfKeyAt, IsFileRowAt, IsNamedBy, ListsPartsAt, ListsLinkedPartsAt, TellsIfBroken, AreTargetsAt};
@@ -130,7 +131,7 @@ impl<'s, 'f, 'd> Index<'s, 'f, 'd> {
     /// The row, and what is kept for its group.
     pub(crate) fn kept(&self, row: u32) -> (&PlacedRow<'s, 'f>, &Family<'s, 'd>)
         requires { row < length (rows_in self.now) }
-        ensures row { IsDataRow (rows_in self.now) row (row_of result.0.now) }
+        ensures row { At (rows_in self.now) row (row_of result.0.now) }
         ensures family { IsFamily self.now.entries result.0.now.group.now result.1.now }
     {
         let kept = &self.rows[row as usize];
@@ -157,19 +158,19 @@ impl<'s, 'f, 'd> Index<'s, 'f, 'd> {
     }
 
     /// Whether the row has a parent row (Rule 10c).
-    pub fn has_parent(&self, row: u32) -> Result<bool, AllocError>
+    pub fn has_parent(&self, row: u32) -> bool
         requires { row < length (rows_in self.now) }
-        ensures { IfOk result (λ has. IsTrue has ↔ ((m : ℕ) × IsParentAt self.now row m)) }
+        ensures { IsTrue result ↔ ((m : ℕ) × IsParentAt self.now row m) }
     {
-        Ok(!self.parent_rows(row).is_empty())
+        !self.parent_rows(row).is_empty()
     }
 
     /// The first row of the row's group with an equal key (Rule 10a).
-    pub fn first_of_key(&self, row: u32) -> Result<u32, AllocError>
+    pub fn first_of_key(&self, row: u32) -> u32
         requires { row < length (rows_in self.now) }
-        ensures { IfOk result (IsFirstOfKeyAt self.now row) }
+        ensures { IsFirstOfKeyAt self.now row result }
     {
-        Ok(self.firsts[row as usize])
+        self.firsts[row as usize]
     }
 
     /// The rows of FILE with the row's FILE_FSET (Rule 20); none where it is null or absent.

@@ -10,7 +10,7 @@ ghost use Rattle.ags_links.specs.Indexing.{rows_in, IsNamedAmong, IsLinkedAt, Is
 ghost use Rattle.ags_links.specs.Steps.{StepAt};
 
 use crate::index::{Index, each_once};
-use ags_text::is_definition;
+use ags_rows::is_definition;
 use std::alloc::{AllocError, Global};
 
 /// Adds the rows that the parts name; a part that names none adds none.

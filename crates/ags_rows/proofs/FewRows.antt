@@ -7,7 +7,7 @@ use Rattle.ags_rows.specs.declared.rows.Row.{Row}
 use Rattle.ags_rows.specs.declared.rows.Group.{Group}
 use Rattle.ags_rows.specs.Lines.{TextLine, Lines, after_byte_order_mark}
 use Rattle.ags_rows.specs.Rows.{RowsFrom}
-use Rattle.ags_rows.specs.Groups.{Groups, data_row, rows_of, row_count}
+use Rattle.ags_rows.specs.Groups.{Groups, as_file_row, rows_of, row_count}
 use Rattle.ags_rows.proofs.Files.{lines_within}
 
 -- a line spells one row at most
@@ -24,7 +24,7 @@ data_rows_fit (g ∷ groups) =
       arith,
       length-append g.rows (flat_map (λ (h : Group). h.rows) groups),
       length-append (rows_of g) (flat_map rows_of groups),
-      length-map g.rows data_row,
+      length-map g.rows as_file_row,
       data_rows_fit groups,
     )
 

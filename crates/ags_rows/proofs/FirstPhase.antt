@@ -7,11 +7,11 @@ use Rattle.ags_rows.specs.Lines.{TextLine, Lines, after_byte_order_mark}
 use Rattle.ags_rows.specs.Rows.{RowsFrom}
 use Rattle.ags_rows.specs.Groups.{Groups}
 use Rattle.ags_rows.specs.Collecting.{Adds}
-use Rattle.ags_rows.specs.Stands.{StandsInLines, StandsInBytes, StandsInSpelling}
+use Rattle.ags_rows.specs.Stands.{StandsInLines, StandsInLinesLoosely}
 use Rattle.ags_rows.specs.Findings.{FileParts, ArePartsOf, FirstFound, GroupsOrNone}
-use Rattle.ags_rows.specs.Parsing.{AreTaken, AreRows, later_phases, LaterFindings}
-use Rattle.ags_rows.proofs.Collecting.{listed_all, none_listed}
-use Rattle.ags_rows.proofs.Breaking.{adds_lines}
+use Rattle.ags_rows.specs.Parsing.{StandsInBytes, StandsInSpelling, AreTaken, AreRows, later_phases, LaterFindings}
+use Rattle.ags_rows.proofs.Collecting.{adds_same, listed_all, none_listed}
+use Rattle.ags_rows.proofs.Breaking.{adds_lines, spelled_loosely, loosely_spelled}
 use Rattle.ags_rows.proofs.Cuts.{some_groups}
 use Rattle.ags_rows.proofs.FewRows.{rows_within}
 use Rattle.ags_rows.proofs.Once.{same_cutting}
@@ -45,15 +45,15 @@ rows_strict bytes lines noted rows found cut first h =
       listed_all h.1 found (adds_lines lines [] noted h.1 first h.2) h.3,
     )
 
--- what stands in the lines' spelling alone
+-- what stands in the lines' spelling, and nothing that was noted before
 pub rows_loose : (bytes : List ℕ) (lines : List TextLine) (noted : List Finding) (rows : List FileRow) (found : List Finding)
-    → Lines (after_byte_order_mark bytes) lines → noted ≡ [] → AreTaken lines noted rows found → AreRows StandsInSpelling bytes rows found
+    → Lines (after_byte_order_mark bytes) lines → noted ≡ [] → AreTaken lines noted rows found → AreRows StandsInLinesLoosely bytes rows found
 rows_loose bytes lines noted rows found cut none h =
     let groups = some_groups rows in (
       record { lines = lines; rows = rows; groups = groups.0 },
       record { lines = cut; rows = h.0; groups = groups.1 },
       refl,
-      listed_all h.1 found (subst (λ (l : List Finding). Adds (StandsInSpelling lines) l h.1) none h.2) h.3,
+      listed_all h.1 found (adds_same [] h.1 (spelled_loosely lines) (loosely_spelled lines) (subst (λ (l : List Finding). Adds (StandsInSpelling lines) l h.1) none h.2)) h.3,
     )
 
 -- ---- the phases together, behind a first phase of whichever kind

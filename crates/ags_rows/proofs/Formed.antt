@@ -8,12 +8,13 @@ use Rattle.ags_rows.specs.declared.code.Code.TheVariants.{Rule2, Rule4, Rule19, 
 use Rattle.ags_rows.specs.declared.finding.Finding.{Finding}
 use Rattle.ags_text.specs.Names.{is_group_name, is_heading_name}
 use Rattle.ags_rows.specs.Collecting.{At, finding_at, OneOf}
-use Rattle.ags_rows.specs.Stands.{shape_rules, StandsInName, StandsInGroups}
-use Rattle.ags_rows.specs.Parsing.{StandsInHeadings}
+use Rattle.ags_rows.specs.Stands.{shape_rules, StandsInGroups}
+use Rattle.ags_rows.specs.Parsing.{StandsInName, StandsInHeadings}
 use Rattle.ags_rows.specs.Contents.{contents_of, fields_of, group_contents}
 use Rattle.ags_rows.specs.Writing.{ArePlain, IsPlainGroup, AreUnder, AreHeadings, StandOnce, group_names, IsWellFormedGroup, IsWellFormed}
 use Rattle.ags_rows.proofs.Written.{all_at}
-use Rattle.ags_rows.proofs.WellFormed.{all_from_at, once_apart, once_from, map_at, at_map}
+use Rattle.ags_rows.proofs.AtPlaces.{at_map, at_mapped}
+use Rattle.ags_rows.proofs.WellFormed.{all_from_at, once_apart, once_from}
 
 -- ---- the names of groups
 
@@ -35,13 +36,13 @@ shape_clear g w f (inr (inl n)) = w.headings.some n.0
 shape_clear g w f (inr (inr (inl n))) = n.0 w.units.count
 shape_clear g w f (inr (inr (inr (inl n)))) = n.0 w.types.count
 shape_clear g w f (inr (inr (inr (inr (inl n))))) =
-    let under = all_at (AreUnder g.headings) (map fields_of g.rows) n.0 n.1.cells w.rows (map_at fields_of g.rows n.0 n.1 n.2) in
+    let under = all_at (AreUnder g.headings) (map fields_of g.rows) n.0 n.1.cells w.rows (at_map fields_of g.rows n.0 n.1 n.2) in
     n.3.0 under.count
 shape_clear g w f (inr (inr (inr (inr (inr n))))) = n
 
 name_clear : (groups : List Group) (k : ℕ) (g : Group) → At groups k g → IsWellFormedGroup (group_contents g) → StandOnce (scanned_names groups) → (f : Finding) → StandsInName g.line Rule19 P1 is_group_name (scanned_names groups) k g.name f → ⊥
 name_clear groups k g at w once f (inl n) = not_both (is_group_name g.name) w.name n.0
-name_clear groups k g at w once f (inr (inl n)) = once_apart (scanned_names groups) n.0.0 k g.name g.name once n.0.1 n.0.2 (map_at (λ (x : Group). x.name) groups k g at) refl
+name_clear groups k g at w once f (inr (inl n)) = once_apart (scanned_names groups) n.0.0 k g.name g.name once n.0.1 n.0.2 (at_map (λ (x : Group). x.name) groups k g at) refl
 name_clear groups k g at w once f (inr (inr n)) = n
 
 headings_clear : (g : Group) → IsWellFormedGroup (group_contents g) → (f : Finding) → StandsInHeadings g f → ⊥
@@ -54,7 +55,7 @@ headings_clear g w f h =
 
 pub formed_clear : (groups : List Group) → IsWellFormed (contents_of groups) → (f : Finding) → StandsInGroups groups f → ⊥
 formed_clear groups w f h =
-    let group = all_at IsWellFormedGroup (contents_of groups) h.0 (group_contents h.1) w.each (map_at group_contents groups h.0 h.1 h.2) in
+    let group = all_at IsWellFormedGroup (contents_of groups) h.0 (group_contents h.1) w.each (at_map group_contents groups h.0 h.1 h.2) in
     let once = subst StandOnce (same_names groups) w.names_once in
     elim h.3 [
       | inl n ↦ shape_clear h.1 group f n
@@ -79,10 +80,10 @@ no_rows (row ∷ rows) e = absurd cc
 rows_formed : (groups : List Group) → Clear groups → (k : ℕ) (g : Group) → At groups k g → AllByRecursion ArePlain (map fields_of g.rows) → AllByRecursion (AreUnder g.headings) (map fields_of g.rows)
 rows_formed groups clear k g at plain =
     all_from_at (AreUnder g.headings) (map fields_of g.rows) (λ j fields here.
-    let row = at_map fields_of g.rows j fields here in
+    let row = at_mapped fields_of g.rows j fields here in
     subst (AreUnder g.headings) row.2 (record {
       count = same_count (length row.0.cells) (length g.headings) (λ ne. clear (finding_at row.0.line Rule4 g.name) (k, g, at, inl (inr (inr (inr (inr (inl (j, row.0, row.1, (ne, refl, refl, refl)))))))));
-      plain = all_at ArePlain (map fields_of g.rows) j row.0.cells plain (map_at fields_of g.rows j row.0 row.1);
+      plain = all_at ArePlain (map fields_of g.rows) j row.0.cells plain (at_map fields_of g.rows j row.0 row.1);
     }))
 
 headings_formed : (groups : List Group) → Clear groups → (k : ℕ) (g : Group) → At groups k g → AreHeadings g.headings
@@ -113,7 +114,7 @@ group_formed groups clear k g at plain = record {
 names_formed : (groups : List Group) → Clear groups → StandOnce (scanned_names groups)
 names_formed groups clear =
     once_from (scanned_names groups) (λ i j x y lt a b e.
-    let group = at_map (λ (g : Group). g.name) groups j y b in
+    let group = at_mapped (λ (g : Group). g.name) groups j y b in
     let earlier : At (scanned_names groups) i group.0.name = subst (At (scanned_names groups) i) (e ∙ sym group.2) a in
     clear (finding_at group.0.line P1 group.0.name) (j, group.0, group.1, inr (inl (inr (inl ((i, lt, earlier), refl, refl, refl))))))
 
@@ -121,8 +122,8 @@ pub clear_formed : (groups : List Group) → groups ≢ [] → AllByRecursion Is
 clear_formed groups some plain clear = record {
   some = some_contents groups some;
   each = all_from_at IsWellFormedGroup (contents_of groups) (λ k c here.
-      let group = at_map group_contents groups k c here in
-      subst IsWellFormedGroup group.2 (group_formed groups clear k group.0 group.1 (all_at IsPlainGroup (contents_of groups) k (group_contents group.0) plain (map_at group_contents groups k group.0 group.1))));
+      let group = at_mapped group_contents groups k c here in
+      subst IsWellFormedGroup group.2 (group_formed groups clear k group.0 group.1 (all_at IsPlainGroup (contents_of groups) k (group_contents group.0) plain (at_map group_contents groups k group.0 group.1))));
   names_once = subst StandOnce (sym (same_names groups)) (names_formed groups clear);
 } where
   some_contents : (groups : List Group) → groups ≢ [] → contents_of groups ≢ []

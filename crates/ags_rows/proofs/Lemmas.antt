@@ -1,7 +1,7 @@
 -- What proofs and definitions of the crates above cite of this one, beside its contracts and definitions. Each is proved here: nothing in it has to be believed.
 -- What stands at a place of a list, and what a list contains.
-pub use Rattle.ags_rows.proofs.AtPlaces.{at_within, at_read, at_from_read, contains_at, at_contained, take_at}
-pub use Rattle.ags_rows.proofs.Collecting.{none_is, before_or_at, some_same}
+pub use Rattle.ags_rows.proofs.AtPlaces.{at_get, get_at, at_read, at_from_read, at_same, at_map, at_mapped, contains_at, at_contained, take_at}
+pub use Rattle.ags_rows.proofs.Collecting.{none_is, before_or_at}
 pub use Rattle.ags_rows.proofs.Written.{all_at}
 pub use Rattle.ags_rows.proofs.WellFormed.{all_from_at, once_apart, once_from}
 -- Findings that are added rule by rule and element by element, sorted at the end, and of the first phase that has any.

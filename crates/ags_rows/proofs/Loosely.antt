@@ -2,21 +2,16 @@
 use Rattle.std.proofs.Common.{ℕ, List, [], inr}
 use Rattle.ags_rows.specs.declared.finding.Finding.{Finding}
 use Rattle.ags_rows.specs.declared.rows.Group.{Group}
-use Rattle.ags_rows.specs.Lines.{TextLine}
-use Rattle.ags_rows.specs.Stands.{StandsInLines, StandsInSpelling}
+use Rattle.ags_rows.specs.Stands.{StandsInLines}
 use Rattle.ags_rows.specs.Findings.{FileParts, FirstFound, phases, loose_phases, RowFindings, LooseFindings, FileGroups, LooseGroups}
 use Rattle.ags_rows.specs.Parsing.{later_phases}
 use Rattle.ags_rows.proofs.WellFormed.{clear_first}
-
--- what stands against the spelling of a line stands against the line
-spelling_stands : (lines : List TextLine) (f : Finding) → StandsInSpelling lines f → StandsInLines lines f
-spelling_stands lines f h = (h.0, h.1, h.2, inr (inr h.3))
 
 -- phases in which nothing stands, with Rules 1 and 2a struck out
 loose_first : (file : FileParts) → FirstFound (phases file) [] → FirstFound (loose_phases file) []
 loose_first file h =
     let clear = clear_first (StandsInLines file.lines) (later_phases file.rows file.groups) h in
-    inr (λ f s. clear.0 f (spelling_stands file.lines f s), clear.1)
+    inr (λ f s. clear.0 f s.0, clear.1)
 
 pub loose_findings : (bytes : List ℕ) → RowFindings bytes [] → LooseFindings bytes []
 loose_findings bytes h = (h.0, h.1, loose_first h.0 h.2)

@@ -1,6 +1,6 @@
 -- Names that were met and names that stand earlier in their list.
 use Rattle.std.proofs.Common.{◌≡◌, ℕ, ◌+◌, Bool, true, false, cond, eqb, nat_cmp, List, [], ◌∷◌, length, Option, Some, refl, sym, ap, subst, ◌∙◌, arith, inl, inr}
-use Rattle.std.specs.Prelude.{◌⊎◌, ◌↔◌, is_some, slice_get, not}
+use Rattle.std.specs.Prelude.{◌⊎◌, ◌↔◌, is_some, not}
 use Rattle.std.specs.Str.{bytes_eq}
 use Rattle.std.specs.Borrow.{Bor}
 use Rattle.std.specs.BTreeMap.{BTreeMap, UpdatesBy, is_at}
@@ -16,9 +16,10 @@ use Rattle.ags_rows.specs.declared.finding.Finding.{Finding}
 use Rattle.ags_rows.specs.declared.rows.Group.{Group}
 use Rattle.ags_text.specs.Names.{is_group_name, is_heading_name}
 use Rattle.ags_rows.specs.Collecting.{At, Adds, OneOf}
-use Rattle.ags_rows.specs.Stands.{IsRepeat, StandsInName, shape_rules, group_rules}
-use Rattle.ags_rows.specs.Parsing.{IsMet, met_rules, StandsInHeadings}
-use Rattle.ags_rows.proofs.Collecting.{adds_same, before_or_at, some_same}
+use Rattle.ags_rows.specs.Stands.{IsRepeat, shape_rules, group_rules}
+use Rattle.ags_rows.specs.Parsing.{StandsInName, IsMet, met_rules, StandsInHeadings}
+use Rattle.ags_rows.proofs.Collecting.{adds_same, before_or_at}
+use Rattle.ags_rows.proofs.AtPlaces.{at_same}
 
 -- ---- tests turned
 
@@ -68,7 +69,7 @@ repeat_more names i name Old New at before more q = (
   ],
   λ r. elim (before_or_at r.0 i r.1) [
     | inl lt ↦ (more q).1 (inr ((before q).1 (r.0, lt, r.2)))
-    | inr e ↦ (more q).1 (inl (some_same name q (slice_get names i) at (subst (λ (k : ℕ). At names k q) e r.2)))
+    | inr e ↦ (more q).1 (inl (at_same names i name q at (subst (λ (k : ℕ). At names k q) e r.2)))
   ],
 )
 

@@ -7,7 +7,7 @@ use Rattle.ags_rows.specs.declared.rows.Group.{Group}
 use Rattle.ags_rows.specs.Rows.{descriptor_text}
 use Rattle.ags_rows.specs.Spelling.{line_of}
 use Rattle.ags_rows.specs.Contents.{Contents, fields_of, group_contents, contents_of}
-use Rattle.ags_rows.specs.Groups.{data_row, rows_of, row_count}
+use Rattle.ags_rows.specs.Groups.{as_file_row, rows_of, row_count}
 use Rattle.ags_rows.specs.Findings.{LooseGroups}
 use Rattle.ags_rows.specs.RowTexts.{each_row, each_data_row, row_text, row_texts, is_data_text}
 use Rattle.ags_rows.specs.Writing.{written_row, group_lines}
@@ -76,7 +76,7 @@ texts_counted (group ∷ groups) =
       length-append (rows_of group) (flat_map rows_of groups),
       length-map fields (row_text group.name kinds.Data),
       length-map group.rows fields_of,
-      length-map group.rows data_row,
+      length-map group.rows as_file_row,
       texts_counted groups,
     )
 

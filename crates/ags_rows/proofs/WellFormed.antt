@@ -1,9 +1,8 @@
 -- What stands in a file without findings is well formed.
 use Rattle.std.proofs.Common.{◌≡◌, ◌≢◌, ℕ, zero, suc, ◌+◌, ◌<◌, ◌≤◌, true, false, List, [], ◌∷◌, ◌++◌, get_or, map, flat_map, refl, sym, ap, subst, ◌∙◌, arith, inl, inr}
-use Rattle.std.specs.Prelude.{Any, nat_le, option_map, replicate}
+use Rattle.std.specs.Prelude.{Any, nat_le, replicate}
 use Rattle.std.specs.List.{AllByRecursion, list_any}
 use Rattle.std.proofs.lemmas.Bool.{cases_eq, cases_Bool, eq-eqb, ne_eqb, or_parts, leb-true, leb-false}
-use Rattle.std.proofs.lemmas.Option.{slice_get_within, slice_get-map, slice_get-get_or, get_or_from_slice_get}
 use Rattle.std.proofs.lemmas.List.Folds.{Any-from_list_any}
 use Rattle.ags_rows.specs.declared.rows.FileRow.{FileRow}
 use Rattle.ags_rows.specs.declared.rows.Row.{Row}
@@ -15,19 +14,20 @@ use Rattle.ags_text.specs.Bytes.{Lacks}
 use Rattle.ags_rows.specs.Spelling.{Spells, IsPiece, doubled, quoted}
 use Rattle.ags_rows.specs.Lines.{TextLine}
 use Rattle.ags_rows.specs.Rows.{descriptor_text, IsRow, RowsFrom}
-use Rattle.ags_rows.specs.Groups.{data_row, rows_of}
+use Rattle.ags_rows.specs.Groups.{as_file_row, rows_of}
 use Rattle.ags_rows.specs.Collecting.{At}
 use Rattle.ags_rows.specs.Stands.{StandsInLines, StandsInOrder, StandsInGroups}
 use Rattle.ags_rows.specs.Findings.{FirstFound, FileGroups}
 use Rattle.ags_rows.specs.Parsing.{later_phases}
 use Rattle.ags_rows.specs.Contents.{contents_of, fields_of}
 use Rattle.ags_rows.specs.Writing.{IsPlainByte, ArePlain, IsPlainGroup, StandOnce}
+use Rattle.ags_rows.proofs.AtPlaces.{at_read, at_from_read, at_later}
 
 -- ---- lists whose elements have a property
 
 pub all_from_at : {X : Type 0} (P : X → Type 0) (xs : List X) → ((k : ℕ) (x : X) → At xs k x → P x) → AllByRecursion P xs
 all_from_at P [] h = tt
-all_from_at P (x ∷ xs) h = (h 0 x refl, all_from_at P xs (λ k y at. h (suc k) y at))
+all_from_at P (x ∷ xs) h = (h 0 x (omega arith, refl), all_from_at P xs (λ k y at. h (suc k) y (at_later x xs k y at)))
 
 all_left : {X : Type 0} (P : X → Type 0) (a b : List X) → AllByRecursion P (a ++ b) → AllByRecursion P a
 all_left P [] b h = tt
@@ -115,7 +115,7 @@ rows_plain n (l ∷ lines) rows (inr h) low = rows_plain (n + 1) lines rows h.1 
 
 -- ---- the groups of plain rows
 
-data_plain : (rows : List Row) → AllByRecursion (λ r. ArePlain r.items) (map data_row rows) → AllByRecursion ArePlain (map fields_of rows)
+data_plain : (rows : List Row) → AllByRecursion (λ r. ArePlain r.items) (map as_file_row rows) → AllByRecursion ArePlain (map fields_of rows)
 data_plain [] h = tt
 data_plain (r ∷ rows) h = (h.0, data_plain rows h.1)
 
@@ -123,7 +123,7 @@ pub contents_plain : (groups : List Group) → AllByRecursion (λ r. ArePlain r.
 contents_plain [] h = tt
 contents_plain (g ∷ groups) h =
     let rest = h.1.1.1.1 in
-    let rows = map data_row g.rows in
+    let rows = map as_file_row g.rows in
     let P = λ (r : FileRow). ArePlain r.items in (
       record {
         name = h.0.0;
@@ -139,20 +139,11 @@ contents_plain (g ∷ groups) h =
 
 pub once_apart : (texts : List (List ℕ)) (i j : ℕ) (x y : List ℕ) → StandOnce texts → i < j → At texts i x → At texts j y → x ≡ y → ⊥
 once_apart texts i j x y once lt a b e =
-    once i j x lt (slice_get_within texts j y b) (get_or_from_slice_get texts i x x a ∙ e ∙ sym (get_or_from_slice_get texts j y x b))
+    once i j x lt b.0 (a.1 ∙ e ∙ sym (at_read texts j y x b))
 
 pub once_from : (texts : List (List ℕ)) → ((i j : ℕ) (x y : List ℕ) → i < j → At texts i x → At texts j y → x ≡ y → ⊥) → StandOnce texts
 once_from texts apart i j d lt below e =
-    apart i j (get_or texts i d) (get_or texts j d) lt (slice_get-get_or texts i d (omega (arith, lt, below))) (slice_get-get_or texts j d below) e
-
--- what stands at a place of a list, read off each element
-pub map_at : {X Y : Type 0} (f : X → Y) (xs : List X) (k : ℕ) (x : X) → At xs k x → At (map f xs) k (f x)
-map_at f xs k x e = slice_get-map f xs k ∙ ap (option_map f) e
-
-pub at_map : {X Y : Type 0} (f : X → Y) (xs : List X) (k : ℕ) (y : Y) → At (map f xs) k y → (x : X) × At xs k x × (f x ≡ y)
-at_map f [] k y e = absurd cc
-at_map f (x ∷ xs) zero y e = (x, refl, cc)
-at_map f (x ∷ xs) (suc k) y e = at_map f xs k y e
+    apart i j (get_or texts i d) (get_or texts j d) lt (at_from_read texts i _ d (omega (arith, lt, below)) refl) (at_from_read texts j _ d below refl) e
 
 -- ---- a file without findings
 

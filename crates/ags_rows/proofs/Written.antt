@@ -18,7 +18,7 @@ use Rattle.ags_rows.specs.Spelling.{Spells, doubled, quoted, line_of}
 use Rattle.ags_rows.specs.Lines.{TextLine, Lines, line_bytes, ending_bytes, after_byte_order_mark}
 use Rattle.ags_rows.specs.Rows.{descriptor_text, IsRow, RowsFrom}
 use Rattle.ags_rows.specs.Order.{may_follow, OutOfPlace}
-use Rattle.ags_rows.specs.Groups.{data_row, rows_of}
+use Rattle.ags_rows.specs.Groups.{as_file_row, rows_of}
 use Rattle.ags_rows.specs.Collecting.{At, OneOf}
 use Rattle.ags_rows.specs.Stands.{line_rules, StandsInLines, StandsInOrder}
 use Rattle.ags_rows.specs.Parsing.{IsFirstLine, MayStandBehind}
@@ -27,6 +27,7 @@ use Rattle.ags_rows.specs.Writing.{written_row, group_lines, empty_line, written
 use Rattle.ags_text.specs.Names.{is_capital, is_digit, is_group_name, is_heading_name}
 use Rattle.ags_rows.proofs.Fields.{same_fields, line_spells}
 use Rattle.ags_rows.proofs.Cuts.{type_ends, groups_behind}
+use Rattle.ags_rows.proofs.AtPlaces.{at_earlier}
 use Rattle.ags_rows.proofs.Cutting.{AreCut, lines_from_cut}
 use Rattle.ags_rows.proofs.Breaking.{blank_clear, row_clear, blank_no_row, rows_join}
 
@@ -48,9 +49,9 @@ all_weaker f [] h = tt
 all_weaker f (x ∷ xs) h = (f x h.0, all_weaker f xs h.1)
 
 pub all_at : {X : Type 0} (P : X → Type 0) (xs : List X) (k : ℕ) (x : X) → AllByRecursion P xs → At xs k x → P x
-all_at P [] k x h e = absurd cc
-all_at P (y ∷ xs) zero x h e = let z : y ≡ x = cc in subst P z h.0
-all_at P (y ∷ xs) (suc k) x h e = all_at P xs k x h.1 e
+all_at P [] k x h at = absurd (omega (arith, at.0))
+all_at P (y ∷ xs) zero x h at = subst P at.1 h.0
+all_at P (y ∷ xs) (suc k) x h at = all_at P xs k x h.1 (at_earlier y xs k x at)
 
 -- ---- the bytes of a line
 
@@ -222,11 +223,11 @@ pub groups_from : ℕ → List Contents → List Group
 groups_from n [] = []
 groups_from n (g ∷ gs) = group_from n g ∷ groups_from (n + length (group_lines g) + 1) gs
 
-data_rows : (n : ℕ) (rows : List (List (List ℕ))) → AllByRecursion ArePlain rows → RowsFrom n (map (written_row kinds.Data) rows) (map data_row (data_from n rows))
+data_rows : (n : ℕ) (rows : List (List (List ℕ))) → AllByRecursion ArePlain rows → RowsFrom n (map (written_row kinds.Data) rows) (map as_file_row (data_from n rows))
 unfolding data_from
 data_rows n [] h = refl
 data_rows n (row ∷ rows) h =
-    inl (record { line = n; descriptor = kinds.Data; items = row }, map data_row (data_from (n + 1) rows), refl, refl, spelled kinds.Data row h.0, data_rows (n + 1) rows h.1)
+    inl (record { line = n; descriptor = kinds.Data; items = row }, map as_file_row (data_from (n + 1) rows), refl, refl, spelled kinds.Data row h.0, data_rows (n + 1) rows h.1)
 
 group_rows : (n : ℕ) (g : Contents) → IsPlainGroup g → RowsFrom n (group_lines g) (rows_of (group_from n g))
 group_rows n g h =
@@ -280,32 +281,28 @@ contents_written n (g ∷ gs) =
 -- ---- rows in order break nothing
 
 follows : (d : Descriptor) (rows : List FileRow) → MayStandBehind d rows → (k : ℕ) (a b : FileRow) → At rows k a → At rows (suc k) b → may_follow a.descriptor b.descriptor ≡ true
-follows d [] m k a b p q = absurd cc
-follows d (x ∷ []) m zero a b p q = absurd cc
-follows d (x ∷ []) m (suc k) a b p q = absurd cc
+follows d [] m k a b p q = absurd (omega (arith, p.0))
+follows d (x ∷ []) m k a b p q = absurd (omega (arith, q.0))
 follows d (x ∷ y ∷ rows) m zero a b p q =
-    let e : x ≡ a = cc in
-    let f : y ≡ b = cc in
-    subst (λ (z : FileRow). may_follow z.descriptor b.descriptor ≡ true) e (subst (λ (z : FileRow). may_follow x.descriptor z.descriptor ≡ true) f m.2.0)
-follows d (x ∷ y ∷ rows) m (suc k) a b p q = follows x.descriptor (y ∷ rows) m.2 k a b p q
+    subst (λ (z : FileRow). may_follow z.descriptor b.descriptor ≡ true) p.1 (subst (λ (z : FileRow). may_follow x.descriptor z.descriptor ≡ true) q.1 m.2.0)
+follows d (x ∷ y ∷ rows) m (suc k) a b p q = follows x.descriptor (y ∷ rows) m.2 k a b (at_earlier x (y ∷ rows) k a p) (at_earlier x (y ∷ rows) (suc k) b q)
 
 ends_whole : (d : Descriptor) (rows : List FileRow) → MayStandBehind d rows → (k : ℕ) (a : FileRow) → At rows k a → k + 1 ≡ length rows → may_follow a.descriptor kinds.Group ≡ true
-ends_whole d [] m k a p e = absurd cc
-ends_whole d (x ∷ []) m zero a p e = let z : x ≡ a = cc in subst (λ (r : FileRow). may_follow r.descriptor kinds.Group ≡ true) z m.2
-ends_whole d (x ∷ []) m (suc k) a p e = absurd cc
+ends_whole d [] m k a p e = absurd (omega (arith, p.0))
+ends_whole d (x ∷ []) m zero a p e = subst (λ (r : FileRow). may_follow r.descriptor kinds.Group ≡ true) p.1 m.2
+ends_whole d (x ∷ []) m (suc k) a p e = absurd (omega (arith, p.0))
 ends_whole d (x ∷ y ∷ rows) m zero a p e = absurd (omega (arith, e))
-ends_whole d (x ∷ y ∷ rows) m (suc k) a p e = ends_whole x.descriptor (y ∷ rows) m.2 k a p (omega (arith, e))
+ends_whole d (x ∷ y ∷ rows) m (suc k) a p e = ends_whole x.descriptor (y ∷ rows) m.2 k a (at_earlier x (y ∷ rows) k a p) (omega (arith, e))
 
 named : (d : Descriptor) (rows : List FileRow) → MayStandBehind d rows → (k : ℕ) (a : FileRow) → At rows k a → a.descriptor ≡ kinds.Group → length a.items ≡ 1
-named d [] m k a p e = absurd cc
-named d (x ∷ rows) m zero a p e = let z : x ≡ a = cc in subst (λ (r : FileRow). r.descriptor ≡ kinds.Group → length r.items ≡ 1) z m.1 e
-named d (x ∷ rows) m (suc k) a p e = named x.descriptor rows m.2 k a p e
+named d [] m k a p e = absurd (omega (arith, p.0))
+named d (x ∷ rows) m zero a p e = subst (λ (r : FileRow). r.descriptor ≡ kinds.Group → length r.items ≡ 1) p.1 m.1 e
+named d (x ∷ rows) m (suc k) a p e = named x.descriptor rows m.2 k a (at_earlier x rows k a p) e
 
 place_clear : (x : FileRow) (rows : List FileRow) → x.descriptor ≡ kinds.Group → MayStandBehind kinds.Type (x ∷ rows) → (place : ℕ) (row : FileRow) → At (x ∷ rows) place row → OutOfPlace (x ∷ rows) place row → ⊥
 place_clear x rows first m place row at (inl h) =
     let here : At (x ∷ rows) 0 row = subst (λ (k : ℕ). At (x ∷ rows) k row) h.0 at in
-    let z : x ≡ row = cc in
-    h.1 (subst (λ (r : FileRow). r.descriptor ≡ kinds.Group) z first)
+    h.1 (subst (λ (r : FileRow). r.descriptor ≡ kinds.Group) here.1 first)
 place_clear x rows first m place row at (inr (inl h)) =
     let second : place ≡ suc h.1 = omega (arith, h.2) in
     let here : At (x ∷ rows) (suc h.1) row = subst (λ (k : ℕ). At (x ∷ rows) k row) second at in

@@ -18,7 +18,13 @@ fields_of row = row.cells
 
 -- the contents of one group
 abbrev pub group_contents : Group → Contents
-group_contents group = record { name = group.name; headings = group.headings; units = group.units; types = group.types; rows = map fields_of group.rows }
+group_contents group = record {
+  name = group.name;
+  headings = group.headings;
+  units = group.units;
+  types = group.types;
+  rows = map fields_of group.rows;
+}
 
 -- the contents of a file: of its groups, in their order
 abbrev pub contents_of : List Group → List Contents

@@ -5,9 +5,9 @@ use Rattle.ags_rows.specs.declared.rows.FileRow.{FileRow}
 use Rattle.ags_rows.specs.declared.rows.Row.{Row}
 use Rattle.ags_rows.specs.declared.rows.Group.{Group}
 
--- a DATA row among the others
-abbrev pub data_row : Row → FileRow
-data_row row = record { line = row.line; descriptor = kinds.Data; items = row.cells }
+-- a DATA row among rows of all kinds
+abbrev pub as_file_row : Row → FileRow
+as_file_row row = record { line = row.line; descriptor = kinds.Data; items = row.cells }
 
 -- the rows of a group: one of each kind, and its DATA rows
 abbrev pub rows_of : Group → List FileRow
@@ -16,7 +16,7 @@ rows_of group =
     ∷ record { line = group.heading_line; descriptor = kinds.Heading; items = group.headings }
     ∷ record { line = group.unit_line; descriptor = kinds.Unit; items = group.units }
     ∷ record { line = group.type_line; descriptor = kinds.Type; items = group.types }
-    ∷ map data_row group.rows
+    ∷ map as_file_row group.rows
 
 -- The rows are cut into these groups: the groups' rows, one group after the other, are the rows.
 abbrev pub Groups : List FileRow → List Group → Type 0

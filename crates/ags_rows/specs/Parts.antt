@@ -1,5 +1,5 @@
--- A text cut at a separator: a heading's status at `+`, a record link at the delimiter and the concatenator, an abbreviation at the concatenator.
--- Nothing is trimmed, and the empty text is one empty part.
+-- A text cut at a separator: a heading's status at `+`, a record link at the delimiter and the concatenator, an
+-- abbreviation at the concatenator. Nothing is trimmed, and the empty text is one empty part.
 use Rattle.std.specs.Prelude.{ℕ, List, Bool, ◌==◌}
 use Rattle.std.specs.List.{list_any, slice_split}
 use Rattle.std.specs.Str.{bytes_eq}

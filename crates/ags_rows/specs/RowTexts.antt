@@ -15,7 +15,8 @@ each_row made group =
     ∷ made kinds.Type group.types
     ∷ map (made kinds.Data) group.rows
 
--- what is made of each DATA row of a file by its group and its fields; the DATA rows are numbered from 0 over the whole file
+-- what is made of each DATA row of a file by its group and its fields; the DATA rows are numbered from 0 over the whole
+-- file
 abbrev pub each_data_row : {X : Type 0} → (Contents → List (List ℕ) → X) → List Contents → List X
 each_data_row made contents = flat_map (λ group. map (made group) group.rows) contents
 

@@ -1,12 +1,11 @@
 -- What stands against a file: for each phase its sentences, one for each rule.
-use Rattle.std.specs.Prelude.{◌≡◌, ◌≢◌, ℕ, ◌+◌, ◌<◌, ◌≤◌, List, [], ◌∷◌, map, take, drop, Any, Contains, length, Bool, false}
+use Rattle.std.specs.Prelude.{◌≡◌, ◌≢◌, ℕ, ◌+◌, ◌<◌, ◌≤◌, ◌⊎◌, List, [], ◌∷◌, map, Any, Contains, length, false}
 use Rattle.std.specs.List.{AllByRecursion}
 use Rattle.ags_rows.specs.declared.rows.Ending.TheVariants.{Lf}
 use Rattle.ags_rows.specs.declared.rows.Descriptor.{Descriptor}
 use Rattle.ags_rows.specs.declared.rows.Descriptor.TheVariants as kinds
 use Rattle.ags_rows.specs.declared.rows.FileRow.{FileRow}
 use Rattle.ags_rows.specs.declared.finding.Finding.{Finding}
-use Rattle.ags_rows.specs.declared.code.Code.{Code}
 use Rattle.ags_rows.specs.declared.code.Code.TheVariants.{Rule1, Rule2, Rule2a, Rule2b, Rule3, Rule4, Rule5, Rule6, Rule19, Rule19a, P1, P2}
 use Rattle.ags_text.specs.Bytes.{space, carriage_return, ascii_end, Lacks}
 use Rattle.ags_rows.specs.declared.rows.Group.{Group}
@@ -25,48 +24,50 @@ IsBlank content = AllByRecursion (λ b. b ≡ space) content
 
 -- fields spell it, and the first is no descriptor
 abbrev pub LacksDescriptor : List ℕ → Type 0
-LacksDescriptor content = (first : List ℕ) × (fields : List (List ℕ)) × Spells content (first ∷ fields) × ((kind : Descriptor) → first ≢ descriptor_text kind)
+LacksDescriptor content =
+    (first : List ℕ) × (fields : List (List ℕ)) × Spells content (first ∷ fields)
+    × ((kind : Descriptor) → first ≢ descriptor_text kind)
 
--- Rule 1: a byte is no ASCII. Rule 2a: the line ends with LF alone. Rule 6: a CR stands in it. Rule 5: it is not blank, has no CR, and
--- no fields spell it. Rule 3: fields spell it, and the first is no descriptor.
+-- it is not blank, has no CR, and no fields spell it
+abbrev pub LacksFields : List ℕ → Type 0
+LacksFields content = ¬ (IsBlank content) × Lacks carriage_return content × SpellsNoFields content
+
+-- Rule 1: a byte is no ASCII. Rule 2a: the line ends with LF alone. Rule 3: fields spell it, and the first is no
+-- descriptor. Rule 5: it is not blank, has no CR, and no fields spell it. Rule 6: a CR stands in it.
 abbrev pub line_rules : ℕ → TextLine → List (Finding → Type 0)
 line_rules number line =
     Notes number Rule1 [] (Any (λ b. ascii_end ≤ b) line.content)
     ∷ Notes number Rule2a [] (line.ending ≡ Lf)
+    ∷ Notes number Rule3 [] (LacksDescriptor line.content)
+    ∷ Notes number Rule5 [] (LacksFields line.content)
     ∷ Notes number Rule6 [] (Contains line.content carriage_return)
-    ∷ Notes number Rule5 [] ((IsBlank line.content → ⊥) × Lacks carriage_return line.content × SpellsNoFields line.content)
-    ∷ Notes number Rule3 [] (LacksDescriptor line.content) ∷ []
+    ∷ []
 
 -- what stands in the lines, which are numbered from 1
 abbrev pub StandsInLines : List TextLine → Finding → Type 0
 StandsInLines lines = Among lines (λ place line. OneOf (line_rules (place + 1) line))
 
--- Rules 1 and 2a alone
-abbrev pub byte_rules : ℕ → TextLine → List (Finding → Type 0)
-byte_rules number line = take 2 (line_rules number line)
+-- what reading loosely strikes out: a finding of Rule 1 or of Rule 2a
+abbrev pub IsStruck : Finding → Type 0
+IsStruck found = (found.code ≡ Rule1) ⊎ (found.code ≡ Rule2a)
 
--- what stands in the bytes of the lines: Rules 1 and 2a alone
-abbrev pub StandsInBytes : List TextLine → Finding → Type 0
-StandsInBytes lines = Among lines (λ place line. OneOf (byte_rules (place + 1) line))
-
--- the others: how a line spells its fields
-abbrev pub spelling_rules : ℕ → TextLine → List (Finding → Type 0)
-spelling_rules number line = drop 2 (line_rules number line)
-
--- what stands in the lines with Rules 1 and 2a struck out
-abbrev pub StandsInSpelling : List TextLine → Finding → Type 0
-StandsInSpelling lines = Among lines (λ place line. OneOf (spelling_rules (place + 1) line))
+-- what stands in the lines and is not struck out
+abbrev pub StandsInLinesLoosely : List TextLine → Finding → Type 0
+StandsInLinesLoosely lines found = StandsInLines lines found × ¬ (IsStruck found)
 
 -- ---- the second phase: each row among the rows
 
 -- Rules 2b, 4: the order of rows, and the one name of a group: a GROUP row has exactly one item.
 abbrev pub row_rules : List FileRow → ℕ → FileRow → List (Finding → Type 0)
 row_rules rows place row =
-    Notes row.line Rule2b [] (OutOfPlace rows place row) ∷ Notes row.line Rule4 [] ((row.descriptor ≡ kinds.Group) × (length row.items ≢ 1)) ∷ []
+    Notes row.line Rule2b [] (OutOfPlace rows place row)
+    ∷ Notes row.line Rule4 [] ((row.descriptor ≡ kinds.Group) × (length row.items ≢ 1))
+    ∷ []
 
 -- Rule 2: there is a row; then each row.
 abbrev pub StandsInOrder : List FileRow → Finding → Type 0
-StandsInOrder rows = OneOf (Notes 0 Rule2 [] (rows ≡ []) ∷ Among rows (λ place row. OneOf (row_rules rows place row)) ∷ [])
+StandsInOrder rows =
+    OneOf (Notes 0 Rule2 [] (rows ≡ []) ∷ Among rows (λ place row. OneOf (row_rules rows place row)) ∷ [])
 
 -- ---- the third phase: each group
 
@@ -81,21 +82,30 @@ shape_rules group =
     ∷ Notes group.heading_line Rule4 group.name (group.headings ≡ [])
     ∷ Notes group.unit_line Rule4 group.name (length group.units ≢ length group.headings)
     ∷ Notes group.type_line Rule4 group.name (length group.types ≢ length group.headings)
-    ∷ Among group.rows (λ place row. Notes row.line Rule4 group.name (length row.cells ≢ length group.headings)) ∷ []
+    ∷ Among group.rows (λ place row. Notes row.line Rule4 group.name (length row.cells ≢ length group.headings))
+    ∷ []
 
--- A name of a list, noted at this line with the name as subject: under the code `wrong` where its form is not right, under `repeated`
--- where it stands at an earlier place of the list as well.
-abbrev pub StandsInName : ℕ → Code → Code → (List ℕ → Bool) → List (List ℕ) → ℕ → List ℕ → Finding → Type 0
-StandsInName line wrong repeated is_name names place name =
-    OneOf (Notes line wrong name (is_name name ≡ false) ∷ Notes line repeated name (IsRepeat names place name) ∷ [])
+-- The name of a group, noted at the GROUP row. Rule 19: it is not right. P1: an earlier group has it.
+abbrev pub name_rules : List (List ℕ) → ℕ → Group → List (Finding → Type 0)
+name_rules names place group =
+    Notes group.line Rule19 group.name (is_group_name group.name ≡ false)
+    ∷ Notes group.line P1 group.name (IsRepeat names place group.name)
+    ∷ []
 
--- All rules of a group: its shape; its name (Rule 19, and P1: an earlier group has it), noted at the GROUP row; each heading (Rule 19a,
--- and P2: it stands earlier in the row), noted at the HEADING row.
+-- A heading, noted at the HEADING row. Rule 19a: it is not right. P2: it stands earlier in the row.
+abbrev pub heading_rules : Group → ℕ → List ℕ → List (Finding → Type 0)
+heading_rules group place heading =
+    Notes group.heading_line Rule19a heading (is_heading_name heading ≡ false)
+    ∷ Notes group.heading_line P2 heading (IsRepeat group.headings place heading)
+    ∷ []
+
+-- All rules of a group among groups of these names: its shape, its name, and each of its headings.
 abbrev pub group_rules : List (List ℕ) → ℕ → Group → List (Finding → Type 0)
 group_rules names place group =
     OneOf (shape_rules group)
-    ∷ StandsInName group.line Rule19 P1 is_group_name names place group.name
-    ∷ Among group.headings (StandsInName group.heading_line Rule19a P2 is_heading_name group.headings) ∷ []
+    ∷ OneOf (name_rules names place group)
+    ∷ Among group.headings (λ place heading. OneOf (heading_rules group place heading))
+    ∷ []
 
 -- what stands in the groups of a file
 abbrev pub StandsInGroups : List Group → Finding → Type 0

@@ -18,7 +18,8 @@ written_row kind items = record { content = line_of (descriptor_text kind ∷ it
 
 -- a group, part by part
 abbrev pub contents_from : List ℕ → List (List ℕ) → List (List ℕ) → List (List ℕ) → List (List (List ℕ)) → Contents
-contents_from name headings units types rows = record { name = name; headings = headings; units = units; types = types; rows = rows }
+contents_from name headings units types rows =
+    record { name = name; headings = headings; units = units; types = types; rows = rows }
 
 -- the lines of a group: one for each of its rows
 abbrev pub group_lines : Contents → List TextLine

@@ -15,6 +15,7 @@ mod spelling;
 pub mod vectors;
 mod writing;
 
+pub use ags_text::{Cell, is_definition};
 pub use code::Code;
 pub use contents::{cell_at, place_in, under};
 pub use finding::{Finding, FindingList, FindingRef, NotedFindings};

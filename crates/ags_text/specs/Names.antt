@@ -26,4 +26,5 @@ is_heading_name name = is_within 9 name && list_all (λ b. (is_capital b || is_d
 
 -- the groups that define what the others use
 abbrev pub is_definition : List ℕ → Bool
-is_definition group = list_any (bytes_eq group) (codes "TRAN" ∷ codes "ABBR" ∷ codes "UNIT" ∷ codes "TYPE" ∷ codes "DICT" ∷ [])
+is_definition group =
+    list_any (bytes_eq group) (codes "TRAN" ∷ codes "ABBR" ∷ codes "UNIT" ∷ codes "TYPE" ∷ codes "DICT" ∷ [])

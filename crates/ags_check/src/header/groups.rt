@@ -4,9 +4,8 @@ ghost use Rattle.std.specs.Prelude.{◌≡◌, ◌↔◌, IsTrue, OnOk};
 ghost use Rattle.ags_rows.specs.declared.code.Code.TheVariants.{Rule10c};
 ghost use Rattle.ags_rows.specs.Collecting.{Adds, Notes};
 ghost use Rattle.ags_rows.specs.Contents.{group_contents, contents_of};
-ghost use Rattle.ags_check.specs.Header.{HasGroup, IsUnknownGroup, LacksParentGroup};
+ghost use Rattle.ags_check.specs.Header.{HasGroup, IsUnknownGroup, LacksParentGroup, unknown_code};
 ghost use Rattle.ags_check.specs.HeaderSteps.{LacksParentAmong, AtGroup};
-ghost use Rattle.ags_check.specs.HeaderPhase.{unknown_code};
 
 use crate::named_groups::NamedGroups;
 use ags_dict::{Dictionary, has_dict};

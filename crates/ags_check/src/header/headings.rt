@@ -52,7 +52,6 @@ fn note_absent(
 
 /// Rule 10a: notes the KEY headings of the group that are not in the row.
 pub(crate) fn note_absent_keys(
-    alloc: Global,
     dictionary: &Dictionary,
     group: &[u8],
     row: &Places,
@@ -62,13 +61,12 @@ pub(crate) fn note_absent_keys(
     ensures { OnOk result (Adds (AtAbsent line Rule10a (keys_of dictionary.now group.now) row.now)
         findings.old findings.new) }
 {
-    let keys = dictionary.keys(alloc, group)?;
+    let keys = dictionary.keys(group)?;
     note_absent(keys.as_slice(), row, line, Code::Rule10a, findings)
 }
 
 /// Rule 10b: notes the REQUIRED headings of the group that are not in the row.
 pub(crate) fn note_absent_required(
-    alloc: Global,
     dictionary: &Dictionary,
     group: &[u8],
     row: &Places,
@@ -78,7 +76,7 @@ pub(crate) fn note_absent_required(
     ensures { OnOk result (Adds (AtAbsent line Rule10b (required_of dictionary.now group.now) row.now)
         findings.old findings.new) }
 {
-    let required = dictionary.required(alloc, group)?;
+    let required = dictionary.required(group)?;
     note_absent(required.as_slice(), row, line, Code::Rule10b, findings)
 }
 

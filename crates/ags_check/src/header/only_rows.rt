@@ -2,8 +2,7 @@
 
 ghost use Rattle.std.specs.Prelude.{OnOk};
 ghost use Rattle.ags_rows.specs.Collecting.{Adds};
-ghost use Rattle.ags_check.specs.Header.{IsFurtherRow, IsLongSign};
-ghost use Rattle.ags_check.specs.Placing.{AtRow};
+ghost use Rattle.ags_check.specs.HeaderSteps.{AtLongSign, AtFurtherRows};
 
 use ags_rows::{Code, Group, NotedFindings, under};
 use std::alloc::AllocError;
@@ -15,7 +14,7 @@ pub(crate) fn note_long_sign(
     heading: &[u8],
     findings: &mut NotedFindings,
 ) -> Result<(), AllocError>
-    ensures { OnOk result (Adds (AtRow code heading.now IsLongSign group.now) findings.old findings.new) }
+    ensures { OnOk result (Adds (AtLongSign code heading.now group.now) findings.old findings.new) }
 {
     if group.name.as_slice() != b"TRAN".as_slice() {
         return Ok(());
@@ -36,7 +35,7 @@ pub(crate) fn note_further_rows(
     name: &[u8],
     findings: &mut NotedFindings,
 ) -> Result<(), AllocError>
-    ensures { OnOk result (Adds (AtRow code name.now IsFurtherRow group.now) findings.old findings.new) }
+    ensures { OnOk result (Adds (AtFurtherRows code name.now group.now) findings.old findings.new) }
 {
     if group.name.as_slice() != name {
         return Ok(());

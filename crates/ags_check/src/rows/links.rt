@@ -1,10 +1,9 @@
 //! The record links of a row.
 
 ghost use Rattle.std.specs.Prelude.{◌<◌, IfOk, OnOk, length};
-ghost use Rattle.ags_rows.specs.Collecting.{Adds};
-ghost use Rattle.ags_links.specs.DataRows.{IsDataRow};
+ghost use Rattle.ags_rows.specs.Collecting.{At, Adds};
 ghost use Rattle.ags_links.specs.Indexing.{rows_in};
-ghost use Rattle.ags_check.specs.RowPhase.{headed_row};
+ghost use Rattle.ags_check.specs.RowRules.{headed_row};
 ghost use Rattle.ags_check.specs.RowSteps.{SaysOfRow, HasBrokenLink, InLinks};
 
 use crate::rows::columns::{Column, is_of_type};
@@ -40,7 +39,7 @@ pub(crate) fn note_links(
     number: u32,
     findings: &mut NotedFindings,
 ) -> Result<(), AllocError>
-    requires { IsDataRow (rows_in index.now) number (headed_row outline.now.group row.now) }
+    requires { At (rows_in index.now) number (headed_row outline.now.group row.now) }
     ensures { OnOk result (Adds (InLinks index.now.entries index.now.contents outline.now.group row.now)
         findings.old findings.new) }
 {

@@ -3,7 +3,8 @@
 ghost use Rattle.std.specs.Prelude.{◌≡◌, ◌≢◌, ◌<◌, ◌↔◌, [], false, IsTrue, IfOk, length};
 ghost use Rattle.ags_rows.specs.Contents.{group_contents};
 ghost use Rattle.ags_dict.specs.Entries.{keys_of, required_of};
-ghost use Rattle.ags_links.specs.DataRows.{DataRow, IsDataRow};
+ghost use Rattle.ags_rows.specs.Collecting.{At};
+ghost use Rattle.ags_links.specs.DataRows.{DataRow};
 ghost use Rattle.ags_links.specs.Indexing.{rows_in};
 ghost use Rattle.ags_check.specs.Columns.{AreColumns};
 ghost use Rattle.ags_check.specs.RowRules.{RepeatsKey, LacksParentRow};
@@ -12,8 +13,7 @@ ghost use Rattle.ags_check.specs.RowSteps.{SaysOfRow, LacksFile};
 use crate::rows::columns::{Column, columns};
 use ags_dict::Dictionary;
 use ags_links::Index;
-use ags_rows::{Group, Places, Row, cell_at};
-use ags_text::{Cell, is_definition};
+use ags_rows::{Cell, Group, Places, Row, cell_at, is_definition};
 use std::alloc::{AllocError, Global};
 use std::marker::Model;
 
@@ -52,15 +52,15 @@ fn required_columns<'a>(
     ensures { IfOk result (λ columns.
         AreColumns (group_contents group.now) (required_of dictionary.now group.now.name) columns.items) }
 {
-    let required = dictionary.required(alloc, group.name.as_slice())?;
+    let required = dictionary.required(group.name.as_slice())?;
     columns(alloc, group, places, required.as_slice())
 }
 
 /// Whether the group has KEY headings.
-fn has_keys(alloc: Global, dictionary: &Dictionary, name: &[u8]) -> Result<bool, AllocError>
+fn has_keys(dictionary: &Dictionary, name: &[u8]) -> Result<bool, AllocError>
     ensures { IfOk result (λ has. IsTrue has ↔ (keys_of dictionary.now name.now ≢ [])) }
 {
-    let keys = dictionary.keys(alloc, name)?;
+    let keys = dictionary.keys(name)?;
     Ok(!keys.is_empty())
 }
 
@@ -83,7 +83,7 @@ impl<'a> Outline<'a> {
         ensures { IfOk result (λ outline. outline ≡ record { group = group.now; entries = dictionary.now }) }
     {
         let name = group.name.as_slice();
-        let has_keys = has_keys(alloc, dictionary, name)?;
+        let has_keys = has_keys(dictionary, name)?;
         let own_columns = columns(alloc, group, places, places.names())?;
         let required_columns = required_columns(alloc, dictionary, group, places)?;
         Ok(Outline {
@@ -127,31 +127,29 @@ impl<'a> Outline<'a> {
     }
 
     /// Rule 10a: whether an earlier row of the group has the key of this one.
-    pub(crate) fn repeats_key(&self, index: &Index, number: u32) -> Result<bool, AllocError>
+    pub(crate) fn repeats_key(&self, index: &Index, number: u32) -> bool
         requires entries { self.now.entries ≡ index.now.entries }
         requires stands { number < length (rows_in index.now) }
-        requires row { (row : DataRow) → IsDataRow (rows_in index.now) number row → row.group ≡ self.now.group.name }
-        ensures { IfOk result (SaysOfRow index.now number
-            (RepeatsKey index.now.entries index.now.contents number)) }
+        requires row { (row : DataRow) → At (rows_in index.now) number row → row.group ≡ self.now.group.name }
+        ensures { SaysOfRow index.now number (RepeatsKey index.now.entries index.now.contents number) result }
     {
         if !self.has_keys {
-            return Ok(false);
+            return false;
         }
-        Ok(index.first_of_key(number)? < number)
+        index.first_of_key(number) < number
     }
 
     /// Rule 10c: whether the group has a parent group, and the row no parent row.
-    pub(crate) fn lacks_parent(&self, index: &Index, number: u32) -> Result<bool, AllocError>
+    pub(crate) fn lacks_parent(&self, index: &Index, number: u32) -> bool
         requires entries { self.now.entries ≡ index.now.entries }
         requires stands { number < length (rows_in index.now) }
-        requires row { (row : DataRow) → IsDataRow (rows_in index.now) number row → row.group ≡ self.now.group.name }
-        ensures { IfOk result (SaysOfRow index.now number
-            (LacksParentRow index.now.entries index.now.contents)) }
+        requires row { (row : DataRow) → At (rows_in index.now) number row → row.group ≡ self.now.group.name }
+        ensures { SaysOfRow index.now number (LacksParentRow index.now.entries index.now.contents) result }
     {
         if !self.has_parent {
-            return Ok(false);
+            return false;
         }
-        Ok(!index.has_parent(number)?)
+        !index.has_parent(number)
     }
 
     /// Rule 20: whether the row is of a data group other than FILE, and its FILE_FSET is not null and not that of a row

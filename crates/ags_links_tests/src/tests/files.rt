@@ -94,7 +94,7 @@ fn tell_parents(text: &mut String, index: &Index, row: u32) -> Result<(), AllocE
     if row >= index.row_count() {
         return text.push_str("no such row");
     }
-    if index.has_parent(row)? {
+    if index.has_parent(row) {
         text.push_str("has ")?;
     }
     tell_rows(text, index.parents(row)?.as_slice())
@@ -116,7 +116,7 @@ fn tell_files(text: &mut String, index: &Index, row: u32) -> Result<(), AllocErr
     if row >= index.row_count() {
         return text.push_str("no such row");
     }
-    tell_rows(text, &[index.first_of_key(row)?])?;
+    tell_rows(text, &[index.first_of_key(row)])?;
     if index.has_file(row) {
         text.push_str("has ")?;
     }

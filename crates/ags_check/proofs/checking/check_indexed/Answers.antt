@@ -4,21 +4,21 @@ use Rattle.ags_rows.specs.declared.rows.Group.{Group}
 use Rattle.ags_rows.specs.Collecting.{OneOf}
 use Rattle.ags_rows.specs.Findings.{AreExactly}
 use Rattle.ags_check.specs.declared.checking.CheckError.TheVariants as CheckError
-use Rattle.ags_check.specs.RowPhase.{entry_rules}
+use Rattle.ags_check.specs.RowRules.{StandsInEntries}
 use Rattle.ags_check.proofs.Whole.{clear_where, found_phase}
 use Rattle.ags_check.proofs.checking.check_indexed.Goals as goal
 
 pub returns-in-Err-clause-findings : goal.returns-in-Err-clause-findings
 returns-in-Err-clause-findings c = λ found is.
-    let rules = entry_rules c.args.dictionary.now c.args.scan.now in
-    let lists : IfOk c.entry_findings.result (AreExactly (OneOf rules)) =
-    subst (λ (groups : List Group). IfOk c.entry_findings.result (AreExactly (OneOf (entry_rules c.args.dictionary.now groups)))) c.groups.ensures c.entry_findings.ensures in
+    let Stands = StandsInEntries c.args.dictionary.now c.args.scan.now in
+    let lists : IfOk c.entry_findings.result (AreExactly Stands) =
+    subst (λ (groups : List Group). IfOk c.entry_findings.result (AreExactly (StandsInEntries c.args.dictionary.now groups))) c.groups.ensures c.entry_findings.ensures in
     let same : c.in-Err.e ≡ CheckError.Findings found = cc in
-    found_phase rules c.entry_findings.result c.phase.result lists c.phase.ensures.findings found (c.in-Err.is ∙ ap (λ e. Err e) same)
+    found_phase Stands c.entry_findings.result c.phase.result lists c.phase.ensures.findings found (c.in-Err.is ∙ ap (λ e. Err e) same)
 
 pub returns-in-Ok-clause-clear : goal.returns-in-Ok-clause-clear
 returns-in-Ok-clause-clear c =
-    let rules = entry_rules c.args.dictionary.now c.args.scan.now in
-    let lists : IfOk c.entry_findings.result (AreExactly (OneOf rules)) =
-    subst (λ (groups : List Group). IfOk c.entry_findings.result (AreExactly (OneOf (entry_rules c.args.dictionary.now groups)))) c.groups.ensures c.entry_findings.ensures in
-    clear_where rules c.entry_findings.result lists c.in_default.ensures.clear
+    let Stands = StandsInEntries c.args.dictionary.now c.args.scan.now in
+    let lists : IfOk c.entry_findings.result (AreExactly Stands) =
+    subst (λ (groups : List Group). IfOk c.entry_findings.result (AreExactly (StandsInEntries c.args.dictionary.now groups))) c.groups.ensures c.entry_findings.ensures in
+    clear_where Stands c.entry_findings.result lists c.in_default.ensures.clear

@@ -1,6 +1,6 @@
 use Rattle.ags_rows.specs.Collecting.{Adds, AmongBefore, OneOf}
 use Rattle.ags_rows.specs.Contents.{contents_of}
-use Rattle.ags_check.specs.HeaderPhase.{group_header_rules}
+use Rattle.ags_check.specs.Header.{group_header_rules}
 use Rattle.ags_check.proofs.header.note_all_header_rows.Given as goal
 
 abbrev pub invariant-loop-group : goal.invariant-loop-group

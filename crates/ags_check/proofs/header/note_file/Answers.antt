@@ -4,7 +4,7 @@ use Rattle.ags_rows.specs.declared.code.Code.{Code}
 use Rattle.ags_rows.specs.Collecting.{Adds}
 use Rattle.ags_rows.specs.Contents.{contents_of}
 use Rattle.ags_rows.proofs.Lemmas.{one_more}
-use Rattle.ags_check.specs.HeaderPhase.{unknown_code, group_header_rules, file_rules}
+use Rattle.ags_check.specs.Header.{unknown_code, group_header_rules, file_rules}
 use Rattle.ags_check.specs.Placing.{InSome}
 use Rattle.ags_check.proofs.header.note_file.Goals as goal
 

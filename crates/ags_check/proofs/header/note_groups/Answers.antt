@@ -2,10 +2,10 @@ use Rattle.std.proofs.Common.{List, subst}
 use Rattle.std.specs.Prelude.{OnOk}
 use Rattle.ags_rows.specs.declared.rows.Group.{Group}
 use Rattle.ags_rows.specs.Collecting.{Adds, OneOf}
-use Rattle.ags_check.specs.HeaderPhase.{header_rules}
+use Rattle.ags_check.specs.Header.{StandsInDictionary}
 use Rattle.ags_check.proofs.header.note_groups.Goals as goal
 
 pub returns : goal.returns
 returns c =
-    subst (λ (l : List Group). OnOk c.note_file.result (Adds (OneOf (header_rules c.args.given.now c.args.extended.now l)) c.args.findings.now c.note_file.new.findings))
+    subst (λ (l : List Group). OnOk c.note_file.result (Adds (StandsInDictionary c.args.given.now c.args.extended.now l) c.args.findings.now c.note_file.new.findings))
     c.in_ok-file.ensures c.note_file.ensures

@@ -12,7 +12,7 @@ use Rattle.ags_check.proofs.EntryNotes.{entry_rules_in}
 use Rattle.ags_check.specs.RowRules.{RepeatsKey, LacksParentRow}
 use Rattle.ags_check.proofs.RowNotes.{same_group, row_noted}
 use Rattle.ags_check.proofs.rows.note_data_row.Goals as goal
-use Rattle.ags_check.proofs.rows.note_data_row.Goals.{then-branch+in_ok-note, else-branch, then-branch-2+in_ok-note-2, else-branch-2}
+use Rattle.ags_check.proofs.rows.note_data_row.Goals.{then-repeats_key+in_ok-note, else-repeats_key, then-lacks_parent+in_ok-note-2, else-lacks_parent}
 
 pub repeats_key-requires-clause-row : goal.repeats_key-requires-clause-row
 repeats_key-requires-clause-row c = λ row at. same_group (rows_in c.args.index.now) c.args.number row _ at c.requires.row
@@ -28,25 +28,25 @@ returns c =
     let r = row_in (group_contents group) (fields_of row) in
     let f0 = c.args.findings.now in
     let f1 = c.note_entries.new.findings in
-    let f2 = c.note_links.new.findings in
+    let f2 = c.if-repeats_key.findings in
     let f3 = c.note_lacking.new.findings in
-    let f4 = c.if-branch.findings in
-    let f5 = c.if-branch-2.findings in
+    let f4 = c.if-lacks_parent.findings in
+    let f5 = c.note_links.new.findings in
     let f6 = c.note_unlisted_file_set.new.findings in
-    let repeats = c.in_ok-repeats_key.ensures r c.requires.row in
-    let orphan = c.in_ok-lacks_parent.ensures r c.requires.row in
-    let key : Adds (Notes row.line Rule10a group.name (RepeatsKey file.entries file.contents c.args.number r)) f3 f4 = elim c.if-branch.branch [
-      | then-branch+in_ok-note w ↦ adds_found (repeats.0 w.if-branch.true) (cc (c.name-name.ensures, w.findings-is, w.in_ok-note.ensures.noted))
-      | else-branch w ↦ adds_unmet w.if-branch.false repeats.1 w.findings-is
+    let repeats = c.repeats_key.ensures r c.requires.row in
+    let orphan = c.lacks_parent.ensures r c.requires.row in
+    let key : Adds (Notes row.line Rule10a group.name (RepeatsKey file.entries file.contents c.args.number r)) f1 f2 = elim c.if-repeats_key.branch [
+      | then-repeats_key+in_ok-note w ↦ adds_found (repeats.0 w.if-repeats_key.true) (cc (c.name-name.ensures, w.findings-is, w.in_ok-note.ensures.noted))
+      | else-repeats_key w ↦ adds_unmet w.if-repeats_key.false repeats.1 w.findings-is
     ] in
-    let parent : Adds (Notes row.line Rule10c group.name (LacksParentRow file.entries file.contents r)) f4 f5 = elim c.if-branch-2.branch [
-      | then-branch-2+in_ok-note-2 w ↦ adds_found (orphan.0 w.if-branch-2.true) (cc (c.name-name.ensures, w.findings-is, w.in_ok-note-2.ensures.noted))
-      | else-branch-2 w ↦ adds_unmet w.if-branch-2.false orphan.1 w.findings-is
+    let parent : Adds (Notes row.line Rule10c group.name (LacksParentRow file.entries file.contents r)) f3 f4 = elim c.if-lacks_parent.branch [
+      | then-lacks_parent+in_ok-note-2 w ↦ adds_found (orphan.0 w.if-lacks_parent.true) (cc (c.name-name.ensures, w.findings-is, w.in_ok-note-2.ensures.noted))
+      | else-lacks_parent w ↦ adds_unmet w.if-lacks_parent.false orphan.1 w.findings-is
     ] in
     IfOk-weaker c.note_unlisted_file_set.result _ _ (λ _ set.
     row_noted file.entries file.contents group c.args.number row f0 f1 f2 f3 f4 f5 f6
     (subst (λ (l : List Contents). Adds (InSome group.headings (entry_rules_in l row.line (group_contents group) (fields_of row))) f0 f1) c.requires.listed
     c.in_ok-note_entries.ensures)
-    c.in_ok-note_links.ensures
+    key
     (subst (λ (e : Entries). Adds (InSome (required_of e group.name) (λ heading. Notes row.line Rule10b heading (entry_of r heading ≡ []) ∷ [])) f2 f3) c.requires.entries c.in_ok-note_lacking.ensures)
-    key parent set) c.note_unlisted_file_set.ensures
+    parent c.in_ok-note_links.ensures set) c.note_unlisted_file_set.ensures

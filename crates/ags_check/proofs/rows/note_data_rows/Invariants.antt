@@ -1,6 +1,6 @@
 use Rattle.std.proofs.Common.{◌+◌}
 use Rattle.ags_rows.specs.Collecting.{Adds, AmongBefore, OneOf}
-use Rattle.ags_check.specs.RowPhase.{data_row_rules}
+use Rattle.ags_check.specs.RowRules.{data_row_rules}
 use Rattle.ags_check.proofs.rows.note_data_rows.Given as goal
 
 abbrev pub invariant-loop-i : goal.invariant-loop-i

@@ -5,7 +5,7 @@ use Rattle.ags_rows.proofs.Lemmas.{two_rules}
 use Rattle.ags_links.specs.Indexing.{rows_in}
 use Rattle.ags_check.specs.Columns.{Outlined, RowsStand}
 use Rattle.ags_check.specs.Placing.{InSome}
-use Rattle.ags_check.specs.RowPhase.{unit_and_type_rules, data_row_rules}
+use Rattle.ags_check.specs.RowRules.{unit_and_type_rules, data_row_rules}
 use Rattle.std.proofs.lemmas.Result.{on_ok_weaker}
 use Rattle.ags_check.proofs.rows.note_group_entries.Goals as goal
 

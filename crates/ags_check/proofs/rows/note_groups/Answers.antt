@@ -1,14 +1,12 @@
 use Rattle.std.proofs.Common.{◌≡◌, ◌+◌, ◌≤◌, List, ℕ, [], refl, sym, ap, subst, length, arith}
-use Rattle.std.proofs.lemmas.Option.{slice_get_read}
 use Rattle.ags_rows.specs.declared.rows.Group.{Group}
 use Rattle.ags_rows.specs.Collecting.{Adds, At, OneOf}
 use Rattle.ags_rows.specs.Contents.{Contents, contents_of}
-use Rattle.ags_rows.proofs.Lemmas.{among_more, among_all, one_more, one_none}
+use Rattle.ags_rows.proofs.Lemmas.{among_more, among_all}
 use Rattle.ags_dict.specs.Entries.{Entries}
-use Rattle.ags_links.specs.DataRows.{data_rows}
+use Rattle.ags_links.specs.DataRows.{data_rows, rows_before}
 use Rattle.ags_check.specs.Columns.{RowsStand}
-use Rattle.ags_links.specs.DataRows.{rows_before}
-use Rattle.ags_check.specs.RowPhase.{entry_rules_of}
+use Rattle.ags_check.specs.RowRules.{entry_rules_of}
 use Rattle.ags_check.proofs.Numbering.{group_stands, group_few, group_next}
 use Rattle.ags_check.proofs.rows.note_groups.Goals as goal
 
@@ -26,24 +24,24 @@ few groups contents i first group same is at = omega (arith, is, group_few group
 pub note_group_entries-requires-clause-rows : goal.note_group_entries-requires-clause-rows
 note_group_entries-requires-clause-rows c =
     stands c.args.groups.now c.args.index.now.contents c.loop-group.group-index c.loop-group.first c.group-item.result c.requires.contents c.loop-group.invariant.first
-    (slice_get_read c.args.groups.now _ c.loop-group.group-index c.group-item.result refl c.loop-group-test.true c.group-item.is)
+    (c.loop-group-test.true, sym c.group-item.is)
 
 pub note_group_entries-requires-clause-few : goal.note_group_entries-requires-clause-few
 note_group_entries-requires-clause-few c =
     let h = few c.args.groups.now c.args.index.now.contents c.loop-group.group-index c.loop-group.first c.group-item.result c.requires.contents c.loop-group.invariant.first
-    (slice_get_read c.args.groups.now _ c.loop-group.group-index c.group-item.result refl c.loop-group-test.true c.group-item.is) in
+    (c.loop-group-test.true, sym c.group-item.is) in
     omega (arith, h, c.requires.few)
 
 pub overflow_cast-first : goal.overflow_cast-first
 overflow_cast-first c =
     let h = few c.args.groups.now c.args.index.now.contents c.loop-group.group-index c.loop-group.first c.group-item.result c.requires.contents c.loop-group.invariant.first
-    (slice_get_read c.args.groups.now _ c.loop-group.group-index c.group-item.result refl c.loop-group-test.true c.group-item.is) in
+    (c.loop-group-test.true, sym c.group-item.is) in
     omega (arith, h, c.requires.few, c.len-size.ensures)
 
 pub overflow_add-first : goal.overflow_add-first
 overflow_add-first c =
     let h = few c.args.groups.now c.args.index.now.contents c.loop-group.group-index c.loop-group.first c.group-item.result c.requires.contents c.loop-group.invariant.first
-    (slice_get_read c.args.groups.now _ c.loop-group.group-index c.group-item.result refl c.loop-group-test.true c.group-item.is) in
+    (c.loop-group-test.true, sym c.group-item.is) in
     omega (arith, h, c.requires.few, c.len-size.ensures)
 
 pub loop-group-preserved : goal.loop-group-preserved
@@ -52,7 +50,7 @@ loop-group-preserved c =
     let contents = contents_of groups in
     let i = c.loop-group.group-index in
     let group = c.group-item.result in
-    let at : At groups i group = slice_get_read groups _ i group refl c.loop-group-test.true c.group-item.is in
+    let at : At groups i group = (c.loop-group-test.true, sym c.group-item.is) in
     let mid = c.loop-group.findings in
     let new = c.note_group_entries.new.findings in
     record {
@@ -70,6 +68,4 @@ returns c =
     let contents = contents_of groups in
     let old = c.args.findings.now in
     let new = c.loop-group.findings in
-    one_more _ [] old new new
-    (among_all groups (λ place g f. OneOf (entry_rules_of c.args.dictionary.now contents (rows_before contents place) g) f) c.loop-group.group-index old new (omega (arith, c.loop-group-test.false)) c.loop-group.invariant.noted)
-    (one_none new)
+    among_all groups (λ place g f. OneOf (entry_rules_of c.args.dictionary.now contents (rows_before contents place) g) f) c.loop-group.group-index old new (omega (arith, c.loop-group-test.false)) c.loop-group.invariant.noted

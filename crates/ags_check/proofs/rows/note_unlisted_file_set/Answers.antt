@@ -4,13 +4,14 @@ use Rattle.ags_rows.specs.declared.rows.Group.{Group}
 use Rattle.ags_rows.specs.Contents.{Contents, group_contents, under}
 use Rattle.ags_text.specs.Names.{is_definition}
 use Rattle.ags_rows.proofs.Lemmas.{adds_found, adds_unmet}
-use Rattle.ags_links.specs.DataRows.{IsDataRow, row_in, data_rows}
+use Rattle.ags_rows.specs.Collecting.{At}
+use Rattle.ags_links.specs.DataRows.{row_in, data_rows}
 use Rattle.ags_check.specs.RowRules.{IsUnlistedFileSet}
 use Rattle.ags_check.proofs.FileSets.{HasFileRow, file_set_means}
 use Rattle.ags_check.proofs.rows.note_unlisted_file_set.Goals as goal
 
 -- the same of the fields of the row as of its cells
-means : (file : List Contents) (n : ℕ) (group : Group) (fields cells : List (List ℕ)) (has b : Bool) → cells ≡ fields → IsDataRow (data_rows file) n (row_in (group_contents group) fields) → IsTrue has ↔ HasFileRow file n
+means : (file : List Contents) (n : ℕ) (group : Group) (fields cells : List (List ℕ)) (has b : Bool) → cells ≡ fields → At (data_rows file) n (row_in (group_contents group) fields) → IsTrue has ↔ HasFileRow file n
     → IsTrue b ↔ (is_definition group.name ≡ false) × (group.name ≢ codes "FILE") × ((under group.headings cells (codes "FILE_FSET") ≢ []) × (has ≡ false))
     → IsTrue b ↔ IsUnlistedFileSet file (row_in (group_contents group) fields)
 means file n group fields cells has b same at has_file unlisted =

@@ -1,7 +1,7 @@
 use Rattle.std.proofs.Common.{◌≡◌, ◌∙◌, get_or, map, sym, ap, true≢false}
 use Rattle.std.proofs.lemmas.Option.{IfSome_then}
 use Rattle.ags_rows.specs.Contents.{place_in}
-use Rattle.ags_links.specs.DataRows.{IsAt}
+use Rattle.ags_rows.specs.Collecting.{At}
 use Rattle.ags_links.specs.declared.families.Family.{Family}
 use Rattle.ags_links.specs.Families.{HasEntries}
 use Rattle.ags_links.specs.ParentRows.{link_names, text_at}
@@ -10,7 +10,8 @@ use Rattle.ags_links.proofs.Choosing.{all_chosen, chosen_next, chosen_over, firs
 use Rattle.ags_links.proofs.Heading.{places_named}
 use Rattle.ags_links.proofs.Kept.{family_below, texts}
 use Rattle.ags_links.proofs.Members.{some_items}
-use Rattle.ags_links.proofs.RowLemmas.{at_map, read_at}
+use Rattle.ags_links.proofs.RowLemmas.{read_at}
+use Rattle.ags_rows.proofs.Lemmas.{at_map}
 use Rattle.ags_links.proofs.candidates.candidates.Goals as goal
 use Rattle.ags_links.proofs.candidates.candidates.Goals.{then-may_have+then-may_be_parent+in_ok-push, else-may_have, else-may_have-via-then-may_have+else-may_be_parent, else-may_have-via-else-may_have}
 
@@ -25,7 +26,7 @@ loop-place-preserved c =
     let i = c.loop-place.place in
     let n = get_or numbers i 0 in
     let other = c.index-rows-number.result in
-    let stands : IsAt c.args.rows.now n other = (c.requires.numbers.0 i 0 c.loop-place-test.true, sym c.index-rows-number.is) in
+    let stands : At c.args.rows.now n other = (c.requires.numbers.0 i 0 c.loop-place-test.true, sym c.index-rows-number.is) in
     let at = at_map row_of c.args.rows.now n other stands in
     let over : (HasEntries names (row_of other) text → ⊥) → _ = chosen_over rows numbers names text c.loop-place.chosen.items i (row_of other) c.loop-place-test.true c.loop-place.invariant at in
     elim c.if-may_have.branch [

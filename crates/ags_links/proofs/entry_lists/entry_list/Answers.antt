@@ -1,6 +1,7 @@
 use Rattle.std.proofs.Common.{◌≡◌, ◌∙◌, ap, get_or, sym}
 use Rattle.ags_rows.specs.Contents.{field_at, place_in}
-use Rattle.ags_links.specs.DataRows.{IsAt, entry_of}
+use Rattle.ags_rows.specs.Collecting.{At}
+use Rattle.ags_links.specs.DataRows.{entry_of}
 use Rattle.ags_links.specs.declared.families.Family.{Family}
 use Rattle.ags_links.specs.declared.placed.PlacedRow.{PlacedRow}
 use Rattle.ags_links.specs.EntryLists.{IsEntryUnder}
@@ -17,7 +18,7 @@ loop-number-preserved c =
     let i = c.loop-number.number-index in
     let n = get_or numbers i 0 in
     let row = c.index-rows-number.result in
-    let stands : IsAt rows n row = (c.requires.below i 0 c.loop-number-test.true, sym c.index-rows-number.is) in
+    let stands : At rows n row = (c.requires.below i 0 c.loop-number-test.true, sym c.index-rows-number.is) in
     let kept = kept_family c.args.dictionary.now c.args.families.now rows n row c.index-families-row.result c.requires.kept stands (sym c.index-families-row.is) in
     let under : c.field.result.now ≡ entry_of (row_of row) heading =
     c.field.ensures ∙ ap (field_at (row_of row).fields) (c.find-place.ensures ∙ ap (λ hs. place_in hs heading) (ap (λ (f : Family). f.headings) (sym c.index-families-row.is) ∙ kept.headings)) in

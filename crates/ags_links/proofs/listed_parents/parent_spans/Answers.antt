@@ -1,6 +1,6 @@
 use Rattle.std.proofs.Common.{◌≡◌, ◌<◌, ◌++◌, length, map, ap, sym, subst, ◌∙◌}
 use Rattle.ags_rows.specs.Contents.{field_at}
-use Rattle.ags_links.specs.DataRows.{IsAt}
+use Rattle.ags_rows.specs.Collecting.{At}
 use Rattle.ags_links.specs.declared.parents.LinkPlaces.{LinkPlaces}
 use Rattle.ags_links.specs.KeyTexts.{key_text}
 use Rattle.ags_links.specs.Lookups.{IsSpanOf}
@@ -27,7 +27,7 @@ loop-row-preserved c =
     (kept_next (λ n. IsParentSpan parents) c.args.rows.now c.loop-row.row-index c.loop-row.spans.items row span c.loop-row-test.true c.row-item.is c.loop-row.invariant
     (λ l other at_links at_lookup.
     let same : links ≡ l = one_at parents.of_groups.items row.place links l (at_links.0, sym c.index-links.ensures) at_links in
-    let also : lookup ≡ other = one_at parents.lookups.items links.lookup lookup other (subst (λ (k : LinkPlaces). k.lookup < length parents.lookups.items) (sym same) at_lookup.0, sym c.index.ensures) (subst (λ (k : LinkPlaces). IsAt parents.lookups.items k.lookup other) (sym same) at_lookup) in
+    let also : lookup ≡ other = one_at parents.lookups.items links.lookup lookup other (subst (λ (k : LinkPlaces). k.lookup < length parents.lookups.items) (sym same) at_lookup.0, sym c.index.ensures) (subst (λ (k : LinkPlaces). At parents.lookups.items k.lookup other) (sym same) at_lookup) in
     subst (λ (k : LinkPlaces). IsSpanOf other (key_text (map (field_at fields) k.places.items)) span) same (subst (λ o. IsSpanOf o (key_text (map (field_at fields) links.places.items)) span) also (subst (λ t. IsSpanOf lookup t span) text c.span_of-span.ensures))))
 
 pub returns : goal.returns

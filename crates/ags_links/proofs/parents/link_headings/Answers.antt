@@ -1,6 +1,6 @@
 use Rattle.std.proofs.Common.{get_or, ap, sym, ◌∙◌}
 use Rattle.ags_dict.specs.Entries.{keys_of}
-use Rattle.ags_links.specs.DataRows.{IsAt}
+use Rattle.ags_rows.specs.Collecting.{At}
 use Rattle.ags_links.proofs.Heading.{link_headings}
 use Rattle.ags_links.proofs.Kept.{first_below, first_of_group, row_has, texts}
 use Rattle.ags_links.proofs.Members.{no_items, some_items}
@@ -33,7 +33,7 @@ returns c = λ some_rows.
     let numbers = c.rows_with-numbers.result.now in
     let row = c.index-rows-first.result in
     let some = some_items numbers c.is_empty.result c.is_empty.ensures c.if-is_empty.false in
-    let stands : IsAt c.args.rows.now (get_or numbers 0 0) row = (first_below c.args.by_group.now c.args.rows.now parent numbers c.requires.by_group c.rows_with-numbers.ensures some, sym c.index-rows-first.is) in
+    let stands : At c.args.rows.now (get_or numbers 0 0) row = (first_below c.args.by_group.now c.args.rows.now parent numbers c.requires.by_group c.rows_with-numbers.ensures some, sym c.index-rows-first.is) in
     let of_parent = first_of_group c.args.by_group.now c.args.rows.now parent numbers row c.requires.by_group c.rows_with-numbers.ensures some stands in
     link_headings entries parent c.args.family.now.headings c.family_at-of_parent.result.now.key_headings (texts c.in_ok-common.common.items) (texts c.in_byte_order.result.items)
     (c.family_at-of_parent.ensures.key_headings ∙ ap (keys_of entries) of_parent) c.in_ok-common.ensures c.in_byte_order.ensures

@@ -1,6 +1,6 @@
 use Rattle.std.proofs.Common.{◌≡◌, ◌<◌, ◌∙◌, get_or, length, map, sym, subst, ap}
 use Rattle.std.specs.List.Sorted.{IsStrictlyIncreasing}
-use Rattle.ags_links.specs.DataRows.{IsAt}
+use Rattle.ags_rows.specs.Collecting.{At}
 use Rattle.ags_links.specs.Families.{HasAmong, HasEntries}
 use Rattle.ags_links.specs.Lookups.{Finds, found, pairs_of}
 use Rattle.ags_links.specs.ParentRows.{AreUsersBelow, HasPlaces, HasUsers, IsAskedOf, link_names, text_at}
@@ -29,7 +29,7 @@ returns-in_ok-own-in-One c =
     let below : c.in-One.number < length rows = subst (AreUsersBelow (length rows)) c.in-One.is c.requires.below in
     let has : HasPlaces of_groups row = subst (HasPlaces of_groups) (sym c.index-rows-number.is) (c.requires.grouped c.in-One.number row below) in
     let k = get_or of_groups row.place c.index-of_groups-row.result in
-    let at_k : IsAt of_groups row.place k = read_at of_groups row.place c.index-of_groups-row.result has.0 in
+    let at_k : At of_groups row.place k = read_at of_groups row.place c.index-of_groups-row.result has.0 in
     let Has = HasAmong c.args.links.now.rows.now (map row_of rows) (HasEntries (link_names c.args.links.now)) in
     asked_same c.in_ok-own-in-One.own (λ text. text_at c.deref.result.now row ≡ text) (IsAskedOf rows of_groups c.args.place) Has Has c.in_ok-own-in-One.ensures
     (λ text asked. ap (λ ps. text_at ps row) c.deref.ensures.value ∙ one_asked rows of_groups c.args.place c.in-One.number row k text (subst (HasUsers rows of_groups c.args.place) c.in-One.is c.requires.users) (below, sym c.index-rows-number.is) at_k asked)

@@ -1,6 +1,7 @@
 use Rattle.std.proofs.Common.{◌≡◌, ◌++◌, get_or, map, ap, sym, ◌∙◌}
 use Rattle.ags_rows.specs.Contents.{place_in, field_at}
-use Rattle.ags_links.specs.DataRows.{IsAt, entry_of}
+use Rattle.ags_rows.specs.Collecting.{At}
+use Rattle.ags_links.specs.DataRows.{entry_of}
 use Rattle.ags_links.specs.declared.families.Family.{Family}
 use Rattle.ags_links.specs.Families.{HasAmong, HasEntries}
 use Rattle.ags_links.specs.KeyTexts.{key_text}
@@ -10,7 +11,7 @@ use Rattle.ags_links.proofs.ByText.{pushed}
 use Rattle.ags_links.proofs.Finding.{finds_no_number, finds_number, finds_numbers, finds_ok}
 use Rattle.ags_links.proofs.Heading.{entries_at, places_named}
 use Rattle.ags_links.proofs.Kept.{family_below, kept_family, texts}
-use Rattle.ags_links.proofs.RowLemmas.{at_map}
+use Rattle.ags_rows.proofs.Lemmas.{at_map}
 use Rattle.ags_links.proofs.parents.rows_by_entries.Goals as goal
 
 pub loop-number-init : goal.loop-number-init
@@ -27,7 +28,7 @@ loop-number-preserved c =
     let row = c.index-rows-number.result in
     let of_row = row_of row in
     let names = texts c.args.headings.now in
-    let stands : IsAt c.args.rows.now (get_or numbers c.loop-number.number-index 0) row = (c.requires.below c.loop-number.number-index 0 c.loop-number-test.true, sym c.index-rows-number.is) in
+    let stands : At c.args.rows.now (get_or numbers c.loop-number.number-index 0) row = (c.requires.below c.loop-number.number-index 0 c.loop-number-test.true, sym c.index-rows-number.is) in
     let kept = kept_family c.args.dictionary.now c.args.families.now c.args.rows.now (get_or numbers c.loop-number.number-index 0) row c.index-families-row.result c.requires.kept stands (sym c.index-families-row.is) in
     let stood = (get_or c.args.families.now row.place c.index-families-row.result).headings in
     let text : c.in_ok-text.text.items ≡ key_text (map (entry_of of_row) names) =

@@ -1,7 +1,7 @@
 use Rattle.std.proofs.Common.{◌<◌, ◌∙◌, get_or, length, sym, subst, arith}
 use Rattle.std.proofs.lemmas.List.{get_or_default, length-set}
 use Rattle.std.proofs.lemmas.List.Elements.{All-set}
-use Rattle.ags_links.specs.DataRows.{IsAt}
+use Rattle.ags_rows.specs.Collecting.{At}
 use Rattle.ags_links.specs.ParentRows.{AreUsersBelow, HasPlaces, IsAmongUsers}
 use Rattle.ags_links.proofs.RowLemmas.{read_at}
 use Rattle.ags_links.proofs.Using.{users_next}
@@ -16,7 +16,7 @@ loop-number-preserved c =
     let users = c.loop-number.users.items in
     let has : HasPlaces of_groups row = subst (HasPlaces of_groups) (sym c.index-rows-number.is) (c.requires.grouped i row c.loop-number-test.true) in
     let k = get_or of_groups row.place c.index-of_groups-row.result in
-    let at_k : IsAt of_groups row.place k = read_at of_groups row.place c.index-of_groups-row.result has.0 in
+    let at_k : At of_groups row.place k = read_at of_groups row.place c.index-of_groups-row.result has.0 in
     let below : k.lookup < length users = omega (arith, has.1 k at_k, c.loop-number.invariant.size) in
     let before = c.index-before.result.now in
     record {

@@ -1,10 +1,9 @@
-use Rattle.std.proofs.Common.{ℕ, List, map, refl, ap, ◌∙◌}
-use Rattle.std.specs.Prelude.{option_map}
-use Rattle.std.proofs.lemmas.Option.{slice_get_read, slice_get-map}
+use Rattle.std.proofs.Common.{ℕ, List, map, sym}
 use Rattle.ags_rows.specs.declared.rows.Group.{Group}
-use Rattle.ags_rows.specs.Collecting.{OneOf}
+use Rattle.ags_rows.specs.Collecting.{At, OneOf}
 use Rattle.ags_rows.specs.Stands.{group_rules}
 use Rattle.ags_rows.specs.Parsing.{IsMet}
+use Rattle.ags_rows.proofs.AtPlaces.{at_map}
 use Rattle.ags_rows.proofs.Collecting.{among_none, among_more, among_all}
 use Rattle.ags_rows.proofs.Repeats.{none_met, none_before, repeat_more, group_same}
 use Rattle.ags_rows.proofs.checking.note_groups.Goals as goal
@@ -30,9 +29,9 @@ loop-group-preserved c =
     let met = c.loop-group.met in
     let old = c.loop-group.findings in
     let new = c.note_group.new.findings in
-    let at = slice_get_read groups _ i group refl c.loop-group-test.true c.group-item.is in
+    let at : At groups i group = (c.loop-group-test.true, sym c.group-item.is) in
     record {
-      met = repeat_more names i group.name (IsMet met) (IsMet c.note_group.new.met) (slice_get-map name_of groups i ∙ ap (option_map name_of) at) c.loop-group.invariant.met c.in_ok-note_group.ensures.met;
+      met = repeat_more names i group.name (IsMet met) (IsMet c.note_group.new.met) (at_map name_of groups i group at) c.loop-group.invariant.met c.in_ok-note_group.ensures.met;
       noted = among_more groups (λ place group. OneOf (group_rules names place group)) i group c.args.findings.now old new at c.loop-group.invariant.noted (group_same names i group (IsMet met group.name) old new (c.loop-group.invariant.met group.name) c.in_ok-note_group.ensures.noted);
     }
 

@@ -1,11 +1,9 @@
-use Rattle.std.proofs.Common.{◌≡◌, ℕ, List, refl, subst}
+use Rattle.std.proofs.Common.{◌≡◌, ℕ, List, sym, subst}
 use Rattle.std.specs.Prelude.{◌⊎◌, ◌↔◌}
-use Rattle.std.proofs.lemmas.Option.{slice_get_read}
 use Rattle.ags_rows.specs.declared.code.Code.TheVariants.{Rule19a, P2}
 use Rattle.ags_text.specs.Names.{is_heading_name}
-use Rattle.ags_rows.specs.Collecting.{Adds, Among, OneOf}
-use Rattle.ags_rows.specs.Stands.{StandsInName}
-use Rattle.ags_rows.specs.Parsing.{IsMet, met_rules}
+use Rattle.ags_rows.specs.Collecting.{At, Adds, Among, OneOf}
+use Rattle.ags_rows.specs.Parsing.{StandsInName, IsMet, met_rules}
 use Rattle.ags_rows.proofs.Collecting.{among_none, among_more, among_all}
 use Rattle.ags_rows.proofs.Repeats.{none_met, none_before, repeat_more, heading_same}
 use Rattle.ags_rows.proofs.checking.note_headings.Goals as goal
@@ -28,7 +26,7 @@ loop-heading-preserved c =
     let next = c.note_heading.new.met in
     let old = c.loop-heading.findings in
     let new = c.note_heading.new.findings in
-    let at = slice_get_read items _ i heading refl c.loop-heading-test.true c.heading-item.is in
+    let at : At items i heading = (c.loop-heading-test.true, sym c.heading-item.is) in
     let more = subst (λ (n : List ℕ). (q : List ℕ) → IsMet next q ↔ ((n ≡ q) ⊎ IsMet met q)) c.as_slice.ensures c.in_ok-note_heading.ensures.met in
     let noted = subst (λ (n : List ℕ). Adds (OneOf (met_rules line Rule19a P2 n (is_heading_name n) (IsMet met n))) old new) c.as_slice.ensures c.in_ok-note_heading.ensures.noted in
     record {

@@ -1,7 +1,6 @@
-use Rattle.std.proofs.Common.{◌≢◌, ℕ, length, refl, subst}
-use Rattle.std.proofs.lemmas.Option.{slice_get_read}
+use Rattle.std.proofs.Common.{◌≢◌, ℕ, length, sym, subst}
 use Rattle.ags_rows.specs.declared.code.Code.TheVariants.{Rule4}
-use Rattle.ags_rows.specs.Collecting.{Adds, Notes}
+use Rattle.ags_rows.specs.Collecting.{At, Adds, Notes}
 use Rattle.ags_rows.proofs.Collecting.{among_none, among_more, among_all}
 use Rattle.ags_rows.proofs.checking.note_widths.Goals as goal
 
@@ -17,7 +16,7 @@ loop-row-preserved c =
     let old = c.loop-row.findings in
     let new = c.note_width.new.findings in
     let here = subst (λ (items : ℕ). Adds (Notes row.line Rule4 name (items ≢ width)) old new) c.len.ensures c.in_ok-note_width.ensures in
-    let at = slice_get_read rows _ c.loop-row.row-index row refl c.loop-row-test.true c.row-item.is in
+    let at : At rows c.loop-row.row-index row = (c.loop-row-test.true, sym c.row-item.is) in
     among_more rows (λ place row. Notes row.line Rule4 name (length row.cells ≢ width)) c.loop-row.row-index row c.args.findings.now old new at c.loop-row.invariant here
 
 pub returns : goal.returns

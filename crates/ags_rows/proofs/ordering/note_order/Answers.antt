@@ -1,5 +1,4 @@
-use Rattle.std.proofs.Common.{◌≡◌, ◌≢◌, [], length, refl, ◌∙◌}
-use Rattle.std.proofs.lemmas.Option.{slice_get_read}
+use Rattle.std.proofs.Common.{◌≡◌, ◌≢◌, [], length, sym, ◌∙◌}
 use Rattle.ags_rows.specs.declared.code.Code.TheVariants.{Rule2, Rule2b, Rule4}
 use Rattle.ags_rows.specs.declared.rows.Descriptor.TheVariants as kinds
 use Rattle.ags_rows.specs.Collecting.{At, Adds, Notes, OneOf}
@@ -21,7 +20,7 @@ loop-place-preserved c =
     let old = c.loop-place.findings in
     let mid = c.if-is_out_of_place.findings in
     let new = c.if-is_unnamed.findings in
-    let at : At rows place row = slice_get_read rows _ place row refl c.loop-place-test.true c.index-rows-place.is in
+    let at : At rows place row = (c.loop-place-test.true, sym c.index-rows-place.is) in
     let out = c.is_out_of_place.ensures row at in
     let unnamed = c.is_unnamed.ensures in
     let order : Adds (Notes row.line Rule2b [] (OutOfPlace rows place row)) old mid = elim c.if-is_out_of_place.branch [

@@ -6,7 +6,7 @@ use Rattle.std.specs.Prelude.{◌≤◌, Any}
 use Rattle.ags_text.specs.Bytes.{ascii_end}
 use Rattle.ags_rows.specs.Lines.{text_line}
 use Rattle.ags_rows.specs.Collecting.{Adds, Notes, OneOf}
-use Rattle.ags_rows.specs.Stands.{byte_rules}
+use Rattle.ags_rows.specs.Parsing.{byte_rules}
 use Rattle.ags_rows.proofs.Collecting.{adds_found, adds_unmet, two_rules, among_more, among_all}
 use Rattle.ags_rows.proofs.Breaking.{at_line, high_any, any_high, lf_same, same_lf}
 use Rattle.ags_rows.proofs.rows.note_lines.Goals as goal

@@ -1,7 +1,7 @@
 use Rattle.std.proofs.Common.{map, ◌+◌}
 use Rattle.ags_rows.specs.Lines.{text_line}
 use Rattle.ags_rows.specs.Collecting.{Adds, AmongBefore, OneOf}
-use Rattle.ags_rows.specs.Stands.{byte_rules}
+use Rattle.ags_rows.specs.Parsing.{byte_rules}
 use Rattle.ags_rows.proofs.rows.note_lines.Given as goal
 
 abbrev pub invariant-loop-i : goal.invariant-loop-i

@@ -4,9 +4,8 @@ use Rattle.std.proofs.lemmas.Result.{IfOk-weaker}
 use Rattle.ags_rows.specs.declared.TheConstants.{READABLE}
 use Rattle.ags_rows.specs.declared.finding.Finding.{Finding}
 use Rattle.ags_rows.specs.Collecting.{Adds}
-use Rattle.ags_rows.specs.Stands.{StandsInBytes}
 use Rattle.ags_rows.specs.Lines.{Lines, after_byte_order_mark, text_line}
-use Rattle.ags_rows.specs.Parsing.{AreTaken}
+use Rattle.ags_rows.specs.Parsing.{StandsInBytes, AreTaken}
 use Rattle.ags_rows.proofs.Files.{lines_within}
 use Rattle.ags_rows.proofs.FirstPhase.{rows_strict}
 use Rattle.ags_rows.proofs.scanning.clean_rows.Goals as goal

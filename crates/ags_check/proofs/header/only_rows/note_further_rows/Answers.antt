@@ -1,12 +1,9 @@
-use Rattle.std.proofs.Common.{◌≡◌, ◌≤◌, ◌∙◌, refl, sym, subst, List, length, arith}
+use Rattle.std.proofs.Common.{◌≡◌, ◌<◌, ◌≤◌, ◌∙◌, sym, subst, List, length, arith}
 use Rattle.std.proofs.lemmas.Bool.{not-false}
 use Rattle.std.proofs.lemmas.Slice.Eq.{bytes_eq-Decides}
-use Rattle.std.proofs.lemmas.Option.{slice_get_read}
 use Rattle.ags_rows.specs.declared.rows.Row.{Row}
 use Rattle.ags_rows.specs.Collecting.{At, Adds, Notes}
-use Rattle.ags_rows.specs.Contents.{group_contents, fields_of}
 use Rattle.ags_rows.proofs.Lemmas.{among_more, among_all, adds_found, adds_clear}
-use Rattle.ags_check.specs.Header.{IsFurtherRow}
 use Rattle.ags_check.proofs.header.only_rows.note_further_rows.Goals as goal
 use Rattle.ags_check.proofs.header.only_rows.note_further_rows.Goals.{then-i-gt0+in_ok-note, else-i-gt0}
 
@@ -17,20 +14,20 @@ loop-i-preserved c =
     let i = c.loop-i.i in
     let row = c.index-rows-i.result in
     let at : At group.rows i row =
-    subst (λ (rows : List Row). At rows i row) c.as_slice-rows.ensures (slice_get_read c.as_slice-rows.result.now _ i row refl c.loop-i-test.true c.index-rows-i.is) in
+    subst (λ (rows : List Row). At rows i row) c.as_slice-rows.ensures (c.loop-i-test.true, sym c.index-rows-i.is) in
     let same : group.name ≡ name = sym c.as_slice.ensures ∙ (bytes_eq-Decides c.as_slice.result.now name).0 (not-false _ (sym c.if-ne.ensures)) in
     let mid = c.loop-i.findings in
     let new = c.if-i-gt0.findings in
-    let here : Adds (Notes row.line c.args.code name (IsFurtherRow name (group_contents group) i (fields_of row))) mid new = elim c.if-i-gt0.branch [
+    let here : Adds (Notes row.line c.args.code name ((group.name ≡ name) × (0 < i))) mid new = elim c.if-i-gt0.branch [
       | then-i-gt0+in_ok-note w ↦ adds_found ((same, w.if-i-gt0.true)) (w.findings-is ∙ w.in_ok-note.ensures.noted)
       | else-i-gt0 w ↦ adds_clear (λ rule. omega (arith, rule.1, w.if-i-gt0.false)) w.findings-is
     ] in
-    among_more group.rows (λ place row f. Notes row.line c.args.code name (IsFurtherRow name (group_contents group) place (fields_of row)) f) i row c.args.findings.now mid new
+    among_more group.rows (λ place row f. Notes row.line c.args.code name ((group.name ≡ name) × (0 < place)) f) i row c.args.findings.now mid new
     at c.loop-i.invariant here
 
 pub returns : goal.returns
 returns c =
     let group = c.args.group.now in
     let name = c.args.name.now in
-    among_all group.rows (λ place row f. Notes row.line c.args.code name (IsFurtherRow name (group_contents group) place (fields_of row)) f) c.loop-i.i c.args.findings.now c.loop-i.findings
+    among_all group.rows (λ place row f. Notes row.line c.args.code name ((group.name ≡ name) × (0 < place)) f) c.loop-i.i c.args.findings.now c.loop-i.findings
     (subst (λ (rows : List Row). length rows ≤ c.loop-i.i) c.as_slice-rows.ensures (omega (arith, c.loop-i-test.false))) c.loop-i.invariant

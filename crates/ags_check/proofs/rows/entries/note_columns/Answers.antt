@@ -5,8 +5,7 @@ use Rattle.ags_rows.specs.Contents.{group_contents}
 use Rattle.ags_rows.proofs.Lemmas.{adds_found, adds_unmet}
 use Rattle.ags_check.specs.Columns.{AreColumns, Outlined}
 use Rattle.ags_check.specs.Placing.{InSome}
-use Rattle.ags_check.specs.RowPhase.{unit_and_type_rules}
-use Rattle.ags_check.specs.RowRules.{IsUnlistedUnit, IsUnlistedType}
+use Rattle.ags_check.specs.RowRules.{unit_and_type_rules, IsUnlistedUnit, IsUnlistedType}
 use Rattle.ags_check.proofs.EntryNotes.{header_more, columns_all}
 use Rattle.ags_check.proofs.rows.entries.note_columns.Goals as goal
 use Rattle.ags_check.proofs.rows.entries.note_columns.Goals.{then-is_unlisted_unit+in_ok-note, else-is_unlisted_unit, then-is_unlisted_type+in_ok-note-2, else-is_unlisted_type}

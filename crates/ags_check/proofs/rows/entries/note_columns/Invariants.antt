@@ -1,5 +1,5 @@
 use Rattle.ags_rows.specs.Collecting.{Adds, AmongBefore, OneOf}
-use Rattle.ags_check.specs.RowPhase.{unit_and_type_rules}
+use Rattle.ags_check.specs.RowRules.{unit_and_type_rules}
 use Rattle.ags_check.proofs.rows.entries.note_columns.Given as goal
 
 abbrev pub invariant-loop-column : goal.invariant-loop-column

@@ -3,7 +3,7 @@ use Rattle.ags_rows.specs.declared.code.Code.TheVariants.{Rule10b}
 use Rattle.ags_rows.specs.Collecting.{Adds, AmongBefore, Notes, OneOf}
 use Rattle.ags_dict.specs.Entries.{required_of}
 use Rattle.ags_links.specs.DataRows.{entry_of}
-use Rattle.ags_check.specs.RowPhase.{headed_row}
+use Rattle.ags_check.specs.RowRules.{headed_row}
 use Rattle.ags_check.proofs.rows.entries.note_lacking.Given as goal
 
 abbrev pub invariant-loop-column : goal.invariant-loop-column

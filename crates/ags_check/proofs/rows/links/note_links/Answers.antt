@@ -6,8 +6,7 @@ use Rattle.ags_rows.specs.Contents.{group_contents, fields_of}
 use Rattle.ags_text.specs.Names.{is_definition}
 use Rattle.ags_rows.proofs.Lemmas.{adds_found, adds_unmet, one_rule}
 use Rattle.ags_check.specs.Columns.{Outlined, column_text}
-use Rattle.ags_check.specs.RowPhase.{headed_row}
-use Rattle.ags_check.specs.RowRules.{IsBrokenLink}
+use Rattle.ags_check.specs.RowRules.{headed_row, IsBrokenLink}
 use Rattle.ags_check.proofs.EntryNotes.{own_columns, columns_more, columns_all}
 use Rattle.ags_check.proofs.LinkNotes.{link_at, no_links}
 use Rattle.ags_check.proofs.rows.links.note_links.Goals as goal

@@ -1,8 +1,7 @@
 use Rattle.std.proofs.Common.{[], ◌∷◌}
 use Rattle.ags_rows.specs.declared.code.Code.TheVariants.{Rule11c}
 use Rattle.ags_rows.specs.Collecting.{Adds, AmongBefore, Notes, OneOf}
-use Rattle.ags_check.specs.RowPhase.{headed_row}
-use Rattle.ags_check.specs.RowRules.{IsBrokenLink}
+use Rattle.ags_check.specs.RowRules.{headed_row, IsBrokenLink}
 use Rattle.ags_check.proofs.rows.links.note_links.Given as goal
 
 abbrev pub invariant-loop-column : goal.invariant-loop-column

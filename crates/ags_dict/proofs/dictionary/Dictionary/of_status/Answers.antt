@@ -4,7 +4,7 @@ use Rattle.std.proofs.lemmas.List.{take_all, length-map}
 use Rattle.ags_dict.specs.declared.entries.HeadingEntry.{HeadingEntry}
 use Rattle.ags_dict.specs.Entries.{Entries, of_status}
 use Rattle.ags_dict.specs.Index.{of_group}
-use Rattle.ags_text.specs.Bytes.{plus}
+use Rattle.ags_text.specs.Bytes.{plus_sign}
 use Rattle.ags_rows.specs.Parts.{has_part}
 use Rattle.ags_dict.proofs.Picked.{picked_yes, picked_no}
 use Rattle.ags_dict.proofs.Found.{filter_both}
@@ -12,13 +12,13 @@ use Rattle.ags_dict.proofs.dictionary.Dictionary.of_status.Goals as goal
 use Rattle.ags_dict.proofs.dictionary.Dictionary.of_status.Goals.{then-has_part+in_ok-push, else-has_part}
 
 abbrev has : List ℕ → HeadingEntry → Bool
-has word entry = has_part plus word entry.status
+has word entry = has_part plus_sign word entry.status
 
 pub loop-entry-preserved : goal.loop-entry-preserved
 loop-entry-preserved c =
     let values = λ (v : Vec (Bor (List ℕ)) Global). map (λ (r : Bor (List ℕ)). r.now) v.items in
     let word = c.args.word.now in
-    let asked : has word c.entry-item.result.now ≡ c.has_part.result = ap (has_part plus word) (sym c.as_slice.ensures) ∙ sym c.has_part.ensures in
+    let asked : has word c.entry-item.result.now ≡ c.has_part.result = ap (has_part plus_sign word) (sym c.as_slice.ensures) ∙ sym c.has_part.ensures in
     elim c.if-has_part.branch [
       | then-has_part+in_ok-push w ↦
           ap values w.found-is ∙ ap (map (λ (r : Bor (List ℕ)). r.now)) w.in_ok-push.ensures.items

@@ -1,6 +1,7 @@
 use Rattle.std.proofs.Common.{◌≡◌, get_or, sym, subst, ap, ◌∙◌, arith, Vec, ℕ}
 use Rattle.std.specs.declared.alloc.Global.{Global}
-use Rattle.ags_links.specs.DataRows.{IsAt, ListsRows}
+use Rattle.ags_rows.specs.Collecting.{At}
+use Rattle.ags_links.specs.DataRows.{ListsRows}
 use Rattle.ags_links.specs.Indexing.{rows_in, IsParentAt}
 use Rattle.ags_links.specs.declared.parents.LinkPlaces.{LinkPlaces}
 use Rattle.ags_links.specs.ParentRows.{IsInside, IsParentList, part_of}
@@ -15,7 +16,7 @@ index-links-requires c =
     let f = c.args.self.now in
     let lists = inside_parents i.groups.now i.dictionary.now i.rows.items i.families.items i.parents i.spans.items i.firsts.items i.by_key i.by_file_set i.separators f c.self.invariant c.self.view_is in
     let numbered = inside_rows i.groups.now i.dictionary.now i.rows.items i.families.items i.parents i.spans.items i.firsts.items i.by_key i.by_file_set i.separators f c.self.invariant c.self.view_is in
-    let at : IsAt i.rows.items c.args.row c.index-kept.result.now = (rows_below i.rows.items (rows_in f) c.args.row numbered c.requires, sym c.index-kept.ensures) in
+    let at : At i.rows.items c.args.row c.index-kept.result.now = (rows_below i.rows.items (rows_in f) c.args.row numbered c.requires, sym c.index-kept.ensures) in
     let span = some_at i.spans.items c.args.row (omega (arith, at.0, lists.each_has)) in
     omega (arith, (lists.each c.args.row c.index-kept.result.now span.0 at span.1).grouped.0, i.parents.of_groups.ok.0)
 
@@ -26,7 +27,7 @@ list_at c =
     let f = c.args.self.now in
     let lists = inside_parents i.groups.now i.dictionary.now i.rows.items i.families.items i.parents i.spans.items i.firsts.items i.by_key i.by_file_set i.separators f c.self.invariant c.self.view_is in
     let numbered = inside_rows i.groups.now i.dictionary.now i.rows.items i.families.items i.parents i.spans.items i.firsts.items i.by_key i.by_file_set i.separators f c.self.invariant c.self.view_is in
-    let at : IsAt i.rows.items c.args.row c.index-kept.result.now = (rows_below i.rows.items (rows_in f) c.args.row numbered c.requires, sym c.index-kept.ensures) in
+    let at : At i.rows.items c.args.row c.index-kept.result.now = (rows_below i.rows.items (rows_in f) c.args.row numbered c.requires, sym c.index-kept.ensures) in
     lists.each c.args.row c.index-kept.result.now c.index-span.result.now at (omega (arith, at.0, lists.each_has), sym c.index-span.ensures)
 
 links_same : (c : After-index-span) → (list_at c).links ≡ c.index-links.result.now
@@ -42,7 +43,7 @@ list_same : (c : After-index-span) (v : Vec ℕ Global) → v ≡ get_or c.self.
 list_same c v e =
     let lists = c.self.inside.parents.lists.items in
     let list = list_at c in
-    let at : IsAt lists c.index-links.result.now.lookup list.list = subst (λ (l : LinkPlaces). IsAt lists l.lookup list.list) (links_same c) list.stands in
+    let at : At lists c.index-links.result.now.lookup list.list = subst (λ (l : LinkPlaces). At lists l.lookup list.list) (links_same c) list.stands in
     ap (λ (w : Vec ℕ Global). w.items) (one_at lists c.index-links.result.now.lookup list.list v at (at.0, sym e))
 
 pub part_of-requires : goal.part_of-requires

@@ -13,4 +13,4 @@ returns c = λ row at.
     ap (λ (e : Entries). parent_of e own.group.now.name) (ap (λ (v : Outlined). v.entries) c.self.view_is ∙ c.requires.entries)
     ∙ ap (parent_of file.entries) (ap (λ (v : Outlined). v.group.name) c.self.view_is ∙ sym (c.requires.row row at)) in
     let parented : is_some (parent_of file.entries row.group) ≡ true = sym (ap is_some same) ∙ sym c.self.invariant.has_parent ∙ c.if-not-self.false in
-    parent_means file.entries file.contents c.args.number row c.in_ok-has_parent.field-0 parented at c.in_ok-has_parent.ensures
+    parent_means file.entries file.contents c.args.number row c.has_parent.result parented at c.has_parent.ensures

@@ -12,4 +12,4 @@ returns c = λ row at.
     ap (λ (e : Entries). keys_of e own.group.now.name) (ap (λ (v : Outlined). v.entries) c.self.view_is ∙ c.requires.entries)
     ∙ ap (keys_of file.entries) (ap (λ (v : Outlined). v.group.name) c.self.view_is ∙ sym (c.requires.row row at)) in
     let keyed : keys_of file.entries row.group ≢ [] = λ none. c.self.invariant.has_keys.0 c.if-not-self.false (same ∙ none) in
-    repeats_means file.entries file.contents c.args.number c.in_ok-first_of_key.field-0 row keyed at c.in_ok-first_of_key.ensures
+    repeats_means file.entries file.contents c.args.number c.first_of_key.result row keyed at c.first_of_key.ensures

@@ -4,8 +4,8 @@ use Rattle.std.specs.Option.{is_some}
 use Rattle.ags_dict.specs.Entries.{same_group}
 use Rattle.ags_dict.specs.Index.{is_for}
 use Rattle.ags_dict.proofs.Found.{found_any, copied_some}
-use Rattle.ags_dict.proofs.Unstated.{restated, fresh}
-use Rattle.ags_dict.proofs.groups.GroupEntries.with_unstated.Goals as goal
+use Rattle.ags_dict.proofs.FirstOfEach.{restated, fresh}
+use Rattle.ags_dict.proofs.groups.GroupEntries.with_new.Goals as goal
 
 pub returns-then-is_some : goal.returns-then-is_some
 returns-then-is_some c =

@@ -4,8 +4,8 @@ use Rattle.std.specs.Option.{is_some}
 use Rattle.ags_dict.specs.Entries.{same_heading}
 use Rattle.ags_dict.specs.Index.{is_heading}
 use Rattle.ags_dict.proofs.Found.{found_any, copied_some}
-use Rattle.ags_dict.proofs.Unstated.{restated, fresh}
-use Rattle.ags_dict.proofs.headings.HeadingEntries.with_unstated.Goals as goal
+use Rattle.ags_dict.proofs.FirstOfEach.{restated, fresh}
+use Rattle.ags_dict.proofs.headings.HeadingEntries.with_new.Goals as goal
 
 pub returns-then-is_some : goal.returns-then-is_some
 returns-then-is_some c =
