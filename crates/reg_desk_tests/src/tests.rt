@@ -8,6 +8,7 @@ mod failing;
 mod laws;
 mod memory;
 mod refusing;
+mod stops;
 mod wanted;
 
 use ags_dict::Dictionary;
