@@ -22,13 +22,12 @@ use Rattle.reg_store.specs.declared.keep.KeptHead.{KeptHead}
 use Rattle.reg_desk.specs.Asked.{extract}
 use Rattle.reg_desk.specs.declared.answer.Answer.{Answer}
 use Rattle.reg_desk.specs.declared.answer.Answer.TheVariants.{Text, Denied, Unknown}
-use Rattle.reg_desk.specs.declared.serving.listing.Lister.{Lister}
 use Rattle.reg_desk.specs.Shown.{Look, IsProjectShown}
 use Rattle.ags_check.specs.Findings.{IsCleanFile}
 use Rattle.reg_desk.specs.Machine.{Register, decided, look_at, IsSeen, IsTextOf, IsDrawnFrom, held, IsReply}
 use Rattle.ags_check.specs.Findings.{file_of}
-use Rattle.reg_desk.specs.View.{IsExtractOf, Sees}
-use Rattle.reg_desk.specs.Serving.{AsksStore, IsLineFor, text_answer, register_at, OnlyReads, Serves, look_in, look_on, answer_of}
+use Rattle.reg_desk.specs.View.{look_on, IsExtractOf, Sees}
+use Rattle.reg_desk.specs.Serving.{AsksStore, IsLineFor, text_answer, register_at, OnlyReads, Serves, answer_of}
 use Rattle.reg_desk.proofs.Replies.{one_file}
 use Rattle.reg_desk.proofs.Bodies.{where_true, where_false}
 use Rattle.reg_desk.proofs.Serves.{is_told, asks_of, replies_at_once, refused_serves, replies_serves, permitted_reply, denied_reply, permit_stands}
@@ -58,20 +57,11 @@ none_held (d ∷ state) (suc (suc n)) (inr lt) = none_held state (suc n) (inr (o
 pub fit_at : (given : Entries) (state : List Sent) (i : ℕ) (d : Sent) → All (IsFit given) state → slice_get state i ≡ Some d → IsFit given d
 fit_at given state i d all at = subst (IsFit given) (get_or_from_slice_get state i d d at) (all i d (slice_get_within state i d at))
 
-look_same : (register : Register) (caller : Caller) (day : ℤ) (d : Sent) (head : KeptHead) → IsHeadOf d head → look_on register.rules caller head day ≡ look_at register caller day d
+pub look_same : (register : Register) (caller : Caller) (day : ℤ) (d : Sent) (head : KeptHead) → IsHeadOf d head → look_on register.rules caller head day ≡ look_at register caller day d
 look_same register caller day d head is =
     ap (λ (f : List ℕ). record { rules = register.rules; caller = caller; owner = f; project = head.project; embargo = head.embargo; day = day }) is.firm
     ∙ ap (λ (p : List ℕ). record { rules = register.rules; caller = caller; owner = d.firm; project = p; embargo = head.embargo; day = day }) is.project
     ∙ ap (λ (e : ℤ). record { rules = register.rules; caller = caller; owner = d.firm; project = d.project; embargo = e; day = day }) is.embargo
-
--- its project is the one that is listed
-pub looked_in : (register : Register) (lister : Lister) (d : Sent) (head : KeptHead) (look : Look) → register.rules ≡ lister.policy.now → IsHeadOf d head → d.project ≡ lister.project.now → look ≡ look_in lister head
-    → look ≡ look_at register lister.caller.now lister.day d
-looked_in register lister d head look rules is of_project same =
-    same
-    ∙ ap (λ (r : List Rule). record { rules = r; caller = lister.caller.now; owner = head.firm; project = lister.project.now; embargo = head.embargo; day = lister.day }) (sym rules)
-    ∙ ap (λ (p : List ℕ). record { rules = register.rules; caller = lister.caller.now; owner = head.firm; project = p; embargo = head.embargo; day = lister.day }) (sym of_project ∙ sym is.project)
-    ∙ look_same register lister.caller.now lister.day d head is
 
 pub clean_of : (given : Entries) (d : Sent) (file : CheckedFile) → IsFileOf given d file → IsCleanFile given d.bytes (file_of file)
 clean_of given d file is =

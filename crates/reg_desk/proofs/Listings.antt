@@ -5,7 +5,6 @@ use Rattle.std.specs.Str.{bytes_eq}
 use Rattle.std.proofs.Math.Logic.{∥∥₁_map, ∥∥₁_elim}
 use Rattle.std.proofs.Props.{props}
 use Rattle.std.proofs.lemmas.List.{drop_all}
-use Rattle.std.proofs.lemmas.Slice.Eq.{bytes_eq-Decides}
 use Rattle.reg_policy.specs.declared.rule.Rule.{Rule}
 use Rattle.reg_policy.specs.declared.callers.Caller.{Caller}
 use Rattle.reg_policy.specs.declared.subject.Decision.TheVariants.{Permit, Deny}
@@ -114,25 +113,6 @@ number_within project state numbers i same lt =
     let h = subst (IsWithin 1 (length state)) (sym same) (numbers_within project 1 state) i lt in
     (omega (arith, h.0), omega (arith, h.1))
 
--- and that deposit is of the project
-abbrev AreNamed : (ℕ → Option Sent) → List ℕ → List ℕ → Type 0
-AreNamed at project numbers = (i : ℕ) → i < length numbers → (d : Sent) → at (get_or numbers i 0) ≡ Some d → d.project ≡ project
-
-named_step : (at : ℕ → Option Sent) (project : List ℕ) (n : ℕ) (kept : Sent) (t : Bool) (numbers : List ℕ) → bytes_eq kept.project project ≡ t → at n ≡ Some kept → AreNamed at project numbers
-    → AreNamed at project (cond t (n ∷ numbers) numbers)
-named_step at project n kept true numbers same holds rest zero lt d is = ap (λ (k : Sent). k.project) (same_some (at n) d kept is holds) ∙ (bytes_eq-Decides kept.project project).0 same
-named_step at project n kept true numbers same holds rest (suc i) lt d is = rest i (omega (arith, lt)) d is
-named_step at project n kept false numbers same holds rest i lt d is = rest i lt d is
-
-numbers_named : (at : ℕ → Option Sent) (project : List ℕ) (n : ℕ) (state : List Sent) → Stands at n state → AreNamed at project (numbers_from n project state)
-numbers_named at project n [] stands = λ i lt. absurd (omega (arith, lt))
-numbers_named at project n (kept ∷ state) stands =
-    named_step at project n kept (bytes_eq kept.project project) (numbers_from (n + 1) project state) refl (stands 0 n kept refl (omega arith))
-    (numbers_named at project (n + 1) state (λ i k e is same. stands (suc i) k e is (omega (arith, same))))
-
-pub number_named : (project : List ℕ) (state : List Sent) (numbers : List ℕ) (i : ℕ) → numbers ≡ numbers_from 1 project state → i < length numbers → (d : Sent) → held (get_or numbers i 0) state ≡ Some d → d.project ≡ project
-number_named project state numbers i same lt = subst (AreNamed (λ k. held k state) project) (sym same) (numbers_named (λ k. held k state) project 1 state (held_stands state)) i lt
-
 -- ---- the loop
 
 drop_get : (numbers : List ℕ) (i : ℕ) → i < length numbers → drop i numbers ≡ get_or numbers i 0 ∷ drop (suc i) numbers
@@ -167,11 +147,6 @@ lines_whole register caller project day state all i lines le same so_far =
     listing_of register caller project day state lines
     (subst (λ (numbers : List ℕ). AreLines register caller day (λ k. held k state) numbers lines) same
     (lines_end register caller day (λ k. held k state) all lines (subst (λ (left : List ℕ). SoFar register caller day (λ k. held k state) all left lines) (drop_all i all le) f))))
-
--- the project has no deposit
-pub lines_none : (register : Register) (caller : Caller) (project : List ℕ) (day : ℤ) (state : List Sent) (all : List ℕ) → length all ≡ 0 → all ≡ numbers_from 1 project state → ∥ IsListing register caller project day 1 state [] ∥₁
-lines_none register caller project day state all none same =
-    lines_whole register caller project day state all 0 [] (omega (arith, none)) same ∣ lines_begin register caller day (λ k. held k state) all ∣₁
 
 pub register_same : {K : Type 0} (keep : Ghosts K) (rules : List Rule) (old new : K) (failed : Bool) → OnlyReads keep old new failed → register_at keep rules new ≡ register_at keep rules old
 register_same keep rules old new failed reads =

@@ -1,33 +1,31 @@
 -- What the row of PROJ says by itself of whether it is shown.
 use Rattle.std.proofs.Common.{◌≡◌, ℕ, zero, suc, ◌+◌, ◌<◌, Bool, true, false, if◌then◌else◌, Option, Some, None, List, [], ◌∷◌, map, filter, Contains, inl, inr, refl, sym, ap, subst, ◌∙◌, arith}
-use Rattle.std.specs.Prelude.{codes, ◌==◌, ◌≢◌, ◌-◌, ◌≤◌, slice_get, length, IfSome}
+use Rattle.std.specs.Prelude.{codes, ◌==◌, ◌-◌, ◌≤◌, slice_get, length}
 use Rattle.std.specs.List.{AllZip}
 use Rattle.std.specs.Str.{bytes_eq}
 use Rattle.std.proofs.lemmas.Bool.{true≢false, and_parts, eqb-true, eqb-false}
 use Rattle.std.proofs.lemmas.Slice.Eq.{bytes_eq-Decides}
 use Rattle.ags_rows.specs.Contents.{Contents, contents_of}
-use Rattle.ags_text.specs.Names.{is_definition}
-use Rattle.ags_rows.specs.Writing.{IsWellFormedGroup, group_names}
-use Rattle.ags_rows.proofs.Lemmas.{all_at, at_contained, once_apart}
+use Rattle.ags_rows.specs.Writing.{group_names}
+use Rattle.ags_rows.proofs.Lemmas.{at_contained, once_apart}
 use Rattle.ags_dict.specs.Entries.{Entries}
-use Rattle.ags_links.specs.DataRows.{DataRow, IsAt, IsRowOfGroup, data_rows, row_in, rows_before}
+use Rattle.ags_links.specs.DataRows.{DataRow, IsAt, IsRowOfGroup, data_rows, rows_before}
 use Rattle.ags_links.specs.Steps.{StepAt}
 use Rattle.ags_links.specs.Walks.{IsWalk}
-use Rattle.ags_links.proofs.Lemmas.{one_at, at_map, row_among, row_of_group, reach_itself, contains_cons}
+use Rattle.ags_links.proofs.Lemmas.{one_at, at_map, row_of_group, reach_itself, contains_cons}
 use Rattle.ags_check.specs.Findings.{CheckedFile, IsClean, file_of}
 use Rattle.reg_store.specs.Sent.{Sent}
 use Rattle.reg_store.specs.Fit.{IsFileOf, kept_rows}
-use Rattle.reg_store.specs.Project.{project_from, project_number, project_of, targets_of}
+use Rattle.reg_store.specs.Project.{project_from, project_of, targets_of}
 use Rattle.reg_store.specs.declared.keep.Keep.{Ghosts}
 use Rattle.reg_store.specs.declared.keep.KeptRow.{KeptRow}
 use Rattle.reg_store.specs.declared.keep.ProjectRow.{ProjectRow}
 use Rattle.reg_store.specs.Keep.{OfDeposit}
 use Rattle.reg_desk.specs.Serving.{OnlyReads}
-use Rattle.reg_desk.specs.Shown.{Look, IsPermitted, RowAt, IsProjectShown, decision_on, facts_on}
-use Rattle.reg_desk.specs.View.{AreAlike, IsLineOf, IsOpen, IsUnreadable, MayBeSeen, Sees, is_only, plain_lines, plain_row, project_line}
+use Rattle.reg_desk.specs.Shown.{Look, IsPermitted, RowAt}
+use Rattle.reg_desk.specs.View.{IsLineOf, IsOpen, IsUnreadable, MayBeSeen, Sees, is_only, plain_lines, plain_row, project_line}
 use Rattle.reg_desk.proofs.Bridges.{HasAt, IsOfProject, at_first, at_later, of_first, of_later, lines_spelled}
 use Rattle.reg_desk.proofs.Clean.{clean_formed, clean_keeps}
-use Rattle.reg_desk.proofs.Views.{group_seen, permit_is}
 
 -- ---- the row of PROJ among the DATA rows
 
@@ -178,68 +176,6 @@ open_shown look file project may clean is law permitted = λ only.
     reach only own m (t ∷ rows) walk =
         let itself : t ≡ project.number = only_target project.number t file.graph.steps only ((clean.graph.steps.exact project.number t).1 walk.0) in
         reach only own m rows (subst (λ (k : ℕ). IsWalk (StepAt (file_of file)) k rows m) itself walk.1)
-
--- ---- all rows of the deposit are alike to the policy
-
--- Rule 13: there is a row of PROJ
-project_there : (file : CheckedFile) → IsClean file → ((n : ℕ) → HasAt (data_rows (contents_of file.groups)) IsOfProject n → ⊥) → ⊥
-project_there file clean none =
-    let contents = contents_of file.groups in
-    let keeps = (clean_keeps file.given file.bytes (file_of file) clean.file).0 in
-    let formed = clean_formed file.given file.bytes (file_of file) clean.file in
-    keeps.project (λ has. go has.0 has.1 has.2 has.0.rows refl (all_at IsWellFormedGroup contents has.1.0 has.0 formed.each (at_contained contents has.0 has.1)).some_rows)
-  where
-    go : (group : Contents) → Contains (contents_of file.groups) group → group.name ≡ codes "PROJ" → (rows : List (List (List ℕ))) → rows ≡ group.rows → (group.rows ≢ []) → ⊥
-    go group has name [] is some = some (sym is)
-    go group has name (fields ∷ rows) is some =
-        let row = row_among (contents_of file.groups) group fields has (subst (λ (l : List (List (List ℕ))). Contains l fields) is (0, omega arith, refl)) in
-        none row.0 (row_in group fields, (row.1, row.2), name)
-
-alike_permits : (look : Look) → AreAlike look None true → (row : DataRow) → IsPermitted look row
-alike_permits look alike row = inr ((permit_is (decision_on look (facts_on look row.group row.headings row.fields))).0 (alike (facts_on look row.group row.headings row.fields) (tt, refl, refl)))
-
--- then each row that another reaches is permitted
-alike_reaches : (look : Look) (file : CheckedFile) → AreAlike look None true → (n m : ℕ) (rows : List ℕ) → RowAt (file_of file) (IsPermitted look) n → IsWalk (StepAt (file_of file)) n rows m → RowAt (file_of file) (IsPermitted look) m
-alike_reaches look file alike n m [] own same = subst (RowAt (file_of file) (IsPermitted look)) same own
-alike_reaches look file alike n m (t ∷ rows) own walk =
-    let (r, s, at_r, at_s, step) = walk.0 in
-    alike_reaches look file alike t m rows (s, at_s, alike_permits look alike s) walk.1
-
-alike_shown : (look : Look) (file : CheckedFile) → IsClean file → AreAlike look None true → (found : Option ProjectRow) → found ≡ project_of (kept_rows file.groups) → IsProjectShown look (file_of file)
-alike_shown look file clean alike None is =
-    absurd (project_there file clean (none_found 0 [] (kept_rows file.groups) (data_rows (contents_of file.groups)) (lines_spelled file.bytes file.groups clean.groups) (sym is)))
-alike_shown look file clean alike (Some project) is =
-    let line = its_line file clean project is in
-    (project.number, (line.0, line.1, sym line.2.group), λ m walk. alike_reaches look file alike project.number m walk.0 (line.0, line.1, alike_permits look alike line.0) walk.1)
-
--- none of these rows may be seen, among them that of PROJ
-alike_hidden : (look : Look) (file : CheckedFile) (named : Option (List ℕ)) → AreAlike look named false → IfSome named (λ name. codes "PROJ" ≡ name) → IsProjectShown look (file_of file) → ⊥
-alike_hidden look file named alike of_project shows =
-    let itself : RowAt (file_of file) (IsPermitted look) shows.0 = shows.2 shows.0 (reach_itself (StepAt (file_of file)) shows.0) in
-    let row : itself.0 ≡ shows.1.0 = one_at (data_rows (contents_of file.groups)) shows.0 itself.0 shows.1.0 itself.1 shows.1.1 in
-    let group : itself.0.group ≡ codes "PROJ" = ap (λ (r : DataRow). r.group) row ∙ shows.1.2 in
-    elim itself.2 [
-      | inl definition ↦ true≢false (sym definition ∙ ap is_definition group ∙ refl)
-      | inr permit ↦ true≢false (sym ((permit_is _).1 permit) ∙ alike (facts_on look itself.0.group itself.0.headings itself.0.fields) (subst (λ (g : List ℕ). IfSome named (λ name. g ≡ name)) (sym group) of_project, refl, refl))
-    ]
-
-pub sees_alike : (look : Look) (file : CheckedFile) (may : Bool) → IsClean file → AreAlike look None may → Sees look file may
-sees_alike look file true clean alike = (λ _. alike_shown look file clean alike (project_of (kept_rows file.groups)) refl, λ _. refl)
-sees_alike look file false clean alike = (λ e. absurd (true≢false (sym e)), λ shows. absurd (alike_hidden look file None alike tt shows))
-
--- ---- all rows of PROJ are alike to the policy
-
--- they may be seen
-pub open_alike : (look : Look) (file : CheckedFile) (found : Option ℕ) → IsClean file → AreAlike look (Some (codes "PROJ")) true → found ≡ project_number (project_of (kept_rows file.groups)) → IsOpen look file found
-open_alike look file found clean alike is = go (project_of (kept_rows file.groups)) refl is
-  where
-    go : (project : Option ProjectRow) → project ≡ project_of (kept_rows file.groups) → found ≡ project_number project → IsOpen look file found
-    go None none same = subst (IsOpen look file) (sym same) (open_none look file None clean refl none)
-    go (Some project) there same = subst (IsOpen look file) (sym same) (open_shown look file project true clean there (group_seen look (project_line project) true refl alike) refl)
-
--- they may not
-pub open_denied : (look : Look) (file : CheckedFile) → AreAlike look (Some (codes "PROJ")) false → IsOpen look file None
-open_denied look file alike = alike_hidden look file (Some (codes "PROJ")) alike refl
 
 -- a row of PROJ that is kept of a file can be read
 pub project_reads : (file : CheckedFile) (project : ProjectRow) → IsClean file → Some project ≡ project_of (kept_rows file.groups) → IsUnreadable (project_line project) → ⊥

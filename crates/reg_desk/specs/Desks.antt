@@ -10,15 +10,16 @@ use Rattle.reg_desk.specs.declared.desk.Desk.{Desk}
 use Rattle.reg_desk.specs.Asked.{Asked, extract}
 use Rattle.reg_desk.specs.Laws.{WasExtracted, IsShownWhole}
 use Rattle.reg_desk.specs.Machine.{held}
-use Rattle.reg_desk.specs.Serving.{is_failed, register_at, Serves}
+use Rattle.reg_desk.specs.Serving.{is_failed, register_at, Serves, ShowsRows}
 
 -- The desk before, what it is asked, its answer, and the desk after. A desk that failed answers StoreFailed and keeps what it has;
--- else the request is served over its keep under its policy, which stays.
+-- else the request is served over its keep under its policy, which stays. An extract is made of rows, also over a keep that is not sound.
 pub record AnsweredBy {K : Type 0} (keep : Ghosts K) (old : Desk K keep) (request : Asked) (answer : Answer) (new : Desk K keep) : Type 0 where
   pub policy : new.policy ≡ old.policy
   pub failed : new.failed ≡ is_failed answer
   pub stuck : old.failed ≡ true → (answer ≡ StoreFailed) × (new.keep ≡ old.keep)
   pub served : old.failed ≡ false → Serves keep old.policy request old.keep new.keep answer
+  pub rows : ShowsRows request answer
 
 -- One answer for each request, in order: each request is answered so by the desk that the one before it left.
 abbrev pub AreAnsweredBy : {K : Type 0} (keep : Ghosts K) → Desk K keep → List Asked → List Answer → Desk K keep → Type 0

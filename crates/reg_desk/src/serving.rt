@@ -4,7 +4,7 @@ ghost use Rattle.std.specs.Prelude.{◌≡◌, false};
 ghost use Rattle.std.specs.Str.{bytes_eq};
 ghost use Rattle.reg_policy.specs.Decision.{decision_of, request_question};
 ghost use Rattle.reg_desk.specs.Asked.{asked};
-ghost use Rattle.reg_desk.specs.Serving.{Serves, answer_of};
+ghost use Rattle.reg_desk.specs.Serving.{Serves, ShowsRows, answer_of};
 
 mod body;
 mod deposit;
@@ -30,7 +30,8 @@ pub(crate) fn serve<K: Keep>(
     request: &Request<'_>,
 ) -> Answer
     requires { K.has_failed keep.old ≡ false }
-    ensures { Serves K.Keep policy.now (asked request.entry.now) keep.old keep.new result }
+    ensures serves { Serves K.Keep policy.now (asked request.entry.now) keep.old keep.new result }
+    ensures rows { ShowsRows (asked request.entry.now) result }
 {
     match *request {
         Request::Deposit {

@@ -1,5 +1,4 @@
 pub mod Chosen
-pub mod Unread
 pub mod RowEntries
 pub mod Days
 pub mod DayTexts

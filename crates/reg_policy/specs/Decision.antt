@@ -1,5 +1,5 @@
 -- Which rule of a policy decides.
-use Rattle.std.specs.Prelude.{◌≡◌, ◌⊎◌, ◌↔◌, ℕ, List, [], ◌∷◌, ◌++◌, Bool, true, ◌&&◌, if◌then◌else◌, is_none, Option, Some, None, IfSome, IsTrue, Contains, slice_get}
+use Rattle.std.specs.Prelude.{◌≡◌, ◌⊎◌, ℕ, List, [], ◌∷◌, ◌++◌, Bool, true, ◌&&◌, if◌then◌else◌, is_none, Option, Some, None, slice_get}
 use Rattle.std.specs.Bool.{beq}
 use Rattle.std.specs.List.{All, list_any, zip}
 use Rattle.std.specs.Str.{bytes_eq}
@@ -103,44 +103,3 @@ matches r asked = is_met bytes_eq r.firm asked.firm && is_met bytes_eq r.role as
 abbrev pub decision_of : List Rule → Question → Decision
 decision_of [] asked = Deny 0
 decision_of (r ∷ rules) asked = if matches r asked then effect_of r.effect r.number else decision_of rules asked
-
--- ---- rows that are not read
-
--- what is told of them: their group, if they are all of one, whether their deposit is the caller's firm's, and whether its embargo is over
-pub record Told : Type 0 where
-  pub group : Option (List ℕ)
-  pub own : Bool
-  pub past : Bool
-
-abbrev pub told : Option (List ℕ) → Bool → Bool → Told
-told group own past = record { group = group; own = own; past = past }
-
--- the row is one of them
-abbrev pub IsOneOf : Told → Facts → Type 0
-IsOneOf told row = IfSome told.group (λ group. row.group ≡ group) × (row.own ≡ told.own) × (row.past ≡ told.past)
-
--- this is decided of each of them
-abbrev pub IsDecidedOfAll : List Rule → Caller → List ℕ → Told → Decision → Type 0
-IsDecidedOfAll rules caller project told decision = (row : Facts) → IsOneOf told row → decision_of rules (row_question caller project row) ≡ decision
-
--- the rule matches one of them, and does not match another
-abbrev pub TellsApart : Rule → Caller → List ℕ → Told → Type 0
-TellsApart r caller project told = ((row : Facts) × IsOneOf told row × Matches r (row_question caller project row))
-    × ((row : Facts) × IsOneOf told row × ¬ (Matches r (row_question caller project row)))
-
--- some rule matches one of them, and does not match another
-abbrev pub AreToldApart : List Rule → Caller → List ℕ → Told → Type 0
-AreToldApart rules caller project told = (r : Rule) × Contains rules r × TellsApart r caller project told
-
--- the rule matches each of them where `meets` is true, and none of them where it is false
-abbrev pub MatchesAlike : Rule → Caller → List ℕ → Told → Bool → Type 0
-MatchesAlike r caller project told meets = (row : Facts) → IsOneOf told row → IsTrue meets ↔ Matches r (row_question caller project row)
-
--- the group of each of them meets what is set where `meets` is true, and that of none where it is false
-abbrev pub MeetsAlike : Option (List ℕ) → Option (List ℕ) → Bool → Type 0
-MeetsAlike set told meets = (group : List ℕ) → IfSome told (λ g. group ≡ g) → IsTrue meets ↔ Meets set group
-
--- all is so that the rule sets beside the group and the entry of a row
-abbrev pub MeetsDeposit : Rule → Caller → List ℕ → Bool → Bool → Type 0
-MeetsDeposit r caller project own past = Meets r.verb See × Meets r.own own × Meets r.past past
-    × Meets r.firm caller.firm × Meets r.role caller.role × Meets r.project project

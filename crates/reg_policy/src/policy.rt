@@ -1,12 +1,12 @@
 //! A policy: a list of rules, of which the first that matches decides.
-ghost use Rattle.std.specs.Prelude.{◌≡◌, ◌↔◌, List, IsTrue, IfSome, IfNone, option_map};
-ghost use Rattle.reg_policy.specs.Decision.{decision_of, told, AreToldApart, IsDecidedOfAll};
+ghost use Rattle.std.specs.Prelude.{◌≡◌, ◌↔◌, List, IsTrue};
+ghost use Rattle.reg_policy.specs.Decision.{decision_of};
 ghost use Rattle.reg_policy.specs.Rules.{IsRisingFrom, ReadsPolicy, policy_error};
 ghost use Rattle.reg_policy.specs.declared.rule.Rule.{Rule as RuleValue};
 
 use crate::document::{ReadError, read_list};
 use crate::rule::Rule;
-use crate::{Caller, Decision, Name, Subject};
+use crate::{Decision, Subject};
 use std::alloc::Global;
 use std::marker::Model;
 use thiserror::Error;
@@ -84,33 +84,6 @@ impl Policy {
             }
         }
         Decision::Deny(0)
-    }
-
-    /// What is decided of every row of a deposit, or of a group of it, whatever stands in the row, where a caller wants to see it.
-    /// None only where some rule of the policy tells such rows apart: then the row has to be read, and `decide` asked.
-    ///
-    /// `own` says whether the deposit's firm is the caller's, `past` whether the embargo is over.
-    pub fn decide_unread(
-        &self,
-        caller: &Caller,
-        project: &Name,
-        group: Option<&[u8]>,
-        own: bool,
-        past: bool,
-    ) -> Option<Decision>
-        ensures decided { IfSome result (IsDecidedOfAll self.now caller.now project.now
-            (told (option_map (λ g. g.now) group.entry) own past)) }
-        ensures apart { IfNone result (AreToldApart self.now caller.now project.now
-            (told (option_map (λ g. g.now) group.entry) own past)) }
-    {
-        for reached in &self.rules {
-            match reached.meets_unread(caller, project, group, own, past) {
-                Some(true) => return Some(reached.decision()),
-                Some(false) => {}
-                None => return None,
-            }
-        }
-        Some(Decision::Deny(0))
     }
 }
 

@@ -1,8 +1,8 @@
 //! One rule of a policy, and whether it matches what is asked.
-ghost use Rattle.std.specs.Prelude.{◌≡◌, ◌↔◌, None, IsTrue, IsSome, IfNone, IfSome, option_map};
-ghost use Rattle.reg_policy.specs.Decision.{HasEntry, Matches, MatchesAlike, Meets, MeetsAlike, MeetsDeposit, MeetsEntry, MeetsRow, TellsApart, effect_of, facts_of, matches, told};
+ghost use Rattle.std.specs.Prelude.{◌≡◌, ◌↔◌, IsTrue, option_map};
+ghost use Rattle.reg_policy.specs.Decision.{HasEntry, Matches, Meets, MeetsEntry, MeetsRow, effect_of, facts_of, matches};
 
-use crate::{Caller, Decision, Name, RowFacts, Subject, Verb};
+use crate::{Decision, Name, RowFacts, Subject, Verb};
 use ags_text::{Bytes, Cell};
 
 /// What a rule decides where it matches.
@@ -50,45 +50,6 @@ impl Rule {
             && meets_name(&self.role, &subject.caller.role)
             && meets_name(&self.project, subject.project)
             && self.meets_row(&subject.row)
-    }
-
-    /// Whether all is so that the rule sets beside the group and the entry of a row.
-    fn meets_deposit(&self, caller: &Caller, project: &Name, own: bool, past: bool) -> bool
-        ensures { IsTrue result ↔ MeetsDeposit self.now caller.now project.now own past }
-    {
-        meets_verb(self.verb, Verb::See)
-            && meets_fact(self.own, own)
-            && meets_fact(self.past, past)
-            && meets_name(&self.firm, &caller.firm)
-            && meets_name(&self.role, &caller.role)
-            && meets_name(&self.project, project)
-    }
-
-    /// Whether the rule matches each row of which this is told, or none of them. None where that differs from row to row.
-    pub(crate) fn meets_unread(
-        &self,
-        caller: &Caller,
-        project: &Name,
-        group: Option<&[u8]>,
-        own: bool,
-        past: bool,
-    ) -> Option<bool>
-        ensures alike { IfSome result (MatchesAlike self.now caller.now project.now
-            (told (option_map (λ g. g.now) group.entry) own past)) }
-        ensures apart { IfNone result (TellsApart self.now caller.now project.now
-            (told (option_map (λ g. g.now) group.entry) own past)) }
-    {
-        if !self.meets_deposit(caller, project, own, past) {
-            return Some(false);
-        }
-        if !meets_told_group(&self.group, group)? {
-            return Some(false);
-        }
-        if self.entry.is_some() {
-            None
-        } else {
-            Some(true)
-        }
     }
 
     /// What the rule decides where it matches.
@@ -155,18 +116,6 @@ fn meets_group(set: &Option<Bytes>, group: &[u8]) -> bool
     match set {
         Some(wanted) => wanted.as_slice() == group,
         None => true,
-    }
-}
-
-/// Whether rows have the group, where they all have this one, if it is told. None where that differs from row to row.
-fn meets_told_group(set: &Option<Bytes>, told: Option<&[u8]>) -> Option<bool>
-    ensures alike { IfSome result (MeetsAlike set.now (option_map (λ g. g.now) told.entry)) }
-    ensures apart { IfNone result (IsSome set.now × (option_map (λ g. g.now) told.entry ≡ None)) }
-{
-    match (set, told) {
-        (None, _) => Some(true),
-        (Some(wanted), Some(group)) => Some(wanted.as_slice() == group),
-        (Some(_), None) => None,
     }
 }
 

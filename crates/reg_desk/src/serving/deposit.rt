@@ -79,28 +79,7 @@ fn serve_checked<K: Keep>(
     }
 }
 
-/// What a deposit is answered that the policy permits, whose body is not too large and not known to be held.
-#[tactic(none)]
-fn serve_small<K: Keep>(
-    alloc: Global,
-    keep: &mut K,
-    caller: &Caller,
-    project: &Name,
-    embargo: Day,
-    bytes: &[u8],
-) -> Answer
-    requires working { K.has_failed keep.old ≡ false }
-    requires short { length bytes.now ≤ LIMIT }
-    ensures { ServesPermittedDeposit K.Keep
-        caller.now project.now embargo bytes.now keep.old keep.new result }
-{
-    match check(alloc, keep.dictionary(), bytes) {
-        Err(error) => refusal_of(error),
-        Ok(checked) => serve_checked(keep, caller, project, embargo, &checked),
-    }
-}
-
-/// What a deposit is answered that the policy permits. One that the keep recalls was checked when it came.
+/// What a deposit is answered that the policy permits.
 #[tactic(none)]
 fn serve_permitted<K: Keep>(
     alloc: Global,
@@ -117,12 +96,9 @@ fn serve_permitted<K: Keep>(
     if bytes.len() > LIMIT {
         return Answer::TooLarge;
     }
-    match keep.recall(&caller.firm, project, bytes) {
-        None => serve_small(alloc, keep, caller, project, embargo, bytes),
-        Some(number) => match keep.head(number) {
-            Err(error) => refused(error),
-            Ok(head) => receipt(number, Some(head.embargo), embargo),
-        },
+    match check(alloc, keep.dictionary(), bytes) {
+        Err(error) => refusal_of(error),
+        Ok(checked) => serve_checked(keep, caller, project, embargo, &checked),
     }
 }
 

@@ -1,38 +1,21 @@
 //! An extract, from the rows and steps that are kept of a deposit.
 
-ghost use Rattle.std.specs.Prelude.{◌≡◌, ◌≢◌, ◌<◌, ◌≤◌, false, length, Err, IfOk};
+ghost use Rattle.std.specs.Prelude.{◌≡◌, ◌≢◌, ◌<◌, ◌≤◌, false, length, option_map, Err, IfOk, IfSome};
 ghost use Rattle.reg_store.specs.Keep.{fails};
 ghost use Rattle.reg_desk.specs.Asked.{extract as asks_extract, names_in};
-ghost use Rattle.reg_desk.specs.View.{look_of};
-ghost use Rattle.reg_desk.specs.Serving.{DrawsDeposit, DrawsFor, IsViewOfDeposit, OnlyReads, Serves, look_on};
+ghost use Rattle.reg_desk.specs.Extract.{IsOfRows};
+ghost use Rattle.reg_desk.specs.Machine.{IsDrawnFrom, held};
+ghost use Rattle.reg_desk.specs.Serving.{IsAnswerOfRows, OfHeld, OnlyReads, Serves, register_at, text_answer};
+ghost use Rattle.reg_desk.specs.View.{DrawsFile, IsViewOf};
 
 use crate::answer::Answer;
 use crate::serving::{decide_request, is_same, refused};
-use crate::view::{Looking, extract};
+use crate::view::{Look, extract};
 use ags_links::Graph;
 use ags_text::Sequence;
 use reg_policy::{Caller, Day, Decision, Name, Policy, Verb};
-use reg_store::{Keep, KeepError, KeptHead, KeptRow};
+use reg_store::{Keep, KeepError, KeptRow};
 use std::alloc::Global;
-
-/// Who looks at the deposit of this head.
-fn looking_at<'x>(
-    policy: &'x Policy,
-    caller: &'x Caller,
-    head: &'x KeptHead,
-    day: Day,
-) -> Looking<'x>
-    ensures { look_of result ≡ look_on policy.now caller.now head.now day }
-{
-    Looking {
-        policy,
-        caller,
-        owner: &head.firm,
-        project: &head.project,
-        embargo: head.embargo,
-        day,
-    }
-}
 
 /// The rows and the steps of a kept deposit.
 pub(super) fn read_view<K: Keep>(
@@ -43,7 +26,7 @@ pub(super) fn read_view<K: Keep>(
     requires number { K.is_sound keep.old → (0 < number) × (number ≤ length (K.deposits keep.old)) }
     ensures reads { OnlyReads K.Keep keep.old keep.new (fails result) }
     ensures seen { K.is_sound keep.new
-        → IfOk result (λ seen. IsViewOfDeposit K.Keep keep.old number seen.0.items seen.1) }
+        → IfOk result (λ seen. OfHeld K.Keep keep.old number (λ file. IsViewOf seen.0.items seen.1 file)) }
     ensures refused { result ≢ Err KeepError.Full }
 {
     let rows = keep.rows(number)?;
@@ -55,19 +38,20 @@ pub(super) fn read_view<K: Keep>(
 fn draw_held<K: Keep>(
     alloc: Global,
     keep: &mut K,
-    looking: &Looking,
+    look: &Look,
     number: u32,
     groups: &[&[u8]],
 ) -> Result<Option<Vec<u8>>, KeepError>
     requires working { K.has_failed keep.old ≡ false }
     requires number { K.is_sound keep.old → (0 < number) × (number ≤ length (K.deposits keep.old)) }
     ensures reads { OnlyReads K.Keep keep.old keep.new (fails result) }
-    ensures drawn { K.is_sound keep.new
-        → IfOk result (DrawsDeposit K.Keep keep.old (look_of looking.now) number (names_in groups.now)) }
+    ensures drawn { K.is_sound keep.new → IfOk result (λ text. OfHeld K.Keep keep.old number (λ file.
+        DrawsFile look.now (names_in groups.now) text file)) }
+    ensures rows { IfOk result (λ text. IfSome text (λ t. IsOfRows t.items)) }
     ensures refused { result ≢ Err KeepError.Full }
 {
     let (rows, graph) = read_view(keep, number)?;
-    extract(alloc, looking, groups, &rows, &graph)
+    extract(alloc, look, groups, &rows, &graph)
 }
 
 /// The text of the extract of a deposit of the project, if its row of PROJ is shown.
@@ -83,8 +67,10 @@ fn draw<K: Keep>(
 ) -> Result<Option<Vec<u8>>, KeepError>
     requires { K.has_failed keep.old ≡ false }
     ensures reads { OnlyReads K.Keep keep.old keep.new (fails result) }
-    ensures drawn { K.is_sound keep.new
-        → IfOk result (DrawsFor K.Keep policy.now keep.old caller.now project.now number groups.now day) }
+    ensures drawn { K.is_sound keep.new → IfOk result (λ text.
+        ∥ IsDrawnFrom (register_at K.Keep policy.now keep.old) caller.now project.now (names_in groups.now) day
+        (held number (K.deposits keep.old)) (text_answer (option_map (λ t. t.items) text)) ∥₁) }
+    ensures rows { IfOk result (λ text. IfSome text (λ t. IsOfRows t.items)) }
     ensures refused { result ≢ Err KeepError.Full }
 {
     if number == 0 || number > keep.count() {
@@ -94,8 +80,8 @@ fn draw<K: Keep>(
     if !is_same(&head.project, project) {
         return Ok(None);
     }
-    let looking = looking_at(policy, caller, &head, day);
-    draw_held(alloc, keep, &looking, number, groups)
+    let look = Look::at(policy, caller, &head, day);
+    draw_held(alloc, keep, &look, number, groups)
 }
 
 /// What an extract is answered.
@@ -111,8 +97,9 @@ pub(super) fn serve_extract<K: Keep>(
     day: Day,
 ) -> Answer
     requires { K.has_failed keep.old ≡ false }
-    ensures { Serves K.Keep policy.now
+    ensures serves { Serves K.Keep policy.now
         (asks_extract caller.now project.now number (names_in groups.now) day) keep.old keep.new result }
+    ensures rows { IsAnswerOfRows result }
 {
     match decide_request(policy, caller, project, Verb::Extract) {
         Decision::Deny(rule) => return Answer::Denied(rule),

@@ -2,79 +2,55 @@
 
 ghost use Rattle.std.specs.Prelude.{◌≡◌, ◌≢◌, ◌<◌, ◌≤◌, false, length, Some, Err, IfOk};
 ghost use Rattle.reg_store.specs.Keep.{fails};
-ghost use Rattle.reg_store.specs.Sent.{Sent, numbers_from};
-ghost use Rattle.reg_desk.specs.Alike.{AreAlikeBy};
+ghost use Rattle.reg_store.specs.Sent.{Sent};
 ghost use Rattle.reg_desk.specs.Asked.{listing as asks_listing};
-ghost use Rattle.reg_desk.specs.Machine.{held};
-ghost use Rattle.reg_desk.specs.Serving.{ListsDeposit, ListsFor, ListsProject, OnlyReads, OpensDeposit, SeesDeposit, Serves, look_in};
-ghost use Rattle.reg_desk.specs.View.{IsAlikeOn, is_only, look_of};
+ghost use Rattle.reg_desk.specs.Machine.{IsListing, held};
+ghost use Rattle.reg_desk.specs.Serving.{IsLineFor, OfHeld, OnlyReads, Serves, register_at};
+ghost use Rattle.reg_desk.specs.View.{IsOpen, Sees, is_only};
 
-use crate::alike::{Alike, AlikeByStanding};
 use crate::answer::{Answer, Listed};
 use crate::serving::drawing::read_view;
 use crate::serving::{decide_request, refused};
-use crate::view::{Looking, opens, sees, standing_of};
+use crate::view::{Look, opens, sees};
 use ags_text::Sequence;
 use reg_policy::{Caller, Day, Decision, Name, Policy, Verb};
-use reg_store::{Keep, KeepError, KeptHead};
+use reg_store::{Keep, KeepError};
 use std::alloc::Global;
 
-/// Who lists which project on which day, and which rows of its deposits are alike to the policy.
-#[derive(Clone, Copy)]
-struct Lister<'a> {
-    policy: &'a Policy,
-    caller: &'a Caller,
-    project: &'a Name,
-    day: Day,
-    alike: AlikeByStanding,
-}
-
-/// Who looks at the deposit of this head, which is of the project.
-fn looking_in<'x>(lister: &'x Lister<'x>, head: &'x KeptHead) -> Looking<'x>
-    ensures { look_of result ≡ look_in lister.now head.now }
-{
-    Looking {
-        policy: lister.policy,
-        caller: lister.caller,
-        owner: &head.firm,
-        project: lister.project,
-        embargo: head.embargo,
-        day: lister.day,
-    }
-}
-
-/// The number of the deposit's row of PROJ, which is read, if it may be seen: where it has no step to another row it is shown.
+/// The number of the deposit's row of PROJ, if it may be seen: where it has no step to another row it is shown.
 fn open_project<K: Keep>(
     alloc: Global,
     keep: &mut K,
-    looking: &Looking,
+    look: &Look,
     number: u32,
 ) -> Result<Option<u32>, KeepError>
     requires working { K.has_failed keep.old ≡ false }
     requires number { K.is_sound keep.old → (0 < number) × (number ≤ length (K.deposits keep.old)) }
     ensures reads { OnlyReads K.Keep keep.old keep.new (fails result) }
-    ensures read { K.is_sound keep.new → IfOk result (OpensDeposit K.Keep keep.old (look_of looking.now) number) }
+    ensures read { K.is_sound keep.new → IfOk result (λ row.
+        OfHeld K.Keep keep.old number (λ file. IsOpen look.now file row)) }
     ensures refused { result ≢ Err KeepError.Full }
 {
     let project = keep.project_row(number)?;
-    opens(alloc, looking, project)
+    opens(alloc, look, project)
 }
 
 /// Whether the deposit's row of PROJ is shown, from all its rows and steps.
 fn seen_among_all<K: Keep>(
     alloc: Global,
     keep: &mut K,
-    looking: &Looking,
+    look: &Look,
     number: u32,
 ) -> Result<bool, KeepError>
     requires working { K.has_failed keep.old ≡ false }
     requires number { K.is_sound keep.old → (0 < number) × (number ≤ length (K.deposits keep.old)) }
     ensures reads { OnlyReads K.Keep keep.old keep.new (fails result) }
-    ensures seen { K.is_sound keep.new → IfOk result (SeesDeposit K.Keep keep.old (look_of looking.now) number) }
+    ensures seen { K.is_sound keep.new → IfOk result (λ seen.
+        OfHeld K.Keep keep.old number (λ file. Sees look.now file seen)) }
     ensures refused { result ≢ Err KeepError.Full }
 {
     let (rows, graph) = read_view(keep, number)?;
-    sees(alloc, looking, &rows, &graph)
+    sees(alloc, look, &rows, &graph)
 }
 
 /// Whether each of these rows is this one.
@@ -84,21 +60,21 @@ fn are_only(targets: &[u32], row: u32) -> bool
     targets.iter().all(|target| *target == row)
 }
 
-/// Whether the deposit's row of PROJ is shown, where it may be seen: one with no step to another row decides alone.
-fn seen_from<K: Keep>(
+/// Whether the deposit's row of PROJ is shown: one with no step to another row decides alone.
+fn sees_project<K: Keep>(
     alloc: Global,
     keep: &mut K,
-    looking: &Looking,
+    look: &Look,
     number: u32,
-    opened: Option<u32>,
 ) -> Result<bool, KeepError>
     requires working { K.has_failed keep.old ≡ false }
     requires number { K.is_sound keep.old → (0 < number) × (number ≤ length (K.deposits keep.old)) }
-    requires opened { K.is_sound keep.old → OpensDeposit K.Keep keep.old (look_of looking.now) number opened }
     ensures reads { OnlyReads K.Keep keep.old keep.new (fails result) }
-    ensures seen { K.is_sound keep.new → IfOk result (SeesDeposit K.Keep keep.old (look_of looking.now) number) }
+    ensures seen { K.is_sound keep.new → IfOk result (λ seen.
+        OfHeld K.Keep keep.old number (λ file. Sees look.now file seen)) }
     ensures refused { result ≢ Err KeepError.Full }
 {
+    let opened = open_project(alloc, keep, look, number)?;
     let Some(row) = opened else {
         return Ok(false);
     };
@@ -106,58 +82,29 @@ fn seen_from<K: Keep>(
     if are_only(&targets, row) {
         return Ok(true);
     }
-    seen_among_all(alloc, keep, looking, number)
+    seen_among_all(alloc, keep, look, number)
 }
 
-/// Whether the deposit's row of PROJ is shown. Where all its rows are alike to the policy, none is read.
-fn sees_project<K: Keep>(
-    alloc: Global,
-    keep: &mut K,
-    looking: &Looking,
-    alike: Alike,
-    number: u32,
-) -> Result<bool, KeepError>
-    requires working { K.has_failed keep.old ≡ false }
-    requires number { K.is_sound keep.old → (0 < number) × (number ≤ length (K.deposits keep.old)) }
-    requires alike { IsAlikeOn (look_of looking.now) alike }
-    ensures reads { OnlyReads K.Keep keep.old keep.new (fails result) }
-    ensures seen { K.is_sound keep.new → IfOk result (SeesDeposit K.Keep keep.old (look_of looking.now) number) }
-    ensures refused { result ≢ Err KeepError.Full }
-{
-    match alike {
-        Alike::AllRows(may) => Ok(may),
-        Alike::ProjectRows(false) => Ok(false),
-        Alike::ProjectRows(true) => {
-            let row = keep.project_number(number)?;
-            seen_from(alloc, keep, looking, number, row)
-        }
-        Alike::Apart => {
-            let row = open_project(alloc, keep, looking, number)?;
-            seen_from(alloc, keep, looking, number, row)
-        }
-    }
-}
-
-/// The deposit's line in a listing of its project, if its row of PROJ is shown.
+/// The deposit's line in a listing, if its row of PROJ is shown.
 fn listed<K: Keep>(
     alloc: Global,
     keep: &mut K,
-    lister: &Lister,
+    policy: &Policy,
+    caller: &Caller,
+    day: Day,
     number: u32,
 ) -> Result<Option<Listed>, KeepError>
     requires working { K.has_failed keep.old ≡ false }
     requires number { K.is_sound keep.old → (0 < number) × (number ≤ length (K.deposits keep.old)) }
-    requires project { K.is_sound keep.old → (d : Sent)
-        → held number (K.deposits keep.old) ≡ Some d → d.project ≡ lister.now.project.now }
-    requires alike { AreAlikeBy lister.now.policy.now lister.now.caller.now lister.now.project.now lister.now.alike }
     ensures reads { OnlyReads K.Keep keep.old keep.new (fails result) }
-    ensures seen { K.is_sound keep.new → IfOk result (ListsDeposit K.Keep keep.old lister.now number) }
+    ensures seen { K.is_sound keep.new → IfOk result (λ line.
+        (d : Sent) → held number (K.deposits keep.old) ≡ Some d
+        → ∥ IsLineFor (register_at K.Keep policy.now keep.old) caller.now day number d line ∥₁) }
     ensures refused { result ≢ Err KeepError.Full }
 {
     let head = keep.head(number)?;
-    let looking = looking_in(lister, &head);
-    let alike = lister.alike.at(standing_of(&looking));
-    if !sees_project(alloc, keep, &looking, alike, number)? {
+    let look = Look::at(policy, caller, &head, day);
+    if !sees_project(alloc, keep, &look, number)? {
         return Ok(None);
     }
     Ok(Some(Listed {
@@ -165,31 +112,6 @@ fn listed<K: Keep>(
         firm: head.firm,
         embargo: head.embargo,
     }))
-}
-
-/// The lines of the deposits whose row of PROJ is shown, of these numbers, which are those of the project.
-fn lines_at<K: Keep>(
-    alloc: Global,
-    keep: &mut K,
-    lister: &Lister,
-    numbers: &[u32],
-) -> Result<Vec<Listed>, KeepError>
-    requires working { K.has_failed keep.old ≡ false }
-    requires numbers { K.is_sound keep.old
-        → numbers.now ≡ numbers_from 1 lister.now.project.now (K.deposits keep.old) }
-    requires alike { AreAlikeBy lister.now.policy.now lister.now.caller.now lister.now.project.now lister.now.alike }
-    ensures reads { OnlyReads K.Keep keep.old keep.new (fails result) }
-    ensures listed { K.is_sound keep.new → IfOk result (ListsFor K.Keep keep.old lister.now) }
-    ensures refused { result ≢ Err KeepError.Full }
-{
-    let mut lines = Vec::new(alloc);
-    for number in numbers {
-        match listed(alloc, keep, lister, *number)? {
-            Some(line) => lines.push(line)?,
-            None => {}
-        }
-    }
-    Ok(lines)
 }
 
 /// The lines of the project's deposits whose row of PROJ is shown.
@@ -203,22 +125,20 @@ fn lines_of<K: Keep>(
 ) -> Result<Vec<Listed>, KeepError>
     requires { K.has_failed keep.old ≡ false }
     ensures reads { OnlyReads K.Keep keep.old keep.new (fails result) }
-    ensures listed { K.is_sound keep.new
-        → IfOk result (ListsProject K.Keep policy.now keep.old caller.now project.now day) }
+    ensures listed { K.is_sound keep.new → IfOk result (λ lines.
+        ∥ IsListing (register_at K.Keep policy.now keep.old) caller.now project.now day 1
+        (K.deposits keep.old) lines.items ∥₁) }
     ensures refused { result ≢ Err KeepError.Full }
 {
     let numbers = keep.numbers(project)?;
-    if numbers.is_empty() {
-        return Ok(Vec::new(alloc));
+    let mut lines = Vec::new(alloc);
+    for number in &numbers {
+        match listed(alloc, keep, policy, caller, day, *number)? {
+            Some(line) => lines.push(line)?,
+            None => {}
+        }
     }
-    let lister = Lister {
-        policy,
-        caller,
-        project,
-        day,
-        alike: AlikeByStanding::of(policy, caller, project),
-    };
-    lines_at(alloc, keep, &lister, &numbers)
+    Ok(lines)
 }
 
 /// What a list is answered.

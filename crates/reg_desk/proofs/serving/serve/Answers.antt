@@ -1,7 +1,7 @@
 use Rattle.std.proofs.Common.{sym, subst}
 use Rattle.reg_desk.specs.Asked.{asked}
 use Rattle.reg_desk.specs.declared.request.Request.{Request}
-use Rattle.reg_desk.specs.Serving.{Serves}
+use Rattle.reg_desk.specs.Serving.{Serves, ShowsRows}
 use Rattle.reg_desk.proofs.serving.serve.Goals as goal
 
 pub serve_deposit-requires : goal.serve_deposit-requires
@@ -16,18 +16,30 @@ serve_list-requires g c = c.requires
 pub serve_extract-requires : goal.serve_extract-requires
 serve_extract-requires g c = c.requires
 
-pub returns-in-Deposit : goal.returns-in-Deposit
-returns-in-Deposit g c =
+pub returns-in-Deposit-clause-serves : goal.returns-in-Deposit-clause-serves
+returns-in-Deposit-clause-serves g c =
     subst (λ (r : Request). Serves g.K.Keep c.args.policy.now (asked r) c.args.keep.now c.serve_deposit.new.keep c.serve_deposit.result) (sym c.in-Deposit.is) (c.serve_deposit.ensures c.in-Deposit.day)
 
-pub returns-in-Check : goal.returns-in-Check
-returns-in-Check g c =
+pub returns-in-Check-clause-serves : goal.returns-in-Check-clause-serves
+returns-in-Check-clause-serves g c =
     subst (λ (r : Request). Serves g.K.Keep c.args.policy.now (asked r) c.args.keep.now c.serve_check.new.keep c.serve_check.result) (sym c.in-Check.is) (c.serve_check.ensures c.in-Check.day)
 
-pub returns-in-List : goal.returns-in-List
-returns-in-List g c =
+pub returns-in-List-clause-serves : goal.returns-in-List-clause-serves
+returns-in-List-clause-serves g c =
     subst (λ (r : Request). Serves g.K.Keep c.args.policy.now (asked r) c.args.keep.now c.serve_list.new.keep c.serve_list.result) (sym c.in-List.is) c.serve_list.ensures
 
-pub returns-in-Extract : goal.returns-in-Extract
-returns-in-Extract g c =
-    subst (λ (r : Request). Serves g.K.Keep c.args.policy.now (asked r) c.args.keep.now c.serve_extract.new.keep c.serve_extract.result) (sym c.in-Extract.is) c.serve_extract.ensures
+pub returns-in-Extract-clause-serves : goal.returns-in-Extract-clause-serves
+returns-in-Extract-clause-serves g c =
+    subst (λ (r : Request). Serves g.K.Keep c.args.policy.now (asked r) c.args.keep.now c.serve_extract.new.keep c.serve_extract.result) (sym c.in-Extract.is) c.serve_extract.ensures.serves
+
+pub returns-in-Deposit-clause-rows : goal.returns-in-Deposit-clause-rows
+returns-in-Deposit-clause-rows g c = subst (λ (r : Request). ShowsRows (asked r) c.serve_deposit.result) (sym c.in-Deposit.is) tt
+
+pub returns-in-Check-clause-rows : goal.returns-in-Check-clause-rows
+returns-in-Check-clause-rows g c = subst (λ (r : Request). ShowsRows (asked r) c.serve_check.result) (sym c.in-Check.is) tt
+
+pub returns-in-List-clause-rows : goal.returns-in-List-clause-rows
+returns-in-List-clause-rows g c = subst (λ (r : Request). ShowsRows (asked r) c.serve_list.result) (sym c.in-List.is) tt
+
+pub returns-in-Extract-clause-rows : goal.returns-in-Extract-clause-rows
+returns-in-Extract-clause-rows g c = subst (λ (r : Request). ShowsRows (asked r) c.serve_extract.result) (sym c.in-Extract.is) c.serve_extract.ensures.rows

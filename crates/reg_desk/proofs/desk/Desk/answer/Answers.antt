@@ -9,13 +9,14 @@ returns-clause-answered g c = record {
   policy = refl;
   failed = c.is_store_failed-self.ensures;
   stuck = λ e. absurd (true≢false (sym e ∙ c.if-self.false));
-  served = λ e. c.serve-answer.ensures;
+  served = λ e. c.serve-answer.ensures.serves;
+  rows = c.serve-answer.ensures.rows;
 }
 
 pub returns-clause-clean : goal.returns-clause-clean
 returns-clause-clean g c = λ s.
-    clean_text g.K.Keep c.args.self.now.policy (asked c.args.request.now) c.args.self.now.keep c.serve-answer.new.keep c.serve-answer.result c.serve-answer.ensures s
+    clean_text g.K.Keep c.args.self.now.policy (asked c.args.request.now) c.args.self.now.keep c.serve-answer.new.keep c.serve-answer.result c.serve-answer.ensures.serves s
 
 pub returns-clause-same : goal.returns-clause-same
 returns-clause-same g c = λ s.
-    same_answer g.K.Keep c.args.self.now.policy (asked c.args.request.now) c.args.self.now.keep c.serve-answer.new.keep c.serve-answer.result c.serve-answer.ensures s
+    same_answer g.K.Keep c.args.self.now.policy (asked c.args.request.now) c.args.self.now.keep c.serve-answer.new.keep c.serve-answer.result c.serve-answer.ensures.serves s

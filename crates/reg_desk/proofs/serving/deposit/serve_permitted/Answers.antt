@@ -1,53 +1,34 @@
-use Rattle.std.proofs.Common.{◌≤◌, arith, length, sym, subst, false}
-use Rattle.ags_rows.specs.declared.TheConstants.{LIMIT}
+use Rattle.std.proofs.Common.{◌∙◌, Err, List, ℕ, ap, arith, length, subst}
+use Rattle.ags_dict.specs.Entries.{Entries}
 use Rattle.reg_desk.specs.Asked.{deposit}
-use Rattle.reg_desk.specs.Serving.{Serves, register_at}
-use Rattle.reg_desk.proofs.Serves.{reads_once}
-use Rattle.reg_desk.proofs.Taking.{IsAllowed, deposit_refused, deposit_unread, deposit_repeats, found_within, first_found, held_clean}
+use Rattle.reg_desk.specs.Serving.{IsRefusal, Serves}
+use Rattle.reg_desk.proofs.Bodies.{refusal_is}
+use Rattle.reg_desk.proofs.Taking.{deposit_refused}
 use Rattle.reg_desk.proofs.serving.deposit.serve_permitted.Goals as goal
+
+pub check-requires : goal.check-requires
+check-requires g c = omega arith
 
 pub returns-then-bytes-gt-LIMIT : goal.returns-then-bytes-gt-LIMIT
 returns-then-bytes-gt-LIMIT g c = λ rules number day permit.
     deposit_refused g.K.Keep rules c.args.caller.now c.args.project.now c.args.embargo c.args.bytes.now day c.args.keep.now _ number c.requires permit (omega arith)
 
-pub serve_small-requires-clause-working : goal.serve_small-requires-clause-working
-serve_small-requires-clause-working g c = c.requires
-
-pub serve_small-requires-clause-short : goal.serve_small-requires-clause-short
-serve_small-requires-clause-short g c = omega arith
-
-pub returns-in-None : goal.returns-in-None
-returns-in-None g c = c.serve_small.ensures
-
-pub head-requires-clause-working : goal.head-requires-clause-working
-head-requires-clause-working g c = c.requires
-
-pub head-requires-clause-number : goal.head-requires-clause-number
-head-requires-clause-number g c = λ s.
-    found_within c.args.caller.now.firm c.args.project.now c.args.bytes.now (g.K.Keep.deposits c.args.keep.now) c.in-Some.number (c.in-Some.ensures s c.requires)
-
 pub returns-in-Err : goal.returns-in-Err
 returns-in-Err g c = λ rules number day permit.
-    let K = g.K.Keep in
-    let keep = c.args.keep.now in
-    let small : length c.args.bytes.now ≤ LIMIT = omega arith in
-    let allowed : IsAllowed (register_at K rules keep) c.args.caller.now c.args.project.now c.args.bytes.now = record { number = number; permitted = permit; small = small } in
-    let leaves = c.in-Err.ensures.leaves in
-    let clean = λ (s : K.is_sound keep). held_clean (K.dictionary keep) c.args.caller.now.firm c.args.project.now c.args.bytes.now (K.deposits keep) c.in-Some.number (g.met.K.Keep.fit keep s c.requires) (c.in-Some.ensures s c.requires) in
-    subst (Serves K rules (deposit c.args.caller.now c.args.project.now c.args.embargo c.args.bytes.now day) keep c.head.new.self) (sym c.refused.ensures)
-    (deposit_unread K rules c.args.caller.now c.args.project.now c.args.embargo c.args.bytes.now day keep c.head.new.self c.in-Err.error allowed
-    (λ s. clean (leaves.sound s)) (reads_once K keep c.head.new.self _ leaves) c.in-Err.ensures.refused)
+    let refusal = refusal_is c.dictionary.result.now c.args.bytes.now c.in-Err.error c.refusal_of.result (omega arith) (λ found e. c.in-Err.ensures.findings found (ap (λ x. Err x) e)) c.refusal_of.ensures.findings c.refusal_of.ensures.memory in
+    deposit_refused g.K.Keep rules c.args.caller.now c.args.project.now c.args.embargo c.args.bytes.now day c.args.keep.now c.refusal_of.result number c.requires permit
+    (subst (λ (e : Entries). IsRefusal e c.args.bytes.now c.refusal_of.result) c.dictionary.ensures refusal)
+
+pub serve_checked-requires-clause-working : goal.serve_checked-requires-clause-working
+serve_checked-requires-clause-working g c = c.requires
+
+pub serve_checked-requires-clause-dictionary : goal.serve_checked-requires-clause-dictionary
+serve_checked-requires-clause-dictionary g c = c.in-Ok.ensures.given ∙ c.dictionary.ensures
+
+pub serve_checked-requires-clause-short : goal.serve_checked-requires-clause-short
+serve_checked-requires-clause-short g c = omega (arith, c.if-bytes-gt-LIMIT.false, ap length c.in-Ok.ensures.bytes)
 
 pub returns-in-Ok : goal.returns-in-Ok
 returns-in-Ok g c = λ rules number day permit.
-    let K = g.K.Keep in
-    let keep = c.args.keep.now in
-    let small : length c.args.bytes.now ≤ LIMIT = omega arith in
-    let allowed : IsAllowed (register_at K rules keep) c.args.caller.now c.args.project.now c.args.bytes.now = record { number = number; permitted = permit; small = small } in
-    let leaves = c.in-Ok.ensures.leaves in
-    let held = λ (s : K.is_sound keep). c.in-Some.ensures s c.requires in
-    let clean = λ (s : K.is_sound keep). held_clean (K.dictionary keep) c.args.caller.now.firm c.args.project.now c.args.bytes.now (K.deposits keep) c.in-Some.number (g.met.K.Keep.fit keep s c.requires) (held s) in
-    subst (Serves K rules (deposit c.args.caller.now c.args.project.now c.args.embargo c.args.bytes.now day) keep c.head.new.self) (sym c.receipt.ensures.held)
-    (deposit_repeats K rules c.args.caller.now c.args.project.now c.args.embargo c.args.bytes.now day keep c.head.new.self c.in-Some.number c.in-Ok.head.embargo allowed
-    (λ s. clean (leaves.sound s)) (reads_once K keep c.head.new.self false leaves)
-    (λ s. first_found c.args.caller.now.firm c.args.project.now c.args.bytes.now (K.deposits keep) c.in-Some.number c.in-Ok.head (held (leaves.sound s)) (c.in-Ok.ensures.read s)))
+    subst (λ (b : List ℕ). Serves g.K.Keep rules (deposit c.args.caller.now c.args.project.now c.args.embargo b day) c.args.keep.now c.serve_checked.new.keep c.serve_checked.result)
+    c.in-Ok.ensures.bytes (c.serve_checked.ensures rules number day permit)

@@ -5,8 +5,8 @@ use Rattle.reg_store.specs.Keep.{fails}
 use Rattle.reg_desk.specs.Asked.{names_in}
 use Rattle.ags_check.specs.Findings.{file_of}
 use Rattle.reg_desk.specs.Shown.{Look}
-use Rattle.reg_desk.specs.View.{IsExtractOf}
-use Rattle.reg_desk.specs.Serving.{look_on, register_at}
+use Rattle.reg_desk.specs.View.{look_on, IsExtractOf}
+use Rattle.reg_desk.specs.Serving.{register_at}
 use Rattle.reg_desk.proofs.Serves.{reads_once, reads_more, still_works}
 use Rattle.reg_desk.proofs.Drawing.{headed, head_drawn, other_drawn, unheld_drawn}
 use Rattle.reg_desk.proofs.Projects.{of_file_before, within_after}
@@ -54,4 +54,4 @@ returns-clause-drawn g c = λ s.
     head_drawn (register_at K c.args.policy.now keep) (K.deposits keep) c.args.caller.now c.args.project.now c.args.number groups c.args.day c.in_ok-head.head (option_map (λ (t : Vec ℕ Global). t.items) text) h
     (sym c.is_same.ensures ∙ c.if-not-is_same.false)
     (of_file_before K keep c.head.new.self c.args.number (λ file. IsExtractOf (look_on c.args.policy.now c.args.caller.now c.in_ok-head.head c.args.day) (file_of file) groups (option_map (λ (t : Vec ℕ Global). t.items) text)) first s1
-    (λ d file at is. subst (λ (look : Look). IsExtractOf look (file_of file) groups (option_map (λ (t : Vec ℕ Global). t.items) text)) c.looking_at-looking.ensures (drawn d file at is)))) (c.draw_held.ensures.drawn s)
+    (λ d file at is. subst (λ (look : Look). IsExtractOf look (file_of file) groups (option_map (λ (t : Vec ℕ Global). t.items) text)) c.at-look.ensures (drawn d file at is)))) (c.draw_held.ensures.drawn s)

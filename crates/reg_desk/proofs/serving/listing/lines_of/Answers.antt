@@ -1,46 +1,92 @@
-use Rattle.std.proofs.Common.{◌≡◌, ◌∙◌, arith, vec_len, sym, ap, subst, refl, List, length, Vec, Global}
-use Rattle.std.proofs.lemmas.Bool.{eqb-true}
-use Rattle.std.proofs.lemmas.Result.{IfOk-weaker}
+use Rattle.std.proofs.Common.{◌≡◌, ◌∙◌, sym, ap, subst, refl, ◌+◌, ◌<◌, ◌≤◌, List, length, drop, get_or, false, Vec, Global, Some}
+use Rattle.std.proofs.lemmas.Result.{err_from_is_err_and}
 use Rattle.reg_store.specs.Sent.{Sent, numbers_from}
-use Rattle.reg_store.specs.Keep.{fails}
+use Rattle.reg_store.specs.Keep.{fails, is_store}
 use Rattle.reg_desk.specs.declared.answer.Listed.{Listed}
-use Rattle.reg_desk.specs.Machine.{IsListing, Register}
-use Rattle.reg_desk.specs.Serving.{register_at}
-use Rattle.reg_desk.proofs.Serves.{reads_once, reads_more, still_works}
-use Rattle.reg_desk.proofs.Listings.{lines_none, register_same}
+use Rattle.reg_desk.specs.Machine.{IsListing, Register, held}
+use Rattle.reg_desk.specs.Serving.{IsLineFor, OnlyReads, register_at}
+use Rattle.reg_desk.proofs.Serves.{reads_itself, reads_more, reads_once, still_works}
+use Rattle.reg_desk.proofs.Listings.{SoFar, put_line, lines_begin, number_within, number_step, lines_whole, register_same}
 use Rattle.reg_desk.proofs.serving.listing.lines_of.Goals as goal
+use Rattle.reg_desk.proofs.serving.listing.lines_of.Goals.{in-Some+in_ok-push-in-Some, in-None}
 
-pub returns-then-is_empty-clause-reads : goal.returns-then-is_empty-clause-reads
-returns-then-is_empty-clause-reads g c = reads_once g.K.Keep c.args.keep.now c.numbers.new.self _ c.in_ok-numbers.ensures.leaves
-
-pub returns-then-is_empty-clause-listed : goal.returns-then-is_empty-clause-listed
-returns-then-is_empty-clause-listed g c = λ s.
-    let register = register_at g.K.Keep c.args.policy.now c.args.keep.now in
-    let numbers = c.in_ok-numbers.numbers in
-    let none : vec_len numbers ≡ 0 = eqb-true (vec_len numbers) 0 (sym c.is_empty.ensures ∙ c.if-is_empty.true) in
-    let empty : length numbers.items ≡ 0 = omega (arith, none, numbers.ok) in
-    subst (λ (l : List Listed). ∥ IsListing register c.args.caller.now c.args.project.now c.args.day 1 (g.K.Keep.deposits c.args.keep.now) l ∥₁) (sym c.new.ensures.items)
-    (lines_none register c.args.caller.now c.args.project.now c.args.day (g.K.Keep.deposits c.args.keep.now) numbers.items empty (c.in_ok-numbers.ensures.numbers s))
-
-pub lines_at-requires-clause-working : goal.lines_at-requires-clause-working
-lines_at-requires-clause-working g c = still_works g.K.Keep c.args.keep.now c.numbers.new.self (reads_once g.K.Keep c.args.keep.now c.numbers.new.self _ c.in_ok-numbers.ensures.leaves)
-
-pub lines_at-requires-clause-numbers : goal.lines_at-requires-clause-numbers
-lines_at-requires-clause-numbers g c = λ s.
+pub loop-number-init : goal.loop-number-init
+loop-number-init g c =
+    let K = g.K.Keep in
+    let mid = c.numbers.new.self in
+    let items = c.deref-number-items.result.now in
+    let register = register_at K c.args.policy.now mid in
+    let state = K.deposits mid in
     let leaves = c.in_ok-numbers.ensures.leaves in
-    c.deref.ensures.value ∙ c.in_ok-numbers.ensures.numbers s ∙ ap (numbers_from 1 c.args.project.now) (sym (leaves.same s refl))
+    record {
+      reads = reads_itself K mid (still_works K c.args.keep.now mid (reads_once K c.args.keep.now mid false leaves));
+      numbers = λ s. c.deref-number-items.ensures.value ∙ c.in_ok-numbers.ensures.numbers s ∙ ap (numbers_from 1 c.args.project.now) (sym (leaves.same s refl));
+      so_far = λ s.
+          subst (λ (l : List Listed). ∥ SoFar register c.args.caller.now c.args.day (λ k. held k state) items items l ∥₁) (sym c.new-lines.ensures.items)
+          ∣ lines_begin register c.args.caller.now c.args.day (λ k. held k state) items ∣₁;
+    }
+
+pub listed-requires-clause-working : goal.listed-requires-clause-working
+listed-requires-clause-working g c = still_works g.K.Keep c.numbers.new.self c.loop-number.keep c.loop-number.invariant.reads
+
+pub listed-requires-clause-number : goal.listed-requires-clause-number
+listed-requires-clause-number g c = λ s.
+    let items = c.deref-number-items.result.now in
+    let n = get_or items c.loop-number.number-index 0 in
+    let was = c.loop-number.invariant in
+    subst (λ (l : List Sent). (0 < n) × (n ≤ length l)) (sym (was.reads.same s refl))
+    (number_within c.args.project.now (g.K.Keep.deposits c.numbers.new.self) items c.loop-number.number-index (was.numbers s) c.loop-number-test.true)
+
+pub returns-in_err-line-clause-reads : goal.returns-in_err-line-clause-reads
+returns-in_err-line-clause-reads g c =
+    let K = g.K.Keep in
+    let mid = c.numbers.new.self in
+    let p = err_from_is_err_and c.from_residual-in_err-line.result c.from_residual-in_err-line.ensures.1 in
+    let failed = is_store c.in_err-line.field-0.0 in
+    subst (OnlyReads K c.args.keep.now c.listed.new.keep) (sym (ap fails p.1 ∙ ap is_store p.2))
+    (reads_more K c.args.keep.now mid c.listed.new.keep failed (reads_once K c.args.keep.now mid false c.in_ok-numbers.ensures.leaves)
+    (reads_more K mid c.loop-number.keep c.listed.new.keep failed c.loop-number.invariant.reads c.in_err-line.ensures.reads))
+
+pub loop-number-preserved : goal.loop-number-preserved
+loop-number-preserved g c =
+    let K = g.K.Keep in
+    let mid = c.numbers.new.self in
+    let items = c.deref-number-items.result.now in
+    let i = c.loop-number.number-index in
+    let n = get_or items i 0 in
+    let register = register_at K c.args.policy.now mid in
+    let state = K.deposits mid in
+    let was = c.loop-number.invariant in
+    record {
+      reads = reads_more K mid c.loop-number.keep c.listed.new.keep false was.reads c.in_ok-line.ensures.reads;
+      numbers = λ s. was.numbers (c.in_ok-line.ensures.reads.sound s);
+      so_far = λ s.
+          let s1 = c.in_ok-line.ensures.reads.sound s in
+          let seen : (d : Sent) → held n state ≡ Some d → ∥ IsLineFor register c.args.caller.now c.args.day n d c.in_ok-line.field-0 ∥₁ = λ d holds.
+          subst (λ (r : Register). ∥ IsLineFor r c.args.caller.now c.args.day n d c.in_ok-line.field-0 ∥₁) (register_same K c.args.policy.now mid c.loop-number.keep false was.reads)
+          (c.in_ok-line.ensures.seen s d (ap (held n) (was.reads.same s1 refl) ∙ holds)) in
+          let same : put_line c.loop-number.lines.items c.in_ok-line.field-0 ≡ c.match-branch-3.lines.items =
+          elim c.match-branch-3.branch [
+            | in-Some+in_ok-push-in-Some w ↦ ap (put_line c.loop-number.lines.items) w.in-Some.is ∙ sym (ap (λ (v : Vec Listed Global). v.items) w.lines-is ∙ w.in_ok-push-in-Some.ensures.items)
+            | in-None w ↦ ap (put_line c.loop-number.lines.items) w.in-None.is ∙ sym (ap (λ (v : Vec Listed Global). v.items) w.lines-is)
+          ] in
+          subst (λ (l : List Listed). ∥ SoFar register c.args.caller.now c.args.day (λ k. held k state) items (drop (i + 1) items) l ∥₁) same
+          (number_step register c.args.caller.now c.args.day state items i c.loop-number.lines.items c.in_ok-line.field-0 c.loop-number-test.true
+          (number_within c.args.project.now state items i (was.numbers s1) c.loop-number-test.true) seen (was.so_far s1));
+    }
 
 pub returns-clause-reads : goal.returns-clause-reads
 returns-clause-reads g c =
-    reads_more g.K.Keep c.args.keep.now c.numbers.new.self c.lines_at.new.keep (fails c.lines_at.result) (reads_once g.K.Keep c.args.keep.now c.numbers.new.self _ c.in_ok-numbers.ensures.leaves) c.lines_at.ensures.reads
+    reads_more g.K.Keep c.args.keep.now c.numbers.new.self c.loop-number.keep false (reads_once g.K.Keep c.args.keep.now c.numbers.new.self false c.in_ok-numbers.ensures.leaves) c.loop-number.invariant.reads
 
 pub returns-clause-listed : goal.returns-clause-listed
 returns-clause-listed g c = λ s.
     let K = g.K.Keep in
     let keep = c.args.keep.now in
     let mid = c.numbers.new.self in
-    let first = reads_once K keep mid _ c.in_ok-numbers.ensures.leaves in
-    let s1 = c.lines_at.ensures.reads.sound s in
-    IfOk-weaker c.lines_at.result _ _ (λ (lines : Vec Listed Global) is.
-    subst (λ (r : Register). ∥ IsListing r c.args.caller.now c.args.project.now c.args.day 1 (K.deposits keep) lines.items ∥₁) (register_same K c.args.policy.now keep mid _ first)
-    (subst (λ (l : List Sent). ∥ IsListing (register_at K c.args.policy.now mid) c.args.caller.now c.args.project.now c.args.day 1 l lines.items ∥₁) (first.same s1 refl) is)) (c.lines_at.ensures.listed s)
+    let was = c.loop-number.invariant in
+    let first = reads_once K keep mid false c.in_ok-numbers.ensures.leaves in
+    let lines = c.loop-number.lines.items in
+    subst (λ (r : Register). ∥ IsListing r c.args.caller.now c.args.project.now c.args.day 1 (K.deposits keep) lines ∥₁) (register_same K c.args.policy.now keep mid false first)
+    (subst (λ (l : List Sent). ∥ IsListing (register_at K c.args.policy.now mid) c.args.caller.now c.args.project.now c.args.day 1 l lines ∥₁) (first.same (was.reads.sound s) refl)
+    (lines_whole (register_at K c.args.policy.now mid) c.args.caller.now c.args.project.now c.args.day (K.deposits mid) c.deref-number-items.result.now c.loop-number.number-index lines c.loop-number-test.false (was.numbers s) (was.so_far s)))
