@@ -1,11 +1,10 @@
 -- A deposit: taken once, with a receipt.
 use Rattle.std.proofs.Common.{◌≡◌, ◌≢◌, ℕ, ◌+◌, ◌-◌, ◌<◌, ◌≤◌, Bool, true, false, cond, Option, Some, None, Ok, Err, List, [], ◌∷◌, ◌++◌, refl, sym, ap, subst, ◌∙◌, inl, inr, ◌⊎◌, arith, length-append}
-use Rattle.std.proofs.Math.Logic.{∥∥₁_elim, ∥∥₁_map}
-use Rattle.std.proofs.Props.{props}
 use Rattle.std.specs.Prelude.{ℤ, nat_lt, length, slice_get, Result}
 use Rattle.std.proofs.lemmas.Bool.{cases_Bool, ltb-true, lt-ltb}
 use Rattle.std.proofs.lemmas.Option.{slice_get_within}
 use Rattle.ags_rows.specs.declared.TheConstants.{LIMIT}
+use Rattle.ags_dict.specs.Entries.{Entries}
 use Rattle.ags_check.specs.Findings.{Findings as AreFindings}
 use Rattle.reg_policy.specs.declared.rule.Rule.{Rule}
 use Rattle.reg_policy.specs.declared.callers.Caller.{Caller}
@@ -24,7 +23,7 @@ use Rattle.reg_desk.specs.Machine.{Register, decided, OrRefused, first_equal, re
 use Rattle.reg_desk.specs.Serving.{AsksStore, NeedsMemory, IsRefusal, register_at, OnlyReads, Serves, answer_of}
 use Rattle.reg_desk.proofs.Taken.{taken_received}
 use Rattle.reg_desk.proofs.Firsts.{first_some}
-use Rattle.reg_desk.proofs.Bodies.{refused_none, refusal_serves, small_needs}
+use Rattle.reg_desk.proofs.Bodies.{refused_none, refusal_serves}
 use Rattle.reg_desk.proofs.Serves.{told_answer, told_after, memory_answer, memory_after, failed_answer, failed_after, one_owed, asks_of, replies_at_once, refused_serves, replies_serves, permitted_reply, denied_reply}
 
 -- ---- the reply
@@ -33,18 +32,16 @@ use Rattle.reg_desk.proofs.Serves.{told_answer, told_after, memory_answer, memor
 abbrev IsReceipt : Register → List Sent → Caller → List ℕ → ℤ → List ℕ → Answer → Type 0
 IsReceipt register state caller project embargo bytes r = r ≡ receipt_of register embargo (length state) (first_equal 1 caller.firm project bytes state)
 
--- a body that is permitted and not too large
-pub record IsAllowed (register : Register) (caller : Caller) (project bytes : List ℕ) : Type 0 where
-  pub number : ℕ
-  pub permitted : decided register caller project verbs.Deposit ≡ Permit number
-  pub small : length bytes ≤ LIMIT
-
--- such a body without findings
+-- a body that is permitted, not too large and without findings
 pub record IsFine (register : Register) (caller : Caller) (project bytes : List ℕ) : Type 0 where
   pub number : ℕ
   pub permitted : decided register caller project verbs.Deposit ≡ Permit number
   pub small : length bytes ≤ LIMIT
   pub clean : AreFindings register.given bytes []
+
+pub fine_of : (register : Register) (caller : Caller) (project bytes : List ℕ) (given : Entries) (n : ℕ) → decided register caller project verbs.Deposit ≡ Permit n → length bytes ≤ LIMIT → given ≡ register.given
+    → AreFindings given bytes [] → IsFine register caller project bytes
+fine_of register caller project bytes given n permit small same clean = record { number = n; permitted = permit; small = small; clean = subst (λ (e : Entries). AreFindings e bytes []) same clean }
 
 fine_reply : (register : Register) (state : List Sent) (caller : Caller) (project : List ℕ) (embargo : ℤ) (bytes : List ℕ) (day : ℤ) (answer : Answer) → IsFine register caller project bytes
     → IsReceipt register state caller project embargo bytes answer → IsReply register state (deposit caller project embargo bytes day) answer
@@ -113,39 +110,22 @@ deposit_refused keep rules caller project embargo bytes day old answer k works p
     (receipt_needs register state caller project embargo bytes) (λ r h. h) (λ r h. h)
     (λ r h is. untaken register state caller project embargo bytes day r (refusal_other register bytes (length state + 1) embargo r h) is)
 
--- the reply to a body that is permitted and not too large needs memory
-allowed_needs : (register : Register) (state : List Sent) (caller : Caller) (project : List ℕ) (embargo : ℤ) (bytes : List ℕ) (day : ℤ) → IsAllowed register caller project bytes
-    → NeedsMemory (IsReply register state (deposit caller project embargo bytes day))
-allowed_needs register state caller project embargo bytes day allowed =
-    small_needs (decided register caller project verbs.Deposit) allowed.number register bytes (IsReceipt register state caller project embargo bytes) allowed.permitted allowed.small
-    (receipt_needs register state caller project embargo bytes)
-
-abbrev fine_with : (register : Register) (caller : Caller) (project bytes : List ℕ) → IsAllowed register caller project bytes → AreFindings register.given bytes [] → IsFine register caller project bytes
-fine_with register caller project bytes allowed clean = record { number = allowed.number; permitted = allowed.permitted; small = allowed.small; clean = clean }
-
 pub deposit_unread : {K : Type 0} (keep : Ghosts K) (rules : List Rule) (caller : Caller) (project : List ℕ) (embargo : ℤ) (bytes : List ℕ) (day : ℤ) (old new : K) (e : KeepError)
-    → IsAllowed (register_at keep rules old) caller project bytes → (keep.is_sound new → ∥ AreFindings (keep.dictionary old) bytes [] ∥₁)
-    → OnlyReads keep old new (is_store e) → e ≢ errors.Full → Serves keep rules (deposit caller project embargo bytes day) old new (answer_of e)
-deposit_unread keep rules caller project embargo bytes day old new e allowed clean reads named =
-    let register = register_at keep rules old in
-    let state = keep.deposits old in
-    refused_serves keep rules (deposit caller project embargo bytes day) old new e reads named (allowed_needs register state caller project embargo bytes day allowed)
-    (λ s. ∥∥₁_elim (clean s) (Prim.hlevel props) (λ (none : AreFindings register.given bytes []).
-    fine_asks register state caller project embargo bytes day (fine_with register caller project bytes allowed none)))
+    → IsFine (register_at keep rules old) caller project bytes → OnlyReads keep old new (is_store e) → e ≢ errors.Full → Serves keep rules (deposit caller project embargo bytes day) old new (answer_of e)
+deposit_unread keep rules caller project embargo bytes day old new e fine reads named =
+    let asks = fine_asks (register_at keep rules old) (keep.deposits old) caller project embargo bytes day fine in
+    refused_serves keep rules (deposit caller project embargo bytes day) old new e reads named asks.0 (λ s. asks)
 
 -- an equal deposit is held
 pub deposit_repeats : {K : Type 0} (keep : Ghosts K) (rules : List Rule) (caller : Caller) (project : List ℕ) (embargo : ℤ) (bytes : List ℕ) (day : ℤ) (old new : K) (n : ℕ) (e : ℤ)
-    → IsAllowed (register_at keep rules old) caller project bytes → (keep.is_sound new → ∥ AreFindings (keep.dictionary old) bytes [] ∥₁)
-    → OnlyReads keep old new false → (keep.is_sound new → first_equal 1 caller.firm project bytes (keep.deposits old) ≡ Some (n, e))
+    → IsFine (register_at keep rules old) caller project bytes → OnlyReads keep old new false → (keep.is_sound new → first_equal 1 caller.firm project bytes (keep.deposits old) ≡ Some (n, e))
     → Serves keep rules (deposit caller project embargo bytes day) old new (Receipt n e)
-deposit_repeats keep rules caller project embargo bytes day old new n e allowed clean reads first =
+deposit_repeats keep rules caller project embargo bytes day old new n e fine reads first =
     let register = register_at keep rules old in
     let state = keep.deposits old in
     replies_serves keep rules (deposit caller project embargo bytes day) old new (Receipt n e) reads refl
-    (λ s. ∥∥₁_map (clean s) (λ (none : AreFindings register.given bytes []).
-    fine_reply register state caller project embargo bytes day (Receipt n e) (fine_with register caller project bytes allowed none) (ap (receipt_of register embargo (length state)) (sym (first s)))))
-    (λ s. inr (λ list change. none_some (first_equal 1 caller.firm project bytes state) (n, e) change.0.3 (first s), refl))
-    (allowed_needs register state caller project embargo bytes day allowed)
+    (λ s. ∣ fine_reply register state caller project embargo bytes day (Receipt n e) fine (ap (receipt_of register embargo (length state)) (sym (first s))) ∣₁)
+    (λ s. inr (λ list change. none_some (first_equal 1 caller.firm project bytes state) (n, e) change.0.3 (first s), refl)) (fine_asks register state caller project embargo bytes day fine).0
   where
     none_some : (o : Option (ℕ × ℤ)) (p : ℕ × ℤ) → o ≡ None → o ≡ Some p → ⊥
     none_some None p a b = cc
@@ -168,6 +148,10 @@ first_found firm project bytes state n head found of_head =
     let place : first.place ≡ n - 1 = omega (arith, first.number) in
     let is = of_head first.found (subst (λ (i : ℕ). slice_get state i ≡ Some first.found) place first.at) in
     first.first ∙ ap (λ (e : ℤ). Some (n, e)) (sym is.embargo)
+
+-- the same where the bytes are these
+pub first_of : (firm project bytes found : List ℕ) (state : List Sent) (first : Option (ℕ × ℤ)) → found ≡ bytes → first ≡ first_equal 1 firm project found state → first_equal 1 firm project bytes state ≡ first
+first_of firm project bytes found state first same is = ap (λ (b : List ℕ). first_equal 1 firm project b state) (sym same) ∙ sym is
 
 -- ---- a deposit that no equal one is held of
 
