@@ -9,6 +9,7 @@ mod junk;
 mod laws;
 mod memory;
 mod refusing;
+mod stops;
 mod wanted;
 
 use ags_dict::Dictionary;

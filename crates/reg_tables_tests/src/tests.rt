@@ -5,7 +5,6 @@ ghost use Rattle.std.specs.Prelude.{◌≡◌, ◌<◌, ◌≤◌, false, length
 mod calls;
 mod files;
 mod refusals;
-mod stops;
 
 use crate::tests::files::{File, bytes_of};
 use ags_check::{Checked, check};

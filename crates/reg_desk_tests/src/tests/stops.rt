@@ -1,0 +1,376 @@
+//! Stops of the disk, through a desk: a register is made and two deposits are sent, over disks of which one refuses every call from
+//! some call on. What was not synced is lost then, the register is opened again, and both deposits are sent again.
+
+ghost use Rattle.std.specs.Prelude.{◌≡◌, false, IsTrue};
+
+use super::bodies::{A, B};
+use super::examples::{FIRST, SECOND, UNTIL};
+use super::{Ask, Line, Step, Want, hold, holds};
+use ags_rows::vectors::MINI;
+use reg_desk::Desk;
+use reg_policy::vectors::{CALLERS, POLICY};
+use reg_policy::{Callers, Name, Policy};
+use reg_store::Keep;
+use reg_tables::{AdoptError, CreateError, SqlKeep};
+use sqlite::{Alter, Connection, FileStore, Files, Options};
+use sqlite_disk::{Crash, Disk, Fuse, Memory};
+use std::alloc::{AllocError, Global};
+use std::test::Fail;
+
+/// A file of a register.
+#[derive(Clone, Copy)]
+enum Side {
+    Log,
+    Database,
+}
+
+/// Where a run stopped.
+#[derive(Clone, Copy)]
+enum Stage {
+    /// The register was being made.
+    Making,
+    /// The first deposit was sent.
+    First,
+    /// The second deposit was sent.
+    Second,
+    /// The register was being closed.
+    Closing,
+    /// Nothing stopped.
+    Ended,
+}
+
+/// More calls of one file than a whole run makes.
+const MANY: u64 = 2_000;
+
+/// Few pages stay in memory: with `Options::new` a test would take too long. Where the database file stops, the log is copied into it often.
+fn options(side: Side) -> Options {
+    let checkpoint_frames = match side {
+        Side::Log => 1_000,
+        Side::Database => 4,
+    };
+    Options {
+        cache_pages: 16,
+        spill_pages: 64,
+        checkpoint_frames,
+        seed: 7,
+    }
+}
+
+/// The deposits, each with the receipt of its number.
+const FIRST_SENT: Step = Step("t-delta", UNTIL, Ask::Deposit(A, UNTIL), FIRST);
+
+const SECOND_SENT: Step = Step("t-delta", UNTIL, Ask::Deposit(B, UNTIL), SECOND);
+
+/// What is asked once the store has failed.
+static FAILED: [Step; 3] = [
+    Step("t-delta", UNTIL, Ask::Check(A), Want::Says("store failed")),
+    Step("t-delta", UNTIL, Ask::List, Want::Says("store failed")),
+    Step(
+        "t-delta",
+        UNTIL,
+        Ask::Extract(1, &[]),
+        Want::Says("store failed"),
+    ),
+];
+
+/// Both deposits are sent again and listed.
+static AGAIN: [Step; 3] = [
+    FIRST_SENT,
+    SECOND_SENT,
+    Step(
+        "t-delta",
+        UNTIL,
+        Ask::List,
+        Want::Lists(&[Line(1, "Delta", UNTIL), Line(2, "Delta", UNTIL)]),
+    ),
+];
+
+/// Sends both deposits: the stage in which the store failed, or that of closing. None where there is another answer, and where the store
+/// failed and one of three further requests is answered otherwise.
+fn send_both<K: Keep>(
+    alloc: Global,
+    desk: &mut Desk<K>,
+    callers: &Callers,
+    project: &Name,
+) -> Result<Option<Stage>, AllocError> {
+    let stage = if !holds(alloc, desk, callers, project, &FIRST_SENT)? {
+        Stage::First
+    } else if !holds(alloc, desk, callers, project, &SECOND_SENT)? {
+        Stage::Second
+    } else {
+        return Ok(Some(Stage::Closing));
+    };
+    let failed = hold(alloc, desk, callers, project, &FAILED)?;
+    Ok(if failed { Some(stage) } else { None })
+}
+
+/// Whether a register may hold so many deposits after a stop: what was answered with a receipt, and at most the deposit that stopped.
+fn may_hold(stage: Stage, count: u32) -> bool {
+    match stage {
+        Stage::Making => count == 0,
+        Stage::First => count <= 1,
+        Stage::Second => 1 <= count && count <= 2,
+        Stage::Closing | Stage::Ended => count == 2,
+    }
+}
+
+/// The stage of a stop, where the register holds what it may after it, and takes both deposits that are sent again under their numbers.
+fn look_at<K: Keep>(
+    alloc: Global,
+    desk: &mut Desk<K>,
+    callers: &Callers,
+    project: &Name,
+    stage: Stage,
+) -> Result<Option<Stage>, AllocError> {
+    let may = may_hold(stage, desk.keep().count());
+    let held = hold(alloc, desk, callers, project, &AGAIN)?;
+    let whole = may && held && desk.keep().count() == 2;
+    Ok(if whole { Some(stage) } else { None })
+}
+
+/// What is done with a register.
+#[derive(Clone, Copy)]
+enum Visit {
+    /// It is new, and filled.
+    Fill,
+    /// It is what a stop in this stage left, and is looked at.
+    LookAt(Stage),
+}
+
+/// The stage of a visit by a desk.
+fn stage_by<K: Keep>(alloc: Global, desk: &mut Desk<K>, visit: Visit) -> Option<Stage> {
+    let callers = Callers::read(alloc, CALLERS).ok()?;
+    let project = Name::read(alloc, "N1").ok()?;
+    let stage = match visit {
+        Visit::Fill => send_both(alloc, desk, &callers, &project),
+        Visit::LookAt(stage) => look_at(alloc, desk, &callers, &project, stage),
+    };
+    stage.ok()?
+}
+
+/// The stage of a visit by a desk over this keep, and the keep.
+fn visited<K: Keep>(alloc: Global, keep: K, policy: Policy, visit: Visit) -> (Option<Stage>, K)
+    requires { K.has_failed keep ≡ false }
+{
+    let mut desk = Desk::new(keep, policy);
+    let stage = stage_by(alloc, &mut desk, visit);
+    (stage, desk.into_keep())
+}
+
+/// The same of a keep in tables, of any store. `SqlKeep` is shown to be a keep here alone.
+fn visited_tables<S: Alter + Drop>(
+    alloc: Global,
+    keep: SqlKeep<S>,
+    visit: Visit,
+) -> (Option<Stage>, Connection<S>)
+    requires { keep.has_failed ≡ false }
+{
+    match Policy::read(alloc, POLICY) {
+        Ok(policy) => {
+            let (stage, keep) = visited(alloc, keep, policy, visit);
+            (stage, keep.into_connection())
+        }
+        Err(_) => (None, keep.into_connection()),
+    }
+}
+
+/// The files of a database that is closed, and the stage that a run then stopped in: that before, or none where all went well.
+fn closed<D: Disk + Drop>(
+    stage: Option<Stage>,
+    connection: Connection<FileStore<D>>,
+) -> (Option<Stage>, Files<D>) {
+    match connection.close_files() {
+        Ok(files) => (after_closing(stage), files),
+        Err((_, store)) => (stage, store.close()),
+    }
+}
+
+/// A run that got as far as its closing has ended where the closing went well.
+fn after_closing(stage: Option<Stage>) -> Option<Stage> {
+    match stage {
+        Some(Stage::Closing) => Some(Stage::Ended),
+        _ => stage,
+    }
+}
+
+/// A register is made and filled, up to the first call that is refused. Where one is refused otherwise than by the stop, no stage is answered.
+fn made<S: Alter + Drop>(
+    alloc: Global,
+    connection: Connection<S>,
+) -> (Option<Stage>, Connection<S>) {
+    match SqlKeep::create_in(alloc, connection, MINI) {
+        Ok(keep) => visited_tables(alloc, keep, Visit::Fill),
+        Err((CreateError::Store, connection)) => (Some(Stage::Making), connection),
+        Err((_, connection)) => (None, connection),
+    }
+}
+
+/// Makes the register anew in tables that are none, which the making alone may leave.
+fn made_anew<S: Alter + Drop>(
+    alloc: Global,
+    stage: Stage,
+    connection: Connection<S>,
+) -> (Option<Stage>, Connection<S>) {
+    if !matches!(stage, Stage::Making) {
+        return (None, connection);
+    }
+    match SqlKeep::create_in(alloc, connection, MINI) {
+        Ok(keep) => visited_tables(alloc, keep, Visit::LookAt(stage)),
+        Err((_, connection)) => (None, connection),
+    }
+}
+
+/// Opens what a stop left, and looks at it: the stage, where it is as it may be.
+fn looked_at<S: Alter + Drop>(
+    alloc: Global,
+    stage: Stage,
+    connection: Connection<S>,
+) -> (Option<Stage>, Connection<S>) {
+    match SqlKeep::adopt(alloc, connection) {
+        Ok(keep) => visited_tables(alloc, keep, Visit::LookAt(stage)),
+        Err((AdoptError::NotRegister, connection)) => made_anew(alloc, stage, connection),
+        Err((_, connection)) => (None, connection),
+    }
+}
+
+/// Does a step over any store.
+fn stepped<S: Alter + Drop>(
+    alloc: Global,
+    connection: Connection<S>,
+    visit: Visit,
+) -> (Option<Stage>, Connection<S>) {
+    match visit {
+        Visit::Fill => made(alloc, connection),
+        Visit::LookAt(stage) => looked_at(alloc, stage, connection),
+    }
+}
+
+/// Does a step over files, which are shown to be a store here alone, since that is long.
+fn stepped_on_files<D: Disk + Drop>(
+    alloc: Global,
+    connection: Connection<FileStore<D>>,
+    visit: Visit,
+) -> (Option<Stage>, Connection<FileStore<D>>) {
+    stepped(alloc, connection, visit)
+}
+
+/// A register is made and filled, from the opening of the files to their closing.
+fn run<D: Disk + Drop>(alloc: Global, side: Side, files: Files<D>) -> (Option<Stage>, Files<D>)
+    requires log { IsTrue (D.Disk.is_usable files.log) }
+    requires db { IsTrue (D.Disk.is_usable files.db) }
+{
+    match Connection::open_files(alloc, files, options(side)) {
+        Ok(connection) => {
+            let (stage, connection) = stepped_on_files(alloc, connection, Visit::Fill);
+            closed(stage, connection)
+        }
+        Err((_, left)) => (Some(Stage::Making), left.into_files()),
+    }
+}
+
+/// The stage in which a run stopped, where the files hold what they may once the machine has lost what was not synced.
+fn left<D: Crash + Drop>(
+    alloc: Global,
+    side: Side,
+    stage: Stage,
+    files: Files<D>,
+) -> Option<Stage> {
+    let Files { mut log, mut db } = files;
+    log.crash();
+    db.crash();
+    match Connection::open_files(alloc, Files { log, db }, options(side)) {
+        Ok(connection) => {
+            let (found, connection) = stepped_on_files(alloc, connection, Visit::LookAt(stage));
+            // A connection that is let go takes the prover longer than one that is closed.
+            let _ = closed(None, connection);
+            found
+        }
+        Err(_) => None,
+    }
+}
+
+/// The stage in which a run over new files stops, where it leaves what it may.
+fn stage_over<D: Crash + Drop>(alloc: Global, side: Side, files: Files<D>) -> Option<Stage>
+    requires log { IsTrue (D.Disk.is_usable files.log) }
+    requires db { IsTrue (D.Disk.is_usable files.db) }
+{
+    match run(alloc, side, files) {
+        (Some(stage), files) => left(alloc, side, stage, files),
+        (None, _) => None,
+    }
+}
+
+/// The same over files in memory, of which one refuses each call after so many. Here alone a disk is named.
+fn stage_of(alloc: Global, side: Side, calls: u64) -> Option<Stage> {
+    let (log_calls, database_calls) = match side {
+        Side::Log => (calls, u64::MAX),
+        Side::Database => (u64::MAX, calls),
+    };
+    let files = Files {
+        log: Fuse::new(Memory::new(alloc), log_calls),
+        db: Fuse::new(Memory::new(alloc), database_calls),
+    };
+    stage_over(alloc, side, files)
+}
+
+/// The letter of a stage, and `x` where a run left what it may not.
+fn letter(stage: Option<Stage>) -> char {
+    match stage {
+        Some(Stage::Making) => 'M',
+        Some(Stage::First) => 'F',
+        Some(Stage::Second) => 'S',
+        Some(Stage::Closing) => 'C',
+        Some(Stage::Ended) => '.',
+        None => 'x',
+    }
+}
+
+/// The letters of runs with ever more calls of a file, up to the first run that ended or left what it may not.
+fn letters(alloc: Global, side: Side) -> Result<String, AllocError> {
+    let mut letters = String::new(alloc);
+    for calls in 0..MANY {
+        let letter = letter(stage_of(alloc, side, calls));
+        letters.push(letter)?;
+        if letter == '.' || letter == 'x' {
+            return Ok(letters);
+        }
+    }
+    Ok(letters)
+}
+
+/// Some runs stop in each stage, at least so many, before one ends.
+const LEAST: [&str; 5] = ["MMMMM", "FF", "SS", "C", "."];
+
+/// Whether some runs stop in each stage, and one ends.
+fn has_all(letters: &str) -> bool {
+    for some in &LEAST {
+        if !letters.contains(*some) {
+            return false;
+        }
+    }
+    true
+}
+
+/// How many runs stopped: each but the last, which ended.
+fn stops(letters: &str) -> usize {
+    letters.len().saturating_sub(1)
+}
+
+/// How many runs stopped. It fails with their letters where none stopped in some stage, or none ended.
+fn stops_at(alloc: Global, side: Side) -> Result<usize, Fail> {
+    let letters = letters(alloc, side)?;
+    if has_all(letters.as_str()) {
+        Ok(stops(letters.as_str()))
+    } else {
+        Err(Fail::new(letters))
+    }
+}
+
+#[test]
+fn stops_of_a_store(rt: HostRuntime) -> Result<(), Fail> {
+    let of_log = stops_at(rt.alloc(), Side::Log)?;
+    println!(rt; "{of_log} stops of the log")?;
+    let of_database = stops_at(rt.alloc(), Side::Database)?;
+    println!(rt; "{of_database} stops of the database file")?;
+    Ok(())
+}
