@@ -1,21 +1,20 @@
 -- The statements of a new register, one after the other.
-use Rattle.std.proofs.Common.{◌≡◌, ℕ, ◌≤◌, List, [], ◌∷◌, map, length, IsTrue, ◌∙◌, ap, sym, subst}
+use Rattle.std.proofs.Common.{◌≡◌, ℕ, List, [], ◌∷◌, length, IsTrue, inl, ◌∙◌, ap, sym, subst}
 use Rattle.sqlite.specs.declared.types.Value.TheVariants.{Blob as Bytes}
 use Rattle.sqlite.specs.Effect.{Database}
-use Rattle.ags_rows.specs.declared.TheConstants.{READABLE}
 use Rattle.ags_dict.specs.Entries.{Entries}
 use Rattle.ags_dict.specs.Reading.{IsDictionary}
 use Rattle.reg_tables.specs.Register.{deposits_in, IsRegister, KeepsRegister}
 use Rattle.reg_tables.specs.RegisterLaws.{read_back}
-use Rattle.reg_tables.specs.Rows.{columns_5}
-use Rattle.std.specs.List.Sorted.{IsPermutation}
-use Rattle.std.proofs.lemmas.List.Sorted.{IsPermutation-refl}
-use Rattle.sqlite.specs.State.{State}
+use Rattle.sqlite.specs.Tree.{Trees}
+use Rattle.sqlite.specs.State.{State, HasCleanDisk, Survives}
+use Rattle.reg_tables.specs.Quiet.{IsAsBefore}
 use Rattle.reg_tables.specs.Tables.{no_schema}
 use Rattle.reg_tables.specs.Texts.{create_meta, create_deposits, create_lines, create_steps, fill_meta}
 use Rattle.reg_tables.specs.Inserts.{fills_meta}
 use Rattle.reg_tables.specs.Inside.{Inside, Ran}
-use Rattle.reg_tables.specs.Creates.{HasFirst, HasAll, IsNewRegister, makes_meta, makes_deposits, makes_lines, makes_steps, first_two, last_two, filled, new_register}
+use Rattle.reg_tables.specs.Creates.{HasFirst, HasAll, IsEmptyRegister, IsNewRegister, makes_meta, makes_deposits, makes_lines, makes_steps, first_two, last_two, filled}
+use Rattle.reg_tables.proofs.ExamineLemmas.{one_dictionary}
 
 pub first_ran : (a b c : State) → a.now.schema ≡ no_schema → Ran create_meta [] a b → Ran create_deposits [] b c → Inside (λ _ db. HasFirst db) a c
 first_ran a b c has one two =
@@ -35,15 +34,31 @@ all_ran text a b c e one two three = record {
   committed = three.committed ∙ two.committed ∙ one.committed;
 }
 
-pub new_list : (text : List ℕ) (s : State) → IsNewRegister text s.now → s.committed ≡ s.now → deposits_in s.committed.trees ≡ []
-new_list text s it settled = ap (λ (db : Database). deposits_in db.trees) settled ∙ read_back s.now.trees [] (subst (λ rows. IsPermutation [] (map columns_5 rows)) (sym it.deposits) (IsPermutation-refl []))
+pub new_list : (text : List ℕ) (s : State) → IsEmptyRegister text s.now → s.committed ≡ s.now → deposits_in s.committed.trees ≡ []
+new_list text s it settled = ap (λ (db : Database). deposits_in db.trees) settled ∙ read_back s.now.trees [] it.register.deposits
 
-pub new_keeps : (text : List ℕ) (dictionary : Entries) (s : State) → IsNewRegister text s.now → IsTrue s.is_open → s.committed ≡ s.now → length text ≤ READABLE → IsDictionary text dictionary → ∥ KeepsRegister s dictionary 0 ∥₁
-new_keeps text dictionary s it is_open settled short reads =
+pub new_keeps : (text : List ℕ) (dictionary : Entries) (s : State) → IsEmptyRegister text s.now → IsTrue s.is_open → s.committed ≡ s.now → IsDictionary text dictionary → ∥ KeepsRegister s dictionary 0 ∥₁
+new_keeps text dictionary s it is_open settled reads =
     let none = new_list text s it settled in
+    let same : it.dictionary ≡ dictionary = one_dictionary text it.dictionary dictionary (subst (λ (t : List ℕ). IsDictionary t it.dictionary) it.bytes it.register.reads) reads in
+    let register = subst (λ (d : Entries). IsRegister s.now d []) same it.register in
     let kept : KeepsRegister s dictionary 0 = record {
       is_open = is_open;
       settled = settled;
-      register = subst (IsRegister s.now dictionary) (sym none) (new_register text dictionary s.now it short reads);
+      register = subst (IsRegister s.now dictionary) (sym none) register;
       counted = ap length (sym none);
     } in ∣ kept ∣₁
+
+-- Where a call failed and the connection is open and as before, a crash leaves what it left before.
+pub undone_crash : {P : Trees → Type 0} (old new : State) → ((db : Trees) → IsTrue new.is_open → new.may_leave db → db ≡ new.committed.trees) → (IsTrue old.is_open → old.may_leave old.committed.trees)
+    → (HasCleanDisk new → IsTrue new.is_open) → (HasCleanDisk new → IsTrue new.is_open → IsAsBefore old new) → Survives old new P → Survives old new (λ _. ⊥)
+undone_crash old new settled stays is_open before s = record {
+  clean = s.clean;
+  shield = s.shield;
+  counts = s.counts;
+  limit = s.limit;
+  closes = s.closes;
+  crash = λ clean db may.
+      (let was = before clean (is_open clean) in
+      inl (subst old.may_leave (sym (settled db (is_open clean) may ∙ ap (λ (d : Database). d.trees) was.2)) (stays was.0)));
+}

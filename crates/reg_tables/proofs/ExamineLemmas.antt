@@ -27,13 +27,13 @@ use Rattle.reg_tables.specs.declared.repeats.Digests.{Digests}
 use Rattle.reg_store.specs.declared.keep.KeptRow.{KeptRow}
 use Rattle.reg_store.specs.Sent.{Sent, is_repeat}
 use Rattle.reg_store.specs.Fit.{IsFileOf, IsNamed, kept_rows}
-use Rattle.reg_tables.specs.Rows.{columns_3, deposit_table, given_deposit, line_table, step_table, placed_rows, step_pair, rows_under}
+use Rattle.reg_tables.specs.Rows.{columns_3, deposit_table, given_deposit}
 use Rattle.reg_tables.specs.Tables.{register_schema}
 use Rattle.reg_tables.specs.Register.{deposit_rows, has_number, meta_columns, integer_in, IsRegister}
 use Rattle.reg_tables.specs.RegisterLaws.{rows-length}
 use Rattle.reg_tables.specs.Digests.{AreBelow, HasEqual, HasNoEqual, HoldsDigests, IsFirst, IsNew, is_among, numbers_under, own_digest}
 use Rattle.reg_tables.specs.Heads.{IsDigestedAt, head_of}
-use Rattle.reg_tables.specs.Methods.{same_deposit}
+use Rattle.reg_tables.specs.Methods.{HoldsLines, HoldsSteps, same_deposit}
 use Rattle.reg_tables.proofs.RepeatsLemmas.{false_if, same_digest}
 use Rattle.reg_tables.specs.declared.adopting.AdoptError.{AdoptError}
 use Rattle.reg_tables.specs.declared.adopting.AdoptError.TheVariants.{NotRegister, Version, Store, NoMemory}
@@ -41,7 +41,7 @@ use Rattle.reg_tables.specs.Formats.{HasFormat, IsFormatRow}
 use Rattle.reg_tables.specs.Adoption.{Adopts, CountsDeposits, MetaOf, ReadsMeta}
 use Rattle.reg_tables.proofs.RowsLemmas.{numbers_long}
 use Rattle.reg_tables.specs.Adopts.{id_of, number_rows}
-use Rattle.reg_tables.specs.Whole.{AreWhole, Counts, HasMeta, HoldsBody, HoldsFile, IsWhole, Tests, adopts_whole, of_all, whole_at}
+use Rattle.reg_tables.specs.Whole.{AreWhole, Counts, HasMeta, HoldsBody, IsWhole, Tests, adopts_whole, of_all, whole_at}
 use Rattle.reg_tables.proofs.FormatLemmas.{register_first}
 
 -- the rows that are shown are the table's, and are these where the table holds these
@@ -72,30 +72,21 @@ tests_later (Ok is) A B old mid same one two = tests_both is A (B old) one (subs
 tests_later (Err e) A B old mid same one two = tt
 
 -- the lines and steps of a file, by those that are its
-pub file_tests : (r : Result Bool KeepError) (db : Database) (n : ℕ) (file : CheckedFile) (lines : List KeptRow) (steps : List (ℕ × ℕ)) → lines ≡ kept_rows file.groups → steps ≡ file.graph.steps
-    → IfOk r (λ is. Tests is (IsPermutation (placed_rows 0 lines) (rows_under n (line_table db.trees)) × IsPermutation (map step_pair steps) (rows_under n (step_table db.trees)))) → IfOk r (λ is. Tests is (HoldsFile db n file))
-file_tests (Err e) db n file lines steps lines_are steps_are test = tt
-file_tests (Ok is) db n file lines steps lines_are steps_are test = tests_as is _ (HoldsFile db n file) there back test
-  where
-    Lines : List KeptRow → Type 0
-    Lines all = IsPermutation (placed_rows 0 all) (rows_under n (line_table db.trees))
-
-    Steps : List (ℕ × ℕ) → Type 0
-    Steps all = IsPermutation (map step_pair all) (rows_under n (step_table db.trees))
-
-    there : Lines lines × Steps steps → HoldsFile db n file
-    there both = record { lines = subst Lines lines_are both.0; steps = subst Steps steps_are both.1 }
-
-    back : HoldsFile db n file → Lines lines × Steps steps
-    back held = (subst Lines (sym lines_are) held.lines, subst Steps (sym steps_are) held.steps)
+pub file_tests : (r : Result Bool KeepError) (db : Database) (n : ℕ) (lines own : List KeptRow) (steps graph : List (ℕ × ℕ)) → lines ≡ own → steps ≡ graph
+    → IfOk r (λ is. Tests is (HoldsLines db n lines × HoldsSteps db n steps)) → IfOk r (λ is. Tests is (HoldsLines db n own × HoldsSteps db n graph))
+file_tests r db n lines own steps graph lines_are steps_are test =
+    subst₂ (λ (all : List KeptRow) (of : List (ℕ × ℕ)). IfOk r (λ is. Tests is (HoldsLines db n all × HoldsSteps db n of))) lines_are steps_are test
 
 -- a deposit, by the lines and steps of its file
-pub body_tests : (r : Result Bool KeepError) (db : Database) (dictionary : Entries) (n : ℕ) (d : Sent) (file : CheckedFile) → IsFileOf dictionary d file → IfOk r (λ is. Tests is (HoldsFile db n file)) → IfOk r (λ is. Tests is (HoldsBody db dictionary n d))
+pub body_tests : (r : Result Bool KeepError) (db : Database) (dictionary : Entries) (n : ℕ) (d : Sent) (file : CheckedFile) → IsFileOf dictionary d file
+    → IfOk r (λ is. Tests is (HoldsLines db n (kept_rows file.groups) × HoldsSteps db n file.graph.steps)) → IfOk r (λ is. Tests is (HoldsBody db dictionary n d))
 body_tests (Err e) db dictionary n d file its test = tt
-body_tests (Ok is) db dictionary n d file its test = tests_as is (HoldsFile db n file) (HoldsBody db dictionary n d) (λ held. (file, its, held)) back test
+body_tests (Ok is) db dictionary n d file its test = tests_as is _ (HoldsBody db dictionary n d) (λ held. record { file = file; its = its; lines = held.0; steps = held.1 }) back test
   where
-    back : HoldsBody db dictionary n d → HoldsFile db n file
-    back held = subst (HoldsFile db n) (one_clean_file held.0 file held.1.clean its.clean (held.1.given ∙ sym its.given) (held.1.bytes ∙ sym its.bytes)) held.2
+    back : HoldsBody db dictionary n d → HoldsLines db n (kept_rows file.groups) × HoldsSteps db n file.graph.steps
+    back held =
+        let one = one_clean_file held.file file held.its.clean its.clean (held.its.given ∙ sym its.given) (held.its.bytes ∙ sym its.bytes) in
+        subst (λ (f : CheckedFile). HoldsLines db n (kept_rows f.groups) × HoldsSteps db n f.graph.steps) one (held.lines, held.steps)
 
 pub whole_tests : (r : Result (Option DigestedHead) KeepError) (db mid : Database) (dictionary : Entries) (n : ℕ) (d : Sent) (rows : List Row) (digests : Digests) → mid ≡ db → IsPermutation rows (filter (has_number n) (deposit_table db.trees)) → rows ≡ given_deposit n d ∷ [] → IsNamed d
     → AreBelow digests n → HoldsDigests db n digests → IfOk r (λ found. Tests (is_some found) (HoldsBody mid dictionary n d × IsNew mid (numbers_under digests (own_digest d)) d)) → IfOk r (λ found. Tests (is_some found) (IsWhole db dictionary n))
@@ -178,7 +169,7 @@ no_file dictionary d found stands some file its =
 
 -- a file that is longer than it may be, or that has a finding, is held of no deposit
 pub no_body : (db : Database) (dictionary : Entries) (n : ℕ) (d : Sent) → ((file : CheckedFile) → IsFileOf dictionary d file → ⊥) → Tests false (HoldsBody db dictionary n d)
-no_body db dictionary n d none = record { yes = λ e. absurd cc; no = λ e held. none held.0 held.1 }
+no_body db dictionary n d none = record { yes = λ e. absurd cc; no = λ e held. none held.file held.its }
 
 -- ---- meta
 
@@ -198,7 +189,7 @@ has_dict_then text lacks dictionary reads = let clash : true ≡ false = sym rea
 pub has_headings_then : (text : List ℕ) → LacksHeading text → (dictionary : Entries) → IsDictionary text dictionary → ⊥
 has_headings_then text lacks dictionary reads = let clash : true ≡ false = sym lacks.3 ∙ ap lacks_heading (same_contents text lacks.0 reads.0 lacks.1 reads.1) ∙ reads.3 in absurd cc
 
-one_dictionary : (text : List ℕ) (a b : Entries) → IsDictionary text a → IsDictionary text b → a ≡ b
+pub one_dictionary : (text : List ℕ) (a b : Entries) → IsDictionary text a → IsDictionary text b → a ≡ b
 one_dictionary text a b x y = x.4 ∙ ap standard_entries (same_contents text x.0 y.0 x.1 y.1) ∙ sym y.4
 
 -- the bytes in the rows of meta

@@ -14,3 +14,4 @@ pub mod RecentLemmas
 pub mod FrontsLemmas
 pub mod ExamineLemmas
 pub mod SchemaLemmas
+pub mod CompareLemmas

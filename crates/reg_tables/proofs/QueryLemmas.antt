@@ -80,7 +80,7 @@ survives_none s = record { clean = omega arith; shield = λ is. is; counts = ome
 pub survives_same : {P : Trees → Type 0} (s : State) → Survives s s P
 survives_same s = record { clean = omega arith; shield = λ is. is; counts = omega arith; limit = refl; closes = λ clean o. inl o; crash = λ clean db may. inl may }
 
-both_open : {a b : Bool} → IsTrue a → IsTrue b → a ≡ b
+pub both_open : {a b : Bool} → IsTrue a → IsTrue b → a ≡ b
 both_open p q = p ∙ sym q
 
 -- the query did not fail, or the connection is still open

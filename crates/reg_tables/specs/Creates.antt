@@ -23,7 +23,7 @@ use Rattle.reg_tables.specs.Meaning.{meta_is, deposits_is, lines_is, steps_is, w
 use Rattle.reg_tables.specs.Rows.{columns_3, columns_5, meta_rows, rows_under}
 use Rattle.reg_tables.specs.Inserts.{FillsMeta, same_value, went}
 use Rattle.std.specs.Prelude.{codes}
-use Rattle.reg_tables.specs.Register.{deposits_in, meta_columns, IsRegister}
+use Rattle.reg_tables.specs.Register.{deposits_in, meta_columns, IsRegister, tables}
 
 -- the text makes this table under this schema: the schema with it, its tree empty, the trees of the other tables kept
 pub record Made (from to : Schema) (old new : Database) : Type 0 where
@@ -77,7 +77,7 @@ pub record HasAll (db : Database) : Type 0 where
   pub lines : db.trees 4 ≡ []
   pub steps : db.trees 6 ≡ []
 
--- an empty register
+-- the tables of a register without deposits
 pub record IsNewRegister (text : List ℕ) (db : Database) : Type 0 where
   pub schema : db.schema ≡ register_schema
   pub sound : IsDatabase db
@@ -86,21 +86,27 @@ pub record IsNewRegister (text : List ℕ) (db : Database) : Type 0 where
   pub lines : db.trees 4 ≡ []
   pub steps : db.trees 6 ≡ []
 
--- On a clean disk the connection shows an empty register.
-abbrev pub ShowsNewRegister : List ℕ → State → Type 0
-ShowsNewRegister text s = HasCleanDisk s → IsNewRegister text s.now
+-- A register of no deposits, whose dictionary is these bytes.
+pub record IsEmptyRegister (text : List ℕ) (db : Database) : Type 0 where
+  pub dictionary : Entries
+  pub register : IsRegister db dictionary []
+  pub bytes : register.text ≡ text
+
+-- On a clean disk the connection shows a register of no deposits, whose dictionary is these bytes.
+abbrev pub ShowsEmptyRegister : List ℕ → State → Type 0
+ShowsEmptyRegister text s = HasCleanDisk s → IsEmptyRegister text s.now
 
 -- On a clean disk no deposit is committed.
 abbrev pub HasNoDeposit : State → Type 0
 HasNoDeposit s = HasCleanDisk s → deposits_in s.committed.trees ≡ []
 
--- What a crash within the making may leave beside what was there: an empty register, and that only where there was no table.
-abbrev pub LeavesNew : State → List ℕ → Trees → Type 0
-LeavesNew old text trees = (old.now.schema ≡ no_schema) × ((db : Database) × IsNewRegister text db × (trees ≡ db.trees))
+-- What a crash within the making may leave beside what was there: a register of no deposits, and that only where there was no table.
+abbrev pub LeavesEmpty : State → List ℕ → Trees → Type 0
+LeavesEmpty old text trees = (old.now.schema ≡ no_schema) × IsEmptyRegister text (tables trees)
 
--- No fault is forgotten, and a crash leaves what it left before or, where there was no table, an empty register.
+-- No fault is forgotten, and a crash leaves what it left before or, where there was no table, a register of no deposits.
 abbrev pub SurvivesMaking : List ℕ → State → State → Type 0
-SurvivesMaking text old new = Survives old new (LeavesNew old text)
+SurvivesMaking text old new = Survives old new (LeavesEmpty old text)
 
 pub first_two : (a b c : Database) → Made no_schema with_meta a b → Made with_meta with_deposits b c → HasFirst c
 first_two a b c one two = record { schema = two.schema; meta = two.others.0 ∙ one.empty; deposits = two.empty }
@@ -132,7 +138,7 @@ filled text a b was put =
     format_row : Row
     format_row = Words (codes "format") ∷ Int (pos 1) ∷ Bytes [] ∷ []
 
-pub new_register : (text : List ℕ) (dictionary : Entries) (db : Database) → IsNewRegister text db → length text ≤ READABLE → IsDictionary text dictionary → IsRegister db dictionary []
+abbrev pub new_register : (text : List ℕ) (dictionary : Entries) (db : Database) → IsNewRegister text db → length text ≤ READABLE → IsDictionary text dictionary → IsRegister db dictionary []
 new_register text dictionary db it short reads = record {
   schema = it.schema;
   sound = it.sound;
@@ -149,3 +155,13 @@ new_register text dictionary db it short reads = record {
   lines = λ k. subst (λ rows. IsPermutation [] (rows_under (k + 1) (map columns_5 rows))) (sym it.lines) (IsPermutation-refl []);
   steps = λ k. subst (λ rows. IsPermutation [] (rows_under (k + 1) (map columns_3 rows))) (sym it.steps) (IsPermutation-refl []);
 }
+
+pub new_empty : (text : List ℕ) (dictionary : Entries) (db : Database) → length text ≤ READABLE → IsDictionary text dictionary → IsNewRegister text db → IsEmptyRegister text db
+new_empty text dictionary db short reads it = record { dictionary = dictionary; register = new_register text dictionary db it short reads; bytes = refl }
+
+-- so are its trees under the schema of a register
+pub new_left : (text : List ℕ) (dictionary : Entries) (db : Database) → length text ≤ READABLE → IsDictionary text dictionary → IsNewRegister text db → IsEmptyRegister text (tables db.trees)
+new_left text dictionary db short reads it = subst (IsEmptyRegister text) same (new_empty text dictionary db short reads it)
+  where
+    same : db ≡ tables db.trees
+    same = λ i. record { schema = it.schema i; trees = db.trees }

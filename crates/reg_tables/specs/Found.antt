@@ -12,7 +12,7 @@ use Rattle.reg_store.specs.declared.keep.KeptRow.{KeptRow}
 use Rattle.reg_store.specs.Sent.{Sent, is_repeat}
 use Rattle.reg_tables.specs.Rows.{columns_3, deposit_table}
 use Rattle.reg_tables.specs.Register.{deposit_rows, has_number, meta_columns}
-use Rattle.reg_tables.specs.Quiet.{FindsThat, ShowsTheSame}
+use Rattle.reg_tables.specs.Quiet.{FindsThat, IsTheSame}
 use Rattle.reg_tables.specs.Digests.{HasEqual, HasNoEqual, IsRowOf}
 use Rattle.reg_tables.specs.Adopts.{number_rows}
 use Rattle.reg_tables.specs.Methods.{HoldsLines, HoldsSteps}
@@ -81,6 +81,6 @@ abbrev pub FindsNoEqual : {E : Type 0} → Result (Option ℕ) E → List ℕ �
 FindsNoEqual result numbers firm project bytes old new =
     HasCleanDisk new → result ≡ Ok None → HasNoEqual old.now numbers firm project bytes
 
--- On a clean disk, where it did not fail, the connection shows what it showed, and what is committed is what was.
+-- On a clean disk, where it did not fail, the connection is open if it was, it shows what it showed, and what is committed is what was.
 abbrev pub StaysUnless : Bool → State → State → Type 0
-StaysUnless failed old new = HasCleanDisk new → failed ≡ false → ShowsTheSame old new
+StaysUnless failed old new = HasCleanDisk new → failed ≡ false → IsTheSame old new

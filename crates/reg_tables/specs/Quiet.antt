@@ -21,17 +21,17 @@ IsSettled s = IsTrue s.is_open → s.committed ≡ s.now
 abbrev pub IsUndone : State → State → Type 0
 IsUndone old new = (new.now ≡ old.committed) × (new.committed ≡ old.committed)
 
--- It shows what it showed, and what is committed is what was.
-abbrev pub ShowsTheSame : State → State → Type 0
-ShowsTheSame old new = (new.now ≡ old.now) × (new.committed ≡ old.committed)
+-- The connection is open if it was, it shows what it showed, and what is committed is what was.
+abbrev pub IsTheSame : State → State → Type 0
+IsTheSame old new = (new.is_open ≡ old.is_open) × (new.now ≡ old.now) × (new.committed ≡ old.committed)
 
 -- The connection was open, and it shows what it showed.
 abbrev pub IsAsBefore : State → State → Type 0
 IsAsBefore old new = IsTrue old.is_open × (new.now ≡ old.now) × (new.committed ≡ old.committed)
 
--- On a clean disk the connection shows what it showed, and what is committed is what was.
+-- On a clean disk the connection is open if it was, it shows what it showed, and what is committed is what was.
 abbrev pub StaysIfClean : State → State → Type 0
-StaysIfClean old new = HasCleanDisk new → ShowsTheSame old new
+StaysIfClean old new = HasCleanDisk new → IsTheSame old new
 
 -- On a clean disk the connection is as before, where it is open.
 abbrev pub StaysIfOpen : State → State → Type 0

@@ -126,25 +126,3 @@ pairs_back (step ∷ steps) = ap (λ all. step ∷ all) (pairs_back steps)
 
 pub same_pairs : (steps others : List (ℕ × ℕ)) → map step_pair steps ≡ map step_pair others → steps ≡ others
 same_pairs steps others h = sym (pairs_back steps) ∙ ap (map of_pair) h ∙ pairs_back others
-
--- ---- for the functions
-
-pub lines_by : {X : Type 0} (items : X → List Row) (old new : State) (r : Result X KeepError) (n : ℕ) → old.now.schema ≡ register_schema → IfOk r (λ x. Shown select_lines (Int (pos n) ∷ []) old new (items x))
-    → IfOk r (λ x. (file : List KeptRow) → IsPermutation (placed_rows 0 file) (rows_under n (line_table old.now.trees)) → items x ≡ placed_rows 0 file)
-lines_by items old new (Ok x) n has h = λ file holds. reads_lines old new n file (items x) has holds h
-lines_by items old new (Err e) n has h = tt
-
-pub all_lines_by : {X : Type 0} (items : X → List Row) (old new : State) (r : Result X KeepError) (n : ℕ) → old.now.schema ≡ register_schema → IfOk r (λ x. Shown select_lines (Int (pos n) ∷ []) old new (items x))
-    → IfOk r (λ x. IsPermutation (items x) (rows_under n (line_table old.now.trees)))
-all_lines_by items old new (Ok x) n has h = holds_lines old new n (items x) has h
-all_lines_by items old new (Err e) n has h = tt
-
-pub steps_by : {X : Type 0} (items : X → List Row) (old new : State) (r : Result X KeepError) (n : ℕ) → old.now.schema ≡ register_schema → IfOk r (λ x. Shown select_steps (Int (pos n) ∷ []) old new (items x))
-    → IfOk r (λ x. (steps : List (ℕ × ℕ)) → IsAscending IsBefore steps → IsPermutation (map step_pair steps) (rows_under n (step_table old.now.trees)) → items x ≡ map step_pair steps)
-steps_by items old new (Ok x) n has h = λ steps up holds. reads_steps old new n steps (items x) has up holds h
-steps_by items old new (Err e) n has h = tt
-
-pub all_steps_by : {X : Type 0} (items : X → List Row) (old new : State) (r : Result X KeepError) (n : ℕ) → old.now.schema ≡ register_schema → IfOk r (λ x. Shown select_steps (Int (pos n) ∷ []) old new (items x))
-    → IfOk r (λ x. IsPermutation (items x) (rows_under n (step_table old.now.trees)))
-all_steps_by items old new (Ok x) n has h = holds_steps old new n (items x) has h
-all_steps_by items old new (Err e) n has h = tt

@@ -1,5 +1,5 @@
 -- What `adopt` finds out of a deposit, and of all: as much as makes a register.
-use Rattle.std.proofs.Common.{◌≡◌, ℕ, zero, suc, ◌+◌, ◌-◌, ◌<◌, ◌≤◌, Bool, true, false, List, [], ◌∷◌, map, filter, length, Option, Some, None, slice_get, refl, sym, ap, subst, subst₂, ◌∙◌, arith}
+use Rattle.std.proofs.Common.{◌≡◌, ℕ, zero, suc, ◌+◌, ◌-◌, ◌<◌, ◌≤◌, Bool, true, false, List, [], ◌∷◌, ◌++◌, map, filter, take, length, Option, Some, None, slice_get, refl, sym, ap, subst, subst₂, ◌∙◌, arith}
 use Rattle.std.proofs.Math.Logic.{∥∥₁_map, ∥∥₁_elim}
 use Rattle.std.proofs.Props.{props}
 use Rattle.std.specs.List.{AllByRecursion, AllZip}
@@ -11,14 +11,10 @@ use Rattle.ags_dict.specs.Entries.{Entries}
 use Rattle.ags_dict.specs.Reading.{IsDictionary}
 use Rattle.ags_check.specs.Findings.{CheckedFile}
 use Rattle.reg_store.specs.Sent.{Sent, is_repeat}
-use Rattle.reg_store.specs.declared.keep.Kept.{Kept}
-use Rattle.reg_store.specs.declared.keep.KeptRow.{KeptRow}
-use Rattle.reg_store.specs.Keep.{deposit_of}
-use Rattle.reg_tables.specs.declared.repeats.Digests.{Digests}
 use Rattle.reg_tables.specs.Tables.{register_schema}
 use Rattle.reg_store.specs.Fit.{IsFileOf, IsNamed, kept_rows}
 use Rattle.reg_store.specs.ApartLaws.{apart_all, apart_pair}
-use Rattle.reg_tables.specs.Digests.{IsFirst, IsNew, numbers_under, own_digest}
+use Rattle.reg_tables.specs.Digests.{IsFirst}
 use Rattle.reg_tables.specs.Rows.{deposit_table, given_deposit, columns_3, line_table, step_table, rows_under, placed_rows, step_pair}
 use Rattle.reg_tables.specs.Register.{deposit_rows, has_number, meta_columns, file_lines, file_steps, IsRegister}
 use Rattle.reg_tables.specs.Shows.{row_of_number}
@@ -30,30 +26,17 @@ pub record Tests (is : Bool) (Fact : Type 0) : Type 0 where
   pub yes : is ≡ true → ∥ Fact ∥₁
   pub no : is ≡ false → Fact → ⊥
 
--- The lines and steps of a number are these.
-pub record HoldsFile (db : Database) (n : ℕ) (file : CheckedFile) : Type 0 where
-  pub lines : IsPermutation (placed_rows 0 (kept_rows file.groups)) (rows_under n (line_table db.trees))
-  pub steps : IsPermutation (map step_pair file.graph.steps) (rows_under n (step_table db.trees))
+-- So many of these rows have come, and the answer is whether they are the first ones.
+pub record Compares (mine : List Row) (at : ℕ) (is : Bool) (rows : List Row) : Type 0 where
+  pub yes : is ≡ true → (at ≤ length mine) × (rows ≡ take at mine)
+  pub no : is ≡ false → (more : List Row) → rows ++ more ≡ mine → ⊥
 
 -- The deposit's bytes have no finding, and the lines and steps of the number are theirs.
-abbrev pub HoldsBody : Database → Entries → ℕ → Sent → Type 0
-HoldsBody db dictionary n d = (file : CheckedFile) × IsFileOf dictionary d file × HoldsFile db n file
-
--- The lines and steps of a number are these.
-abbrev pub HoldsLinesAndSteps : ℕ → List KeptRow → List (ℕ × ℕ) → Database → Type 0
-HoldsLinesAndSteps n lines steps db = HoldsLines db n lines × HoldsSteps db n steps
-
--- The bytes of the deposit that was read have no finding, and the lines and steps of the number are theirs.
-abbrev pub HoldsKept : Entries → ℕ → Kept → Database → Type 0
-HoldsKept dictionary n kept db = HoldsBody db dictionary n (deposit_of kept)
-
--- The same, and no deposit of these numbers is equal.
-abbrev pub HoldsNew : Entries → ℕ → List ℕ → Kept → Database → Type 0
-HoldsNew dictionary n numbers kept db = HoldsKept dictionary n kept db × IsNew db numbers (deposit_of kept)
-
--- The same of the numbers that stand under its digest.
-abbrev pub IsWholeKept : Entries → ℕ → Digests → Kept → Database → Type 0
-IsWholeKept dictionary n digests kept db = HoldsNew dictionary n (numbers_under digests (own_digest (deposit_of kept))) kept db
+pub record HoldsBody (db : Database) (dictionary : Entries) (n : ℕ) (d : Sent) : Type 0 where
+  pub file : CheckedFile
+  pub its : IsFileOf dictionary d file
+  pub lines : HoldsLines db n (kept_rows file.groups)
+  pub steps : HoldsSteps db n file.graph.steps
 
 -- The deposit of a number is whole: its row is the only one, with names and a day; its bytes have no finding; its lines and steps are there; and no deposit of a smaller number is equal.
 pub record IsWhole (db : Database) (dictionary : Entries) (n : ℕ) : Type 0 where
@@ -92,14 +75,12 @@ whole_at db dictionary list r k low =
       deposit = d;
       row = row_of_number (k + 1) list (deposit_table db.trees) d (omega arith) r.deposits at;
       named = named_at list k d r.named found.1;
-      body = (
-        it.0,
-        it.2,
-        record {
-          lines = subst (λ o. IsPermutation (file_lines o) (rows_under (k + 1) (line_table db.trees))) it.1 (r.lines k);
-          steps = subst (λ o. IsPermutation (file_steps o) (rows_under (k + 1) (step_table db.trees))) it.1 (r.steps k);
-        },
-      );
+      body = record {
+        file = it.0;
+        its = it.2;
+        lines = subst (λ o. IsPermutation (file_lines o) (rows_under (k + 1) (line_table db.trees))) it.1 (r.lines k);
+        steps = subst (λ o. IsPermutation (file_steps o) (rows_under (k + 1) (step_table db.trees))) it.1 (r.steps k);
+      };
       alone = λ m above below x row.
           (let there = slice_get_in list (m - 1) (omega (arith, above, below, low)) in
           let one : there.0 ≡ x = same_deposit m there.0 x _ (row_of_number m list (deposit_table db.trees) there.0 above r.deposits there.1) row in
@@ -157,7 +138,7 @@ adopts_whole db dictionary count schema sound meta counts all = (list, adopts db
     list = list_by P (λ k p. p.deposit) count all
 
     files : List CheckedFile
-    files = list_by P (λ k p. p.body.0) count all
+    files = list_by P (λ k p. p.body.file) count all
 
     long : length list ≡ count
     long = list_long P (λ k p. p.deposit) count all
@@ -190,10 +171,10 @@ adopts_whole db dictionary count schema sound meta counts all = (list, adopts db
       numbers = numbers;
       deposits = rows;
       files = files;
-      each = list_zip (IsFileOf dictionary) P (λ k p. p.deposit) (λ k p. p.body.0) count all (λ k p. p.body.1);
+      each = list_zip (IsFileOf dictionary) P (λ k p. p.deposit) (λ k p. p.body.file) count all (λ k p. p.body.its);
       named = list_all_of IsNamed P (λ k p. p.deposit) count all (λ k p. p.named);
       apart = apart_all list earlier;
       few = subst (λ (n : ℕ). n ≤ 999999) (sym long) counts.0;
-      lines = λ k file at. (let it = list_at P (λ k p. p.body.0) count all k file at in subst (λ (f : CheckedFile). IsPermutation (placed_rows 0 (kept_rows f.groups)) (rows_under (k + 1) (line_table db.trees))) it.1 it.0.body.2.lines);
-      steps = λ k file at. (let it = list_at P (λ k p. p.body.0) count all k file at in subst (λ (f : CheckedFile). IsPermutation (map step_pair f.graph.steps) (rows_under (k + 1) (step_table db.trees))) it.1 it.0.body.2.steps);
+      lines = λ k file at. (let it = list_at P (λ k p. p.body.file) count all k file at in subst (λ (f : CheckedFile). IsPermutation (placed_rows 0 (kept_rows f.groups)) (rows_under (k + 1) (line_table db.trees))) it.1 it.0.body.lines);
+      steps = λ k file at. (let it = list_at P (λ k p. p.body.file) count all k file at in subst (λ (f : CheckedFile). IsPermutation (map step_pair f.graph.steps) (rows_under (k + 1) (step_table db.trees))) it.1 it.0.body.steps);
     }

@@ -2,7 +2,6 @@
 
 ghost use Rattle.std.specs.Prelude.{◌≡◌, ◌≢◌, ◌≤◌, ◌↔◌, ◌⊎◌, ℕ, ℤ, pos, List, None, Err, length, map, Contains, IsTrue, IfOk, IfErr, IfSome};
 ghost use Rattle.sqlite.specs.Order.{Row as Values};
-ghost use Rattle.reg_tables.specs.Rows.{placed_row, placed_rows, step_pair};
 ghost use Rattle.reg_tables.specs.Register.{meta_columns};
 ghost use Rattle.reg_tables.specs.Adopts.{number_rows};
 ghost use Rattle.ags_dict.specs.Reading.{IsDictionary};
@@ -12,7 +11,7 @@ ghost use Rattle.reg_tables.specs.Adoption.{AreNoKeptDictionary, ReadsMeta};
 use crate::values::{holds, is_row};
 use ags_dict::{DictError, Dictionary};
 use ags_rows::READABLE;
-use reg_store::{KeepError, KeptRow, MOST};
+use reg_store::{KeepError, MOST};
 use sqlite::Row;
 use sqlite::types::{ToSql, ValueRef};
 use std::alloc::Global;
@@ -163,53 +162,4 @@ pub(crate) fn count_numbers(rows: &[Row]) -> Option<u32>
         }
     }
     Some(rows.len() as u32)
-}
-
-fn is_line(row: &Row, at: u32, line: &KeptRow) -> bool
-    ensures { IsTrue result ↔ (row.now ≡ placed_row at line.now) }
-{
-    let values = [
-        at.to_sql(),
-        ValueRef::Text(line.group.as_slice()),
-        u32::from(line.kind).to_sql(),
-        ValueRef::Blob(line.line.as_slice()),
-    ];
-    is_row(row, &values)
-}
-
-/// Whether the rows are those of a file, in its order.
-pub(crate) fn are_lines(rows: &[Row], lines: &[KeptRow]) -> bool
-    requires { length lines.now ≤ 4294967295 }
-    ensures { IsTrue result ↔ (rows.now ≡ placed_rows 0 lines.now) }
-{
-    if rows.len() != lines.len() {
-        return false;
-    }
-    for (at, row) in rows.iter().enumerate() {
-        if !is_line(row, at as u32, &lines[at]) {
-            return false;
-        }
-    }
-    true
-}
-
-fn is_step(row: &Row, step: (u32, u32)) -> bool
-    ensures { IsTrue result ↔ (row.now ≡ step_pair step) }
-{
-    is_row(row, &[step.0.to_sql(), step.1.to_sql()])
-}
-
-/// Whether the rows are these steps, in their order.
-pub(crate) fn are_steps(rows: &[Row], steps: &[(u32, u32)]) -> bool
-    ensures { IsTrue result ↔ (rows.now ≡ map step_pair steps.now) }
-{
-    if rows.len() != steps.len() {
-        return false;
-    }
-    for (at, row) in rows.iter().enumerate() {
-        if !is_step(row, steps[at]) {
-            return false;
-        }
-    }
-    true
 }

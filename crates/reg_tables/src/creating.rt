@@ -1,7 +1,6 @@
 //! The tables of a new register.
 
-ghost use Rattle.std.specs.Prelude.{◌≡◌, ◌≢◌, [], false, IsTrue, IfErr, OnOk, OnErr};
-ghost use Rattle.sqlite.specs.Effect.{IsDatabase};
+ghost use Rattle.std.specs.Prelude.{◌≡◌, ◌≢◌, ◌≤◌, [], false, length, IsTrue, IfErr, OnOk, OnErr};
 ghost use Rattle.sqlite.specs.State.{HasCleanDisk, Survives};
 ghost use Rattle.sqlite.specs.Held.{state};
 ghost use Rattle.reg_tables.specs.Tables.{no_schema};
@@ -9,10 +8,12 @@ ghost use Rattle.reg_store.specs.Keep.{fails};
 ghost use Rattle.reg_tables.specs.Quiet.{IsSettled, StaysIfOpen};
 ghost use Rattle.reg_tables.specs.Commits.{CommitsAll, UndoesIfOpen, UndoesUnlessFailed, WasOpenIfOpen};
 ghost use Rattle.reg_tables.specs.Inside.{ChangesInside, CommitsNothing, HasSchema, HasTransaction, state_in};
-ghost use Rattle.reg_tables.specs.Creates.{HasFirst, HasAll, IsNewRegister, SurvivesMaking};
+ghost use Rattle.reg_tables.specs.Making.{AreDictionary};
+ghost use Rattle.reg_tables.specs.Creates.{HasFirst, HasAll, IsEmptyRegister, IsNewRegister, SurvivesMaking};
 
 use crate::queries::{is_memory, is_open};
 use crate::running::run;
+use ags_rows::READABLE;
 use reg_store::KeepError;
 use sqlite::{Alter, Connection, Error, Transaction, params};
 
@@ -79,13 +80,15 @@ fn make_tables<S: Alter>(tx: &mut Transaction<'_, S>, dictionary: &[u8]) -> Resu
 
 #[tactic(auto, using(crate::proofs::AddsLemmas::undone_by, crate::proofs::AddsLemmas::open_before))]
 fn make_all<S: Alter>(conn: &mut Connection<S>, dictionary: &[u8]) -> Result<(), Error>
+    requires short { length dictionary.now ≤ READABLE }
+    requires reads { AreDictionary dictionary.now }
     requires mode { conn.old.in_transaction ≡ false }
     requires schema { HasCleanDisk (state S.Store conn.old) → (state S.Store conn.old).now.schema ≡ no_schema }
 
     // The connection and the new register at success.
     ensures open { HasCleanDisk (state S.Store conn.new) → OnOk result (IsTrue (state S.Store conn.new).is_open) }
     ensures put { HasCleanDisk (state S.Store conn.new)
-        → OnOk result (IsNewRegister dictionary.now (state S.Store conn.new).now) }
+        → OnOk result (IsEmptyRegister dictionary.now (state S.Store conn.new).now) }
     ensures settled { CommitsAll result (state S.Store conn.new) }
 
     // After an error that leaves the connection open: it was open before, and all is undone.
@@ -108,15 +111,16 @@ pub(crate) fn make_register<S: Alter>(
     conn: &mut Connection<S>,
     dictionary: &[u8],
 ) -> Result<(), KeepError>
+    requires short { length dictionary.now ≤ READABLE }
+    requires reads { AreDictionary dictionary.now }
     requires mode { conn.old.in_transaction ≡ false }
     requires schema { HasCleanDisk (state S.Store conn.old) → (state S.Store conn.old).now.schema ≡ no_schema }
     requires settled { HasCleanDisk (state S.Store conn.old) → IsSettled (state S.Store conn.old) }
 
     // The new register at success, as it is committed.
     ensures put { HasCleanDisk (state S.Store conn.new)
-        → OnOk result (IsNewRegister dictionary.now (state S.Store conn.new).now) }
+        → OnOk result (IsEmptyRegister dictionary.now (state S.Store conn.new).now) }
     ensures settled { CommitsAll result (state S.Store conn.new) }
-    ensures sound { HasCleanDisk (state S.Store conn.new) → OnOk result (IsDatabase (state S.Store conn.new).now) }
 
     // Which refusal never comes, and what the others say of the connection.
     ensures refused { IfErr result (λ e. e ≢ KeepError.Full) }
@@ -130,12 +134,11 @@ pub(crate) fn make_register<S: Alter>(
     ensures open { HasCleanDisk (state S.Store conn.new) → fails result ≡ false
         → IsTrue (state S.Store conn.new).is_open }
     ensures crash { SurvivesMaking dictionary.now (state S.Store conn.old) (state S.Store conn.new) }
+    ensures quiet { fails result ≡ false
+        → OnErr result (Survives (state S.Store conn.old) (state S.Store conn.new) (λ _. ⊥)) }
 {
     match make_all(conn, dictionary) {
-        Ok(()) => {
-            let _schema = conn.schema();
-            Ok(())
-        }
+        Ok(()) => Ok(()),
         Err(error) => {
             if is_memory(&error) && is_open(conn) {
                 Err(KeepError::NoMemory)

@@ -1,6 +1,6 @@
 //! A register that is found in a database is examined: its numbers, then deposit by deposit.
 
-ghost use Rattle.std.specs.Prelude.{◌≡◌, ◌≢◌, ◌≤◌, ◌+◌, [], ℕ, List, length, map, true, false, Some, Ok, Err, IsTrue, IfOk, IfErr, IfSome};
+ghost use Rattle.std.specs.Prelude.{◌≡◌, ◌≢◌, ◌≤◌, ◌+◌, ◌∷◌, [], ℕ, List, length, map, true, false, Some, Ok, Err, IsTrue, IfOk, IfErr, IfSome};
 ghost use Rattle.sqlite.specs.State.{HasCleanDisk};
 ghost use Rattle.sqlite.specs.Held.{state};
 ghost use Rattle.sqlite.specs.Tree.{IsAscending};
@@ -9,27 +9,31 @@ ghost use Rattle.ags_check.specs.Findings.{IsClean};
 ghost use Rattle.reg_store.specs.Keep.{fails, deposit_of};
 ghost use Rattle.reg_tables.specs.Quiet.{IsIdle, IsStill, FindsThat};
 ghost use Rattle.reg_tables.specs.Found.{AreNumbersFromOne, FindsAll, FindsOneIf, FindsOut, OnYes};
-ghost use Rattle.reg_tables.specs.Rows.{deposit_table};
+ghost use Rattle.reg_tables.specs.Rows.{deposit_table, given_deposit};
 ghost use Rattle.reg_tables.specs.Heads.{HoldsHeads, IsDigestedAt, AddsHead, IsDigestedFrom};
-ghost use Rattle.reg_tables.specs.Digests.{AreBelow, HoldsDigests, IsNew, numbers_under};
+ghost use Rattle.reg_tables.specs.Digests.{AreBelow, HoldsDigests, IsNew, numbers_under, own_digest};
 ghost use Rattle.reg_tables.specs.Adopts.{id_of};
-ghost use Rattle.reg_tables.specs.Whole.{AreWhole, Counts, HasMeta, HoldsFile, IsWhole, HoldsKept, HoldsLinesAndSteps, HoldsNew, IsWholeKept};
+ghost use Rattle.reg_store.specs.Fit.{IsNamed, kept_rows};
+ghost use Rattle.reg_store.specs.Sent.{Sent};
+ghost use Rattle.reg_tables.specs.Whole.{AreWhole, Counts, HasMeta, HoldsBody, IsWhole};
 ghost use Rattle.reg_tables.specs.Adoption.{Adopts, CountsDeposits, MetaOf, gives_up};
 ghost use Rattle.reg_tables.specs.Methods.{HoldsLines, HoldsSteps};
 ghost use Rattle.sqlite.specs.Effect.{IsDatabase};
 
-use crate::adopting::{AdoptError, are_lines, are_steps, count_numbers, read_meta};
+use crate::adopting::{AdoptError, count_numbers, read_meta};
+use crate::compare::{SameLines, SameSteps, are_all};
+use crate::gathering::take_shown;
 use crate::heads::{DigestedHead, into_head};
 use crate::lines::few_rows;
 use crate::queries::query;
 use crate::readers::read_deposit;
-use crate::reading::{line_rows, meta_rows, numbered_rows, step_rows};
+use crate::reading::{meta_rows, numbered_rows};
 use crate::repeats::{Digests, digest_of, find_equal};
 use ags_check::{CheckError, Checked, check};
 use ags_dict::Dictionary;
 use ags_rows::LIMIT;
 use reg_store::{KeepError, Kept, KeptHead, KeptRow};
-use sqlite::{Alter, Connection, Row};
+use sqlite::{Alter, Connection, Row, params};
 use std::alloc::Global;
 
 fn number_rows<S: Alter>(conn: &mut Connection<S>) -> Result<Vec<Row>, KeepError>
@@ -71,8 +75,18 @@ fn holds_lines<S: Alter>(
     ensures refused { IfErr result (λ e. e ≢ KeepError.Full) }
     ensures quiet { IsStill (state S.Store conn.old) (state S.Store conn.new) (fails result) }
 {
-    match line_rows(conn, number) {
-        Ok(rows) => Ok(are_lines(&rows, lines)),
+    let mut same = SameLines {
+        lines,
+        at: 0,
+        is: true,
+    };
+    match take_shown(
+        conn,
+        "SELECT seq, grp, kind, line FROM lines WHERE deposit = ?1 ORDER BY seq",
+        params![number],
+        &mut same,
+    ) {
+        Ok(()) => Ok(are_all(same.is, same.at, lines.len())),
         Err(error) => Err(error),
     }
 }
@@ -90,8 +104,18 @@ fn holds_steps<S: Alter>(
     ensures refused { IfErr result (λ e. e ≢ KeepError.Full) }
     ensures quiet { IsStill (state S.Store conn.old) (state S.Store conn.new) (fails result) }
 {
-    match step_rows(conn, number) {
-        Ok(rows) => Ok(are_steps(&rows, steps)),
+    let mut same = SameSteps {
+        steps,
+        at: 0,
+        is: true,
+    };
+    match take_shown(
+        conn,
+        "SELECT child, target FROM steps WHERE deposit = ?1 ORDER BY child, target",
+        params![number],
+        &mut same,
+    ) {
+        Ok(()) => Ok(are_all(same.is, same.at, steps.len())),
         Err(error) => Err(error),
     }
 }
@@ -106,7 +130,7 @@ fn holds_file<S: Alter>(
     requires idle { IsIdle (state S.Store conn.old) }
     requires few { length lines.now ≤ 4294967295 }
     requires rising { IsAscending IsBefore steps.now }
-    ensures tested { FindsOut result (HoldsLinesAndSteps number lines.now steps.now)
+    ensures tested { FindsOut result (λ db. HoldsLines db number lines.now × HoldsSteps db number steps.now)
         (state S.Store conn.old) (state S.Store conn.new) }
     ensures refused { IfErr result (λ e. e ≢ KeepError.Full) }
     ensures quiet { IsStill (state S.Store conn.old) (state S.Store conn.new) (fails result) }
@@ -127,7 +151,8 @@ fn holds_checked<S: Alter>(
 ) -> Result<bool, KeepError>
     requires idle { IsIdle (state S.Store conn.old) }
     requires clean { IsClean file.now }
-    ensures tested { FindsOut result (λ db. HoldsFile db number file.now)
+    ensures tested { FindsOut result (λ db. HoldsLines db number (kept_rows file.now.groups)
+        × HoldsSteps db number file.now.graph.steps)
         (state S.Store conn.old) (state S.Store conn.new) }
     ensures refused { IfErr result (λ e. e ≢ KeepError.Full) }
     ensures quiet { IsStill (state S.Store conn.old) (state S.Store conn.new) (fails result) }
@@ -147,7 +172,7 @@ fn holds_body<S: Alter>(
     kept: &Kept,
 ) -> Result<bool, KeepError>
     requires idle { IsIdle (state S.Store conn.old) }
-    ensures tested { FindsOut result (HoldsKept dictionary.now number kept.now)
+    ensures tested { FindsOut result (λ db. HoldsBody db dictionary.now number (deposit_of kept.now))
         (state S.Store conn.old) (state S.Store conn.new) }
     ensures refused { IfErr result (λ e. e ≢ KeepError.Full) }
     ensures quiet { IsStill (state S.Store conn.old) (state S.Store conn.new) (fails result) }
@@ -200,7 +225,8 @@ fn holds_kept<S: Alter>(
     numbers: &[u32],
 ) -> Result<bool, KeepError>
     requires idle { IsIdle (state S.Store conn.old) }
-    ensures tested { FindsOut result (HoldsNew dictionary.now number numbers.now kept.now)
+    ensures tested { FindsOut result (λ db. HoldsBody db dictionary.now number (deposit_of kept.now)
+        × IsNew db numbers.now (deposit_of kept.now))
         (state S.Store conn.old) (state S.Store conn.new) }
     ensures refused { IfErr result (λ e. e ≢ KeepError.Full) }
     ensures quiet { IsStill (state S.Store conn.old) (state S.Store conn.new) (fails result) }
@@ -222,7 +248,8 @@ fn kept_head<S: Alter>(
     digests: &Digests,
 ) -> Result<Option<DigestedHead>, KeepError>
     requires idle { IsIdle (state S.Store conn.old) }
-    ensures tested { FindsOneIf result (IsWholeKept dictionary.now number digests.now kept)
+    ensures tested { FindsOneIf result (λ db. HoldsBody db dictionary.now number (deposit_of kept)
+        × IsNew db (numbers_under digests.now (own_digest (deposit_of kept))) (deposit_of kept))
         (state S.Store conn.old) (state S.Store conn.new) }
     ensures head { IfOk result (λ found. IfSome found (IsDigestedFrom (deposit_of kept))) }
     ensures refused { IfErr result (λ e. e ≢ KeepError.Full) }
@@ -237,6 +264,17 @@ fn kept_head<S: Alter>(
         Ok(false) => Ok(None),
         Err(error) => Err(error),
     }
+}
+
+/// The deposit of a number, which is the one row of the answer. The row goes, so that its body is held once.
+fn take_deposit(alloc: Global, number: u32, rows: Vec<Row>) -> Result<Kept, KeepError>
+    ensures read { IfOk result (λ kept. rows.items ≡ given_deposit number (deposit_of kept) ∷ []) }
+    ensures is_named { IfOk result (λ kept. IsNamed (deposit_of kept)) }
+    ensures refused { IfErr result (λ e. e ≢ KeepError.Full) }
+    ensures other { result ≡ Err KeepError.Store → (d : Sent) → IsNamed d
+        → rows.items ≡ given_deposit number d ∷ [] → ⊥ }
+{
+    read_deposit(alloc, number, &rows)
 }
 
 /// The head of a number's deposit with its digest, if that deposit is whole. The digests are those of the numbers below.
@@ -262,7 +300,7 @@ fn whole_head<S: Alter>(
         Ok(rows) => rows,
         Err(error) => return Err(error),
     };
-    match read_deposit(alloc, number, &rows) {
+    match take_deposit(alloc, number, rows) {
         Ok(kept) => kept_head(conn, alloc, dictionary, number, kept, digests),
         Err(KeepError::Store) => Ok(None),
         Err(error) => Err(error),

@@ -19,13 +19,13 @@ use sqlite::{Alter, Connection, Error, Row};
 
 /// What the rows of an answer are read into.
 pub(crate) trait Gather {
-    // What was taken so far is what these rows say.
-    ghost holds: { Self → List Values → Type 0 };
+    // What was taken since the first state is what these rows say.
+    ghost holds: { Self → Self → List Values → Type 0 };
 
     /// Takes the next row.
     fn take(&mut self, row: &Row) -> Result<(), KeepError>
-        ensures taken { OnOk result ((rows : List Values) → holds self.old rows
-            → holds self.new (rows ++ row.now ∷ [])) }
+        ensures taken { OnOk result ((first : Self) (rows : List Values) → holds first self.old rows
+            → holds first self.new (rows ++ row.now ∷ [])) }
         ensures refused { IfErr result (λ e. e ≢ KeepError.Full) };
 }
 
@@ -38,7 +38,7 @@ fn take_each<S: Alter, G: Gather>(
 ) -> Result<Result<(), KeepError>, Error>
     requires plain { IsPlain (understood register_schema sql.now) }
     requires idle { IsIdle (state S.Store conn.old) }
-    requires empty { G.holds into.old [] }
+    requires empty { G.holds into.old into.old [] }
 
     // Transaction and connection after the call.
     ensures mode { conn.new.in_transaction ≡ false }
@@ -46,7 +46,7 @@ fn take_each<S: Alter, G: Gather>(
     ensures same { StaysIfOpen (state S.Store conn.old) (state S.Store conn.new) }
 
     // What was taken of the answer, and which refusal of a row never comes.
-    ensures shown { TakesEachShown result sql.now (bound params.now) (G.holds into.new)
+    ensures shown { TakesEachShown result sql.now (bound params.now) (G.holds into.old into.new)
         (state S.Store conn.old) (state S.Store conn.new) }
     ensures refused { IfOk result (λ taken. IfErr taken (λ e. e ≢ KeepError.Full)) }
 
@@ -75,8 +75,8 @@ pub(crate) fn take_shown<S: Alter, G: Gather>(
 ) -> Result<(), KeepError>
     requires plain { IsPlain (understood register_schema sql.now) }
     requires idle { IsIdle (state S.Store conn.old) }
-    requires empty { G.holds into.old [] }
-    ensures shown { TakesShown result sql.now (bound params.now) (G.holds into.new)
+    requires empty { G.holds into.old into.old [] }
+    ensures shown { TakesShown result sql.now (bound params.now) (G.holds into.old into.new)
         (state S.Store conn.old) (state S.Store conn.new) }
     ensures refused { IfErr result (λ e. e ≢ KeepError.Full) }
     ensures quiet { IsStill (state S.Store conn.old) (state S.Store conn.new) (fails result) }

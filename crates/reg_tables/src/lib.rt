@@ -3,6 +3,7 @@
 
 mod adding;
 mod adopting;
+mod compare;
 mod creating;
 mod examining;
 mod fronts;

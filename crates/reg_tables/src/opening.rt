@@ -3,15 +3,14 @@
 ghost use Rattle.std.specs.Prelude.{◌≡◌, ◌≢◌, ◌≤◌, ◌⊎◌, [], false, length, None, Ok, Err, IfOk, IfErr, IfSome, IsTrue, OnOk, OnErr};
 ghost use Rattle.sqlite.specs.State.{HasCleanDisk, Survives};
 ghost use Rattle.sqlite.specs.Held.{state};
-ghost use Rattle.sqlite.specs.Effect.{IsDatabase};
 ghost use Rattle.sqlite.specs.Steps.{over_memory};
 ghost use Rattle.sqlite.specs.Files.{file_state, IsOpened};
 ghost use Rattle.sqlite.specs.Start.{FindsIn};
 ghost use Rattle.sqlite.specs.WalFiles.{image_at};
 ghost use Rattle.ags_dict.specs.Reading.{IsDictionary, ReadsDictionary};
 ghost use Rattle.reg_tables.specs.Tables.{no_schema};
-ghost use Rattle.reg_tables.specs.Creates.{HasNoDeposit, IsNewRegister, ShowsNewRegister, SurvivesMaking};
-ghost use Rattle.reg_tables.specs.Making.{AreDictionary, RefusesBytes};
+ghost use Rattle.reg_tables.specs.Creates.{HasNoDeposit, IsEmptyRegister, ShowsEmptyRegister, SurvivesMaking};
+ghost use Rattle.reg_tables.specs.Making.{AreDictionary, RefusesBytes, SurvivesRefusal};
 ghost use Rattle.reg_tables.specs.Commits.{CommitsAll};
 ghost use Rattle.reg_tables.specs.Quiet.{StaysIfClean, StaysIfOpen};
 ghost use Rattle.reg_tables.specs.Register.{deposits_in};
@@ -44,7 +43,7 @@ pub enum CreateError {
     /// A table, an index or a view is there.
     #[error("the store is not empty")]
     NotEmpty,
-    /// The database failed: a crash leaves what it left before, or an empty register where there was no table.
+    /// The database failed: a crash leaves what it left before, or a register of no deposits where there was no table.
     #[error("the store failed")]
     Store,
     /// Memory is wanting.
@@ -67,15 +66,15 @@ fn read_dictionary(alloc: Global, bytes: &[u8]) -> Result<Dictionary, CreateErro
 
 /// Makes the tables of a register in a database without a table, an index and a view.
 fn fill<S: Alter>(conn: &mut Connection<S>, bytes: &[u8]) -> Result<(), CreateError>
-    requires { AreDictionary bytes.now }
+    requires short { length bytes.now ≤ READABLE }
+    requires reads { AreDictionary bytes.now }
 
     // The connection and the new register at success, and that there was no table, index or view.
     ensures mode { OnOk result (conn.new.in_transaction ≡ false) }
     ensures open { HasCleanDisk (state S.Store conn.new) → OnOk result (IsTrue (state S.Store conn.new).is_open) }
     ensures put { HasCleanDisk (state S.Store conn.new)
-        → OnOk result (IsNewRegister bytes.now (state S.Store conn.new).now) }
+        → OnOk result (IsEmptyRegister bytes.now (state S.Store conn.new).now) }
     ensures settled { CommitsAll result (state S.Store conn.new) }
-    ensures sound { HasCleanDisk (state S.Store conn.new) → OnOk result (IsDatabase (state S.Store conn.new).now) }
     ensures blank { OnOk result ((state S.Store conn.old).now.schema ≡ no_schema) }
 
     // Each refusal, by what the bytes and the database were.
@@ -83,11 +82,12 @@ fn fill<S: Alter>(conn: &mut Connection<S>, bytes: &[u8]) -> Result<(), CreateEr
     ensures not_empty { IfErr result (λ e. e ≡ CreateError.NotEmpty → (state S.Store conn.old).now.schema ≢ no_schema) }
     ensures vacant { IfErr result (λ e. e ≡ CreateError.Store → (state S.Store conn.old).now.schema ≡ no_schema) }
 
-    // What a refusal leaves, and what a crash may leave in either case.
+    // What a refusal leaves, and what a crash may leave.
     ensures same { IfErr result (λ e. e ≢ CreateError.Store
         → StaysIfClean (state S.Store conn.old) (state S.Store conn.new)) }
     ensures still { OnErr result (StaysIfOpen (state S.Store conn.old) (state S.Store conn.new)) }
-    ensures crash { SurvivesMaking bytes.now (state S.Store conn.old) (state S.Store conn.new) }
+    ensures made { OnOk result (SurvivesMaking bytes.now (state S.Store conn.old) (state S.Store conn.new)) }
+    ensures left { IfErr result (λ e. SurvivesRefusal e bytes.now (state S.Store conn.old) (state S.Store conn.new)) }
 {
     if !is_vacant(conn.schema()) {
         return Err(CreateError::NotEmpty);
@@ -116,7 +116,7 @@ impl<S: Alter> SqlKeep<S> {
         // The new register at success, that there was no table, index or view, and what a crash may leave.
         ensures empty { IfOk result (λ k. HasNoDeposit (state S.Store k.connection)) }
         ensures dictionary { IfOk result (λ k. k.dictionary ≡ dictionary) }
-        ensures register { IfOk result (λ k. ShowsNewRegister bytes.entry.now (state S.Store k.connection)) }
+        ensures register { IfOk result (λ k. ShowsEmptyRegister bytes.entry.now (state S.Store k.connection)) }
         ensures blank { IfOk result (λ _. (state S.Store connection).now.schema ≡ no_schema) }
         ensures working { IfOk result (λ k. k.has_failed ≡ false) }
         ensures made { IfOk result (λ k. SurvivesMaking bytes.entry.now
@@ -133,7 +133,7 @@ impl<S: Alter> SqlKeep<S> {
         ensures same { IfErr result (λ e. e.0 ≢ CreateError.Store
             → StaysIfClean (state S.Store connection) (state S.Store e.1)) }
         ensures still { IfErr result (λ e. StaysIfOpen (state S.Store connection) (state S.Store e.1)) }
-        ensures left { IfErr result (λ e. SurvivesMaking bytes.entry.now
+        ensures left { IfErr result (λ e. SurvivesRefusal e.0 bytes.entry.now
             (state S.Store connection) (state S.Store e.1)) }
     {
         match fill(&mut connection, bytes) {
@@ -156,8 +156,9 @@ impl<S: Alter> SqlKeep<S> {
     ///
     /// `NotEmpty` and `Store` come only where the bytes are a dictionary: `NotEmpty` only where there was a table, an index or a view, `Store` only
     /// where there was none. A connection in a transaction is answered `Store`, where nothing else is refused first; no clause says so. The rest
-    /// holds where the disk is clean at the end. The register has no deposit. A connection that comes back open shows the tables from before. A
-    /// crash leaves what it could leave before, or an empty register where there was no table.
+    /// holds where the disk is clean at the end. The register has no deposit. After a refusal other than `Store` the connection is as
+    /// before; after `Store`, one that comes back open shows the tables from before. A crash leaves what it could leave before; at `Ok` and at `Store`
+    /// also a register of no deposits, where there was no table.
     pub fn create_in(
         alloc: Global,
         connection: Connection<S>,
@@ -168,7 +169,7 @@ impl<S: Alter> SqlKeep<S> {
         // The new register at success, that there was no table, index or view, and what a crash may leave.
         ensures empty { IfOk result (λ k. HasNoDeposit (state S.Store k.connection)) }
         ensures dictionary { IfOk result (λ k. ReadsDictionary bytes.now (Ok k.dictionary)) }
-        ensures register { IfOk result (λ k. ShowsNewRegister bytes.now (state S.Store k.connection)) }
+        ensures register { IfOk result (λ k. ShowsEmptyRegister bytes.now (state S.Store k.connection)) }
         ensures blank { IfOk result (λ _. (state S.Store connection).now.schema ≡ no_schema) }
         ensures working { IfOk result (λ k. k.has_failed ≡ false) }
         ensures made { IfOk result (λ k. SurvivesMaking bytes.now
@@ -185,7 +186,7 @@ impl<S: Alter> SqlKeep<S> {
         ensures same { IfErr result (λ e. e.0 ≢ CreateError.Store
             → StaysIfClean (state S.Store connection) (state S.Store e.1)) }
         ensures still { IfErr result (λ e. StaysIfOpen (state S.Store connection) (state S.Store e.1)) }
-        ensures left { IfErr result (λ e. SurvivesMaking bytes.now
+        ensures left { IfErr result (λ e. SurvivesRefusal e.0 bytes.now
             (state S.Store connection) (state S.Store e.1)) }
     {
         match read_dictionary(alloc, bytes) {
@@ -197,8 +198,9 @@ impl<S: Alter> SqlKeep<S> {
     /// The register that a database holds.
     ///
     /// A connection in a transaction is answered `Store`, where its tables are not refused first; no clause says so. The rest holds where the disk is
-    /// clean at the end. At `Ok` no kept body has a finding, and lines and steps are those of the bodies. A connection that comes back open shows the
-    /// tables from before. A crash leaves nothing that it could not leave before.
+    /// clean at the end. At `Ok` no kept body has a finding, and lines and steps are those of the bodies. After a refusal other than `Store`
+    /// the connection is as before; after `Store`, one that comes back open shows the tables from before. A crash leaves nothing that it could not leave
+    /// before.
     pub fn adopt(
         alloc: Global,
         mut connection: Connection<S>,
@@ -256,7 +258,7 @@ impl SqlKeep<MemStore> {
         // The new register at success.
         ensures empty { IfOk result (λ k. deposits_in (state over_memory k.connection).committed.trees ≡ []) }
         ensures dictionary { IfOk result (λ k. ReadsDictionary bytes.now (Ok k.dictionary)) }
-        ensures register { IfOk result (λ k. IsNewRegister bytes.now (state over_memory k.connection).now) }
+        ensures register { IfOk result (λ k. IsEmptyRegister bytes.now (state over_memory k.connection).now) }
         ensures working { IfOk result (λ k. k.has_failed ≡ false) }
 
         // Each refusal, by what the bytes were, and the one that never comes.
@@ -301,7 +303,7 @@ impl SqlKeep<FileStore<File>> {
         requires short { length bytes.now ≤ READABLE }
         ensures empty { IfOk result (λ k. HasNoDeposit (file_state k.connection)) }
         ensures dictionary { IfOk result (λ k. ReadsDictionary bytes.now (Ok k.dictionary)) }
-        ensures register { IfOk result (λ k. ShowsNewRegister bytes.now (file_state k.connection)) }
+        ensures register { IfOk result (λ k. ShowsEmptyRegister bytes.now (file_state k.connection)) }
         ensures working { IfOk result (λ k. k.has_failed ≡ false) }
         ensures refused { IfErr result (RefusesBytes bytes.now) }
     {
@@ -374,7 +376,7 @@ impl<F: Start> SqlKeep<FileStore<FileFrom<F>>> {
         // The new register at success, and that the files had no table, index or view.
         ensures empty { IfOk result (λ k. HasNoDeposit (file_state k.connection)) }
         ensures dictionary { IfOk result (λ k. ReadsDictionary bytes.now (Ok k.dictionary)) }
-        ensures register { IfOk result (λ k. ShowsNewRegister bytes.now (file_state k.connection)) }
+        ensures register { IfOk result (λ k. ShowsEmptyRegister bytes.now (file_state k.connection)) }
         ensures blank { IfOk result (λ k. FindsEmpty (image_at F.Start) (file_state k.connection)) }
         ensures working { IfOk result (λ k. k.has_failed ≡ false) }
 

@@ -161,7 +161,7 @@ pub(crate) struct KeptLines {
 }
 
 impl Gather for KeptLines {
-    ghost holds = { λ it rows. rows ≡ placed_rows 0 it.lines.items };
+    ghost holds = { λ _ it rows. rows ≡ placed_rows 0 it.lines.items };
 
     fn take(&mut self, row: &Row) -> Result<(), KeepError> {
         let line = read_placed(self.lines.len(), row)?;
@@ -179,7 +179,7 @@ pub(crate) struct DataCount {
 }
 
 impl Gather for DataCount {
-    ghost holds = { λ it rows. it.count ≡ length (filter is_shown_data rows) };
+    ghost holds = { λ _ it rows. it.count ≡ length (filter is_shown_data rows) };
 
     fn take(&mut self, row: &Row) -> Result<(), KeepError> {
         if read_number(row, 2)? == 4 {
@@ -209,7 +209,7 @@ pub(crate) struct KeptSteps {
 }
 
 impl Gather for KeptSteps {
-    ghost holds = { λ it rows. rows ≡ map step_pair it.steps.items };
+    ghost holds = { λ _ it rows. rows ≡ map step_pair it.steps.items };
 
     fn take(&mut self, row: &Row) -> Result<(), KeepError> {
         let step = read_step(row)?;
@@ -237,7 +237,7 @@ pub(crate) struct KeptTargets {
 }
 
 impl Gather for KeptTargets {
-    ghost holds = { λ it rows. rows ≡ map target_cell it.targets.items };
+    ghost holds = { λ _ it rows. rows ≡ map target_cell it.targets.items };
 
     fn take(&mut self, row: &Row) -> Result<(), KeepError> {
         let target = read_target(row)?;

@@ -4,7 +4,7 @@ ghost use Rattle.std.specs.Prelude.{◌≡◌, ◌≢◌, false, map, IsTrue, If
 ghost use Rattle.sqlite.specs.State.{HasCleanDisk};
 ghost use Rattle.sqlite.specs.Held.{state};
 ghost use Rattle.reg_tables.specs.Quiet.{IsIdle, IsStill, FindsThat};
-ghost use Rattle.reg_tables.specs.Found.{AreMetaByName, FindsAll, OfLines, OfSteps, rows_numbered};
+ghost use Rattle.reg_tables.specs.Found.{AreMetaByName, FindsAll, OfSteps, rows_numbered};
 ghost use Rattle.reg_tables.specs.Digests.{IsRowOf};
 ghost use Rattle.reg_store.specs.Keep.{fails, deposit_of};
 ghost use Rattle.reg_tables.specs.Rows.{line_table, step_table, placed_rows, step_pair, rows_under, columns_3};
@@ -67,25 +67,6 @@ pub(crate) fn find_deposit<S: Alter>(
     }
 }
 
-pub(crate) fn line_rows<S: Alter>(
-    conn: &mut Connection<S>,
-    number: u32,
-) -> Result<Vec<Row>, KeepError>
-    requires idle { IsIdle (state S.Store conn.old) }
-    ensures found { OfLines result number (λ file rows. rows.items ≡ placed_rows 0 file)
-        (state S.Store conn.old) (state S.Store conn.new) }
-    ensures all { FindsAll result (λ db. rows_under number (line_table db.trees))
-        (state S.Store conn.old) (state S.Store conn.new) }
-    ensures refused { IfErr result (λ e. e ≢ KeepError.Full) }
-    ensures quiet { IsStill (state S.Store conn.old) (state S.Store conn.new) (fails result) }
-{
-    query(
-        conn,
-        "SELECT seq, grp, kind, line FROM lines WHERE deposit = ?1 ORDER BY seq",
-        params![number],
-    )
-}
-
 /// The rows that are kept of a deposit.
 pub(crate) fn find_lines<S: Alter>(
     conn: &mut Connection<S>,
@@ -112,25 +93,6 @@ pub(crate) fn find_lines<S: Alter>(
         Ok(()) => Ok(lines.lines),
         Err(error) => Err(error),
     }
-}
-
-pub(crate) fn step_rows<S: Alter>(
-    conn: &mut Connection<S>,
-    number: u32,
-) -> Result<Vec<Row>, KeepError>
-    requires idle { IsIdle (state S.Store conn.old) }
-    ensures found { OfSteps result number (λ steps rows. rows.items ≡ map step_pair steps)
-        (state S.Store conn.old) (state S.Store conn.new) }
-    ensures all { FindsAll result (λ db. rows_under number (step_table db.trees))
-        (state S.Store conn.old) (state S.Store conn.new) }
-    ensures refused { IfErr result (λ e. e ≢ KeepError.Full) }
-    ensures quiet { IsStill (state S.Store conn.old) (state S.Store conn.new) (fails result) }
-{
-    query(
-        conn,
-        "SELECT child, target FROM steps WHERE deposit = ?1 ORDER BY child, target",
-        params![number],
-    )
 }
 
 /// The steps that are kept of a deposit.

@@ -19,7 +19,7 @@ returns-in-Ok-clause-tested g c clean =
     let file = c.args.file.now in
     let lines : c.as_slice.result.now ≡ kept_rows file.groups = search rules in
     let steps : c.steps.result.now ≡ file.graph.steps = search rules in
-    file_tests c.holds_file.result (state g.S.Store c.args.conn.now).now c.args.number file c.as_slice.result.now c.steps.result.now lines steps (c.holds_file.ensures.tested clean)
+    file_tests c.holds_file.result (state g.S.Store c.args.conn.now).now c.args.number c.as_slice.result.now (kept_rows file.groups) c.steps.result.now file.graph.steps lines steps (c.holds_file.ensures.tested clean)
 
 pub returns-in-Ok-clause-quiet : goal.returns-in-Ok-clause-quiet
 returns-in-Ok-clause-quiet g c = c.holds_file.ensures.quiet

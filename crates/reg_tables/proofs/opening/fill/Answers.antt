@@ -1,22 +1,25 @@
-use Rattle.std.proofs.Common.{rules, refl, sym}
+use Rattle.std.proofs.Common.{rules, ◌≡◌, refl, sym, ap}
 use Rattle.sqlite.specs.Held.{state}
+use Rattle.sqlite.proofs.StateLemmas.{survives_weaker}
+use Rattle.reg_store.specs.declared.keep.KeepError.TheVariants.{NoMemory}
+use Rattle.reg_store.specs.Keep.{is_store}
 use Rattle.reg_tables.proofs.QueryLemmas.{survives_same}
 use Rattle.reg_tables.proofs.opening.fill.Goals as goal
 
-pub returns-then-not-is_vacant-clause-crash : goal.returns-then-not-is_vacant-clause-crash
-returns-then-not-is_vacant-clause-crash g c = survives_same (state g.S.Store c.args.conn.now)
+pub returns-then-not-is_vacant-clause-left : goal.returns-then-not-is_vacant-clause-left
+returns-then-not-is_vacant-clause-left g c = survives_same (state g.S.Store c.args.conn.now)
 
 pub returns-then-not-is_vacant-clause-same : goal.returns-then-not-is_vacant-clause-same
-returns-then-not-is_vacant-clause-same g c = λ _ _. (refl, refl)
+returns-then-not-is_vacant-clause-same g c = λ _ _. (refl, refl, refl)
 
 pub returns-then-not-is_vacant-clause-still : goal.returns-then-not-is_vacant-clause-still
 returns-then-not-is_vacant-clause-still g c = λ _ is_open. (is_open, refl, refl)
 
-pub returns-then-not-is_autocommit-clause-crash : goal.returns-then-not-is_autocommit-clause-crash
-returns-then-not-is_autocommit-clause-crash g c = survives_same (state g.S.Store c.args.conn.now)
+pub returns-then-not-is_autocommit-clause-left : goal.returns-then-not-is_autocommit-clause-left
+returns-then-not-is_autocommit-clause-left g c = survives_same (state g.S.Store c.args.conn.now)
 
 pub returns-then-not-is_autocommit-clause-same : goal.returns-then-not-is_autocommit-clause-same
-returns-then-not-is_autocommit-clause-same g c = λ _ _. (refl, refl)
+returns-then-not-is_autocommit-clause-same g c = λ _ _. (refl, refl, refl)
 
 pub returns-then-not-is_autocommit-clause-still : goal.returns-then-not-is_autocommit-clause-still
 returns-then-not-is_autocommit-clause-still g c = λ _ is_open. (is_open, refl, refl)
@@ -36,14 +39,13 @@ returns-in-Ok-clause-put g c = c.in-Ok.ensures.put
 pub returns-in-Ok-clause-settled : goal.returns-in-Ok-clause-settled
 returns-in-Ok-clause-settled g c = c.in-Ok.ensures.settled
 
-pub returns-in-Ok-clause-sound : goal.returns-in-Ok-clause-sound
-returns-in-Ok-clause-sound g c = c.in-Ok.ensures.sound
+pub returns-in-Ok-clause-made : goal.returns-in-Ok-clause-made
+returns-in-Ok-clause-made g c = c.make_register.ensures.crash
 
-pub returns-in-Ok-clause-crash : goal.returns-in-Ok-clause-crash
-returns-in-Ok-clause-crash g c = c.make_register.ensures.crash
+pub returns-in-Err-NoMemory-clause-left : goal.returns-in-Err-NoMemory-clause-left
+returns-in-Err-NoMemory-clause-left g c =
+    let is : c.in-Err-NoMemory.field-0 ≡ NoMemory = search rules in
+    survives_weaker (state g.S.Store c.args.conn.now) (state g.S.Store c.make_register.new.conn) _ _ (λ _ _ none. absurd none) (c.in-Err-NoMemory.ensures.quiet (ap is_store is))
 
-pub returns-in-Err-NoMemory-clause-crash : goal.returns-in-Err-NoMemory-clause-crash
-returns-in-Err-NoMemory-clause-crash g c = c.make_register.ensures.crash
-
-pub returns-in-Err-clause-crash : goal.returns-in-Err-clause-crash
-returns-in-Err-clause-crash g c = c.make_register.ensures.crash
+pub returns-in-Err-clause-left : goal.returns-in-Err-clause-left
+returns-in-Err-clause-left g c = survives_weaker (state g.S.Store c.args.conn.now) (state g.S.Store c.make_register.new.conn) _ _ (λ _ _ left. (refl, left)) c.make_register.ensures.crash

@@ -5,7 +5,7 @@ use Rattle.reg_tables.specs.declared.adopting.AdoptError.TheVariants.{Version}
 use Rattle.reg_tables.specs.Adoption.{Adopts}
 use Rattle.reg_tables.specs.Quiet.{clean_before}
 use Rattle.reg_tables.proofs.FormatLemmas.{refused_format, refused_tables}
-use Rattle.reg_tables.proofs.QueryLemmas.{settled_then}
+use Rattle.reg_tables.proofs.QueryLemmas.{both_open, settled_then}
 use Rattle.reg_tables.proofs.versions.refuse_tables.Goals as goal
 
 pub returns-in-Some-clause-refused : goal.returns-in-Some-clause-refused
@@ -23,13 +23,13 @@ returns-in-Ok-clause-refused g c clean =
     refused_tables (state g.S.Store c.args.conn.now).now rows c.requires.other (c.in-Ok.ensures.shown clean) (rw same at (c.in-None.ensures.none refl))
 
 pub returns-in-Some-clause-same : goal.returns-in-Some-clause-same
-returns-in-Some-clause-same g c clean well = let it = c.ask_meta.ensures.same clean (c.in-Ok.ensures.open clean) in (it.1, it.2)
+returns-in-Some-clause-same g c clean well = let o = c.in-Ok.ensures.open clean in let it = c.ask_meta.ensures.same clean o in (both_open o it.0, it.1, it.2)
 
 pub returns-in-Some-clause-still : goal.returns-in-Some-clause-still
 returns-in-Some-clause-still g c = c.ask_meta.ensures.same
 
 pub returns-in-Ok-clause-same : goal.returns-in-Ok-clause-same
-returns-in-Ok-clause-same g c clean well = let it = c.ask_meta.ensures.same clean (c.in-Ok.ensures.open clean) in (it.1, it.2)
+returns-in-Ok-clause-same g c clean well = let o = c.in-Ok.ensures.open clean in let it = c.ask_meta.ensures.same clean o in (both_open o it.0, it.1, it.2)
 
 pub returns-in-Ok-clause-still : goal.returns-in-Ok-clause-still
 returns-in-Ok-clause-still g c = c.ask_meta.ensures.same
@@ -39,7 +39,7 @@ returns-then-is_open-clause-same g c clean well =
     let is : IsTrue c.is_open.result = search rules in
     let at = (c.is_open.ensures.known clean is).0 in
     let early = clean_before (state g.S.Store c.ask_meta.new.conn) (state g.S.Store c.is_open.new.conn) c.is_open.ensures.crash clean in
-    let was = c.ask_meta.ensures.same early at.was_open in (at.now_is ∙ was.1, at.committed_is ∙ was.2)
+    let was = c.ask_meta.ensures.same early at.was_open in (both_open at.is_open was.0, at.now_is ∙ was.1, at.committed_is ∙ was.2)
 
 pub returns-then-is_open-clause-still : goal.returns-then-is_open-clause-still
 returns-then-is_open-clause-still g c clean is_open =

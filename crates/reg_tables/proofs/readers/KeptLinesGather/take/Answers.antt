@@ -3,7 +3,7 @@ use Rattle.reg_tables.proofs.ReadersLemmas.{line_more}
 use Rattle.reg_tables.proofs.readers.KeptLinesGather.take.Goals as goal
 
 pub returns-clause-taken : goal.returns-clause-taken
-returns-clause-taken c rows before =
+returns-clause-taken c first rows before =
     let old = c.args.self.now.lines.items in
     let line = c.in_ok-line.line in
     let pushed : c.push.new.self.items ≡ old ++ line ∷ [] = search rules in

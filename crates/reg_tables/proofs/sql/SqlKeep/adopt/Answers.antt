@@ -68,7 +68,7 @@ pub returns-in-Err-clause-refused : goal.returns-in-Err-clause-refused
 returns-in-Err-clause-refused g c = c.in-Err.ensures.adopts
 
 pub returns-in-Err-clause-same : goal.returns-in-Err-clause-same
-returns-in-Err-clause-same g c well clean = c.in-Err.ensures.quiet.same clean well
+returns-in-Err-clause-same g c well clean = let same = c.in-Err.ensures.quiet.same clean well in (c.in-Err.ensures.quiet.is_open clean well, same.0, same.1)
 
 pub returns-in-Err-clause-still : goal.returns-in-Err-clause-still
 returns-in-Err-clause-still g c = c.in-Err.ensures.quiet.still

@@ -8,7 +8,7 @@ use Rattle.reg_tables.proofs.RepeatsLemmas.{none_below}
 use Rattle.reg_tables.proofs.sql.SqlKeep.make.Goals as goal
 
 pub fill-requires : goal.fill-requires
-fill-requires g c = (c.args.dictionary, c.requires.read)
+fill-requires g c = record { short = c.requires.short; reads = (c.args.dictionary, c.requires.read) }
 
 pub invariant_of-result : goal.invariant_of-result
 invariant_of-result g c =
@@ -18,7 +18,7 @@ invariant_of-result g c =
       idle = made.mode;
       few = search rules;
       long = search rules;
-      kept = λ _ clean. new_keeps c.args.bytes.now c.args.dictionary new (made.put clean) (made.open clean) (made.settled clean) c.requires.short c.requires.read;
+      kept = λ _ clean. new_keeps c.args.bytes.now c.args.dictionary new (made.put clean) (made.open clean) (made.settled clean) c.requires.read;
       headed = λ _ clean. no_heads _ _ (search rules) (new_list c.args.bytes.now new (made.put clean) (made.settled clean));
       below = none_below c.new-in-Ok.result 1 c.new-in-Ok.ensures;
       digested = λ _ clean k d at. absurd (let none = subst (λ (all : List Sent). slice_get all k ≡ Some d) (new_list c.args.bytes.now new (made.put clean) (made.settled clean)) at in cc);
@@ -39,7 +39,7 @@ returns-in-Ok g c =
       working = refl;
       not_empty = tt;
       vacant = tt;
-      made = c.fill.ensures.crash;
+      made = made.made;
       left = tt;
       same = tt;
       still = tt;
@@ -58,7 +58,7 @@ returns-in-Err g c =
       not_empty = fault.not_empty;
       vacant = fault.vacant;
       made = tt;
-      left = c.fill.ensures.crash;
+      left = fault.left;
       same = fault.same;
       still = fault.still;
     }
