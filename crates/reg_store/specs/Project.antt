@@ -1,5 +1,5 @@
 -- The row of PROJ among the rows that are kept of a file, and the rows that a row has steps to.
-use Rattle.std.specs.Prelude.{ℕ, ◌+◌, ◌==◌, List, [], ◌∷◌, map, filter, Option, Some, None, option_map, if◌then◌else◌, codes}
+use Rattle.std.specs.Prelude.{ℕ, ◌+◌, ◌==◌, List, [], ◌∷◌, map, filter, Option, Some, None, if◌then◌else◌, codes}
 use Rattle.std.specs.Str.{bytes_eq}
 use Rattle.reg_store.specs.declared.keep.KeptRow.{KeptRow}
 use Rattle.reg_store.specs.declared.keep.ProjectRow.{ProjectRow}
@@ -15,10 +15,6 @@ project_from number headings (row ∷ rows) =
 -- The row of PROJ of a file, from the rows that are kept of it: its first DATA row of group PROJ, which is its only one where it has no finding (Rule 13).
 abbrev pub project_of : List KeptRow → Option ProjectRow
 project_of rows = project_from 0 [] rows
-
--- The number of the row of PROJ among the DATA rows of its file, if there is such a row.
-abbrev pub project_number : Option ProjectRow → Option ℕ
-project_number found = option_map (λ row. row.number) found
 
 -- The rows that the row has a step to, in the order of the steps.
 abbrev pub targets_of : ℕ → List (ℕ × ℕ) → List ℕ

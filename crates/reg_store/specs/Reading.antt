@@ -10,7 +10,7 @@ use Rattle.reg_store.specs.declared.keep.ProjectRow.{ProjectRow}
 use Rattle.reg_store.specs.Keep.{IsHeadOf}
 use Rattle.reg_store.specs.Sent.{Sent}
 use Rattle.reg_store.specs.Fit.{IsFileOf, kept_rows}
-use Rattle.reg_store.specs.Project.{project_number, project_of, targets_of}
+use Rattle.reg_store.specs.Project.{project_of, targets_of}
 
 -- The head is that of deposit n of the list.
 abbrev pub IsHeadAt : List Sent → ℕ → KeptHead → Type 0
@@ -31,10 +31,6 @@ HasGraph graph file = graph ≡ file.graph
 -- This is the file's row of PROJ, or None where it has none.
 abbrev pub HasProjectRow : Option ProjectRow → CheckedFile → Type 0
 HasProjectRow found file = found ≡ project_of (kept_rows file.groups)
-
--- This is the number of the file's row of PROJ among its DATA rows, from 0, or None where it has none.
-abbrev pub HasProjectAt : Option ℕ → CheckedFile → Type 0
-HasProjectAt found file = found ≡ project_number (project_of (kept_rows file.groups))
 
 -- These are the rows of the file to which the row has a step, in the order of the steps.
 abbrev pub HasTargets : ℕ → Vec ℕ Global → CheckedFile → Type 0

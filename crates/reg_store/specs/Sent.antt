@@ -1,5 +1,5 @@
 -- A deposit, the first that is equal to it, and the deposits of a project.
-use Rattle.std.specs.Prelude.{◌≡◌, ℕ, ℤ, ◌+◌, ◌&&◌, Bool, List, [], ◌∷◌, Option, Some, IfSome, if◌then◌else◌}
+use Rattle.std.specs.Prelude.{◌≡◌, ℕ, ℤ, ◌+◌, ◌&&◌, Bool, List, [], ◌∷◌, Option, if◌then◌else◌}
 use Rattle.std.specs.Str.{bytes_eq}
 use Rattle.std.specs.List.{position_from}
 
@@ -17,10 +17,6 @@ is_repeat firm project bytes d = bytes_eq d.firm firm && (bytes_eq d.project pro
 -- The number of the first equal deposit, from 1.
 abbrev pub number_of : List ℕ → List ℕ → List ℕ → List Sent → Option ℕ
 number_of firm project bytes list = position_from (is_repeat firm project bytes) 1 list
-
--- None, or the number of the first equal deposit.
-abbrev pub NoneOrNumber : Option ℕ → List ℕ → List ℕ → List ℕ → List Sent → Type 0
-NoneOrNumber result firm project bytes list = IfSome result (λ n. number_of firm project bytes list ≡ Some n)
 
 -- The numbers of a project's deposits, rising, where the first of the list has the number n.
 abbrev pub numbers_from : ℕ → List ℕ → List Sent → List ℕ

@@ -8,7 +8,7 @@ ghost use Rattle.reg_store.specs.Reading.{HasGraph, HasKeptRows, HasProjectRow, 
 ghost use Rattle.reg_store.specs.PlainLaws.{few_of, fit_of};
 
 use crate::keep::{Keep, KeepError, Kept, KeptHead, KeptRow, MOST, ProjectRow, is_equal};
-use crate::project::{project_in, project_number, targets_in};
+use crate::project::{project_in, targets_in};
 use crate::rows::kept_rows;
 use ags_check::{CheckError, Checked, check};
 use ags_dict::Dictionary;
@@ -233,10 +233,6 @@ impl Keep for PlainKeep {
         Ok(find_in(self.kept.as_slice(), firm, project, bytes))
     }
 
-    fn recall(&self, firm: &Name, project: &Name, bytes: &[u8]) -> Option<u32> {
-        find_in(self.kept.as_slice(), firm, project, bytes)
-    }
-
     fn add(
         &mut self,
         firm: &Name,
@@ -284,11 +280,6 @@ impl Keep for PlainKeep {
     fn project_row(&mut self, n: u32) -> Result<Option<ProjectRow>, KeepError> {
         let found = checked_project(self.alloc, &self.dictionary, &self.kept[n as usize - 1])?;
         Ok(found)
-    }
-
-    fn project_number(&mut self, n: u32) -> Result<Option<u32>, KeepError> {
-        let found = self.project_row(n)?;
-        Ok(project_number(found))
     }
 
     fn targets(&mut self, n: u32, row: u32) -> Result<Vec<u32>, KeepError> {

@@ -1,7 +1,7 @@
 //! The row of PROJ of a file, and the rows that a row has steps to.
 
 ghost use Rattle.std.specs.Prelude.{◌≡◌, IfOk};
-ghost use Rattle.reg_store.specs.Project.{project_number, project_of, targets_of};
+ghost use Rattle.reg_store.specs.Project.{project_of, targets_of};
 
 use crate::keep::{KeptRow, ProjectRow};
 use ags_text::copy;
@@ -49,13 +49,6 @@ pub fn project_in(alloc: Global, rows: &[KeptRow]) -> Result<Option<ProjectRow>,
         }
     }
     Ok(None)
-}
-
-/// The number of the row of PROJ among the DATA rows of its file, from 0, if there is such a row.
-pub fn project_number(found: Option<ProjectRow>) -> Option<u32>
-    ensures { result ≡ project_number found }
-{
-    found.map(|row| row.number)
 }
 
 /// The rows that the row has a step to, in the order of the steps.

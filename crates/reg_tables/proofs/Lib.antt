@@ -10,8 +10,7 @@ pub mod ProjectLemmas
 pub mod RowsLemmas
 pub mod HeadsLemmas
 pub mod RepeatsLemmas
-pub mod RecentLemmas
-pub mod FrontsLemmas
+pub mod MemoryLemmas
 pub mod ExamineLemmas
 pub mod SchemaLemmas
 pub mod CompareLemmas

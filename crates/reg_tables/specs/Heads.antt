@@ -1,4 +1,4 @@
--- The heads of a register's deposits, which stand in memory.
+-- The heads of a register's deposits.
 use Rattle.std.specs.Prelude.{◌≡◌, ℕ, Bool, true, List, [], ◌∷◌, ◌++◌, length, map, Result, Ok}
 use Rattle.std.specs.declared.alloc.Global.{Global}
 use Rattle.std.specs.declared.vec.Vec.{Vec}
@@ -19,10 +19,6 @@ head_of d = record { firm = d.firm; project = d.project; embargo = d.embargo }
 -- The heads are, in order, those of the deposits.
 abbrev pub AreHeads : List KeptHead → List Sent → Type 0
 AreHeads heads list = heads ≡ map head_of list
-
--- A deposit of this head that has no bytes.
-abbrev pub bare_of : KeptHead → Sent
-bare_of head = record { firm = head.firm; project = head.project; embargo = head.embargo; bytes = [] }
 
 -- The head and the digest are those of the deposit.
 abbrev pub IsDigestedFrom : Sent → DigestedHead → Type 0

@@ -25,10 +25,8 @@ pub mod ReadsProject
 pub mod Methods
 pub mod DataCount
 pub mod Small
-pub mod Recent
+pub mod Memory
 pub mod Found
-pub mod Places
-pub mod Fronts
 pub mod Formats
 pub mod Ordered
 pub mod Schemas

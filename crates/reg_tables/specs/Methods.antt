@@ -57,6 +57,10 @@ HoldsLines db n rows = IsPermutation (placed_rows 0 rows) (rows_under n (line_ta
 abbrev pub HoldsSteps : Database → ℕ → List (ℕ × ℕ) → Type 0
 HoldsSteps db n steps = IsPermutation (map step_pair steps) (rows_under n (step_table db.trees))
 
+-- The rows are those of the file whose rows the table `lines` holds under the number.
+abbrev pub AreRowsAt : Database → ℕ → List KeptRow → Type 0
+AreRowsAt db n rows = (file : List KeptRow) → HoldsLines db n file → rows ≡ file
+
 rows_set : (a b : List KeptRow) → IsProp (a ≡ b)
 rows_set a b = Prim.hlevel props
 

@@ -20,9 +20,8 @@ ghost use Rattle.reg_tables.specs.Opened.{AdoptsFiles, FindsEmpty, FindsNotEmpty
 use crate::adopting::AdoptError;
 use crate::creating::make_register;
 use crate::examining::examine;
-use crate::fronts::Fronts;
+use crate::memory::Memory;
 use crate::reading::read_error;
-use crate::recent::Recent;
 use crate::repeats::Digests;
 use crate::schema::{is_register, is_vacant};
 use crate::sql::SqlKeep;
@@ -140,11 +139,7 @@ impl<S: Alter> SqlKeep<S> {
             Ok(()) => Ok(SqlKeep {
                 connection,
                 dictionary,
-                count: 0,
-                heads: Vec::new(alloc),
-                digests: Digests::new(alloc),
-                recent: Recent::none(),
-                fronts: Fronts::new(alloc),
+                memory: Memory::new(alloc),
                 has_failed: false,
                 alloc,
             }),
@@ -234,17 +229,16 @@ impl<S: Alter> SqlKeep<S> {
         let mut heads = Vec::new(alloc);
         let mut digests = Digests::new(alloc);
         match examine(&mut connection, alloc, &mut heads, &mut digests) {
-            Ok((dictionary, count)) => Ok(SqlKeep {
-                connection,
-                dictionary,
-                count,
-                heads,
-                digests,
-                recent: Recent::none(),
-                fronts: Fronts::new(alloc),
-                has_failed: false,
-                alloc,
-            }),
+            Ok((dictionary, _count)) => match Memory::of(alloc, &heads, digests) {
+                Ok(memory) => Ok(SqlKeep {
+                    connection,
+                    dictionary,
+                    memory,
+                    has_failed: false,
+                    alloc,
+                }),
+                Err(_) => Err((AdoptError::NoMemory, connection)),
+            },
             Err(error) => Err((error, connection)),
         }
     }

@@ -8,8 +8,7 @@ ghost use Rattle.reg_tables.specs.Found.{AreMetaByName, FindsAll, OfSteps, rows_
 ghost use Rattle.reg_tables.specs.Digests.{IsRowOf};
 ghost use Rattle.reg_store.specs.Keep.{fails, deposit_of};
 ghost use Rattle.reg_tables.specs.Rows.{line_table, step_table, placed_rows, step_pair, rows_under, columns_3};
-ghost use Rattle.reg_tables.specs.Methods.{HasRows, HoldsLines, HoldsSteps};
-ghost use Rattle.reg_tables.specs.Recent.{AreRowsAt};
+ghost use Rattle.reg_tables.specs.Methods.{AreRowsAt, HasRows, HoldsLines, HoldsSteps};
 ghost use Rattle.reg_store.specs.Fit.{IsNamed};
 
 use crate::gathering::take_shown;

@@ -1,18 +1,17 @@
-//! What was read last, which stands in memory: the rows and the steps of a deposit, and the deposit that was found as equal.
+//! The rows and the steps of a deposit that were read last, in memory.
 
-ghost use Rattle.std.specs.Prelude.{◌≡◌, ◌≤◌, length, Some, IsTrue, IfOk, IfSome};
+ghost use Rattle.std.specs.Prelude.{◌≡◌, ◌≤◌, length, IsTrue, IfOk, IfSome};
 ghost use Rattle.reg_tables.specs.Small.{AreSmall};
 
 use ags_links::Graph;
-use ags_text::{Bytes, copy};
-use reg_policy::Name;
-use reg_store::{KeepError, KeptRow, copy_graph};
+use ags_text::copy;
+use reg_store::{KeptRow, copy_graph};
 use std::alloc::{AllocError, Global};
 
 /// The most rows, and the most steps, that stand in memory.
 const MOST_ROWS: usize = 4_096;
 
-/// The most bytes of group names and lines, and the most bytes of a body, that stand in memory.
+/// The most bytes of group names and lines that stand in memory.
 const MOST_BYTES: usize = 65_536;
 
 /// The rows of a deposit.
@@ -29,128 +28,6 @@ pub(crate) struct RecentGraph {
     pub(crate) number: u32,
     pub(crate) graph: Graph,
     ghost few: { length graph.steps ≤ 4096 },
-}
-
-/// A firm, a project and a body, and the number of the first deposit that is equal in them.
-#[derive(Drop)]
-pub(crate) struct RecentDeposit {
-    pub(crate) number: u32,
-    pub(crate) firm: Name,
-    pub(crate) project: Name,
-    pub(crate) body: Bytes,
-}
-
-/// What was read last, where it is small.
-#[derive(Drop)]
-pub(crate) struct Recent {
-    pub(crate) rows: Option<RecentRows>,
-    pub(crate) graph: Option<RecentGraph>,
-    pub(crate) found: Option<RecentDeposit>,
-}
-
-impl Recent {
-    ghost use Rattle.sqlite.specs.Effect.{Database};
-    ghost use Rattle.reg_tables.specs.Recent.{AreRowsAt, HoldsRecent, IsGraphAt, NotesFound, equal_number};
-
-    /// Nothing.
-    pub(crate) fn none() -> Recent
-        ensures { (db : Database) → HoldsRecent db result }
-    {
-        Recent {
-            rows: None,
-            graph: None,
-            found: None,
-        }
-    }
-
-    /// Lets go of what was read.
-    pub(crate) fn clear(&mut self)
-        ensures { (db : Database) → HoldsRecent db self.new }
-    {
-        *self = Recent::none();
-    }
-
-    /// The rows of a deposit, if they stand here.
-    pub(crate) fn rows_of(&self, number: u32) -> Option<&[KeptRow]>
-        ensures held { (db : Database) → HoldsRecent db self.now
-            → IfSome result (λ rows. AreRowsAt db number rows.now) }
-        ensures small { IfSome result (λ rows. AreSmall rows.now) }
-    {
-        match &self.rows {
-            Some(held) if held.number == number => Some(held.rows.as_slice()),
-            _ => None,
-        }
-    }
-
-    /// The steps of a deposit, if they stand here.
-    pub(crate) fn graph_of(&self, number: u32) -> Option<&Graph>
-        ensures { (db : Database) → HoldsRecent db self.now → IfSome result (λ graph. IsGraphAt db number graph.now) }
-    {
-        match &self.graph {
-            Some(held) if held.number == number => Some(&held.graph),
-            _ => None,
-        }
-    }
-
-    /// The number of the first deposit that is equal in firm, project and bytes, if it stands here.
-    pub(crate) fn recall(&self, firm: &Name, project: &Name, bytes: &[u8]) -> Option<u32>
-        ensures { (db : Database) → HoldsRecent db self.now
-            → IfSome result (λ n. equal_number db firm.now project.now bytes.now ≡ Some n) }
-    {
-        match &self.found {
-            Some(held) if is_found(held, firm, project, bytes) => Some(held.number),
-            _ => None,
-        }
-    }
-
-    /// Keeps a copy of the deposit that was found as equal, if its body is short and there is memory for it.
-    pub(crate) fn note_found(
-        &mut self,
-        alloc: Global,
-        firm: &Name,
-        project: &Name,
-        bytes: &[u8],
-        found: &Result<Option<u32>, KeepError>,
-    )
-        ensures { NotesFound self.old self.new firm.now project.now bytes.now found.now }
-    {
-        if bytes.len() > MOST_BYTES {
-            return;
-        }
-        let Ok(Some(number)) = found else {
-            return;
-        };
-        if let Ok(copied) = copy_deposit(alloc, *number, firm, project, bytes) {
-            self.found = Some(copied);
-        }
-    }
-}
-
-/// Whether firm, project and body are these.
-fn is_found(held: &RecentDeposit, firm: &Name, project: &Name, bytes: &[u8]) -> bool
-    ensures { IsTrue result
-        → (held.now.firm ≡ firm.now) × (held.now.project ≡ project.now) × (held.now.body ≡ bytes.now) }
-{
-    held.firm == *firm && held.project == *project && held.body.as_slice() == bytes
-}
-
-/// A number, with copies of a firm, a project and a body.
-fn copy_deposit(
-    alloc: Global,
-    number: u32,
-    firm: &Name,
-    project: &Name,
-    bytes: &[u8],
-) -> Result<RecentDeposit, AllocError>
-    ensures { IfOk result (λ copied.
-        copied ≡ record { number = number; firm = firm.now; project = project.now; body = bytes.now }) }
-{
-    Ok(RecentDeposit {
-        number,
-        firm: firm.clone()?,
-        project: project.clone()?,
-        body: copy(alloc, bytes)?,
-    })
 }
 
 /// Whether the rows are so few, and so short, that they may stand in memory.

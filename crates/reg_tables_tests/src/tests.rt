@@ -24,14 +24,11 @@ use std::fmt::Write;
 enum Call {
     /// `find` of a firm's file for a project, and `add` where there is none.
     Take(&'static str, &'static str, File),
-    /// `recall` of a firm's file for a project.
-    Recall(&'static str, &'static str, File),
     Deposit(u32),
     Head(u32),
     Rows(u32),
     Steps(u32),
     Project(u32),
-    ProjectNumber(u32),
     /// `targets` of a deposit's row.
     Targets(u32, u32),
     Numbers(&'static str),
@@ -349,19 +346,6 @@ fn tell_project<K: Keep>(
     }
 }
 
-fn tell_project_number<K: Keep>(keep: &mut K, n: u32, told: &mut String) -> Result<(), KeepError>
-    requires { K.has_failed keep.old ≡ false }
-    ensures { OnOk result (K.has_failed keep.new ≡ false) }
-{
-    if !is_held(keep, n) {
-        return Ok(());
-    }
-    match keep.project_number(n)? {
-        Some(number) => Ok(write!(told, "{number}")?),
-        None => Ok(()),
-    }
-}
-
 fn tell_targets<K: Keep>(keep: &mut K, n: u32, row: u32, told: &mut String) -> Result<(), KeepError>
     requires { K.has_failed keep.old ≡ false }
     ensures { OnOk result (K.has_failed keep.new ≡ false) }
@@ -416,24 +400,6 @@ fn tell_take<K: Keep>(
     Ok(tell_taken(number, told)?)
 }
 
-/// The number of the equal deposit, or nothing where it is not known.
-fn tell_recall<K: Keep>(
-    alloc: Global,
-    keep: &K,
-    firm: &str,
-    project: &str,
-    file: File,
-    told: &mut String,
-) -> Result<(), KeepError> {
-    let firm = name(alloc, firm)?;
-    let project = name(alloc, project)?;
-    let bytes = bytes_of(alloc, file)?;
-    match keep.recall(&firm, &project, bytes.as_slice()) {
-        Some(number) => Ok(tell_taken(number, told)?),
-        None => Ok(()),
-    }
-}
-
 /// Adds the answer of a call to a text.
 fn tell<K: Keep>(
     alloc: Global,
@@ -446,13 +412,11 @@ fn tell<K: Keep>(
 {
     match call {
         Call::Take(firm, project, file) => tell_take(alloc, keep, firm, project, file, told),
-        Call::Recall(firm, project, file) => tell_recall(alloc, keep, firm, project, file, told),
         Call::Deposit(n) => tell_deposit(keep, n, told),
         Call::Head(n) => tell_head(keep, n, told),
         Call::Rows(n) => tell_rows(alloc, keep, n, told),
         Call::Steps(n) => tell_steps(keep, n, told),
         Call::Project(n) => tell_project(alloc, keep, n, told),
-        Call::ProjectNumber(n) => tell_project_number(keep, n, told),
         Call::Targets(n, row) => tell_targets(keep, n, row, told),
         Call::Numbers(project) => tell_numbers(alloc, keep, project, told),
         Call::Sizes => Ok(tell_sizes(keep, told)?),

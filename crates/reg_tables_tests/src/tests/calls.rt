@@ -12,7 +12,7 @@ use sqlite::Alter;
 use std::alloc::Global;
 use std::test::Fail;
 
-static CASES: [Case; 21] = [
+static CASES: [Case; 20] = [
     Case {
         call: Call::Sizes,
         want: "0 of 999999, 10 and 38 entries",
@@ -61,10 +61,6 @@ static CASES: [Case; 21] = [
     Case {
         call: Call::Project(1),
         want: "0 \"HEADING\",\"PROJ_ID\",\"PROJ_NAME\" \"DATA\",\"P7\",\"North bank\"",
-    },
-    Case {
-        call: Call::ProjectNumber(1),
-        want: "0",
     },
     Case {
         call: Call::Targets(1, 9),
@@ -137,7 +133,7 @@ const PROJECT_OF_OTHER_A: &str =
     "0 \"HEADING\",\"PROJ_ID\",\"PROJ_NAME\" \"DATA\",\"P7\",\"Forth bank\"";
 
 /// What is asked twice, of another deposit, and behind one that was added.
-static AGAIN: [Case; 39] = [
+static AGAIN: [Case; 30] = [
     Case {
         call: Call::Take("Delta", "N1", File::B),
         want: "1",
@@ -248,55 +244,18 @@ static AGAIN: [Case; 39] = [
         call: Call::Targets(1, 9),
         want: "7;",
     },
-    // Its number is told from the row in memory, and before the row stands there, also where PROJ is a later group.
-    Case {
-        call: Call::ProjectNumber(4),
-        want: "0",
-    },
+    // The row of PROJ of a file in which PROJ is a later group.
     Case {
         call: Call::Take("Delta", "N2", File::LateProject),
         want: "6",
-    },
-    Case {
-        call: Call::ProjectNumber(6),
-        want: "4",
-    },
-    Case {
-        call: Call::ProjectNumber(6),
-        want: "4",
     },
     Case {
         call: Call::Project(6),
         want: "4 \"HEADING\",\"PROJ_ID\",\"PROJ_NAME\" \"DATA\",\"P7\",\"North bank\"",
     },
     Case {
-        call: Call::ProjectNumber(5),
-        want: "0",
-    },
-    Case {
         call: Call::Targets(6, 5),
         want: "4;",
-    },
-    // The deposit that was found last is known by its firm, its project and its body.
-    Case {
-        call: Call::Take("Delta", "N1", File::B),
-        want: "1",
-    },
-    Case {
-        call: Call::Recall("Delta", "N1", File::B),
-        want: "1",
-    },
-    Case {
-        call: Call::Recall("Gamma", "N2", File::B),
-        want: "",
-    },
-    Case {
-        call: Call::Recall("Delta", "N3", File::B),
-        want: "",
-    },
-    Case {
-        call: Call::Recall("Delta", "N1", File::A),
-        want: "",
     },
 ];
 

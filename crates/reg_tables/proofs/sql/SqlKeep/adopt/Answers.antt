@@ -1,10 +1,11 @@
-use Rattle.std.proofs.Common.{rules, ◌≡◌, IsTrue, refl, sym, subst, ◌∙◌}
+use Rattle.std.proofs.Common.{rules, ◌≡◌, ◌+◌, IsTrue, ap, length, refl, sym, subst, ◌∙◌}
 use Rattle.sqlite.specs.State.{HasCleanDisk}
 use Rattle.sqlite.specs.Held.{state}
-use Rattle.reg_tables.specs.KeepLaws.{adopted_keeps, adopted_list}
+use Rattle.reg_tables.specs.Digests.{AreBelow}
+use Rattle.reg_tables.specs.KeepLaws.{adopted_keeps, adopted_list, counted_at}
+use Rattle.reg_tables.specs.Register.{KeepsRegister, deposits_in}
 use Rattle.reg_tables.proofs.SchemaLemmas.{register_is}
 use Rattle.reg_tables.proofs.FormatLemmas.{autocommit_idle, meta_first}
-use Rattle.reg_tables.proofs.FrontsLemmas.{no_fronts}
 use Rattle.reg_tables.proofs.HeadsLemmas.{heads_found}
 use Rattle.reg_tables.proofs.QueryLemmas.{survives_none}
 use Rattle.reg_tables.proofs.RepeatsLemmas.{digested_found}
@@ -37,21 +38,20 @@ invariant_of-result g c =
     let was : IsTrue old.is_open = subst IsTrue (made.quiet.is_open clean refl) opened in
     let same = made.quiet.same clean refl in
     let settled : old.now ≡ old.committed = search (rules, was) in
-    adopted_keeps old new c.in-Ok.dictionary c.in-Ok.count opened same.0 (same.1 ∙ sym settled ∙ sym same.0) (made.adopts clean)) in
+    adopted_keeps old new c.in-Ok.dictionary c.in-Ok._count opened same.0 (same.1 ∙ sym settled ∙ sym same.0) (made.adopts clean)) in
+    let heads : c.deref.result.now ≡ c.examine.new.heads.items = search rules in
+    let long = c.in-Ok-of.ensures.long ∙ ap length heads ∙ made.long in
     record {
       idle = made.quiet.idle;
-      few = made.few;
-      long = made.long;
-      kept = λ _ clean. kept clean;
-      headed = λ _ clean. heads_found new c.in-Ok.dictionary c.in-Ok.count old.now c.examine.new.heads.items (kept clean) (made.quiet.same clean refl).0 (made.heads clean);
-      below = made.below;
-      digested = λ _ clean. digested_found new c.in-Ok.dictionary c.in-Ok.count old.now c.examine.new.digests (kept clean) (made.quiet.same clean refl).0 (made.digests clean);
-      held = λ _ _. c.none.ensures _;
-      fronted = λ _ _. no_fronts c.new.result _ _ c.new.ensures.rows c.new.ensures.alone;
+      kept = λ _ clean. subst (λ n. ∥ KeepsRegister new c.in-Ok.dictionary n ∥₁) (sym long) (kept clean);
+      agrees = λ _ clean. c.in-Ok-of.ensures.agrees c.in-Ok.dictionary (deposits_in new.committed.trees)
+          (heads ∙ heads_found new c.in-Ok.dictionary c.in-Ok._count old.now c.examine.new.heads.items (kept clean) (made.quiet.same clean refl).0 (made.heads clean))
+          (digested_found new c.in-Ok.dictionary c.in-Ok._count old.now c.examine.new.digests (kept clean) (made.quiet.same clean refl).0 (made.digests clean))
+          (subst (λ n. AreBelow c.examine.new.digests (n + 1)) (counted_at {s = new} (kept clean)) made.below);
     }
 
-pub returns-in-Ok-clause-adopted : goal.returns-in-Ok-clause-adopted
-returns-in-Ok-clause-adopted g c clean =
+pub returns-in-Ok-of-clause-adopted : goal.returns-in-Ok-of-clause-adopted
+returns-in-Ok-of-clause-adopted g c clean =
     let old = state g.S.Store c.args.connection in
     let new = state g.S.Store c.examine.new.conn in
     let made = c.in-Ok.ensures in
@@ -59,22 +59,10 @@ returns-in-Ok-clause-adopted g c clean =
     let was : IsTrue old.is_open = subst IsTrue (made.quiet.is_open clean refl) opened in
     let same = made.quiet.same clean refl in
     let settled : old.now ≡ old.committed = search (rules, was) in
-    adopted_list old new c.in-Ok.dictionary c.in-Ok.count same.0 (same.1 ∙ sym settled ∙ sym same.0) (made.adopts clean)
+    adopted_list old new c.in-Ok.dictionary c.in-Ok._count same.0 (same.1 ∙ sym settled ∙ sym same.0) (made.adopts clean)
 
-pub returns-in-Ok-clause-quiet : goal.returns-in-Ok-clause-quiet
-returns-in-Ok-clause-quiet g c = c.in-Ok.ensures.quiet.survives
-
-pub returns-in-Err-clause-refused : goal.returns-in-Err-clause-refused
-returns-in-Err-clause-refused g c = c.in-Err.ensures.adopts
-
-pub returns-in-Err-clause-same : goal.returns-in-Err-clause-same
-returns-in-Err-clause-same g c well clean = let same = c.in-Err.ensures.quiet.same clean well in (c.in-Err.ensures.quiet.is_open clean well, same.0, same.1)
-
-pub returns-in-Err-clause-still : goal.returns-in-Err-clause-still
-returns-in-Err-clause-still g c = c.in-Err.ensures.quiet.still
-
-pub returns-in-Err-clause-left : goal.returns-in-Err-clause-left
-returns-in-Err-clause-left g c = c.in-Err.ensures.quiet.survives
+pub returns-in-Ok-of-clause-quiet : goal.returns-in-Ok-of-clause-quiet
+returns-in-Ok-of-clause-quiet g c = c.in-Ok.ensures.quiet.survives
 
 pub returns-then-not-is_register-clause-refused : goal.returns-then-not-is_register-clause-refused
 returns-then-not-is_register-clause-refused g c = c.refuse_tables-error.ensures.refused

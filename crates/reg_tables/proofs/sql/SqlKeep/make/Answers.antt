@@ -1,10 +1,9 @@
-use Rattle.std.proofs.Common.{rules, ◌≡◌, List, Some, slice_get, refl, subst}
+use Rattle.std.proofs.Common.{◌≡◌, List, length, refl, subst, sym, ap}
 use Rattle.sqlite.specs.Held.{state}
-use Rattle.reg_tables.proofs.CreateLemmas.{new_list, new_keeps}
-use Rattle.reg_tables.proofs.FrontsLemmas.{no_fronts}
-use Rattle.reg_tables.proofs.HeadsLemmas.{no_heads}
 use Rattle.reg_store.specs.Sent.{Sent}
-use Rattle.reg_tables.proofs.RepeatsLemmas.{none_below}
+use Rattle.reg_tables.specs.Memory.{Agrees}
+use Rattle.reg_tables.specs.Register.{KeepsRegister}
+use Rattle.reg_tables.proofs.CreateLemmas.{new_list, new_keeps}
 use Rattle.reg_tables.proofs.sql.SqlKeep.make.Goals as goal
 
 pub fill-requires : goal.fill-requires
@@ -16,14 +15,9 @@ invariant_of-result g c =
     let made = c.in-Ok.ensures in
     record {
       idle = made.mode;
-      few = search rules;
-      long = search rules;
-      kept = λ _ clean. new_keeps c.args.bytes.now c.args.dictionary new (made.put clean) (made.open clean) (made.settled clean) c.requires.read;
-      headed = λ _ clean. no_heads _ _ (search rules) (new_list c.args.bytes.now new (made.put clean) (made.settled clean));
-      below = none_below c.new-in-Ok.result 1 c.new-in-Ok.ensures;
-      digested = λ _ clean k d at. absurd (let none = subst (λ (all : List Sent). slice_get all k ≡ Some d) (new_list c.args.bytes.now new (made.put clean) (made.settled clean)) at in cc);
-      held = λ _ _. c.none.ensures new.now;
-      fronted = λ _ _. no_fronts c.new-in-Ok-2.result _ _ c.new-in-Ok-2.ensures.rows c.new-in-Ok-2.ensures.alone;
+      kept = λ _ clean. subst (λ n. ∥ KeepsRegister new c.args.dictionary n ∥₁) (sym (ap length c.new.ensures.none))
+          (new_keeps c.args.bytes.now c.args.dictionary new (made.put clean) (made.open clean) (made.settled clean) c.requires.read);
+      agrees = λ _ clean. subst (λ (list : List Sent). Agrees c.new.result c.args.dictionary list) (sym (new_list c.args.bytes.now new (made.put clean) (made.settled clean))) (c.new.ensures.agrees c.args.dictionary);
     }
 
 pub returns-in-Ok : goal.returns-in-Ok

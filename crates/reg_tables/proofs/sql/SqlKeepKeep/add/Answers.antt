@@ -1,21 +1,18 @@
-use Rattle.std.proofs.Common.{arith, ◌≡◌, ◌<◌, false, length, refl, sym, ap, subst, ◌+◌, ◌++◌, ◌∷◌, [], ◌∙◌}
-use Rattle.std.proofs.lemmas.List.{length_push}
+use Rattle.std.proofs.Common.{arith, ℕ, List, ◌≡◌, ◌<◌, false, length, refl, sym, ap, subst, ◌+◌, ◌++◌, ◌∷◌, [], ◌∙◌}
 use Rattle.sqlite.specs.Effect.{Database}
-use Rattle.sqlite.specs.State.{HasCleanDisk}
+use Rattle.sqlite.specs.State.{HasCleanDisk, Survives}
 use Rattle.sqlite.specs.Held.{state}
 use Rattle.reg_store.specs.Sent.{Sent}
 use Rattle.reg_store.specs.Keep.{is_store}
+use Rattle.reg_store.specs.Fit.{IsFileOf, kept_rows}
 use Rattle.reg_tables.specs.Quiet.{clean_before}
 use Rattle.reg_tables.specs.Rows.{deposit_from}
-use Rattle.reg_store.specs.Fit.{IsFileOf, kept_rows}
-use Rattle.reg_tables.specs.Register.{deposits_in}
+use Rattle.reg_tables.specs.Inserts.{AddsFile}
+use Rattle.reg_tables.specs.Memory.{Agrees, IsComing}
+use Rattle.reg_tables.specs.Register.{KeepsRegister, deposits_in}
 use Rattle.reg_tables.specs.RegisterLaws.{IsReady}
-use Rattle.reg_tables.specs.KeepLaws.{idle_at, settled_of, keeps_same, HoldsMore, adds_at, counted_at, crash_at, whole_put}
-use Rattle.reg_tables.specs.Digests.{AddsNumber, digest_of, own_digest}
+use Rattle.reg_tables.specs.KeepLaws.{PutsOf, idle_at, settled_of, keeps_same, HoldsMore, adds_at, counted_at, crash_at, whole_put}
 use Rattle.reg_tables.proofs.AddsLemmas.{opened_at}
-use Rattle.reg_tables.proofs.FrontsLemmas.{fronts_push, fronts_same}
-use Rattle.reg_tables.proofs.HeadsLemmas.{heads_push, heads_same}
-use Rattle.reg_tables.proofs.RepeatsLemmas.{below_more, below_same, digested_push, digested_same, noted_adds}
 use Rattle.reg_tables.proofs.sql.SqlKeepKeep.add.Given.{Over}
 use Rattle.reg_tables.proofs.sql.SqlKeepKeep.add.Goals as goal
 
@@ -24,28 +21,13 @@ add_checked-added-requires g c =
     let keep = c.args.self.now in
     record { idle = idle_at (state g.S.Store keep.connection) keep.idle (keep.kept c.requires.working); is_open = λ clean. opened_at (keep.kept c.requires.working clean) }
 
--- ---- where the file was added
+-- ---- where no memory is left, or the store refused
 
-abbrev added : (g : Over) → goal.After-note g → Sent
-added g c = deposit_from c.args.firm.now c.args.project.now c.args.embargo c.args.checked.now.bytes
+pub invariant_of-self-clause-kept : goal.invariant_of-self-clause-kept
+invariant_of-self-clause-kept g c works clean = subst (λ n. ∥ KeepsRegister (state g.S.Store c.args.self.now.connection) c.args.self.now.dictionary n ∥₁) (sym c.make_room-room.ensures.same) (c.args.self.now.kept works clean)
 
--- the keep that held the list holds it with the deposit
-more : (g : Over) (c : goal.After-note g) → HasCleanDisk (state g.S.Store c.add_checked-added.new.conn)
-    → HoldsMore (state g.S.Store c.args.self.now.connection) (state g.S.Store c.add_checked-added.new.conn) c.args.self.now.dictionary c.args.self.now.count (added g c)
-more g c clean =
-    let keep = c.args.self.now in
-    let old = state g.S.Store keep.connection in
-    let new = state g.S.Store c.add_checked-added.new.conn in
-    let first = clean_before old new c.add_checked-added.ensures.crash clean in
-    let file = c.args.checked.now in
-    let d = added g c in
-    let low : keep.count < 999999 = omega arith in
-    let fit : IsFileOf keep.dictionary d file = record { given = c.requires.dictionary; bytes = refl; clean = c.bytes.ensures.clean; short = c.requires.short } in
-    let ready : IsReady keep.dictionary (deposits_in old.committed.trees) d file = record { its = fit; named = c.add_checked-added.ensures.fit; fresh = c.requires.fresh first } in
-    adds_at {old = old} {new = new} d file (keep.kept c.requires.working first) low (c.in-Ok-added.ensures.put clean) (c.in-Ok-added.ensures.sound clean) (c.in-Ok-added.ensures.settled clean) (c.in-Ok-added.ensures.open clean refl) ready
-
-pub invariant_of-self-in-Ok-added-clause-kept : goal.invariant_of-self-in-Ok-added-clause-kept
-invariant_of-self-in-Ok-added-clause-kept g c works clean = (more g c clean).kept
+pub invariant_of-self-clause-agrees : goal.invariant_of-self-clause-agrees
+invariant_of-self-clause-agrees g c works clean = c.make_room-room.ensures.agrees _ _ (c.args.self.now.agrees works clean)
 
 pub invariant_of-self-in-Err-clause-kept : goal.invariant_of-self-in-Err-clause-kept
 invariant_of-self-in-Err-clause-kept g c works clean =
@@ -56,88 +38,68 @@ invariant_of-self-in-Err-clause-kept g c works clean =
     let bare : is_store c.in-Err.error ≡ false = sym c.is_store_error-self.ensures ∙ works in
     let was = keep.kept c.requires.working first in
     let undone = c.in-Err.ensures.undone clean bare in
-    keeps_same {old = old} {new = new} was (c.in-Err.ensures.open clean bare) (undone.0 ∙ settled_of was) undone.1
+    subst (λ n. ∥ KeepsRegister new keep.dictionary n ∥₁) (sym c.make_room-room.ensures.same) (keeps_same {old = old} {new = new} was (c.in-Err.ensures.open clean bare) (undone.0 ∙ settled_of was) undone.1)
 
-pub invariant_of-self-in-Ok-added-clause-headed : goal.invariant_of-self-in-Ok-added-clause-headed
-invariant_of-self-in-Ok-added-clause-headed g c works clean =
+pub invariant_of-self-in-Err-clause-agrees : goal.invariant_of-self-in-Err-clause-agrees
+invariant_of-self-in-Err-clause-agrees g c works clean =
     let keep = c.args.self.now in
     let old = state g.S.Store keep.connection in
     let new = state g.S.Store c.add_checked-added.new.conn in
     let first = clean_before old new c.add_checked-added.ensures.crash clean in
+    let bare : is_store c.in-Err.error ≡ false = sym c.is_store_error-self.ensures ∙ works in
+    subst (λ (db : Database). Agrees c.make_room-room.new.self keep.dictionary (deposits_in db.trees)) (sym (c.in-Err.ensures.undone clean bare).1)
+    (c.make_room-room.ensures.agrees keep.dictionary (deposits_in old.committed.trees) (keep.agrees c.requires.working first))
+
+-- ---- where the file was added
+
+abbrev added : (g : Over) → goal.After-push g → Sent
+added g c = deposit_from c.args.firm.now c.args.project.now c.args.embargo c.args.checked.now.bytes
+
+ready : (g : Over) (c : goal.After-push g) → HasCleanDisk (state g.S.Store c.add_checked-added.new.conn)
+    → IsReady c.args.self.now.dictionary (deposits_in (state g.S.Store c.args.self.now.connection).committed.trees) (added g c) c.args.checked.now
+ready g c clean =
+    let first = clean_before (state g.S.Store c.args.self.now.connection) (state g.S.Store c.add_checked-added.new.conn) c.add_checked-added.ensures.crash clean in
+    let fit : IsFileOf c.args.self.now.dictionary (added g c) c.args.checked.now = record { given = c.requires.dictionary; bytes = refl; clean = c.bytes.ensures.clean; short = c.requires.short } in
+    record { its = fit; named = c.add_checked-added.ensures.fit; fresh = c.requires.fresh first }
+
+put : (g : Over) (c : goal.After-push g) → HasCleanDisk (state g.S.Store c.add_checked-added.new.conn)
+    → AddsFile (length c.args.self.now.memory.known.items + 1) (added g c) (kept_rows c.args.checked.now.groups) c.args.checked.now.graph.steps (state g.S.Store c.args.self.now.connection).now (state g.S.Store c.add_checked-added.new.conn).now
+put g c clean =
+    subst (λ n. AddsFile (n + 1) (added g c) (kept_rows c.args.checked.now.groups) c.args.checked.now.graph.steps (state g.S.Store c.args.self.now.connection).now (state g.S.Store c.add_checked-added.new.conn).now) c.count-count.ensures (c.in-Ok-added.ensures.put clean)
+
+crash : (g : Over) (c : goal.After-push g) → Survives (state g.S.Store c.args.self.now.connection) (state g.S.Store c.add_checked-added.new.conn)
+    (PutsOf (state g.S.Store c.args.self.now.connection) (length c.args.self.now.memory.known.items + 1) (added g c) (kept_rows c.args.checked.now.groups) c.args.checked.now.graph.steps)
+crash g c =
+    let old = state g.S.Store c.args.self.now.connection in
+    let new = state g.S.Store c.add_checked-added.new.conn in
+    subst (λ n. Survives old new (PutsOf old (n + 1) (added g c) (kept_rows c.args.checked.now.groups) c.args.checked.now.graph.steps)) c.count-count.ensures c.add_checked-added.ensures.crash
+
+-- the keep that held the list holds it with the deposit
+more : (g : Over) (c : goal.After-push g) → HasCleanDisk (state g.S.Store c.add_checked-added.new.conn)
+    → HoldsMore (state g.S.Store c.args.self.now.connection) (state g.S.Store c.add_checked-added.new.conn) c.args.self.now.dictionary (length c.args.self.now.memory.known.items) (added g c)
+more g c clean =
+    let keep = c.args.self.now in
+    let old = state g.S.Store keep.connection in
+    let new = state g.S.Store c.add_checked-added.new.conn in
+    let first = clean_before old new c.add_checked-added.ensures.crash clean in
+    let low : length keep.memory.known.items < 999999 = omega (arith, c.count-count.ensures) in
+    adds_at {old = old} {new = new} (added g c) c.args.checked.now (keep.kept c.requires.working first) low (put g c clean) (c.in-Ok-added.ensures.sound clean) (c.in-Ok-added.ensures.settled clean) (c.in-Ok-added.ensures.open clean refl) (ready g c clean)
+
+pub invariant_of-self-in-Ok-added-clause-kept : goal.invariant_of-self-in-Ok-added-clause-kept
+invariant_of-self-in-Ok-added-clause-kept g c works clean =
+    let keep = c.args.self.now in
+    let long = c.push.ensures.long ∙ ap (λ n. n + 1) c.make_room-room.ensures.same in
+    subst (λ n. ∥ KeepsRegister (state g.S.Store c.add_checked-added.new.conn) keep.dictionary n ∥₁) (sym long) (more g c clean).kept
+
+pub invariant_of-self-in-Ok-added-clause-agrees : goal.invariant_of-self-in-Ok-added-clause-agrees
+invariant_of-self-in-Ok-added-clause-agrees g c works clean =
+    let keep = c.args.self.now in
+    let old = state g.S.Store keep.connection in
+    let first = clean_before old (state g.S.Store c.add_checked-added.new.conn) c.add_checked-added.ensures.crash clean in
     let list = deposits_in old.committed.trees in
-    c.push_reserved.ensures.items ∙ ap (λ all. all ++ c.in-Ok.head ∷ []) c.make_room-room.ensures.same ∙ ap (λ head. keep.heads.items ++ head ∷ []) c.in-Ok.ensures.head
-    ∙ heads_push keep.heads.items list (deposits_in new.committed.trees) (added g c) (keep.headed c.requires.working first) (more g c clean).list
-
-pub invariant_of-self-in-Ok-added-clause-long : goal.invariant_of-self-in-Ok-added-clause-long
-invariant_of-self-in-Ok-added-clause-long g c =
-    ap length c.push_reserved.ensures.items ∙ length_push c.make_room-room.new.heads.items c.in-Ok.head ∙ ap (λ n. n + 1) (ap length c.make_room-room.ensures.same ∙ c.args.self.now.long)
-
-pub invariant_of-self-clause-headed : goal.invariant_of-self-clause-headed
-invariant_of-self-clause-headed g c works clean = c.make_room-room.ensures.same ∙ c.args.self.now.headed works clean
-
-pub invariant_of-self-in-Err-clause-headed : goal.invariant_of-self-in-Err-clause-headed
-invariant_of-self-in-Err-clause-headed g c works clean =
-    let keep = c.args.self.now in
-    let old = state g.S.Store keep.connection in
-    let new = state g.S.Store c.add_checked-added.new.conn in
-    let first = clean_before old new c.add_checked-added.ensures.crash clean in
-    let bare : is_store c.in-Err.error ≡ false = sym c.is_store_error-self.ensures ∙ works in
-    c.make_room-room.ensures.same ∙ heads_same keep.heads.items old.committed new.committed (keep.headed c.requires.working first) (c.in-Err.ensures.undone clean bare).1
-
-pub invariant_of-self-in-Ok-added-clause-below : goal.invariant_of-self-in-Ok-added-clause-below
-invariant_of-self-in-Ok-added-clause-below g c =
-    let keep = c.args.self.now in
-    let digest = c.digest_of-digest.result in
-    let adds : AddsNumber keep.digests c.note.new.self digest (keep.count + 1) = noted_adds keep.digests c.make_room-noted.new.self c.note.new.self digest c.in-Ok-noted.numbers.items (keep.count + 1) c.make_room-noted.ensures.same c.in-Ok-noted.ensures.more c.note.ensures in
-    below_more keep.digests c.note.new.self digest (keep.count + 1) (omega arith) adds keep.below
-
-pub invariant_of-self-in-Ok-added-clause-digested : goal.invariant_of-self-in-Ok-added-clause-digested
-invariant_of-self-in-Ok-added-clause-digested g c works clean =
-    let keep = c.args.self.now in
-    let old = state g.S.Store keep.connection in
-    let new = state g.S.Store c.add_checked-added.new.conn in
-    let first = clean_before old new c.add_checked-added.ensures.crash clean in
-    let digest = c.digest_of-digest.result in
-    let adds : AddsNumber keep.digests c.note.new.self digest (keep.count + 1) = noted_adds keep.digests c.make_room-noted.new.self c.note.new.self digest c.in-Ok-noted.numbers.items (keep.count + 1) c.make_room-noted.ensures.same c.in-Ok-noted.ensures.more c.note.ensures in
-    let its : digest ≡ own_digest (added g c) = c.digest_of-digest.ensures ∙ ap (digest_of c.args.firm.now c.args.project.now) c.bytes.ensures.bytes in
-    digested_push keep.digests c.note.new.self digest (deposits_in old.committed.trees) (deposits_in new.committed.trees) (added g c) (keep.count + 1) (keep.digested c.requires.working first) adds its
-    (ap (λ n. n + 1) (counted_at {s = old} (keep.kept c.requires.working first))) (more g c clean).list
-
-pub invariant_of-self-in-Err-clause-below : goal.invariant_of-self-in-Err-clause-below
-invariant_of-self-in-Err-clause-below g c = below_same c.args.self.now.digests c.make_room-noted.new.self (c.args.self.now.count + 1) c.make_room-noted.ensures.same c.args.self.now.below
-
-pub invariant_of-self-in-Err-clause-digested : goal.invariant_of-self-in-Err-clause-digested
-invariant_of-self-in-Err-clause-digested g c works clean =
-    let keep = c.args.self.now in
-    let old = state g.S.Store keep.connection in
-    let new = state g.S.Store c.add_checked-added.new.conn in
-    let first = clean_before old new c.add_checked-added.ensures.crash clean in
-    let bare : is_store c.in-Err.error ≡ false = sym c.is_store_error-self.ensures ∙ works in
-    digested_same keep.digests c.make_room-noted.new.self (deposits_in old.committed.trees) (deposits_in new.committed.trees) c.make_room-noted.ensures.same
-    (ap (λ (db : Database). deposits_in db.trees) (c.in-Err.ensures.undone clean bare).1) (keep.digested c.requires.working first)
-
-pub invariant_of-self-in-Ok-added-clause-held : goal.invariant_of-self-in-Ok-added-clause-held
-invariant_of-self-in-Ok-added-clause-held g c works clean = c.clear.ensures (state g.S.Store c.add_checked-added.new.conn).now
-
-pub invariant_of-self-in-Err-clause-held : goal.invariant_of-self-in-Err-clause-held
-invariant_of-self-in-Err-clause-held g c works clean = c.clear.ensures (state g.S.Store c.add_checked-added.new.conn).now
-
-pub invariant_of-self-in-Ok-added-clause-fronted : goal.invariant_of-self-in-Ok-added-clause-fronted
-invariant_of-self-in-Ok-added-clause-fronted g c works clean =
-    let keep = c.args.self.now in
-    let old = state g.S.Store keep.connection in
-    let new = state g.S.Store c.add_checked-added.new.conn in
-    let first = clean_before old new c.add_checked-added.ensures.crash clean in
-    fronts_push keep.fronts keep.dictionary (deposits_in old.committed.trees) (deposits_in new.committed.trees) (added g c) (keep.fronted c.requires.working first) (more g c clean).list
-
-pub invariant_of-self-in-Err-clause-fronted : goal.invariant_of-self-in-Err-clause-fronted
-invariant_of-self-in-Err-clause-fronted g c works clean =
-    let keep = c.args.self.now in
-    let old = state g.S.Store keep.connection in
-    let new = state g.S.Store c.add_checked-added.new.conn in
-    let first = clean_before old new c.add_checked-added.ensures.crash clean in
-    let bare : is_store c.in-Err.error ≡ false = sym c.is_store_error-self.ensures ∙ works in
-    fronts_same keep.fronts keep.dictionary old.committed new.committed (keep.fronted c.requires.working first) (c.in-Err.ensures.undone clean bare).1
+    let its : IsComing c.make_room-room.new.self (added g c) c.in-Ok.coming = subst (λ (bytes : List ℕ). IsComing c.make_room-room.new.self (deposit_from c.args.firm.now c.args.project.now c.args.embargo bytes) c.in-Ok.coming) c.bytes.ensures.bytes c.in-Ok.ensures.coming in
+    subst (λ (all : List Sent). Agrees c.push.new.self keep.dictionary all) (sym (more g c clean).list)
+    (c.push.ensures.agrees keep.dictionary list (added g c) its (c.make_room-room.ensures.agrees keep.dictionary list (keep.agrees c.requires.working first)))
 
 pub returns-in-Ok-added : goal.returns-in-Ok-added
 returns-in-Ok-added g c =
@@ -145,15 +107,11 @@ returns-in-Ok-added g c =
     let old = state g.S.Store keep.connection in
     let new = state g.S.Store c.add_checked-added.new.conn in
     let file = c.args.checked.now in
-    let d = deposit_from c.args.firm.now c.args.project.now c.args.embargo file.bytes in
-    let low : keep.count < 999999 = omega arith in
+    let d = added g c.before in
+    let low : length keep.memory.known.items < 999999 = omega (arith, c.count-count.ensures) in
     let before = λ (clean : HasCleanDisk new). clean_before old new c.add_checked-added.ensures.crash clean in
-    let fit : IsFileOf keep.dictionary d file = record { given = c.requires.dictionary; bytes = refl; clean = c.bytes.ensures.clean; short = c.requires.short } in
-    let ready = λ (clean : HasCleanDisk new). (let is : IsReady keep.dictionary (deposits_in old.committed.trees) d file = record { its = fit; named = c.add_checked-added.ensures.fit; fresh = c.requires.fresh (before clean) } in is) in
-    let more = λ (clean : HasCleanDisk new).
-    (let it : HoldsMore old new keep.dictionary keep.count d = adds_at {old = old} {new = new} d file (keep.kept c.requires.working (before clean)) low (c.in-Ok-added.ensures.put clean) (c.in-Ok-added.ensures.sound clean) (c.in-Ok-added.ensures.settled clean) (c.in-Ok-added.ensures.open clean refl) (ready clean) in it) in
     record {
-      number = λ clean. counted_at {s = new} (more clean).kept;
+      number = λ clean. ap (λ n. n + 1) c.count-count.ensures ∙ counted_at {s = new} (more g c.before clean).kept;
       room = λ clean. subst (λ n. n < 999999) (counted_at {s = old} (keep.kept c.requires.working (before clean))) low;
       full = λ clean e. absurd cc;
       leaves = record {
@@ -161,10 +119,10 @@ returns-in-Ok-added g c =
         same_dictionary = refl;
         same_limit = refl;
         failing = c.requires.working;
-        added = λ clean. (more clean).list;
+        added = λ clean. (more g c.before clean).list;
         refused = λ clean well. tt;
-        crash = λ clean. crash_at {old = old} {new = new} d (kept_rows file.groups) file.graph.steps (keep.kept c.requires.working (before clean)) c.add_checked-added.ensures.crash clean;
-        whole = λ clean. whole_put {old = old} {new = new} d file (keep.kept c.requires.working (before clean)) low c.add_checked-added.ensures.crash (ready clean) clean;
+        crash = λ clean. crash_at {old = old} {new = new} d (kept_rows file.groups) file.graph.steps (keep.kept c.requires.working (before clean)) (crash g c.before) clean;
+        whole = λ clean. whole_put {old = old} {new = new} d file (keep.kept c.requires.working (before clean)) low (crash g c.before) (ready g c.before clean) clean;
       };
     }
 
@@ -175,10 +133,11 @@ returns-in-Err-clause-leaves g c =
     let new = state g.S.Store c.add_checked-added.new.conn in
     let file = c.args.checked.now in
     let d = deposit_from c.args.firm.now c.args.project.now c.args.embargo file.bytes in
-    let low : keep.count < 999999 = omega arith in
+    let low : length keep.memory.known.items < 999999 = omega (arith, c.count-count.ensures) in
     let before = λ (clean : HasCleanDisk new). clean_before old new c.add_checked-added.ensures.crash clean in
     let fit : IsFileOf keep.dictionary d file = record { given = c.requires.dictionary; bytes = refl; clean = c.bytes.ensures.clean; short = c.requires.short } in
     let ready = λ (clean : HasCleanDisk new). (let is : IsReady keep.dictionary (deposits_in old.committed.trees) d file = record { its = fit; named = c.add_checked-added.ensures.fit; fresh = c.requires.fresh (before clean) } in is) in
+    let crash = subst (λ n. Survives old new (PutsOf old (n + 1) d (kept_rows file.groups) file.graph.steps)) c.count-count.ensures c.add_checked-added.ensures.crash in
     record {
       sound = before;
       same_dictionary = refl;
@@ -186,12 +145,12 @@ returns-in-Err-clause-leaves g c =
       failing = c.is_store_error-self.ensures;
       added = λ clean. tt;
       refused = λ clean well. ap (λ (db : Database). deposits_in db.trees) (c.in-Err.ensures.undone clean well).1;
-      crash = λ clean. crash_at {old = old} {new = new} d (kept_rows file.groups) file.graph.steps (keep.kept c.requires.working (before clean)) c.add_checked-added.ensures.crash clean;
-      whole = λ clean. whole_put {old = old} {new = new} d file (keep.kept c.requires.working (before clean)) low c.add_checked-added.ensures.crash (ready clean) clean;
+      crash = λ clean. crash_at {old = old} {new = new} d (kept_rows file.groups) file.graph.steps (keep.kept c.requires.working (before clean)) crash clean;
+      whole = λ clean. whole_put {old = old} {new = new} d file (keep.kept c.requires.working (before clean)) low crash (ready clean) clean;
     }
 
-pub returns-then-self-ge-MOST-clause-full : goal.returns-then-self-ge-MOST-clause-full
-returns-then-self-ge-MOST-clause-full g c clean is =
+pub returns-then-count-ge-MOST-clause-full : goal.returns-then-count-ge-MOST-clause-full
+returns-then-count-ge-MOST-clause-full g c clean is =
     let keep = c.args.self.now in
-    let most : keep.count ≡ 999999 = omega arith in
+    let most : length keep.memory.known.items ≡ 999999 = omega (arith, c.count-count.ensures, keep.memory.few) in
     sym (counted_at {s = state g.S.Store keep.connection} (keep.kept c.requires.working clean)) ∙ most

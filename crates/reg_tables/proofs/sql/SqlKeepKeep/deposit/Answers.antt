@@ -3,11 +3,8 @@ use Rattle.sqlite.specs.Held.{state}
 use Rattle.reg_tables.specs.Quiet.{clean_before}
 use Rattle.reg_tables.specs.KeepLaws.{idle_at, keeps_quiet}
 use Rattle.reg_tables.specs.Methods.{deposit_read_at}
-use Rattle.reg_tables.proofs.FrontsLemmas.{fronts_quiet}
-use Rattle.reg_tables.proofs.HeadsLemmas.{heads_quiet}
-use Rattle.reg_tables.proofs.RepeatsLemmas.{digested_quiet}
+use Rattle.reg_tables.proofs.MemoryLemmas.{agrees_still}
 use Rattle.reg_tables.proofs.ReadsLemmas.{reads_still}
-use Rattle.reg_tables.proofs.RecentLemmas.{recent_quiet}
 use Rattle.reg_tables.proofs.sql.SqlKeepKeep.deposit.Goals as goal
 
 pub find_deposit-found-requires : goal.find_deposit-found-requires
@@ -20,21 +17,9 @@ pub invariant_of-self-clause-kept : goal.invariant_of-self-clause-kept
 invariant_of-self-clause-kept g c works clean =
     keeps_quiet (state g.S.Store c.args.self.now.connection) (state g.S.Store c.find_deposit-found.new.conn) (c.args.self.now.kept c.requires.working) c.find_deposit-found.ensures.quiet clean (sym c.is_store-self.ensures ∙ works)
 
-pub invariant_of-self-clause-headed : goal.invariant_of-self-clause-headed
-invariant_of-self-clause-headed g c works clean =
-    heads_quiet (state g.S.Store c.args.self.now.connection) (state g.S.Store c.find_deposit-found.new.conn) c.args.self.now.heads.items (c.args.self.now.headed c.requires.working) c.find_deposit-found.ensures.quiet clean (sym c.is_store-self.ensures ∙ works)
-
-pub invariant_of-self-clause-digested : goal.invariant_of-self-clause-digested
-invariant_of-self-clause-digested g c works clean =
-    digested_quiet (state g.S.Store c.args.self.now.connection) (state g.S.Store c.find_deposit-found.new.conn) c.args.self.now.digests (c.args.self.now.digested c.requires.working) c.find_deposit-found.ensures.quiet clean (sym c.is_store-self.ensures ∙ works)
-
-pub invariant_of-self-clause-held : goal.invariant_of-self-clause-held
-invariant_of-self-clause-held g c works clean =
-    recent_quiet (state g.S.Store c.args.self.now.connection) (state g.S.Store c.find_deposit-found.new.conn) c.args.self.now.recent (c.args.self.now.held c.requires.working) c.find_deposit-found.ensures.quiet clean (sym c.is_store-self.ensures ∙ works)
-
-pub invariant_of-self-clause-fronted : goal.invariant_of-self-clause-fronted
-invariant_of-self-clause-fronted g c works clean =
-    fronts_quiet (state g.S.Store c.args.self.now.connection) (state g.S.Store c.find_deposit-found.new.conn) c.args.self.now.fronts c.args.self.now.dictionary (c.args.self.now.fronted c.requires.working) c.find_deposit-found.ensures.quiet clean (sym c.is_store-self.ensures ∙ works)
+pub invariant_of-self-clause-agrees : goal.invariant_of-self-clause-agrees
+invariant_of-self-clause-agrees g c works clean =
+    agrees_still (state g.S.Store c.args.self.now.connection) (state g.S.Store c.find_deposit-found.new.conn) c.args.self.now.memory c.args.self.now.dictionary (c.args.self.now.agrees c.requires.working) c.find_deposit-found.ensures.quiet clean (sym c.is_store-self.ensures ∙ works)
 
 pub returns-clause-leaves : goal.returns-clause-leaves
 returns-clause-leaves g c = reads_still (λ k. state g.S.Store k.connection) (λ k. k.dictionary) 999999 (λ k. k.has_failed) _ _ _ c.find_deposit-found.ensures.quiet refl c.is_store-self.ensures

@@ -1,13 +1,11 @@
-use Rattle.std.proofs.Common.{refl, sym, ◌∙◌}
+use Rattle.std.proofs.Common.{◌≡◌, [], refl, rules, sym, ◌∙◌}
 use Rattle.sqlite.specs.Held.{state}
 use Rattle.reg_tables.specs.Quiet.{clean_before}
-use Rattle.reg_tables.specs.KeepLaws.{idle_at, keeps_quiet}
-use Rattle.reg_tables.proofs.FrontsLemmas.{fronts_same, targets_noted}
-use Rattle.reg_tables.proofs.HeadsLemmas.{heads_quiet}
+use Rattle.reg_tables.specs.KeepLaws.{idle_at}
 use Rattle.reg_tables.proofs.ProjectLemmas.{targets_at}
-use Rattle.reg_tables.proofs.RepeatsLemmas.{digested_quiet}
+use Rattle.reg_tables.specs.Register.{deposits_in}
+use Rattle.reg_tables.proofs.MemoryLemmas.{agrees_noted, keeps_noted}
 use Rattle.reg_tables.proofs.ReadsLemmas.{reads_still}
-use Rattle.reg_tables.proofs.RecentLemmas.{recent_quiet}
 use Rattle.reg_tables.proofs.sql.SqlKeepKeep.targets.Goals as goal
 
 pub find_targets-found-requires : goal.find_targets-found-requires
@@ -18,37 +16,32 @@ invariant_of-self-clause-idle g c = c.find_targets-found.ensures.quiet.idle
 
 pub invariant_of-self-clause-kept : goal.invariant_of-self-clause-kept
 invariant_of-self-clause-kept g c works clean =
-    keeps_quiet (state g.S.Store c.args.self.now.connection) (state g.S.Store c.find_targets-found.new.conn) (c.args.self.now.kept c.requires.working) c.find_targets-found.ensures.quiet clean (sym c.is_store-self.ensures ∙ works)
+    let keep = c.args.self.now in
+    keeps_noted (state g.S.Store keep.connection) (state g.S.Store c.find_targets-found.new.conn) keep.memory c.note_targets.new.self keep.dictionary c.args.n (keep.kept c.requires.working) c.find_targets-found.ensures.quiet c.note_targets.ensures clean (sym c.is_store-self.ensures ∙ works)
 
-pub invariant_of-self-clause-headed : goal.invariant_of-self-clause-headed
-invariant_of-self-clause-headed g c works clean =
-    heads_quiet (state g.S.Store c.args.self.now.connection) (state g.S.Store c.find_targets-found.new.conn) c.args.self.now.heads.items (c.args.self.now.headed c.requires.working) c.find_targets-found.ensures.quiet clean (sym c.is_store-self.ensures ∙ works)
-
-pub invariant_of-self-clause-digested : goal.invariant_of-self-clause-digested
-invariant_of-self-clause-digested g c works clean =
-    digested_quiet (state g.S.Store c.args.self.now.connection) (state g.S.Store c.find_targets-found.new.conn) c.args.self.now.digests (c.args.self.now.digested c.requires.working) c.find_targets-found.ensures.quiet clean (sym c.is_store-self.ensures ∙ works)
-
-pub invariant_of-self-clause-held : goal.invariant_of-self-clause-held
-invariant_of-self-clause-held g c works clean =
-    recent_quiet (state g.S.Store c.args.self.now.connection) (state g.S.Store c.find_targets-found.new.conn) c.args.self.now.recent (c.args.self.now.held c.requires.working) c.find_targets-found.ensures.quiet clean (sym c.is_store-self.ensures ∙ works)
-
-pub invariant_of-self-clause-fronted : goal.invariant_of-self-clause-fronted
-invariant_of-self-clause-fronted g c works clean =
+pub invariant_of-self-clause-agrees : goal.invariant_of-self-clause-agrees
+invariant_of-self-clause-agrees g c works clean =
     let keep = c.args.self.now in
     let old = state g.S.Store keep.connection in
     let new = state g.S.Store c.find_targets-found.new.conn in
     let first = clean_before old new c.find_targets-found.ensures.quiet.survives clean in
-    let well = sym c.is_store-self.ensures ∙ works in
     let its = c.requires.number first in
-    let read = targets_at (λ x. x.items) {s = old} {dictionary = keep.dictionary} c.args.n c.args.row c.find_targets-found.result its.0 (keep.kept c.requires.working first) (c.find_targets-found.ensures.found clean) in
-    fronts_same c.note_targets.new.self keep.dictionary old.committed new.committed (targets_noted c.args.n c.args.row c.find_targets-found.result (keep.fronted c.requires.working first) c.note_targets.ensures its read) (c.find_targets-found.ensures.quiet.same clean well).1
+    agrees_noted old new keep.memory c.note_targets.new.self keep.dictionary c.args.n (keep.agrees c.requires.working) c.find_targets-found.ensures.quiet c.note_targets.ensures its (targets_at (λ x. x.items) {s = old} {dictionary = keep.dictionary} c.args.n c.args.row c.find_targets-found.result its.0 (keep.kept c.requires.working first) (c.find_targets-found.ensures.found clean)) clean (sym c.is_store-self.ensures ∙ works)
 
 pub returns-clause-leaves : goal.returns-clause-leaves
 returns-clause-leaves g c = reads_still (λ k. state g.S.Store k.connection) (λ k. k.dictionary) 999999 (λ k. k.has_failed) _ _ _ c.find_targets-found.ensures.quiet refl c.is_store-self.ensures
 
 pub returns-clause-read : goal.returns-clause-read
 returns-clause-read g c clean =
-    let old = state g.S.Store c.args.self.now.connection in
+    let keep = c.args.self.now in
+    let old = state g.S.Store keep.connection in
     let new = state g.S.Store c.find_targets-found.new.conn in
     let first = clean_before old new c.find_targets-found.ensures.quiet.survives clean in
-    targets_at (λ x. x.items) {s = old} c.args.n c.args.row c.find_targets-found.result (c.requires.number first).0 (c.args.self.now.kept c.requires.working first) (c.find_targets-found.ensures.found clean)
+    let its = c.requires.number first in
+    targets_at (λ x. x.items) {s = old} {dictionary = keep.dictionary} c.args.n c.args.row c.find_targets-found.result its.0 (keep.kept c.requires.working first) (c.find_targets-found.ensures.found clean)
+
+pub returns-then-is_alone-clause-read : goal.returns-then-is_alone-clause-read
+returns-then-is_alone-clause-read g c clean =
+    let keep = c.args.self.now in
+    let none : c.new.result.items ≡ [] = search rules in
+    λ d file at of. none ∙ c.is_alone.ensures c.if-is_alone.true keep.dictionary (deposits_in (state g.S.Store keep.connection).committed.trees) (keep.agrees c.requires.working clean) d file at of

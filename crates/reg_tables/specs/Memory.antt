@@ -1,0 +1,71 @@
+-- What is known of the deposits without the tables, and that it agrees with the list of deposits.
+use Rattle.std.specs.Prelude.{◌≡◌, ◌<◌, ◌≤◌, ◌+◌, ℕ, List, [], ◌∷◌, ◌++◌, length, IsSome, Some, None, slice_get, vec_len, vec_capacity}
+use Rattle.std.specs.Option.{ForSome}
+use Rattle.ags_dict.specs.Entries.{Entries}
+use Rattle.ags_check.specs.Findings.{CheckedFile}
+use Rattle.reg_store.specs.declared.keep.KeptHead.{KeptHead}
+use Rattle.reg_store.specs.declared.keep.ProjectRow.{ProjectRow}
+use Rattle.reg_store.specs.Keep.{OfDeposit}
+use Rattle.reg_store.specs.Project.{targets_of}
+use Rattle.reg_store.specs.Reading.{HasGraph, HasKeptRows, HasProjectRow, OfFile}
+use Rattle.reg_store.specs.Sent.{Sent}
+use Rattle.reg_tables.specs.declared.memory.Coming.{Coming}
+use Rattle.reg_tables.specs.declared.memory.Known.{Known}
+use Rattle.reg_tables.specs.declared.memory.Memory.{Memory}
+use Rattle.reg_tables.specs.declared.recent.RecentGraph.{RecentGraph}
+use Rattle.reg_tables.specs.declared.recent.RecentRows.{RecentRows}
+use Rattle.reg_tables.specs.Digests.{AreBelow, AreDigested, found_at, numbers_under, own_digest}
+use Rattle.reg_tables.specs.Heads.{head_of}
+
+-- Of a deposit of this head nothing was read.
+abbrev pub new_known : KeptHead → Known
+new_known head = record { head = head; project = None; alone = None }
+
+-- A deposit of the head that is known, without bytes.
+abbrev pub bare_of : Known → Sent
+bare_of one = record { firm = one.head.firm; project = one.head.project; embargo = one.head.embargo; bytes = [] }
+
+-- The DATA row of the file has no step.
+abbrev pub HasNoTarget : ℕ → CheckedFile → Type 0
+HasNoTarget row file = [] ≡ targets_of row file.graph.steps
+
+-- What is known of a deposit is its head, and what was read is what its file has.
+pub record IsKnown (dictionary : Entries) (d : Sent) (one : Known) : Type 0 where
+  pub head : one.head ≡ head_of d
+  pub project : ForSome one.project (λ row. OfFile dictionary d (HasProjectRow (Some row)))
+  pub alone : ForSome one.alone (λ row. OfFile dictionary d (HasNoTarget row))
+
+-- Of each deposit this is known, in the order of the list.
+pub record AreKnown (dictionary : Entries) (list : List Sent) (known : List Known) : Type 0 where
+  pub long : length known ≡ length list
+  pub each : (k : ℕ) (d : Sent) (one : Known) → slice_get list k ≡ Some d → slice_get known k ≡ Some one → IsKnown dictionary d one
+
+-- A deposit has the number.
+abbrev pub IsNumberOf : ℕ → List Sent → Type 0
+IsNumberOf n list = (0 < n) × (n ≤ length list)
+
+-- What is known agrees with the list: of each deposit, of each digest, and of the deposits whose rows and steps were read last.
+pub record Agrees (memory : Memory) (dictionary : Entries) (list : List Sent) : Type 0 where
+  pub known : AreKnown dictionary list memory.known.items
+  pub digests : AreDigested memory.digests list
+  pub below : AreBelow memory.digests (length list + 1)
+  pub rows : ForSome memory.rows (λ (held : RecentRows).
+      IsNumberOf held.number list × OfDeposit dictionary list held.number (HasKeptRows held.rows))
+  pub graph : ForSome memory.graph (λ (held : RecentGraph).
+      IsNumberOf held.number list × OfDeposit dictionary list held.number (HasGraph held.graph))
+
+-- As many deposits are known, and what agreed with a list still does, if this is so of it and the number is one of its deposits.
+pub record Notes (old new : Memory) (n : ℕ) (IsRead : Entries → List Sent → Type 0) : Type 0 where
+  pub long : length new.known.items ≡ length old.known.items
+  pub agrees : (dictionary : Entries) (list : List Sent) → IsNumberOf n list → IsRead dictionary list → Agrees old dictionary list → Agrees new dictionary list
+
+-- There is room for one deposit more.
+pub record HasRoom (memory : Memory) (coming : Coming) : Type 0 where
+  pub known : vec_len memory.known < vec_capacity memory.known
+  pub digest : IsSome (found_at memory.digests coming.digest)
+
+-- This deposit is to come next.
+pub record IsComing (memory : Memory) (d : Sent) (coming : Coming) : Type 0 where
+  pub known : coming.known ≡ new_known (head_of d)
+  pub digest : coming.digest ≡ own_digest d
+  pub numbers : coming.numbers.items ≡ numbers_under memory.digests (own_digest d) ++ (length memory.known.items + 1) ∷ []
