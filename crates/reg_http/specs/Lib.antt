@@ -17,3 +17,4 @@ pub mod Reading
 pub mod Serving
 pub mod Sides
 pub mod Connections
+pub mod Summaries

@@ -50,6 +50,13 @@ fn store_failed_reply() -> &'static str
     "HTTP/1.1 503 Service Unavailable\r\nContent-Type: application/json\r\nContent-Length: 24\r\nConnection: close\r\n\r\n{\"error\":\"store failed\"}"
 }
 
+/// Whether a reply is the one that says that the store failed.
+pub fn is_store_failed_reply(reply: &[u8]) -> bool
+    ensures { IsTrue result ↔ IsRendered Answer.StoreFailed reply.now }
+{
+    reply == store_failed_reply().as_bytes()
+}
+
 /// The reply to an answer whose reply is always the same. It takes no memory.
 pub(crate) fn fixed_reply(answer: &Answer) -> Option<&'static str>
     ensures some { IsSome result ↔ IsTrue (is_fixed answer.now) }

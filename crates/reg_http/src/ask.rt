@@ -31,7 +31,7 @@ pub(crate) struct Ask<'b> {
 }
 
 /// The target before the first question mark, and what follows.
-fn path_and_query(target: &str) -> (&str, &str)
+pub(crate) fn path_and_query(target: &str) -> (&str, &str)
     ensures path { result.0.now ≡ path_of target.now }
     ensures query { result.1.now ≡ query_of target.now }
 {
@@ -62,7 +62,7 @@ pub(crate) fn head_parts<'b>(
 }
 
 /// The values of the fields of this name.
-fn values<'b>(parts: &Parts<'b>, name: &[u8]) -> Values<'b>
+pub(crate) fn values<'b>(parts: &Parts<'b>, name: &[u8]) -> Values<'b>
     ensures { few_seen result ≡ values_in (parts_seen parts.now) name.now }
 {
     values_named(parts.buf, parts.fields, name)
@@ -92,7 +92,7 @@ fn caller_by<'c>(callers: &'c Callers, token: Option<&[u8]>) -> Result<&'c Calle
 }
 
 /// The caller by the Authorization fields.
-fn caller_in<'c>(callers: &'c Callers, values: Values<'_>) -> Result<&'c Caller, Refusal>
+pub(crate) fn caller_in<'c>(callers: &'c Callers, values: Values<'_>) -> Result<&'c Caller, Refusal>
     ensures { Agrees lent_caller (caller_in callers.now (few_seen values.entry)) result }
 {
     match values {

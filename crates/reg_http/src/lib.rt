@@ -22,12 +22,15 @@ mod request;
 mod route;
 mod sending;
 mod serve;
+mod summary;
 mod tally;
 mod text;
 mod write;
 
+pub use answer::is_store_failed_reply;
 pub use list::serve_list;
 pub use number::number_of_deposit;
 pub use query::groups_listed;
 pub use serve::{IoFault, Served, serve_one};
+pub use summary::{Summary, summary_of};
 pub use tally::Tally;
