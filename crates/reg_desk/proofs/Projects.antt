@@ -9,7 +9,8 @@ use Rattle.ags_rows.specs.Contents.{Contents, contents_of}
 use Rattle.ags_rows.specs.Writing.{group_names}
 use Rattle.ags_rows.proofs.Lemmas.{at_contained, once_apart}
 use Rattle.ags_dict.specs.Entries.{Entries}
-use Rattle.ags_links.specs.DataRows.{DataRow, IsAt, IsRowOfGroup, data_rows, rows_before}
+use Rattle.ags_rows.specs.Collecting.{At}
+use Rattle.ags_links.specs.DataRows.{DataRow, IsRowOfGroup, data_rows, rows_before}
 use Rattle.ags_links.specs.Steps.{StepAt}
 use Rattle.ags_links.specs.Walks.{IsWalk}
 use Rattle.ags_links.proofs.Lemmas.{one_at, at_map, row_of_group, reach_itself, contains_cons}
@@ -97,7 +98,7 @@ project_first file clean n r p of_project =
     (name, nothing_below p.place (λ lt. only.one_project (name, lt)))
 
 -- and its group stands once
-one_place : (file : CheckedFile) → IsClean file → (i j : ℕ) (g h : Contents) → IsAt (contents_of file.groups) i g → IsAt (contents_of file.groups) j h → g.name ≡ h.name → i < j → ⊥
+one_place : (file : CheckedFile) → IsClean file → (i j : ℕ) (g h : Contents) → At (contents_of file.groups) i g → At (contents_of file.groups) j h → g.name ≡ h.name → i < j → ⊥
 one_place file clean i j g h at_i at_j same lt =
     let names = group_names (contents_of file.groups) in
     let once = (clean_formed file.given file.bytes (file_of file) clean.file).names_once in

@@ -11,7 +11,7 @@ use Rattle.ags_rows.specs.Findings.{FileGroups}
 use Rattle.ags_rows.specs.Rows.{descriptor_text}
 use Rattle.ags_rows.specs.Writing.{ArePlain, IsPlainGroup}
 use Rattle.ags_rows.proofs.Lemmas.{read_plain}
-use Rattle.ags_links.specs.Walks.{Wiring}
+use Rattle.ags_links.specs.Walks.{StepGraph}
 use Rattle.ags_check.specs.Findings.{CheckedFile}
 use Rattle.reg_store.specs.declared.keep.KeptRow.{KeptRow}
 use Rattle.reg_store.specs.Fit.{kept_row, group_rows, kept_rows}
@@ -97,6 +97,6 @@ pub kept_are : (bytes : List ℕ) (groups : List Group) → FileGroups bytes gro
 kept_are bytes groups read = subst (λ (rows : List KeptRow). All IsRow rows) (sym (kept_contents groups)) (file_are (contents_of groups) (read_plain bytes groups read).1)
 
 -- the rows of a view are a file's
-pub not_broken : (rows : List KeptRow) (graph : Wiring) (file : CheckedFile) → IsViewOf rows graph file → (All IsRow rows → length (plain_lines [] rows) ≢ graph.rows) → ⊥
+pub not_broken : (rows : List KeptRow) (graph : StepGraph) (file : CheckedFile) → IsViewOf rows graph file → (All IsRow rows → length (plain_lines [] rows) ≢ graph.rows) → ⊥
 not_broken rows graph file view broken =
     broken (subst (λ (l : List KeptRow). All IsRow l) (sym view.same_rows) (kept_are file.bytes file.groups view.clean.groups)) (lines_count (plain_lines [] rows) rows graph file refl view)

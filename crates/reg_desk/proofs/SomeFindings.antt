@@ -28,8 +28,8 @@ use Rattle.ags_rows.proofs.Cutting.{feed_found, feed_none, line_none, line_lf, l
 use Rattle.ags_rows.proofs.Files.{finding_exact}
 use Rattle.ags_dict.specs.Entries.{Entries, extended, order_of, keys_of, required_of, has_group}
 use Rattle.ags_check.specs.Findings.{Findings, dictionary_phases}
-use Rattle.ags_check.specs.HeaderPhase.{header_rules, group_header_rules, heading_row_rules, unknown_code}
-use Rattle.ags_check.specs.RowPhase.{headed_row, unit_and_type_rules, data_entry_rules, data_row_rules, entry_rules_of, entry_rules}
+use Rattle.ags_check.specs.Header.{header_rules, group_header_rules, heading_row_rules, unknown_code}
+use Rattle.ags_check.specs.RowRules.{headed_row, unit_and_type_rules, data_entry_rules, data_row_rules, entry_rules_of, entry_rules}
 use Rattle.ags_check.specs.RowRules.{unit_over, type_over, IsBrokenLink}
 use Rattle.ags_links.specs.DataRows.{entry_of, rows_before}
 use Rattle.ags_check.specs.Header.{IsOnlyIn, IsMisplaced, IsMisnamed}

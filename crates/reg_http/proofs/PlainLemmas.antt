@@ -6,13 +6,13 @@ use Rattle.std.proofs.lemmas.Bool.Decides.{nat_tests}
 use Rattle.std.proofs.lemmas.Int.{ints}
 use Rattle.json.specs.Print.{escape_byte, escape}
 use Rattle.json.proofs.Printed.Strings.{escape_byte_plain}
-use Rattle.ags_text.specs.Bytes.{first_digit}
+use Rattle.ags_text.specs.Bytes.{zero_digit}
 use Rattle.ags_text.specs.Names.{is_within}
 use Rattle.ags_rows.specs.Codes.{code_text}
 use Rattle.ags_rows.specs.declared.code.Code.{Code}
 use Rattle.ags_rows.specs.declared.code.Code.TheVariants.{Rule1, Rule2, Rule2a, Rule2b, Rule3, Rule4, Rule5, Rule6, Rule7, Rule8, Rule9, Rule10a, Rule10b, Rule10c, Rule11a, Rule11b, Rule11c, Rule13, Rule14, Rule15, Rule16, Rule17, Rule18, Rule19, Rule19a, Rule19b, Rule20, P1, P2}
-use Rattle.reg_policy.specs.Names.{dash, is_name, is_name_byte}
-use Rattle.reg_policy.specs.Days.{Writes, day_text, tens_and_ones}
+use Rattle.reg_policy.specs.Names.{hyphen, is_name, is_name_byte}
+use Rattle.reg_policy.specs.Days.{Writes, day_text, two_digits}
 use Rattle.reg_http.specs.Bodies.{shown_byte}
 
 -- a byte that stands for itself within quotes
@@ -34,26 +34,26 @@ bytes_plain (b ∷ s) name =
 pub name_plain : (s : List ℕ) → is_name s ≡ true → escape s ≡ s
 name_plain s name = bytes_plain s (and_parts (is_within 32 s) (list_all is_name_byte s) name).1
 
-digit_plain : (k : ℕ) → k < 10 → IsPlain (first_digit + k)
-digit_plain k small = escape_byte_plain (first_digit + k) (λ e. omega (arith, e)) (λ e. omega (arith, e)) (omega arith)
+digit_plain : (k : ℕ) → k < 10 → IsPlain (zero_digit + k)
+digit_plain k small = escape_byte_plain (zero_digit + k) (λ e. omega (arith, e)) (λ e. omega (arith, e)) (omega arith)
 
 -- two digits, before what stands for itself
-digits_plain : (n : ℕ) (rest : List ℕ) → n < 100 → escape rest ≡ rest → escape (tens_and_ones n ++ rest) ≡ tens_and_ones n ++ rest
+digits_plain : (n : ℕ) (rest : List ℕ) → n < 100 → escape rest ≡ rest → escape (two_digits n ++ rest) ≡ two_digits n ++ rest
 digits_plain n rest small plain =
     ap₂ (λ (a t : List ℕ). a ++ t) (digit_plain (n / 10) (omega arith)) (ap₂ (λ (a t : List ℕ). a ++ t) (digit_plain (n % 10) (omega arith)) plain)
 
--- a dash
-dash_plain : (rest : List ℕ) → escape rest ≡ rest → escape (dash ∷ rest) ≡ dash ∷ rest
+-- a hyphen
+dash_plain : (rest : List ℕ) → escape rest ≡ rest → escape (hyphen ∷ rest) ≡ hyphen ∷ rest
 unfolding escape_byte
-dash_plain rest plain = ap (λ t. dash ∷ t) plain
+dash_plain rest plain = ap (λ t. hyphen ∷ t) plain
 
 text_plain : (year month day : ℕ) → year < 10000 → month < 100 → day < 100 → escape (day_text year month day) ≡ day_text year month day
 text_plain year month day small_year small_month small_day =
-    let last = dash_plain (tens_and_ones day) (digits_plain day [] small_day refl) in
-    let later = dash_plain (tens_and_ones month ++ dash ∷ tens_and_ones day) (digits_plain month (dash ∷ tens_and_ones day) small_month last) in
+    let last = dash_plain (two_digits day) (digits_plain day [] small_day refl) in
+    let later = dash_plain (two_digits month ++ hyphen ∷ two_digits day) (digits_plain month (hyphen ∷ two_digits day) small_month last) in
     let short : year / 100 < 100 = omega arith in
-    digits_plain (year / 100) (tens_and_ones (year % 100) ++ dash ∷ tens_and_ones month ++ dash ∷ tens_and_ones day) short
-    (digits_plain (year % 100) (dash ∷ tens_and_ones month ++ dash ∷ tens_and_ones day) (omega arith) later)
+    digits_plain (year / 100) (two_digits (year % 100) ++ hyphen ∷ two_digits month ++ hyphen ∷ two_digits day) short
+    (digits_plain (year % 100) (hyphen ∷ two_digits month ++ hyphen ∷ two_digits day) (omega arith) later)
 
 -- the text of a day
 pub day_plain : (day : List ℕ) (n : ℤ) → Writes day n → escape day ≡ day

@@ -11,7 +11,7 @@ use Rattle.serde_json.specs.Written.{comma_if, compact_text, items_text}
 use Rattle.ags_rows.specs.Codes.{code_text}
 use Rattle.ags_rows.specs.Collecting.{At}
 use Rattle.ags_rows.specs.declared.finding.Finding.{Finding}
-use Rattle.ags_rows.proofs.Lemmas.{take_at, at_within}
+use Rattle.ags_rows.proofs.Lemmas.{take_at}
 use Rattle.reg_policy.specs.Names.{is_name}
 use Rattle.reg_policy.specs.Days.{Writes}
 use Rattle.reg_desk.specs.declared.answer.Listed.{Listed}
@@ -123,7 +123,7 @@ deposits_begin = refl
 pub findings_more : (fs : List Finding) (place : ℕ) (f : Finding) (old mid new : List ℕ) → At fs place f → old ≡ list_front (codes "findings") (map finding_data (take place fs))
     → mid ≡ old ++ comma_if (nat_lt 0 place) → new ≡ mid ++ compact_text (finding_data f) → new ≡ list_front (codes "findings") (map finding_data (take (place + 1) fs))
 findings_more fs place f old mid new at was comma item =
-    let within : place < length fs = at_within fs place f at in
+    let within : place < length fs = at.0 in
     let so : length (map finding_data (take place fs)) ≡ place = length-map (take place fs) finding_data ∙ length-take-le place fs (omega arith) in
     front_more (codes "findings") (map finding_data (take place fs)) (finding_data f) place old mid new so was comma item
     ∙ sym (ap (λ xs. list_front (codes "findings") (map finding_data xs)) (take_at fs place f at) ∙ ap (list_front (codes "findings")) (map-append finding_data (take place fs) (f ∷ [])))

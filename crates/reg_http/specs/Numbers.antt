@@ -2,7 +2,7 @@
 use Rattle.std.specs.Prelude.{ℕ, Bool, false, ◌&&◌, not, ◌==◌, nat_le, List, [], ◌∷◌, Result, Ok, Err, if◌then◌else◌}
 use Rattle.std.specs.List.{list_all}
 use Rattle.std.specs.Char.{is_ascii_digit}
-use Rattle.ags_text.specs.Bytes.{first_digit}
+use Rattle.ags_text.specs.Bytes.{zero_digit}
 use Rattle.ags_text.specs.Names.{is_within}
 use Rattle.ags_rows.specs.declared.TheConstants.{LIMIT}
 use Rattle.reg_policy.specs.Days.{number_in}
@@ -29,7 +29,7 @@ length_in many lengths = Err LengthRequired
 
 abbrev pub begins_with_zero : List ℕ → Bool
 begins_with_zero [] = false
-begins_with_zero (b ∷ text) = b == first_digit
+begins_with_zero (b ∷ text) = b == zero_digit
 
 -- the number of a deposit: 1 to 6 digits, the first of them no zero
 abbrev pub deposit_number : List ℕ → Result ℕ Refusal

@@ -10,32 +10,32 @@ use Rattle.std.proofs.lemmas.Str.Ascii.{IsAscii-from_all}
 use Rattle.jiff.specs.Words.{IsDate}
 use Rattle.jiff_core.specs.Calendar.{IsCivilDate, day_count, days_from_civil}
 use Rattle.jiff_core.proofs.CalendarLemmas.{day_count-day, day_count-lt_month, day_count-lt_year, days_from_civil-day_count, days_in_month_bounds}
-use Rattle.ags_text.specs.Bytes.{ascii_end, first_digit}
-use Rattle.reg_policy.specs.Names.{dash}
-use Rattle.reg_policy.specs.Days.{OneTextOfDay, Writes, day_text, tens_and_ones}
+use Rattle.ags_text.specs.Bytes.{ascii_end, zero_digit}
+use Rattle.reg_policy.specs.Names.{hyphen}
+use Rattle.reg_policy.specs.Days.{OneTextOfDay, Writes, day_text, two_digits}
 
 abbrev IsAsciiByte : ℕ → Type 0
 IsAsciiByte b = b < ascii_end
 
-dash_is_ascii : IsAsciiByte dash
+dash_is_ascii : IsAsciiByte hyphen
 dash_is_ascii = lit< tt
 
 -- two digits before ASCII are ASCII
-digits_are_ascii : (n : ℕ) (rest : List ℕ) → n < 100 → All IsAsciiByte rest → All IsAsciiByte ((first_digit + n / 10) ∷ (first_digit + n % 10) ∷ rest)
+digits_are_ascii : (n : ℕ) (rest : List ℕ) → n < 100 → All IsAsciiByte rest → All IsAsciiByte ((zero_digit + n / 10) ∷ (zero_digit + n % 10) ∷ rest)
 digits_are_ascii n rest small more =
-    let tens : first_digit + n / 10 < ascii_end = omega arith in
-    let ones : first_digit + n % 10 < ascii_end = omega arith in
-    All-cons IsAsciiByte (first_digit + n / 10) ((first_digit + n % 10) ∷ rest) tens
-    (All-cons IsAsciiByte (first_digit + n % 10) rest ones more)
+    let tens : zero_digit + n / 10 < ascii_end = omega arith in
+    let ones : zero_digit + n % 10 < ascii_end = omega arith in
+    All-cons IsAsciiByte (zero_digit + n / 10) ((zero_digit + n % 10) ∷ rest) tens
+    (All-cons IsAsciiByte (zero_digit + n % 10) rest ones more)
 
 text_is_ascii : (year month day : ℕ) → year < 10000 → month < 100 → day < 100 → All IsAsciiByte (day_text year month day)
 text_is_ascii year month day small_year small_month small_day =
-    let last : All IsAsciiByte (dash ∷ tens_and_ones day) =
-    All-cons IsAsciiByte dash (tens_and_ones day) dash_is_ascii (digits_are_ascii day [] small_day (All-nil IsAsciiByte)) in
-    let later : All IsAsciiByte (dash ∷ tens_and_ones month ++ dash ∷ tens_and_ones day) =
-    All-cons IsAsciiByte dash (tens_and_ones month ++ dash ∷ tens_and_ones day) dash_is_ascii (digits_are_ascii month (dash ∷ tens_and_ones day) small_month last) in
-    digits_are_ascii (year / 100) (tens_and_ones (year % 100) ++ dash ∷ tens_and_ones month ++ dash ∷ tens_and_ones day) (omega arith)
-    (digits_are_ascii (year % 100) (dash ∷ tens_and_ones month ++ dash ∷ tens_and_ones day) (omega arith) later)
+    let last : All IsAsciiByte (hyphen ∷ two_digits day) =
+    All-cons IsAsciiByte hyphen (two_digits day) dash_is_ascii (digits_are_ascii day [] small_day (All-nil IsAsciiByte)) in
+    let later : All IsAsciiByte (hyphen ∷ two_digits month ++ hyphen ∷ two_digits day) =
+    All-cons IsAsciiByte hyphen (two_digits month ++ hyphen ∷ two_digits day) dash_is_ascii (digits_are_ascii month (hyphen ∷ two_digits day) small_month last) in
+    digits_are_ascii (year / 100) (two_digits (year % 100) ++ hyphen ∷ two_digits month ++ hyphen ∷ two_digits day) (omega arith)
+    (digits_are_ascii (year % 100) (hyphen ∷ two_digits month ++ hyphen ∷ two_digits day) (omega arith) later)
 
 -- what writes a day is text
 pub Writes-utf8 : (text : List ℕ) (n : ℤ) → Writes text n → IsUtf8 text

@@ -4,7 +4,7 @@ use Rattle.std.proofs.lemmas.Bool.{false≢true}
 use Rattle.std.proofs.lemmas.Slice.Eq.{bytes_eq-Decides}
 use Rattle.std.specs.Str.{bytes_eq}
 use Rattle.toml.specs.Data.{Data, string, integer, float, boolean, datetime, array, table, as_str}
-use Rattle.reg_policy.specs.Rules.{Sets}
+use Rattle.reg_policy.specs.Rules.{IsSettingOf}
 use Rattle.reg_policy.specs.Readers.{GivesText, GivesWord}
 use Rattle.reg_policy.specs.declared.document.ReadError.TheVariants.{BadValue}
 
@@ -36,14 +36,14 @@ pub text_none : (o : Option Data) → None ≡ o → GivesText o (Ok None)
 text_none o e = rw (← e) refl
 
 word_cases : {A : Type 0} (W : List ℕ → A → Type 0) (s t : List ℕ) (a : A) (b : Bool) → bytes_eq s (codes "*") ≡ b → Some t ≡ cond b None (Some s) → W t a
-    → Sets W (Some (string s)) (Some a)
+    → IsSettingOf W (Some (string s)) (Some a)
 word_cases W s t a true is e w = cc
 word_cases W s t a false is e w =
     let same : t ≡ s = cc in
     inr ((λ star. false≢true (sym is ∙ (bytes_eq-Decides s (codes "*")).1 star)), a, subst (λ z. W z a) same w, refl)
 
 -- a word that is no `*`, and what it means
-pub word_some : {A : Type 0} (W : List ℕ → A → Type 0) (o : Option Data) (t : Bor (List ℕ)) (a : A) → GivesWord o (Ok (Some t)) → W t.now a → Sets W o (Some a)
+pub word_some : {A : Type 0} (W : List ℕ → A → Type 0) (o : Option Data) (t : Bor (List ℕ)) (a : A) → GivesWord o (Ok (Some t)) → W t.now a → IsSettingOf W o (Some a)
 word_some W None t a h w = cc
 word_some W (Some (string s)) t a h w = word_cases W s t.now a (bytes_eq s (codes "*")) refl h.0 w
 word_some W (Some (integer z)) t a h w = cc

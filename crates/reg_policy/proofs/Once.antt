@@ -7,7 +7,7 @@ use Rattle.ags_text.specs.Names.{is_group_name}
 use Rattle.reg_policy.specs.Callers.{IsCaller, IsText}
 use Rattle.reg_policy.specs.Documents.{Each, InTable, IsListOf, TablesSay}
 use Rattle.reg_policy.specs.Names.{is_name, is_token, verb_text}
-use Rattle.reg_policy.specs.Rules.{IsEffect, IsEither, IsEntry, IsNumber, IsRule, IsVerb, IsWord, Sets, effect_text}
+use Rattle.reg_policy.specs.Rules.{IsEffect, IsEither, IsEntry, IsNumber, IsRule, IsVerb, IsWord, IsSettingOf, effect_text}
 use Rattle.reg_policy.specs.declared.callers.Credential.{Credential}
 use Rattle.reg_policy.specs.declared.rule.Effect.{Effect}
 use Rattle.reg_policy.specs.declared.rule.Effect.TheVariants.{Permit, Deny}
@@ -60,7 +60,7 @@ one_list Says once key keys text xs ys (d, (read, known), p) (e, (again, known2)
 abbrev MeansOnce : {A : Type 0} → (List ℕ → A → Type 0) → Type 0
 MeansOnce {A} Means = (s : List ℕ) (a b : A) → Means s a → Means s b → a ≡ b
 
-set_once : {A : Type 0} (Means : List ℕ → A → Type 0) → MeansOnce Means → (d : Option Data) (a b : Option A) → Sets Means d a → Sets Means d b → a ≡ b
+set_once : {A : Type 0} (Means : List ℕ → A → Type 0) → MeansOnce Means → (d : Option Data) (a b : Option A) → IsSettingOf Means d a → IsSettingOf Means d b → a ≡ b
 set_once Means once None a b p q = p ∙ sym q
 set_once Means once (Some (string s)) a b (inl p) (inl q) = p.1 ∙ sym q.1
 set_once Means once (Some (string s)) a b (inl p) (inr q) = absurd (q.0 p.0)

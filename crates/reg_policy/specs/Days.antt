@@ -4,24 +4,24 @@ use Rattle.std.specs.List.{fold}
 use Rattle.std.specs.Str.{bytes_eq}
 use Rattle.jiff.specs.Words.{IsDate, days_in_month}
 use Rattle.jiff_core.specs.Calendar.{days_from_civil}
-use Rattle.ags_text.specs.Bytes.{first_digit}
-use Rattle.reg_policy.specs.Names.{dash}
+use Rattle.ags_text.specs.Bytes.{zero_digit}
+use Rattle.reg_policy.specs.Names.{hyphen}
 
 -- A day number: 0 is 1970-01-01, the last is 9999-12-31.
 abbrev pub is_day_number : ℤ → Bool
 is_day_number n = int_le (pos 0) n && int_le n (pos 2_932_896)
 
 -- the two digits of a number below 100
-abbrev pub tens_and_ones : ℕ → List ℕ
-tens_and_ones n = (first_digit + n / 10) ∷ (first_digit + n % 10) ∷ []
+abbrev pub two_digits : ℕ → List ℕ
+two_digits n = (zero_digit + n / 10) ∷ (zero_digit + n % 10) ∷ []
 
 -- the four digits of a year
 abbrev pub year_text : ℕ → List ℕ
-year_text n = tens_and_ones (n / 100) ++ tens_and_ones (n % 100)
+year_text n = two_digits (n / 100) ++ two_digits (n % 100)
 
 -- `yyyy-mm-dd`
 abbrev pub day_text : ℕ → ℕ → ℕ → List ℕ
-day_text year month day = year_text year ++ dash ∷ tens_and_ones month ++ dash ∷ tens_and_ones day
+day_text year month day = year_text year ++ hyphen ∷ two_digits month ++ hyphen ∷ two_digits day
 
 -- the calendar has the date, and gives it that number
 abbrev pub IsDateOf : ℕ → ℕ → ℕ → ℤ → Type 0
@@ -41,7 +41,7 @@ Writes text n = (year : ℕ) × (month : ℕ) × (day : ℕ) × HasDate year mon
 
 -- the number that digits write
 abbrev pub number_in : List ℕ → ℕ
-number_in digits = fold (λ n c. 10 * n + (c - first_digit)) 0 digits
+number_in digits = fold (λ n c. 10 * n + (c - zero_digit)) 0 digits
 
 -- the calendar has the date
 abbrev pub is_date : ℕ → ℕ → ℕ → Bool

@@ -8,12 +8,12 @@ use Rattle.reg_policy.specs.declared.subject.Verb.{Verb}
 use Rattle.reg_policy.specs.declared.subject.Verb.TheVariants.{Deposit, Check, List as ListDeposits, Extract, See}
 
 -- `-`
-abbrev pub dash : ℕ
-dash = 45
+abbrev pub hyphen : ℕ
+hyphen = 45
 
 -- a letter, a digit, `-` or `_`
 abbrev pub is_name_byte : ℕ → Bool
-is_name_byte b = is_ascii_alphanumeric b || b == dash || b == low_line
+is_name_byte b = is_ascii_alphanumeric b || b == hyphen || b == low_line
 
 -- A name of a firm, a role or a project: 1 to 32 letters, digits, `-` and `_`.
 abbrev pub is_name : List ℕ → Bool

@@ -27,16 +27,16 @@ GivesList P (Err e) = Gives P (Err e)
 
 -- a reader of a text as a document of known keys
 abbrev pub Opens : List ℕ → List (List ℕ) → List ℕ → Result (BTreeMap (String Global) Value) ReadError → Type 0
-Opens key keys text (Ok t) = IsDocument key keys text (table_view t)
-Opens key keys text (Err Syntax) = parse_document text ≡ None
-Opens key keys text (Err UnknownKey) = (document : Members) × (parse_document text ≡ Some document) × (is_known key keys document ≡ false)
-Opens key keys text (Err NoMemory) = Unit {0}
-Opens key keys text (Err e) = ⊥
+Opens array_key table_keys text (Ok t) = IsDocument array_key table_keys text (table_view t)
+Opens array_key table_keys text (Err Syntax) = parse_document text ≡ None
+Opens array_key table_keys text (Err UnknownKey) = (document : Members) × (parse_document text ≡ Some document) × (is_known array_key table_keys document ≡ false)
+Opens array_key table_keys text (Err NoMemory) = Unit {0}
+Opens array_key table_keys text (Err e) = ⊥
 
 -- a reader of a whole list
 abbrev pub ReadsList : {A : Type 0} → List ℕ → List (List ℕ) → (Members → A → Type 0) → List ℕ → Result (Vec A Global) ReadError → Type 0
-ReadsList key keys Says text (Ok v) = IsListOf key keys Says text v.items
-ReadsList key keys Says text (Err e) = IsRefused key keys Says text e
+ReadsList array_key table_keys Says text (Ok v) = IsListOf array_key table_keys Says text v.items
+ReadsList array_key table_keys Says text (Err e) = IsRefused array_key table_keys Says text e
 
 -- the text at a key, lent; a value of another kind is bad
 abbrev pub GivesText : Option Data → Result (Option (Bor (List ℕ))) ReadError → Type 0

@@ -23,10 +23,10 @@ rule_keys = codes "number" ∷ codes "effect" ∷ codes "firm" ∷ codes "role" 
     ∷ codes "group" ∷ codes "owner" ∷ codes "embargo" ∷ codes "heading" ∷ codes "value" ∷ []
 
 -- What a key sets that may be `*`: nothing where it is absent or `*`, else what its word means by Means.
-abbrev pub Sets : {A : Type 0} → (List ℕ → A → Type 0) → Option Data → Option A → Type 0
-Sets Means None set = set ≡ None
-Sets {A} Means (Some (string s)) set = ((s ≡ codes "*") × (set ≡ None)) ⊎ ((s ≢ codes "*") × (a : A) × Means s a × (set ≡ Some a))
-Sets Means (Some d) set = ⊥
+abbrev pub IsSettingOf : {A : Type 0} → (List ℕ → A → Type 0) → Option Data → Option A → Type 0
+IsSettingOf Means None set = set ≡ None
+IsSettingOf {A} Means (Some (string s)) set = ((s ≡ codes "*") × (set ≡ None)) ⊎ ((s ≢ codes "*") × (a : A) × Means s a × (set ≡ Some a))
+IsSettingOf Means (Some d) set = ⊥
 
 -- a word that passes is itself
 abbrev pub IsWord : (List ℕ → Bool) → List ℕ → List ℕ → Type 0
@@ -65,13 +65,13 @@ IsEntryIn table set = IsEntry (get_member (codes "heading") table) (get_member (
 pub record IsRule (table : Members) (r : Rule) : Type 0 where
   pub number : IsNumber (get_member (codes "number") table) r.number
   pub effect : IsEffect (get_member (codes "effect") table) r.effect
-  pub firm : Sets (IsWord is_name) (get_member (codes "firm") table) r.firm
-  pub role : Sets (IsWord is_name) (get_member (codes "role") table) r.role
-  pub project : Sets (IsWord is_name) (get_member (codes "project") table) r.project
-  pub verb : Sets IsVerb (get_member (codes "verb") table) r.verb
-  pub group : Sets (IsWord is_group_name) (get_member (codes "group") table) r.group
-  pub own : Sets (IsEither (codes "own") (codes "other")) (get_member (codes "owner") table) r.own
-  pub past : Sets (IsEither (codes "past") (codes "running")) (get_member (codes "embargo") table) r.past
+  pub firm : IsSettingOf (IsWord is_name) (get_member (codes "firm") table) r.firm
+  pub role : IsSettingOf (IsWord is_name) (get_member (codes "role") table) r.role
+  pub project : IsSettingOf (IsWord is_name) (get_member (codes "project") table) r.project
+  pub verb : IsSettingOf IsVerb (get_member (codes "verb") table) r.verb
+  pub group : IsSettingOf (IsWord is_group_name) (get_member (codes "group") table) r.group
+  pub own : IsSettingOf (IsEither (codes "own") (codes "other")) (get_member (codes "owner") table) r.own
+  pub past : IsSettingOf (IsEither (codes "past") (codes "running")) (get_member (codes "embargo") table) r.past
   pub entry : IsEntryIn table r.entry
 
 -- the numbers rise strictly, the first above n

@@ -5,7 +5,7 @@ ghost use Rattle.toml.specs.View.{table_view};
 ghost use Rattle.ags_text.specs.Names.{is_group_name};
 ghost use Rattle.reg_policy.specs.Names.{is_name, verb_text};
 ghost use Rattle.reg_policy.specs.Readers.{Gives, GivesWord};
-ghost use Rattle.reg_policy.specs.Rules.{IsEffect, IsEither, IsEntryIn, IsNumber, IsRule, IsVerb, IsWord, Sets, rule_key, rule_keys};
+ghost use Rattle.reg_policy.specs.Rules.{IsEffect, IsEither, IsEntryIn, IsNumber, IsRule, IsVerb, IsWord, IsSettingOf, rule_key, rule_keys};
 ghost use Rattle.reg_policy.specs.declared.subject.Verb.{Verb as VerbValue};
 
 use crate::document::{FromTable, ReadError, copied, string_at};
@@ -98,7 +98,7 @@ fn word_at<'a>(table: &'a Table, key: &str) -> Result<Option<&'a str>, ReadError
 }
 
 fn name_at(alloc: Global, table: &Table, key: &str) -> Result<Option<Name>, ReadError>
-    ensures { Gives (Sets (IsWord is_name) (get_member key.now (table_view table.now))) result }
+    ensures { Gives (IsSettingOf (IsWord is_name) (get_member key.now (table_view table.now))) result }
 {
     let Some(word) = word_at(table, key)? else {
         return Ok(None);
@@ -111,7 +111,7 @@ fn name_at(alloc: Global, table: &Table, key: &str) -> Result<Option<Name>, Read
 }
 
 fn verb_at(table: &Table) -> Result<Option<Verb>, ReadError>
-    ensures { Gives (Sets IsVerb (get_member (codes "verb") (table_view table.now))) result }
+    ensures { Gives (IsSettingOf IsVerb (get_member (codes "verb") (table_view table.now))) result }
 {
     let Some(word) = word_at(table, "verb")? else {
         return Ok(None);
@@ -138,7 +138,7 @@ fn verb_of(word: &str) -> Option<Verb>
 }
 
 fn group_at(alloc: Global, table: &Table) -> Result<Option<Bytes>, ReadError>
-    ensures { Gives (Sets (IsWord is_group_name) (get_member (codes "group") (table_view table.now))) result }
+    ensures { Gives (IsSettingOf (IsWord is_group_name) (get_member (codes "group") (table_view table.now))) result }
 {
     let Some(word) = word_at(table, "group")? else {
         return Ok(None);
@@ -151,7 +151,7 @@ fn group_at(alloc: Global, table: &Table) -> Result<Option<Bytes>, ReadError>
 
 /// Whether a key has the first of two words; none where it sets nothing.
 fn either_at(table: &Table, key: &str, word: &str, other: &str) -> Result<Option<bool>, ReadError>
-    ensures { Gives (Sets (IsEither word.now other.now) (get_member key.now (table_view table.now))) result }
+    ensures { Gives (IsSettingOf (IsEither word.now other.now) (get_member key.now (table_view table.now))) result }
 {
     let Some(text) = word_at(table, key)? else {
         return Ok(None);

@@ -12,7 +12,7 @@ use Rattle.ags_rows.specs.declared.TheConstants.{LIMIT, READABLE}
 use Rattle.ags_rows.specs.declared.finding.Finding.{Finding}
 use Rattle.ags_rows.specs.declared.rows.Group.{Group}
 use Rattle.ags_dict.specs.Entries.{Entries}
-use Rattle.ags_links.specs.Walks.{Wiring}
+use Rattle.ags_links.specs.Walks.{StepGraph}
 use Rattle.ags_check.specs.Findings.{CheckedFile, Findings, IsClean}
 use Rattle.ags_check.proofs.Lemmas.{one_list, one_clean_file}
 use Rattle.reg_store.specs.declared.keep.Kept.{Kept}
@@ -96,7 +96,7 @@ pub rows_are : {X E : Type 0} (items : X → List KeptRow) (dictionary : Entries
 rows_are items dictionary d checked groups (Ok rows) its of read = λ file other. read ∙ ap kept_rows (of ∙ ap (λ (f : CheckedFile). f.groups) (one_file dictionary d checked file its other))
 rows_are items dictionary d checked groups (Err e) its of read = tt
 
-pub graph_is : {E : Type 0} (dictionary : Entries) (d : Sent) (checked : CheckedFile) (graph : Wiring) (r : Result Wiring E) → IsFileOf dictionary d checked → graph ≡ checked.graph
+pub graph_is : {E : Type 0} (dictionary : Entries) (d : Sent) (checked : CheckedFile) (graph : StepGraph) (r : Result StepGraph E) → IsFileOf dictionary d checked → graph ≡ checked.graph
     → IfOk r (λ copied. copied ≡ graph) → IfOk r (λ copied. (file : CheckedFile) → IsFileOf dictionary d file → copied ≡ file.graph)
 graph_is dictionary d checked graph (Ok copied) its of same = λ file other. same ∙ of ∙ ap (λ (f : CheckedFile). f.graph) (one_file dictionary d checked file its other)
 graph_is dictionary d checked graph (Err e) its of same = tt
@@ -106,8 +106,8 @@ pub project_is : {E : Type 0} (dictionary : Entries) (d : Sent) (rows read : Lis
 project_is dictionary d rows read (Ok found) same are is = λ file its. is ∙ ap project_of (same ∙ are file its)
 project_is dictionary d rows read (Err e) same are is = tt
 
-pub targets_are : {X E : Type 0} (items : X → List ℕ) (dictionary : Entries) (d : Sent) (checked : CheckedFile) (row : ℕ) (graph : Wiring) (steps : List (ℕ × ℕ)) (r : Result X E) → IsFileOf dictionary d checked → graph ≡ checked.graph
+pub targets_are : {X E : Type 0} (items : X → List ℕ) (dictionary : Entries) (d : Sent) (checked : CheckedFile) (row : ℕ) (graph : StepGraph) (steps : List (ℕ × ℕ)) (r : Result X E) → IsFileOf dictionary d checked → graph ≡ checked.graph
     → steps ≡ graph.steps → IfOk r (λ x. items x ≡ targets_of row steps) → IfOk r (λ x. (file : CheckedFile) → IsFileOf dictionary d file → items x ≡ targets_of row file.graph.steps)
 targets_are items dictionary d checked row graph steps (Ok x) its of same is = λ file other.
-    is ∙ ap (targets_of row) (same ∙ ap (λ (g : Wiring). g.steps) (of ∙ ap (λ (f : CheckedFile). f.graph) (one_file dictionary d checked file its other)))
+    is ∙ ap (targets_of row) (same ∙ ap (λ (g : StepGraph). g.steps) (of ∙ ap (λ (f : CheckedFile). f.graph) (one_file dictionary d checked file its other)))
 targets_are items dictionary d checked row graph steps (Err e) its of same is = tt

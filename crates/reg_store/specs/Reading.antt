@@ -2,7 +2,7 @@
 use Rattle.std.specs.Prelude.{◌≡◌, ◌-◌, ℕ, List, Option, Some, Vec, slice_get}
 use Rattle.std.specs.declared.alloc.Global.{Global}
 use Rattle.ags_dict.specs.Entries.{Entries}
-use Rattle.ags_links.specs.Walks.{Wiring}
+use Rattle.ags_links.specs.Walks.{StepGraph}
 use Rattle.ags_check.specs.Findings.{CheckedFile}
 use Rattle.reg_store.specs.declared.keep.KeptHead.{KeptHead}
 use Rattle.reg_store.specs.declared.keep.KeptRow.{KeptRow}
@@ -25,7 +25,7 @@ abbrev pub HasKeptRows : Vec KeptRow Global → CheckedFile → Type 0
 HasKeptRows rows file = rows.items ≡ kept_rows file.groups
 
 -- This is the graph of the steps between the file's DATA rows.
-abbrev pub HasGraph : Wiring → CheckedFile → Type 0
+abbrev pub HasGraph : StepGraph → CheckedFile → Type 0
 HasGraph graph file = graph ≡ file.graph
 
 -- This is the file's row of PROJ, or None where it has none.

@@ -15,7 +15,7 @@ use Rattle.ags_rows.specs.declared.TheConstants.{READABLE}
 use Rattle.ags_rows.specs.Contents.{Contents, contents_of}
 use Rattle.ags_rows.specs.Findings.{LooseFindings}
 use Rattle.ags_rows.proofs.Lemmas.{one_loose_list, one_loose_grouping}
-use Rattle.ags_dict.specs.Entries.{has_dict, lacks_heading, standard_entries}
+use Rattle.ags_dict.specs.Entries.{has_dict, lacks_heading, entries_of_file}
 use Rattle.ags_dict.specs.Reading.{HasContents, IsDictionary, LacksDict, LacksHeading}
 use Rattle.ags_rows.specs.declared.finding.Finding.{Finding}
 use Rattle.ags_dict.specs.Entries.{Entries}
@@ -190,7 +190,7 @@ pub has_headings_then : (text : List ℕ) → LacksHeading text → (dictionary 
 has_headings_then text lacks dictionary reads = let clash : true ≡ false = sym lacks.3 ∙ ap lacks_heading (same_contents text lacks.0 reads.0 lacks.1 reads.1) ∙ reads.3 in absurd cc
 
 pub one_dictionary : (text : List ℕ) (a b : Entries) → IsDictionary text a → IsDictionary text b → a ≡ b
-one_dictionary text a b x y = x.4 ∙ ap standard_entries (same_contents text x.0 y.0 x.1 y.1) ∙ sym y.4
+one_dictionary text a b x y = x.4 ∙ ap entries_of_file (same_contents text x.0 y.0 x.1 y.1) ∙ sym y.4
 
 -- the bytes in the rows of meta
 abbrev text_of : List Row → List ℕ

@@ -13,7 +13,7 @@ use Rattle.ags_dict.specs.Entries.{Entries}
 use Rattle.ags_links.specs.Steps.{IsBefore}
 use Rattle.ags_check.specs.Findings.{CheckedFile}
 use Rattle.ags_rows.specs.declared.rows.Group.{Group}
-use Rattle.ags_links.specs.Walks.{Wiring}
+use Rattle.ags_links.specs.Walks.{StepGraph}
 use Rattle.reg_store.specs.declared.keep.KeptRow.{KeptRow}
 use Rattle.reg_store.specs.declared.keep.ProjectRow.{ProjectRow}
 use Rattle.reg_store.specs.declared.keep.KeepError.{KeepError}
@@ -84,6 +84,6 @@ pub targets_at : {X : Type 0} (items : X → List ℕ) {s : State} {dictionary :
 targets_at items {s} {dictionary} {count} n row (Ok x) low h ok = λ d file at its.
     let read : (k : KeepsRegister s dictionary count) → items x ≡ targets_of row file.graph.steps = λ k.
     (let held = held_file n d k low at in
-    ok held.0.graph.steps (graph_ascends held.0 held.1.clean.graph) held.3 ∙ ap (λ (graph : Wiring). targets_of row graph.steps) (same_file dictionary d held.0 file held.1 its).1) in
+    ok held.0.graph.steps (graph_ascends held.0 held.1.clean.graph) held.3 ∙ ap (λ (graph : StepGraph). targets_of row graph.steps) (same_file dictionary d held.0 file held.1 its).1) in
     let same : items x ≡ targets_of row file.graph.steps = ∥∥₁_elim h (targets_set _ _) read in same
 targets_at items n row (Err e) low h ok = tt

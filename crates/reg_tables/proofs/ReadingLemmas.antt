@@ -14,7 +14,7 @@ use Rattle.reg_store.specs.declared.keep.KeptRow.{KeptRow}
 use Rattle.reg_store.specs.declared.keep.KeepError.{KeepError}
 use Rattle.reg_store.specs.Keep.{deposit_of}
 use Rattle.reg_tables.specs.Rows.{given_deposit, line_table, step_table, placed_rows, step_pair, rows_under}
-use Rattle.ags_links.specs.Walks.{Wiring}
+use Rattle.ags_links.specs.Walks.{StepGraph}
 use Rattle.reg_store.specs.Fit.{kept_rows}
 use Rattle.reg_tables.specs.DataCount.{is_shown_data, counted, counted_shown}
 use Rattle.reg_tables.specs.Methods.{HasRows, HasSteps}
@@ -45,10 +45,10 @@ pub data_read : (old new : State) (n count : ℕ) → old.now.schema ≡ registe
 data_read old new n count has shown groups are =
     shown.2 ∙ ap (λ all. length (filter is_shown_data all)) (reads_lines old new n (kept_rows groups) shown.0 has are shown.1) ∙ counted_shown 0 (kept_rows groups) ∙ counted groups
 
-pub rows_from : (n : ℕ) (table : List Row) (count : ℕ) (r : Result Wiring KeepError) → HasRows n table count → IfOk r (λ graph. graph.rows ≡ count) → IfOk r (λ graph. HasRows n table graph.rows)
+pub rows_from : (n : ℕ) (table : List Row) (count : ℕ) (r : Result StepGraph KeepError) → HasRows n table count → IfOk r (λ graph. graph.rows ≡ count) → IfOk r (λ graph. HasRows n table graph.rows)
 rows_from n table count (Ok graph) found is = subst (HasRows n table) (sym is) found
 rows_from n table count (Err e) found is = tt
 
-pub steps_from : (n : ℕ) (table : List Row) (steps : List (ℕ × ℕ)) (r : Result Wiring KeepError) → HasSteps n table steps → IfOk r (λ graph. graph.steps ≡ steps) → IfOk r (λ graph. HasSteps n table graph.steps)
+pub steps_from : (n : ℕ) (table : List Row) (steps : List (ℕ × ℕ)) (r : Result StepGraph KeepError) → HasSteps n table steps → IfOk r (λ graph. graph.steps ≡ steps) → IfOk r (λ graph. HasSteps n table graph.steps)
 steps_from n table steps (Ok graph) found is = subst (HasSteps n table) (sym is) found
 steps_from n table steps (Err e) found is = tt

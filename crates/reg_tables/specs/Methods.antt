@@ -26,7 +26,7 @@ use Rattle.ags_check.proofs.Lemmas.{one_clean_file}
 use Rattle.ags_rows.specs.declared.rows.Group.{Group}
 use Rattle.ags_rows.specs.Contents.{contents_of}
 use Rattle.ags_links.specs.DataRows.{data_rows}
-use Rattle.ags_links.specs.Walks.{Wiring}
+use Rattle.ags_links.specs.Walks.{StepGraph}
 
 -- one row is that of one deposit
 pub same_deposit : (n : ℕ) (a b : Sent) (rows : List Row) → rows ≡ given_deposit n a ∷ [] → rows ≡ given_deposit n b ∷ [] → a ≡ b
@@ -108,13 +108,13 @@ ascending (step ∷ steps) h = (h.0, ascending steps h.1)
 pub graph_ascends : (file : CheckedFile) → IsGraphOf (file_of file) file.graph → IsAscending IsBefore file.graph.steps
 graph_ascends file is = ascending file.graph.steps (steps_ascend file.graph.steps (StepAt (file_of file)) is.steps)
 
-one_wiring : (a b : Wiring) → a.rows ≡ b.rows → a.steps ≡ b.steps → a ≡ b
+one_wiring : (a b : StepGraph) → a.rows ≡ b.rows → a.steps ≡ b.steps → a ≡ b
 one_wiring a b p q = λ i. record { rows = p i; steps = q i }
 
-wiring_set : (a b : Wiring) → IsProp (a ≡ b)
+wiring_set : (a b : StepGraph) → IsProp (a ≡ b)
 wiring_set a b = Prim.hlevel props
 
-pub graph_at : {s : State} {dictionary : Entries} {count : ℕ} (n : ℕ) (r : Result Wiring KeepError) → 0 < n → ∥ KeepsRegister s dictionary count ∥₁
+pub graph_at : {s : State} {dictionary : Entries} {count : ℕ} (n : ℕ) (r : Result StepGraph KeepError) → 0 < n → ∥ KeepsRegister s dictionary count ∥₁
     → IfOk r (λ graph. HasRows n (line_table s.now.trees) graph.rows) → IfOk r (λ graph. HasSteps n (step_table s.now.trees) graph.steps)
     → IfOk r (λ graph. (d : Sent) (file : CheckedFile) → slice_get (deposits_in s.committed.trees) (n - 1) ≡ Some d → IsFileOf dictionary d file → graph ≡ file.graph)
 graph_at {s} {dictionary} {count} n (Ok graph) low h rows steps = λ d file at its.
