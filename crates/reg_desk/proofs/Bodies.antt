@@ -17,8 +17,8 @@ use Rattle.reg_store.specs.declared.keep.Keep.{Ghosts}
 use Rattle.reg_desk.specs.Asked.{Asked, check}
 use Rattle.reg_desk.specs.declared.answer.Answer.{Answer}
 use Rattle.reg_desk.specs.declared.answer.Answer.TheVariants.{Receipt, Clean, Findings, Listing, Text, Denied, Unknown, TooLarge, Full, NoMemory, StoreFailed}
-use Rattle.reg_desk.specs.Machine.{Register, decided, OrDenied, OrFound, OrRefused, IsReply, IsNext}
-use Rattle.reg_desk.specs.Serving.{NeedsMemory, IsRefusal, register_at, Serves}
+use Rattle.reg_desk.specs.Machine.{Terms, decided, OrDenied, OrFound, OrRefused, IsReply, IsNext}
+use Rattle.reg_desk.specs.Serving.{NeedsMemory, IsRefusal, terms_at, Serves}
 use Rattle.reg_desk.proofs.Serves.{needs_of, replies_at_once, memory_at_once, permitted_reply, denied_reply, permit_stands}
 
 pub where_true : (t : Bool) (A B : Type 0) → t ≡ true → A → MatchBool t A B
@@ -38,59 +38,59 @@ ltb_of m n le = elim (cases_Bool (nat_lt m n)) [ inl e ↦ absurd (omega (arith,
 
 -- ---- what a body is refused for
 
-refused_large : (register : Register) (bytes : List ℕ) (Stands : Answer → Type 0) → LIMIT < length bytes → OrRefused register bytes Stands TooLarge
-refused_large register bytes Stands lt = where_true (nat_lt LIMIT (length bytes)) _ _ (lt-ltb LIMIT (length bytes) lt) refl
+refused_large : (terms : Terms) (bytes : List ℕ) (Stands : Answer → Type 0) → LIMIT < length bytes → OrRefused terms bytes Stands TooLarge
+refused_large terms bytes Stands lt = where_true (nat_lt LIMIT (length bytes)) _ _ (lt-ltb LIMIT (length bytes) lt) refl
 
 found_some : (found : List Finding) (Stands : Answer → Type 0) → found ≢ [] → OrFound found Stands (Findings found)
 found_some [] Stands some = absurd (some refl)
 found_some (f ∷ found) Stands some = refl
 
-refused_found : (register : Register) (bytes : List ℕ) (Stands : Answer → Type 0) (found : List Finding) → length bytes ≤ LIMIT → AreFindings register.given bytes found → found ≢ [] → OrRefused register bytes Stands (Findings found)
-refused_found register bytes Stands found le are some = where_false (nat_lt LIMIT (length bytes)) _ _ (ltb_of LIMIT (length bytes) le) (found, are, found_some found Stands some)
+refused_found : (terms : Terms) (bytes : List ℕ) (Stands : Answer → Type 0) (found : List Finding) → length bytes ≤ LIMIT → AreFindings terms.dictionary bytes found → found ≢ [] → OrRefused terms bytes Stands (Findings found)
+refused_found terms bytes Stands found le are some = where_false (nat_lt LIMIT (length bytes)) _ _ (ltb_of LIMIT (length bytes) le) (found, are, found_some found Stands some)
 
 -- what stands where it is not refused
-pub refused_none : (register : Register) (bytes : List ℕ) (Stands : Answer → Type 0) (answer : Answer) → length bytes ≤ LIMIT → AreFindings register.given bytes [] → Stands answer → OrRefused register bytes Stands answer
-refused_none register bytes Stands answer le are h = where_false (nat_lt LIMIT (length bytes)) _ _ (ltb_of LIMIT (length bytes) le) ([], are, h)
+pub refused_none : (terms : Terms) (bytes : List ℕ) (Stands : Answer → Type 0) (answer : Answer) → length bytes ≤ LIMIT → AreFindings terms.dictionary bytes [] → Stands answer → OrRefused terms bytes Stands answer
+refused_none terms bytes Stands answer le are h = where_false (nat_lt LIMIT (length bytes)) _ _ (ltb_of LIMIT (length bytes) le) ([], are, h)
 
 found_needs : (found : List Finding) (Stands : Answer → Type 0) → NeedsMemory Stands → NeedsMemory (OrFound found Stands)
 found_needs [] Stands needs = needs
 found_needs (f ∷ found) Stands needs = (λ n e. cc, λ e. cc)
 
 -- where the body is not too large, its findings decide
-small_found : (d : Decision) (k : ℕ) (register : Register) (bytes : List ℕ) (Stands : Answer → Type 0) (reply : Answer) → d ≡ Permit k → length bytes ≤ LIMIT
-    → OrDenied d (OrRefused register bytes Stands) reply → (found : List Finding) × OrFound found Stands reply
-small_found d k register bytes Stands reply permit le is =
-    let h = permit_stands d k (OrRefused register bytes Stands) reply permit is in
+small_found : (d : Decision) (k : ℕ) (terms : Terms) (bytes : List ℕ) (Stands : Answer → Type 0) (reply : Answer) → d ≡ Permit k → length bytes ≤ LIMIT
+    → OrDenied d (OrRefused terms bytes Stands) reply → (found : List Finding) × OrFound found Stands reply
+small_found d k terms bytes Stands reply permit le is =
+    let h = permit_stands d k (OrRefused terms bytes Stands) reply permit is in
     let found = where_else (nat_lt LIMIT (length bytes)) _ _ (ltb_of LIMIT (length bytes) le) h in
     (found.0, found.2)
 
 -- a body that is not too large needs memory
-pub small_needs : (d : Decision) (k : ℕ) (register : Register) (bytes : List ℕ) (Stands : Answer → Type 0) → d ≡ Permit k → length bytes ≤ LIMIT → NeedsMemory Stands
-    → NeedsMemory (OrDenied d (OrRefused register bytes Stands))
-small_needs d k register bytes Stands permit le needs = (
-  λ n is. let found = small_found d k register bytes Stands (Denied n) permit le is in (found_needs found.0 Stands needs).0 n found.1,
-  λ is. let found = small_found d k register bytes Stands TooLarge permit le is in (found_needs found.0 Stands needs).1 found.1,
+pub small_needs : (d : Decision) (k : ℕ) (terms : Terms) (bytes : List ℕ) (Stands : Answer → Type 0) → d ≡ Permit k → length bytes ≤ LIMIT → NeedsMemory Stands
+    → NeedsMemory (OrDenied d (OrRefused terms bytes Stands))
+small_needs d k terms bytes Stands permit le needs = (
+  λ n is. let found = small_found d k terms bytes Stands (Denied n) permit le is in (found_needs found.0 Stands needs).0 n found.1,
+  λ is. let found = small_found d k terms bytes Stands TooLarge permit le is in (found_needs found.0 Stands needs).1 found.1,
 )
 
 -- a request with a body that is refused
 pub refusal_serves : {K : Type 0} (keep : Ghosts K) (rules : List Rule) (request : Asked) (old : K) (answer : Answer) (d : Decision) (k : ℕ) (bytes : List ℕ) (Stands : Answer → Type 0)
     → keep.has_failed old ≡ false → d ≡ Permit k → IsRefusal (keep.dictionary old) bytes answer → NeedsMemory Stands
-    → ((r : Answer) → OrDenied d (OrRefused (register_at keep rules old) bytes Stands) r → IsReply (register_at keep rules old) (keep.deposits old) request r)
-    → ((r : Answer) → IsReply (register_at keep rules old) (keep.deposits old) request r → OrDenied d (OrRefused (register_at keep rules old) bytes Stands) r)
-    → ((r : Answer) → IsRefusal (keep.dictionary old) bytes r → IsReply (register_at keep rules old) (keep.deposits old) request r → IsNext (register_at keep rules old) (keep.deposits old) request (keep.deposits old))
+    → ((r : Answer) → OrDenied d (OrRefused (terms_at keep rules old) bytes Stands) r → IsReply (terms_at keep rules old) (keep.deposits old) request r)
+    → ((r : Answer) → IsReply (terms_at keep rules old) (keep.deposits old) request r → OrDenied d (OrRefused (terms_at keep rules old) bytes Stands) r)
+    → ((r : Answer) → IsRefusal (keep.dictionary old) bytes r → IsReply (terms_at keep rules old) (keep.deposits old) request r → IsNext (terms_at keep rules old) (keep.deposits old) request (keep.deposits old))
     → Serves keep rules request old old answer
 refusal_serves keep rules request old TooLarge d k bytes Stands works permit refusal needs to from next =
-    let register = register_at keep rules old in
-    let is = to TooLarge (permitted_reply d k (OrRefused register bytes Stands) TooLarge permit (refused_large register bytes Stands refusal)) in
+    let terms = terms_at keep rules old in
+    let is = to TooLarge (permitted_reply d k (OrRefused terms bytes Stands) TooLarge permit (refused_large terms bytes Stands refusal)) in
     replies_at_once keep rules request old TooLarge works refl is (next TooLarge refusal is)
 refusal_serves keep rules request old (Findings found) d k bytes Stands works permit refusal needs to from next =
-    let register = register_at keep rules old in
-    let is = to (Findings found) (permitted_reply d k (OrRefused register bytes Stands) (Findings found) permit (refused_found register bytes Stands found refusal.0 refusal.1 refusal.2)) in
+    let terms = terms_at keep rules old in
+    let is = to (Findings found) (permitted_reply d k (OrRefused terms bytes Stands) (Findings found) permit (refused_found terms bytes Stands found refusal.0 refusal.1 refusal.2)) in
     replies_at_once keep rules request old (Findings found) works refl is (next (Findings found) refusal is)
 refusal_serves keep rules request old NoMemory d k bytes Stands works permit refusal needs to from next =
-    let register = register_at keep rules old in
+    let terms = terms_at keep rules old in
     memory_at_once keep rules request old works
-    (needs_of (OrDenied d (OrRefused register bytes Stands)) (IsReply register (keep.deposits old) request) from (small_needs d k register bytes Stands permit refusal needs))
+    (needs_of (OrDenied d (OrRefused terms bytes Stands)) (IsReply terms (keep.deposits old) request) from (small_needs d k terms bytes Stands permit refusal needs))
 refusal_serves keep rules request old (Receipt n e) d k bytes Stands works permit refusal needs to from next = absurd refusal
 refusal_serves keep rules request old Clean d k bytes Stands works permit refusal needs to from next = absurd refusal
 refusal_serves keep rules request old (Listing l) d k bytes Stands works permit refusal needs to from next = absurd refusal
@@ -115,28 +115,28 @@ clean_needs : NeedsMemory IsCleanAnswer
 clean_needs = (λ n e. cc, λ e. cc)
 
 pub check_denied : {K : Type 0} (keep : Ghosts K) (rules : List Rule) (caller : Caller) (project bytes : List ℕ) (day : ℤ) (old : K) (m : ℕ) → keep.has_failed old ≡ false
-    → decided (register_at keep rules old) caller project verbs.Check ≡ Deny m → Serves keep rules (check caller project bytes day) old old (Denied m)
+    → decided (terms_at keep rules old) caller project verbs.Check ≡ Deny m → Serves keep rules (check caller project bytes day) old old (Denied m)
 check_denied keep rules caller project bytes day old m works deny =
-    let register = register_at keep rules old in
+    let terms = terms_at keep rules old in
     replies_at_once keep rules (check caller project bytes day) old (Denied m) works refl
-    (denied_reply (decided register caller project verbs.Check) m (OrRefused register bytes IsCleanAnswer) deny) (inr (λ list change. change, refl))
+    (denied_reply (decided terms caller project verbs.Check) m (OrRefused terms bytes IsCleanAnswer) deny) (inr (λ list change. change, refl))
 
 check_refused : {K : Type 0} (keep : Ghosts K) (rules : List Rule) (caller : Caller) (project bytes : List ℕ) (day : ℤ) (old : K) (answer : Answer) (k : ℕ) → keep.has_failed old ≡ false
-    → decided (register_at keep rules old) caller project verbs.Check ≡ Permit k → IsRefusal (keep.dictionary old) bytes answer → Serves keep rules (check caller project bytes day) old old answer
+    → decided (terms_at keep rules old) caller project verbs.Check ≡ Permit k → IsRefusal (keep.dictionary old) bytes answer → Serves keep rules (check caller project bytes day) old old answer
 check_refused keep rules caller project bytes day old answer k works permit refusal =
-    refusal_serves keep rules (check caller project bytes day) old answer (decided (register_at keep rules old) caller project verbs.Check) k bytes IsCleanAnswer works permit refusal clean_needs
+    refusal_serves keep rules (check caller project bytes day) old answer (decided (terms_at keep rules old) caller project verbs.Check) k bytes IsCleanAnswer works permit refusal clean_needs
     (λ r h. h) (λ r h. h) (λ r h is. inr (λ list change. change, refl))
 
 check_clean : {K : Type 0} (keep : Ghosts K) (rules : List Rule) (caller : Caller) (project bytes : List ℕ) (day : ℤ) (old : K) (k : ℕ) → keep.has_failed old ≡ false
-    → decided (register_at keep rules old) caller project verbs.Check ≡ Permit k → length bytes ≤ LIMIT → AreFindings (keep.dictionary old) bytes [] → Serves keep rules (check caller project bytes day) old old Clean
+    → decided (terms_at keep rules old) caller project verbs.Check ≡ Permit k → length bytes ≤ LIMIT → AreFindings (keep.dictionary old) bytes [] → Serves keep rules (check caller project bytes day) old old Clean
 check_clean keep rules caller project bytes day old k works permit le are =
-    let register = register_at keep rules old in
+    let terms = terms_at keep rules old in
     replies_at_once keep rules (check caller project bytes day) old Clean works refl
-    (permitted_reply (decided register caller project verbs.Check) k (OrRefused register bytes IsCleanAnswer) Clean permit (refused_none register bytes IsCleanAnswer Clean le are refl)) (inr (λ list change. change, refl))
+    (permitted_reply (decided terms caller project verbs.Check) k (OrRefused terms bytes IsCleanAnswer) Clean permit (refused_none terms bytes IsCleanAnswer Clean le are refl)) (inr (λ list change. change, refl))
 
 -- the body is refused, or it has no finding
 pub check_answered : {K : Type 0} (keep : Ghosts K) (rules : List Rule) (caller : Caller) (project bytes : List ℕ) (day : ℤ) (old : K) (given : Entries) (answer : Answer) (k : ℕ) → keep.has_failed old ≡ false
-    → decided (register_at keep rules old) caller project verbs.Check ≡ Permit k → given ≡ keep.dictionary old → IsRefusal given bytes answer ⊎ ((answer ≡ Clean) × (length bytes ≤ LIMIT) × AreFindings given bytes [])
+    → decided (terms_at keep rules old) caller project verbs.Check ≡ Permit k → given ≡ keep.dictionary old → IsRefusal given bytes answer ⊎ ((answer ≡ Clean) × (length bytes ≤ LIMIT) × AreFindings given bytes [])
     → Serves keep rules (check caller project bytes day) old old answer
 check_answered keep rules caller project bytes day old given answer k works permit same (inl refusal) =
     check_refused keep rules caller project bytes day old answer k works permit (subst (λ (e : Entries). IsRefusal e bytes answer) same refusal)

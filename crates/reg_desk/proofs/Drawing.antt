@@ -24,10 +24,10 @@ use Rattle.reg_desk.specs.declared.answer.Answer.{Answer}
 use Rattle.reg_desk.specs.declared.answer.Answer.TheVariants.{Text, Denied, Unknown}
 use Rattle.reg_desk.specs.Shown.{Look, IsProjectShown}
 use Rattle.ags_check.specs.Findings.{IsCleanFile}
-use Rattle.reg_desk.specs.Machine.{Register, decided, look_at, IsSeen, IsTextOf, IsDrawnFrom, held, IsReply}
+use Rattle.reg_desk.specs.Machine.{Terms, decided, look_at, IsSeen, IsTextOf, IsDrawnFrom, held, IsReply}
 use Rattle.ags_check.specs.Findings.{file_of}
 use Rattle.reg_desk.specs.View.{look_on, IsExtractOf, Sees}
-use Rattle.reg_desk.specs.Serving.{AsksStore, IsLineFor, text_answer, register_at, OnlyReads, Serves, answer_of}
+use Rattle.reg_desk.specs.Serving.{AsksStore, IsLineFor, text_answer, terms_at, OnlyReads, Serves, answer_of}
 use Rattle.reg_desk.proofs.Replies.{one_file}
 use Rattle.reg_desk.proofs.Bodies.{where_true, where_false}
 use Rattle.reg_desk.proofs.Serves.{is_told, asks_of, replies_at_once, refused_serves, replies_serves, permitted_reply, denied_reply, permit_stands}
@@ -57,11 +57,11 @@ none_held (d ∷ state) (suc (suc n)) (inr lt) = none_held state (suc n) (inr (o
 pub fit_at : (given : Entries) (state : List Sent) (i : ℕ) (d : Sent) → All (IsFit given) state → slice_get state i ≡ Some d → IsFit given d
 fit_at given state i d all at = subst (IsFit given) (get_or_from_slice_get state i d d at) (all i d (slice_get_within state i d at))
 
-pub look_same : (register : Register) (caller : Caller) (day : ℤ) (d : Sent) (head : KeptHead) → IsHeadOf d head → look_on register.rules caller head day ≡ look_at register caller day d
-look_same register caller day d head is =
-    ap (λ (f : List ℕ). record { rules = register.rules; caller = caller; owner = f; project = head.project; embargo = head.embargo; day = day }) is.firm
-    ∙ ap (λ (p : List ℕ). record { rules = register.rules; caller = caller; owner = d.firm; project = p; embargo = head.embargo; day = day }) is.project
-    ∙ ap (λ (e : ℤ). record { rules = register.rules; caller = caller; owner = d.firm; project = d.project; embargo = e; day = day }) is.embargo
+pub look_same : (terms : Terms) (caller : Caller) (day : ℤ) (d : Sent) (head : KeptHead) → IsHeadOf d head → look_on terms.policy caller head day ≡ look_at terms caller day d
+look_same terms caller day d head is =
+    ap (λ (f : List ℕ). record { rules = terms.policy; caller = caller; owner = f; project = head.project; embargo = head.embargo; day = day }) is.firm
+    ∙ ap (λ (p : List ℕ). record { rules = terms.policy; caller = caller; owner = d.firm; project = p; embargo = head.embargo; day = day }) is.project
+    ∙ ap (λ (e : ℤ). record { rules = terms.policy; caller = caller; owner = d.firm; project = d.project; embargo = e; day = day }) is.embargo
 
 pub clean_of : (given : Entries) (d : Sent) (file : CheckedFile) → IsFileOf given d file → IsCleanFile given d.bytes (file_of file)
 clean_of given d file is =
@@ -99,37 +99,37 @@ headed keep old mid number head within fit first read s =
 
 -- ---- what is drawn
 
-drawn_of : (register : Register) (caller : Caller) (groups : List (List ℕ)) (day : ℤ) (project : List ℕ) (d : Sent) (file : CheckedFile) (text : Option (List ℕ)) → IsFileOf register.given d file → bytes_eq d.project project ≡ true
-    → IsExtractOf (look_at register caller day d) (file_of file) groups text → IsDrawnFrom register caller project groups day (Some d) (text_answer text)
-drawn_of register caller groups day project d file (Some text) is same drawn =
-    let clean = clean_of register.given d file is in
+drawn_of : (terms : Terms) (caller : Caller) (groups : List (List ℕ)) (day : ℤ) (project : List ℕ) (d : Sent) (file : CheckedFile) (text : Option (List ℕ)) → IsFileOf terms.dictionary d file → bytes_eq d.project project ≡ true
+    → IsExtractOf (look_at terms caller day d) (file_of file) groups text → IsDrawnFrom terms caller project groups day (Some d) (text_answer text)
+drawn_of terms caller groups day project d file (Some text) is same drawn =
+    let clean = clean_of terms.dictionary d file is in
     where_true (bytes_eq d.project project) _ _ same (inl ((file_of file, clean, drawn.0), (text, (file_of file, clean, drawn.1), refl)))
-drawn_of register caller groups day project d file None is same hidden =
-    let clean = clean_of register.given d file is in
-    where_true (bytes_eq d.project project) _ _ same (inr ((λ seen. hidden (subst (IsProjectShown (look_at register caller day d)) (one_file register.given d.bytes seen.0 (file_of file) seen.1 clean) seen.2)), refl))
+drawn_of terms caller groups day project d file None is same hidden =
+    let clean = clean_of terms.dictionary d file is in
+    where_true (bytes_eq d.project project) _ _ same (inr ((λ seen. hidden (subst (IsProjectShown (look_at terms caller day d)) (one_file terms.dictionary d.bytes seen.0 (file_of file) seen.1 clean) seen.2)), refl))
 
 -- by its head, and by its files
-pub head_drawn : (register : Register) (state : List Sent) (caller : Caller) (project : List ℕ) (number : ℕ) (groups : List (List ℕ)) (day : ℤ) (head : KeptHead) (text : Option (List ℕ))
-    → IsHeaded register.given state number head → bytes_eq head.project project ≡ true
-    → OfDeposit register.given state number (λ file. IsExtractOf (look_on register.rules caller head day) (file_of file) groups text)
-    → ∥ IsDrawnFrom register caller project groups day (held number state) (text_answer text) ∥₁
-head_drawn register state caller project number groups day head text h same drawn =
-    ∥∥₁_map h.fit (λ (f : (file : CheckedFile) × IsFileOf register.given h.kept file).
-    let is = subst (λ (look : Look). IsExtractOf look (file_of f.0) groups text) (look_same register caller day h.kept head h.of_head) (drawn h.kept f.0 h.place f.1) in
-    subst (λ (o : Option Sent). IsDrawnFrom register caller project groups day o (text_answer text)) (sym h.holds)
-    (drawn_of register caller groups day project h.kept f.0 text f.1 (ap (λ (p : List ℕ). bytes_eq p project) (sym h.of_head.project) ∙ same) is))
+pub head_drawn : (terms : Terms) (state : List Sent) (caller : Caller) (project : List ℕ) (number : ℕ) (groups : List (List ℕ)) (day : ℤ) (head : KeptHead) (text : Option (List ℕ))
+    → IsHeaded terms.dictionary state number head → bytes_eq head.project project ≡ true
+    → OfDeposit terms.dictionary state number (λ file. IsExtractOf (look_on terms.policy caller head day) (file_of file) groups text)
+    → ∥ IsDrawnFrom terms caller project groups day (held number state) (text_answer text) ∥₁
+head_drawn terms state caller project number groups day head text h same drawn =
+    ∥∥₁_map h.fit (λ (f : (file : CheckedFile) × IsFileOf terms.dictionary h.kept file).
+    let is = subst (λ (look : Look). IsExtractOf look (file_of f.0) groups text) (look_same terms caller day h.kept head h.of_head) (drawn h.kept f.0 h.place f.1) in
+    subst (λ (o : Option Sent). IsDrawnFrom terms caller project groups day o (text_answer text)) (sym h.holds)
+    (drawn_of terms caller groups day project h.kept f.0 text f.1 (ap (λ (p : List ℕ). bytes_eq p project) (sym h.of_head.project) ∙ same) is))
 
 -- no deposit has the number
-pub unheld_drawn : (register : Register) (state : List Sent) (caller : Caller) (project : List ℕ) (number : ℕ) (groups : List (List ℕ)) (day : ℤ) → (number ≡ 0) ⊎ (length state < number)
-    → IsDrawnFrom register caller project groups day (held number state) Unknown
-unheld_drawn register state caller project number groups day outside =
-    subst (λ (o : Option Sent). IsDrawnFrom register caller project groups day o Unknown) (sym (none_held state number outside)) refl
+pub unheld_drawn : (terms : Terms) (state : List Sent) (caller : Caller) (project : List ℕ) (number : ℕ) (groups : List (List ℕ)) (day : ℤ) → (number ≡ 0) ⊎ (length state < number)
+    → IsDrawnFrom terms caller project groups day (held number state) Unknown
+unheld_drawn terms state caller project number groups day outside =
+    subst (λ (o : Option Sent). IsDrawnFrom terms caller project groups day o Unknown) (sym (none_held state number outside)) refl
 
 -- it is of another project
-pub other_drawn : (register : Register) (state : List Sent) (caller : Caller) (project : List ℕ) (number : ℕ) (groups : List (List ℕ)) (day : ℤ) (d : Sent) (head : KeptHead) → held number state ≡ Some d → IsHeadOf d head
-    → bytes_eq head.project project ≡ false → IsDrawnFrom register caller project groups day (held number state) Unknown
-other_drawn register state caller project number groups day d head holds of_head other =
-    subst (λ (o : Option Sent). IsDrawnFrom register caller project groups day o Unknown) (sym holds)
+pub other_drawn : (terms : Terms) (state : List Sent) (caller : Caller) (project : List ℕ) (number : ℕ) (groups : List (List ℕ)) (day : ℤ) (d : Sent) (head : KeptHead) → held number state ≡ Some d → IsHeadOf d head
+    → bytes_eq head.project project ≡ false → IsDrawnFrom terms caller project groups day (held number state) Unknown
+other_drawn terms state caller project number groups day d head holds of_head other =
+    subst (λ (o : Option Sent). IsDrawnFrom terms caller project groups day o Unknown) (sym holds)
     (where_false (bytes_eq d.project project) _ _ (ap (λ (p : List ℕ). bytes_eq p project) (sym of_head.project) ∙ other) refl)
 
 -- ---- the answers to an extract
@@ -138,15 +138,15 @@ other_drawn register state caller project number groups day d head holds of_head
 abbrev IsOne : Answer → Type 0
 IsOne answer = (answer ≡ Unknown) ⊎ ((t : List ℕ) × (answer ≡ Text t))
 
-one_of : (register : Register) (caller : Caller) (project : List ℕ) (groups : List (List ℕ)) (day : ℤ) (d : Sent) (t : Bool) (answer : Answer)
-    → MatchBool t ((IsSeen register caller day d × ((text : List ℕ) × IsTextOf register caller day groups d text × (answer ≡ Text text))) ⊎ ((IsSeen register caller day d → ⊥) × (answer ≡ Unknown))) (answer ≡ Unknown) → IsOne answer
-one_of register caller project groups day d true answer (inl h) = inr (h.1.0, h.1.2)
-one_of register caller project groups day d true answer (inr h) = inl h.1
-one_of register caller project groups day d false answer h = inl h
+one_of : (terms : Terms) (caller : Caller) (project : List ℕ) (groups : List (List ℕ)) (day : ℤ) (d : Sent) (t : Bool) (answer : Answer)
+    → MatchBool t ((IsSeen terms caller day d × ((text : List ℕ) × IsTextOf terms caller day groups d text × (answer ≡ Text text))) ⊎ ((IsSeen terms caller day d → ⊥) × (answer ≡ Unknown))) (answer ≡ Unknown) → IsOne answer
+one_of terms caller project groups day d true answer (inl h) = inr (h.1.0, h.1.2)
+one_of terms caller project groups day d true answer (inr h) = inl h.1
+one_of terms caller project groups day d false answer h = inl h
 
-drawn_one : (register : Register) (caller : Caller) (project : List ℕ) (groups : List (List ℕ)) (day : ℤ) (o : Option Sent) (answer : Answer) → IsDrawnFrom register caller project groups day o answer → IsOne answer
-drawn_one register caller project groups day None answer h = inl h
-drawn_one register caller project groups day (Some d) answer h = one_of register caller project groups day d (bytes_eq d.project project) answer h
+drawn_one : (terms : Terms) (caller : Caller) (project : List ℕ) (groups : List (List ℕ)) (day : ℤ) (o : Option Sent) (answer : Answer) → IsDrawnFrom terms caller project groups day o answer → IsOne answer
+drawn_one terms caller project groups day None answer h = inl h
+drawn_one terms caller project groups day (Some d) answer h = one_of terms caller project groups day d (bytes_eq d.project project) answer h
 
 one_asks : AsksStore IsOne
 one_asks = (
@@ -155,38 +155,38 @@ one_asks = (
   λ h. elim h [ inl e ↦ cc | inr e ↦ let same = e.1 in cc ],
 )
 
-extract_asks : (register : Register) (state : List Sent) (caller : Caller) (project : List ℕ) (number : ℕ) (groups : List (List ℕ)) (day : ℤ) (k : ℕ) → decided register caller project verbs.Extract ≡ Permit k
-    → AsksStore (IsReply register state (extract caller project number groups day))
-extract_asks register state caller project number groups day k permit =
-    let Drawn = IsDrawnFrom register caller project groups day (held number state) in
-    asks_of IsOne (IsReply register state (extract caller project number groups day))
-    (λ reply is. drawn_one register caller project groups day (held number state) reply (permit_stands (decided register caller project verbs.Extract) k Drawn reply permit is)) one_asks
+extract_asks : (terms : Terms) (state : List Sent) (caller : Caller) (project : List ℕ) (number : ℕ) (groups : List (List ℕ)) (day : ℤ) (k : ℕ) → decided terms caller project verbs.Extract ≡ Permit k
+    → AsksStore (IsReply terms state (extract caller project number groups day))
+extract_asks terms state caller project number groups day k permit =
+    let Drawn = IsDrawnFrom terms caller project groups day (held number state) in
+    asks_of IsOne (IsReply terms state (extract caller project number groups day))
+    (λ reply is. drawn_one terms caller project groups day (held number state) reply (permit_stands (decided terms caller project verbs.Extract) k Drawn reply permit is)) one_asks
 
 pub extract_denied : {K : Type 0} (keep : Ghosts K) (rules : List Rule) (caller : Caller) (project : List ℕ) (number : ℕ) (groups : List (List ℕ)) (day : ℤ) (old : K) (m : ℕ) → keep.has_failed old ≡ false
-    → decided (register_at keep rules old) caller project verbs.Extract ≡ Deny m → Serves keep rules (extract caller project number groups day) old old (Denied m)
+    → decided (terms_at keep rules old) caller project verbs.Extract ≡ Deny m → Serves keep rules (extract caller project number groups day) old old (Denied m)
 extract_denied keep rules caller project number groups day old m works deny =
-    let register = register_at keep rules old in
+    let terms = terms_at keep rules old in
     replies_at_once keep rules (extract caller project number groups day) old (Denied m) works refl
-    (denied_reply (decided register caller project verbs.Extract) m (IsDrawnFrom register caller project groups day (held number (keep.deposits old))) deny) (inr (λ list change. change, refl))
+    (denied_reply (decided terms caller project verbs.Extract) m (IsDrawnFrom terms caller project groups day (held number (keep.deposits old))) deny) (inr (λ list change. change, refl))
 
 pub extract_unread : {K : Type 0} (keep : Ghosts K) (rules : List Rule) (caller : Caller) (project : List ℕ) (number : ℕ) (groups : List (List ℕ)) (day : ℤ) (old new : K) (k : ℕ) (e : KeepError)
-    → decided (register_at keep rules old) caller project verbs.Extract ≡ Permit k → OnlyReads keep old new (is_store e) → e ≢ errors.Full → Serves keep rules (extract caller project number groups day) old new (answer_of e)
+    → decided (terms_at keep rules old) caller project verbs.Extract ≡ Permit k → OnlyReads keep old new (is_store e) → e ≢ errors.Full → Serves keep rules (extract caller project number groups day) old new (answer_of e)
 extract_unread keep rules caller project number groups day old new k e permit reads named =
-    let register = register_at keep rules old in
+    let terms = terms_at keep rules old in
     let state = keep.deposits old in
-    let asks = extract_asks register state caller project number groups day k permit in
+    let asks = extract_asks terms state caller project number groups day k permit in
     refused_serves keep rules (extract caller project number groups day) old new e reads named asks.0 (λ s. asks)
 
 pub extract_replies : {K : Type 0} (keep : Ghosts K) (rules : List Rule) (caller : Caller) (project : List ℕ) (number : ℕ) (groups : List (List ℕ)) (day : ℤ) (old new : K) (k : ℕ) (answer : Answer)
-    → decided (register_at keep rules old) caller project verbs.Extract ≡ Permit k → OnlyReads keep old new false → is_told answer ≡ true
-    → (keep.is_sound new → ∥ IsDrawnFrom (register_at keep rules old) caller project groups day (held number (keep.deposits old)) answer ∥₁)
+    → decided (terms_at keep rules old) caller project verbs.Extract ≡ Permit k → OnlyReads keep old new false → is_told answer ≡ true
+    → (keep.is_sound new → ∥ IsDrawnFrom (terms_at keep rules old) caller project groups day (held number (keep.deposits old)) answer ∥₁)
     → Serves keep rules (extract caller project number groups day) old new answer
 extract_replies keep rules caller project number groups day old new k answer permit reads told drawn =
-    let register = register_at keep rules old in
+    let terms = terms_at keep rules old in
     let state = keep.deposits old in
     replies_serves keep rules (extract caller project number groups day) old new answer reads told
-    (λ s. ∥∥₁_map (drawn s) (permitted_reply (decided register caller project verbs.Extract) k (IsDrawnFrom register caller project groups day (held number state)) answer permit))
-    (λ s. inr (λ list change. change, refl)) (extract_asks register state caller project number groups day k permit).0
+    (λ s. ∥∥₁_map (drawn s) (permitted_reply (decided terms caller project verbs.Extract) k (IsDrawnFrom terms caller project groups day (held number state)) answer permit))
+    (λ s. inr (λ list change. change, refl)) (extract_asks terms state caller project number groups day k permit).0
 
 -- ---- what is seen
 
@@ -204,31 +204,31 @@ kept_lives keep old number (Err errors.Store) within fit broken =
     absurd (∥∥₁_elim (fit_at (keep.dictionary old) (keep.deposits old) (number - 1) d.0 fit d.1) (Prim.hlevel props) (λ (f : (file : CheckedFile) × IsFileOf (keep.dictionary old) d.0 file). broken refl d.0 f.0 d.1 f.1))
 
 -- whether its row of PROJ is shown, where that was read after its head
-seen_file : {K : Type 0} (keep : Ghosts K) (register : Register) (old mid : K) (caller : Caller) (number : ℕ) (day : ℤ) (head : KeptHead) (look : Look) (seen : Bool) → OnlyReads keep old mid false → keep.is_sound mid
-    → (h : IsHeaded (keep.dictionary old) (keep.deposits old) number head) → look ≡ look_at register caller day h.kept → OfDeposit (keep.dictionary mid) (keep.deposits mid) number (λ file. Sees look file seen)
-    → (file : CheckedFile) → IsFileOf (keep.dictionary old) h.kept file → (seen ≡ true) ↔ IsProjectShown (look_at register caller day h.kept) (file_of file)
-seen_file keep register old mid caller number day head look seen reads s h same sees file is =
+seen_file : {K : Type 0} (keep : Ghosts K) (terms : Terms) (old mid : K) (caller : Caller) (number : ℕ) (day : ℤ) (head : KeptHead) (look : Look) (seen : Bool) → OnlyReads keep old mid false → keep.is_sound mid
+    → (h : IsHeaded (keep.dictionary old) (keep.deposits old) number head) → look ≡ look_at terms caller day h.kept → OfDeposit (keep.dictionary mid) (keep.deposits mid) number (λ file. Sees look file seen)
+    → (file : CheckedFile) → IsFileOf (keep.dictionary old) h.kept file → (seen ≡ true) ↔ IsProjectShown (look_at terms caller day h.kept) (file_of file)
+seen_file keep terms old mid caller number day head look seen reads s h same sees file is =
     subst (λ (l : Look). (seen ≡ true) ↔ IsProjectShown l (file_of file)) same
     (sees h.kept file (ap (λ (l : List Sent). slice_get l (number - 1)) (reads.same s refl) ∙ h.place) (subst (λ (e : Entries). IsFileOf e h.kept file) (sym reads.same_dictionary) is))
 
 pub seen_listed : {K : Type 0} (keep : Ghosts K) (rules : List Rule) (old mid : K) (caller : Caller) (number : ℕ) (day : ℤ) (head : KeptHead) (look : Look) (seen : Bool) → OnlyReads keep old mid false → keep.is_sound mid
-    → (h : IsHeaded (keep.dictionary old) (keep.deposits old) number head) → look ≡ look_at (register_at keep rules old) caller day h.kept → OfDeposit (keep.dictionary mid) (keep.deposits mid) number (λ file. Sees look file seen) → seen ≡ true
-    → (d : Sent) → held number (keep.deposits old) ≡ Some d → ∥ IsLineFor (register_at keep rules old) caller day number d (Some (record { number = number; firm = head.firm; embargo = head.embargo })) ∥₁
+    → (h : IsHeaded (keep.dictionary old) (keep.deposits old) number head) → look ≡ look_at (terms_at keep rules old) caller day h.kept → OfDeposit (keep.dictionary mid) (keep.deposits mid) number (λ file. Sees look file seen) → seen ≡ true
+    → (d : Sent) → held number (keep.deposits old) ≡ Some d → ∥ IsLineFor (terms_at keep rules old) caller day number d (Some (record { number = number; firm = head.firm; embargo = head.embargo })) ∥₁
 seen_listed keep rules old mid caller number day head look seen reads s h same sees is d holds =
-    let register = register_at keep rules old in
-    subst (λ (k : Sent). ∥ IsLineFor register caller day number k (Some (record { number = number; firm = head.firm; embargo = head.embargo })) ∥₁) (same_kept (held number (keep.deposits old)) h.kept d h.holds holds)
-    (∥∥₁_map h.fit (λ (f : (file : CheckedFile) × IsFileOf register.given h.kept file). (
-      (file_of f.0, clean_of register.given h.kept f.0 f.1, (seen_file keep register old mid caller number day head look seen reads s h same sees f.0 f.1).0 is),
+    let terms = terms_at keep rules old in
+    subst (λ (k : Sent). ∥ IsLineFor terms caller day number k (Some (record { number = number; firm = head.firm; embargo = head.embargo })) ∥₁) (same_kept (held number (keep.deposits old)) h.kept d h.holds holds)
+    (∥∥₁_map h.fit (λ (f : (file : CheckedFile) × IsFileOf terms.dictionary h.kept file). (
+      (file_of f.0, clean_of terms.dictionary h.kept f.0 f.1, (seen_file keep terms old mid caller number day head look seen reads s h same sees f.0 f.1).0 is),
       ap (λ (firm : List ℕ). record { number = number; firm = firm; embargo = head.embargo }) h.of_head.firm ∙ ap (λ (e : ℤ). record { number = number; firm = h.kept.firm; embargo = e }) h.of_head.embargo,
     )))
 
 pub seen_unlisted : {K : Type 0} (keep : Ghosts K) (rules : List Rule) (old mid : K) (caller : Caller) (number : ℕ) (day : ℤ) (head : KeptHead) (look : Look) (seen : Bool) → OnlyReads keep old mid false → keep.is_sound mid
-    → (h : IsHeaded (keep.dictionary old) (keep.deposits old) number head) → look ≡ look_at (register_at keep rules old) caller day h.kept → OfDeposit (keep.dictionary mid) (keep.deposits mid) number (λ file. Sees look file seen) → seen ≡ false
-    → (d : Sent) → held number (keep.deposits old) ≡ Some d → ∥ IsLineFor (register_at keep rules old) caller day number d None ∥₁
+    → (h : IsHeaded (keep.dictionary old) (keep.deposits old) number head) → look ≡ look_at (terms_at keep rules old) caller day h.kept → OfDeposit (keep.dictionary mid) (keep.deposits mid) number (λ file. Sees look file seen) → seen ≡ false
+    → (d : Sent) → held number (keep.deposits old) ≡ Some d → ∥ IsLineFor (terms_at keep rules old) caller day number d None ∥₁
 seen_unlisted keep rules old mid caller number day head look seen reads s h same sees is d holds =
-    let register = register_at keep rules old in
-    subst (λ (k : Sent). ∥ IsLineFor register caller day number k None ∥₁) (same_kept (held number (keep.deposits old)) h.kept d h.holds holds)
-    (∥∥₁_map h.fit (λ (f : (file : CheckedFile) × IsFileOf register.given h.kept file) (was : IsSeen register caller day h.kept).
-    let clean = clean_of register.given h.kept f.0 f.1 in
-    let shown = subst (IsProjectShown (look_at register caller day h.kept)) (one_file register.given h.kept.bytes was.0 (file_of f.0) was.1 clean) was.2 in
-    true≢false (sym ((seen_file keep register old mid caller number day head look seen reads s h same sees f.0 f.1).1 shown) ∙ is)))
+    let terms = terms_at keep rules old in
+    subst (λ (k : Sent). ∥ IsLineFor terms caller day number k None ∥₁) (same_kept (held number (keep.deposits old)) h.kept d h.holds holds)
+    (∥∥₁_map h.fit (λ (f : (file : CheckedFile) × IsFileOf terms.dictionary h.kept file) (was : IsSeen terms caller day h.kept).
+    let clean = clean_of terms.dictionary h.kept f.0 f.1 in
+    let shown = subst (IsProjectShown (look_at terms caller day h.kept)) (one_file terms.dictionary h.kept.bytes was.0 (file_of f.0) was.1 clean) was.2 in
+    true≢false (sym ((seen_file keep terms old mid caller number day head look seen reads s h same sees f.0 f.1).1 shown) ∙ is)))

@@ -16,14 +16,14 @@ use Rattle.reg_desk.specs.Asked.{Asked, deposit, check, listing, extract}
 use Rattle.reg_desk.specs.declared.answer.Listed.{Listed}
 use Rattle.reg_desk.specs.declared.answer.Answer.{Answer}
 use Rattle.reg_desk.specs.declared.answer.Answer.TheVariants.{Receipt, Clean, Findings, Listing, Text, Denied, Unknown, TooLarge, Full, NoMemory, StoreFailed}
-use Rattle.reg_desk.specs.Machine.{Register, decided, OrDenied, OrFound, OrRefused, first_equal, receipt_of, IsListing, IsReply}
-use Rattle.reg_desk.specs.Serving.{IsAnswer, register_at, Serves}
+use Rattle.reg_desk.specs.Machine.{Terms, decided, OrDenied, OrFound, OrRefused, first_equal, receipt_of, IsListing, IsReply}
+use Rattle.reg_desk.specs.Serving.{IsAnswer, terms_at, Serves}
 use Rattle.reg_desk.specs.Desks.{IsCleanText, IsSameText, IsSameAnswer}
 use Rattle.reg_desk.proofs.Runs.{texts_clean, extract_again}
 
-text_reply : (register : Register) (state : List Sent) (request : Asked) (text : List ℕ) → IsAnswer register state request (Text text) → IsReply register state request (Text text)
+text_reply : (terms : Terms) (state : List Sent) (request : Asked) (text : List ℕ) → IsAnswer terms state request (Text text) → IsReply terms state request (Text text)
 unfolding IsAnswer
-text_reply register state request text is = is
+text_reply terms state request text is = is
 
 -- ---- no other request is answered by a text
 
@@ -42,14 +42,14 @@ where_no_text : (t : Bool) (A B : Type 0) → (A → ⊥) → (B → ⊥) → Ma
 where_no_text true A B a b h = a h
 where_no_text false A B a b h = b h
 
-refused_no_text : (register : Register) (bytes : List ℕ) (P : Answer → Type 0) → NoText P → NoText (OrRefused register bytes P)
-refused_no_text register bytes P never = λ text h.
-    where_no_text (nat_lt LIMIT (length bytes)) (Text text ≡ TooLarge) ((found : List Finding) × AreFindings register.given bytes found × OrFound found P (Text text))
+refused_no_text : (terms : Terms) (bytes : List ℕ) (P : Answer → Type 0) → NoText P → NoText (OrRefused terms bytes P)
+refused_no_text terms bytes P never = λ text h.
+    where_no_text (nat_lt LIMIT (length bytes)) (Text text ≡ TooLarge) ((found : List Finding) × AreFindings terms.dictionary bytes found × OrFound found P (Text text))
     (λ e. absurd cc) (λ f. found_no_text f.0 P never text f.2) h
 
-receipt_no_text : (register : Register) (embargo : ℤ) (count : ℕ) (first : Option (ℕ × ℤ)) → NoText (λ r. r ≡ receipt_of register embargo count first)
-receipt_no_text register embargo count (Some was) = λ text h. absurd cc
-receipt_no_text register embargo count None = λ text h. full (nat_lt count register.limit) text h
+receipt_no_text : (terms : Terms) (embargo : ℤ) (count : ℕ) (first : Option (ℕ × ℤ)) → NoText (λ r. r ≡ receipt_of terms embargo count first)
+receipt_no_text terms embargo count (Some was) = λ text h. absurd cc
+receipt_no_text terms embargo count None = λ text h. full (nat_lt count terms.limit) text h
   where
     full : (t : Bool) (text : List ℕ) → Text text ≡ cond t (Receipt (count + 1) embargo) Full → ⊥
     full true text h = absurd cc
@@ -57,22 +57,22 @@ receipt_no_text register embargo count None = λ text h. full (nat_lt count regi
 
 -- ---- a text is clean
 
-text_clean : (register : Register) (state : List Sent) (request : Asked) (text : List ℕ) → IsReply register state request (Text text) → AreFindings register.given text []
-text_clean register state (deposit caller project embargo bytes day) text h =
-    let P = λ (r : Answer). r ≡ receipt_of register embargo (length state) (first_equal 1 caller.firm project bytes state) in
-    absurd (denied_no_text (decided register caller project verbs.Deposit) (OrRefused register bytes P) (refused_no_text register bytes P (receipt_no_text register embargo (length state) (first_equal 1 caller.firm project bytes state))) text h)
-text_clean register state (check caller project bytes day) text h =
+text_clean : (terms : Terms) (state : List Sent) (request : Asked) (text : List ℕ) → IsReply terms state request (Text text) → AreFindings terms.dictionary text []
+text_clean terms state (deposit caller project embargo bytes day) text h =
+    let P = λ (r : Answer). r ≡ receipt_of terms embargo (length state) (first_equal 1 caller.firm project bytes state) in
+    absurd (denied_no_text (decided terms caller project verbs.Deposit) (OrRefused terms bytes P) (refused_no_text terms bytes P (receipt_no_text terms embargo (length state) (first_equal 1 caller.firm project bytes state))) text h)
+text_clean terms state (check caller project bytes day) text h =
     let P = λ (r : Answer). r ≡ Clean in
-    absurd (denied_no_text (decided register caller project verbs.Check) (OrRefused register bytes P) (refused_no_text register bytes P (λ t e. absurd cc)) text h)
-text_clean register state (listing caller project day) text h =
-    absurd (denied_no_text (decided register caller project verbs.List) (λ r. (lines : List Listed) × IsListing register caller project day 1 state lines × (r ≡ Listing lines)) (λ t l. absurd (let e = l.2 in cc)) text h)
-text_clean register state (extract caller project number groups day) text h = texts_clean register state caller project number groups day text h
+    absurd (denied_no_text (decided terms caller project verbs.Check) (OrRefused terms bytes P) (refused_no_text terms bytes P (λ t e. absurd cc)) text h)
+text_clean terms state (listing caller project day) text h =
+    absurd (denied_no_text (decided terms caller project verbs.List) (λ r. (lines : List Listed) × IsListing terms caller project day 1 state lines × (r ≡ Listing lines)) (λ t l. absurd (let e = l.2 in cc)) text h)
+text_clean terms state (extract caller project number groups day) text h = texts_clean terms state caller project number groups day text h
 
 pub clean_text : {K : Type 0} (keep : Ghosts K) (rules : List Rule) (request : Asked) (old new : K) (answer : Answer) → Serves keep rules request old new answer → keep.is_sound new → IsCleanText keep old answer
 clean_text keep rules request old new (Text text) serves s =
-    let register = register_at keep rules old in
-    ∥∥₁_map (serves.answered s) (λ (is : IsAnswer register (keep.deposits old) request (Text text)).
-    text_clean register (keep.deposits old) request text (text_reply register (keep.deposits old) request text is))
+    let terms = terms_at keep rules old in
+    ∥∥₁_map (serves.answered s) (λ (is : IsAnswer terms (keep.deposits old) request (Text text)).
+    text_clean terms (keep.deposits old) request text (text_reply terms (keep.deposits old) request text is))
 clean_text keep rules request old new (Receipt n e) serves s = tt
 clean_text keep rules request old new Clean serves s = tt
 clean_text keep rules request old new (Findings l) serves s = tt
@@ -92,10 +92,10 @@ drawn_again keep rules (check caller project bytes day) old new text serves s = 
 drawn_again keep rules (listing caller project day) old new text serves s = tt
 drawn_again keep rules (extract caller project number (g ∷ groups) day) old new text serves s = tt
 drawn_again keep rules (extract caller project number [] day) old new text serves s = λ kept holds was whole.
-    let register = register_at keep rules old in
+    let terms = terms_at keep rules old in
     let request = extract caller project number [] day in
-    ∥∥₁_elim (serves.answered s) (Prim.hlevel props) (λ (is : IsAnswer register (keep.deposits old) request (Text text)).
-    extract_again register (keep.deposits old) kept caller project number day text holds was whole (text_reply register (keep.deposits old) request text is))
+    ∥∥₁_elim (serves.answered s) (Prim.hlevel props) (λ (is : IsAnswer terms (keep.deposits old) request (Text text)).
+    extract_again terms (keep.deposits old) kept caller project number day text holds was whole (text_reply terms (keep.deposits old) request text is))
 
 pub same_answer : {K : Type 0} (keep : Ghosts K) (rules : List Rule) (request : Asked) (old new : K) (answer : Answer) → Serves keep rules request old new answer → keep.is_sound new → IsSameAnswer keep rules old request answer
 same_answer keep rules request old new (Text text) serves s = drawn_again keep rules request old new text serves s

@@ -18,8 +18,8 @@ use Rattle.reg_desk.specs.Asked.{listing}
 use Rattle.reg_desk.specs.declared.answer.Listed.{Listed}
 use Rattle.reg_desk.specs.declared.answer.Answer.{Answer}
 use Rattle.reg_desk.specs.declared.answer.Answer.TheVariants.{Listing, Denied}
-use Rattle.reg_desk.specs.Machine.{Register, decided, IsSeen, IsListing, held, IsReply}
-use Rattle.reg_desk.specs.Serving.{AsksStore, IsLineFor, register_at, OnlyReads, Serves, answer_of}
+use Rattle.reg_desk.specs.Machine.{Terms, decided, IsSeen, IsListing, held, IsReply}
+use Rattle.reg_desk.specs.Serving.{AsksStore, IsLineFor, terms_at, OnlyReads, Serves, answer_of}
 use Rattle.reg_desk.proofs.Drawing.{held_at}
 use Rattle.reg_desk.proofs.Serves.{asks_of, replies_at_once, refused_serves, replies_serves, permitted_reply, denied_reply, permit_stands}
 
@@ -30,30 +30,30 @@ with_line None more = more
 with_line (Some line) more = line ∷ more
 
 -- the lines of the deposits that have these numbers
-abbrev pub AreLines : Register → Caller → ℤ → (ℕ → Option Sent) → List ℕ → List Listed → Type 0
-AreLines register caller day at [] lines = lines ≡ []
-AreLines register caller day at (n ∷ numbers) lines =
-    (kept : Sent) × (line : Option Listed) × (more : List Listed) × (at n ≡ Some kept) × IsLineFor register caller day n kept line × (lines ≡ with_line line more) × AreLines register caller day at numbers more
+abbrev pub AreLines : Terms → Caller → ℤ → (ℕ → Option Sent) → List ℕ → List Listed → Type 0
+AreLines terms caller day at [] lines = lines ≡ []
+AreLines terms caller day at (n ∷ numbers) lines =
+    (kept : Sent) × (line : Option Listed) × (more : List Listed) × (at n ≡ Some kept) × IsLineFor terms caller day n kept line × (lines ≡ with_line line more) × AreLines terms caller day at numbers more
 
 -- the lines so far, where these numbers are left
-abbrev pub SoFar : Register → Caller → ℤ → (ℕ → Option Sent) → List ℕ → List ℕ → List Listed → Type 0
-SoFar register caller day at all numbers lines = (rest : List Listed) → AreLines register caller day at numbers rest → AreLines register caller day at all (lines ++ rest)
+abbrev pub SoFar : Terms → Caller → ℤ → (ℕ → Option Sent) → List ℕ → List ℕ → List Listed → Type 0
+SoFar terms caller day at all numbers lines = (rest : List Listed) → AreLines terms caller day at numbers rest → AreLines terms caller day at all (lines ++ rest)
 
-pub lines_begin : (register : Register) (caller : Caller) (day : ℤ) (at : ℕ → Option Sent) (all : List ℕ) → SoFar register caller day at all all []
-lines_begin register caller day at all = λ rest h. h
+pub lines_begin : (terms : Terms) (caller : Caller) (day : ℤ) (at : ℕ → Option Sent) (all : List ℕ) → SoFar terms caller day at all all []
+lines_begin terms caller day at all = λ rest h. h
 
 abbrev pub put_line : List Listed → Option Listed → List Listed
 put_line lines None = lines
 put_line lines (Some line) = lines ++ line ∷ []
 
-lines_more : (register : Register) (caller : Caller) (day : ℤ) (at : ℕ → Option Sent) (all : List ℕ) (n : ℕ) (numbers : List ℕ) (lines : List Listed) (kept : Sent) (line : Option Listed)
-    → SoFar register caller day at all (n ∷ numbers) lines → at n ≡ Some kept → IsLineFor register caller day n kept line → SoFar register caller day at all numbers (put_line lines line)
-lines_more register caller day at all n numbers lines kept None so_far holds listed = λ rest h. so_far rest (kept, None, rest, holds, listed, refl, h)
-lines_more register caller day at all n numbers lines kept (Some line) so_far holds listed = λ rest h.
-    subst (AreLines register caller day at all) (sym (append_assoc lines (line ∷ []) rest)) (so_far (line ∷ rest) (kept, Some line, rest, holds, listed, refl, h))
+lines_more : (terms : Terms) (caller : Caller) (day : ℤ) (at : ℕ → Option Sent) (all : List ℕ) (n : ℕ) (numbers : List ℕ) (lines : List Listed) (kept : Sent) (line : Option Listed)
+    → SoFar terms caller day at all (n ∷ numbers) lines → at n ≡ Some kept → IsLineFor terms caller day n kept line → SoFar terms caller day at all numbers (put_line lines line)
+lines_more terms caller day at all n numbers lines kept None so_far holds listed = λ rest h. so_far rest (kept, None, rest, holds, listed, refl, h)
+lines_more terms caller day at all n numbers lines kept (Some line) so_far holds listed = λ rest h.
+    subst (AreLines terms caller day at all) (sym (append_assoc lines (line ∷ []) rest)) (so_far (line ∷ rest) (kept, Some line, rest, holds, listed, refl, h))
 
-pub lines_end : (register : Register) (caller : Caller) (day : ℤ) (at : ℕ → Option Sent) (all : List ℕ) (lines : List Listed) → SoFar register caller day at all [] lines → AreLines register caller day at all lines
-lines_end register caller day at all lines so_far = subst (AreLines register caller day at all) (append-nil lines) (so_far [] refl)
+pub lines_end : (terms : Terms) (caller : Caller) (day : ℤ) (at : ℕ → Option Sent) (all : List ℕ) (lines : List Listed) → SoFar terms caller day at all [] lines → AreLines terms caller day at all lines
+lines_end terms caller day at all lines so_far = subst (AreLines terms caller day at all) (append-nil lines) (so_far [] refl)
 
 -- ---- the project's numbers
 
@@ -64,36 +64,36 @@ Stands at n state = (i k : ℕ) (d : Sent) → slice_get state i ≡ Some d → 
 same_some : (o : Option Sent) (d e : Sent) → o ≡ Some d → o ≡ Some e → d ≡ e
 same_some o d e a b = cc
 
-listed_then : (register : Register) (caller : Caller) (project : List ℕ) (day : ℤ) (n : ℕ) (d : Sent) (state : List Sent) (lines more : List Listed) (line : Option Listed) → IsLineFor register caller day n d line → lines ≡ with_line line more
-    → IsListing register caller project day (n + 1) state more
-    → (IsSeen register caller day d × ((l : List Listed) × (lines ≡ record { number = n; firm = d.firm; embargo = d.embargo } ∷ l) × IsListing register caller project day (n + 1) state l))
-    ⊎ ((IsSeen register caller day d → ⊥) × IsListing register caller project day (n + 1) state lines)
-listed_then register caller project day n d state lines more None listed is rest = inr (listed, subst (IsListing register caller project day (n + 1) state) (sym is) rest)
-listed_then register caller project day n d state lines more (Some line) listed is rest = inl (listed.0, (more, is ∙ ap (λ (l : Listed). l ∷ more) listed.1, rest))
+listed_then : (terms : Terms) (caller : Caller) (project : List ℕ) (day : ℤ) (n : ℕ) (d : Sent) (state : List Sent) (lines more : List Listed) (line : Option Listed) → IsLineFor terms caller day n d line → lines ≡ with_line line more
+    → IsListing terms caller project day (n + 1) state more
+    → (IsSeen terms caller day d × ((l : List Listed) × (lines ≡ record { number = n; firm = d.firm; embargo = d.embargo } ∷ l) × IsListing terms caller project day (n + 1) state l))
+    ⊎ ((IsSeen terms caller day d → ⊥) × IsListing terms caller project day (n + 1) state lines)
+listed_then terms caller project day n d state lines more None listed is rest = inr (listed, subst (IsListing terms caller project day (n + 1) state) (sym is) rest)
+listed_then terms caller project day n d state lines more (Some line) listed is rest = inl (listed.0, (more, is ∙ ap (λ (l : Listed). l ∷ more) listed.1, rest))
 
-listing_step : (register : Register) (caller : Caller) (project : List ℕ) (day : ℤ) (at : ℕ → Option Sent) (n : ℕ) (d : Sent) (state : List Sent) (numbers : List ℕ) (lines : List Listed) (t : Bool) → at n ≡ Some d
-    → ((l : List Listed) → AreLines register caller day at numbers l → IsListing register caller project day (n + 1) state l)
-    → AreLines register caller day at (cond t (n ∷ numbers) numbers) lines
-    → MatchBool t ((IsSeen register caller day d × ((l : List Listed) × (lines ≡ record { number = n; firm = d.firm; embargo = d.embargo } ∷ l) × IsListing register caller project day (n + 1) state l))
-    ⊎ ((IsSeen register caller day d → ⊥) × IsListing register caller project day (n + 1) state lines)) (IsListing register caller project day (n + 1) state lines)
-listing_step register caller project day at n d state numbers lines true holds rest h =
+listing_step : (terms : Terms) (caller : Caller) (project : List ℕ) (day : ℤ) (at : ℕ → Option Sent) (n : ℕ) (d : Sent) (state : List Sent) (numbers : List ℕ) (lines : List Listed) (t : Bool) → at n ≡ Some d
+    → ((l : List Listed) → AreLines terms caller day at numbers l → IsListing terms caller project day (n + 1) state l)
+    → AreLines terms caller day at (cond t (n ∷ numbers) numbers) lines
+    → MatchBool t ((IsSeen terms caller day d × ((l : List Listed) × (lines ≡ record { number = n; firm = d.firm; embargo = d.embargo } ∷ l) × IsListing terms caller project day (n + 1) state l))
+    ⊎ ((IsSeen terms caller day d → ⊥) × IsListing terms caller project day (n + 1) state lines)) (IsListing terms caller project day (n + 1) state lines)
+listing_step terms caller project day at n d state numbers lines true holds rest h =
     let same : h.0 ≡ d = same_some (at n) h.0 d h.3 holds in
-    listed_then register caller project day n d state lines h.2 h.1 (subst (λ (k : Sent). IsLineFor register caller day n k h.1) same h.4) h.5 (rest h.2 h.6)
-listing_step register caller project day at n d state numbers lines false holds rest h = rest lines h
+    listed_then terms caller project day n d state lines h.2 h.1 (subst (λ (k : Sent). IsLineFor terms caller day n k h.1) same h.4) h.5 (rest h.2 h.6)
+listing_step terms caller project day at n d state numbers lines false holds rest h = rest lines h
 
-lines_listing : (register : Register) (caller : Caller) (project : List ℕ) (day : ℤ) (at : ℕ → Option Sent) (n : ℕ) (state : List Sent) → Stands at n state
-    → (lines : List Listed) → AreLines register caller day at (numbers_from n project state) lines → IsListing register caller project day n state lines
-lines_listing register caller project day at n [] stands lines h = h
-lines_listing register caller project day at n (d ∷ state) stands lines h =
-    listing_step register caller project day at n d state (numbers_from (n + 1) project state) lines (bytes_eq d.project project) (stands 0 n d refl (omega arith))
-    (lines_listing register caller project day at (n + 1) state (λ i k e is same. stands (suc i) k e is (omega (arith, same)))) h
+lines_listing : (terms : Terms) (caller : Caller) (project : List ℕ) (day : ℤ) (at : ℕ → Option Sent) (n : ℕ) (state : List Sent) → Stands at n state
+    → (lines : List Listed) → AreLines terms caller day at (numbers_from n project state) lines → IsListing terms caller project day n state lines
+lines_listing terms caller project day at n [] stands lines h = h
+lines_listing terms caller project day at n (d ∷ state) stands lines h =
+    listing_step terms caller project day at n d state (numbers_from (n + 1) project state) lines (bytes_eq d.project project) (stands 0 n d refl (omega arith))
+    (lines_listing terms caller project day at (n + 1) state (λ i k e is same. stands (suc i) k e is (omega (arith, same)))) h
 
 held_stands : (state : List Sent) → Stands (λ k. held k state) 1 state
 held_stands state = λ i k d is same. let e : k ≡ suc i = omega (arith, same) in subst (λ (m : ℕ). held m state ≡ Some d) (sym e) is
 
-pub listing_of : (register : Register) (caller : Caller) (project : List ℕ) (day : ℤ) (state : List Sent) (lines : List Listed) → AreLines register caller day (λ k. held k state) (numbers_from 1 project state) lines
-    → IsListing register caller project day 1 state lines
-listing_of register caller project day state lines h = lines_listing register caller project day (λ k. held k state) 1 state (held_stands state) lines h
+pub listing_of : (terms : Terms) (caller : Caller) (project : List ℕ) (day : ℤ) (state : List Sent) (lines : List Listed) → AreLines terms caller day (λ k. held k state) (numbers_from 1 project state) lines
+    → IsListing terms caller project day 1 state lines
+listing_of terms caller project day state lines h = lines_listing terms caller project day (λ k. held k state) 1 state (held_stands state) lines h
 
 -- a number of the list is one of its deposits
 abbrev IsWithin : ℕ → ℕ → List ℕ → Type 0
@@ -121,71 +121,71 @@ drop_get (n ∷ numbers) zero lt = refl
 drop_get (n ∷ numbers) (suc i) lt = drop_get numbers i (omega (arith, lt))
 
 -- one more number
-pub number_more : (register : Register) (caller : Caller) (day : ℤ) (state : List Sent) (all : List ℕ) (i : ℕ) (lines : List Listed) (kept : Sent) (line : Option Listed) → i < length all
-    → SoFar register caller day (λ k. held k state) all (drop i all) lines → held (get_or all i 0) state ≡ Some kept → IsLineFor register caller day (get_or all i 0) kept line
-    → SoFar register caller day (λ k. held k state) all (drop (suc i) all) (put_line lines line)
-number_more register caller day state all i lines kept line lt so_far holds listed =
-    lines_more register caller day (λ k. held k state) all (get_or all i 0) (drop (suc i) all) lines kept line
-    (subst (λ (l : List ℕ). SoFar register caller day (λ k. held k state) all l lines) (drop_get all i lt) so_far) holds listed
+pub number_more : (terms : Terms) (caller : Caller) (day : ℤ) (state : List Sent) (all : List ℕ) (i : ℕ) (lines : List Listed) (kept : Sent) (line : Option Listed) → i < length all
+    → SoFar terms caller day (λ k. held k state) all (drop i all) lines → held (get_or all i 0) state ≡ Some kept → IsLineFor terms caller day (get_or all i 0) kept line
+    → SoFar terms caller day (λ k. held k state) all (drop (suc i) all) (put_line lines line)
+number_more terms caller day state all i lines kept line lt so_far holds listed =
+    lines_more terms caller day (λ k. held k state) all (get_or all i 0) (drop (suc i) all) lines kept line
+    (subst (λ (l : List ℕ). SoFar terms caller day (λ k. held k state) all l lines) (drop_get all i lt) so_far) holds listed
 
 -- one more number, whose deposit is seen or not
-pub number_step : (register : Register) (caller : Caller) (day : ℤ) (state : List Sent) (all : List ℕ) (i : ℕ) (lines : List Listed) (line : Option Listed) → i < length all
-    → (0 < get_or all i 0) × (get_or all i 0 ≤ length state) → ((d : Sent) → held (get_or all i 0) state ≡ Some d → ∥ IsLineFor register caller day (get_or all i 0) d line ∥₁)
-    → ∥ SoFar register caller day (λ k. held k state) all (drop i all) lines ∥₁ → ∥ SoFar register caller day (λ k. held k state) all (drop (i + 1) all) (put_line lines line) ∥₁
-number_step register caller day state all i lines line lt within listed so_far =
+pub number_step : (terms : Terms) (caller : Caller) (day : ℤ) (state : List Sent) (all : List ℕ) (i : ℕ) (lines : List Listed) (line : Option Listed) → i < length all
+    → (0 < get_or all i 0) × (get_or all i 0 ≤ length state) → ((d : Sent) → held (get_or all i 0) state ≡ Some d → ∥ IsLineFor terms caller day (get_or all i 0) d line ∥₁)
+    → ∥ SoFar terms caller day (λ k. held k state) all (drop i all) lines ∥₁ → ∥ SoFar terms caller day (λ k. held k state) all (drop (i + 1) all) (put_line lines line) ∥₁
+number_step terms caller day state all i lines line lt within listed so_far =
     let d = held_at state (get_or all i 0) within.0 within.1 in
     let next : i + 1 ≡ suc i = omega arith in
-    ∥∥₁_elim so_far (Prim.hlevel props) (λ (f : SoFar register caller day (λ k. held k state) all (drop i all) lines).
-    ∥∥₁_map (listed d.0 d.2) (λ (is : IsLineFor register caller day (get_or all i 0) d.0 line).
-    subst (λ (k : ℕ). SoFar register caller day (λ k. held k state) all (drop k all) (put_line lines line)) (sym next)
-    (number_more register caller day state all i lines d.0 line lt f d.2 is)))
+    ∥∥₁_elim so_far (Prim.hlevel props) (λ (f : SoFar terms caller day (λ k. held k state) all (drop i all) lines).
+    ∥∥₁_map (listed d.0 d.2) (λ (is : IsLineFor terms caller day (get_or all i 0) d.0 line).
+    subst (λ (k : ℕ). SoFar terms caller day (λ k. held k state) all (drop k all) (put_line lines line)) (sym next)
+    (number_more terms caller day state all i lines d.0 line lt f d.2 is)))
 
-pub lines_whole : (register : Register) (caller : Caller) (project : List ℕ) (day : ℤ) (state : List Sent) (all : List ℕ) (i : ℕ) (lines : List Listed) → length all ≤ i → all ≡ numbers_from 1 project state
-    → ∥ SoFar register caller day (λ k. held k state) all (drop i all) lines ∥₁ → ∥ IsListing register caller project day 1 state lines ∥₁
-lines_whole register caller project day state all i lines le same so_far =
-    ∥∥₁_map so_far (λ (f : SoFar register caller day (λ k. held k state) all (drop i all) lines).
-    listing_of register caller project day state lines
-    (subst (λ (numbers : List ℕ). AreLines register caller day (λ k. held k state) numbers lines) same
-    (lines_end register caller day (λ k. held k state) all lines (subst (λ (left : List ℕ). SoFar register caller day (λ k. held k state) all left lines) (drop_all i all le) f))))
+pub lines_whole : (terms : Terms) (caller : Caller) (project : List ℕ) (day : ℤ) (state : List Sent) (all : List ℕ) (i : ℕ) (lines : List Listed) → length all ≤ i → all ≡ numbers_from 1 project state
+    → ∥ SoFar terms caller day (λ k. held k state) all (drop i all) lines ∥₁ → ∥ IsListing terms caller project day 1 state lines ∥₁
+lines_whole terms caller project day state all i lines le same so_far =
+    ∥∥₁_map so_far (λ (f : SoFar terms caller day (λ k. held k state) all (drop i all) lines).
+    listing_of terms caller project day state lines
+    (subst (λ (numbers : List ℕ). AreLines terms caller day (λ k. held k state) numbers lines) same
+    (lines_end terms caller day (λ k. held k state) all lines (subst (λ (left : List ℕ). SoFar terms caller day (λ k. held k state) all left lines) (drop_all i all le) f))))
 
-pub register_same : {K : Type 0} (keep : Ghosts K) (rules : List Rule) (old new : K) (failed : Bool) → OnlyReads keep old new failed → register_at keep rules new ≡ register_at keep rules old
-register_same keep rules old new failed reads =
-    ap (λ d. record { rules = rules; given = d; limit = keep.limit new }) reads.same_dictionary ∙ ap (λ (l : ℕ). record { rules = rules; given = keep.dictionary old; limit = l }) reads.same_limit
+pub terms_same : {K : Type 0} (keep : Ghosts K) (rules : List Rule) (old new : K) (failed : Bool) → OnlyReads keep old new failed → terms_at keep rules new ≡ terms_at keep rules old
+terms_same keep rules old new failed reads =
+    ap (λ d. record { policy = rules; dictionary = d; limit = keep.limit new }) reads.same_dictionary ∙ ap (λ (l : ℕ). record { policy = rules; dictionary = keep.dictionary old; limit = l }) reads.same_limit
 
 -- ---- the answers to a list
 
-abbrev IsListingAnswer : Register → List Sent → Caller → List ℕ → ℤ → Answer → Type 0
-IsListingAnswer register state caller project day r = (lines : List Listed) × IsListing register caller project day 1 state lines × (r ≡ Listing lines)
+abbrev IsListingAnswer : Terms → List Sent → Caller → List ℕ → ℤ → Answer → Type 0
+IsListingAnswer terms state caller project day r = (lines : List Listed) × IsListing terms caller project day 1 state lines × (r ≡ Listing lines)
 
-listing_asks : (register : Register) (state : List Sent) (caller : Caller) (project : List ℕ) (day : ℤ) (k : ℕ) → decided register caller project verbs.List ≡ Permit k → AsksStore (IsReply register state (listing caller project day))
-listing_asks register state caller project day k permit =
-    asks_of (IsListingAnswer register state caller project day) (IsReply register state (listing caller project day))
-    (λ reply is. permit_stands (decided register caller project verbs.List) k (IsListingAnswer register state caller project day) reply permit is)
+listing_asks : (terms : Terms) (state : List Sent) (caller : Caller) (project : List ℕ) (day : ℤ) (k : ℕ) → decided terms caller project verbs.List ≡ Permit k → AsksStore (IsReply terms state (listing caller project day))
+listing_asks terms state caller project day k permit =
+    asks_of (IsListingAnswer terms state caller project day) (IsReply terms state (listing caller project day))
+    (λ reply is. permit_stands (decided terms caller project verbs.List) k (IsListingAnswer terms state caller project day) reply permit is)
     ((λ n h. let e = h.2 in cc, λ h. let e = h.2 in cc), λ found h. let e = h.2 in cc, λ h. let e = h.2 in cc)
 
 pub listing_denied : {K : Type 0} (keep : Ghosts K) (rules : List Rule) (caller : Caller) (project : List ℕ) (day : ℤ) (old : K) (m : ℕ) → keep.has_failed old ≡ false
-    → decided (register_at keep rules old) caller project verbs.List ≡ Deny m → Serves keep rules (listing caller project day) old old (Denied m)
+    → decided (terms_at keep rules old) caller project verbs.List ≡ Deny m → Serves keep rules (listing caller project day) old old (Denied m)
 listing_denied keep rules caller project day old m works deny =
-    let register = register_at keep rules old in
+    let terms = terms_at keep rules old in
     replies_at_once keep rules (listing caller project day) old (Denied m) works refl
-    (denied_reply (decided register caller project verbs.List) m (IsListingAnswer register (keep.deposits old) caller project day) deny) (inr (λ list change. change, refl))
+    (denied_reply (decided terms caller project verbs.List) m (IsListingAnswer terms (keep.deposits old) caller project day) deny) (inr (λ list change. change, refl))
 
 pub listing_unread : {K : Type 0} (keep : Ghosts K) (rules : List Rule) (caller : Caller) (project : List ℕ) (day : ℤ) (old new : K) (k : ℕ) (e : KeepError)
-    → decided (register_at keep rules old) caller project verbs.List ≡ Permit k → OnlyReads keep old new (is_store e) → e ≢ errors.Full → Serves keep rules (listing caller project day) old new (answer_of e)
+    → decided (terms_at keep rules old) caller project verbs.List ≡ Permit k → OnlyReads keep old new (is_store e) → e ≢ errors.Full → Serves keep rules (listing caller project day) old new (answer_of e)
 listing_unread keep rules caller project day old new k e permit reads named =
-    let register = register_at keep rules old in
+    let terms = terms_at keep rules old in
     let state = keep.deposits old in
-    let asks = listing_asks register state caller project day k permit in
+    let asks = listing_asks terms state caller project day k permit in
     refused_serves keep rules (listing caller project day) old new e reads named asks.0 (λ s. asks)
 
 pub listing_replies : {K : Type 0} (keep : Ghosts K) (rules : List Rule) (caller : Caller) (project : List ℕ) (day : ℤ) (old new : K) (k : ℕ) (lines : List Listed)
-    → decided (register_at keep rules old) caller project verbs.List ≡ Permit k → OnlyReads keep old new false
-    → (keep.is_sound new → ∥ IsListing (register_at keep rules old) caller project day 1 (keep.deposits old) lines ∥₁)
+    → decided (terms_at keep rules old) caller project verbs.List ≡ Permit k → OnlyReads keep old new false
+    → (keep.is_sound new → ∥ IsListing (terms_at keep rules old) caller project day 1 (keep.deposits old) lines ∥₁)
     → Serves keep rules (listing caller project day) old new (Listing lines)
 listing_replies keep rules caller project day old new k lines permit reads is =
-    let register = register_at keep rules old in
+    let terms = terms_at keep rules old in
     let state = keep.deposits old in
     replies_serves keep rules (listing caller project day) old new (Listing lines) reads refl
-    (λ s. ∥∥₁_map (is s) (λ (h : IsListing register caller project day 1 state lines).
-    permitted_reply (decided register caller project verbs.List) k (IsListingAnswer register state caller project day) (Listing lines) permit (lines, h, refl)))
-    (λ s. inr (λ list change. change, refl)) (listing_asks register state caller project day k permit).0
+    (λ s. ∥∥₁_map (is s) (λ (h : IsListing terms caller project day 1 state lines).
+    permitted_reply (decided terms caller project verbs.List) k (IsListingAnswer terms state caller project day) (Listing lines) permit (lines, h, refl)))
+    (λ s. inr (λ list change. change, refl)) (listing_asks terms state caller project day k permit).0

@@ -1,5 +1,5 @@
 -- What is written of rows is made of rows.
-use Rattle.std.proofs.Common.{◌≡◌, ℕ, Bool, true, false, ◌||◌, if◌then◌else◌, List, [], ◌∷◌, ◌++◌, map, flat_map, drop, inl, inr, refl, sym, ap, subst, ◌∙◌, append_assoc, append-nil}
+use Rattle.std.proofs.Common.{◌≡◌, ◌≢◌, ℕ, Bool, true, false, ◌||◌, if◌then◌else◌, List, [], ◌∷◌, ◌++◌, map, flat_map, length, drop, inl, inr, refl, sym, ap, subst, ◌∙◌, append_assoc, append-nil}
 use Rattle.std.specs.Prelude.{All, ◌==◌}
 use Rattle.std.specs.List.{AllByRecursion}
 use Rattle.std.proofs.lemmas.Grind.{flat_map-append}
@@ -11,11 +11,13 @@ use Rattle.ags_rows.specs.Findings.{FileGroups}
 use Rattle.ags_rows.specs.Rows.{descriptor_text}
 use Rattle.ags_rows.specs.Writing.{ArePlain, IsPlainGroup}
 use Rattle.ags_rows.proofs.Lemmas.{read_plain}
+use Rattle.ags_links.specs.Walks.{Wiring}
+use Rattle.ags_check.specs.Findings.{CheckedFile}
 use Rattle.reg_store.specs.declared.keep.KeptRow.{KeptRow}
 use Rattle.reg_store.specs.Fit.{kept_row, group_rows, kept_rows}
 use Rattle.reg_desk.specs.Extract.{IsOfRows, IsRowOrEmpty}
-use Rattle.reg_desk.specs.View.{IsRow, is_written, line_end, line_where, separator, text_from, with_group}
-use Rattle.reg_desk.proofs.Bridges.{kept_contents, row_spelled}
+use Rattle.reg_desk.specs.View.{IsRow, IsViewOf, is_written, line_end, line_where, plain_lines, separator, text_from, with_group}
+use Rattle.reg_desk.proofs.Bridges.{kept_contents, lines_count, row_spelled}
 
 -- ---- texts that are made of rows
 
@@ -93,3 +95,8 @@ file_are (g ∷ file) plain = All-append IsRow (group_rows g) (flat_map group_ro
 
 pub kept_are : (bytes : List ℕ) (groups : List Group) → FileGroups bytes groups → All IsRow (kept_rows groups)
 kept_are bytes groups read = subst (λ (rows : List KeptRow). All IsRow rows) (sym (kept_contents groups)) (file_are (contents_of groups) (read_plain bytes groups read).1)
+
+-- the rows of a view are a file's
+pub not_broken : (rows : List KeptRow) (graph : Wiring) (file : CheckedFile) → IsViewOf rows graph file → (All IsRow rows → length (plain_lines [] rows) ≢ graph.rows) → ⊥
+not_broken rows graph file view broken =
+    broken (subst (λ (l : List KeptRow). All IsRow l) (sym view.same_rows) (kept_are file.bytes file.groups view.clean.groups)) (lines_count (plain_lines [] rows) rows graph file refl view)

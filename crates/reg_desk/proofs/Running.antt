@@ -14,8 +14,8 @@ use Rattle.reg_desk.specs.declared.request.Request.{Request}
 use Rattle.reg_desk.specs.declared.answer.Answer.{Answer}
 use Rattle.reg_desk.specs.declared.desk.Desk.{Desk}
 use Rattle.reg_desk.specs.Desks.{AnsweredBy, AreAnsweredBy}
-use Rattle.reg_desk.specs.Machine.{Register, Changes}
-use Rattle.reg_desk.specs.Serving.{is_failed, IsAnswer, register_at, Serves}
+use Rattle.reg_desk.specs.Machine.{Terms, Changes}
+use Rattle.reg_desk.specs.Serving.{is_failed, IsAnswer, terms_at, Serves}
 use Rattle.reg_desk.specs.Running.{AreFailed, AreAnswers, failing, Runs, RunsIfSound}
 use Rattle.reg_desk.proofs.Bodies.{where_true, where_false}
 
@@ -53,7 +53,7 @@ Unbroken {K} keep = (k : K) → keep.is_sound k → keep.has_failed k ≡ false 
 
 -- the first answer is StoreFailed
 runs_fail : {K : Type 0} (keep : Ghosts K) (rules : List Rule) (old new : K) (r : Asked) (a : Answer) (requests : List Asked) (answers : List Answer) → Settled keep → Unbroken keep → keep.has_failed old ≡ false
-    → keep.is_sound new → is_failed a ≡ true → Serves keep rules r old new a → IsAnswer (register_at keep rules old) (keep.deposits old) r a → AreFailed requests answers
+    → keep.is_sound new → is_failed a ≡ true → Serves keep rules r old new a → IsAnswer (terms_at keep rules old) (keep.deposits old) r a → AreFailed requests answers
     → Runs keep rules old new (r ∷ requests) (a ∷ answers)
 runs_fail keep rules old new r a requests answers settled unbroken works sound fails serves is failed =
     let this_fails : failing (r ∷ requests) (a ∷ answers) ≡ Some r = first_fails (is_failed a) fails (find (λ p. is_failed p.1) (zip requests answers)) in
@@ -78,22 +78,22 @@ runs_fail keep rules old new r a requests answers settled unbroken works sound f
 
 -- the first answer is another, and the others are given from there on
 runs_on : {K : Type 0} (keep : Ghosts K) (rules : List Rule) (old mid new : K) (r : Asked) (a : Answer) (requests : List Asked) (answers : List Answer) → keep.is_sound mid → is_failed a ≡ false
-    → Serves keep rules r old mid a → IsAnswer (register_at keep rules old) (keep.deposits old) r a → Runs keep rules mid new requests answers → Runs keep rules old new (r ∷ requests) (a ∷ answers)
+    → Serves keep rules r old mid a → IsAnswer (terms_at keep rules old) (keep.deposits old) r a → Runs keep rules mid new requests answers → Runs keep rules old new (r ∷ requests) (a ∷ answers)
 runs_on keep rules old mid new r a requests answers sound lives serves is rest =
-    let register : register_at keep rules mid ≡ register_at keep rules old =
-    ap (λ (d : Entries). record { rules = rules; given = d; limit = keep.limit mid }) serves.same_dictionary ∙ ap (λ (l : ℕ). record { rules = rules; given = keep.dictionary old; limit = l }) serves.same_limit in
+    let terms : terms_at keep rules mid ≡ terms_at keep rules old =
+    ap (λ (d : Entries). record { policy = rules; dictionary = d; limit = keep.limit mid }) serves.same_dictionary ∙ ap (λ (l : ℕ). record { policy = rules; dictionary = keep.dictionary old; limit = l }) serves.same_limit in
     let later : failing (r ∷ requests) (a ∷ answers) ≡ failing requests answers = skip (is_failed a) lives (find (λ p. is_failed p.1) (zip requests answers)) in
     record {
       last = rest.last;
       answered = (
         is,
-        where_false (is_failed a) _ _ lives (keep.deposits mid, serves.kept sound, subst (λ (g : Register). AreAnswers g (keep.deposits mid) requests answers rest.last) register rest.answered),
+        where_false (is_failed a) _ _ lives (keep.deposits mid, serves.kept sound, subst (λ (g : Terms). AreAnswers g (keep.deposits mid) requests answers rest.last) terms rest.answered),
       );
       kept = λ e. rest.kept (sym later ∙ e);
       left = λ list may.
           elim (rest.left list may) [
             | inl same ↦ inl same
-            | inr h ↦ inr (h.0, later ∙ h.1, subst (λ (g : Register). Changes g rest.last h.0 list) register h.2)
+            | inr h ↦ inr (h.0, later ∙ h.1, subst (λ (g : Terms). Changes g rest.last h.0 list) terms h.2)
           ];
       whole = rest.whole;
     }
@@ -115,7 +115,7 @@ desk_runs {K = K} keep old new (r ∷ requests) (a ∷ answers) settled unbroken
     let mid = by.0 in
     let then_sound = was_sound keep mid new requests answers by.2 sound in
     let serves = by.1.served works in
-    ∥∥₁_elim (serves.answered then_sound) (Prim.hlevel props) (λ (is : IsAnswer (register_at keep old.policy old.keep) (keep.deposits old.keep) r a).
+    ∥∥₁_elim (serves.answered then_sound) (Prim.hlevel props) (λ (is : IsAnswer (terms_at keep old.policy old.keep) (keep.deposits old.keep) r a).
     elim (cases_Bool (is_failed a)) [
       | inl fails ↦
           let stuck = stays_failed keep mid new requests answers by.2 (by.1.failed ∙ fails) in

@@ -20,7 +20,7 @@ use Rattle.reg_desk.specs.declared.answer.Answer.{Answer}
 use Rattle.reg_desk.specs.declared.answer.Answer.TheVariants.{Clean, Findings, Listing, Text, Denied, Unknown, TooLarge}
 use Rattle.reg_desk.specs.Shown.{Look, IsDrawnAt}
 use Rattle.reg_desk.specs.Extract.{extract_contents, IsExtractText}
-use Rattle.reg_desk.specs.Machine.{Register, decided, look_at, IsSeen, IsTextOf, OrDenied, OrFound, OrRefused, first_equal, receipt_of, listed_line, IsListing, held, IsDrawnFrom, Changes, IsNext, IsRun}
+use Rattle.reg_desk.specs.Machine.{Terms, decided, look_at, IsSeen, IsTextOf, OrDenied, OrFound, OrRefused, first_equal, receipt_of, listed_line, IsListing, held, IsDrawnFrom, Changes, IsNext, IsRun}
 use Rattle.reg_desk.specs.Laws.{ThereIs, SomeReply, SomeRun, NoLeak, with_bytes}
 use Rattle.reg_desk.proofs.SomeFindings.{either, some_findings}
 use Rattle.reg_desk.proofs.Walks.{drawn_shown}
@@ -55,69 +55,69 @@ where_seen true Seen One Other one other none = either Seen (λ x. elim x [
 ])
 where_seen false Seen One Other one other none = other none
 
-some_listing : (register : Register) (caller : Caller) (project : List ℕ) (day : ℤ) (n : ℕ) (state : List Sent) → ThereIs (IsListing register caller project day n state)
-some_listing register caller project day n [] none = none [] refl
-some_listing register caller project day n (kept ∷ state) none =
-    let rest = some_listing register caller project day (n + 1) state in
-    where_seen (bytes_eq kept.project project) (IsSeen register caller day kept)
-    (λ lines. (more : List Listed) × (lines ≡ listed_line n kept ∷ more) × IsListing register caller project day (n + 1) state more)
-    (IsListing register caller project day (n + 1) state)
+some_listing : (terms : Terms) (caller : Caller) (project : List ℕ) (day : ℤ) (n : ℕ) (state : List Sent) → ThereIs (IsListing terms caller project day n state)
+some_listing terms caller project day n [] none = none [] refl
+some_listing terms caller project day n (kept ∷ state) none =
+    let rest = some_listing terms caller project day (n + 1) state in
+    where_seen (bytes_eq kept.project project) (IsSeen terms caller day kept)
+    (λ lines. (more : List Listed) × (lines ≡ listed_line n kept ∷ more) × IsListing terms caller project day (n + 1) state more)
+    (IsListing terms caller project day (n + 1) state)
     (λ seen absent. rest (λ more h. absent (listed_line n kept ∷ more) (more, refl, h))) rest none
 
-some_drawn : (register : Register) (caller : Caller) (project : List ℕ) (groups : List (List ℕ)) (day : ℤ) (of : Option Sent) → ThereIs (IsDrawnFrom register caller project groups day of)
-some_drawn register caller project groups day None none = none Unknown refl
-some_drawn register caller project groups day (Some kept) none =
-    where_seen (bytes_eq kept.project project) (IsSeen register caller day kept)
-    (λ reply. (text : List ℕ) × IsTextOf register caller day groups kept text × (reply ≡ Text text)) (λ reply. reply ≡ Unknown)
-    (λ seen absent. some_text (look_at register caller day kept) seen.0 groups (λ text h. absent (Text text) (text, (seen.0, seen.1, h), refl)))
+some_drawn : (terms : Terms) (caller : Caller) (project : List ℕ) (groups : List (List ℕ)) (day : ℤ) (of : Option Sent) → ThereIs (IsDrawnFrom terms caller project groups day of)
+some_drawn terms caller project groups day None none = none Unknown refl
+some_drawn terms caller project groups day (Some kept) none =
+    where_seen (bytes_eq kept.project project) (IsSeen terms caller day kept)
+    (λ reply. (text : List ℕ) × IsTextOf terms caller day groups kept text × (reply ≡ Text text)) (λ reply. reply ≡ Unknown)
+    (λ seen absent. some_text (look_at terms caller day kept) seen.0 groups (λ text h. absent (Text text) (text, (seen.0, seen.1, h), refl)))
     (λ absent. absent Unknown refl) none
 
 or_denied : (d : Decision) (Stands : Answer → Type 0) → ThereIs Stands → ThereIs (OrDenied d Stands)
 or_denied (Permit n) Stands some none = some none
 or_denied (Deny n) Stands some none = none (Denied n) refl
 
-or_refused : (register : Register) (bytes : List ℕ) (Stands : Answer → Type 0) → ThereIs Stands → ThereIs (OrRefused register bytes Stands)
-or_refused register bytes Stands some = by (nat_lt LIMIT (length bytes))
+or_refused : (terms : Terms) (bytes : List ℕ) (Stands : Answer → Type 0) → ThereIs Stands → ThereIs (OrRefused terms bytes Stands)
+or_refused terms bytes Stands some = by (nat_lt LIMIT (length bytes))
   where
-    or_found : (found : List Finding) → AreFindings register.given bytes found → ThereIs (λ r. (l : List Finding) × AreFindings register.given bytes l × OrFound l Stands r)
+    or_found : (found : List Finding) → AreFindings terms.dictionary bytes found → ThereIs (λ r. (l : List Finding) × AreFindings terms.dictionary bytes l × OrFound l Stands r)
     or_found [] are none = some (λ r h. none r ([], are, h))
     or_found (f ∷ found) are none = none (Findings (f ∷ found)) (f ∷ found, are, refl)
 
-    by : (t : Bool) → ThereIs (λ r. MatchBool t (r ≡ TooLarge) ((l : List Finding) × AreFindings register.given bytes l × OrFound l Stands r))
+    by : (t : Bool) → ThereIs (λ r. MatchBool t (r ≡ TooLarge) ((l : List Finding) × AreFindings terms.dictionary bytes l × OrFound l Stands r))
     by true none = none TooLarge refl
-    by false none = some_findings register.given bytes (λ found are. or_found found are none)
+    by false none = some_findings terms.dictionary bytes (λ found are. or_found found are none)
 
 pub some_reply : SomeReply
-some_reply register state (deposit caller project embargo bytes day) =
-    let receipt = receipt_of register embargo (length state) (first_equal 1 caller.firm project bytes state) in
-    or_denied (decided register caller project verbs.Deposit) (OrRefused register bytes (λ r. r ≡ receipt)) (or_refused register bytes (λ r. r ≡ receipt) (λ none. none receipt refl))
-some_reply register state (check caller project bytes day) =
-    or_denied (decided register caller project verbs.Check) (OrRefused register bytes (λ r. r ≡ Clean)) (or_refused register bytes (λ r. r ≡ Clean) (λ none. none Clean refl))
-some_reply register state (listing caller project day) =
-    or_denied (decided register caller project verbs.List) (λ r. (lines : List Listed) × IsListing register caller project day 1 state lines × (r ≡ Listing lines))
-    (λ none. some_listing register caller project day 1 state (λ lines h. none (Listing lines) (lines, h, refl)))
-some_reply register state (extract caller project number groups day) =
-    or_denied (decided register caller project verbs.Extract) (IsDrawnFrom register caller project groups day (held number state)) (some_drawn register caller project groups day (held number state))
+some_reply terms state (deposit caller project embargo bytes day) =
+    let receipt = receipt_of terms embargo (length state) (first_equal 1 caller.firm project bytes state) in
+    or_denied (decided terms caller project verbs.Deposit) (OrRefused terms bytes (λ r. r ≡ receipt)) (or_refused terms bytes (λ r. r ≡ receipt) (λ none. none receipt refl))
+some_reply terms state (check caller project bytes day) =
+    or_denied (decided terms caller project verbs.Check) (OrRefused terms bytes (λ r. r ≡ Clean)) (or_refused terms bytes (λ r. r ≡ Clean) (λ none. none Clean refl))
+some_reply terms state (listing caller project day) =
+    or_denied (decided terms caller project verbs.List) (λ r. (lines : List Listed) × IsListing terms caller project day 1 state lines × (r ≡ Listing lines))
+    (λ none. some_listing terms caller project day 1 state (λ lines h. none (Listing lines) (lines, h, refl)))
+some_reply terms state (extract caller project number groups day) =
+    or_denied (decided terms caller project verbs.Extract) (IsDrawnFrom terms caller project groups day (held number state)) (some_drawn terms caller project groups day (held number state))
 
 -- ---- a run
 
-some_next : (register : Register) (state : List Sent) (request : Asked) → ThereIs (IsNext register state request)
-some_next register state request none = either ((list : List Sent) × Changes register state request list) (λ x. elim x [
+some_next : (terms : Terms) (state : List Sent) (request : Asked) → ThereIs (IsNext terms state request)
+some_next terms state request none = either ((list : List Sent) × Changes terms state request list) (λ x. elim x [
   | inl change ↦ none change.0 (inl change.1)
   | inr never ↦ none state (inr (λ list change. never (list, change), refl))
 ])
 
 pub some_run : SomeRun
-some_run register state [] none = none ([], state) (refl, refl)
-some_run register state (request ∷ requests) none =
-    some_reply register state request (λ reply is. some_next register state request (λ next step. some_run register next requests (λ run rest.
+some_run terms state [] none = none ([], state) (refl, refl)
+some_run terms state (request ∷ requests) none =
+    some_reply terms state request (λ reply is. some_next terms state request (λ next step. some_run terms next requests (λ run rest.
     none (reply ∷ run.0, run.1) (reply, run.0, next, refl, is, step, rest))))
 
 pub no_leak : NoLeak
-no_leak register before after kept bytes file other clean other_clean requests tells replies final run =
-    let same = λ (others : List Answer) (last : List Sent) (rest : IsRun register (before ++ with_bytes kept bytes ∷ after) requests others last).
-    same_replies register before after kept bytes file other clean other_clean requests tells replies others final last run rest in (
+no_leak terms before after kept bytes file other clean other_clean requests tells replies final run =
+    let same = λ (others : List Answer) (last : List Sent) (rest : IsRun terms (before ++ with_bytes kept bytes ∷ after) requests others last).
+    same_replies terms before after kept bytes file other clean other_clean requests tells replies others final last run rest in (
       same,
-      λ none. some_run register (before ++ with_bytes kept bytes ∷ after) requests (λ other_run rest.
-          none other_run.1 (subst (λ (l : List Answer). IsRun register (before ++ with_bytes kept bytes ∷ after) requests l other_run.1) (sym (same other_run.0 other_run.1 rest)) rest)),
+      λ none. some_run terms (before ++ with_bytes kept bytes ∷ after) requests (λ other_run rest.
+          none other_run.1 (subst (λ (l : List Answer). IsRun terms (before ++ with_bytes kept bytes ∷ after) requests l other_run.1) (sym (same other_run.0 other_run.1 rest)) rest)),
     )

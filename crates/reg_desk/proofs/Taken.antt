@@ -15,29 +15,29 @@ use Rattle.reg_store.specs.Sent.{Sent, is_repeat}
 use Rattle.reg_desk.specs.Asked.{deposit}
 use Rattle.reg_desk.specs.declared.answer.Answer.{Answer}
 use Rattle.reg_desk.specs.declared.answer.Answer.TheVariants.{Receipt, Findings, Denied, TooLarge, Full}
-use Rattle.reg_desk.specs.Machine.{Register, decided, OrDenied, OrFound, OrRefused, first_equal, receipt_of, IsReply, IsTaken}
+use Rattle.reg_desk.specs.Machine.{Terms, decided, OrDenied, OrFound, OrRefused, first_equal, receipt_of, IsReply, IsTaken}
 use Rattle.reg_desk.specs.Laws.{TakenIsReceived}
 
 -- what stands of the receipt
-abbrev IsReceipt : Register → List Sent → Caller → List ℕ → ℤ → List ℕ → Answer → Type 0
-IsReceipt register state caller project embargo bytes r = r ≡ receipt_of register embargo (length state) (first_equal 1 caller.firm project bytes state)
+abbrev IsReceipt : Terms → List Sent → Caller → List ℕ → ℤ → List ℕ → Answer → Type 0
+IsReceipt terms state caller project embargo bytes r = r ≡ receipt_of terms embargo (length state) (first_equal 1 caller.firm project bytes state)
 
 -- ---- a body that is taken
 
-clean_stands : (register : Register) (bytes : List ℕ) (P : Answer → Type 0) (r : Answer) → length bytes ≤ LIMIT → AreFindings register.given bytes [] → OrRefused register bytes P r → P r
-clean_stands register bytes P r small clean h =
-    let Found = (found : List Finding) × AreFindings register.given bytes found × OrFound found P r in
+clean_stands : (terms : Terms) (bytes : List ℕ) (P : Answer → Type 0) (r : Answer) → length bytes ≤ LIMIT → AreFindings terms.dictionary bytes [] → OrRefused terms bytes P r → P r
+clean_stands terms bytes P r small clean h =
+    let Found = (found : List Finding) × AreFindings terms.dictionary bytes found × OrFound found P r in
     let found : Found = subst (λ (b : Bool). MatchBool b (r ≡ TooLarge) Found) (le-ltb LIMIT (length bytes) small) h in
-    subst (λ (l : List Finding). OrFound l P r) (one_list register.given bytes found.0 [] found.1 clean) found.2
+    subst (λ (l : List Finding). OrFound l P r) (one_list terms.dictionary bytes found.0 [] found.1 clean) found.2
 
-received : (register : Register) (state : List Sent) (caller : Caller) (project : List ℕ) (embargo : ℤ) (bytes : List ℕ) (day : ℤ) (reply : Answer)
-    → IsReply register state (deposit caller project embargo bytes day) reply → IsTaken register state caller project bytes → reply ≡ Receipt (length state + 1) embargo
-received register state caller project embargo bytes day reply h t =
-    let stands = IsReceipt register state caller project embargo bytes in
-    let permitted = subst (λ (d : Decision). OrDenied d (OrRefused register bytes stands) reply) t.0.1 h in
-    clean_stands register bytes stands reply t.1 t.2 permitted
-    ∙ ap (receipt_of register embargo (length state)) t.3
-    ∙ cond-true (nat_lt (length state) register.limit) (Receipt (length state + 1) embargo) Full (lt-ltb (length state) register.limit t.4)
+received : (terms : Terms) (state : List Sent) (caller : Caller) (project : List ℕ) (embargo : ℤ) (bytes : List ℕ) (day : ℤ) (reply : Answer)
+    → IsReply terms state (deposit caller project embargo bytes day) reply → IsTaken terms state caller project bytes → reply ≡ Receipt (length state + 1) embargo
+received terms state caller project embargo bytes day reply h t =
+    let stands = IsReceipt terms state caller project embargo bytes in
+    let permitted = subst (λ (d : Decision). OrDenied d (OrRefused terms bytes stands) reply) t.0.1 h in
+    clean_stands terms bytes stands reply t.1 t.2 permitted
+    ∙ ap (receipt_of terms embargo (length state)) t.3
+    ∙ cond-true (nat_lt (length state) terms.limit) (Receipt (length state + 1) embargo) Full (lt-ltb (length state) terms.limit t.4)
 
 -- ---- the receipt of a new number
 
@@ -67,23 +67,23 @@ room_for : (t : Bool) (number : ℕ) (embargo : ℤ) → cond t (Receipt number 
 room_for true number embargo h = refl
 room_for false number embargo h = absurd cc
 
-new_number : (register : Register) (embargo : ℤ) (count : ℕ) (first : Option (ℕ × ℤ)) → ((k : ℕ) (e : ℤ) → first ≡ Some (k, e) → k < 1 + count) → receipt_of register embargo count first ≡ Receipt (count + 1) embargo
-    → (first ≡ None) × (count < register.limit)
-new_number register embargo count (Some held) low h = let same : held.0 ≡ count + 1 = cc in let lt = low held.0 held.1 refl in absurd (omega (arith, same, lt))
-new_number register embargo count None low h = (refl, ltb-true count register.limit (room_for (nat_lt count register.limit) (count + 1) embargo h))
+new_number : (terms : Terms) (embargo : ℤ) (count : ℕ) (first : Option (ℕ × ℤ)) → ((k : ℕ) (e : ℤ) → first ≡ Some (k, e) → k < 1 + count) → receipt_of terms embargo count first ≡ Receipt (count + 1) embargo
+    → (first ≡ None) × (count < terms.limit)
+new_number terms embargo count (Some held) low h = let same : held.0 ≡ count + 1 = cc in let lt = low held.0 held.1 refl in absurd (omega (arith, same, lt))
+new_number terms embargo count None low h = (refl, ltb-true count terms.limit (room_for (nat_lt count terms.limit) (count + 1) embargo h))
 
-taken : (register : Register) (state : List Sent) (caller : Caller) (project : List ℕ) (embargo : ℤ) (bytes : List ℕ) (day : ℤ) (reply : Answer)
-    → IsReply register state (deposit caller project embargo bytes day) reply → reply ≡ Receipt (length state + 1) embargo
-    → IsTaken register state caller project bytes
-taken register state caller project embargo bytes day reply h is =
-    let stands = IsReceipt register state caller project embargo bytes in
-    let permit = not_denied (decided register caller project verbs.Deposit) (OrRefused register bytes stands) reply h (λ n e. cc) in
-    let small = not_where (nat_lt LIMIT (length bytes)) (reply ≡ TooLarge) ((found : List Finding) × AreFindings register.given bytes found × OrFound found stands reply) permit.2 (λ e. cc) in
+taken : (terms : Terms) (state : List Sent) (caller : Caller) (project : List ℕ) (embargo : ℤ) (bytes : List ℕ) (day : ℤ) (reply : Answer)
+    → IsReply terms state (deposit caller project embargo bytes day) reply → reply ≡ Receipt (length state + 1) embargo
+    → IsTaken terms state caller project bytes
+taken terms state caller project embargo bytes day reply h is =
+    let stands = IsReceipt terms state caller project embargo bytes in
+    let permit = not_denied (decided terms caller project verbs.Deposit) (OrRefused terms bytes stands) reply h (λ n e. cc) in
+    let small = not_where (nat_lt LIMIT (length bytes)) (reply ≡ TooLarge) ((found : List Finding) × AreFindings terms.dictionary bytes found × OrFound found stands reply) permit.2 (λ e. cc) in
     let found = small.1 in
     let clean = not_found found.0 stands reply found.2 (λ l e. cc) in
-    let new = new_number register embargo (length state) (first_equal 1 caller.firm project bytes state) (first_held caller.firm project bytes 1 state) (sym clean.1 ∙ is) in
-    ((permit.0, permit.1), ltb-false LIMIT (length bytes) small.0, subst (AreFindings register.given bytes) clean.0 found.1, new.0, new.1)
+    let new = new_number terms embargo (length state) (first_equal 1 caller.firm project bytes state) (first_held caller.firm project bytes 1 state) (sym clean.1 ∙ is) in
+    ((permit.0, permit.1), ltb-false LIMIT (length bytes) small.0, subst (AreFindings terms.dictionary bytes) clean.0 found.1, new.0, new.1)
 
 pub taken_received : TakenIsReceived
-taken_received register state caller project embargo bytes day reply h =
-    (received register state caller project embargo bytes day reply h, taken register state caller project embargo bytes day reply h)
+taken_received terms state caller project embargo bytes day reply h =
+    (received terms state caller project embargo bytes day reply h, taken terms state caller project embargo bytes day reply h)

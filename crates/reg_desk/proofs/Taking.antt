@@ -19,8 +19,8 @@ use Rattle.reg_store.specs.declared.keep.KeepError.TheVariants as errors
 use Rattle.reg_desk.specs.Asked.{deposit}
 use Rattle.reg_desk.specs.declared.answer.Answer.{Answer}
 use Rattle.reg_desk.specs.declared.answer.Answer.TheVariants.{Receipt, Denied, Full}
-use Rattle.reg_desk.specs.Machine.{Register, decided, OrRefused, first_equal, receipt_of, IsReply, IsTaken, asked_deposit, Changes, IsNext}
-use Rattle.reg_desk.specs.Serving.{AsksStore, NeedsMemory, IsRefusal, register_at, OnlyReads, Serves, answer_of}
+use Rattle.reg_desk.specs.Machine.{Terms, decided, OrRefused, first_equal, receipt_of, IsReply, IsTaken, asked_deposit, Changes, IsNext}
+use Rattle.reg_desk.specs.Serving.{AsksStore, NeedsMemory, IsRefusal, terms_at, OnlyReads, Serves, answer_of}
 use Rattle.reg_desk.proofs.Taken.{taken_received}
 use Rattle.reg_desk.proofs.Firsts.{first_some}
 use Rattle.reg_desk.proofs.Bodies.{refused_none, refusal_serves}
@@ -29,103 +29,103 @@ use Rattle.reg_desk.proofs.Serves.{told_answer, told_after, memory_answer, memor
 -- ---- the reply
 
 -- the receipt, or that the register is full
-abbrev IsReceipt : Register → List Sent → Caller → List ℕ → ℤ → List ℕ → Answer → Type 0
-IsReceipt register state caller project embargo bytes r = r ≡ receipt_of register embargo (length state) (first_equal 1 caller.firm project bytes state)
+abbrev IsReceipt : Terms → List Sent → Caller → List ℕ → ℤ → List ℕ → Answer → Type 0
+IsReceipt terms state caller project embargo bytes r = r ≡ receipt_of terms embargo (length state) (first_equal 1 caller.firm project bytes state)
 
 -- a body that is permitted, not too large and without findings
-pub record IsFine (register : Register) (caller : Caller) (project bytes : List ℕ) : Type 0 where
+pub record IsFine (terms : Terms) (caller : Caller) (project bytes : List ℕ) : Type 0 where
   pub number : ℕ
-  pub permitted : decided register caller project verbs.Deposit ≡ Permit number
+  pub permitted : decided terms caller project verbs.Deposit ≡ Permit number
   pub small : length bytes ≤ LIMIT
-  pub clean : AreFindings register.given bytes []
+  pub clean : AreFindings terms.dictionary bytes []
 
-pub fine_of : (register : Register) (caller : Caller) (project bytes : List ℕ) (given : Entries) (n : ℕ) → decided register caller project verbs.Deposit ≡ Permit n → length bytes ≤ LIMIT → given ≡ register.given
-    → AreFindings given bytes [] → IsFine register caller project bytes
-fine_of register caller project bytes given n permit small same clean = record { number = n; permitted = permit; small = small; clean = subst (λ (e : Entries). AreFindings e bytes []) same clean }
+pub fine_of : (terms : Terms) (caller : Caller) (project bytes : List ℕ) (given : Entries) (n : ℕ) → decided terms caller project verbs.Deposit ≡ Permit n → length bytes ≤ LIMIT → given ≡ terms.dictionary
+    → AreFindings given bytes [] → IsFine terms caller project bytes
+fine_of terms caller project bytes given n permit small same clean = record { number = n; permitted = permit; small = small; clean = subst (λ (e : Entries). AreFindings e bytes []) same clean }
 
-fine_reply : (register : Register) (state : List Sent) (caller : Caller) (project : List ℕ) (embargo : ℤ) (bytes : List ℕ) (day : ℤ) (answer : Answer) → IsFine register caller project bytes
-    → IsReceipt register state caller project embargo bytes answer → IsReply register state (deposit caller project embargo bytes day) answer
-fine_reply register state caller project embargo bytes day answer fine is =
-    let Stands = IsReceipt register state caller project embargo bytes in
-    permitted_reply (decided register caller project verbs.Deposit) fine.number (OrRefused register bytes Stands) answer fine.permitted (refused_none register bytes Stands answer fine.small fine.clean is)
+fine_reply : (terms : Terms) (state : List Sent) (caller : Caller) (project : List ℕ) (embargo : ℤ) (bytes : List ℕ) (day : ℤ) (answer : Answer) → IsFine terms caller project bytes
+    → IsReceipt terms state caller project embargo bytes answer → IsReply terms state (deposit caller project embargo bytes day) answer
+fine_reply terms state caller project embargo bytes day answer fine is =
+    let Stands = IsReceipt terms state caller project embargo bytes in
+    permitted_reply (decided terms caller project verbs.Deposit) fine.number (OrRefused terms bytes Stands) answer fine.permitted (refused_none terms bytes Stands answer fine.small fine.clean is)
 
-receipt_asks : (register : Register) (embargo : ℤ) (count : ℕ) (first : Option (ℕ × ℤ)) → AsksStore (λ r. r ≡ receipt_of register embargo count first)
-receipt_asks register embargo count (Some held) = ((λ n e. cc, λ e. cc), λ found e. cc, λ e. cc)
-receipt_asks register embargo count None = full (nat_lt count register.limit)
+receipt_asks : (terms : Terms) (embargo : ℤ) (count : ℕ) (first : Option (ℕ × ℤ)) → AsksStore (λ r. r ≡ receipt_of terms embargo count first)
+receipt_asks terms embargo count (Some held) = ((λ n e. cc, λ e. cc), λ found e. cc, λ e. cc)
+receipt_asks terms embargo count None = full (nat_lt count terms.limit)
   where
     full : (t : Bool) → AsksStore (λ r. r ≡ cond t (Receipt (count + 1) embargo) Full)
     full true = ((λ n e. cc, λ e. cc), λ found e. cc, λ e. cc)
     full false = ((λ n e. cc, λ e. cc), λ found e. cc, λ e. cc)
 
-fine_asks : (register : Register) (state : List Sent) (caller : Caller) (project : List ℕ) (embargo : ℤ) (bytes : List ℕ) (day : ℤ) → IsFine register caller project bytes
-    → AsksStore (IsReply register state (deposit caller project embargo bytes day))
-fine_asks register state caller project embargo bytes day fine =
+fine_asks : (terms : Terms) (state : List Sent) (caller : Caller) (project : List ℕ) (embargo : ℤ) (bytes : List ℕ) (day : ℤ) → IsFine terms caller project bytes
+    → AsksStore (IsReply terms state (deposit caller project embargo bytes day))
+fine_asks terms state caller project embargo bytes day fine =
     let request = deposit caller project embargo bytes day in
     let first = first_equal 1 caller.firm project bytes state in
-    let receipt = receipt_of register embargo (length state) first in
-    asks_of (IsReceipt register state caller project embargo bytes) (IsReply register state request)
-    (λ reply is. one_owed register state request receipt reply is (fine_reply register state caller project embargo bytes day receipt fine refl))
-    (receipt_asks register embargo (length state) first)
+    let receipt = receipt_of terms embargo (length state) first in
+    asks_of (IsReceipt terms state caller project embargo bytes) (IsReply terms state request)
+    (λ reply is. one_owed terms state request receipt reply is (fine_reply terms state caller project embargo bytes day receipt fine refl))
+    (receipt_asks terms embargo (length state) first)
 
 -- ---- what is not taken
 
-receipt_new : (register : Register) (embargo : ℤ) (count : ℕ) (first : Option (ℕ × ℤ)) → first ≡ None → count < register.limit → Receipt (count + 1) embargo ≡ receipt_of register embargo count first
-receipt_new register embargo count first none room =
-    ap (λ (t : Bool). cond t (Receipt (count + 1) embargo) Full) (sym (lt-ltb count register.limit room)) ∙ ap (receipt_of register embargo count) (sym none)
+receipt_new : (terms : Terms) (embargo : ℤ) (count : ℕ) (first : Option (ℕ × ℤ)) → first ≡ None → count < terms.limit → Receipt (count + 1) embargo ≡ receipt_of terms embargo count first
+receipt_new terms embargo count first none room =
+    ap (λ (t : Bool). cond t (Receipt (count + 1) embargo) Full) (sym (lt-ltb count terms.limit room)) ∙ ap (receipt_of terms embargo count) (sym none)
 
 ltb_of : (m n : ℕ) → n ≤ m → nat_lt m n ≡ false
 ltb_of m n le = elim (cases_Bool (nat_lt m n)) [ inl e ↦ absurd (omega (arith, ltb-true m n e, le)) | inr e ↦ e ]
 
-receipt_full : (register : Register) (embargo : ℤ) (count : ℕ) (first : Option (ℕ × ℤ)) → first ≡ None → register.limit ≤ count → Full ≡ receipt_of register embargo count first
-receipt_full register embargo count first none full =
-    ap (λ (t : Bool). cond t (Receipt (count + 1) embargo) Full) (sym (ltb_of count register.limit full)) ∙ ap (receipt_of register embargo count) (sym none)
+receipt_full : (terms : Terms) (embargo : ℤ) (count : ℕ) (first : Option (ℕ × ℤ)) → first ≡ None → terms.limit ≤ count → Full ≡ receipt_of terms embargo count first
+receipt_full terms embargo count first none full =
+    ap (λ (t : Bool). cond t (Receipt (count + 1) embargo) Full) (sym (ltb_of count terms.limit full)) ∙ ap (receipt_of terms embargo count) (sym none)
 
 -- a reply that is not the receipt of a new deposit takes nothing
-untaken : (register : Register) (state : List Sent) (caller : Caller) (project : List ℕ) (embargo : ℤ) (bytes : List ℕ) (day : ℤ) (answer : Answer) → answer ≢ Receipt (length state + 1) embargo
-    → IsReply register state (deposit caller project embargo bytes day) answer → IsNext register state (deposit caller project embargo bytes day) state
-untaken register state caller project embargo bytes day answer other is = inr (λ list change. other ((taken_received register state caller project embargo bytes day answer is).0 change.0), refl)
+untaken : (terms : Terms) (state : List Sent) (caller : Caller) (project : List ℕ) (embargo : ℤ) (bytes : List ℕ) (day : ℤ) (answer : Answer) → answer ≢ Receipt (length state + 1) embargo
+    → IsReply terms state (deposit caller project embargo bytes day) answer → IsNext terms state (deposit caller project embargo bytes day) state
+untaken terms state caller project embargo bytes day answer other is = inr (λ list change. other ((taken_received terms state caller project embargo bytes day answer is).0 change.0), refl)
 
-refusal_other : (register : Register) (bytes : List ℕ) (n : ℕ) (e : ℤ) (answer : Answer) → IsRefusal register.given bytes answer → answer ≢ Receipt n e
-refusal_other register bytes n e answer refusal same = subst (IsRefusal register.given bytes) same refusal
+refusal_other : (terms : Terms) (bytes : List ℕ) (n : ℕ) (e : ℤ) (answer : Answer) → IsRefusal terms.dictionary bytes answer → answer ≢ Receipt n e
+refusal_other terms bytes n e answer refusal same = subst (IsRefusal terms.dictionary bytes) same refusal
 
-receipt_needs : (register : Register) (state : List Sent) (caller : Caller) (project : List ℕ) (embargo : ℤ) (bytes : List ℕ) → NeedsMemory (IsReceipt register state caller project embargo bytes)
-receipt_needs register state caller project embargo bytes = (receipt_asks register embargo (length state) (first_equal 1 caller.firm project bytes state)).0
+receipt_needs : (terms : Terms) (state : List Sent) (caller : Caller) (project : List ℕ) (embargo : ℤ) (bytes : List ℕ) → NeedsMemory (IsReceipt terms state caller project embargo bytes)
+receipt_needs terms state caller project embargo bytes = (receipt_asks terms embargo (length state) (first_equal 1 caller.firm project bytes state)).0
 
 -- ---- the answers to a deposit
 
 pub deposit_denied : {K : Type 0} (keep : Ghosts K) (rules : List Rule) (caller : Caller) (project : List ℕ) (embargo : ℤ) (bytes : List ℕ) (day : ℤ) (old : K) (m : ℕ) → keep.has_failed old ≡ false
-    → decided (register_at keep rules old) caller project verbs.Deposit ≡ Deny m → Serves keep rules (deposit caller project embargo bytes day) old old (Denied m)
+    → decided (terms_at keep rules old) caller project verbs.Deposit ≡ Deny m → Serves keep rules (deposit caller project embargo bytes day) old old (Denied m)
 deposit_denied keep rules caller project embargo bytes day old m works deny =
-    let register = register_at keep rules old in
-    let is = denied_reply (decided register caller project verbs.Deposit) m (OrRefused register bytes (IsReceipt register (keep.deposits old) caller project embargo bytes)) deny in
+    let terms = terms_at keep rules old in
+    let is = denied_reply (decided terms caller project verbs.Deposit) m (OrRefused terms bytes (IsReceipt terms (keep.deposits old) caller project embargo bytes)) deny in
     replies_at_once keep rules (deposit caller project embargo bytes day) old (Denied m) works refl is
-    (untaken register (keep.deposits old) caller project embargo bytes day (Denied m) (λ e. absurd cc) is)
+    (untaken terms (keep.deposits old) caller project embargo bytes day (Denied m) (λ e. absurd cc) is)
 
 pub deposit_refused : {K : Type 0} (keep : Ghosts K) (rules : List Rule) (caller : Caller) (project : List ℕ) (embargo : ℤ) (bytes : List ℕ) (day : ℤ) (old : K) (answer : Answer) (k : ℕ) → keep.has_failed old ≡ false
-    → decided (register_at keep rules old) caller project verbs.Deposit ≡ Permit k → IsRefusal (keep.dictionary old) bytes answer → Serves keep rules (deposit caller project embargo bytes day) old old answer
+    → decided (terms_at keep rules old) caller project verbs.Deposit ≡ Permit k → IsRefusal (keep.dictionary old) bytes answer → Serves keep rules (deposit caller project embargo bytes day) old old answer
 deposit_refused keep rules caller project embargo bytes day old answer k works permit refusal =
-    let register = register_at keep rules old in
+    let terms = terms_at keep rules old in
     let state = keep.deposits old in
-    refusal_serves keep rules (deposit caller project embargo bytes day) old answer (decided register caller project verbs.Deposit) k bytes (IsReceipt register state caller project embargo bytes) works permit refusal
-    (receipt_needs register state caller project embargo bytes) (λ r h. h) (λ r h. h)
-    (λ r h is. untaken register state caller project embargo bytes day r (refusal_other register bytes (length state + 1) embargo r h) is)
+    refusal_serves keep rules (deposit caller project embargo bytes day) old answer (decided terms caller project verbs.Deposit) k bytes (IsReceipt terms state caller project embargo bytes) works permit refusal
+    (receipt_needs terms state caller project embargo bytes) (λ r h. h) (λ r h. h)
+    (λ r h is. untaken terms state caller project embargo bytes day r (refusal_other terms bytes (length state + 1) embargo r h) is)
 
 pub deposit_unread : {K : Type 0} (keep : Ghosts K) (rules : List Rule) (caller : Caller) (project : List ℕ) (embargo : ℤ) (bytes : List ℕ) (day : ℤ) (old new : K) (e : KeepError)
-    → IsFine (register_at keep rules old) caller project bytes → OnlyReads keep old new (is_store e) → e ≢ errors.Full → Serves keep rules (deposit caller project embargo bytes day) old new (answer_of e)
+    → IsFine (terms_at keep rules old) caller project bytes → OnlyReads keep old new (is_store e) → e ≢ errors.Full → Serves keep rules (deposit caller project embargo bytes day) old new (answer_of e)
 deposit_unread keep rules caller project embargo bytes day old new e fine reads named =
-    let asks = fine_asks (register_at keep rules old) (keep.deposits old) caller project embargo bytes day fine in
+    let asks = fine_asks (terms_at keep rules old) (keep.deposits old) caller project embargo bytes day fine in
     refused_serves keep rules (deposit caller project embargo bytes day) old new e reads named asks.0 (λ s. asks)
 
 -- an equal deposit is held
 pub deposit_repeats : {K : Type 0} (keep : Ghosts K) (rules : List Rule) (caller : Caller) (project : List ℕ) (embargo : ℤ) (bytes : List ℕ) (day : ℤ) (old new : K) (n : ℕ) (e : ℤ)
-    → IsFine (register_at keep rules old) caller project bytes → OnlyReads keep old new false → (keep.is_sound new → first_equal 1 caller.firm project bytes (keep.deposits old) ≡ Some (n, e))
+    → IsFine (terms_at keep rules old) caller project bytes → OnlyReads keep old new false → (keep.is_sound new → first_equal 1 caller.firm project bytes (keep.deposits old) ≡ Some (n, e))
     → Serves keep rules (deposit caller project embargo bytes day) old new (Receipt n e)
 deposit_repeats keep rules caller project embargo bytes day old new n e fine reads first =
-    let register = register_at keep rules old in
+    let terms = terms_at keep rules old in
     let state = keep.deposits old in
     replies_serves keep rules (deposit caller project embargo bytes day) old new (Receipt n e) reads refl
-    (λ s. ∣ fine_reply register state caller project embargo bytes day (Receipt n e) fine (ap (receipt_of register embargo (length state)) (sym (first s))) ∣₁)
-    (λ s. inr (λ list change. none_some (first_equal 1 caller.firm project bytes state) (n, e) change.0.3 (first s), refl)) (fine_asks register state caller project embargo bytes day fine).0
+    (λ s. ∣ fine_reply terms state caller project embargo bytes day (Receipt n e) fine (ap (receipt_of terms embargo (length state)) (sym (first s))) ∣₁)
+    (λ s. inr (λ list change. none_some (first_equal 1 caller.firm project bytes state) (n, e) change.0.3 (first s), refl)) (fine_asks terms state caller project embargo bytes day fine).0
   where
     none_some : (o : Option (ℕ × ℤ)) (p : ℕ × ℤ) → o ≡ None → o ≡ Some p → ⊥
     none_some None p a b = cc
@@ -160,16 +160,16 @@ abbrev pub Appends : {K : Type 0} → Ghosts K → Sent → K → K → Result �
 Appends keep d old new result = Adds keep.deposits keep.dictionary keep.limit keep.has_failed keep.may_leave keep.may_break keep.is_sound d old new result
 
 -- a body that is fine is taken where no equal one is held and there is room
-pub is_taken : {K : Type 0} (keep : Ghosts K) (rules : List Rule) (caller : Caller) (project bytes : List ℕ) (old mid : K) → IsFine (register_at keep rules old) caller project bytes → OnlyReads keep old mid false
+pub is_taken : {K : Type 0} (keep : Ghosts K) (rules : List Rule) (caller : Caller) (project bytes : List ℕ) (old mid : K) → IsFine (terms_at keep rules old) caller project bytes → OnlyReads keep old mid false
     → (keep.is_sound mid → first_equal 1 caller.firm project bytes (keep.deposits old) ≡ None) → (keep.is_sound mid → length (keep.deposits mid) < keep.limit mid)
-    → keep.is_sound mid → IsTaken (register_at keep rules old) (keep.deposits old) caller project bytes
+    → keep.is_sound mid → IsTaken (terms_at keep rules old) (keep.deposits old) caller project bytes
 is_taken keep rules caller project bytes old mid fine reads unheld room s =
     ((fine.number, fine.permitted), fine.small, fine.clean, unheld s, omega (arith, room s, ap length (reads.same s refl), reads.same_limit))
 
 may_have_left : {K : Type 0} (keep : Ghosts K) (rules : List Rule) (caller : Caller) (project : List ℕ) (embargo : ℤ) (bytes : List ℕ) (day : ℤ) (old mid new : K) (result : Result ℕ KeepError)
-    → OnlyReads keep old mid false → (keep.is_sound mid → IsTaken (register_at keep rules old) (keep.deposits old) caller project bytes)
+    → OnlyReads keep old mid false → (keep.is_sound mid → IsTaken (terms_at keep rules old) (keep.deposits old) caller project bytes)
     → Appends keep (asked_deposit caller project embargo bytes) mid new result → keep.is_sound new → (list : List Sent) → keep.may_leave new list
-    → keep.may_leave old list ⊎ Changes (register_at keep rules old) (keep.deposits old) (deposit caller project embargo bytes day) list
+    → keep.may_leave old list ⊎ Changes (terms_at keep rules old) (keep.deposits old) (deposit caller project embargo bytes day) list
 may_have_left keep rules caller project embargo bytes day old mid new result reads taken appends s list may =
     elim (appends.crash s list may) [
       | inl was ↦ inl (reads.crash (appends.sound s) list was)
@@ -180,15 +180,15 @@ no_failure : (t failed : Bool) → t ≡ failed → failed ≡ false → t ≡ t
 no_failure t failed is lives e = sym lives ∙ sym is ∙ e
 
 pub deposit_added : {K : Type 0} (keep : Ghosts K) (rules : List Rule) (caller : Caller) (project : List ℕ) (embargo : ℤ) (bytes : List ℕ) (day : ℤ) (old mid new : K) (n : ℕ)
-    → IsFine (register_at keep rules old) caller project bytes → OnlyReads keep old mid false → (keep.is_sound mid → IsTaken (register_at keep rules old) (keep.deposits old) caller project bytes)
+    → IsFine (terms_at keep rules old) caller project bytes → OnlyReads keep old mid false → (keep.is_sound mid → IsTaken (terms_at keep rules old) (keep.deposits old) caller project bytes)
     → Appends keep (asked_deposit caller project embargo bytes) mid new (Ok n) → (keep.is_sound new → n ≡ length (keep.deposits new))
     → Serves keep rules (deposit caller project embargo bytes day) old new (Receipt n embargo)
 deposit_added keep rules caller project embargo bytes day old mid new n fine reads taken appends number =
-    let register = register_at keep rules old in
+    let terms = terms_at keep rules old in
     let state = keep.deposits old in
     let request = deposit caller project embargo bytes day in
     let d = asked_deposit caller project embargo bytes in
-    let asks = fine_asks register state caller project embargo bytes day fine in
+    let asks = fine_asks terms state caller project embargo bytes day fine in
     let new_list : keep.is_sound new → keep.deposits new ≡ state ++ d ∷ [] = λ s. appends.added s ∙ ap (λ (l : List Sent). l ++ d ∷ []) (reads.same (appends.sound s) refl) in
     let count : keep.is_sound new → n ≡ length state + 1 = λ s. omega (arith, number s, ap length (new_list s), length-append state (d ∷ [])) in
     record {
@@ -198,10 +198,10 @@ deposit_added keep rules caller project embargo bytes day old mid new n fine rea
       failure = no_failure (keep.has_failed new) false appends.failing refl;
       cause = λ s. sym appends.failing;
       answered = λ s.
-          ∣ (told_answer register state request (Receipt n embargo) refl).0
-          (fine_reply register state caller project embargo bytes day (Receipt n embargo) fine
-          (ap (λ (k : ℕ). Receipt k embargo) (count s) ∙ receipt_new register embargo (length state) (first_equal 1 caller.firm project bytes state) (taken (appends.sound s)).3 (taken (appends.sound s)).4)) ∣₁;
-      kept = λ s. (told_after register state (keep.deposits new) request (Receipt n embargo) refl).0 (inl (taken (appends.sound s), new_list s));
+          ∣ (told_answer terms state request (Receipt n embargo) refl).0
+          (fine_reply terms state caller project embargo bytes day (Receipt n embargo) fine
+          (ap (λ (k : ℕ). Receipt k embargo) (count s) ∙ receipt_new terms embargo (length state) (first_equal 1 caller.firm project bytes state) (taken (appends.sound s)).3 (taken (appends.sound s)).4)) ∣₁;
+      kept = λ s. (told_after terms state (keep.deposits new) request (Receipt n embargo) refl).0 (inl (taken (appends.sound s), new_list s));
       denied = λ m h. absurd (asks.0.0 m h);
       too_large = λ h. absurd (asks.0.1 h);
       crash = may_have_left keep rules caller project embargo bytes day old mid new (Ok n) reads taken appends;
@@ -210,26 +210,26 @@ deposit_added keep rules caller project embargo bytes day old mid new n fine rea
 
 -- there is no room
 pub deposit_full : {K : Type 0} (keep : Ghosts K) (rules : List Rule) (caller : Caller) (project : List ℕ) (embargo : ℤ) (bytes : List ℕ) (day : ℤ) (old mid : K)
-    → IsFine (register_at keep rules old) caller project bytes → OnlyReads keep old mid false → (keep.is_sound mid → first_equal 1 caller.firm project bytes (keep.deposits old) ≡ None)
+    → IsFine (terms_at keep rules old) caller project bytes → OnlyReads keep old mid false → (keep.is_sound mid → first_equal 1 caller.firm project bytes (keep.deposits old) ≡ None)
     → (keep.is_sound mid → keep.limit mid ≤ length (keep.deposits mid)) → Serves keep rules (deposit caller project embargo bytes day) old mid Full
 deposit_full keep rules caller project embargo bytes day old mid fine reads unheld full =
-    let register = register_at keep rules old in
+    let terms = terms_at keep rules old in
     let state = keep.deposits old in
-    let no_room : keep.is_sound mid → register.limit ≤ length state = λ s. omega (arith, full s, ap length (reads.same s refl), reads.same_limit) in
+    let no_room : keep.is_sound mid → terms.limit ≤ length state = λ s. omega (arith, full s, ap length (reads.same s refl), reads.same_limit) in
     replies_serves keep rules (deposit caller project embargo bytes day) old mid Full reads refl
-    (λ s. ∣ fine_reply register state caller project embargo bytes day Full fine (receipt_full register embargo (length state) (first_equal 1 caller.firm project bytes state) (unheld s) (no_room s)) ∣₁)
-    (λ s. inr (λ list change. omega (arith, change.0.4, no_room s), refl)) (fine_asks register state caller project embargo bytes day fine).0
+    (λ s. ∣ fine_reply terms state caller project embargo bytes day Full fine (receipt_full terms embargo (length state) (first_equal 1 caller.firm project bytes state) (unheld s) (no_room s)) ∣₁)
+    (λ s. inr (λ list change. omega (arith, change.0.4, no_room s), refl)) (fine_asks terms state caller project embargo bytes day fine).0
 
 -- the keep refuses to append
 pub deposit_unadded : {K : Type 0} (keep : Ghosts K) (rules : List Rule) (caller : Caller) (project : List ℕ) (embargo : ℤ) (bytes : List ℕ) (day : ℤ) (old mid new : K) (e : KeepError)
-    → IsFine (register_at keep rules old) caller project bytes → OnlyReads keep old mid false → (keep.is_sound mid → IsTaken (register_at keep rules old) (keep.deposits old) caller project bytes)
+    → IsFine (terms_at keep rules old) caller project bytes → OnlyReads keep old mid false → (keep.is_sound mid → IsTaken (terms_at keep rules old) (keep.deposits old) caller project bytes)
     → Appends keep (asked_deposit caller project embargo bytes) mid new (Err e)
     → (keep.is_sound new → e ≡ errors.Full → length (keep.deposits mid) ≡ keep.limit mid)
     → Serves keep rules (deposit caller project embargo bytes day) old new (answer_of e)
 deposit_unadded keep rules caller project embargo bytes day old mid new errors.Full fine reads taken appends full =
-    let register = register_at keep rules old in
+    let terms = terms_at keep rules old in
     let state = keep.deposits old in
-    let asks = fine_asks register state caller project embargo bytes day fine in
+    let asks = fine_asks terms state caller project embargo bytes day fine in
     let never : keep.is_sound new → ⊥ = λ s. omega (arith, full s refl, ap length (reads.same (appends.sound s) refl), reads.same_limit, (taken (appends.sound s)).4) in
     record {
       sound = λ s. reads.sound (appends.sound s);
@@ -245,36 +245,36 @@ deposit_unadded keep rules caller project embargo bytes day old mid new errors.F
       whole = λ s may. absurd (never s);
     }
 deposit_unadded keep rules caller project embargo bytes day old mid new errors.NoMemory fine reads taken appends full =
-    let register = register_at keep rules old in
+    let terms = terms_at keep rules old in
     let state = keep.deposits old in
     let request = deposit caller project embargo bytes day in
-    let asks = fine_asks register state caller project embargo bytes day fine in
+    let asks = fine_asks terms state caller project embargo bytes day fine in
     record {
       sound = λ s. reads.sound (appends.sound s);
       same_dictionary = appends.same_dictionary ∙ reads.same_dictionary;
       same_limit = appends.same_limit ∙ reads.same_limit;
       failure = no_failure (keep.has_failed new) false appends.failing refl;
       cause = λ s. sym appends.failing;
-      answered = λ s. ∣ memory_answer register state request asks.0 ∣₁;
-      kept = λ s. memory_after register state (keep.deposits new) request (appends.refused s refl ∙ reads.same (appends.sound s) refl);
+      answered = λ s. ∣ memory_answer terms state request asks.0 ∣₁;
+      kept = λ s. memory_after terms state (keep.deposits new) request (appends.refused s refl ∙ reads.same (appends.sound s) refl);
       denied = λ m h. absurd (asks.0.0 m h);
       too_large = λ h. absurd (asks.0.1 h);
       crash = may_have_left keep rules caller project embargo bytes day old mid new (Err errors.NoMemory) reads taken appends;
       whole = λ s may. reads.whole (appends.sound s) (appends.whole s may);
     }
 deposit_unadded keep rules caller project embargo bytes day old mid new errors.Store fine reads taken appends full =
-    let register = register_at keep rules old in
+    let terms = terms_at keep rules old in
     let state = keep.deposits old in
     let request = deposit caller project embargo bytes day in
-    let asks = fine_asks register state caller project embargo bytes day fine in
+    let asks = fine_asks terms state caller project embargo bytes day fine in
     record {
       sound = λ s. reads.sound (appends.sound s);
       same_dictionary = appends.same_dictionary ∙ reads.same_dictionary;
       same_limit = appends.same_limit ∙ reads.same_limit;
       failure = λ e. refl;
       cause = λ s. sym appends.failing;
-      answered = λ s. ∣ failed_answer register state request asks ∣₁;
-      kept = λ s. failed_after register state (keep.deposits new) request;
+      answered = λ s. ∣ failed_answer terms state request asks ∣₁;
+      kept = λ s. failed_after terms state (keep.deposits new) request;
       denied = λ m h. absurd (asks.0.0 m h);
       too_large = λ h. absurd (asks.0.1 h);
       crash = may_have_left keep rules caller project embargo bytes day old mid new (Err errors.Store) reads taken appends;

@@ -5,7 +5,7 @@ use Rattle.reg_store.specs.Sent.{Sent}
 use Rattle.reg_desk.specs.Asked.{Asked}
 use Rattle.reg_desk.specs.declared.answer.Answer.{Answer}
 use Rattle.reg_desk.specs.declared.answer.Answer.TheVariants.{Receipt, Clean, Findings, Listing, Text, Denied, Unknown, TooLarge, Full, NoMemory, StoreFailed}
-use Rattle.reg_desk.specs.Machine.{Register, IsRun}
+use Rattle.reg_desk.specs.Machine.{Terms, IsRun}
 use Rattle.reg_desk.specs.Serving.{is_failed}
 use Rattle.reg_desk.specs.Running.{AreAnswers}
 use Rattle.reg_desk.specs.Laws.{IsTold}
@@ -25,19 +25,19 @@ told_is Full told = refl
 told_is NoMemory told = absurd told
 told_is StoreFailed told = absurd told
 
-pub answers_run : (register : Register) (state : List Sent) (requests : List Asked) (answers : List Answer) (last : List Sent)
-    → AreAnswers register state requests answers last → AllByRecursion IsTold answers → IsRun register state requests answers last
-answers_run register state [] [] last h told = (refl, h)
-answers_run register state [] (a ∷ answers) last h told = absurd h
-answers_run register state (r ∷ requests) [] last h told = absurd h
-answers_run register state (r ∷ requests) (a ∷ answers) last h told =
+pub answers_run : (terms : Terms) (state : List Sent) (requests : List Asked) (answers : List Answer) (last : List Sent)
+    → AreAnswers terms state requests answers last → AllByRecursion IsTold answers → IsRun terms state requests answers last
+answers_run terms state [] [] last h told = (refl, h)
+answers_run terms state [] (a ∷ answers) last h told = absurd h
+answers_run terms state (r ∷ requests) [] last h told = absurd h
+answers_run terms state (r ∷ requests) (a ∷ answers) last h told =
     let is = told_is a told.0 in
     let rest = where_else (is_failed a) _ _ (told_lives a is) h.1 in (
       a,
       answers,
       rest.0,
       refl,
-      (told_answer register state r a is).1 h.0,
-      (told_after register state rest.0 r a is).1 rest.1,
-      answers_run register rest.0 requests answers last rest.2 told.1,
+      (told_answer terms state r a is).1 h.0,
+      (told_after terms state rest.0 r a is).1 rest.1,
+      answers_run terms rest.0 requests answers last rest.2 told.1,
     )

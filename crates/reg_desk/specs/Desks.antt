@@ -10,7 +10,7 @@ use Rattle.reg_desk.specs.declared.desk.Desk.{Desk}
 use Rattle.reg_desk.specs.Asked.{Asked, extract}
 use Rattle.reg_desk.specs.Laws.{WasExtracted, IsShownWhole}
 use Rattle.reg_desk.specs.Machine.{held}
-use Rattle.reg_desk.specs.Serving.{is_failed, register_at, Serves, ShowsRows}
+use Rattle.reg_desk.specs.Serving.{is_failed, terms_at, Serves, ShowsRows}
 
 -- The desk before, what it is asked, its answer, and the desk after. A desk that failed answers StoreFailed and keeps what it has;
 -- else the request is served over its keep under its policy, which stays. An extract is made of rows, also over a keep that is not sound.
@@ -37,7 +37,7 @@ IsCleanText keep old _ = Unit {0}
 -- is these bytes
 abbrev pub IsSameText : {K : Type 0} → Ghosts K → List Rule → K → Asked → List ℕ → Type 0
 IsSameText keep rules old (extract caller project number [] day) text =
-    (kept : Sent) → held number (keep.deposits old) ≡ Some kept → WasExtracted (keep.dictionary old) kept.bytes → IsShownWhole (register_at keep rules old) caller day kept → text ≡ kept.bytes
+    (kept : Sent) → held number (keep.deposits old) ≡ Some kept → WasExtracted (keep.dictionary old) kept.bytes → IsShownWhole (terms_at keep rules old) caller day kept → text ≡ kept.bytes
 IsSameText keep rules old _ text = Unit {0}
 
 -- the same of an answer, where it is a text

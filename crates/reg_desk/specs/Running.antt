@@ -8,8 +8,8 @@ use Rattle.reg_desk.specs.declared.answer.Answer.{Answer}
 use Rattle.reg_desk.specs.declared.answer.Answer.TheVariants.{Receipt, StoreFailed}
 use Rattle.reg_desk.specs.declared.desk.Desk.{Desk}
 use Rattle.reg_desk.specs.Asked.{Asked, deposit}
-use Rattle.reg_desk.specs.Machine.{Register, held, asked_deposit, Changes}
-use Rattle.reg_desk.specs.Serving.{is_failed, IsAnswer, IsAfter, register_at}
+use Rattle.reg_desk.specs.Machine.{Terms, held, asked_deposit, Changes}
+use Rattle.reg_desk.specs.Serving.{is_failed, IsAnswer, IsAfter, terms_at}
 
 -- one StoreFailed for each request
 abbrev pub AreFailed : List Asked → List Answer → Type 0
@@ -17,13 +17,13 @@ AreFailed requests answers = AllZip (λ request answer. answer ≡ StoreFailed) 
 
 -- One answer for each request. Up to the first StoreFailed each is the machine's reply with its next state, or want of memory
 -- with the state unchanged; from there on all are StoreFailed. `last` is the state before the first StoreFailed, or at the end.
-abbrev pub AreAnswers : Register → List Sent → List Asked → List Answer → List Sent → Type 0
-AreAnswers register state [] [] last = last ≡ state
-AreAnswers register state (request ∷ requests) (answer ∷ answers) last =
-    IsAnswer register state request answer
+abbrev pub AreAnswers : Terms → List Sent → List Asked → List Answer → List Sent → Type 0
+AreAnswers terms state [] [] last = last ≡ state
+AreAnswers terms state (request ∷ requests) (answer ∷ answers) last =
+    IsAnswer terms state request answer
     × MatchBool (is_failed answer) ((last ≡ state) × AreFailed requests answers)
-    ((next : List Sent) × IsAfter register state request answer next × AreAnswers register next requests answers last)
-AreAnswers register state _ _ last = ⊥
+    ((next : List Sent) × IsAfter terms state request answer next × AreAnswers terms next requests answers last)
+AreAnswers terms state _ _ last = ⊥
 
 -- the request that was first answered by StoreFailed
 abbrev pub failing : List Asked → List Answer → Option Asked
@@ -37,12 +37,12 @@ IsHeldIn list _ _ = ⊤
 -- The answers of a keep that works at the start, its list at the end where none of them is StoreFailed, and what a crash leaves then.
 pub record Runs {K : Type 0} (keep : Ghosts K) (rules : List Rule) (old new : K) (requests : List Asked) (answers : List Answer) : Type 0 where
   pub last : List Sent
-  pub answered : AreAnswers (register_at keep rules old) (keep.deposits old) requests answers last
+  pub answered : AreAnswers (terms_at keep rules old) (keep.deposits old) requests answers last
   pub kept : failing requests answers ≡ None → keep.deposits new ≡ last
   -- a crash leaves no list but `last`, or, where a request failed, one to which that request changes `last`
   pub left : (list : List Sent) → keep.may_leave new list
       → (list ≡ last)
-      ⊎ ((r : Asked) × (failing requests answers ≡ Some r) × Changes (register_at keep rules old) last r list)
+      ⊎ ((r : Asked) × (failing requests answers ≡ Some r) × Changes (terms_at keep rules old) last r list)
   -- a crash leaves a register of some list, so of one of these
   pub whole : keep.may_break new → ⊥
 

@@ -5,6 +5,7 @@ ghost use Rattle.std.specs.Prelude.{◌≡◌, ◌≤◌, ◌<◌, false};
 mod bodies;
 mod examples;
 mod failing;
+mod junk;
 mod laws;
 mod memory;
 mod refusing;

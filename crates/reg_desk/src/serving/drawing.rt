@@ -5,7 +5,7 @@ ghost use Rattle.reg_store.specs.Keep.{fails};
 ghost use Rattle.reg_desk.specs.Asked.{extract as asks_extract, names_in};
 ghost use Rattle.reg_desk.specs.Extract.{IsOfRows};
 ghost use Rattle.reg_desk.specs.Machine.{IsDrawnFrom, held};
-ghost use Rattle.reg_desk.specs.Serving.{IsAnswerOfRows, OfHeld, OnlyReads, Serves, register_at, text_answer};
+ghost use Rattle.reg_desk.specs.Serving.{IsAnswerOfRows, OfHeld, OnlyReads, Serves, terms_at, text_answer};
 ghost use Rattle.reg_desk.specs.View.{DrawsFile, IsViewOf};
 
 use crate::answer::Answer;
@@ -68,7 +68,7 @@ fn draw<K: Keep>(
     requires { K.has_failed keep.old ≡ false }
     ensures reads { OnlyReads K.Keep keep.old keep.new (fails result) }
     ensures drawn { K.is_sound keep.new → IfOk result (λ text.
-        ∥ IsDrawnFrom (register_at K.Keep policy.now keep.old) caller.now project.now (names_in groups.now) day
+        ∥ IsDrawnFrom (terms_at K.Keep policy.now keep.old) caller.now project.now (names_in groups.now) day
         (held number (K.deposits keep.old)) (text_answer (option_map (λ t. t.items) text)) ∥₁) }
     ensures rows { IfOk result (λ text. IfSome text (λ t. IsOfRows t.items)) }
     ensures refused { result ≢ Err KeepError.Full }

@@ -5,7 +5,7 @@ ghost use Rattle.reg_store.specs.Keep.{fails};
 ghost use Rattle.reg_store.specs.Sent.{Sent};
 ghost use Rattle.reg_desk.specs.Asked.{listing as asks_listing};
 ghost use Rattle.reg_desk.specs.Machine.{IsListing, held};
-ghost use Rattle.reg_desk.specs.Serving.{IsLineFor, OfHeld, OnlyReads, Serves, register_at};
+ghost use Rattle.reg_desk.specs.Serving.{IsLineFor, OfHeld, OnlyReads, Serves, terms_at};
 ghost use Rattle.reg_desk.specs.View.{IsOpen, Sees, is_only};
 
 use crate::answer::{Answer, Listed};
@@ -99,7 +99,7 @@ fn listed<K: Keep>(
     ensures reads { OnlyReads K.Keep keep.old keep.new (fails result) }
     ensures seen { K.is_sound keep.new → IfOk result (λ line.
         (d : Sent) → held number (K.deposits keep.old) ≡ Some d
-        → ∥ IsLineFor (register_at K.Keep policy.now keep.old) caller.now day number d line ∥₁) }
+        → ∥ IsLineFor (terms_at K.Keep policy.now keep.old) caller.now day number d line ∥₁) }
     ensures refused { result ≢ Err KeepError.Full }
 {
     let head = keep.head(number)?;
@@ -126,7 +126,7 @@ fn lines_of<K: Keep>(
     requires { K.has_failed keep.old ≡ false }
     ensures reads { OnlyReads K.Keep keep.old keep.new (fails result) }
     ensures listed { K.is_sound keep.new → IfOk result (λ lines.
-        ∥ IsListing (register_at K.Keep policy.now keep.old) caller.now project.now day 1
+        ∥ IsListing (terms_at K.Keep policy.now keep.old) caller.now project.now day 1
         (K.deposits keep.old) lines.items ∥₁) }
     ensures refused { result ≢ Err KeepError.Full }
 {

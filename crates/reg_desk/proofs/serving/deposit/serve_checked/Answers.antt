@@ -2,7 +2,7 @@ use Rattle.std.proofs.Common.{◌∙◌, sym, ap, subst, List, ℕ, Err, refl, a
 use Rattle.reg_store.specs.Sent.{number_of}
 use Rattle.reg_desk.specs.Asked.{deposit}
 use Rattle.reg_desk.specs.Machine.{first_equal}
-use Rattle.reg_desk.specs.Serving.{Serves, register_at}
+use Rattle.reg_desk.specs.Serving.{Serves, terms_at}
 use Rattle.reg_desk.proofs.Firsts.{none_number}
 use Rattle.reg_desk.proofs.Serves.{still_works}
 use Rattle.reg_desk.proofs.Taking.{fine_of, first_of, deposit_unread, deposit_repeats, is_taken, deposit_full, deposit_added, deposit_unadded}
@@ -16,7 +16,7 @@ returns-in-Err g c = λ rules number day permit.
     let K = g.K.Keep in
     let keep = c.args.keep.now in
     let bytes = c.args.checked.now.bytes in
-    let fine = fine_of (register_at K rules keep) c.args.caller.now c.args.project.now bytes c.args.checked.now.given number permit c.requires.short c.requires.dictionary c.bytes.ensures.clean.file.findings in
+    let fine = fine_of (terms_at K rules keep) c.args.caller.now c.args.project.now bytes c.args.checked.now.given number permit c.requires.short c.requires.dictionary c.bytes.ensures.clean.file.findings in
     subst (Serves K rules (deposit c.args.caller.now c.args.project.now c.args.embargo bytes day) keep c.held_already.new.keep) (sym c.refused.ensures)
     (deposit_unread K rules c.args.caller.now c.args.project.now c.args.embargo bytes day keep c.held_already.new.keep c.in-Err.error fine c.in-Err.ensures.reads (λ e. c.in-Err.ensures.refused (ap (λ x. Err x) e)))
 
@@ -25,7 +25,7 @@ returns-in-Ok-Some g c = λ rules number day permit.
     let K = g.K.Keep in
     let keep = c.args.keep.now in
     let bytes = c.args.checked.now.bytes in
-    let fine = fine_of (register_at K rules keep) c.args.caller.now c.args.project.now bytes c.args.checked.now.given number permit c.requires.short c.requires.dictionary c.bytes.ensures.clean.file.findings in
+    let fine = fine_of (terms_at K rules keep) c.args.caller.now c.args.project.now bytes c.args.checked.now.given number permit c.requires.short c.requires.dictionary c.bytes.ensures.clean.file.findings in
     let held = rw c.in-Ok-Some.field-0-is at c.in-Ok-Some.ensures.held in
     subst (Serves K rules (deposit c.args.caller.now c.args.project.now c.args.embargo bytes day) keep c.held_already.new.keep) (sym c.receipt.ensures.held)
     (deposit_repeats K rules c.args.caller.now c.args.project.now c.args.embargo bytes day keep c.held_already.new.keep c.in-Ok-Some.number c.in-Ok-Some.until fine c.in-Ok-Some.ensures.reads
@@ -57,7 +57,7 @@ returns-then-count-limit g c = λ rules number day permit.
     let held = rw c.in-Ok-None.field-0-is at c.in-Ok-None.ensures.held in
     let works = still_works K keep mid c.in-Ok-None.ensures.reads in
     deposit_full K rules c.args.caller.now c.args.project.now c.args.embargo bytes day keep mid
-    (fine_of (register_at K rules keep) c.args.caller.now c.args.project.now bytes c.args.checked.now.given number permit c.requires.short c.requires.dictionary c.bytes.ensures.clean.file.findings)
+    (fine_of (terms_at K rules keep) c.args.caller.now c.args.project.now bytes c.args.checked.now.given number permit c.requires.short c.requires.dictionary c.bytes.ensures.clean.file.findings)
     c.in-Ok-None.ensures.reads
     (λ s. first_of c.args.caller.now.firm c.args.project.now bytes c.bytes.result.now (K.deposits keep) _ c.bytes.ensures.bytes (held s))
     (λ s. omega (arith, c.count.ensures s works, c.limit.ensures))
@@ -67,7 +67,7 @@ returns-in-Err-add g c = λ rules number day permit.
     let K = g.K.Keep in
     let keep = c.args.keep.now in
     let bytes = c.args.checked.now.bytes in
-    let fine = fine_of (register_at K rules keep) c.args.caller.now c.args.project.now bytes c.args.checked.now.given number permit c.requires.short c.requires.dictionary c.bytes.ensures.clean.file.findings in
+    let fine = fine_of (terms_at K rules keep) c.args.caller.now c.args.project.now bytes c.args.checked.now.given number permit c.requires.short c.requires.dictionary c.bytes.ensures.clean.file.findings in
     let held = rw c.in-Ok-None.field-0-is at c.in-Ok-None.ensures.held in
     subst (Serves K rules (deposit c.args.caller.now c.args.project.now c.args.embargo bytes day) keep c.add.new.self) (sym c.refused-in-Err-add.ensures)
     (deposit_unadded K rules c.args.caller.now c.args.project.now c.args.embargo bytes day keep c.held_already.new.keep c.add.new.self c.in-Err-add.error fine
@@ -82,7 +82,7 @@ returns-in-Ok g c = λ rules number day permit.
     let K = g.K.Keep in
     let keep = c.args.keep.now in
     let bytes = c.args.checked.now.bytes in
-    let fine = fine_of (register_at K rules keep) c.args.caller.now c.args.project.now bytes c.args.checked.now.given number permit c.requires.short c.requires.dictionary c.bytes.ensures.clean.file.findings in
+    let fine = fine_of (terms_at K rules keep) c.args.caller.now c.args.project.now bytes c.args.checked.now.given number permit c.requires.short c.requires.dictionary c.bytes.ensures.clean.file.findings in
     let held = rw c.in-Ok-None.field-0-is at c.in-Ok-None.ensures.held in
     subst (Serves K rules (deposit c.args.caller.now c.args.project.now c.args.embargo bytes day) keep c.add.new.self) (sym (c.receipt-in-Ok.ensures.new refl))
     (deposit_added K rules c.args.caller.now c.args.project.now c.args.embargo bytes day keep c.held_already.new.keep c.add.new.self c.in-Ok.number fine

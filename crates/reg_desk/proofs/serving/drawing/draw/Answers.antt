@@ -6,7 +6,7 @@ use Rattle.reg_desk.specs.Asked.{names_in}
 use Rattle.ags_check.specs.Findings.{file_of}
 use Rattle.reg_desk.specs.Shown.{Look}
 use Rattle.reg_desk.specs.View.{look_on, IsExtractOf}
-use Rattle.reg_desk.specs.Serving.{register_at}
+use Rattle.reg_desk.specs.Serving.{terms_at}
 use Rattle.reg_desk.proofs.Serves.{reads_once, reads_more, still_works}
 use Rattle.reg_desk.proofs.Drawing.{headed, head_drawn, other_drawn, unheld_drawn}
 use Rattle.reg_desk.proofs.Projects.{of_file_before, within_after}
@@ -15,7 +15,7 @@ use Rattle.reg_desk.proofs.serving.drawing.draw.Goals.{then-number-eq0-via-then-
 
 pub returns-then-number-eq0-clause-drawn : goal.returns-then-number-eq0-clause-drawn
 returns-then-number-eq0-clause-drawn g c = λ s.
-    ∣ unheld_drawn (register_at g.K.Keep c.args.policy.now c.args.keep.now) (g.K.Keep.deposits c.args.keep.now) c.args.caller.now c.args.project.now c.args.number (names_in c.args.groups.now) c.args.day
+    ∣ unheld_drawn (terms_at g.K.Keep c.args.policy.now c.args.keep.now) (g.K.Keep.deposits c.args.keep.now) c.args.caller.now c.args.project.now c.args.number (names_in c.args.groups.now) c.args.day
     (elim c.then-number-eq0.branch [
       | then-number-eq0-via-then-number-eq0 w ↦ inl w.if-number-eq0.true
       | then-number-eq0-via-else-number-eq0+then-number-count w ↦ inr (omega (arith, w.if-number-count.true, w.count.ensures s c.requires))
@@ -26,7 +26,7 @@ returns-then-not-is_same-clause-drawn g c = λ s.
     let first = reads_once g.K.Keep c.args.keep.now c.head.new.self _ c.in_ok-head.ensures.leaves in
     let h = headed g.K.Keep c.args.keep.now c.head.new.self c.args.number c.in_ok-head.head (λ s0. (omega (arith, c.if-number-eq0.false), omega (arith, c.if-number-count.false, c.count.ensures s0 c.requires)))
     (λ s0. g.met.K.Keep.fit c.args.keep.now s0 c.requires) first c.in_ok-head.ensures.read s in
-    ∣ other_drawn (register_at g.K.Keep c.args.policy.now c.args.keep.now) (g.K.Keep.deposits c.args.keep.now) c.args.caller.now c.args.project.now c.args.number (names_in c.args.groups.now) c.args.day h.kept c.in_ok-head.head h.holds h.of_head
+    ∣ other_drawn (terms_at g.K.Keep c.args.policy.now c.args.keep.now) (g.K.Keep.deposits c.args.keep.now) c.args.caller.now c.args.project.now c.args.number (names_in c.args.groups.now) c.args.day h.kept c.in_ok-head.head h.holds h.of_head
     (sym c.is_same.ensures ∙ c.if-not-is_same.true) ∣₁
 
 pub draw_held-requires-clause-working : goal.draw_held-requires-clause-working
@@ -51,7 +51,7 @@ returns-clause-drawn g c = λ s.
     (λ s0. g.met.K.Keep.fit keep s0 c.requires) first c.in_ok-head.ensures.read s1 in
     let groups = names_in c.args.groups.now in
     IfOk-weaker c.draw_held.result _ _ (λ (text : Option (Vec ℕ Global)) drawn.
-    head_drawn (register_at K c.args.policy.now keep) (K.deposits keep) c.args.caller.now c.args.project.now c.args.number groups c.args.day c.in_ok-head.head (option_map (λ (t : Vec ℕ Global). t.items) text) h
+    head_drawn (terms_at K c.args.policy.now keep) (K.deposits keep) c.args.caller.now c.args.project.now c.args.number groups c.args.day c.in_ok-head.head (option_map (λ (t : Vec ℕ Global). t.items) text) h
     (sym c.is_same.ensures ∙ c.if-not-is_same.false)
     (of_file_before K keep c.head.new.self c.args.number (λ file. IsExtractOf (look_on c.args.policy.now c.args.caller.now c.in_ok-head.head c.args.day) (file_of file) groups (option_map (λ (t : Vec ℕ Global). t.items) text)) first s1
     (λ d file at is. subst (λ (look : Look). IsExtractOf look (file_of file) groups (option_map (λ (t : Vec ℕ Global). t.items) text)) c.at-look.ensures (drawn d file at is)))) (c.draw_held.ensures.drawn s)

@@ -3,10 +3,10 @@ use Rattle.std.proofs.lemmas.Result.{err_from_is_err_and}
 use Rattle.reg_store.specs.Sent.{Sent, numbers_from}
 use Rattle.reg_store.specs.Keep.{fails, is_store}
 use Rattle.reg_desk.specs.declared.answer.Listed.{Listed}
-use Rattle.reg_desk.specs.Machine.{IsListing, Register, held}
-use Rattle.reg_desk.specs.Serving.{IsLineFor, OnlyReads, register_at}
+use Rattle.reg_desk.specs.Machine.{IsListing, Terms, held}
+use Rattle.reg_desk.specs.Serving.{IsLineFor, OnlyReads, terms_at}
 use Rattle.reg_desk.proofs.Serves.{reads_itself, reads_more, reads_once, still_works}
-use Rattle.reg_desk.proofs.Listings.{SoFar, put_line, lines_begin, number_within, number_step, lines_whole, register_same}
+use Rattle.reg_desk.proofs.Listings.{SoFar, put_line, lines_begin, number_within, number_step, lines_whole, terms_same}
 use Rattle.reg_desk.proofs.serving.listing.lines_of.Goals as goal
 use Rattle.reg_desk.proofs.serving.listing.lines_of.Goals.{in-Some+in_ok-push-in-Some, in-None}
 
@@ -15,15 +15,15 @@ loop-number-init g c =
     let K = g.K.Keep in
     let mid = c.numbers.new.self in
     let items = c.deref-number-items.result.now in
-    let register = register_at K c.args.policy.now mid in
+    let terms = terms_at K c.args.policy.now mid in
     let state = K.deposits mid in
     let leaves = c.in_ok-numbers.ensures.leaves in
     record {
       reads = reads_itself K mid (still_works K c.args.keep.now mid (reads_once K c.args.keep.now mid false leaves));
       numbers = λ s. c.deref-number-items.ensures.value ∙ c.in_ok-numbers.ensures.numbers s ∙ ap (numbers_from 1 c.args.project.now) (sym (leaves.same s refl));
       so_far = λ s.
-          subst (λ (l : List Listed). ∥ SoFar register c.args.caller.now c.args.day (λ k. held k state) items items l ∥₁) (sym c.new-lines.ensures.items)
-          ∣ lines_begin register c.args.caller.now c.args.day (λ k. held k state) items ∣₁;
+          subst (λ (l : List Listed). ∥ SoFar terms c.args.caller.now c.args.day (λ k. held k state) items items l ∥₁) (sym c.new-lines.ensures.items)
+          ∣ lines_begin terms c.args.caller.now c.args.day (λ k. held k state) items ∣₁;
     }
 
 pub listed-requires-clause-working : goal.listed-requires-clause-working
@@ -54,7 +54,7 @@ loop-number-preserved g c =
     let items = c.deref-number-items.result.now in
     let i = c.loop-number.number-index in
     let n = get_or items i 0 in
-    let register = register_at K c.args.policy.now mid in
+    let terms = terms_at K c.args.policy.now mid in
     let state = K.deposits mid in
     let was = c.loop-number.invariant in
     record {
@@ -62,16 +62,16 @@ loop-number-preserved g c =
       numbers = λ s. was.numbers (c.in_ok-line.ensures.reads.sound s);
       so_far = λ s.
           let s1 = c.in_ok-line.ensures.reads.sound s in
-          let seen : (d : Sent) → held n state ≡ Some d → ∥ IsLineFor register c.args.caller.now c.args.day n d c.in_ok-line.field-0 ∥₁ = λ d holds.
-          subst (λ (r : Register). ∥ IsLineFor r c.args.caller.now c.args.day n d c.in_ok-line.field-0 ∥₁) (register_same K c.args.policy.now mid c.loop-number.keep false was.reads)
+          let seen : (d : Sent) → held n state ≡ Some d → ∥ IsLineFor terms c.args.caller.now c.args.day n d c.in_ok-line.field-0 ∥₁ = λ d holds.
+          subst (λ (r : Terms). ∥ IsLineFor r c.args.caller.now c.args.day n d c.in_ok-line.field-0 ∥₁) (terms_same K c.args.policy.now mid c.loop-number.keep false was.reads)
           (c.in_ok-line.ensures.seen s d (ap (held n) (was.reads.same s1 refl) ∙ holds)) in
           let same : put_line c.loop-number.lines.items c.in_ok-line.field-0 ≡ c.match-branch-3.lines.items =
           elim c.match-branch-3.branch [
             | in-Some+in_ok-push-in-Some w ↦ ap (put_line c.loop-number.lines.items) w.in-Some.is ∙ sym (ap (λ (v : Vec Listed Global). v.items) w.lines-is ∙ w.in_ok-push-in-Some.ensures.items)
             | in-None w ↦ ap (put_line c.loop-number.lines.items) w.in-None.is ∙ sym (ap (λ (v : Vec Listed Global). v.items) w.lines-is)
           ] in
-          subst (λ (l : List Listed). ∥ SoFar register c.args.caller.now c.args.day (λ k. held k state) items (drop (i + 1) items) l ∥₁) same
-          (number_step register c.args.caller.now c.args.day state items i c.loop-number.lines.items c.in_ok-line.field-0 c.loop-number-test.true
+          subst (λ (l : List Listed). ∥ SoFar terms c.args.caller.now c.args.day (λ k. held k state) items (drop (i + 1) items) l ∥₁) same
+          (number_step terms c.args.caller.now c.args.day state items i c.loop-number.lines.items c.in_ok-line.field-0 c.loop-number-test.true
           (number_within c.args.project.now state items i (was.numbers s1) c.loop-number-test.true) seen (was.so_far s1));
     }
 
@@ -87,6 +87,6 @@ returns-clause-listed g c = λ s.
     let was = c.loop-number.invariant in
     let first = reads_once K keep mid false c.in_ok-numbers.ensures.leaves in
     let lines = c.loop-number.lines.items in
-    subst (λ (r : Register). ∥ IsListing r c.args.caller.now c.args.project.now c.args.day 1 (K.deposits keep) lines ∥₁) (register_same K c.args.policy.now keep mid false first)
-    (subst (λ (l : List Sent). ∥ IsListing (register_at K c.args.policy.now mid) c.args.caller.now c.args.project.now c.args.day 1 l lines ∥₁) (first.same (was.reads.sound s) refl)
-    (lines_whole (register_at K c.args.policy.now mid) c.args.caller.now c.args.project.now c.args.day (K.deposits mid) c.deref-number-items.result.now c.loop-number.number-index lines c.loop-number-test.false (was.numbers s) (was.so_far s)))
+    subst (λ (r : Terms). ∥ IsListing r c.args.caller.now c.args.project.now c.args.day 1 (K.deposits keep) lines ∥₁) (terms_same K c.args.policy.now keep mid false first)
+    (subst (λ (l : List Sent). ∥ IsListing (terms_at K c.args.policy.now mid) c.args.caller.now c.args.project.now c.args.day 1 l lines ∥₁) (first.same (was.reads.sound s) refl)
+    (lines_whole (terms_at K c.args.policy.now mid) c.args.caller.now c.args.project.now c.args.day (K.deposits mid) c.deref-number-items.result.now c.loop-number.number-index lines c.loop-number-test.false (was.numbers s) (was.so_far s)))

@@ -1,5 +1,5 @@
 use Rattle.std.proofs.Common.{◌∙◌, false}
-use Rattle.reg_desk.specs.Serving.{register_at}
+use Rattle.reg_desk.specs.Serving.{terms_at}
 use Rattle.reg_desk.proofs.Serves.{reads_once}
 use Rattle.reg_desk.proofs.Drawing.{headed, look_same, seen_listed, seen_unlisted}
 use Rattle.reg_desk.proofs.serving.listing.listed.Goals as goal
@@ -13,7 +13,7 @@ returns-then-not-branch-clause-seen g c = λ s.
     let first = reads_once K keep c.head.new.self false c.in_ok-head.ensures.leaves in
     let s1 = c.in_ok-sees_project.ensures.reads.sound s in
     let h = headed K keep c.head.new.self c.args.number head c.requires.number (λ s0. g.met.K.Keep.fit keep s0 c.requires.working) first c.in_ok-head.ensures.read s1 in
-    let look = c.at-look.ensures ∙ look_same (register_at K rules keep) c.args.caller.now c.args.day h.kept head h.of_head in
+    let look = c.at-look.ensures ∙ look_same (terms_at K rules keep) c.args.caller.now c.args.day h.kept head h.of_head in
     seen_unlisted K rules keep c.head.new.self c.args.caller.now c.args.number c.args.day head _ c.in_ok-sees_project.field-0 first s1 h look (c.in_ok-sees_project.ensures.seen s) c.if-not-branch.true
 
 pub returns-clause-seen : goal.returns-clause-seen
@@ -25,5 +25,5 @@ returns-clause-seen g c = λ s.
     let first = reads_once K keep c.head.new.self false c.in_ok-head.ensures.leaves in
     let s1 = c.in_ok-sees_project.ensures.reads.sound s in
     let h = headed K keep c.head.new.self c.args.number head c.requires.number (λ s0. g.met.K.Keep.fit keep s0 c.requires.working) first c.in_ok-head.ensures.read s1 in
-    let look = c.at-look.ensures ∙ look_same (register_at K rules keep) c.args.caller.now c.args.day h.kept head h.of_head in
+    let look = c.at-look.ensures ∙ look_same (terms_at K rules keep) c.args.caller.now c.args.day h.kept head h.of_head in
     seen_listed K rules keep c.head.new.self c.args.caller.now c.args.number c.args.day head _ c.in_ok-sees_project.field-0 first s1 h look (c.in_ok-sees_project.ensures.seen s) c.if-not-branch.false

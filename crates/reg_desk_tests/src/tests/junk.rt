@@ -1,0 +1,205 @@
+//! A store that is not sound: where one line of a file is none, no extract shows it.
+
+ghost use Rattle.std.specs.Prelude.{◌≡◌, ◌<◌, ◌≤◌, false, length, IsTrue, refl};
+ghost use Rattle.reg_store.specs.Plain.{deposits_of};
+
+use super::examples::MOST;
+use super::{deposit_of, extract_of, memory_of, two_of};
+use ags_check::Checked;
+use ags_dict::Dictionary;
+use ags_links::Graph;
+use ags_rows::vectors::FILE_A;
+use ags_text::{Bytes, Sequence};
+use reg_desk::{Answer, Desk, Request};
+use reg_policy::vectors::{CALLERS, POLICY};
+use reg_policy::{Callers, Day, Name, Policy};
+use reg_store::{Keep, KeepError, Kept, KeptHead, KeptRow, PlainKeep, ProjectRow};
+use std::alloc::Global;
+use std::mem::swap;
+
+/// A keep in memory that gives a text in place of one line of a file. What an extract does not ask it does not answer.
+#[derive(Drop)]
+struct Junked {
+    keep: PlainKeep,
+    place: usize,
+    text: Bytes,
+}
+
+/// Whether the keep has a deposit of the number.
+fn has(keep: &PlainKeep, n: u32) -> bool
+    ensures { IsTrue result → (0 < n) × (n ≤ length (deposits_of keep.now)) }
+{
+    0 < n && n <= keep.count()
+}
+
+/// Puts the text in place of the line there.
+fn put(rows: &mut [KeptRow], place: usize, text: &mut Bytes) {
+    if let Some(row) = rows.get_mut(place) {
+        swap(&mut row.line, text);
+    }
+}
+
+impl Keep for Junked {
+    ghost use Rattle.reg_store.specs.Plain.{deposits_of, dictionary_of, limit_of};
+
+    ghost deposits = { λ k. deposits_of k.keep };
+
+    ghost dictionary = { λ k. dictionary_of k.keep };
+
+    ghost limit = { λ k. limit_of k.keep };
+
+    ghost has_failed = { λ _. false };
+
+    ghost may_leave = { λ k list. list ≡ deposits_of k.keep };
+
+    ghost may_break = { λ _. ⊥ };
+
+    ghost is_sound = { λ _. ⊥ };
+
+    fn find(
+        &mut self,
+        _firm: &Name,
+        _project: &Name,
+        _bytes: &[u8],
+    ) -> Result<Option<u32>, KeepError> {
+        Err(KeepError::NoMemory)
+    }
+
+    fn recall(&self, _firm: &Name, _project: &Name, _bytes: &[u8]) -> Option<u32> {
+        None
+    }
+
+    fn add(
+        &mut self,
+        _firm: &Name,
+        _project: &Name,
+        _embargo: Day,
+        _checked: &Checked<'_>,
+    ) -> Result<u32, KeepError> {
+        Err(KeepError::NoMemory)
+    }
+
+    fn deposit(&mut self, _n: u32) -> Result<Kept, KeepError> {
+        Err(KeepError::NoMemory)
+    }
+
+    fn numbers(&mut self, _project: &Name) -> Result<Vec<u32>, KeepError> {
+        Err(KeepError::NoMemory)
+    }
+
+    fn head(&mut self, n: u32) -> Result<KeptHead, KeepError> {
+        if has(&self.keep, n) {
+            self.keep.head(n)
+        } else {
+            Err(KeepError::NoMemory)
+        }
+    }
+
+    fn rows(&mut self, n: u32) -> Result<Vec<KeptRow>, KeepError> {
+        if !has(&self.keep, n) {
+            return Err(KeepError::NoMemory);
+        }
+        let mut rows = self.keep.rows(n)?;
+        put(&mut rows, self.place, &mut self.text);
+        Ok(rows)
+    }
+
+    fn steps(&mut self, n: u32) -> Result<Graph, KeepError> {
+        if has(&self.keep, n) {
+            self.keep.steps(n)
+        } else {
+            Err(KeepError::NoMemory)
+        }
+    }
+
+    fn project_row(&mut self, _n: u32) -> Result<Option<ProjectRow>, KeepError> {
+        Err(KeepError::NoMemory)
+    }
+
+    fn project_number(&mut self, _n: u32) -> Result<Option<u32>, KeepError> {
+        Err(KeepError::NoMemory)
+    }
+
+    fn targets(&mut self, _n: u32, _row: u32) -> Result<Vec<u32>, KeepError> {
+        Err(KeepError::NoMemory)
+    }
+
+    fn count(&self) -> u32 {
+        self.keep.count()
+    }
+
+    fn limit(&self) -> u32 {
+        self.keep.limit()
+    }
+
+    fn dictionary(&self) -> &Dictionary {
+        self.keep.dictionary()
+    }
+
+    ghost settled = { λ _ _ _ _ same. same };
+
+    ghost stays = { λ _ _ _. ∣ refl ∣₁ };
+
+    ghost unbroken = { λ _ _ _ none. none };
+
+    ghost remains = { λ k sound _ _. sound };
+
+    ghost fit = { λ _ sound _. absurd sound };
+
+    ghost few = { λ _ sound _. absurd sound };
+}
+
+/// What a desk over this keep answers to one request, and the keep.
+fn asked<K: Keep + Drop>(alloc: Global, keep: K, request: &Request) -> Option<(K, Answer)>
+    requires { K.has_failed keep ≡ false }
+{
+    let policy = Policy::read(alloc, POLICY).ok()?;
+    let mut desk = Desk::new(keep, policy);
+    let answer = desk.answer(alloc, request);
+    Some((desk.into_keep(), answer))
+}
+
+/// What an extract of the first file is answered, where line `place` of it is the text.
+fn extracted(
+    alloc: Global,
+    deposit: &Request,
+    extract: &Request,
+    place: usize,
+    text: &[u8],
+) -> Option<Answer> {
+    let (keep, _receipt) = asked(alloc, memory_of(alloc, MOST)?, deposit)?;
+    let junked = Junked {
+        keep,
+        place,
+        text: Sequence::from_vec(Vec::from_slice(alloc, text).ok()?),
+    };
+    let (_keep, answer) = asked(alloc, junked, extract)?;
+    Some(answer)
+}
+
+/// Of how many lines of the first file the store fails where they are this text, of 30 places; none where another line changes the answer.
+fn failures(alloc: Global, text: &[u8]) -> Option<usize> {
+    let callers = Callers::read(alloc, CALLERS).ok()?;
+    let project = Name::read(alloc, "N1").ok()?;
+    let (delta, _echo, day) = two_of(&callers, b"t-delta", b"t-echo")?;
+    let deposit = deposit_of(delta, &project, day, FILE_A, day);
+    let extract = extract_of(delta, &project, 1, &[], day);
+    let mut failed = 0;
+    for place in 0..30 {
+        match extracted(alloc, &deposit, &extract, place, text)? {
+            Answer::StoreFailed if place == failed => failed += 1,
+            Answer::Text(_) => {}
+            _ => return None,
+        }
+    }
+    Some(failed)
+}
+
+/// Each of the 26 lines is read before an extract shows it: header rows and rows of definition groups too.
+#[test]
+fn lines_that_are_none(rt: HostRuntime) {
+    let alloc = rt.alloc();
+    for text in [b"junk".as_slice(), b"", b"\"DATA\",\"a\"\r\n\"DATA\",\"b\""] {
+        assert!(rt; failures(alloc, text) == Some(26));
+    }
+}
