@@ -41,7 +41,8 @@ pub record Runs {K : Type 0} (keep : Ghosts K) (rules : List Rule) (old new : K)
   pub kept : failing requests answers ≡ None → keep.deposits new ≡ last
   -- a crash leaves no list but `last`, or, where a request failed, one to which that request changes `last`
   pub left : (list : List Sent) → keep.may_leave new list
-      → (list ≡ last) ⊎ ((r : Asked) × (failing requests answers ≡ Some r) × Changes (terms_at keep rules old) last r list)
+      → (list ≡ last)
+      ⊎ ((r : Asked) × (failing requests answers ≡ Some r) × Changes (terms_at keep rules old) last r list)
   -- a crash leaves a register of some list, so of one of these
   pub whole : keep.may_break new → ⊥
 
