@@ -8,7 +8,7 @@ use Rattle.std.specs.List.Sorted.{IsStrictlySortedBy}
 use Rattle.std.proofs.lemmas.List.Elements.{Contains-append_left, Contains-append_right, Contains-append_cases}
 use Rattle.std.specs.Ordering.{ordering_reverse}
 use Rattle.ags_rows.specs.declared.code.Code.{Code}
-use Rattle.ags_rows.specs.declared.code.Code.TheVariants.{Rule2, Rule7, Rule10a, Rule10b, Rule11c, Rule19, Rule19a, Rule19b, P1, P2}
+use Rattle.ags_rows.specs.declared.code.Code.TheVariants.{Rule2, Rule7, Rule10a, Rule10b, Rule11c, Rule19b}
 use Rattle.ags_rows.specs.declared.finding.Finding.{Finding}
 use Rattle.ags_rows.specs.declared.rows.Group.{Group}
 use Rattle.ags_rows.specs.declared.rows.Row.{Row}
@@ -19,20 +19,19 @@ use Rattle.ags_rows.specs.Findings.{AreExactly, FirstFound, FileParts, ArePartsO
 use Rattle.ags_rows.specs.Lines.{TextLine, after_byte_order_mark}
 use Rattle.ags_rows.specs.Parsing.{IsFirstLine}
 use Rattle.ags_rows.specs.Rows.{RowsFrom}
-use Rattle.ags_rows.specs.Stands.{line_rules, row_rules, shape_rules, group_rules, IsRepeat, StandsInLines, StandsInGroups}
-use Rattle.ags_text.specs.Names.{is_group_name, is_heading_name}
-use Rattle.ags_rows.proofs.AtPlaces.{contains_at, at_contained}
-use Rattle.ags_rows.proofs.Collecting.{none_is, is_one, one_is, some_same, adds_none, adds_both, adds_same, adds_found, adds_clear, one_none, one_more, listed_all, none_listed}
+use Rattle.ags_rows.specs.Stands.{line_rules, row_rules, shape_rules, name_rules, heading_rules, group_rules, StandsInLines, StandsInGroups}
+use Rattle.ags_rows.proofs.AtPlaces.{contains_at, at_contained, at_later, at_earlier}
+use Rattle.ags_rows.proofs.Collecting.{none_is, is_one, one_is, adds_none, adds_both, adds_same, adds_found, adds_clear, one_none, one_more, listed_all, none_listed}
 use Rattle.ags_rows.proofs.Cuts.{some_groups}
 use Rattle.ags_rows.proofs.Cutting.{feed_found, feed_none, line_none, line_lf, line_crlf, line_falls, lines_from_cut, AreCut}
 use Rattle.ags_rows.proofs.Files.{finding_exact}
 use Rattle.ags_dict.specs.Entries.{Entries, extended, order_of, keys_of, required_of, has_group}
 use Rattle.ags_check.specs.Findings.{Findings, dictionary_phases}
-use Rattle.ags_check.specs.Header.{header_rules, group_header_rules, heading_row_rules, unknown_code}
-use Rattle.ags_check.specs.RowRules.{headed_row, unit_and_type_rules, data_entry_rules, data_row_rules, entry_rules_of, entry_rules}
-use Rattle.ags_check.specs.RowRules.{unit_over, type_over, IsBrokenLink}
+use Rattle.ags_check.specs.Header.{StandsInDictionary, file_rules, group_header_rules, heading_row_rules, tran_and_proj_rules, unknown_code}
+use Rattle.ags_check.specs.RowRules.{headed_row, unit_and_type_rules, row_entry_rules, data_row_rules, entry_rules_of, StandsInEntries, IsBrokenLink}
 use Rattle.ags_links.specs.DataRows.{entry_of, rows_before}
-use Rattle.ags_check.specs.Header.{IsOnlyIn, IsMisplaced, IsMisnamed}
+use Rattle.ags_check.specs.Header.{IsMisplaced, IsMisnamed}
+use Rattle.ags_check.specs.Placing.{InSome}
 use Rattle.reg_desk.specs.Laws.{ThereIs}
 
 -- ---- a fact holds, or it does not
@@ -65,17 +64,17 @@ listed_rules [] all none = none [] (one_none [])
 listed_rules (Stands ∷ rules) all none = all.0 (λ a x. listed_rules rules all.1 (λ b y. none (a ++ b) (one_more Stands rules [] a (a ++ b) x (adds_behind a b y))))
 
 nowhere : {X A : Type 0} (place : ℕ) (x : X) → At [] place x → A
-nowhere place x at = absurd cc
+nowhere place x at = absurd (omega (arith, at.0))
 
 listed_among : {X : Type 0} (xs : List X) (Stands : ℕ → X → Finding → Type 0) → ((place : ℕ) (x : X) → Listed (Stands place x)) → Listed (Among xs Stands)
 listed_among [] Stands each none = none [] (adds_none [] (λ f h. nowhere h.0 h.1 h.2))
 listed_among {X} (x ∷ xs) Stands each none =
     each 0 x (λ a first. listed_among xs (λ place. Stands (suc place)) (λ place. each (suc place)) (λ b rest.
-    none (a ++ b) (adds_both [] a (a ++ b) first (adds_behind a b rest) (λ f h. (0, x, refl, h)) (λ f h. (suc h.0, h.1, h.2, h.3)) cases)))
+    none (a ++ b) (adds_both [] a (a ++ b) first (adds_behind a b rest) (λ f h. (0, x, (omega arith, refl), h)) (λ f h. (suc h.0, h.1, at_later x xs h.0 h.1 h.2, h.3)) cases)))
   where
     cases : (f : Finding) → Among (x ∷ xs) Stands f → Stands 0 x f ⊎ Among xs (λ place. Stands (suc place)) f
-    cases f (zero, y, at, h) = inl (subst (λ (z : X). Stands 0 z f) (sym (some_same x y (Some x) refl at)) h)
-    cases f (suc place, y, at, h) = inr (place, y, at, h)
+    cases f (zero, y, at, h) = inl (subst (λ (z : X). Stands 0 z f) (sym at.1) h)
+    cases f (suc place, y, at, h) = inr (place, y, at_earlier x xs place y at, h)
 
 -- of a subject that is one of these names
 listed_names : (line : ℕ) (code : Code) (names : List (List ℕ)) (Breaks : List ℕ → Type 0) → ((name : List ℕ) → Breaks name → Contains names name) → Listed (λ f. Breaks f.subject × (f.line ≡ line) × (f.code ≡ code))
@@ -91,10 +90,6 @@ listed_where Fact Stands rest none = either Fact (λ x. elim x [
 
 -- ---- findings of a phase
 
--- the rules on one name of a list
-abbrev name_rules : ℕ → Code → Code → (List ℕ → Bool) → List (List ℕ) → ℕ → List ℕ → List (Finding → Type 0)
-name_rules line wrong repeated is_name names place name = Notes line wrong name (is_name name ≡ false) ∷ Notes line repeated name (IsRepeat names place name) ∷ []
-
 listed_lines : (lines : List TextLine) → Listed (StandsInLines lines)
 listed_lines lines = listed_among lines _ (λ place line. listed_rules (line_rules (place + 1) line) (note, (note, (note, (note, (note, tt))))))
 
@@ -104,47 +99,42 @@ listed_groups groups =
     listed_among groups _ (λ place group. listed_rules (group_rules names place group) (
       listed_rules (shape_rules group) (note, (note, (note, (note, (listed_among group.rows _ (λ at row. note), tt))))),
       (
-        listed_rules (name_rules group.line Rule19 P1 is_group_name names place group.name) (note, (note, tt)),
-        (
-          listed_among group.headings _ (λ at heading. listed_rules (name_rules group.heading_line Rule19a P2 is_heading_name group.headings at heading) (note, (note, tt))),
-          tt,
-        ),
+        listed_rules (name_rules names place group) (note, (note, tt)),
+        (listed_among group.headings _ (λ at heading. listed_rules (heading_rules group at heading) (note, (note, tt))), tt),
       ),
     ))
 
+-- in the one list and not in the other
+abbrev IsInAlone : List (List ℕ) → List (List ℕ) → List ℕ → Type 0
+IsInAlone these those name = Contains these name × (Contains those name → ⊥)
+
 listed_heading_row : (given entries : Entries) (unknown : Code) (group : Group) → Listed (OneOf (heading_row_rules given entries unknown group))
 listed_heading_row given entries unknown group = listed_rules (heading_row_rules given entries unknown group) (
-  listed_names group.heading_line unknown group.headings (IsOnlyIn group.headings (order_of entries group.name)) (λ name h. h.0),
+  listed_names group.heading_line Rule7 group.headings (IsMisplaced (order_of entries group.name) group.headings) (λ name h. contains_at group.headings h.0 name h.3),
   (
-    listed_names group.heading_line Rule7 group.headings (IsMisplaced (order_of entries group.name) group.headings) (λ name h. contains_at group.headings h.0 name h.3),
+    listed_names group.heading_line unknown group.headings (IsInAlone group.headings (order_of entries group.name)) (λ name h. h.0),
     (
-      listed_names group.heading_line Rule10a (keys_of entries group.name) (IsOnlyIn (keys_of entries group.name) group.headings) (λ name h. h.0),
+      listed_names group.heading_line Rule10a (keys_of entries group.name) (IsInAlone (keys_of entries group.name) group.headings) (λ name h. h.0),
       (
-        listed_names group.heading_line Rule10b (required_of entries group.name) (IsOnlyIn (required_of entries group.name) group.headings) (λ name h. h.0),
-        (
-          listed_names group.heading_line Rule19b group.headings (IsMisnamed given entries (group_contents group)) (λ name h. h.0),
-          tt,
-        ),
+        listed_names group.heading_line Rule10b (required_of entries group.name) (IsInAlone (required_of entries group.name) group.headings) (λ name h. h.0),
+        (listed_names group.heading_line Rule19b group.headings (IsMisnamed given entries (group_contents group)) (λ name h. h.0), tt),
       ),
     ),
   ),
 )
 
-listed_headers : (given entries : Entries) (groups : List Group) → Listed (OneOf (header_rules given entries groups))
+listed_headers : (given entries : Entries) (groups : List Group) → Listed (StandsInDictionary given entries groups)
 listed_headers given entries groups =
     let file = contents_of groups in
     let unknown = unknown_code file in
-    listed_rules (header_rules given entries groups) (
+    listed_rules (InSome groups (group_header_rules given entries file unknown) ∷ file_rules file) (
       listed_among groups _ (λ place group. listed_rules (group_header_rules given entries file unknown group) (
         note,
         (
           note,
           (
             listed_where (has_group entries group.name ≡ true) (OneOf (heading_row_rules given entries unknown group)) (listed_heading_row given entries unknown group),
-            (
-              listed_among group.rows _ (λ at row. note),
-              (listed_among group.rows _ (λ at row. note), (listed_among group.rows _ (λ at row. note), (listed_among group.rows _ (λ at row. note), tt))),
-            ),
+            (listed_among group.rows _ (λ at row. listed_rules (tran_and_proj_rules group at row) (note, (note, (note, (note, tt))))), tt),
           ),
         ),
       )),
@@ -153,32 +143,28 @@ listed_headers given entries groups =
 
 listed_row : (entries : Entries) (file : List Contents) (group : Group) (number : ℕ) (row : Row) → Listed (OneOf (data_row_rules entries file group number row))
 listed_row entries file group number row =
-    let contents = group_contents group in
     let stands = headed_row group row in
     listed_rules (data_row_rules entries file group number row) (
-      listed_among group.headings _ (λ at heading. listed_rules (data_entry_rules file row.line heading (unit_over contents heading) (type_over contents heading) (entry_of stands heading)) (note, (note, (note, (note, tt))))),
+      listed_among group.headings _ (λ at heading. listed_rules (row_entry_rules file group row heading) (note, (note, (note, (note, tt))))),
       (
-        listed_among group.headings _ (λ at heading. listed_rules (Notes row.line Rule11c heading (IsBrokenLink entries file stands heading) ∷ []) (note, tt)),
+        note,
         (
           listed_among (required_of entries group.name) _ (λ at heading. listed_rules (Notes row.line Rule10b heading (entry_of stands heading ≡ []) ∷ []) (note, tt)),
-          (note, (note, (note, tt))),
+          (
+            note,
+            (listed_among group.headings _ (λ at heading. listed_rules (Notes row.line Rule11c heading (IsBrokenLink entries file stands heading) ∷ []) (note, tt)), (note, tt)),
+          ),
         ),
       ),
     )
 
-listed_entries : (entries : Entries) (groups : List Group) → Listed (OneOf (entry_rules entries groups))
+listed_entries : (entries : Entries) (groups : List Group) → Listed (StandsInEntries entries groups)
 listed_entries entries groups =
     let file = contents_of groups in
-    listed_rules (entry_rules entries groups) (
-      listed_among groups _ (λ place group. listed_rules (entry_rules_of entries file (rows_before file place) group) (
-        listed_among group.headings _ (λ at heading. listed_rules (unit_and_type_rules file group heading) (note, (note, tt))),
-        (
-          listed_among group.rows _ (λ at row. listed_row entries file group (rows_before file place + at) row),
-          tt,
-        ),
-      )),
-      tt,
-    )
+    listed_among groups _ (λ place group. listed_rules (entry_rules_of entries file (rows_before file place) group) (
+      listed_among group.headings _ (λ at heading. listed_rules (unit_and_type_rules file group heading) (note, (note, tt))),
+      (listed_among group.rows _ (λ at row. listed_row entries file group (rows_before file place + at) row), tt),
+    ))
 
 -- ---- in their order
 
