@@ -1,7 +1,7 @@
 #!/usr/bin/env python3
 """Measures registers that are served: the memory of an idle one, and requests a second over one and over a hundred behind one nginx.
 
-usage: bench/servers.py PROGRAM [SECONDS]
+usage: bench/office.py PROGRAM [SECONDS]
 Prints two tables. The first has, for registers of 0, 100 and 10,000 deposits of 1 kB, the resident memory of `serve` that listens (VmRSS and, of what it shares
 with others, its part: Pss), the greatest since its start (VmHWM), the seconds of that start, and how many would fit into 24 GB by Pss. The second has the
 requests that CLIENTS processes got answered in SECONDS (10), one after the other over connections that they keep: listings and extracts of 1 kB."""
