@@ -3,7 +3,6 @@ use Rattle.std.proofs.Common.{◌≡◌, List, [], ◌∷◌, refl, ap, subst, �
 use Rattle.std.specs.Prelude.{ℕ}
 use Rattle.ags_rows.specs.declared.finding.Finding.{Finding}
 use Rattle.ags_rows.specs.declared.rows.Group.{Group}
-use Rattle.ags_rows.specs.Collecting.{OneOf}
 use Rattle.ags_rows.specs.Contents.{contents_of}
 use Rattle.ags_rows.specs.Findings.{FileParts, FirstFound, FileGroups}
 use Rattle.ags_rows.specs.Stands.{StandsInLines, StandsInOrder, StandsInGroups}

@@ -1,9 +1,8 @@
 -- From the findings of the phases to the findings of a file.
-use Rattle.std.proofs.Common.{◌≡◌, ◌≢◌, ℕ, List, [], ◌++◌, length, take, false, eqb, refl, subst, sym, ap, ◌∙◌, inl, inr, Result, Ok}
+use Rattle.std.proofs.Common.{◌≡◌, ℕ, List, [], ◌++◌, length, take, refl, subst, sym, ap, ◌∙◌, inr, Result, Ok}
 use Rattle.std.specs.Prelude.{IfOk, OnOk}
 use Rattle.std.proofs.Math.Seq.{take-append_seam}
 use Rattle.std.proofs.lemmas.Result.{on_ok_weaker}
-use Rattle.std.proofs.lemmas.Bool.{eqb-false}
 use Rattle.ags_rows.specs.declared.finding.Finding.{Finding}
 use Rattle.ags_rows.specs.declared.rows.Group.{Group}
 use Rattle.ags_rows.specs.Contents.{Contents, contents_of}
@@ -19,7 +18,6 @@ use Rattle.ags_check.specs.RowRules.{StandsInEntries}
 use Rattle.ags_links.specs.DataRows.{DataFile}
 use Rattle.ags_links.specs.Steps.{IsGraphOf}
 use Rattle.ags_links.specs.Walks.{StepGraph}
-use Rattle.ags_rows.specs.Collecting.{OneOf}
 
 -- where they break nothing, what the groups break is
 pub groups_found : (given entries : Entries) (bytes : List ℕ) (groups : List Group) (found : List Finding) → FileGroups bytes groups → entries ≡ extended given (contents_of groups)

@@ -5,14 +5,14 @@ use Rattle.ags_rows.specs.declared.finding.Finding.{Finding}
 use Rattle.ags_rows.specs.declared.rows.Group.{Group}
 use Rattle.ags_rows.specs.declared.rows.Row.{Row}
 use Rattle.ags_rows.specs.Collecting.{At, Notes, Among, OneOf}
-use Rattle.ags_rows.specs.Contents.{Contents, group_contents, under}
+use Rattle.ags_rows.specs.Contents.{Contents, under}
 use Rattle.ags_text.specs.Names.{is_definition}
 use Rattle.ags_dict.specs.Entries.{Entries, required_of}
 use Rattle.ags_links.specs.DataRows.{DataFile, DataRow, entry_of}
 use Rattle.ags_links.specs.Indexing.{rows_in}
 use Rattle.ags_links.specs.RecordLinks.{separators_of, IsBroken}
 use Rattle.ags_check.specs.Placing.{InSome}
-use Rattle.ags_check.specs.RowRules.{unit_over, type_over, IsBrokenLink, IsUnlistedFileSet, headed_row, unit_and_type_rules, row_entry_rules, data_row_rules, entry_rules_of}
+use Rattle.ags_check.specs.RowRules.{IsBrokenLink, IsUnlistedFileSet, headed_row, unit_and_type_rules, row_entry_rules, data_row_rules, entry_rules_of}
 use Rattle.ags_check.specs.declared.rows.columns.Column.{Column}
 
 -- ---- the rules on a group and on a DATA row, one by one

@@ -1,7 +1,6 @@
 use Rattle.std.proofs.Common.{◌≡◌, ◌∙◌, Err, List, ap, subst}
 use Rattle.std.specs.Prelude.{IfOk}
 use Rattle.ags_rows.specs.declared.rows.Group.{Group}
-use Rattle.ags_rows.specs.Collecting.{OneOf}
 use Rattle.ags_rows.specs.Findings.{AreExactly}
 use Rattle.ags_check.specs.declared.checking.CheckError.TheVariants as CheckError
 use Rattle.ags_check.specs.RowRules.{StandsInEntries}

@@ -1,4 +1,4 @@
-use Rattle.std.proofs.Common.{◌≤◌, refl, subst, List, length, arith, sym}
+use Rattle.std.proofs.Common.{◌≤◌, subst, List, length, arith, sym}
 use Rattle.ags_rows.specs.declared.rows.Group.{Group}
 use Rattle.ags_rows.specs.Collecting.{At, OneOf}
 use Rattle.ags_rows.specs.Contents.{contents_of}

@@ -1,7 +1,7 @@
 use Rattle.std.proofs.Common.{List, subst}
 use Rattle.std.specs.Prelude.{OnOk}
 use Rattle.ags_rows.specs.declared.rows.Group.{Group}
-use Rattle.ags_rows.specs.Collecting.{Adds, OneOf}
+use Rattle.ags_rows.specs.Collecting.{Adds}
 use Rattle.ags_check.specs.Header.{StandsInDictionary}
 use Rattle.ags_check.proofs.header.note_groups.Goals as goal
 

@@ -1,6 +1,6 @@
 use Rattle.std.proofs.Common.{List, subst}
 use Rattle.ags_rows.specs.declared.finding.Finding.{Finding}
-use Rattle.ags_rows.specs.Collecting.{Adds, OneOf}
+use Rattle.ags_rows.specs.Collecting.{Adds}
 use Rattle.ags_rows.proofs.Lemmas.{listed}
 use Rattle.ags_check.specs.RowRules.{StandsInEntries}
 use Rattle.ags_check.proofs.rows.entry_findings.Goals as goal

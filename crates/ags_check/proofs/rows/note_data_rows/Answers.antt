@@ -1,4 +1,4 @@
-use Rattle.std.proofs.Common.{◌+◌, ◌≤◌, List, refl, subst, length, arith, sym}
+use Rattle.std.proofs.Common.{◌+◌, ◌≤◌, List, subst, length, arith, sym}
 use Rattle.ags_rows.specs.declared.rows.Row.{Row}
 use Rattle.ags_rows.specs.Collecting.{At, OneOf}
 use Rattle.ags_rows.proofs.Lemmas.{among_more, among_all}
