@@ -20,11 +20,7 @@ use Rattle.ags_rows.specs.Lines.{TextLine, after_byte_order_mark}
 use Rattle.ags_rows.specs.Parsing.{IsFirstLine}
 use Rattle.ags_rows.specs.Rows.{RowsFrom}
 use Rattle.ags_rows.specs.Stands.{line_rules, row_rules, shape_rules, name_rules, heading_rules, group_rules, StandsInLines, StandsInGroups}
-use Rattle.ags_rows.proofs.AtPlaces.{contains_at, at_contained, at_later, at_earlier}
-use Rattle.ags_rows.proofs.Collecting.{none_is, is_one, one_is, adds_none, adds_both, adds_same, adds_found, adds_clear, one_none, one_more, listed_all, none_listed}
-use Rattle.ags_rows.proofs.Cuts.{some_groups}
-use Rattle.ags_rows.proofs.Cutting.{feed_found, feed_none, line_none, line_lf, line_crlf, line_falls, lines_from_cut, AreCut}
-use Rattle.ags_rows.proofs.Files.{finding_exact}
+use Rattle.ags_rows.proofs.Lemmas.{contains_at, at_contained, at_later, at_earlier, none_is, is_one, one_is, adds_none, adds_both, adds_same, adds_found, adds_clear, one_none, one_more, listed_all, none_listed, some_groups, feed_found, feed_none, line_none, line_lf, line_crlf, line_falls, lines_from_cut, AreCut, finding_exact}
 use Rattle.ags_dict.specs.Entries.{Entries, extended, order_of, keys_of, required_of, has_group}
 use Rattle.ags_check.specs.Findings.{Findings, dictionary_phases}
 use Rattle.ags_check.specs.Header.{StandsInDictionary, file_rules, group_header_rules, heading_row_rules, tran_and_proj_rules, unknown_code}
