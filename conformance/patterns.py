@@ -1,7 +1,7 @@
 """The patterns of docs/POLICY.md: each block of rules with the tables below it, what the reference model and the
 program answer, and the claims of its part "What hides and what does not".
 
-The tables after a block are those of its policy, up to the next block. Each policy has the rules of samples/empty.toml too."""
+The tables after a block, up to the next one, are those of its policy. The rules of samples/empty.toml are in each."""
 import collections
 import os
 import re
@@ -132,7 +132,7 @@ def model_cases():
 
 
 def program_cases(program, folder):
-    """Each extract of the tables as the program draws it, beside the model's; the steps that OPERATING's line counts."""
+    """Each extract of the tables as the program draws it, beside the model's; the steps that OPERATING counts."""
     deposits, patterns = parts(read("docs/POLICY.md"))
     register, people = register_of(deposits), callers()
     built = bodies.Program(program, folder)
