@@ -1,0 +1,209 @@
+"""The patterns of docs/POLICY.md: each block of rules with the tables below it, what the reference model and the
+program answer, and the claims of its part "What hides and what does not".
+
+The tables after a block, up to the next one, are those of its policy. The rules of samples/empty.toml are in each."""
+import collections
+import os
+import re
+import sqlite3
+import subprocess
+import sys
+import tomllib
+import bodies
+import machine
+import reference
+
+home = os.path.dirname(os.path.dirname(os.path.realpath(__file__)))
+sys.path += [os.path.join(home, "samples"), os.path.join(home, "tools")]
+import lines  # noqa: E402
+import policies  # noqa: E402
+
+CALLERS = "samples/office/callers.toml"
+DAY = "2024-06-15"
+FINAL, OWNER, ONE = "A consultant sees what is final", "An owner after the embargo", "One project a register"
+ALL = '[[rule]]\nnumber = 1\neffect = "permit"\n'
+NO_FILES = '[[rule]]\nnumber = 1\neffect = "deny"\nverb = "see"\ngroup = "FILE"\n'
+NAMES = {"LOCA": b"LOCA_ID", "SAMP": b"SAMP_REF", "GEOL": b"LOCA_ID", "FILE": b"FILE_NAME"}
+STATUSES = {"text": 0, "denied": 2, "unknown": 3}
+GEOL = [("G", b"GEOL", b"LOCA"), ("H", b"GEOL", b"LOCA_ID", b"KEY"), ("H", b"GEOL", b"GEOL_TOP", b"KEY"),
+        ("H", b"GEOL", b"GEOL_DESC", b"OTHER")]
+Pattern = collections.namedtuple("Pattern", "name policy rows fails")
+
+
+def read(path, mode="r"):
+    with open(os.path.join(home, path), mode) as file:
+        return file.read()
+
+
+def joined(*texts):
+    """One policy of the rules of several, in the order of their numbers."""
+    rules = [rule for text in texts for rule in re.findall(r"^\[\[rule\]\]\n(?:\w+ = .*\n?)*", text, re.MULTILINE)]
+    return "\n".join(sorted(rules, key=lambda rule: tomllib.loads(rule)["rule"][0]["number"]))
+
+
+def table(text):
+    """The rows of a table, each by the names of its columns."""
+    head, _, *rows = [[cell.strip() for cell in line.strip("|").split("|")] for line in text.splitlines()]
+    return [dict(zip(head, row)) for row in rows]
+
+
+# A heading, a block of rules, the mark of a form that fails, the name of a policy, a table.
+PARTS = re.compile(r"^###? (.*)\n|^```toml\n((?:(?!```).*\n)*)|(\*\*The form that fails\*\*)"
+                   r"|^The rules of \[(samples/.*?)\]|((?:^\|.*\n)+)", re.MULTILINE)
+
+
+def parts(page):
+    """The deposits of the page, and its patterns."""
+    deposits, patterns, name, fails = [], [], "", False
+    for heading, block, mark, path, rows in PARTS.findall(page):
+        name, fails = heading or name, bool(mark or fails and not heading)
+        if block or path:
+            policy = joined(read("samples/empty.toml"), block) if block else read(path)
+            patterns.append(Pattern(name, policy, [], fails))
+        elif rows and patterns:
+            patterns[-1].rows.extend(table(rows))
+        elif rows and "Embargo" in table(rows)[0]:
+            deposits += table(rows)
+    return deposits, patterns
+
+
+def register_of(deposits, standard=None):
+    register = machine.Register(standard)
+    for one in deposits:
+        data = read(one["File"], "rb")
+        assert not reference.findings(data, 5, register.standard)
+        held = {"firm": one["Firm"], "project": one["Project"], "embargo": one["Embargo"], "bytes": data}
+        register.deposits.append(held)
+    return register
+
+
+def callers():
+    """The callers of the office by firm, each with its token."""
+    by_token = machine.read_callers(read(CALLERS))
+    return {caller["firm"]: {**caller, "token": token} for token, caller in by_token.items()}
+
+
+def drawn_rows(text):
+    """The DATA rows of an extract, by group."""
+    rows, headings = {}, []
+    for line in text.split(b"\r\n"):
+        items = reference.fields_of(line) if line else [b""]
+        if items[0] == b"GROUP":
+            name = items[1]
+        elif items[0] == b"HEADING":
+            headings = items[1:]
+        elif items[0] == b"DATA":
+            rows.setdefault(name, []).append(dict(zip(headings, items[1:])))
+    return rows
+
+
+def cell(register, rules, caller, row, column):
+    """What the model answers, as the page writes it."""
+    number, day = int(row["Deposit"]), row.get("Day", DAY)
+    project = register.deposits[number - 1]["project"]
+    if column in ("deposit", "check"):
+        effect, rule = machine.decide(rules, caller, project, column)
+        return "yes" if effect == "permit" else f"denied {rule}"
+    if column == "list":
+        kind, told = register.list(rules, caller, project, day)
+        return f"denied {told}" if kind == "denied" else "yes" if number in [one[0] for one in told] else "no"
+    kind, *told = register.extract(rules, caller, project, number, [], day)
+    if kind != "text":
+        return " ".join([kind, *map(str, told)])
+    rows = drawn_rows(told[0]).get(column.encode(), [])
+    return ", ".join(one[NAMES[column]].decode() for one in rows) or "no row"
+
+
+def model_cases():
+    """Each cell of the page's tables beside the model's answer."""
+    deposits, patterns = parts(read("docs/POLICY.md"))
+    register, people, office = register_of(deposits), callers(), machine.read_callers(read(CALLERS))
+    words = reference.Dictionary([(entry, False) for entry in reference.built_in()])
+    for pattern in patterns:
+        rules = machine.read_policy(pattern.policy)
+        yield f"{pattern.name}: a table below the block", bool(pattern.rows), True
+        yield f"{pattern.name}: warnings where it fails", bool(policies.warnings(rules, office, words)), pattern.fails
+        for row in pattern.rows:
+            answered = [column for column in row if column not in ("Caller", "Deposit", "Day")]
+            got = {column: cell(register, rules, people[row["Caller"]], row, column) for column in answered}
+            yield f"{pattern.name}: {row}", {column: row[column] for column in answered}, got
+    failing = sum(pattern.fails for pattern in patterns)
+    yield "patterns, and forms that fail", (len(patterns), failing), (10, 2)
+
+
+def program_cases(program, folder):
+    """Each extract of the tables as the program draws it, beside the model's; the steps that OPERATING counts."""
+    deposits, patterns = parts(read("docs/POLICY.md"))
+    register, people = register_of(deposits), callers()
+    built = bodies.Program(program, folder)
+    built.put("callers", read(CALLERS, "rb"))
+    for one in deposits:
+        asked = [*rights("all", people[one["Firm"]], one["Project"]), "--day=2024-05-01"]
+        built.run("deposit", *asked, "--embargo", one["Embargo"], os.path.join(home, one["File"]))
+    for pattern in patterns:
+        built.put("policy", pattern.policy.encode())
+        rules = machine.read_policy(pattern.policy)
+        for row in pattern.rows:
+            caller, number, day = people[row["Caller"]], int(row["Deposit"]), row.get("Day", DAY)
+            project = register.deposits[number - 1]["project"]
+            words = ["extract", *rights("policy", caller, project), "--day", day, str(number)]
+            run = subprocess.run([built.program, *words], cwd=folder, stdout=subprocess.PIPE)
+            kind, *told = register.extract(rules, caller, project, number, [], day)
+            text = told[0] if kind == "text" else " ".join([kind, *map(str, told)]).encode() + b"\n"
+            yield f"the program's extract: {pattern.name}: {row}", (run.returncode, run.stdout), (STATUSES[kind], text)
+    yield "steps of each deposit", steps_by_deposit(os.path.join(folder, "empty")), steps_of(register)
+
+
+def rights(policy, caller, project):
+    return ["--store=empty", "--callers=callers", "--policy", policy, "--token", caller["token"], "--project", project]
+
+
+def steps_by_deposit(path):
+    """What the line of OPERATING finds in a register."""
+    line = re.search(r'^\$ sqlite3 site\.register "(SELECT deposit, .*)"$', read("docs/OPERATING.md"), re.MULTILINE)[1]
+    connection = sqlite3.connect(path)
+    found = connection.execute(line).fetchall()
+    connection.close()
+    return sorted(found)
+
+
+def steps_of(register):
+    files = [machine.File(one["bytes"], register.standard) for one in register.deposits]
+    return [(n, sum(map(len, file.steps)), len(file.rows)) for n, file in enumerate(files, 1)]
+
+
+def claims():
+    """What the page says hides and does not, where no table of it shows that."""
+    deposits, patterns = parts(read("docs/POLICY.md"))
+    people, policy = callers(), {pattern.name: machine.read_policy(pattern.policy) for pattern in reversed(patterns)}
+    register, full = register_of(deposits), register_of(deposits, reference.built_in() + GEOL)
+    echo, third = people["Echo"], {"Deposit": "3"}
+    yield "a dictionary that has the group", cell(full, policy[FINAL], echo, third, "GEOL"), "BH7"
+    no_files = machine.read_policy(NO_FILES + ALL.replace("1", "2"))
+    yield "no row of FILE, and none that has its file set", cell(register, no_files, echo, third, "LOCA"), "no row"
+    empty = machine.read_policy(read("samples/empty.toml"))
+    for firm, number in (("Echo", "1"), ("Delta", "3")):
+        row = {"Deposit": number}
+        for column in ("deposit", "check", "list", "LOCA"):
+            got, want = (cell(register, rules, people[firm], row, column) for rules in (policy[ONE], empty))
+            yield f"{firm} without a part, as by the empty register: {column}", got, want
+    yield from deposited(policy[OWNER], people["Delta"], people["Harbour"])
+
+
+def deposited(rules, delta, harbour):
+    """An embargo that is past is seen at once, and a mistake is there for good."""
+    register, permits, data = machine.Register(), machine.read_policy(ALL), read("samples/office/statuses.ags", "rb")
+    past = "1970-01-01"
+    yield "an embargo that is past", register.deposit(permits, delta, "N1", past, data), ("receipt", 1, past)
+    yield "it is seen at once", register.list(rules, harbour, "N1", "2024-05-01"), ("listing", [(1, "Delta", past)])
+    yield "the same bytes", register.deposit(permits, delta, "N1", DAY, data), ("receipt", 1, past)
+    other = data.replace(b"Prelim", b"PRELIM")
+    yield "other bytes", register.deposit(permits, delta, "N1", past, other), ("receipt", 2, past)
+    yield "both are listed", [one[0] for one in register.list(rules, harbour, "N1", DAY)[1]], [1, 2]
+
+
+def printed():
+    """The command lines of the page, each with what the page says that it prints."""
+    for command, wanted in lines.blocks(read("docs/POLICY.md")):
+        run = subprocess.run(["bash", "-c", command], cwd=home, stdout=subprocess.PIPE, stderr=subprocess.STDOUT)
+        yield f"$ {command}", run.stdout.decode().splitlines(), wanted
