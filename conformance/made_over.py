@@ -4,7 +4,7 @@
 usage: made_over.py PROGRAM     the last line is 'N passed, M failed'
 
 `old.register` was made by a program whose table of deposits had the key `number INTEGER PRIMARY KEY`: `init` with samples/mini.ags, then the deposits
-below. The lines of SQL are read from docs/OPERATING.md, so that what the page says is what is tried."""
+below; `sqlite3 PATH ".backup old.register"` put it into one file. The lines of SQL are read from docs/OPERATING.md, so that what the page says is what is tried."""
 import os
 import shutil
 import subprocess
@@ -16,10 +16,10 @@ HERE = os.path.dirname(os.path.abspath(__file__))
 ROOT = os.path.dirname(HERE)
 PAGE = os.path.join(ROOT, "docs", "OPERATING.md")
 HEADING = "### A register of an earlier program"
-FILES = ["policy.toml", "callers.toml", "mini.ags", "delta.ags", "foxtrot.ags"]
+FILES = ["policy.toml", "callers.toml", "mini.ags", "foxtrot.ags"]
 ASKING = ["--policy=policy.toml", "--callers=callers.toml", "--project=N1", "--day=2024-06-01"]
 # number, token, embargo and file of each deposit of old.register
-DEPOSITS = [(1, "t-delta", "2024-05-01", "delta.ags"), (2, "t-foxtrot", "2024-05-01", "foxtrot.ags")]
+DEPOSITS = [(1, "t-foxtrot", "2024-05-01", "foxtrot.ags")]
 
 
 def statements():
