@@ -65,10 +65,6 @@ impl Keep for Junked {
         Err(KeepError::NoMemory)
     }
 
-    fn recall(&self, _firm: &Name, _project: &Name, _bytes: &[u8]) -> Option<u32> {
-        None
-    }
-
     fn add(
         &mut self,
         _firm: &Name,
@@ -113,10 +109,6 @@ impl Keep for Junked {
     }
 
     fn project_row(&mut self, _n: u32) -> Result<Option<ProjectRow>, KeepError> {
-        Err(KeepError::NoMemory)
-    }
-
-    fn project_number(&mut self, _n: u32) -> Result<Option<u32>, KeepError> {
         Err(KeepError::NoMemory)
     }
 

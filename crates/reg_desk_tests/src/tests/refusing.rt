@@ -69,10 +69,6 @@ impl Keep for Refusing {
         self.keep.find(firm, project, bytes)
     }
 
-    fn recall(&self, _firm: &Name, _project: &Name, _bytes: &[u8]) -> Option<u32> {
-        None
-    }
-
     fn add(
         &mut self,
         firm: &Name,
@@ -124,13 +120,6 @@ impl Keep for Refusing {
             return Err(KeepError::Store);
         }
         self.keep.project_row(n)
-    }
-
-    fn project_number(&mut self, n: u32) -> Result<Option<u32>, KeepError> {
-        if self.fails() {
-            return Err(KeepError::Store);
-        }
-        self.keep.project_number(n)
     }
 
     fn targets(&mut self, n: u32, row: u32) -> Result<Vec<u32>, KeepError> {
