@@ -104,6 +104,18 @@ serve|&|--port=80|--connections=0
 serve|&|--port=80|--connections=1000001
 serve|&|--port=80|--connections=+1
 serve|&|--port=80|--connections=1|--token=t-delta
+serve|&|--port=80|--connections=1|--patience=0
+serve|&|--port=80|--connections=1|--patience=3601
+serve|&|--port=80|--connections=1|--patience=+30
+serve|&|--port=80|--connections=1|--patience=
+serve|&|--port=80|--connections=1|--patience=30|--patience=30
+serve|&|--day=2024-05-01|--port=80|--connections=1|--day-by-clock
+serve|&|--port=80|--connections=1|--day-by-clock=yes
+serve|&|--port=80|--connections=1|--end-on-failure=yes
+serve|&|--port=80|--connections=1|--end-on-failure|--end-on-failure
+serve|&|--port=80|--connections=1|--log
+list|@|--patience=30
+list|@|--log=l
 """
 
 IN_ANY_ORDER = """
@@ -173,7 +185,10 @@ deposit|@|--day=2024-02-30|--embargo=2024-06-01|gone => 4 ! day refused
 deposit|@|--embargo=2023-02-29|gone => 4 ! day refused
 extract|@|--day=2024-6-1|--groups=loca|07 => 4 ! day refused
 list|@|--day=1 => 4 ! day refused
-serve|&|--day=tomorrow|--port=80|--connections=1 => 4 ! day refused
+serve|&|--day=tomorrow|--log=none/l|--port=80|--connections=1 => 4 ! day refused
+serve|&|--log=none/l|--port=80|--connections=1 => 6 ! cannot write none/l
+serve|&|--log=.|--port=80|--connections=1 => 6 ! cannot write .
+serve|&|--port=80|--connections=1 => 4 ! not a register
 extract|@|--groups=loca|07 => 4 ! groups refused
 extract|@|--groups=LOCA,|07 => 4 ! groups refused
 extract|@|07 => 4 ! number refused
@@ -207,6 +222,8 @@ serve|&|--port=PORT|--connections=1|--store=junk => 5 ! store failed
 serve|&|--port=PORT|--connections=1|--day=1 => 4 ! day refused
 init|--store=s|--dictionary=mini => 0 created
 serve|&|--port=PORT|--connections=1 => 6 ! cannot listen
+serve|&|--port=PORT|--connections=1|--patience=1|--end-on-failure|--log=l => 6 ! cannot listen
+serve|--end-on-failure|--day-by-clock|&|--port=PORT|--patience|3600|--connections=1 => 6 ! cannot listen
 """
 
 # The commands that open a register, each with all its words.
@@ -348,11 +365,18 @@ def refuse_port(folder):
         folder.play(PORT_TAKEN.replace("PORT", str(taken.getsockname()[1])))
 
 
+def make_private(folder):
+    folder.play("init|--store=s|--dictionary=mini => 0 created\nserve|&|--log=l|--port=80|--connections=1|--store=empty => 4 ! not a register")
+    for name in ("s", "s-wal", "l"):
+        mode = os.stat(os.path.join(folder.place, name)).st_mode & 0o777
+        folder.count(mode == 0o600, f"{name} has mode {mode:o}, wanted 600")
+
+
 def main():
     program = os.path.abspath(sys.argv[1])
     passed, wrong = 0, []
     # (an empty word is no line)
-    plays = [lambda folder, scene=scene: folder.play(scene) for scene in SCENES] + [lambda folder: folder.hold("", REFUSED), refuse_stores, refuse_changed, refuse_port]
+    plays = [lambda folder, scene=scene: folder.play(scene) for scene in SCENES] + [lambda folder: folder.hold("", REFUSED), refuse_stores, refuse_changed, refuse_port, make_private]
     for play in plays:
         with tempfile.TemporaryDirectory() as place:
             folder = Folder(program, place)

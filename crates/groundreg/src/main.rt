@@ -6,6 +6,7 @@ use jiff::tz::TimeZone;
 use reg_app::run_words;
 use reg_cli::{Fault, Watched};
 use reg_policy::Day;
+use sqlite::{Start, Unknown};
 use std::env;
 use std::io::{ErrorKind, Read, Write};
 use std::process::ExitCode;
@@ -25,9 +26,11 @@ fn today(rt: &HostRuntime) -> Option<Day> {
     Day::new(now.date().to_plain().to_unix_epoch_day())
 }
 
-/// Runs the program over its three streams, of any types: what names the types of the real ones is kept short.
-fn run_program<R: Read + Drop, W: Write + Drop, E: Write + Drop>(
+/// Runs the program over its three streams, of any types: what names the types of the real ones is kept short. `F` stands for what
+/// the files of a store held.
+fn run_program<F: Start, R: Read + Drop, W: Write + Drop, E: Write + Drop>(
     rt: &HostRuntime,
+    start: F,
     input: R,
     out: W,
     err: E,
@@ -38,6 +41,7 @@ fn run_program<R: Read + Drop, W: Write + Drop, E: Write + Drop>(
     match words_given(rt) {
         Ok(words) => run_words(
             rt,
+            start,
             words.as_slice(),
             today(rt),
             &mut input,
@@ -49,5 +53,5 @@ fn run_program<R: Read + Drop, W: Write + Drop, E: Write + Drop>(
 }
 
 fn main(rt: HostRuntime) -> ExitCode {
-    ExitCode::from(run_program(&rt, rt.stdin(), rt.stdout(), rt.stderr()))
+    ExitCode::from(run_program(&rt, Unknown, rt.stdin(), rt.stdout(), rt.stderr()))
 }

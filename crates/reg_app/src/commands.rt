@@ -4,21 +4,22 @@ ghost use Rattle.std.specs.Prelude.{◌≡◌, ◌≤◌, false, length};
 ghost use Rattle.reg_cli.specs.Checking.{ChecksInput};
 ghost use Rattle.reg_cli.specs.Streams.{has_failed};
 
-use crate::serving::{serve, serve_desk};
-use crate::stores::{create_store, not_made, open_store};
-use ags_rows::LIMIT;
+use crate::serving::{Serving, serve, serve_desk};
+use crate::stores::{create_store, make_private, not_made, open_store};
 use reg_cli::{
     Asker, Fault, Refusal, Session, Watched, Words, ask_deposit, ask_extract, ask_list,
-    check_given, day_or, read_path, read_rights, read_words, run_without_words, session_of, tell,
+    check_given, day_or, dictionary_in, read_path, read_rights, read_words, run_without_words,
+    session_of, tell,
 };
 use reg_desk::Desk;
 use reg_http::{groups_listed, number_of_deposit};
-use reg_policy::{Callers, Day, Policy};
+use reg_policy::{Day, Policy};
 use reg_store::Keep;
 use reg_tables::SqlKeep;
-use sqlite::Alter;
+use sqlite::{Alter, Start};
 use std::alloc::Global;
 use std::convert::AsStr;
+use std::fs::File;
 use std::io::{Read, Write};
 
 /// What is done with a register once it is open.
@@ -38,26 +39,26 @@ pub(crate) enum Task<'t> {
         groups: &'t [&'t [u8]],
     },
     Serve {
-        callers: &'t Callers,
-        day: Day,
+        serving: &'t Serving<'t>,
         port: u16,
-        connections: u32,
+        log: Option<&'t File>,
     },
 }
 
 /// Makes a register.
-fn init<'w, W: Write>(
+fn init<'w, F: Start, W: Write>(
     rt: &HostRuntime,
     alloc: Global,
+    start: F,
     store: &'w str,
     dictionary: &'w str,
     out: &mut Watched<W>,
 ) -> Result<u8, Refusal<'w>> {
     let bytes = read_path(rt, alloc, dictionary)?;
-    if bytes.len() > LIMIT {
-        return Err(Refusal::Plain(Fault::DictionaryRefused));
-    }
-    match create_store(rt, alloc, store, &bytes) {
+    // Bytes that are no dictionary make no file.
+    dictionary_in(alloc, &bytes)?;
+    make_private(rt, store);
+    match create_store(rt, alloc, start, store, &bytes) {
         Ok(()) => Ok(tell(out, b"created\n", 0)),
         Err(error) => Err(not_made(error)),
     }
@@ -79,9 +80,10 @@ fn check_file<'w, W: Write, E: Write>(
     check_given(alloc, &dictionary, read_path(rt, alloc, file), out, err)
 }
 
-fn deposit<'w, W: Write>(
+fn deposit<'w, F: Start, W: Write>(
     rt: &HostRuntime,
     alloc: Global,
+    start: F,
     asker: &Asker<'w>,
     embargo: Option<&'w str>,
     file: &'w str,
@@ -90,13 +92,24 @@ fn deposit<'w, W: Write>(
 ) -> Result<u8, Refusal<'w>> {
     let (policy, callers) = read_rights(rt, alloc, asker.policy, asker.callers)?;
     let session = session_of(alloc, &callers, asker, today)?;
-    deposit_as(rt, alloc, asker.store, policy, &session, embargo, file, out)
+    deposit_as(
+        rt,
+        alloc,
+        start,
+        asker.store,
+        policy,
+        &session,
+        embargo,
+        file,
+        out,
+    )
 }
 
 /// Deposits a file as the one who asks.
-fn deposit_as<'w, W: Write>(
+fn deposit_as<'w, F: Start, W: Write>(
     rt: &HostRuntime,
     alloc: Global,
+    start: F,
     store: &'w str,
     policy: Policy,
     session: &Session<'_>,
@@ -111,12 +124,13 @@ fn deposit_as<'w, W: Write>(
         embargo,
         bytes: &bytes,
     };
-    use_store(rt, alloc, store, policy, &task, out)
+    use_store(rt, alloc, start, store, policy, &task, out)
 }
 
-fn list<'w, W: Write>(
+fn list<'w, F: Start, W: Write>(
     rt: &HostRuntime,
     alloc: Global,
+    start: F,
     asker: &Asker<'w>,
     today: Option<Day>,
     out: &mut Watched<W>,
@@ -124,7 +138,7 @@ fn list<'w, W: Write>(
     let (policy, callers) = read_rights(rt, alloc, asker.policy, asker.callers)?;
     let session = session_of(alloc, &callers, asker, today)?;
     let task = Task::List { session: &session };
-    use_store(rt, alloc, asker.store, policy, &task, out)
+    use_store(rt, alloc, start, asker.store, policy, &task, out)
 }
 
 /// The groups that a text lists; none for all.
@@ -136,9 +150,10 @@ fn groups_of<'w>(alloc: Global, text: Option<&'w str>) -> Result<Vec<&'w [u8]>, 
     }
 }
 
-fn extract<'w, W: Write>(
+fn extract<'w, F: Start, W: Write>(
     rt: &HostRuntime,
     alloc: Global,
+    start: F,
     asker: &Asker<'w>,
     groups: Option<&'w str>,
     number: &'w str,
@@ -154,20 +169,21 @@ fn extract<'w, W: Write>(
         number,
         groups: &groups,
     };
-    use_store(rt, alloc, asker.store, policy, &task, out)
+    use_store(rt, alloc, start, asker.store, policy, &task, out)
 }
 
 /// Opens the register in the file at a path, and does with it what is asked. Each command that opens one comes here: a keep is
 /// shown to be one at length where its type is named, so that is once over the store of a file, and once over any store.
-pub(crate) fn use_store<'w, W: Write>(
+pub(crate) fn use_store<'w, F: Start, W: Write>(
     rt: &HostRuntime,
     alloc: Global,
+    start: F,
     store: &'w str,
     policy: Policy,
     task: &Task<'_>,
     out: &mut Watched<W>,
 ) -> Result<u8, Refusal<'w>> {
-    let keep = open_store(rt, alloc, store)?;
+    let keep = open_store(rt, alloc, start, store)?;
     let (done, keep) = use_tables(rt, alloc, keep, policy, task, out);
     keep.close();
     done
@@ -223,19 +239,17 @@ fn do_task<'w, K: Keep, W: Write>(
             number,
             groups,
         } => ask_extract(alloc, desk, session, *number, groups, out),
-        Task::Serve {
-            callers,
-            day,
-            port,
-            connections,
-        } => serve_desk(rt, alloc, desk, callers, *day, *port, *connections, out),
+        Task::Serve { serving, port, log } => {
+            serve_desk(rt, alloc, desk, serving, *port, *log, out)
+        }
     }
 }
 
 /// Does what the words ask.
-fn run_command<'w, W: Write, E: Write>(
+fn run_command<'w, F: Start, W: Write, E: Write>(
     rt: &HostRuntime,
     alloc: Global,
+    start: F,
     words: Words<'w>,
     today: Option<Day>,
     out: &mut Watched<W>,
@@ -245,27 +259,28 @@ fn run_command<'w, W: Write, E: Write>(
     requires err { has_failed err.old ≡ false }
 {
     match words {
-        Words::Init { store, dictionary } => init(rt, alloc, store, dictionary, out),
+        Words::Init { store, dictionary } => init(rt, alloc, start, store, dictionary, out),
         Words::Check { dictionary, file } => check_file(rt, alloc, dictionary, file, out, err),
         Words::Deposit {
             asker,
             embargo,
             file,
-        } => deposit(rt, alloc, &asker, embargo, file, today, out),
+        } => deposit(rt, alloc, start, &asker, embargo, file, today, out),
         Words::Extract {
             asker,
             groups,
             number,
-        } => extract(rt, alloc, &asker, groups, number, today, out),
-        Words::List(asker) => list(rt, alloc, &asker, today, out),
-        Words::Serve(service) => serve(rt, alloc, &service, today, out),
+        } => extract(rt, alloc, start, &asker, groups, number, today, out),
+        Words::List(asker) => list(rt, alloc, start, &asker, today, out),
+        Words::Serve(service) => serve(rt, alloc, start, &service, today, out),
     }
 }
 
 /// Runs the program on its words, of which the first is its name; without others it checks the file that the input carries.
-/// `today` is what the clock tells, if it tells a day. No clause says what is done with further words, or with `today`.
-pub fn run_words<S: AsStr, R: Read, W: Write, E: Write>(
+/// `today` is what the clock tells, if it tells a day, and `F` stands for what the files of a store held. No clause says what is done with further words, or with `today`.
+pub fn run_words<F: Start, S: AsStr, R: Read, W: Write, E: Write>(
     rt: &HostRuntime,
+    start: F,
     words: &[S],
     today: Option<Day>,
     input: &mut Watched<R>,
@@ -286,7 +301,7 @@ pub fn run_words<S: AsStr, R: Read, W: Write, E: Write>(
         Ok(words) => words,
         Err(fault) => return fault.tell(err),
     };
-    match run_command(rt, alloc, words, today, out, err) {
+    match run_command(rt, alloc, start, words, today, out, err) {
         Ok(status) => status,
         Err(refusal) => refusal.tell(err),
     }

@@ -5,9 +5,15 @@
 #![tactic(auto)]
 
 mod commands;
+mod connection;
+mod front;
+mod log;
+mod moment;
 mod refusal;
 mod serving;
 mod stores;
+mod timed;
 
 pub use commands::run_words;
-pub use serving::serve_on;
+pub use log::Log;
+pub use serving::{Serving, serve_on};

@@ -1,41 +1,57 @@
 //! A register that is served over connections.
 
 use crate::commands::{Task, use_store};
+use crate::connection::serve_next;
+use crate::log::Log;
 use itoa::Buffer;
 use reg_cli::{Fault, Refusal, Service, StreamFailed, Watched, day_or, read_rights};
 use reg_desk::Desk;
-use reg_http::{Tally, serve_one};
 use reg_policy::{Callers, Day};
 use reg_store::Keep;
+use sqlite::Start;
 use std::alloc::Global;
+use std::fs::{File, OpenOptions};
 use std::io::Write;
-use std::net::{Shutdown, TcpListener, TcpStream};
+use std::net::TcpListener;
+use std::os::unix::fs::OpenOptionsExt;
+use std::time::{Clock, Duration};
 
-/// Serves a connection: the status of the reply, unless the connection failed. After a reply nothing more is written.
-fn serve_stream<K: Keep>(
-    alloc: Global,
-    desk: &mut Desk<K>,
-    callers: &Callers,
-    day: Day,
-    stream: &TcpStream,
-) -> Option<u16> {
-    let mut reader = Tally::new(stream);
-    let mut writer = Tally::new(stream);
-    let served = serve_one(alloc, desk, callers, day, &mut reader, &mut writer).ok()?;
-    let _closed = stream.shutdown(Shutdown::Write);
-    Some(served.status)
+/// How connections are served.
+#[derive(Drop)]
+pub struct Serving<'s> {
+    pub callers: &'s Callers,
+    /// The day of the requests; none where it is that of the clock.
+    pub day: Option<Day>,
+    /// The time for reading a request, and again for writing its reply.
+    pub patience: Duration,
+    /// How many connections are served.
+    pub connections: u32,
+    /// Whether no more are served behind a reply that the store failed.
+    pub ends_on_failure: bool,
 }
 
-/// Accepts a connection and serves it: the status of the reply, unless that failed.
-fn serve_next<K: Keep>(
+/// Serves connections, one after the other, and of each writes the line of the log, and prints the status of the reply, or
+/// `fault`. `Stream` where such a line is not written, and `StoreFailed` where that ends it. No clause says so.
+pub fn serve_on<K: Keep, C: Clock, W: Write, L: Write + Drop>(
     alloc: Global,
+    clock: &C,
     listener: &TcpListener,
     desk: &mut Desk<K>,
-    callers: &Callers,
-    day: Day,
-) -> Option<u16> {
-    let (stream, _) = listener.accept().ok()?;
-    serve_stream(alloc, desk, callers, day, &stream)
+    serving: &Serving<'_>,
+    out: &mut Watched<W>,
+    log: &mut Option<Log<L>>,
+) -> Result<(), Fault> {
+    for _ in 0..serving.connections {
+        let outcome = serve_next(alloc, clock, listener, desk, serving);
+        if let Some(log) = log {
+            log.append(serving.callers, &outcome)?;
+        }
+        print_line(out, outcome.status)?;
+        if serving.ends_on_failure && outcome.is_store_failed {
+            return Err(Fault::StoreFailed);
+        }
+    }
+    Ok(())
 }
 
 /// Prints the line of a connection.
@@ -47,67 +63,81 @@ fn print_line<W: Write>(out: &mut Watched<W>, status: Option<u16>) -> Result<(),
     out.write_line(b"", buffer.format(status).as_bytes())
 }
 
-/// Serves connections, one after the other, and prints the status of each reply, or `fault`. The status of the run: 6
-/// where such a line is not written, which ends it, and else 0. No clause says so.
-pub fn serve_on<K: Keep, W: Write>(
-    alloc: Global,
-    listener: &TcpListener,
-    desk: &mut Desk<K>,
-    callers: &Callers,
-    day: Day,
-    connections: u32,
-    out: &mut Watched<W>,
-) -> u8 {
-    for _ in 0..connections {
-        let status = serve_next(alloc, listener, desk, callers, day);
-        if print_line(out, status).is_err() {
-            return Fault::Stream.status();
-        }
-    }
-    0
-}
-
-/// Prints that the port is listened on.
-fn print_port<W: Write>(out: &mut Watched<W>, port: u16) -> Result<(), StreamFailed> {
-    let mut buffer = Buffer::new();
-    out.write_line(b"listening 127.0.0.1:", buffer.format(port).as_bytes())
-}
-
 /// Opens the register, listens, and serves.
-pub(crate) fn serve<'w, W: Write>(
+pub(crate) fn serve<'w, F: Start, W: Write>(
     rt: &HostRuntime,
     alloc: Global,
+    start: F,
     service: &Service<'w>,
     today: Option<Day>,
     out: &mut Watched<W>,
 ) -> Result<u8, Refusal<'w>> {
     let (policy, callers) = read_rights(rt, alloc, service.policy, service.callers)?;
-    let day = day_or(service.day, today)?;
-    let task = Task::Serve {
+    let serving = Serving {
         callers: &callers,
-        day,
-        port: service.port,
+        day: given_day(service, today)?,
+        patience: Duration::from_secs(u64::from(service.patience)),
         connections: service.connections,
+        ends_on_failure: service.ends_on_failure,
     };
-    use_store(rt, alloc, service.store, policy, &task, out)
+    let file = open_log(rt, service.log)?;
+    let log = file.as_ref();
+    let task = Task::Serve {
+        serving: &serving,
+        port: service.port,
+        log,
+    };
+    use_store(rt, alloc, start, service.store, policy, &task, out)
 }
 
-/// Listens at a port, and serves so many connections over a desk.
+/// The day of the requests, if it is not that of the clock.
+fn given_day(service: &Service<'_>, today: Option<Day>) -> Result<Option<Day>, Fault> {
+    if service.is_day_by_clock {
+        return Ok(None);
+    }
+    Ok(Some(day_or(service.day, today)?))
+}
+
+/// The file to which the log is appended. One that is made may be read by its owner alone.
+fn open_log<'w>(rt: &HostRuntime, path: Option<&'w str>) -> Result<Option<File>, Refusal<'w>> {
+    let Some(path) = path else {
+        return Ok(None);
+    };
+    let opened = OpenOptions::new()
+        .append(true)
+        .create(true)
+        .mode(0o600)
+        .open(rt, path);
+    match opened {
+        Ok(file) => Ok(Some(file)),
+        Err(_) => Err(Refusal::CannotWrite(path)),
+    }
+}
+
+/// Listens at a port, and serves connections over a desk.
 pub(crate) fn serve_desk<'w, K: Keep, W: Write>(
     rt: &HostRuntime,
     alloc: Global,
     desk: &mut Desk<K>,
-    callers: &Callers,
-    day: Day,
+    serving: &Serving<'_>,
     port: u16,
-    connections: u32,
+    log: Option<&File>,
     out: &mut Watched<W>,
 ) -> Result<u8, Refusal<'w>> {
     let Ok(listener) = TcpListener::bind(rt, ("127.0.0.1", port)) else {
         return Err(Refusal::CannotListen);
     };
-    if print_port(out, port).is_err() {
-        return Ok(Fault::Stream.status());
-    }
-    Ok(serve_on(alloc, &listener, desk, callers, day, connections, out))
+    let mut log = match log {
+        Some(file) => Some(Log::new(alloc, file)?),
+        None => None,
+    };
+    print_port(out, port)?;
+    serve_on(alloc, rt, &listener, desk, serving, out, &mut log)?;
+    Ok(0)
+}
+
+/// Prints that the port is listened on.
+fn print_port<W: Write>(out: &mut Watched<W>, port: u16) -> Result<(), Fault> {
+    let mut buffer = Buffer::new();
+    Ok(out.write_line(b"listening 127.0.0.1:", buffer.format(port).as_bytes())?)
 }

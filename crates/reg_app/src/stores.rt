@@ -1,34 +1,52 @@
 //! Registers in files: how one is made, and how one is found.
 
-ghost use Rattle.std.specs.Prelude.{◌≡◌, ◌≤◌, false, IfOk, length};
+ghost use Rattle.std.specs.Prelude.{◌≡◌, ◌≤◌, false, IfErr, IfOk, length};
+ghost use Rattle.sqlite.specs.Files.{file_state};
+ghost use Rattle.sqlite.specs.WalFiles.{image_at};
+ghost use Rattle.reg_tables.specs.Making.{RefusesBytes};
+ghost use Rattle.reg_tables.specs.Opened.{AdoptsFiles};
 
 use crate::refusal::adopting;
 use ags_rows::READABLE;
 use reg_cli::{Fault, Refusal};
 use reg_tables::{CreateError, SqlKeep};
-use sqlite::{File, FileStore};
+use sqlite::{FileFrom, FileStore, Start};
 use std::alloc::Global;
 use std::convert::AsStr;
 use std::fs;
+use std::fs::OpenOptions;
 use std::io::ErrorKind;
+use std::os::unix::fs::OpenOptionsExt;
 use std::path::Path;
+
+/// Makes an empty file that its owner alone may read and write, where none is there. The log beside it has the same rights once it is
+/// made. What fails here fails where the register is made, and is said there.
+pub(crate) fn make_private(rt: &HostRuntime, store: &str) {
+    let _made = OpenOptions::new()
+        .write(true)
+        .create_new(true)
+        .mode(0o600)
+        .open(rt, store);
+}
 
 /// Makes an empty register at a path, and closes it. What names the type of a keep in a file is kept short: it is written out
 /// at each point of a function that holds one.
-pub(crate) fn create_store(
+pub(crate) fn create_store<F: Start>(
     rt: &HostRuntime,
     alloc: Global,
+    start: F,
     store: &str,
     bytes: &[u8],
 ) -> Result<(), CreateError>
-    requires { length bytes.now ≤ READABLE }
+    requires short { length bytes.now ≤ READABLE }
+    ensures refused { IfErr result (RefusesBytes bytes.now) }
 {
-    match SqlKeep::create(rt, alloc, store, bytes) {
+    match SqlKeep::create_from(rt, alloc, store, bytes, start) {
         Ok(keep) => {
             keep.close();
             Ok(())
         }
-        Err(error) => Err(error),
+        Err((error, _connection)) => Err(error),
     }
 }
 
@@ -42,20 +60,22 @@ pub(crate) fn not_made<'w>(error: CreateError) -> Refusal<'w> {
     })
 }
 
-/// The register in the file at a path.
-pub(crate) fn open_store<'w>(
+/// The register in the file at a path, where `F` stands for what its files held.
+pub(crate) fn open_store<'w, F: Start>(
     rt: &HostRuntime,
     alloc: Global,
+    start: F,
     store: &'w str,
-) -> Result<SqlKeep<FileStore<File>>, Refusal<'w>>
-    ensures { IfOk result (λ keep. keep.has_failed ≡ false) }
+) -> Result<SqlKeep<FileStore<FileFrom<F>>>, Refusal<'w>>
+    ensures adopted { IfOk result (λ k. AdoptsFiles (image_at F.Start) k.dictionary (file_state k.connection)) }
+    ensures working { IfOk result (λ k. k.has_failed ≡ false) }
 {
     if is_absent(rt, store) {
         return Err(Refusal::Plain(Fault::NotRegister));
     }
-    match SqlKeep::open(rt, alloc, store) {
+    match SqlKeep::open_from(rt, alloc, store, start) {
         Ok(keep) => Ok(keep),
-        Err(error) => Err(adopting(error)),
+        Err((error, _connection)) => Err(adopting(error)),
     }
 }
 

@@ -16,8 +16,9 @@ use reg_store::{Keep, PlainKeep};
 use replies::replies_on;
 use slow::{reads_deposit, writes_twice};
 use std::alloc::{AllocError, Global};
-use std::io;
+use std::env::VarError;
 use std::io::{ErrorKind, Read, Write};
+use std::{env, io};
 
 /// An empty desk over memory that takes so many deposits, under this dictionary; none where memory is refused, or the dictionary
 /// is longer than what can be read.
@@ -94,10 +95,10 @@ fn answers(
 enum Play<'a> {
     /// A connection without a byte.
     Silence,
-    /// Three equal deposits, where memory may be refused once.
-    Deposits,
-    /// Two lists of two equal deposits, where memory may be refused once.
-    Lists,
+    /// Three equal deposits, and how many growths are refused.
+    Deposits(u32),
+    /// Two lists of two equal deposits, and how many growths are refused.
+    Lists(u32),
     /// A list of a deposit, nothing, and the same deposit.
     Turns,
     /// Deposits over readers that fail.
@@ -118,8 +119,8 @@ fn is_played(
 ) -> bool {
     match play {
         Play::Silence => answers(alloc, desk, callers, day, b"", 0, b""),
-        Play::Deposits => are_refused_once(alloc, desk, callers, day),
-        Play::Lists => are_lists_refused_once(alloc, desk, callers, day),
+        Play::Deposits(refused) => deposits_thrice(alloc, desk, callers, day) == Some(refused),
+        Play::Lists(refused) => lists_twice(alloc, desk, callers, day) == Some(refused),
         Play::Turns => serves_in_turn(alloc, desk, callers, day),
         Play::Reads => reads_deposit(alloc, desk, callers, day),
         Play::Head(head, status, length, body) => {
@@ -193,7 +194,7 @@ fn was_wanting(served: &Result<Served, IoFault>, written: &[u8]) -> Option<bool>
     }
 }
 
-/// The same of a deposit that is served. Where memory is refused before, nothing is asked.
+/// The same of a deposit that is served, and where memory is refused before.
 fn deposits(
     alloc: Global,
     desk: &mut Desk<PlainKeep>,
@@ -201,7 +202,7 @@ fn deposits(
     day: Day,
 ) -> Option<bool> {
     let Ok(mut written) = Vec::with_capacity(alloc, 256) else {
-        return Some(false);
+        return Some(true);
     };
     let served = serve(
         alloc,
@@ -229,21 +230,22 @@ fn deposits_thrice(
     Some(refused)
 }
 
-/// Whether it was for one at most.
-fn are_refused_once(
-    alloc: Global,
-    desk: &mut Desk<PlainKeep>,
-    callers: &Callers,
-    day: Day,
-) -> bool {
-    deposits_thrice(alloc, desk, callers, day).unwrap_or(u32::MAX) <= 1
+/// How many growths are refused: one where `conformance/refused_tests` refuses it, else none. None where it is refused here.
+fn growths_refused(rt: &HostRuntime) -> Option<u32> {
+    match env::var(rt, "REFUSED") {
+        Ok(number) if number.as_str() != "0" => Some(1),
+        Ok(_) | Err(VarError::NotPresent) => Some(0),
+        Err(_) => None,
+    }
 }
 
-/// With memory, and where `conformance/refused_tests` refuses one growth: of three equal deposits one at most is answered 503 then, and
-/// each other as ever. Where memory is refused before, nothing is asked.
+/// With memory, and where `conformance/refused_tests` refuses one growth: of three equal deposits one is then answered 503, and each
+/// other as ever. Where memory is refused before, nothing is asked.
 #[test]
 fn memory_is_refused_once(rt: HostRuntime) {
-    assert!(rt; plays(rt.alloc(), Play::Deposits).unwrap_or(true));
+    if let Some(refused) = growths_refused(&rt) {
+        assert!(rt; plays(rt.alloc(), Play::Deposits(refused)).unwrap_or(true));
+    }
 }
 
 /// Takes one of two texts, and that in one write.
@@ -316,26 +318,25 @@ fn list_wanting(
     }
 }
 
-/// Whether of two such lists memory was wanting once at most.
-fn are_lists_refused_once(
+/// The same of two such lists.
+fn lists_twice(
     alloc: Global,
     desk: &mut Desk<PlainKeep>,
     callers: &Callers,
     day: Day,
-) -> bool {
-    let first = list_wanting(alloc, desk, callers, day);
-    let second = list_wanting(alloc, desk, callers, day);
-    match (first, second) {
-        (Some(first), Some(second)) => first.saturating_add(second) <= 1,
-        _ => false,
-    }
+) -> Option<u32> {
+    let first = list_wanting(alloc, desk, callers, day)?;
+    let second = list_wanting(alloc, desk, callers, day)?;
+    Some(first.saturating_add(second))
 }
 
-/// With memory, and where `conformance/refused_tests` refuses one growth: two equal deposits are served in a list, twice. Memory is wanting
-/// once at most, for the list whole or for one of the four answers, and each other answer is as ever.
+/// With memory, and where `conformance/refused_tests` refuses one growth: two equal deposits are served in a list, twice. Memory is then
+/// wanting once, for the list whole or for one of the four answers, and each other answer is as ever.
 #[test]
 fn memory_is_refused_once_in_a_list(rt: HostRuntime) {
-    assert!(rt; plays(rt.alloc(), Play::Lists).unwrap_or(true));
+    if let Some(refused) = growths_refused(&rt) {
+        assert!(rt; plays(rt.alloc(), Play::Lists(refused)).unwrap_or(true));
+    }
 }
 
 /// Whether these are three answers: the first and the last have status 200, and the second 0.

@@ -2,39 +2,63 @@
 
 ghost use Rattle.std.specs.Prelude.{◌≡◌, false};
 
-use super::failing_after;
+use super::{Failing, failing_after};
 use ags_dict::Dictionary;
 use ags_rows::vectors::{FILE_A, MINI};
-use reg_app::serve_on;
+use reg_app::{Log, Serving, serve_on};
 use reg_cli::Watched;
 use reg_desk::Desk;
 use reg_policy::vectors::{CALLERS, POLICY};
-use reg_policy::{Callers, Day, Policy};
+use reg_policy::{Callers, Policy};
 use reg_store::{Keep, PlainKeep};
 use std::alloc::Global;
+use std::cell::Cell;
 use std::io;
 use std::io::{Read, Write};
 use std::net::{Shutdown, TcpListener, TcpStream};
 use std::test::Fail;
+use std::time::{Clock, Duration};
 
-/// One who connects: what is sent, whether more is sent behind it, which no one reads, and the whole reply.
+/// What a peer does once it has sent what is asked.
+enum Then {
+    /// It says that it has sent all.
+    Ends,
+    /// It sends more, which no one reads.
+    GoesOn,
+    /// It sends no more, and does not say so.
+    Stops,
+}
+
+/// One who connects: what is sent, what is done then, and the whole reply.
 struct Peer {
     sends: &'static [&'static [u8]],
-    goes_on: bool,
+    then: Then,
     reply: &'static [u8],
 }
 
 /// Connections that are there when a listener is served, which waits for others or does not. As many are served as `count`
-/// says, and their lines are printed.
+/// says, from 2024-05-01 on, each a day after the one before. Their lines are printed, and logged where lines of the log are given.
 struct Case {
     waits: bool,
     peers: &'static [Peer],
     count: u32,
     printed: &'static [u8],
+    logged: &'static [u8],
 }
 
 const DEPOSIT: &[u8] =
     b"POST /v1/projects/N1/deposits?embargo=2024-06-01 HTTP/1.1\r\nAuthorization: Bearer t-delta\r\nContent-Length: 543\r\n\r\n";
+
+/// The same without an embargo, so with that of the day, by two firms.
+const DELTA: &[u8] =
+    b"POST /v1/projects/N1/deposits HTTP/1.1\r\nAuthorization: Bearer t-delta\r\nContent-Length: 543\r\n\r\n";
+
+const FOXTROT: &[u8] =
+    b"POST /v1/projects/N1/deposits HTTP/1.1\r\nAuthorization: Bearer t-foxtrot\r\nContent-Length: 543\r\n\r\n";
+
+/// A path with bytes above ASCII, and a token in the query.
+const ODD_PATH: &[u8] =
+    b"GET /v1/d\xC3\xA9p\xC3\xB4ts\\?token=t-delta HTTP/1.1\r\nAuthorization: Bearer t-echo\r\n\r\n";
 
 const EXTRACT: &[u8] =
     b"GET /v1/projects/N1/deposits/999 HTTP/1.1\r\nAuthorization: Bearer t-delta\r\n\r\n";
@@ -50,6 +74,27 @@ Connection: close\r\n\
 \r\n\
 {\"embargo\":\"2024-06-01\",\"number\":1}";
 
+const RECEIPT_OF_MAY_1: &[u8] = b"HTTP/1.1 200 OK\r\n\
+Content-Type: application/json\r\n\
+Content-Length: 35\r\n\
+Connection: close\r\n\
+\r\n\
+{\"embargo\":\"2024-05-01\",\"number\":1}";
+
+const RECEIPT_OF_MAY_2: &[u8] = b"HTTP/1.1 200 OK\r\n\
+Content-Type: application/json\r\n\
+Content-Length: 35\r\n\
+Connection: close\r\n\
+\r\n\
+{\"embargo\":\"2024-05-02\",\"number\":2}";
+
+const NO_ROUTE: &[u8] = b"HTTP/1.1 404 Not Found\r\n\
+Content-Type: application/json\r\n\
+Content-Length: 20\r\n\
+Connection: close\r\n\
+\r\n\
+{\"error\":\"no route\"}";
+
 const UNKNOWN: &[u8] = b"HTTP/1.1 404 Not Found\r\n\
 Content-Type: application/json\r\n\
 Content-Length: 19\r\n\
@@ -64,33 +109,69 @@ Connection: close\r\n\
 \r\n\
 {\"error\":\"too large\"}";
 
-static CASES: [Case; 3] = [
+static CASES: [Case; 4] = [
     Case {
         waits: true,
         peers: &[
             Peer {
                 sends: &[DEPOSIT, FILE_A],
-                goes_on: false,
+                then: Then::Ends,
                 reply: RECEIPT,
             },
             Peer {
                 sends: &[EXTRACT],
-                goes_on: false,
+                then: Then::Ends,
                 reply: UNKNOWN,
             },
             Peer {
                 sends: &[TOO_LONG],
-                goes_on: false,
+                then: Then::Ends,
                 reply: TOO_LARGE,
             },
             Peer {
                 sends: &[],
-                goes_on: false,
+                then: Then::Ends,
                 reply: b"",
             },
         ],
         count: 4,
         printed: b"200\n404\n413\n0\n",
+        logged: b"2024-05-01T10:20:30Z Delta contractor POST /v1/projects/N1/deposits 200 656 125 0\n\
+2024-05-02T10:20:30Z Delta contractor GET /v1/projects/N1/deposits/999 404 76 116 0\n\
+2024-05-03T10:20:30Z Gamma contractor POST /v1/projects/N1/deposits 413 98 126 0\n\
+2024-05-04T10:20:30Z - - - - 0 0 0 0\n",
+    },
+    // Each is served on the day of its own, and a log has no token. A peer that stops is cut.
+    Case {
+        waits: true,
+        peers: &[
+            Peer {
+                sends: &[DELTA, FILE_A],
+                then: Then::Ends,
+                reply: RECEIPT_OF_MAY_1,
+            },
+            Peer {
+                sends: &[FOXTROT, FILE_A],
+                then: Then::Stops,
+                reply: RECEIPT_OF_MAY_2,
+            },
+            Peer {
+                sends: &[ODD_PATH],
+                then: Then::Ends,
+                reply: NO_ROUTE,
+            },
+            Peer {
+                sends: &[DELTA],
+                then: Then::Stops,
+                reply: b"",
+            },
+        ],
+        count: 4,
+        printed: b"200\n200\n404\nfault\n",
+        logged: b"2024-05-01T10:20:30Z Delta contractor POST /v1/projects/N1/deposits 200 637 125 0\n\
+2024-05-02T10:20:30Z Foxtrot contractor POST /v1/projects/N1/deposits 200 639 125 0\n\
+2024-05-03T10:20:30Z Echo consultant GET /v1/d\\xc3\\xa9p\\xc3\\xb4ts\\x5c 404 74 117 0\n\
+2024-05-04T10:20:30Z Delta contractor POST /v1/projects/N1/deposits fault 94 0 0\n",
     },
     // A peer that has sent more than is read has the whole reply, and then its end.
     Case {
@@ -98,28 +179,32 @@ static CASES: [Case; 3] = [
         peers: &[
             Peer {
                 sends: &[EXTRACT],
-                goes_on: true,
+                then: Then::GoesOn,
                 reply: UNKNOWN,
             },
             Peer {
                 sends: &[DEPOSIT, FILE_A],
-                goes_on: true,
+                then: Then::GoesOn,
                 reply: RECEIPT,
             },
         ],
         count: 2,
         printed: b"404\n200\n",
+        logged: b"",
     },
     // A listener that does not wait fails to accept where no connection is there. That is printed, and counts as a connection.
     Case {
         waits: false,
         peers: &[Peer {
             sends: &[EXTRACT],
-            goes_on: false,
+            then: Then::Ends,
             reply: UNKNOWN,
         }],
         count: 3,
         printed: b"404\nfault\nfault\n",
+        logged: b"2024-05-01T10:20:30Z Delta contractor GET /v1/projects/N1/deposits/999 404 76 116 0\n\
+2024-05-02T10:20:30Z - - - - fault 0 0 0\n\
+2024-05-03T10:20:30Z - - - - fault 0 0 0\n",
     },
 ];
 
@@ -141,20 +226,19 @@ fn write_parts<W: Write>(stream: &mut W, parts: &[&[u8]]) -> io::Result<()> {
 /// Writes what a peer sends, and more behind it where it goes on.
 fn write_sent<W: Write>(stream: &mut W, alloc: Global, peer: &Peer) -> io::Result<()> {
     write_parts(stream, peer.sends)?;
-    if !peer.goes_on {
-        return Ok(());
+    match peer.then {
+        Then::GoesOn => stream.write_all("x".repeat(alloc, 20_000)?.as_bytes()),
+        Then::Ends | Then::Stops => Ok(()),
     }
-    let more = "x".repeat(alloc, 20_000)?;
-    stream.write_all(more.as_bytes())
 }
 
-/// Sends what a peer sends. One that does not go on says that it has sent all.
+/// Sends what a peer sends, and says that it was all, where it does.
 fn send(alloc: Global, stream: &mut TcpStream, peer: &Peer) -> io::Result<()> {
     write_sent(stream, alloc, peer)?;
-    if peer.goes_on {
-        return Ok(());
+    match peer.then {
+        Then::Ends => stream.shutdown(Shutdown::Write),
+        Then::GoesOn | Then::Stops => Ok(()),
     }
-    stream.shutdown(Shutdown::Write)
 }
 
 /// The connection of a peer.
@@ -194,79 +278,93 @@ fn all_replied(alloc: Global, streams: &[TcpStream], peers: &[Peer]) -> io::Resu
     Ok(true)
 }
 
-/// So many connections that are served on a day, for these callers.
+/// A clock that tells a day, 37,230 seconds into it, and at each further call the next. Its time does not pass.
 #[derive(Drop)]
-struct Service<'s> {
-    listener: &'s TcpListener,
-    callers: &'s Callers,
-    day: Day,
-    count: u32,
+struct Calendar {
+    day: Cell<u64>,
 }
 
-/// Serves so many connections on 2024-05-01, from an empty keep in memory: the status of the run.
-fn serve_some<W: Write>(
+/// A calendar from 2024-05-01 on.
+fn calendar() -> Calendar {
+    Calendar {
+        day: Cell::new(19_844),
+    }
+}
+
+impl Clock for Calendar {
+    fn monotonic(&self) -> io::Result<Duration> {
+        Ok(Duration::from_secs(7))
+    }
+
+    fn since_1970(&self) -> io::Result<Duration> {
+        let day = self.day.get();
+        self.day.set(day.saturating_add(1));
+        let seconds = day.saturating_mul(86_400).saturating_add(37_230);
+        Ok(Duration::from_secs(seconds))
+    }
+}
+
+/// Serves so many connections by a clock, with a second of patience, from an empty keep in memory: the status of the run.
+fn serve_some<C: Clock, W: Write, L: Write + Drop>(
     alloc: Global,
+    clock: &C,
     listener: &TcpListener,
-    count: u32,
+    connections: u32,
     out: &mut W,
+    log: &mut L,
 ) -> Result<u8, Fail> {
-    let day = Day::read("2024-05-01").ok_or("day")?;
     let callers = Callers::read(alloc, CALLERS)?;
     let policy = Policy::read(alloc, POLICY)?;
-    let service = Service {
-        listener,
+    let serving = Serving {
         callers: &callers,
-        day,
-        count,
+        day: None,
+        patience: Duration::from_secs(1),
+        connections,
+        ends_on_failure: false,
     };
-    serve_memory(alloc, &service, policy, out)
-}
-
-/// Serves from an empty keep in memory.
-fn serve_memory<W: Write>(
-    alloc: Global,
-    service: &Service<'_>,
-    policy: Policy,
-    out: &mut W,
-) -> Result<u8, Fail> {
+    let mut log = Some(Log::new(alloc, log)?);
     let dictionary = Dictionary::read(alloc, MINI)?;
     let keep = PlainKeep::new(alloc, dictionary);
-    Ok(serve_keep(alloc, service, keep, policy, out))
+    Ok(serve_keep(
+        alloc, clock, listener, &serving, keep, policy, out, &mut log,
+    ))
 }
 
 /// Serves from a keep: the status of the run.
-fn serve_keep<K: Keep + Drop, W: Write>(
+fn serve_keep<K: Keep + Drop, C: Clock, W: Write, L: Write + Drop>(
     alloc: Global,
-    service: &Service<'_>,
+    clock: &C,
+    listener: &TcpListener,
+    serving: &Serving<'_>,
     keep: K,
     policy: Policy,
     out: &mut W,
+    log: &mut Option<Log<L>>,
 ) -> u8
     requires { K.has_failed keep ≡ false }
 {
     let desk = &mut Desk::new(keep, policy);
-    let Service {
-        listener,
-        callers,
-        day,
-        count,
-    } = service;
-    serve_on(
-        alloc,
-        listener,
-        desk,
-        callers,
-        *day,
-        *count,
-        &mut Watched::new(out),
-    )
+    let mut out = Watched::new(out);
+    match serve_on(alloc, clock, listener, desk, serving, &mut out, log) {
+        Ok(()) => 0,
+        Err(fault) => fault.status(),
+    }
 }
 
-/// Whether a listener is served with status 0 and these lines.
-fn prints(alloc: Global, listener: &TcpListener, count: u32, want: &[u8]) -> Result<bool, Fail> {
-    let mut printed = Vec::new(alloc);
-    let status = serve_some(alloc, listener, count, &mut printed)?;
-    Ok((status == 0) & (printed.as_slice() == want))
+/// Whether a listener is served with status 0 and the lines of a case.
+fn prints(alloc: Global, listener: &TcpListener, case: &Case) -> Result<bool, Fail> {
+    let (mut printed, mut logged) = (Vec::new(alloc), Vec::new(alloc));
+    let count = case.count;
+    let status = serve_some(
+        alloc,
+        &calendar(),
+        listener,
+        count,
+        &mut printed,
+        &mut logged,
+    )?;
+    let is_logged = case.logged.is_empty() | (logged.as_slice() == case.logged);
+    Ok((status == 0) & (printed.as_slice() == case.printed) & is_logged)
 }
 
 /// Whether a listener to which these are connected is served as a case says.
@@ -276,7 +374,7 @@ fn holds(
     streams: &[TcpStream],
     case: &Case,
 ) -> Result<bool, Fail> {
-    if !prints(alloc, listener, case.count, case.printed)? {
+    if !prints(alloc, listener, case)? {
         return Ok(false);
     }
     Ok(all_replied(alloc, streams, case.peers)?)
@@ -297,20 +395,43 @@ fn connections_are_served(rt: HostRuntime) -> Result<(), Fail> {
     Ok(())
 }
 
+/// Serves two connections of a listener that has none. Status 6 is wanted where a line fails.
+fn has_ended(
+    alloc: Global,
+    listener: &TcpListener,
+    out: &mut Failing<'_>,
+    log: &mut Failing<'_>,
+    fails: bool,
+) -> Result<bool, Fail> {
+    let status = serve_some(alloc, &calendar(), listener, 2, out, log)?;
+    Ok(status == if fails { 6 } else { 0 })
+}
+
 /// Whether a run is right whose write or flush of a line after `calls` others fails: two connections that fail take four.
 fn line_fails(alloc: Global, listener: &TcpListener, calls: usize) -> Result<bool, Fail> {
     let mut out = failing_after(alloc, b"", 100, calls);
-    let status = serve_some(alloc, listener, 2, &mut out)?;
-    let ended = if calls < 4 { 6 } else { 0 };
-    Ok((status == ended) & out.has(calls < 4, b"fault\nfault\n"))
+    let mut log = failing_after(alloc, b"", 100, 9);
+    let has_ended = has_ended(alloc, listener, &mut out, &mut log, calls < 4)?;
+    Ok(has_ended & out.has(calls < 4, b"fault\nfault\n"))
 }
 
-/// Each write and flush of a line fails once: the run ends with it.
+/// The same of a line of the log.
+fn logged_line_fails(alloc: Global, listener: &TcpListener, calls: usize) -> Result<bool, Fail> {
+    let mut out = failing_after(alloc, b"", 100, 9);
+    let mut log = failing_after(alloc, b"", 100, calls);
+    let has_ended = has_ended(alloc, listener, &mut out, &mut log, calls < 4)?;
+    let lines =
+        b"2024-05-01T10:20:30Z - - - - fault 0 0 0\n2024-05-02T10:20:30Z - - - - fault 0 0 0\n";
+    Ok(has_ended & log.has(calls < 4, lines))
+}
+
+/// Each write and flush of a line fails once, of those that are printed and of those of the log: the run ends with it.
 #[test]
 fn a_line_that_is_not_written(rt: HostRuntime) -> Result<(), Fail> {
     let listener = listening(&rt, false)?;
     for calls in 0..6 {
         assert!(rt; line_fails(rt.alloc(), &listener, calls)?);
+        assert!(rt; logged_line_fails(rt.alloc(), &listener, calls)?);
     }
     Ok(())
 }

@@ -1,4 +1,4 @@
-//! A reader and a writer of one byte a call, which fail.
+//! A reader and a writer of one byte a call, which fail. The writer notes a flush.
 
 use super::{Play, RECEIPT, answers, deposit, has_status, plays, serve, serve_counted};
 use reg_desk::Desk;
@@ -15,6 +15,17 @@ struct Slow<'a> {
     given: &'a [u8],
     taken: Vec<u8>,
     calls: usize,
+    flushed: bool,
+}
+
+/// Over so many calls of a reader of these bytes, or of a writer.
+fn slow_over<'a>(alloc: Global, given: &'a [u8], calls: usize) -> Slow<'a> {
+    Slow {
+        given,
+        taken: Vec::new(alloc),
+        calls,
+        flushed: false,
+    }
 }
 
 impl Slow<'_> {
@@ -43,7 +54,8 @@ impl Write for Slow<'_> {
     }
 
     fn flush(&mut self) -> io::Result<()> {
-        Ok(())
+        self.flushed = true;
+        Err(io::Error::from(ErrorKind::BrokenPipe))
     }
 }
 
@@ -82,11 +94,7 @@ fn reads(
     request: &[u8],
     calls: usize,
 ) -> bool {
-    let mut slow = Slow {
-        given: request,
-        taken: Vec::new(alloc),
-        calls,
-    };
+    let mut slow = slow_over(alloc, request, calls);
     let mut written = Vec::new(alloc);
     let (asked, served) = serve_counted(alloc, desk, callers, day, &mut slow, &mut written);
     asked <= (calls as u64).saturating_add(1)
@@ -140,7 +148,16 @@ fn is_front(taken: &[u8], calls: usize) -> bool {
     }
 }
 
-/// Whether a deposit over a writer that fails at the call after so many others has its first bytes written, and is held.
+/// Whether a deposit ends as it should over a writer that fails at the call after so many others, or takes the whole receipt.
+fn is_written(served: &Result<Served, IoFault>, calls: usize) -> bool {
+    if calls < RECEIPT.len() {
+        is_write_fault(served)
+    } else {
+        has_status(served, 200)
+    }
+}
+
+/// Whether a deposit over such a writer has its first bytes written, is held, and has the writer flush nothing.
 fn writes(
     alloc: Global,
     desk: &mut Desk<PlainKeep>,
@@ -149,13 +166,12 @@ fn writes(
     request: &[u8],
     calls: usize,
 ) -> bool {
-    let mut slow = Slow {
-        given: b"",
-        taken: Vec::new(alloc),
-        calls,
-    };
+    let mut slow = slow_over(alloc, b"", calls);
     let served = serve(alloc, desk, callers, day, request, &mut slow);
-    is_write_fault(&served) && is_front(&slow.taken, calls) && desk.keep().count() == 1
+    is_written(&served, calls)
+        && !slow.flushed
+        && is_front(&slow.taken, calls)
+        && desk.keep().count() == 1
 }
 
 /// Whether that is so, and the request sent again gives the receipt.
@@ -171,9 +187,9 @@ pub fn writes_twice(
         && answers(alloc, desk, callers, day, request, 200, RECEIPT)
 }
 
-/// The same at a desk that begins, of each count of calls before one for each byte of the receipt.
+/// The same at a desk that begins, of each count of calls up to one for each byte of the receipt.
 fn write_all(alloc: Global, request: &[u8]) -> bool {
-    for calls in 0..RECEIPT.len() {
+    for calls in 0..=RECEIPT.len() {
         if !plays(alloc, Play::Writes(request, calls)).unwrap_or(false) {
             return false;
         }
