@@ -11,7 +11,7 @@ ghost use Rattle.reg_tables.specs.Commits.{CommitsAll, UndoesIfOpen, UndoesUnles
 ghost use Rattle.reg_tables.specs.Inside.{ChangesInside, CommitsNothing, HasSchema, HasTransaction, state_in};
 ghost use Rattle.reg_tables.specs.Creates.{HasFirst, HasAll, IsNewRegister, SurvivesMaking};
 
-use crate::queries::{is_memory, is_open};
+use crate::queries::is_refused;
 use crate::running::run;
 use reg_store::KeepError;
 use sqlite::{Alter, Connection, Error, Transaction, params};
@@ -137,7 +137,7 @@ pub(crate) fn make_register<S: Alter>(
             Ok(())
         }
         Err(error) => {
-            if is_memory(&error) && is_open(conn) {
+            if is_refused(conn, &error) {
                 Err(KeepError::NoMemory)
             } else {
                 Err(KeepError::Store)
