@@ -1,13 +1,16 @@
 -- What a query of the register leaves of a connection.
-use Rattle.std.proofs.Common.{◌≡◌, refl, ℕ, List, [], Bool, true, false, Option, Some, None, Ok, Err, Result, IfOk, IfErr, OnOk, IsTrue, inl, inr, sym, subst, ◌∙◌, arith}
+use Rattle.std.proofs.Common.{◌≡◌, refl, ap, ℕ, List, [], Bool, true, false, Option, Some, None, Ok, Err, Result, IfOk, IfErr, OnOk, IsTrue, inl, inr, sym, subst, ◌∙◌, arith}
 use Rattle.sqlite.specs.Order.{Row}
 use Rattle.sqlite.specs.declared.error.Error.{Error}
+use Rattle.sqlite.specs.declared.error.Error.TheVariants.{SqlInputError}
+use Rattle.sqlite_trees.specs.declared.error.StoreError.{StoreError}
+use Rattle.sqlite_trees.specs.declared.error.StoreError.TheVariants as faults
 use Rattle.sqlite_schema.specs.declared.command.Returning.{Returning}
 use Rattle.sqlite.specs.Clock.{timed}
 use Rattle.sqlite.specs.Tree.{Trees}
 use Rattle.sqlite.specs.Effect.{Database}
 use Rattle.sqlite.specs.Listing.{understood, reads_listing, IsSourceOf}
-use Rattle.sqlite.specs.State.{State, Shown, ShowsRows, IsUnchanged, HasCleanDisk, Survives, CommitsShowing, FailsToQuery, IsNotRun, FailsToShow}
+use Rattle.sqlite.specs.State.{State, Shown, ShowsRows, IsUnchanged, HasCleanDisk, Survives, store_error, CommitsShowing, FailsToQuery, IsNotRun, FailsToShow}
 use Rattle.sqlite.proofs.StateLemmas.{survives_weaker, survives_then}
 use Rattle.sqlite.proofs.Callers.{IsPlain, never_commits, unchanged_then}
 use Rattle.reg_tables.specs.Tables.{register_schema}
@@ -112,6 +115,24 @@ pub probed : {X : Type 0} (P : X → Type 0) (sql : List ℕ) (old new : State) 
     → (IsTrue old.is_open → old.committed ≡ old.now) → IsTrue new.is_open → IsAsBefore old new
 probed P sql old new (Ok x) ok err settled is_open = (ok.1.0.was_open, ok.1.0.now_is, ok.1.0.committed_is)
 probed P sql old new (Err e) ok err settled is_open = not_run sql [] old new e settled is_open (err [])
+
+-- the error is that of a text that is no statement
+abbrev pub is_input : Error → Bool
+is_input (SqlInputError fault) = true
+is_input _ = false
+
+no_fault : (cause : StoreError) → is_input (store_error cause) ≡ false
+no_fault faults.OutOfMemory = refl
+no_fault faults.Io = refl
+no_fault faults.Corrupt = refl
+no_fault faults.Full = refl
+no_fault faults.Broken = refl
+no_fault faults.Unstorable = refl
+
+-- a text that is refused as no statement changes nothing
+pub refused_text : (sql : List ℕ) (old new : State) (e : Error) → ((params : Row) → IsNotRun old new sql params e) → is_input e ≡ true → IsUnchanged old new
+unfolding IsNotRun
+refused_text sql old new e refused is = elim (refused []) [ inl h ↦ h.1 | inr h ↦ absurd (let none : is_input e ≡ false = ap is_input h.1 ∙ no_fault h.0 in let no : true ≡ false = sym is ∙ none in cc) ]
 
 -- the connection is asked whether it is open, and it still is: it shows what it showed from the start
 pub still_then : {P : Trees → Type 0} (old mid new : State) → (HasCleanDisk mid → IsTrue mid.is_open → IsAsBefore old mid)

@@ -12,7 +12,7 @@ ghost use Rattle.reg_tables.specs.Quiet.{IsIdle, IsStill, StaysIfOpen};
 ghost use Rattle.reg_tables.specs.Found.{TakesEachShown, TakesShown};
 ghost use Rattle.reg_store.specs.Keep.{fails};
 
-use crate::queries::{is_memory, is_open};
+use crate::queries::is_refused;
 use reg_store::KeepError;
 use sqlite::types::ValueRef;
 use sqlite::{Alter, Connection, Error, Row};
@@ -84,7 +84,7 @@ pub(crate) fn take_shown<S: Alter, G: Gather>(
     match take_each(conn, sql, params, into) {
         Ok(taken) => taken,
         Err(error) => {
-            if is_memory(&error) && is_open(conn) {
+            if is_refused(conn, &error) {
                 Err(KeepError::NoMemory)
             } else {
                 Err(KeepError::Store)

@@ -22,8 +22,10 @@ pub(crate) fn is_memory(error: &Error) -> bool
     matches!(error, Error::SqliteFailure(ErrorCode::OutOfMemory))
 }
 
-/// Whether the connection is known to be open. An answer of want of memory alone does not say it.
-pub(crate) fn is_open<S: Alter>(conn: &mut Connection<S>) -> bool
+/// Whether the connection is known to be open. That a call was out of memory does not say it.
+///
+/// It is asked for a text that is no statement. A connection that is shut answers that first, and to refuse the text takes no memory.
+fn is_open<S: Alter>(conn: &mut Connection<S>) -> bool
     requires settled { HasCleanDisk (state S.Store conn.old) → IsSettled (state S.Store conn.old) }
     ensures known { HasCleanDisk (state S.Store conn.new) → IsTrue result
         → IsUnchanged (state S.Store conn.old) (state S.Store conn.new) }
@@ -31,7 +33,26 @@ pub(crate) fn is_open<S: Alter>(conn: &mut Connection<S>) -> bool
     ensures mode { conn.old.in_transaction ≡ false → conn.new.in_transaction ≡ false }
     ensures crash { Survives (state S.Store conn.old) (state S.Store conn.new) (λ _. ⊥) }
 {
-    conn.prepare("SELECT 1").is_ok()
+    match conn.prepare("COMMIT COMMIT") {
+        Err(Error::SqlInputError(_)) => true,
+        _ => false,
+    }
+}
+
+/// Whether memory was refused to a call, and the connection is known to be open. If not, the store failed.
+#[tactic(auto, using(crate::proofs::QueryLemmas::survives_none))]
+pub(crate) fn is_refused<S: Alter>(conn: &mut Connection<S>, error: &Error) -> bool
+    requires settled { HasCleanDisk (state S.Store conn.old) → IsSettled (state S.Store conn.old) }
+    ensures known { HasCleanDisk (state S.Store conn.new) → IsTrue result
+        → IsUnchanged (state S.Store conn.old) (state S.Store conn.new) }
+    ensures still { StaysIfOpen (state S.Store conn.old) (state S.Store conn.new) }
+    ensures mode { conn.old.in_transaction ≡ false → conn.new.in_transaction ≡ false }
+    ensures crash { Survives (state S.Store conn.old) (state S.Store conn.new) (λ _. ⊥) }
+{
+    if !is_memory(error) {
+        return false;
+    }
+    is_open(conn)
 }
 
 fn ask<S: Alter>(
@@ -68,7 +89,7 @@ pub(crate) fn query<S: Alter>(
     match ask(conn, sql, params) {
         Ok(rows) => Ok(rows),
         Err(error) => {
-            if is_memory(&error) && is_open(conn) {
+            if is_refused(conn, &error) {
                 Err(KeepError::NoMemory)
             } else {
                 Err(KeepError::Store)

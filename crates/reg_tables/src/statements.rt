@@ -11,7 +11,7 @@ ghost use Rattle.reg_tables.specs.Filed.{AddsFiled, AddsRow, SurvivesFiling};
 ghost use Rattle.reg_tables.specs.Inside.{ChangesInside, CommitsNothing, HasSchema, HasTransaction, state_in};
 
 use crate::lines::{insert_lines, insert_steps};
-use crate::queries::{is_memory, is_open};
+use crate::queries::is_refused;
 use crate::running::run;
 use reg_store::{KeepError, KeptRow};
 use sqlite::{Alter, Connection, Error, Transaction, params};
@@ -140,7 +140,7 @@ pub(crate) fn add_file<S: Alter>(
             Ok(())
         }
         Err(error) => {
-            if is_memory(&error) && is_open(conn) {
+            if is_refused(conn, &error) {
                 Err(KeepError::NoMemory)
             } else {
                 Err(KeepError::Store)
