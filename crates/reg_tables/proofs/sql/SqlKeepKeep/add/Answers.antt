@@ -10,7 +10,7 @@ use Rattle.reg_tables.specs.Rows.{deposit_from}
 use Rattle.reg_store.specs.Fit.{IsFileOf, kept_rows}
 use Rattle.reg_tables.specs.Register.{deposits_in}
 use Rattle.reg_tables.specs.RegisterLaws.{IsReady}
-use Rattle.reg_tables.specs.KeepLaws.{idle_at, settled_of, keeps_same, HoldsMore, adds_at, counted_at, crash_at, whole_put}
+use Rattle.reg_tables.specs.KeepLaws.{idle_at, schema_at, settled_of, keeps_same, HoldsMore, adds_at, counted_at, crash_at, whole_put}
 use Rattle.reg_tables.specs.Digests.{AddsNumber, digest_of, own_digest}
 use Rattle.reg_tables.proofs.AddsLemmas.{opened_at}
 use Rattle.reg_tables.proofs.FrontsLemmas.{fronts_push, fronts_same}
@@ -22,7 +22,7 @@ use Rattle.reg_tables.proofs.sql.SqlKeepKeep.add.Goals as goal
 pub add_checked-added-requires : goal.add_checked-added-requires
 add_checked-added-requires g c =
     let keep = c.args.self.now in
-    record { idle = idle_at (state g.S.Store keep.connection) keep.idle (keep.kept c.requires.working); is_open = λ clean. opened_at (keep.kept c.requires.working clean) }
+    record { idle = idle_at (state g.S.Store keep.connection) keep.idle (keep.kept c.requires.working); schema = λ clean. schema_at (keep.kept c.requires.working clean); is_open = λ clean. opened_at (keep.kept c.requires.working clean) }
 
 -- ---- where the file was added
 
