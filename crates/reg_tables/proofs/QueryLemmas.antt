@@ -13,11 +13,12 @@ use Rattle.sqlite.specs.Listing.{understood, reads_listing, IsSourceOf}
 use Rattle.sqlite.specs.State.{State, Shown, ShowsRows, IsUnchanged, HasCleanDisk, Survives, store_error, CommitsShowing, FailsToQuery, IsNotRun, FailsToShow}
 use Rattle.sqlite.proofs.StateLemmas.{survives_weaker, survives_then}
 use Rattle.sqlite.proofs.Callers.{IsPlain, never_commits, unchanged_then}
-use Rattle.reg_tables.specs.Tables.{register_schema}
+use Rattle.reg_tables.specs.Tables.{HasTables}
+use Rattle.reg_tables.specs.Meaning.{IsPlainText}
 use Rattle.reg_tables.specs.Quiet.{IsAsBefore, IsStill, clean_before}
 
-pub plain_at : (sql : List ℕ) (s : State) → IsPlain (understood register_schema sql) → s.now.schema ≡ register_schema → IsPlain (understood s.now.schema sql)
-plain_at sql s plain has = subst (λ k. IsPlain (understood k sql)) (sym has) plain
+pub plain_at : (sql : List ℕ) (s : State) → IsPlainText sql → HasTables s.now.schema → IsPlain (understood s.now.schema sql)
+plain_at sql s plain has = plain s.now.schema has
 
 -- what is not run leaves what was committed, where that was all
 not_run : (sql : List ℕ) (params : Row) (old new : State) (e : Error) → (IsTrue old.is_open → old.committed ≡ old.now) → IsTrue new.is_open → IsNotRun old new sql params e → IsAsBefore old new
@@ -56,12 +57,12 @@ shown_from sql params old mid new rows plain same h =
       subst (ShowsRows old new sql h.0 full rows) (sym none) (it.0, source, it.2, unchanged_then old mid new same it.3),
     )
 
-module _ (sql : List ℕ) (plain : IsPlain (understood register_schema sql)) where
-  pub asks_quietly : (old new : State) (params : Row) → (HasCleanDisk old → old.now.schema ≡ register_schema) → Survives old new (CommitsShowing sql params old) → Survives old new (λ _. ⊥)
+module _ (sql : List ℕ) (plain : IsPlainText sql) where
+  pub asks_quietly : (old new : State) (params : Row) → (HasCleanDisk old → HasTables old.now.schema) → Survives old new (CommitsShowing sql params old) → Survives old new (λ _. ⊥)
   asks_quietly old new params has s =
       survives_weaker old new _ _ (λ clean db. never_commits sql params old db (plain_at sql old plain (has (omega (arith, s.clean))))) s
 
-  module _ {X : Type 0} (items : X → List Row) (old new : State) (r : Result X Error) (has : old.now.schema ≡ register_schema) (params : Row) where
+  module _ {X : Type 0} (items : X → List Row) (old new : State) (r : Result X Error) (has : HasTables old.now.schema) (params : Row) where
     pub opened_by : IfOk r (λ x. Shown sql params old new (items x)) → OnOk r (IsTrue new.is_open)
     opened_by h = go r h
       where
