@@ -69,7 +69,7 @@ pub(crate) fn add_checked<S: Alter>(
         body: checked.bytes(),
     };
     match few_rows(alloc, checked.scan().groups()) {
-        Ok(rows) => add_file(alloc, conn, filed, &rows, checked.graph().steps()),
+        Ok(rows) => add_file(conn, filed, &rows, checked.graph().steps()),
         Err(_) => Err(KeepError::NoMemory),
     }
 }
