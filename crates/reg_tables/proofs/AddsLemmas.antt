@@ -4,14 +4,18 @@ use Rattle.std.proofs.Math.Logic.{∥∥₁_elim}
 use Rattle.std.proofs.Math.Seq.{take-add, take-suc}
 use Rattle.std.proofs.Props.{props}
 use Rattle.std.proofs.lemmas.Bool.{eq-eqb}
-use Rattle.std.proofs.lemmas.List.{map-append, length-take-le, take_all}
-use Rattle.std.specs.List.{AllByRecursion}
+use Rattle.std.proofs.lemmas.List.{map-append, length-take-le, take_all, take_more_set}
+use Rattle.std.specs.List.{AllByRecursion, flat_map}
 use Rattle.std.specs.List.Sorted.{IsPermutation}
 use Rattle.std.proofs.lemmas.List.Sorted.{IsPermutation-refl, IsPermutation-trans, IsPermutation-append_left}
 use Rattle.sqlite.specs.Order.{Row}
 use Rattle.sqlite.specs.Table.{Table}
 use Rattle.sqlite.specs.Tree.{Trees}
 use Rattle.sqlite.specs.Effect.{IsDatabase}
+use Rattle.std.proofs.Math.ListN.{set}
+use Rattle.std.proofs.lemmas.Grind.{flat_map-append}
+use Rattle.sqlite.specs.Values.{bound}
+use Rattle.sqlite_value.specs.declared.value.ValueRef.{ValueRef}
 use Rattle.sqlite.specs.declared.error.Error.{Error}
 use Rattle.sqlite.specs.State.{State, KeepsCommit, IsUnchanged, IsRolledBack, ExecutesInside}
 use Rattle.ags_dict.specs.Entries.{Entries}
@@ -174,6 +178,13 @@ open_before old mid new kept back o = kept.was_open (back.was_open o)
 pub joined-append : (rows more : List Row) → joined (rows ++ more) ≡ joined rows ++ joined more
 joined-append [] more = refl
 joined-append (row ∷ rows) more = ap (λ all. row ++ all) (joined-append rows more) ∙ sym (append_assoc row (joined rows) (joined more))
+
+-- the values of the next place, in the place of those there
+pub values_flat : (values : List (List ValueRef)) (i : ℕ) (next : List ValueRef) (row : Row) → i < length values → bound next ≡ row
+    → bound (flat_map (λ v. v) (take (i + 1) (set values i next))) ≡ bound (flat_map (λ v. v) (take i values)) ++ row
+values_flat values i next row low is =
+    ap (λ (all : List (List ValueRef)). bound (flat_map (λ v. v) all)) (take_more_set values i next low) ∙ ap bound (flat_map-append (λ (v : List ValueRef). v) (take i values) (next ∷ []))
+    ∙ map-append _ (flat_map (λ v. v) (take i values)) (next ++ []) ∙ ap (λ last. bound (flat_map (λ v. v) (take i values)) ++ bound last) (append-nil next) ∙ ap (λ last. bound (flat_map (λ v. v) (take i values)) ++ last) is
 
 -- the values of one row more
 pub values_more : (n from at : ℕ) (rows : List KeptRow) (row : KeptRow) (old new : Row) → at < length rows → get_or rows at row ≡ row → old ≡ joined (line_rows n from (take at rows)) → new ≡ old ++ line_row n (from + at) row

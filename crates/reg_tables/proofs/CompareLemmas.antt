@@ -10,7 +10,7 @@ use Rattle.sqlite.specs.Tree.{IsAscending}
 use Rattle.std.specs.Prelude.{pos}
 use Rattle.ags_links.specs.Steps.{IsBefore}
 use Rattle.reg_store.specs.declared.keep.KeptRow.{KeptRow}
-use Rattle.reg_tables.specs.Tables.{register_schema}
+use Rattle.reg_tables.specs.Tables.{HasTables}
 use Rattle.reg_tables.specs.Texts.{select_lines, select_steps}
 use Rattle.reg_tables.specs.Rows.{placed_rows, step_pair}
 use Rattle.reg_tables.specs.Methods.{HoldsLines, HoldsSteps}
@@ -68,13 +68,13 @@ told mine rows at n true long it =
       λ same. eq-eqb at n (sym (length-take-le at mine first.0) ∙ sym (ap length first.1) ∙ ap length same ∙ sym long),
     )
 
-pub lines_told : (old new : State) (n : ℕ) (lines : List KeptRow) (at : ℕ) (is result : Bool) → old.now.schema ≡ register_schema
+pub lines_told : (old new : State) (n : ℕ) (lines : List KeptRow) (at : ℕ) (is result : Bool) → HasTables old.now.schema
     → (rows : List Row) × Shown select_lines (Int (pos n) ∷ []) old new rows × Compares (placed_rows 0 lines) at is rows → result ≡ (is && (at == length lines)) → Tests result (HoldsLines old.now n lines)
 lines_told old new n lines at is result has shown same =
     let test = told (placed_rows 0 lines) shown.0 at (length lines) is (sym (places_long 0 lines)) shown.2 in
     subst (λ b. Tests b (HoldsLines old.now n lines)) (sym same) (tests_rows _ shown.0 (placed_rows 0 lines) _ test (holds_lines old new n shown.0 has shown.1) (λ are. reads_lines old new n lines shown.0 has are shown.1))
 
-pub steps_told : (old new : State) (n : ℕ) (steps : List (ℕ × ℕ)) (at : ℕ) (is result : Bool) → old.now.schema ≡ register_schema → IsAscending IsBefore steps
+pub steps_told : (old new : State) (n : ℕ) (steps : List (ℕ × ℕ)) (at : ℕ) (is result : Bool) → HasTables old.now.schema → IsAscending IsBefore steps
     → (rows : List Row) × Shown select_steps (Int (pos n) ∷ []) old new rows × Compares (map step_pair steps) at is rows → result ≡ (is && (at == length steps)) → Tests result (HoldsSteps old.now n steps)
 steps_told old new n steps at is result has up shown same =
     let test = told (map step_pair steps) shown.0 at (length steps) is (sym (length-map steps step_pair)) shown.2 in

@@ -28,7 +28,7 @@ use Rattle.reg_store.specs.declared.keep.KeptRow.{KeptRow}
 use Rattle.reg_store.specs.Sent.{Sent, is_repeat}
 use Rattle.reg_store.specs.Fit.{IsFileOf, IsNamed, kept_rows}
 use Rattle.reg_tables.specs.Rows.{columns_3, deposit_table, given_deposit}
-use Rattle.reg_tables.specs.Tables.{register_schema}
+use Rattle.reg_tables.specs.Tables.{HasTables, register_schema}
 use Rattle.reg_tables.specs.Register.{deposit_rows, has_number, meta_columns, integer_in, IsRegister}
 use Rattle.reg_tables.specs.RegisterLaws.{rows-length}
 use Rattle.reg_tables.specs.Digests.{AreBelow, HasEqual, HasNoEqual, HoldsDigests, IsFirst, IsNew, is_among, numbers_under, own_digest}
@@ -42,7 +42,7 @@ use Rattle.reg_tables.specs.Adoption.{Adopts, CountsDeposits, MetaOf, ReadsMeta}
 use Rattle.reg_tables.proofs.RowsLemmas.{numbers_long}
 use Rattle.reg_tables.specs.Adopts.{id_of, number_rows}
 use Rattle.reg_tables.specs.Whole.{AreWhole, Counts, HasMeta, HoldsBody, IsWhole, Tests, adopts_whole, of_all, whole_at}
-use Rattle.reg_tables.proofs.FormatLemmas.{register_first}
+use Rattle.reg_tables.proofs.FormatLemmas.{tables_first}
 
 -- the rows that are shown are the table's, and are these where the table holds these
 pub tests_rows : (is : Bool) (rows mine table : List Row) → (IsTrue is → rows ≡ mine) × (rows ≡ mine → IsTrue is) → IsPermutation rows table → (IsPermutation mine table → rows ≡ mine) → Tests is (IsPermutation mine table)
@@ -215,10 +215,10 @@ meta_reads (Err Store) rows text same formats read refused (inl e) = absurd cc
 meta_reads (Err Store) rows text same formats read refused (inr e) = absurd cc
 meta_reads (Err NoMemory) rows text same formats read refused named = tt
 
-pub meta_of : (r : Result Entries AdoptError) (db : Database) (rows : List Row) → db.schema ≡ register_schema → IsPermutation rows (map columns_3 (db.trees 0)) → ((text : List ℕ) → IsPermutation (meta_columns text) (map columns_3 (db.trees 0)) → rows ≡ meta_columns text)
+pub meta_of : (r : Result Entries AdoptError) (db : Database) (rows : List Row) → HasTables db.schema → IsPermutation rows (map columns_3 (db.trees 0)) → ((text : List ℕ) → IsPermutation (meta_columns text) (map columns_3 (db.trees 0)) → rows ≡ meta_columns text)
     → ReadsMeta rows r → MetaOf db r
 meta_of (Ok dictionary) db rows schema all found reads = record { text = reads.0; short = reads.2; reads = reads.3; meta = subst (λ rs. IsPermutation rs (map columns_3 (db.trees 0))) reads.1 all }
-meta_of (Err (Version n)) db rows schema all found reads = (reads.0, (register_first db.schema schema, (reads.1.0, Contains-permutation _ _ _ all reads.1.1, reads.1.2)))
+meta_of (Err (Version n)) db rows schema all found reads = (reads.0, (tables_first db.schema schema, (reads.1.0, Contains-permutation _ _ _ all reads.1.1, reads.1.2)))
 meta_of (Err NotRegister) db rows schema all found reads =
     (λ n has. reads.0 n (has.1.0, Contains-permutation _ _ _ (IsPermutation-sym _ _ all) has.1.1, has.1.2), λ dictionary meta. reads.1 dictionary (meta.text, found meta.text meta.meta, meta.short, meta.reads))
 meta_of (Err Store) db rows schema all found reads = tt

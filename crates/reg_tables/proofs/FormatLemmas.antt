@@ -15,7 +15,7 @@ use Rattle.sqlite_tied.specs.Compute.{everything}
 use Rattle.sqlite.specs.Listing.{understood, reads_listing}
 use Rattle.sqlite.proofs.StateLemmas.{survives_weaker}
 use Rattle.sqlite.proofs.Callers.{IsPlain, command_of, never_commits, reads_as}
-use Rattle.reg_tables.specs.Tables.{register_schema}
+use Rattle.reg_tables.specs.Tables.{HasTables, register_schema, register_tables}
 use Rattle.reg_tables.specs.Tables as tables
 use Rattle.reg_tables.specs.Texts.{select_meta}
 use Rattle.reg_tables.specs.Meaning.{all_meta, plainly}
@@ -40,8 +40,8 @@ meta_first schema h = go schema.tables refl h
 pub not_meta : (schema : Schema) → starts_with_meta schema.tables ≡ false → StartsWithMeta schema → ⊥
 not_meta schema h first = absurd (let clash : true ≡ false = sym (ap starts_with_meta first.1) ∙ h in cc)
 
-pub register_first : (schema : Schema) → schema ≡ register_schema → StartsWithMeta schema
-register_first schema is = (tables.deposits ∷ tables.lines ∷ tables.steps ∷ [], ap (λ (s : Schema). s.tables) is)
+pub tables_first : (schema : Schema) → HasTables schema → StartsWithMeta schema
+tables_first schema has = (tables.deposits ∷ tables.lines ∷ tables.steps ∷ has.0, has.1)
 
 -- outside a transaction
 pub autocommit_idle : (is mode : Bool) → is ≡ not mode → is ≡ true → mode ≡ false
@@ -97,7 +97,7 @@ module _ (old new : State) (first : StartsWithMeta old.now.schema) where
 -- ---- the refusals
 
 pub refused_unstarted : (db : Database) → starts_with_meta db.schema.tables ≡ false → Adopts db (Err NotRegister)
-refused_unstarted db h = (λ n has. absurd (not_meta db.schema h has.0), λ dictionary list r. absurd (not_meta db.schema h (register_first db.schema r.schema)))
+refused_unstarted db h = (λ n has. absurd (not_meta db.schema h has.0), λ dictionary list r. absurd (not_meta db.schema h (tables_first db.schema (register_tables db.schema r.schema))))
 
 pub refused_format : (db : Database) (rows : List Row) (n : ℤ) → StartsWithMeta db.schema → IsPermutation rows (map columns_3 (db.trees 0)) → (n ≢ pos 1) × ((row : Row) × Contains rows row × IsFormatRow n row) → Adopts db (Err (Version n))
 refused_format db rows n first all found = (found.0, (first, (found.1.0, Contains-permutation _ _ _ all found.1.1, found.1.2)))

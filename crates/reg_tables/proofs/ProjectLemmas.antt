@@ -17,7 +17,7 @@ use Rattle.ags_links.specs.Walks.{StepGraph}
 use Rattle.reg_store.specs.declared.keep.KeptRow.{KeptRow}
 use Rattle.reg_store.specs.declared.keep.ProjectRow.{ProjectRow}
 use Rattle.reg_store.specs.declared.keep.KeepError.{KeepError}
-use Rattle.reg_tables.specs.Tables.{register_schema}
+use Rattle.reg_tables.specs.Tables.{HasTables}
 use Rattle.reg_tables.specs.Texts.{select_front, select_targets}
 use Rattle.reg_store.specs.Sent.{Sent}
 use Rattle.reg_store.specs.Fit.{IsFileOf, kept_rows}
@@ -30,11 +30,11 @@ use Rattle.reg_tables.specs.Methods.{held_file, same_file, graph_ascends}
 
 -- ---- what is shown
 
-pub front_lines : (old new : State) (n : ℕ) (lines : List KeptRow) → old.now.schema ≡ register_schema → (rows : List Row) × Shown select_front (Int (pos n) ∷ []) old new rows × (rows ≡ placed_rows 0 lines)
+pub front_lines : (old new : State) (n : ℕ) (lines : List KeptRow) → HasTables old.now.schema → (rows : List Row) × Shown select_front (Int (pos n) ∷ []) old new rows × (rows ≡ placed_rows 0 lines)
     → (file : List KeptRow) → IsPermutation (placed_rows 0 file) (rows_under n (line_table old.now.trees)) → lines ≡ take 5 file
 front_lines old new n lines has shown file are = same_places lines (take 5 file) (sym shown.2 ∙ reads_front old new n file shown.0 has are shown.1)
 
-pub targets_shown : (old new : State) (n row : ℕ) (targets : List ℕ) → old.now.schema ≡ register_schema → (rows : List Row) × Shown select_targets (Int (pos n) ∷ Int (pos row) ∷ []) old new rows × (rows ≡ map target_cell targets)
+pub targets_shown : (old new : State) (n row : ℕ) (targets : List ℕ) → HasTables old.now.schema → (rows : List Row) × Shown select_targets (Int (pos n) ∷ Int (pos row) ∷ []) old new rows × (rows ≡ map target_cell targets)
     → (steps : List (ℕ × ℕ)) → IsAscending IsBefore steps → IsPermutation (map step_pair steps) (rows_under n (step_table old.now.trees)) → targets ≡ targets_of row steps
 targets_shown old new n row targets has shown steps up are = same_targets targets (targets_of row steps) (sym shown.2 ∙ reads_targets old new n row steps shown.0 has up are shown.1)
 

@@ -1,20 +1,24 @@
 -- What a query of the register leaves of a connection.
-use Rattle.std.proofs.Common.{◌≡◌, refl, ℕ, List, [], Bool, true, false, Option, Some, None, Ok, Err, Result, IfOk, IfErr, OnOk, IsTrue, inl, inr, sym, subst, ◌∙◌, arith}
+use Rattle.std.proofs.Common.{◌≡◌, refl, ap, ℕ, List, [], Bool, true, false, Option, Some, None, Ok, Err, Result, IfOk, IfErr, OnOk, IsTrue, inl, inr, sym, subst, ◌∙◌, arith}
 use Rattle.sqlite.specs.Order.{Row}
 use Rattle.sqlite.specs.declared.error.Error.{Error}
+use Rattle.sqlite.specs.declared.error.Error.TheVariants.{SqlInputError}
+use Rattle.sqlite_trees.specs.declared.error.StoreError.{StoreError}
+use Rattle.sqlite_trees.specs.declared.error.StoreError.TheVariants as faults
 use Rattle.sqlite_schema.specs.declared.command.Returning.{Returning}
 use Rattle.sqlite.specs.Clock.{timed}
 use Rattle.sqlite.specs.Tree.{Trees}
 use Rattle.sqlite.specs.Effect.{Database}
 use Rattle.sqlite.specs.Listing.{understood, reads_listing, IsSourceOf}
-use Rattle.sqlite.specs.State.{State, Shown, ShowsRows, IsUnchanged, HasCleanDisk, Survives, CommitsShowing, FailsToQuery, IsNotRun, FailsToShow}
+use Rattle.sqlite.specs.State.{State, Shown, ShowsRows, IsUnchanged, HasCleanDisk, Survives, store_error, CommitsShowing, FailsToQuery, IsNotRun, FailsToShow}
 use Rattle.sqlite.proofs.StateLemmas.{survives_weaker, survives_then}
 use Rattle.sqlite.proofs.Callers.{IsPlain, never_commits, unchanged_then}
-use Rattle.reg_tables.specs.Tables.{register_schema}
+use Rattle.reg_tables.specs.Tables.{HasTables}
+use Rattle.reg_tables.specs.Meaning.{IsPlainText}
 use Rattle.reg_tables.specs.Quiet.{IsAsBefore, IsStill, clean_before}
 
-pub plain_at : (sql : List ℕ) (s : State) → IsPlain (understood register_schema sql) → s.now.schema ≡ register_schema → IsPlain (understood s.now.schema sql)
-plain_at sql s plain has = subst (λ k. IsPlain (understood k sql)) (sym has) plain
+pub plain_at : (sql : List ℕ) (s : State) → IsPlainText sql → HasTables s.now.schema → IsPlain (understood s.now.schema sql)
+plain_at sql s plain has = plain s.now.schema has
 
 -- what is not run leaves what was committed, where that was all
 not_run : (sql : List ℕ) (params : Row) (old new : State) (e : Error) → (IsTrue old.is_open → old.committed ≡ old.now) → IsTrue new.is_open → IsNotRun old new sql params e → IsAsBefore old new
@@ -53,12 +57,12 @@ shown_from sql params old mid new rows plain same h =
       subst (ShowsRows old new sql h.0 full rows) (sym none) (it.0, source, it.2, unchanged_then old mid new same it.3),
     )
 
-module _ (sql : List ℕ) (plain : IsPlain (understood register_schema sql)) where
-  pub asks_quietly : (old new : State) (params : Row) → (HasCleanDisk old → old.now.schema ≡ register_schema) → Survives old new (CommitsShowing sql params old) → Survives old new (λ _. ⊥)
+module _ (sql : List ℕ) (plain : IsPlainText sql) where
+  pub asks_quietly : (old new : State) (params : Row) → (HasCleanDisk old → HasTables old.now.schema) → Survives old new (CommitsShowing sql params old) → Survives old new (λ _. ⊥)
   asks_quietly old new params has s =
       survives_weaker old new _ _ (λ clean db. never_commits sql params old db (plain_at sql old plain (has (omega (arith, s.clean))))) s
 
-  module _ {X : Type 0} (items : X → List Row) (old new : State) (r : Result X Error) (has : old.now.schema ≡ register_schema) (params : Row) where
+  module _ {X : Type 0} (items : X → List Row) (old new : State) (r : Result X Error) (has : HasTables old.now.schema) (params : Row) where
     pub opened_by : IfOk r (λ x. Shown sql params old new (items x)) → OnOk r (IsTrue new.is_open)
     opened_by h = go r h
       where
@@ -112,6 +116,24 @@ pub probed : {X : Type 0} (P : X → Type 0) (sql : List ℕ) (old new : State) 
     → (IsTrue old.is_open → old.committed ≡ old.now) → IsTrue new.is_open → IsAsBefore old new
 probed P sql old new (Ok x) ok err settled is_open = (ok.1.0.was_open, ok.1.0.now_is, ok.1.0.committed_is)
 probed P sql old new (Err e) ok err settled is_open = not_run sql [] old new e settled is_open (err [])
+
+-- the error is that of a text that is no statement
+abbrev pub is_input : Error → Bool
+is_input (SqlInputError fault) = true
+is_input _ = false
+
+no_fault : (cause : StoreError) → is_input (store_error cause) ≡ false
+no_fault faults.OutOfMemory = refl
+no_fault faults.Io = refl
+no_fault faults.Corrupt = refl
+no_fault faults.Full = refl
+no_fault faults.Broken = refl
+no_fault faults.Unstorable = refl
+
+-- a text that is refused as no statement changes nothing
+pub refused_text : (sql : List ℕ) (old new : State) (e : Error) → ((params : Row) → IsNotRun old new sql params e) → is_input e ≡ true → IsUnchanged old new
+unfolding IsNotRun
+refused_text sql old new e refused is = elim (refused []) [ inl h ↦ h.1 | inr h ↦ absurd (let none : is_input e ≡ false = ap is_input h.1 ∙ no_fault h.0 in let no : true ≡ false = sym is ∙ none in cc) ]
 
 -- the connection is asked whether it is open, and it still is: it shows what it showed from the start
 pub still_then : {P : Trees → Type 0} (old mid new : State) → (HasCleanDisk mid → IsTrue mid.is_open → IsAsBefore old mid)

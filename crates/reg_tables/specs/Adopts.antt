@@ -11,7 +11,7 @@ use Rattle.sqlite.specs.State.{State, Shown}
 use Rattle.sqlite_value.proofs.OrderLemmas.{value_cmp_total}
 use Rattle.sqlite_keyed.proofs.ListLemmas.{filter-map, filter-filter, IsPermutation-filter}
 use Rattle.reg_store.specs.Sent.{Sent}
-use Rattle.reg_tables.specs.Tables.{register_schema}
+use Rattle.reg_tables.specs.Tables.{HasTables, register_schema}
 use Rattle.reg_tables.specs.Texts.{select_all_numbers, select_deposit, select_meta}
 use Rattle.reg_tables.specs.Meaning.{all_numbers, all_numbers_read, by_number, deposit_read, all_meta, all_meta_read}
 use Rattle.reg_tables.specs.Rows.{columns_5, deposit_table, given_deposit, columns_3, line_table, step_table, rows_under, placed_rows, step_pair}
@@ -50,7 +50,7 @@ id_of r = column r 0 ∷ []
 abbrev pub by_id : Row → Output
 by_id c = (column c 0 ∷ [], column c 0 ∷ [])
 
-pub shows_numbers : (old new : State) (rows : List Row) → old.now.schema ≡ register_schema → Shown select_all_numbers [] old new rows → IsPermutation rows (map id_of (deposit_table old.now.trees))
+pub shows_numbers : (old new : State) (rows : List Row) → HasTables old.now.schema → Shown select_all_numbers [] old new rows → IsPermutation rows (map id_of (deposit_table old.now.trees))
 shows_numbers old new rows has h =
     let a = answers select_all_numbers 2 [] all_numbers.project all_numbers.order _ all_numbers_read old new [] rows refl has h in
     let seen = IsPermutation-map (λ (o : Output). o.1) _ _ a.same in
@@ -63,7 +63,7 @@ shows_numbers old new rows has h =
     twice [] = refl
     twice (r ∷ rows) = ap (λ all. id_of (columns_5 r) ∷ all) (twice rows)
 
-pub shows_meta : (old new : State) (rows : List Row) → old.now.schema ≡ register_schema → Shown select_meta [] old new rows → IsPermutation rows (map columns_3 (old.now.trees 0))
+pub shows_meta : (old new : State) (rows : List Row) → HasTables old.now.schema → Shown select_meta [] old new rows → IsPermutation rows (map columns_3 (old.now.trees 0))
 shows_meta old new rows has h =
     let a = answers select_meta 0 [] all_meta.project all_meta.order _ all_meta_read old new [] rows refl has h in
     let seen = IsPermutation-map (λ (o : Output). o.1) _ _ a.same in
@@ -91,7 +91,7 @@ numbered n (r ∷ rows) = rw (test_number_is n r) (go (has_number n (columns_5 r
     go false h = h
 
 -- the rows that are shown of a number are the table's
-pub shows_deposit : (old new : State) (n : ℕ) (rows : List Row) → old.now.schema ≡ register_schema → Shown select_deposit (Int (pos n) ∷ []) old new rows → IsPermutation rows (filter (has_number n) (deposit_table old.now.trees))
+pub shows_deposit : (old new : State) (n : ℕ) (rows : List Row) → HasTables old.now.schema → Shown select_deposit (Int (pos n) ∷ []) old new rows → IsPermutation rows (filter (has_number n) (deposit_table old.now.trees))
 shows_deposit old new n rows has h =
     let a = answers select_deposit 2 by_number.filter by_number.project by_number.order _ deposit_read old new (Int (pos n) ∷ []) rows refl has h in
     let seen = IsPermutation-map (λ (o : Output). o.1) _ _ a.same in

@@ -12,7 +12,7 @@ use Rattle.sqlite.specs.Tree.{Trees}
 use Rattle.sqlite.specs.Effect.{Database, Answers as Asked}
 use Rattle.sqlite.specs.State.{State, Shown}
 use Rattle.sqlite.proofs.Callers.{reads_as}
-use Rattle.reg_tables.specs.Tables.{register_schema}
+use Rattle.reg_tables.specs.Tables.{HasTables}
 use Rattle.reg_tables.specs.Meaning.{query, Asks}
 
 -- a row passes the query's test
@@ -59,6 +59,6 @@ answered tree test project order db params rows plain got =
     }
 
 pub answers : (text : List ℕ) (tree : ℕ) (test project : List Term) (order : List (Term × Key)) (names : List (List ℕ)) → Asks text (query (inner tree end) test project order) names
-    → (old new : State) (params : Row) (rows : List Row) → overlay old.now.trees [] tree ≡ old.now.trees tree → old.now.schema ≡ register_schema → Shown text params old new rows → Selects tree test project order params old.now.trees rows
+    → (old new : State) (params : Row) (rows : List Row) → overlay old.now.trees [] tree ≡ old.now.trees tree → HasTables old.now.schema → Shown text params old new rows → Selects tree test project order params old.now.trees rows
 answers text tree test project order names asks old new params rows plain has h =
-    answered tree test project order old.now params rows plain (reads_as text params old new register_schema has _ asks.0 asks.1 asks.2 rows h)
+    answered tree test project order old.now params rows plain (reads_as text params old new old.now.schema refl _ (asks.0 old.now.schema has) (asks.1 old.now.schema has) (asks.2 old.now.schema has) rows h)

@@ -17,7 +17,7 @@ use Rattle.ags_dict.specs.Entries.{Entries}
 use Rattle.ags_check.specs.Findings.{CheckedFile}
 use Rattle.reg_store.specs.declared.keep.KeptRow.{KeptRow}
 use Rattle.reg_store.specs.Sent.{Sent}
-use Rattle.reg_tables.specs.Tables.{register_schema}
+use Rattle.reg_tables.specs.Tables.{register_schema, register_tables}
 use Rattle.reg_tables.specs.Rows.{given_deposit, deposit_table, IsMore}
 use Rattle.reg_tables.specs.Inserts.{AddsFile}
 use Rattle.reg_store.specs.Fit.{IsFit, IsFileOf, kept_rows}
@@ -178,7 +178,7 @@ whole_put {old} {new} {dictionary} {count} d file h low survives ready clean lef
 -- ---- what a query needs and leaves
 
 pub idle_at : (s : State) {dictionary : Entries} {count : ℕ} → s.in_transaction ≡ false → (HasCleanDisk s → ∥ KeepsRegister s dictionary count ∥₁) → IsIdle s
-idle_at s idle kept = record { idle = idle; schema = λ clean. schema_at (kept clean); settled = λ clean _. settled_of (kept clean) }
+idle_at s idle kept = record { idle = idle; schema = λ clean. register_tables s.now.schema (schema_at (kept clean)); settled = λ clean _. settled_of (kept clean) }
 
 still_open : {s : State} {dictionary : Entries} {count : ℕ} {now : Bool} → ∥ KeepsRegister s dictionary count ∥₁ → now ≡ s.is_open → IsTrue now
 still_open {s} {dictionary} {count} kept same = subst IsTrue (sym same) (∥∥₁_elim kept (Prim.hlevel props) (λ (k : KeepsRegister s dictionary count). k.is_open))

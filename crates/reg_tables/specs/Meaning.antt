@@ -1,5 +1,9 @@
 -- What the texts mean.
 use Rattle.std.specs.Prelude.{false, [], ◌∷◌, None, Ok, codes, List, ℕ, pos, negsuc, ◌≡◌, refl}
+use Rattle.std.proofs.Common.{sym, subst}
+use Rattle.sqlite.specs.Table.{Table}
+use Rattle.sqlite_schema.specs.declared.schema.Index.{Index}
+use Rattle.sqlite_schema.specs.declared.schema.View.{View}
 use Rattle.sqlite.specs.Compile.{table_defined_by}
 use Rattle.sqlite.specs.Change.{created}
 use Rattle.sqlite.specs.Schema.{Schema}
@@ -16,7 +20,7 @@ use Rattle.sqlite.specs.Command.TheVariants.{Insert, Select, CreateTable}
 use Rattle.sqlite_tied.specs.Compute.{everything}
 use Rattle.sqlite.specs.Listing.{understood, reads_listing}
 use Rattle.sqlite.proofs.Callers.{IsPlain, command_of, statement_of}
-use Rattle.reg_tables.specs.Tables.{meta, deposits, lines, steps, no_schema, register_schema}
+use Rattle.reg_tables.specs.Tables.{HasTables, meta, deposits, lines, steps, no_schema, register_schema}
 use Rattle.reg_tables.specs.Texts.{create_meta, create_deposits, create_lines, create_steps, fill_meta, insert_deposit, insert_line, insert_step, insert_eight_lines, insert_eight_steps, select_deposit, select_lines, select_steps, select_front, select_targets, select_all_numbers, select_meta}
 
 -- ---- the tables
@@ -172,55 +176,75 @@ plainly q names = Select (record { lets = []; body = q }) names
 abbrev pub rising : Term → Term × Key
 rising t = (t, record { collation = Binary; descending = false })
 
--- the query reads the tables of the register, and nothing else
+-- under this schema, the text asks this query of the tables
+abbrev pub AsksIn : Schema → List ℕ → Query → List (List ℕ) → Type 0
+AsksIn schema text q names = (command_of (understood schema text) ≡ plainly q names) × IsPlain (understood schema text) × (reads_listing schema text ≡ false)
+
+-- under each schema that begins with the tables of a register, the text changes nothing
+abbrev pub IsPlainText : List ℕ → Type 0
+IsPlainText text = (schema : Schema) → HasTables schema → IsPlain (understood schema text)
+
+-- Under each schema that begins with the tables of a register, the text asks this query, and reads nothing else.
 abbrev pub Asks : List ℕ → Query → List (List ℕ) → Type 0
-Asks text q names = (command_of (understood register_schema text) ≡ plainly q names) × IsPlain (understood register_schema text) × (reads_listing register_schema text ≡ false)
+Asks text q names = ((schema : Schema) → HasTables schema → command_of (understood schema text) ≡ plainly q names) × IsPlainText text × ((schema : Schema) → HasTables schema → reads_listing schema text ≡ false)
+
+-- the tables of a register, and more
+abbrev with_more : List Table → List Index → List View → Schema
+with_more more indexes views = record { tables = meta ∷ deposits ∷ lines ∷ steps ∷ more; indexes = indexes; views = views }
+
+asks : (text : List ℕ) (q : Query) (names : List (List ℕ)) → ((more : List Table) (indexes : List Index) (views : List View) → AsksIn (with_more more indexes views) text q names) → Asks text q names
+asks text q names each = (λ schema has. (at schema has).0, λ schema has. (at schema has).1, λ schema has. (at schema has).2)
+  where
+    at : (schema : Schema) → HasTables schema → AsksIn schema text q names
+    at schema has =
+        let same : with_more has.0 schema.indexes schema.views ≡ schema = λ i. record { tables = sym has.1 i; indexes = schema.indexes; views = schema.views } in
+        subst (λ s. AsksIn s text q names) same (each has.0 schema.indexes schema.views)
 
 abbrev pub by_number : Query
 by_number = query (inner 2 end) (op2 (Compare Eq Binary) (col 1 1) (col 0 0) ∷ []) (col 1 1 ∷ col 1 2 ∷ col 1 3 ∷ col 1 4 ∷ col 1 5 ∷ []) []
 
 pub deposit_read : Asks select_deposit by_number (codes "number" ∷ codes "firm" ∷ codes "project" ∷ codes "embargo" ∷ codes "body" ∷ [])
 unfolding understood everything
-deposit_read = (refl, (refl, refl), refl)
+deposit_read = asks select_deposit by_number (codes "number" ∷ codes "firm" ∷ codes "project" ∷ codes "embargo" ∷ codes "body" ∷ []) (λ more indexes views. (refl, (refl, refl), refl))
 
 abbrev pub lines_of_deposit : Query
 lines_of_deposit = query (inner 4 end) (op2 (Compare Eq Binary) (col 1 1) (col 0 0) ∷ []) (col 1 2 ∷ col 1 3 ∷ col 1 4 ∷ col 1 5 ∷ []) (rising (col 1 2) ∷ [])
 
 pub lines_read : Asks select_lines lines_of_deposit (codes "seq" ∷ codes "grp" ∷ codes "kind" ∷ codes "line" ∷ [])
 unfolding understood everything
-lines_read = (refl, (refl, refl), refl)
+lines_read = asks select_lines lines_of_deposit (codes "seq" ∷ codes "grp" ∷ codes "kind" ∷ codes "line" ∷ []) (λ more indexes views. (refl, (refl, refl), refl))
 
 abbrev pub steps_of_deposit : Query
 steps_of_deposit = query (inner 6 end) (op2 (Compare Eq Binary) (col 1 1) (col 0 0) ∷ []) (col 1 2 ∷ col 1 3 ∷ []) (rising (col 1 2) ∷ rising (col 1 3) ∷ [])
 
 pub steps_read : Asks select_steps steps_of_deposit (codes "child" ∷ codes "target" ∷ [])
 unfolding understood everything
-steps_read = (refl, (refl, refl), refl)
+steps_read = asks select_steps steps_of_deposit (codes "child" ∷ codes "target" ∷ []) (λ more indexes views. (refl, (refl, refl), refl))
 
 abbrev pub front_of_deposit : Query
 front_of_deposit = query (inner 4 end) (op2 (Compare Eq Binary) (col 1 1) (col 0 0) ∷ op2 (Compare Lt Binary) (col 1 2) (lit (Int (pos 5))) ∷ []) (col 1 2 ∷ col 1 3 ∷ col 1 4 ∷ col 1 5 ∷ []) (rising (col 1 2) ∷ [])
 
 pub front_read : Asks select_front front_of_deposit (codes "seq" ∷ codes "grp" ∷ codes "kind" ∷ codes "line" ∷ [])
 unfolding understood everything
-front_read = (refl, (refl, refl), refl)
+front_read = asks select_front front_of_deposit (codes "seq" ∷ codes "grp" ∷ codes "kind" ∷ codes "line" ∷ []) (λ more indexes views. (refl, (refl, refl), refl))
 
 abbrev pub targets_of_row : Query
 targets_of_row = query (inner 6 end) (op2 (Compare Eq Binary) (col 1 1) (col 0 0) ∷ op2 (Compare Eq Binary) (col 1 2) (col 0 1) ∷ []) (col 1 3 ∷ []) (rising (col 1 3) ∷ [])
 
 pub targets_read : Asks select_targets targets_of_row (codes "target" ∷ [])
 unfolding understood everything
-targets_read = (refl, (refl, refl), refl)
+targets_read = asks select_targets targets_of_row (codes "target" ∷ []) (λ more indexes views. (refl, (refl, refl), refl))
 
 abbrev pub all_numbers : Query
 all_numbers = query (inner 2 end) [] (col 1 1 ∷ []) (rising (col 1 1) ∷ [])
 
 pub all_numbers_read : Asks select_all_numbers all_numbers (codes "number" ∷ [])
 unfolding understood everything
-all_numbers_read = (refl, (refl, refl), refl)
+all_numbers_read = asks select_all_numbers all_numbers (codes "number" ∷ []) (λ more indexes views. (refl, (refl, refl), refl))
 
 abbrev pub all_meta : Query
 all_meta = query (inner 0 end) [] (col 1 1 ∷ col 1 2 ∷ col 1 3 ∷ []) (rising (col 1 1) ∷ [])
 
 pub all_meta_read : Asks select_meta all_meta (codes "name" ∷ codes "num" ∷ codes "body" ∷ [])
 unfolding understood everything
-all_meta_read = (refl, (refl, refl), refl)
+all_meta_read = asks select_meta all_meta (codes "name" ∷ codes "num" ∷ codes "body" ∷ []) (λ more indexes views. (refl, (refl, refl), refl))

@@ -16,7 +16,7 @@ use Rattle.sqlite_sql.proofs.QueryLemmas.{key_cmp_total}
 use Rattle.sqlite_keyed.proofs.SortLemmas.{sorted_unique}
 use Rattle.reg_store.specs.declared.keep.KeepError.{KeepError}
 use Rattle.reg_store.specs.Sent.{Sent}
-use Rattle.reg_tables.specs.Tables.{register_schema}
+use Rattle.reg_tables.specs.Tables.{HasTables}
 use Rattle.reg_tables.specs.Texts.{select_all_numbers, select_meta}
 use Rattle.reg_tables.specs.Meaning.{all_numbers, all_numbers_read, all_meta, all_meta_read}
 use Rattle.reg_tables.specs.Put.{less}
@@ -60,7 +60,7 @@ numbers_rise : (n count : ℕ) → IsAscending (λ a b. output_cmp all_numbers a
 numbers_rise n zero = tt
 numbers_rise n (suc count) = (number_below_all n (n + 1) count (omega arith), numbers_rise (n + 1) count)
 
-pub shows_all_numbers : (old new : State) (list : List Sent) (rows : List Row) → old.now.schema ≡ register_schema → IsPermutation (deposit_rows 1 list) (deposit_table old.now.trees) → Shown select_all_numbers [] old new rows
+pub shows_all_numbers : (old new : State) (list : List Sent) (rows : List Row) → HasTables old.now.schema → IsPermutation (deposit_rows 1 list) (deposit_table old.now.trees) → Shown select_all_numbers [] old new rows
     → rows ≡ number_rows 1 (length list)
 shows_all_numbers old new list rows has are h =
     let a = answers select_all_numbers 2 [] all_numbers.project all_numbers.order _ all_numbers_read old new [] rows refl has h in
@@ -70,12 +70,12 @@ shows_all_numbers old new list rows has are h =
     sorted_unique (output_cmp all_numbers) (on_total (λ (o : Output). o.0) (key_cmp_total (map (λ k. k.1) all_numbers.order) 0)) _ a.ordered (numbers_rise 1 (length list)) mine a.sorted in
     a.shown ∙ ap (map (λ (o : Output). o.1)) ordered ∙ number_entries_show 1 (length list)
 
-pub numbers_by : {X : Type 0} (items : X → List Row) (old new : State) (r : Result X KeepError) → old.now.schema ≡ register_schema → IfOk r (λ x. Shown select_all_numbers [] old new (items x))
+pub numbers_by : {X : Type 0} (items : X → List Row) (old new : State) (r : Result X KeepError) → HasTables old.now.schema → IfOk r (λ x. Shown select_all_numbers [] old new (items x))
     → IfOk r (λ x. IsPermutation (items x) (map id_of (deposit_table old.now.trees)))
 numbers_by items old new (Ok x) has h = shows_numbers old new (items x) has h
 numbers_by items old new (Err e) has h = tt
 
-pub numbers_found_by : {X : Type 0} (items : X → List Row) (old new : State) (r : Result X KeepError) → old.now.schema ≡ register_schema → IfOk r (λ x. Shown select_all_numbers [] old new (items x))
+pub numbers_found_by : {X : Type 0} (items : X → List Row) (old new : State) (r : Result X KeepError) → HasTables old.now.schema → IfOk r (λ x. Shown select_all_numbers [] old new (items x))
     → IfOk r (λ x. (list : List Sent) → IsPermutation (deposit_rows 1 list) (deposit_table old.now.trees) → items x ≡ number_rows 1 (length list))
 numbers_found_by items old new (Ok x) has h = λ list are. shows_all_numbers old new list (items x) has are h
 numbers_found_by items old new (Err e) has h = tt
@@ -95,7 +95,7 @@ meta_of_columns (r ∷ rows) = ap (λ all. by_name (columns_3 r) ∷ all) (meta_
 meta_rises : (text : List ℕ) → IsAscending (λ a b. output_cmp all_meta a b ≡ Less) (map by_name (meta_columns text))
 meta_rises text = ((ap (λ o. ordering_then o Equal) (value_cmp-Text (codes "dictionary") (codes "format")), tt), (tt, tt))
 
-shows_meta_rows : (old new : State) (text : List ℕ) (rows : List Row) → old.now.schema ≡ register_schema → IsPermutation (meta_columns text) (map columns_3 (old.now.trees 0)) → Shown select_meta [] old new rows → rows ≡ meta_columns text
+shows_meta_rows : (old new : State) (text : List ℕ) (rows : List Row) → HasTables old.now.schema → IsPermutation (meta_columns text) (map columns_3 (old.now.trees 0)) → Shown select_meta [] old new rows → rows ≡ meta_columns text
 shows_meta_rows old new text rows has are h =
     let a = answers select_meta 0 [] all_meta.project all_meta.order _ all_meta_read old new [] rows refl has h in
     let mine : IsPermutation (map by_name (meta_columns text)) a.ordered =
@@ -104,11 +104,11 @@ shows_meta_rows old new text rows has are h =
     sorted_unique (output_cmp all_meta) (on_total (λ (o : Output). o.0) (key_cmp_total (map (λ k. k.1) all_meta.order) 0)) _ a.ordered (meta_rises text) mine a.sorted in
     a.shown ∙ ap (map (λ (o : Output). o.1)) ordered
 
-pub meta_by : {X : Type 0} (items : X → List Row) (old new : State) (r : Result X KeepError) → old.now.schema ≡ register_schema → IfOk r (λ x. Shown select_meta [] old new (items x)) → IfOk r (λ x. IsPermutation (items x) (map columns_3 (old.now.trees 0)))
+pub meta_by : {X : Type 0} (items : X → List Row) (old new : State) (r : Result X KeepError) → HasTables old.now.schema → IfOk r (λ x. Shown select_meta [] old new (items x)) → IfOk r (λ x. IsPermutation (items x) (map columns_3 (old.now.trees 0)))
 meta_by items old new (Ok x) has h = shows_meta old new (items x) has h
 meta_by items old new (Err e) has h = tt
 
-pub meta_found_by : {X : Type 0} (items : X → List Row) (old new : State) (r : Result X KeepError) → old.now.schema ≡ register_schema → IfOk r (λ x. Shown select_meta [] old new (items x))
+pub meta_found_by : {X : Type 0} (items : X → List Row) (old new : State) (r : Result X KeepError) → HasTables old.now.schema → IfOk r (λ x. Shown select_meta [] old new (items x))
     → IfOk r (λ x. (text : List ℕ) → IsPermutation (meta_columns text) (map columns_3 (old.now.trees 0)) → items x ≡ meta_columns text)
 meta_found_by items old new (Ok x) has h = λ text are. shows_meta_rows old new text (items x) has are h
 meta_found_by items old new (Err e) has h = tt

@@ -5,12 +5,12 @@ use Rattle.sqlite.specs.Tree.{Trees}
 use Rattle.sqlite.specs.Effect.{Database}
 use Rattle.sqlite.specs.State.{State, HasCleanDisk, Survives}
 use Rattle.sqlite.proofs.StateLemmas.{survives_then}
-use Rattle.reg_tables.specs.Tables.{register_schema}
+use Rattle.reg_tables.specs.Tables.{HasTables}
 
--- No transaction runs, and the tables are those of a register, as the last commit left them.
+-- No transaction runs, and the first tables are those of a register, as the last commit left them.
 pub record IsIdle (s : State) : Type 0 where
   pub idle : s.in_transaction ≡ false
-  pub schema : HasCleanDisk s → s.now.schema ≡ register_schema
+  pub schema : HasCleanDisk s → HasTables s.now.schema
   pub settled : HasCleanDisk s → IsTrue s.is_open → s.committed ≡ s.now
 
 -- While the connection is open, it shows what was committed.
@@ -81,7 +81,7 @@ quiet_then a b c failed one two = record {
 pub idle_then : (a b : State) → IsIdle a → IsStill a b false → IsIdle b
 idle_then a b idle quiet = record {
   idle = quiet.idle;
-  schema = λ clean. ap (λ (db : Database). db.schema) (quiet.same clean refl).0 ∙ idle.schema (clean_before a b quiet.survives clean);
+  schema = λ clean. subst (λ (db : Database). HasTables db.schema) (sym (quiet.same clean refl).0) (idle.schema (clean_before a b quiet.survives clean));
   settled = λ clean is_open.
       (let same = quiet.same clean refl in same.1 ∙ idle.settled (clean_before a b quiet.survives clean) (subst IsTrue (quiet.is_open clean refl) is_open) ∙ sym same.0);
 }

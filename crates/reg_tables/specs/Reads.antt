@@ -21,7 +21,7 @@ use Rattle.sqlite.specs.State.{State, Shown}
 use Rattle.sqlite_sql.proofs.QueryLemmas.{key_cmp_total}
 use Rattle.sqlite_keyed.proofs.SortLemmas.{sorted_unique}
 use Rattle.reg_store.specs.declared.keep.KeptRow.{KeptRow}
-use Rattle.reg_tables.specs.Tables.{register_schema}
+use Rattle.reg_tables.specs.Tables.{HasTables}
 use Rattle.reg_tables.specs.Texts.{select_lines}
 use Rattle.reg_tables.specs.Meaning.{lines_of_deposit, lines_read}
 use Rattle.reg_tables.specs.Put.{less}
@@ -103,7 +103,7 @@ lines_rise at [] = tt
 lines_rise at (row ∷ rows) = (line_below_all at (at + 1) row rows (omega arith), lines_rise (at + 1) rows)
 
 -- where the table holds a file's rows under the number, the query shows them in the order of the file
-pub reads_lines : (old new : State) (n : ℕ) (file : List KeptRow) (rows : List Row) → old.now.schema ≡ register_schema → IsPermutation (placed_rows 0 file) (rows_under n (line_table old.now.trees))
+pub reads_lines : (old new : State) (n : ℕ) (file : List KeptRow) (rows : List Row) → HasTables old.now.schema → IsPermutation (placed_rows 0 file) (rows_under n (line_table old.now.trees))
     → Shown select_lines (Int (pos n) ∷ []) old new rows → rows ≡ placed_rows 0 file
 reads_lines old new n file rows has holds h =
     let a = answers select_lines 4 lines_of_deposit.filter lines_of_deposit.project lines_of_deposit.order _ lines_read old new (Int (pos n) ∷ []) rows refl has h in
@@ -124,7 +124,7 @@ lines_shown n (r ∷ rows) = go (is_of n (columns_5 r)) (lines_shown n rows)
     go false h = h
 
 -- Where the query shows these rows, the table holds them under the number, and no others: so a register is adopted.
-pub holds_lines : (old new : State) (n : ℕ) (rows : List Row) → old.now.schema ≡ register_schema → Shown select_lines (Int (pos n) ∷ []) old new rows → IsPermutation rows (rows_under n (line_table old.now.trees))
+pub holds_lines : (old new : State) (n : ℕ) (rows : List Row) → HasTables old.now.schema → Shown select_lines (Int (pos n) ∷ []) old new rows → IsPermutation rows (rows_under n (line_table old.now.trees))
 holds_lines old new n rows has h =
     let a = answers select_lines 4 lines_of_deposit.filter lines_of_deposit.project lines_of_deposit.order _ lines_read old new (Int (pos n) ∷ []) rows refl has h in
     let same : IsPermutation (map by_seq (rows_under n (line_table old.now.trees))) a.ordered = subst (λ all. IsPermutation all a.ordered) (lines_selected n (old.now.trees 4)) a.same in

@@ -23,7 +23,7 @@ use Rattle.sqlite_keyed.proofs.SortLemmas.{sorted_unique}
 use Rattle.sqlite_keyed.proofs.ListLemmas.{IsPermutation-filter, ascending-map, ascending_weaker}
 use Rattle.ags_links.specs.Steps.{IsBefore}
 use Rattle.reg_store.specs.declared.keep.KeptRow.{KeptRow}
-use Rattle.reg_tables.specs.Tables.{register_schema}
+use Rattle.reg_tables.specs.Tables.{HasTables}
 use Rattle.reg_tables.specs.Texts.{select_front, select_targets}
 use Rattle.reg_tables.specs.Meaning.{front_of_deposit, front_read, targets_of_row, targets_read}
 use Rattle.reg_tables.specs.Put.{less}
@@ -79,7 +79,7 @@ front_selected n (r ∷ rows) = rw (test_front_is n r) (go (is_of n (columns_5 r
     go false b e h = h
 
 -- where the table holds a file's rows under the number, the query shows the first five in the order of the file
-pub reads_front : (old new : State) (n : ℕ) (file : List KeptRow) (rows : List Row) → old.now.schema ≡ register_schema → IsPermutation (placed_rows 0 file) (rows_under n (line_table old.now.trees))
+pub reads_front : (old new : State) (n : ℕ) (file : List KeptRow) (rows : List Row) → HasTables old.now.schema → IsPermutation (placed_rows 0 file) (rows_under n (line_table old.now.trees))
     → Shown select_front (Int (pos n) ∷ []) old new rows → rows ≡ placed_rows 0 (take 5 file)
 reads_front old new n file rows has holds h =
     let front = take 5 file in
@@ -175,7 +175,7 @@ entries_rise : (targets : List ℕ) → IsAscending (λ a b. a < b) targets → 
 entries_rise targets h = ascending-map (λ a b. output_cmp targets_of_row a b ≡ Less) target_entry targets (ascending_weaker (λ a b. a < b) (λ a b. output_cmp targets_of_row (target_entry a) (target_entry b) ≡ Less) target_below targets h)
 
 -- where the table holds rising steps under the number, the query shows the targets of the row in their order
-pub reads_targets : (old new : State) (n row : ℕ) (steps : List (ℕ × ℕ)) (rows : List Row) → old.now.schema ≡ register_schema → IsAscending IsBefore steps → IsPermutation (map step_pair steps) (rows_under n (step_table old.now.trees))
+pub reads_targets : (old new : State) (n row : ℕ) (steps : List (ℕ × ℕ)) (rows : List Row) → HasTables old.now.schema → IsAscending IsBefore steps → IsPermutation (map step_pair steps) (rows_under n (step_table old.now.trees))
     → Shown select_targets (Int (pos n) ∷ Int (pos row) ∷ []) old new rows → rows ≡ map target_cell (targets_of row steps)
 reads_targets old new n row steps rows has up holds h =
     let targets = targets_of row steps in

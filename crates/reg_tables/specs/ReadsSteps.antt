@@ -19,7 +19,7 @@ use Rattle.sqlite_keyed.proofs.ListLemmas.{ascending-map, ascending_weaker}
 use Rattle.ags_links.specs.Steps.{IsBefore}
 use Rattle.reg_store.specs.declared.keep.KeptRow.{KeptRow}
 use Rattle.reg_store.specs.declared.keep.KeepError.{KeepError}
-use Rattle.reg_tables.specs.Tables.{register_schema}
+use Rattle.reg_tables.specs.Tables.{HasTables}
 use Rattle.reg_tables.specs.Texts.{select_steps, select_lines}
 use Rattle.reg_tables.specs.Meaning.{steps_of_deposit, steps_read}
 use Rattle.reg_tables.specs.Put.{less}
@@ -70,7 +70,7 @@ steps_rise : (steps : List (ℕ × ℕ)) → IsAscending IsBefore steps → IsAs
 steps_rise steps h = ascending-map (λ a b. output_cmp steps_of_deposit a b ≡ Less) step_entry steps (ascending_weaker IsBefore (λ p q. output_cmp steps_of_deposit (step_entry p) (step_entry q) ≡ Less) (λ p q before. step_below p q before) steps h)
 
 -- where the table holds rising steps under the number, the query shows them in their order
-pub reads_steps : (old new : State) (n : ℕ) (steps : List (ℕ × ℕ)) (rows : List Row) → old.now.schema ≡ register_schema → IsAscending IsBefore steps → IsPermutation (map step_pair steps) (rows_under n (step_table old.now.trees))
+pub reads_steps : (old new : State) (n : ℕ) (steps : List (ℕ × ℕ)) (rows : List Row) → HasTables old.now.schema → IsAscending IsBefore steps → IsPermutation (map step_pair steps) (rows_under n (step_table old.now.trees))
     → Shown select_steps (Int (pos n) ∷ []) old new rows → rows ≡ map step_pair steps
 reads_steps old new n steps rows has up holds h =
     let a = answers select_steps 6 steps_of_deposit.filter steps_of_deposit.project steps_of_deposit.order _ steps_read old new (Int (pos n) ∷ []) rows refl has h in
@@ -90,7 +90,7 @@ steps_shown n (r ∷ rows) = go (is_of n (columns_3 r)) (steps_shown n rows)
     go false h = h
 
 -- Where the query shows these rows, the table holds them under the number, and no others.
-pub holds_steps : (old new : State) (n : ℕ) (rows : List Row) → old.now.schema ≡ register_schema → Shown select_steps (Int (pos n) ∷ []) old new rows → IsPermutation rows (rows_under n (step_table old.now.trees))
+pub holds_steps : (old new : State) (n : ℕ) (rows : List Row) → HasTables old.now.schema → Shown select_steps (Int (pos n) ∷ []) old new rows → IsPermutation rows (rows_under n (step_table old.now.trees))
 holds_steps old new n rows has h =
     let a = answers select_steps 6 steps_of_deposit.filter steps_of_deposit.project steps_of_deposit.order _ steps_read old new (Int (pos n) ∷ []) rows refl has h in
     let same : IsPermutation (map by_pair (rows_under n (step_table old.now.trees))) a.ordered = subst (λ all. IsPermutation all a.ordered) (steps_selected n (old.now.trees 6)) a.same in

@@ -8,7 +8,7 @@ use Rattle.sqlite.proofs.Callers.{one_permutation}
 use Rattle.sqlite_keyed.proofs.ListLemmas.{IsPermutation-filter}
 use Rattle.reg_store.specs.declared.keep.KeepError.{KeepError}
 use Rattle.reg_store.specs.Sent.{Sent}
-use Rattle.reg_tables.specs.Tables.{register_schema}
+use Rattle.reg_tables.specs.Tables.{HasTables}
 use Rattle.reg_tables.specs.Texts.{select_deposit}
 use Rattle.reg_tables.specs.Rows.{deposit_table, given_deposit}
 use Rattle.reg_tables.specs.Register.{deposit_rows, has_number}
@@ -36,7 +36,7 @@ row_of_number n list table d low are at =
 
 -- ---- a deposit
 
-pub deposit_by : {X : Type 0} (items : X → List Row) (old new : State) (r : Result X KeepError) (n : ℕ) → old.now.schema ≡ register_schema → IfOk r (λ x. Shown select_deposit (Int (pos n) ∷ []) old new (items x))
+pub deposit_by : {X : Type 0} (items : X → List Row) (old new : State) (r : Result X KeepError) (n : ℕ) → HasTables old.now.schema → IfOk r (λ x. Shown select_deposit (Int (pos n) ∷ []) old new (items x))
     → IfOk r (λ x. IsPermutation (items x) (filter (has_number n) (deposit_table old.now.trees)))
 deposit_by items old new (Ok x) n has h = shows_deposit old new n (items x) has h
 deposit_by items old new (Err e) n has h = tt

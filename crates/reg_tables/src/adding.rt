@@ -9,6 +9,7 @@ ghost use Rattle.reg_store.specs.Fit.{IsNamed};
 ghost use Rattle.reg_store.specs.Keep.{fails};
 ghost use Rattle.reg_tables.specs.Commits.{CommitsAll, UndoesUnlessFailed};
 ghost use Rattle.reg_tables.specs.Filed.{AddsChecked, SurvivesAdding};
+ghost use Rattle.reg_tables.specs.Tables.{register_schema};
 ghost use Rattle.reg_tables.specs.Quiet.{IsIdle};
 ghost use Rattle.reg_tables.specs.Rows.{deposit_from};
 
@@ -39,6 +40,7 @@ pub(crate) fn add_checked<S: Alter>(
     checked: &Checked<'_>,
 ) -> Result<(), KeepError>
     requires idle { IsIdle (state S.Store conn.old) }
+    requires schema { HasCleanDisk (state S.Store conn.old) → (state S.Store conn.old).now.schema ≡ register_schema }
     requires is_open { HasCleanDisk (state S.Store conn.old) → IsTrue (state S.Store conn.old).is_open }
 
     // The deposit at success, as it is added and committed.
@@ -67,7 +69,7 @@ pub(crate) fn add_checked<S: Alter>(
         body: checked.bytes(),
     };
     match few_rows(alloc, checked.scan().groups()) {
-        Ok(rows) => add_file(alloc, conn, filed, &rows, checked.graph().steps()),
+        Ok(rows) => add_file(conn, filed, &rows, checked.graph().steps()),
         Err(_) => Err(KeepError::NoMemory),
     }
 }

@@ -11,7 +11,7 @@ ghost use Rattle.reg_tables.specs.Inside.{ChangesInside, CommitsNothing, HasSche
 ghost use Rattle.reg_tables.specs.Making.{AreDictionary};
 ghost use Rattle.reg_tables.specs.Creates.{HasFirst, HasAll, IsEmptyRegister, IsNewRegister, SurvivesMaking};
 
-use crate::queries::{is_memory, is_open};
+use crate::queries::is_refused;
 use crate::running::run;
 use ags_rows::READABLE;
 use reg_store::KeepError;
@@ -140,7 +140,7 @@ pub(crate) fn make_register<S: Alter>(
     match make_all(conn, dictionary) {
         Ok(()) => Ok(()),
         Err(error) => {
-            if is_memory(&error) && is_open(conn) {
+            if is_refused(conn, &error) {
                 Err(KeepError::NoMemory)
             } else {
                 Err(KeepError::Store)

@@ -10,6 +10,7 @@ ghost use Rattle.reg_store.specs.Keep.{fails, deposit_of};
 ghost use Rattle.reg_tables.specs.Quiet.{IsIdle, IsStill, FindsThat};
 ghost use Rattle.reg_tables.specs.Found.{AreNumbersFromOne, FindsAll, FindsOneIf, FindsOut, OnYes};
 ghost use Rattle.reg_tables.specs.Rows.{deposit_table, given_deposit};
+ghost use Rattle.reg_tables.specs.Tables.{register_schema};
 ghost use Rattle.reg_tables.specs.Heads.{HoldsHeads, IsDigestedAt, AddsHead, IsDigestedFrom};
 ghost use Rattle.reg_tables.specs.Digests.{AreBelow, HoldsDigests, IsNew, numbers_under, own_digest};
 ghost use Rattle.reg_tables.specs.Adopts.{id_of};
@@ -389,6 +390,7 @@ fn find_register<S: Alter>(
     digests: &mut Digests,
 ) -> Result<u32, AdoptError>
     requires idle { IsIdle (state S.Store conn.old) }
+    requires schema { HasCleanDisk (state S.Store conn.old) → (state S.Store conn.old).now.schema ≡ register_schema }
     requires meta { HasCleanDisk (state S.Store conn.old) → HasMeta (state S.Store conn.old).now dictionary.now }
     requires sound { HasCleanDisk (state S.Store conn.old) → IsDatabase (state S.Store conn.old).now }
     requires none { heads.old.items ≡ [] }
@@ -451,6 +453,7 @@ pub(crate) fn examine<S: Alter>(
     digests: &mut Digests,
 ) -> Result<(Dictionary, u32), AdoptError>
     requires idle { IsIdle (state S.Store conn.old) }
+    requires schema { HasCleanDisk (state S.Store conn.old) → (state S.Store conn.old).now.schema ≡ register_schema }
     requires none { heads.old.items ≡ [] }
     requires no_digests { (digest : List ℕ) → numbers_under digests.old digest ≡ [] }
 

@@ -5,14 +5,12 @@ ghost use Rattle.sqlite.specs.Order.{Row as Values};
 ghost use Rattle.sqlite.specs.Values.{bound};
 ghost use Rattle.sqlite.specs.State.{HasCleanDisk, Survives};
 ghost use Rattle.sqlite.specs.Held.{state};
-ghost use Rattle.sqlite.specs.Given.{IsPlain};
-ghost use Rattle.sqlite.specs.Listing.{understood};
-ghost use Rattle.reg_tables.specs.Tables.{register_schema};
+ghost use Rattle.reg_tables.specs.Meaning.{IsPlainText};
 ghost use Rattle.reg_tables.specs.Quiet.{IsIdle, IsStill, StaysIfOpen};
 ghost use Rattle.reg_tables.specs.Found.{TakesEachShown, TakesShown};
 ghost use Rattle.reg_store.specs.Keep.{fails};
 
-use crate::queries::{is_memory, is_open};
+use crate::queries::is_refused;
 use reg_store::KeepError;
 use sqlite::types::ValueRef;
 use sqlite::{Alter, Connection, Error, Row};
@@ -36,7 +34,7 @@ fn take_each<S: Alter, G: Gather>(
     params: &[ValueRef<'_>],
     into: &mut G,
 ) -> Result<Result<(), KeepError>, Error>
-    requires plain { IsPlain (understood register_schema sql.now) }
+    requires plain { IsPlainText sql.now }
     requires idle { IsIdle (state S.Store conn.old) }
     requires empty { G.holds into.old into.old [] }
 
@@ -73,7 +71,7 @@ pub(crate) fn take_shown<S: Alter, G: Gather>(
     params: &[ValueRef<'_>],
     into: &mut G,
 ) -> Result<(), KeepError>
-    requires plain { IsPlain (understood register_schema sql.now) }
+    requires plain { IsPlainText sql.now }
     requires idle { IsIdle (state S.Store conn.old) }
     requires empty { G.holds into.old into.old [] }
     ensures shown { TakesShown result sql.now (bound params.now) (G.holds into.old into.new)
@@ -84,7 +82,7 @@ pub(crate) fn take_shown<S: Alter, G: Gather>(
     match take_each(conn, sql, params, into) {
         Ok(taken) => taken,
         Err(error) => {
-            if is_memory(&error) && is_open(conn) {
+            if is_refused(conn, &error) {
                 Err(KeepError::NoMemory)
             } else {
                 Err(KeepError::Store)

@@ -2,6 +2,7 @@
 
 ghost use Rattle.std.specs.Prelude.{◌≡◌, ◌+◌, ◌<◌, ◌≤◌, ◌^◌, [], ◌∷◌, ◌++◌, length, IfOk, IsTrue, OnOk};
 ghost use Rattle.sqlite.specs.Effect.{IsDatabase};
+ghost use Rattle.std.specs.List.{flat_map};
 ghost use Rattle.sqlite.specs.State.{HasCleanDisk, Survives};
 ghost use Rattle.reg_tables.specs.Tables.{register_schema};
 ghost use Rattle.sqlite.specs.Values.{bound};
@@ -32,6 +33,16 @@ pub(crate) fn few_rows(alloc: Global, groups: &[Group]) -> Result<Vec<KeptRow>, 
     Ok(rows)
 }
 
+/// The name of a row's group, as a text.
+fn group_of(row: &KeptRow) -> Result<&str, Error>
+    ensures { IfOk result (λ group. group.now ≡ row.now.group) }
+{
+    match std::str::from_utf8(row.group.as_slice()) {
+        Ok(group) => Ok(group),
+        Err(_) => Err(Error::SqliteFailure(ErrorCode::TypeMismatch)),
+    }
+}
+
 /// Adds one row of a file. Nothing is committed.
 #[tactic(auto, using(crate::proofs::AddsLemmas::kept_same))]
 fn insert_line<S: Alter>(
@@ -48,9 +59,7 @@ fn insert_line<S: Alter>(
     ensures kept { CommitsNothing (state_in S.Store tx.old) (state_in S.Store tx.new) }
     ensures survives { Survives (state_in S.Store tx.old) (state_in S.Store tx.new) (λ _. ⊥) }
 {
-    let Ok(group) = std::str::from_utf8(row.group.as_slice()) else {
-        return Err(Error::SqliteFailure(ErrorCode::TypeMismatch));
-    };
+    let group = group_of(row)?;
     run(
         tx,
         "INSERT INTO lines VALUES (?1, ?2, ?3, ?4, ?5)",
@@ -58,43 +67,34 @@ fn insert_line<S: Alter>(
     )
 }
 
-/// Appends the values of a row of a file.
-fn push_line<'r>(
-    values: &mut Vec<ValueRef<'r>>,
-    number: u32,
-    at: u32,
-    row: &'r KeptRow,
-) -> Result<(), Error>
-    ensures { OnOk result (bound values.new.items ≡ bound values.old.items ++ line_row number at row.now) }
-{
-    let Ok(group) = std::str::from_utf8(row.group.as_slice()) else {
-        return Err(Error::SqliteFailure(ErrorCode::TypeMismatch));
-    };
-    values.extend_from_slice(params![number, at, group, u32::from(row.kind), row.line.as_slice()])?;
-    Ok(())
-}
-
-/// The values of rows of a file, of which the first stands at this place.
-fn line_values<'r>(
-    alloc: Global,
+/// Puts the values of eight rows of a file there, of which the first stands at this place.
+fn put_lines<'r>(
+    values: &mut [[ValueRef<'r>; 5]; TOGETHER],
     number: u32,
     from: u32,
     rows: &'r [KeptRow],
-) -> Result<Vec<ValueRef<'r>>, Error>
-    requires { from + length rows.now ≤ 2 ^ 32 }
-    ensures { IfOk result (λ values. bound values.items ≡ joined (line_rows number from rows.now)) }
+) -> Result<(), Error>
+    requires eight { length rows.now ≡ 8 }
+    requires few { from + 8 ≤ 2 ^ 32 }
+    ensures put { OnOk result (bound (flat_map (λ v. v) values.new) ≡ joined (line_rows number from rows.now)) }
+    ensures long { length values.new ≡ 8 }
 {
-    let mut values = Vec::new(alloc);
     for (i, row) in rows.iter().enumerate() {
-        push_line(&mut values, number, from + i as u32, row)?;
+        let group = group_of(row)?;
+        values[i] = *params![
+            number,
+            from + i as u32,
+            group,
+            u32::from(row.kind),
+            row.line.as_slice(),
+        ];
     }
-    Ok(values)
+    Ok(())
 }
 
 /// Adds eight rows of a file, of which the first stands at this place. Nothing is committed.
 #[tactic(auto, using(crate::proofs::AddsLemmas::kept_same))]
 fn insert_eight_lines<S: Alter>(
-    alloc: Global,
     tx: &mut Transaction<'_, S>,
     number: u32,
     from: u32,
@@ -110,11 +110,12 @@ fn insert_eight_lines<S: Alter>(
     ensures kept { CommitsNothing (state_in S.Store tx.old) (state_in S.Store tx.new) }
     ensures survives { Survives (state_in S.Store tx.old) (state_in S.Store tx.new) (λ _. ⊥) }
 {
-    let values = line_values(alloc, number, from, rows)?;
+    let mut values = [[ValueRef::Null; 5]; TOGETHER];
+    put_lines(&mut values, number, from, rows)?;
     run(
         tx,
         "INSERT INTO lines VALUES (?1, ?2, ?3, ?4, ?5), (?6, ?7, ?8, ?9, ?10), (?11, ?12, ?13, ?14, ?15), (?16, ?17, ?18, ?19, ?20), (?21, ?22, ?23, ?24, ?25), (?26, ?27, ?28, ?29, ?30), (?31, ?32, ?33, ?34, ?35), (?36, ?37, ?38, ?39, ?40)",
-        &values,
+        values.as_flattened(),
     )
 }
 
@@ -145,7 +146,6 @@ fn insert_each_line<S: Alter>(
 /// Adds the rows of a file, in their order. Nothing is committed.
 #[tactic(auto, using(crate::proofs::AddsLemmas::kept_then))]
 pub(crate) fn insert_lines<S: Alter>(
-    alloc: Global,
     tx: &mut Transaction<'_, S>,
     number: u32,
     rows: &[KeptRow],
@@ -163,7 +163,7 @@ pub(crate) fn insert_lines<S: Alter>(
 {
     for part in 0..rows.len() / TOGETHER {
         let at = part * TOGETHER;
-        insert_eight_lines(alloc, tx, number, at as u32, &rows[at..at + TOGETHER])?;
+        insert_eight_lines(tx, number, at as u32, &rows[at..at + TOGETHER])?;
     }
     let at = rows.len() / TOGETHER * TOGETHER;
     insert_each_line(tx, number, at as u32, &rows[at..])
@@ -190,37 +190,28 @@ fn insert_step<S: Alter>(
     )
 }
 
-/// Appends the values of a step.
-fn push_step(
-    values: &mut Vec<ValueRef<'static>>,
-    number: u32,
-    step: (u32, u32),
-) -> Result<(), Error>
-    ensures { OnOk result (bound values.new.items ≡ bound values.old.items ++ step_row number step) }
+/// The values of a step.
+fn step_value(number: u32, step: (u32, u32)) -> [ValueRef<'static>; 3]
+    ensures { bound result ≡ step_row number step }
 {
-    values.extend_from_slice(params![number, step.0, step.1])?;
-    Ok(())
+    *params![number, step.0, step.1]
 }
 
-/// The values of steps.
-fn step_values(
-    alloc: Global,
-    number: u32,
-    steps: &[(u32, u32)],
-) -> Result<Vec<ValueRef<'static>>, Error>
-    ensures { IfOk result (λ values. bound values.items ≡ joined (step_rows number steps.now)) }
+/// The values of eight steps.
+fn step_values(number: u32, steps: &[(u32, u32)]) -> [[ValueRef<'static>; 3]; TOGETHER]
+    requires { length steps.now ≡ 8 }
+    ensures { bound (flat_map (λ v. v) result) ≡ joined (step_rows number steps.now) }
 {
-    let mut values = Vec::new(alloc);
-    for step in steps {
-        push_step(&mut values, number, *step)?;
+    let mut values = [[ValueRef::Null; 3]; TOGETHER];
+    for (i, step) in steps.iter().enumerate() {
+        values[i] = step_value(number, *step);
     }
-    Ok(values)
+    values
 }
 
 /// Adds eight steps. Nothing is committed.
 #[tactic(auto, using(crate::proofs::AddsLemmas::kept_same))]
 fn insert_eight_steps<S: Alter>(
-    alloc: Global,
     tx: &mut Transaction<'_, S>,
     number: u32,
     steps: &[(u32, u32)],
@@ -234,11 +225,11 @@ fn insert_eight_steps<S: Alter>(
     ensures kept { CommitsNothing (state_in S.Store tx.old) (state_in S.Store tx.new) }
     ensures survives { Survives (state_in S.Store tx.old) (state_in S.Store tx.new) (λ _. ⊥) }
 {
-    let values = step_values(alloc, number, steps)?;
+    let values = step_values(number, steps);
     run(
         tx,
         "INSERT INTO steps VALUES (?1, ?2, ?3), (?4, ?5, ?6), (?7, ?8, ?9), (?10, ?11, ?12), (?13, ?14, ?15), (?16, ?17, ?18), (?19, ?20, ?21), (?22, ?23, ?24)",
-        &values,
+        values.as_flattened(),
     )
 }
 
@@ -267,7 +258,6 @@ fn insert_each_step<S: Alter>(
 /// Adds the steps of a file. Nothing is committed.
 #[tactic(auto, using(crate::proofs::AddsLemmas::kept_then))]
 pub(crate) fn insert_steps<S: Alter>(
-    alloc: Global,
     tx: &mut Transaction<'_, S>,
     number: u32,
     steps: &[(u32, u32)],
@@ -284,7 +274,7 @@ pub(crate) fn insert_steps<S: Alter>(
 {
     for part in 0..steps.len() / TOGETHER {
         let at = part * TOGETHER;
-        insert_eight_steps(alloc, tx, number, &steps[at..at + TOGETHER])?;
+        insert_eight_steps(tx, number, &steps[at..at + TOGETHER])?;
     }
     let at = steps.len() / TOGETHER * TOGETHER;
     insert_each_step(tx, number, &steps[at..])

@@ -381,6 +381,10 @@ impl<F: Start> SqlKeep<FileStore<FileFrom<F>>> {
         ensures vacant { IfErr result (λ e. e.0 ≡ CreateError.Store
             → IfSome e.1 (λ c. FindsEmpty (image_at F.Start) (file_state c))) }
         ensures unopened { IfErr result (λ e. e.1 ≡ None → e.0 ≢ CreateError.NotEmpty) }
+
+        // The connection that comes with another refusal than `Store`.
+        ensures open { IfErr result (λ e. e.0 ≢ CreateError.Store
+            → IfSome e.1 (λ c. HasCleanDisk (file_state c) → IsTrue (file_state c).is_open)) }
     {
         let dictionary = match read_dictionary(alloc, bytes) {
             Ok(dictionary) => dictionary,
@@ -413,6 +417,10 @@ impl<F: Start> SqlKeep<FileStore<FileFrom<F>>> {
         ensures refused { IfErr result (λ e.
             IfSome e.1 (λ c. HasCleanDisk (file_state c) → RefusesFiles (image_at F.Start) e.0)) }
         ensures unopened { IfErr result (λ e. e.1 ≡ None → (e.0 ≡ AdoptError.Store) ⊎ (e.0 ≡ AdoptError.NoMemory)) }
+
+        // The connection that comes with another refusal than `Store`.
+        ensures open { IfErr result (λ e. is_store_failure e.0 ≡ false
+            → IfSome e.1 (λ c. HasCleanDisk (file_state c) → IsTrue (file_state c).is_open)) }
     {
         match connect(rt, path, start) {
             Ok(connection) => match SqlKeep::adopt(alloc, connection) {

@@ -4,9 +4,7 @@ ghost use Rattle.std.specs.Prelude.{◌≡◌, ◌≢◌, ◌↔◌, false, IsTr
 ghost use Rattle.sqlite.specs.Values.{bound};
 ghost use Rattle.sqlite.specs.State.{HasCleanDisk, Survives, IsUnchanged};
 ghost use Rattle.sqlite.specs.Held.{state};
-ghost use Rattle.sqlite.specs.Given.{IsPlain};
-ghost use Rattle.sqlite.specs.Listing.{understood};
-ghost use Rattle.reg_tables.specs.Tables.{register_schema};
+ghost use Rattle.reg_tables.specs.Meaning.{IsPlainText};
 ghost use Rattle.reg_tables.specs.Quiet.{IsIdle, IsSettled, IsStill, StaysIfOpen};
 ghost use Rattle.reg_tables.specs.Found.{FindsShown};
 ghost use Rattle.reg_store.specs.Keep.{fails};
@@ -22,8 +20,10 @@ pub(crate) fn is_memory(error: &Error) -> bool
     matches!(error, Error::SqliteFailure(ErrorCode::OutOfMemory))
 }
 
-/// Whether the connection is known to be open. An answer of want of memory alone does not say it.
-pub(crate) fn is_open<S: Alter>(conn: &mut Connection<S>) -> bool
+/// Whether the connection is known to be open. That a call was out of memory does not say it.
+///
+/// It is asked for a text that is no statement. A connection that is shut answers that first, and to refuse the text takes no memory.
+fn is_open<S: Alter>(conn: &mut Connection<S>) -> bool
     requires settled { HasCleanDisk (state S.Store conn.old) → IsSettled (state S.Store conn.old) }
     ensures known { HasCleanDisk (state S.Store conn.new) → IsTrue result
         → IsUnchanged (state S.Store conn.old) (state S.Store conn.new) }
@@ -31,7 +31,26 @@ pub(crate) fn is_open<S: Alter>(conn: &mut Connection<S>) -> bool
     ensures mode { conn.old.in_transaction ≡ false → conn.new.in_transaction ≡ false }
     ensures crash { Survives (state S.Store conn.old) (state S.Store conn.new) (λ _. ⊥) }
 {
-    conn.prepare("SELECT 1").is_ok()
+    match conn.prepare("COMMIT COMMIT") {
+        Err(Error::SqlInputError(_)) => true,
+        _ => false,
+    }
+}
+
+/// Whether memory was refused to a call, and the connection is known to be open. If not, the store failed.
+#[tactic(auto, using(crate::proofs::QueryLemmas::survives_none))]
+pub(crate) fn is_refused<S: Alter>(conn: &mut Connection<S>, error: &Error) -> bool
+    requires settled { HasCleanDisk (state S.Store conn.old) → IsSettled (state S.Store conn.old) }
+    ensures known { HasCleanDisk (state S.Store conn.new) → IsTrue result
+        → IsUnchanged (state S.Store conn.old) (state S.Store conn.new) }
+    ensures still { StaysIfOpen (state S.Store conn.old) (state S.Store conn.new) }
+    ensures mode { conn.old.in_transaction ≡ false → conn.new.in_transaction ≡ false }
+    ensures crash { Survives (state S.Store conn.old) (state S.Store conn.new) (λ _. ⊥) }
+{
+    if !is_memory(error) {
+        return false;
+    }
+    is_open(conn)
 }
 
 fn ask<S: Alter>(
@@ -39,7 +58,7 @@ fn ask<S: Alter>(
     sql: &str,
     params: &[ValueRef<'_>],
 ) -> Result<Vec<Row>, Error>
-    requires plain { IsPlain (understood register_schema sql.now) }
+    requires plain { IsPlainText sql.now }
     requires idle { IsIdle (state S.Store conn.old) }
     ensures mode { conn.new.in_transaction ≡ false }
     ensures open { HasCleanDisk (state S.Store conn.new) → OnOk result (IsTrue (state S.Store conn.new).is_open) }
@@ -57,7 +76,7 @@ pub(crate) fn query<S: Alter>(
     sql: &str,
     params: &[ValueRef<'_>],
 ) -> Result<Vec<Row>, KeepError>
-    requires plain { IsPlain (understood register_schema sql.now) }
+    requires plain { IsPlainText sql.now }
     requires idle { IsIdle (state S.Store conn.old) }
     ensures shown { FindsShown result sql.now (bound params.now) (state S.Store conn.old) (state S.Store conn.new) }
     ensures open { HasCleanDisk (state S.Store conn.new) → fails result ≡ false
@@ -68,7 +87,7 @@ pub(crate) fn query<S: Alter>(
     match ask(conn, sql, params) {
         Ok(rows) => Ok(rows),
         Err(error) => {
-            if is_memory(&error) && is_open(conn) {
+            if is_refused(conn, &error) {
                 Err(KeepError::NoMemory)
             } else {
                 Err(KeepError::Store)

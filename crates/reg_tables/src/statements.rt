@@ -11,11 +11,10 @@ ghost use Rattle.reg_tables.specs.Filed.{AddsFiled, AddsRow, SurvivesFiling};
 ghost use Rattle.reg_tables.specs.Inside.{ChangesInside, CommitsNothing, HasSchema, HasTransaction, state_in};
 
 use crate::lines::{insert_lines, insert_steps};
-use crate::queries::{is_memory, is_open};
+use crate::queries::is_refused;
 use crate::running::run;
 use reg_store::{KeepError, KeptRow};
 use sqlite::{Alter, Connection, Error, Transaction, params};
-use std::alloc::Global;
 
 /// What is added.
 #[derive(Clone, Copy)]
@@ -52,7 +51,6 @@ fn insert_deposit<S: Alter>(tx: &mut Transaction<'_, S>, filed: Filed<'_>) -> Re
 /// Adds a deposit with its rows and steps. Nothing is committed.
 #[tactic(auto, using(crate::proofs::AddsLemmas::kept_then))]
 fn insert_file<S: Alter>(
-    alloc: Global,
     tx: &mut Transaction<'_, S>,
     filed: Filed<'_>,
     rows: &[KeptRow],
@@ -69,14 +67,13 @@ fn insert_file<S: Alter>(
     ensures survives { Survives (state_in S.Store tx.old) (state_in S.Store tx.new) (λ _. ⊥) }
 {
     insert_deposit(tx, filed)?;
-    insert_lines(alloc, tx, filed.number, rows)?;
-    insert_steps(alloc, tx, filed.number, steps)
+    insert_lines(tx, filed.number, rows)?;
+    insert_steps(tx, filed.number, steps)
 }
 
 /// Adds a deposit with its rows and steps in one transaction.
 #[tactic(auto, using(crate::proofs::AddsLemmas::undone_by))]
 fn store_file<S: Alter>(
-    alloc: Global,
     conn: &mut Connection<S>,
     filed: Filed<'_>,
     rows: &[KeptRow],
@@ -100,7 +97,7 @@ fn store_file<S: Alter>(
     ensures crash { SurvivesFiling filed.entry rows.now steps.now (state S.Store conn.old) (state S.Store conn.new) }
 {
     let mut tx = conn.transaction();
-    insert_file(alloc, &mut tx, filed, rows, steps)?;
+    insert_file(&mut tx, filed, rows, steps)?;
     tx.commit()?;
     Ok(())
 }
@@ -108,7 +105,6 @@ fn store_file<S: Alter>(
 /// Adds a deposit with its rows and steps. Want of memory is answered only where nothing changed.
 #[tactic(auto, using(crate::proofs::QueryLemmas::settled_undone))]
 pub(crate) fn add_file<S: Alter>(
-    alloc: Global,
     conn: &mut Connection<S>,
     filed: Filed<'_>,
     rows: &[KeptRow],
@@ -134,13 +130,13 @@ pub(crate) fn add_file<S: Alter>(
         → IsTrue (state S.Store conn.new).is_open }
     ensures crash { SurvivesFiling filed.entry rows.now steps.now (state S.Store conn.old) (state S.Store conn.new) }
 {
-    match store_file(alloc, conn, filed, rows, steps) {
+    match store_file(conn, filed, rows, steps) {
         Ok(()) => {
             let _schema = conn.schema();
             Ok(())
         }
         Err(error) => {
-            if is_memory(&error) && is_open(conn) {
+            if is_refused(conn, &error) {
                 Err(KeepError::NoMemory)
             } else {
                 Err(KeepError::Store)

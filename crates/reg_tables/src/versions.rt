@@ -11,7 +11,7 @@ ghost use Rattle.reg_tables.specs.Found.{FindsAll, StaysUnless};
 ghost use Rattle.reg_tables.specs.Adoption.{Adopts, is_store_failure};
 
 use crate::adopting::{AdoptError, other_format};
-use crate::queries::{is_memory, is_open};
+use crate::queries::is_refused;
 use crate::schema::is_meta;
 use sqlite::{Alter, Connection, Error, Row};
 use sqlite_schema::schema::{Schema, Table};
@@ -66,7 +66,7 @@ pub(crate) fn refuse_tables<S: Alter>(conn: &mut Connection<S>) -> AdoptError
             None => AdoptError::NotRegister,
         },
         Err(error) => {
-            if is_memory(&error) && is_open(conn) {
+            if is_refused(conn, &error) {
                 AdoptError::NoMemory
             } else {
                 AdoptError::Store

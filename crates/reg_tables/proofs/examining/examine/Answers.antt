@@ -1,4 +1,4 @@
-use Rattle.std.proofs.Common.{◌+◌, Some, Err, refl, subst}
+use Rattle.std.proofs.Common.{◌+◌, Some, Err, refl, ap, subst, ◌∙◌}
 use Rattle.sqlite.specs.Effect.{Database}
 use Rattle.sqlite.specs.Held.{state}
 use Rattle.reg_tables.specs.Quiet.{clean_before, idle_then, quiet_then}
@@ -10,6 +10,11 @@ use Rattle.reg_tables.proofs.examining.examine.Goals as goal
 
 pub find_register-requires-clause-idle : goal.find_register-requires-clause-idle
 find_register-requires-clause-idle g c = idle_then _ _ c.requires.idle c.in-Ok.ensures.quiet
+
+pub find_register-requires-clause-schema : goal.find_register-requires-clause-schema
+find_register-requires-clause-schema g c clean =
+    let early = clean_before (state g.S.Store c.args.conn.now) (state g.S.Store c.find_dictionary.new.conn) c.in-Ok.ensures.quiet.survives clean in
+    ap (λ (db : Database). db.schema) (c.in-Ok.ensures.quiet.same clean refl).0 ∙ c.requires.schema early
 
 pub returns-in-Err-clause-adopts : goal.returns-in-Err-clause-adopts
 returns-in-Err-clause-adopts g c clean = meta_adopts (Err c.in-Err.error) (state g.S.Store c.args.conn.now).now c.in-Err.error refl (c.in-Err.ensures.read clean)

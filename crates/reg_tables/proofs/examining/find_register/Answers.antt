@@ -34,7 +34,7 @@ returns-in-Ok-true-clause-found g c clean =
     let counts : Counts old.now (Some count) = subst (Counts old.now) c.in-Ok-Some.field-0-is (c.in-Ok-Some.ensures.counted early) in
     let is : c.in-Ok-true.field-0 ≡ true = search rules in
     let test = subst (λ (db : Database). Tests true (AreWhole db c.args.dictionary.now count)) (c.in-Ok-Some.ensures.quiet.same early refl).0 (tests_true is (c.in-Ok-true.ensures.tested clean)) in
-    finds_whole old.now c.args.dictionary.now count (c.requires.idle.schema first) (c.requires.sound first) (c.requires.meta first) counts (test.yes refl)
+    finds_whole old.now c.args.dictionary.now count (c.requires.schema first) (c.requires.sound first) (c.requires.meta first) counts (test.yes refl)
 
 pub returns-in-Ok-true-clause-heads : goal.returns-in-Ok-true-clause-heads
 returns-in-Ok-true-clause-heads g c clean =

@@ -10,5 +10,4 @@ returns-clause-put g c clean =
     let old = state g.S.Store c.args.tx.now.conn.now in
     let new = state g.S.Store c.run.new.tx.conn.now in
     let first : HasCleanDisk old = omega (arith, c.run.ensures.survives.clean) in
-    let text : c.in-Ok.group.now ≡ c.args.row.now.group = search rules in
-    on_ok_weaker c.run.result (λ one. record { change = puts_line old new c.args.number c.args.at c.args.row.now one.count (c.requires.schema first) one.ran; goes_on = one.goes_on; is_open = one.is_open; committed = one.committed }) (rw (c.params-to_sql.ensures, c.params-to_sql-2.ensures, c.params-to_sql-3.ensures, c.params-to_sql-4.ensures, c.params-to_sql-5.ensures, c.from.ensures, c.as_slice-2.ensures, text) at (c.run.ensures.ran clean))
+    on_ok_weaker c.run.result (λ one. record { change = puts_line old new c.args.number c.args.at c.args.row.now one.count (c.requires.schema first) one.ran; goes_on = one.goes_on; is_open = one.is_open; committed = one.committed }) (rw (c.params-to_sql.ensures, c.params-to_sql-2.ensures, c.params-to_sql-3.ensures, c.params-to_sql-4.ensures, c.params-to_sql-5.ensures, c.from.ensures, c.as_slice.ensures, c.in_ok-group.ensures) at (c.run.ensures.ran clean))

@@ -34,23 +34,23 @@ returns-in-Ok-clause-same g c clean well = let o = c.in-Ok.ensures.open clean in
 pub returns-in-Ok-clause-still : goal.returns-in-Ok-clause-still
 returns-in-Ok-clause-still g c = c.ask_meta.ensures.same
 
-pub returns-then-is_open-clause-same : goal.returns-then-is_open-clause-same
-returns-then-is_open-clause-same g c clean well =
-    let is : IsTrue c.is_open.result = search rules in
-    let at = (c.is_open.ensures.known clean is).0 in
-    let early = clean_before (state g.S.Store c.ask_meta.new.conn) (state g.S.Store c.is_open.new.conn) c.is_open.ensures.crash clean in
+pub returns-then-is_refused-clause-same : goal.returns-then-is_refused-clause-same
+returns-then-is_refused-clause-same g c clean well =
+    let is : IsTrue c.is_refused.result = search rules in
+    let at = (c.is_refused.ensures.known clean is).0 in
+    let early = clean_before (state g.S.Store c.ask_meta.new.conn) (state g.S.Store c.is_refused.new.conn) c.is_refused.ensures.crash clean in
     let was = c.ask_meta.ensures.same early at.was_open in (both_open at.is_open was.0, at.now_is ∙ was.1, at.committed_is ∙ was.2)
 
-pub returns-then-is_open-clause-still : goal.returns-then-is_open-clause-still
-returns-then-is_open-clause-still g c clean is_open =
-    let is : IsTrue c.is_open.result = search rules in
-    let at = (c.is_open.ensures.known clean is).0 in
-    let early = clean_before (state g.S.Store c.ask_meta.new.conn) (state g.S.Store c.is_open.new.conn) c.is_open.ensures.crash clean in
+pub returns-then-is_refused-clause-still : goal.returns-then-is_refused-clause-still
+returns-then-is_refused-clause-still g c clean is_open =
+    let is : IsTrue c.is_refused.result = search rules in
+    let at = (c.is_refused.ensures.known clean is).0 in
+    let early = clean_before (state g.S.Store c.ask_meta.new.conn) (state g.S.Store c.is_refused.new.conn) c.is_refused.ensures.crash clean in
     let was = c.ask_meta.ensures.same early at.was_open in (was.0, at.now_is ∙ was.1, at.committed_is ∙ was.2)
 
-pub returns-then-is_open-clause-crash : goal.returns-then-is_open-clause-crash
-returns-then-is_open-clause-crash g c =
-    survives_then (state g.S.Store c.args.conn.now) (state g.S.Store c.ask_meta.new.conn) (state g.S.Store c.is_open.new.conn) _ _ (λ _. ⊥) (λ _ db none. none) (λ _ db none. none) c.ask_meta.ensures.crash c.is_open.ensures.crash
+pub returns-then-is_refused-clause-crash : goal.returns-then-is_refused-clause-crash
+returns-then-is_refused-clause-crash g c =
+    survives_then (state g.S.Store c.args.conn.now) (state g.S.Store c.ask_meta.new.conn) (state g.S.Store c.is_refused.new.conn) _ _ (λ _. ⊥) (λ _ db none. none) (λ _ db none. none) c.ask_meta.ensures.crash c.is_refused.ensures.crash
 
-pub is_open-requires : goal.is_open-requires
-is_open-requires g c = record { settled = settled_then (state g.S.Store c.args.conn.now) (state g.S.Store c.ask_meta.new.conn) c.requires.settled c.ask_meta.ensures.same c.ask_meta.ensures.crash }
+pub is_refused-requires : goal.is_refused-requires
+is_refused-requires g c = record { settled = settled_then (state g.S.Store c.args.conn.now) (state g.S.Store c.ask_meta.new.conn) c.requires.settled c.ask_meta.ensures.same c.ask_meta.ensures.crash }

@@ -1,4 +1,4 @@
-use Rattle.std.proofs.Common.{rules, arith}
+use Rattle.std.proofs.Common.{rules, arith, IsTrue, sym, subst}
 use Rattle.sqlite.specs.State.{HasCleanDisk}
 use Rattle.sqlite.specs.Files.{file_state}
 use Rattle.reg_tables.proofs.OpenLemmas.{found_register, found_refused}
@@ -15,6 +15,12 @@ returns-in-Err-adopt-clause-refused g c clean =
     let was = c.in-Ok.connection in
     let early : HasCleanDisk (file_state was) = omega (arith, c.in-Err-adopt.ensures.left.clean) in
     found_refused (file_state was) (c.in-Ok.ensures.opened early) (c.in-Ok.ensures.found early) (c.in-Err-adopt.ensures.refused clean)
+
+pub returns-in-Err-adopt-clause-open : goal.returns-in-Err-adopt-clause-open
+returns-in-Err-adopt-clause-open g c well clean =
+    let was = c.in-Ok.connection in
+    let early : HasCleanDisk (file_state was) = omega (arith, c.in-Err-adopt.ensures.left.clean) in
+    subst IsTrue (sym (c.in-Err-adopt.ensures.same well clean).0) (c.in-Ok.ensures.opened early).0.is_open
 
 pub returns-in-Err : goal.returns-in-Err
 returns-in-Err g c = search rules

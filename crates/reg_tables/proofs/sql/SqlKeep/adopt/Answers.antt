@@ -4,6 +4,7 @@ use Rattle.sqlite.specs.Held.{state}
 use Rattle.reg_tables.specs.Digests.{AreBelow}
 use Rattle.reg_tables.specs.KeepLaws.{adopted_keeps, adopted_list, counted_at}
 use Rattle.reg_tables.specs.Register.{KeepsRegister, deposits_in}
+use Rattle.reg_tables.specs.Tables.{register_tables}
 use Rattle.reg_tables.proofs.SchemaLemmas.{register_is}
 use Rattle.reg_tables.proofs.FormatLemmas.{autocommit_idle, meta_first}
 use Rattle.reg_tables.proofs.HeadsLemmas.{heads_found}
@@ -15,9 +16,10 @@ pub examine-requires : goal.examine-requires
 examine-requires g c = record {
   idle = record {
     idle = autocommit_idle _ _ c.is_autocommit.ensures.value (search rules);
-    schema = λ clean. register_is c.args.connection.schema (search rules);
+    schema = λ clean. register_tables _ (register_is c.args.connection.schema (search rules));
     settled = λ clean is_open. sym (c.is_autocommit.ensures.settled (search rules) is_open);
   };
+  schema = λ clean. register_is c.args.connection.schema (search rules);
   none = search rules;
   no_digests = c.new-digests.ensures;
 }

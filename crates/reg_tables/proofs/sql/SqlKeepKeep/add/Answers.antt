@@ -11,7 +11,7 @@ use Rattle.reg_tables.specs.Inserts.{AddsFile}
 use Rattle.reg_tables.specs.Memory.{Agrees, IsComing}
 use Rattle.reg_tables.specs.Register.{KeepsRegister, deposits_in}
 use Rattle.reg_tables.specs.RegisterLaws.{IsReady}
-use Rattle.reg_tables.specs.KeepLaws.{PutsOf, idle_at, settled_of, keeps_same, HoldsMore, adds_at, counted_at, crash_at, whole_put}
+use Rattle.reg_tables.specs.KeepLaws.{PutsOf, idle_at, schema_at, settled_of, keeps_same, HoldsMore, adds_at, counted_at, crash_at, whole_put}
 use Rattle.reg_tables.proofs.AddsLemmas.{opened_at}
 use Rattle.reg_tables.proofs.sql.SqlKeepKeep.add.Given.{Over}
 use Rattle.reg_tables.proofs.sql.SqlKeepKeep.add.Goals as goal
@@ -19,7 +19,7 @@ use Rattle.reg_tables.proofs.sql.SqlKeepKeep.add.Goals as goal
 pub add_checked-added-requires : goal.add_checked-added-requires
 add_checked-added-requires g c =
     let keep = c.args.self.now in
-    record { idle = idle_at (state g.S.Store keep.connection) keep.idle (keep.kept c.requires.working); is_open = λ clean. opened_at (keep.kept c.requires.working clean) }
+    record { idle = idle_at (state g.S.Store keep.connection) keep.idle (keep.kept c.requires.working); schema = λ clean. schema_at (keep.kept c.requires.working clean); is_open = λ clean. opened_at (keep.kept c.requires.working clean) }
 
 -- ---- where no memory is left, or the store refused
 
