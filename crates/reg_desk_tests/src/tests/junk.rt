@@ -12,7 +12,7 @@ use ags_rows::vectors::FILE_A;
 use ags_text::{Bytes, Sequence};
 use reg_desk::{Answer, Desk, Request};
 use reg_policy::vectors::{CALLERS, POLICY};
-use reg_policy::{Callers, Day, Name, Policy};
+use reg_policy::{Caller, Callers, Day, Name, Policy};
 use reg_store::{Keep, KeepError, Kept, KeptHead, KeptRow, PlainKeep, ProjectRow};
 use std::alloc::Global;
 use std::mem::swap;
@@ -170,21 +170,47 @@ fn extracted(
 }
 
 /// Of how many lines of the first file the store fails where they are this text, of 30 places; none where another line changes the answer.
-fn failures(alloc: Global, text: &[u8]) -> Option<usize> {
-    let callers = Callers::read(alloc, CALLERS).ok()?;
-    let project = Name::read(alloc, "N1").ok()?;
-    let (delta, _echo, day) = two_of(&callers, b"t-delta", b"t-echo")?;
-    let deposit = deposit_of(delta, &project, day, FILE_A, day);
-    let extract = extract_of(delta, &project, 1, &[], day);
-    let mut failed = 0;
+fn failures_of(alloc: Global, requests: &[Request], text: &[u8]) -> Option<usize> {
+    let [deposit, extract] = requests else {
+        return None;
+    };
+    let mut failed = 0usize;
     for place in 0..30 {
-        match extracted(alloc, &deposit, &extract, place, text)? {
-            Answer::StoreFailed if place == failed => failed += 1,
+        match extracted(alloc, deposit, extract, place, text)? {
+            Answer::StoreFailed => failed = failed.saturating_add(usize::from(place == failed)),
             Answer::Text(_) => {}
             _ => return None,
         }
     }
     Some(failed)
+}
+
+/// A deposit of the first file, and an extract of it.
+fn pair_of<'a>(delta: &'a Caller, project: &'a Name, day: Day) -> [Request<'a>; 2] {
+    [
+        deposit_of(delta, project, day, FILE_A, day),
+        extract_of(delta, project, 1, &[], day),
+    ]
+}
+
+/// The same of these two requests by Delta.
+fn failures_by_delta(
+    alloc: Global,
+    callers: &Callers,
+    project: &Name,
+    text: &[u8],
+) -> Option<usize> {
+    match two_of(callers, b"t-delta", b"t-echo") {
+        Some((delta, _echo, day)) => failures_of(alloc, &pair_of(delta, project, day), text),
+        None => None,
+    }
+}
+
+/// The same where callers and project are read.
+fn failures(alloc: Global, text: &[u8]) -> Option<usize> {
+    let callers = Callers::read(alloc, CALLERS).ok()?;
+    let project = Name::read(alloc, "N1").ok()?;
+    failures_by_delta(alloc, &callers, &project, text)
 }
 
 /// Each of the 26 lines is read before an extract shows it: header rows and rows of definition groups too.
