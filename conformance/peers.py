@@ -228,7 +228,7 @@ def one_by_one(place):
 
 def many(place):
     """Two hundred at once, again and again."""
-    server, memory = Server(place, ROUNDS * MOST, "--patience=2"), []
+    server, memory = Server(place, ROUNDS * MOST + 1, "--patience=2"), []
 
     def lines():
         return collections.Counter(stories.printed_line(server.process, time.monotonic() + servers.PATIENCE).decode().strip() for _ in range(MOST))
@@ -236,8 +236,11 @@ def many(place):
         statuses, got = at_once(place, f"(turn {turn + 1})", server.connect, honest(place), bytes, lines)
         place.check(f"the lines of turn {turn + 1}", collections.Counter([*map(str, statuses), *(KINDS[kind] for kind in AMONG_MANY)]), got)
         memory.append(server.memory())
-    place.check("memory that does not grow", True, memory[-1] <= memory[0] + MEMORY_ROOM)
+    # The first turn has the program's buffers grow to what such peers need.
+    place.check("memory that does not grow", True, memory[-1] <= memory[1] + MEMORY_ROOM)
     print(f"(greatest resident memory of `serve` after each {MOST} peers: {', '.join(map(str, memory))} KiB)")
+    data, status, want = honest(place)[0]
+    place.check("the last request", (want, str(status)), (answered(server.connect, data), server.line(str(status))))
     server.end("many")
 
 

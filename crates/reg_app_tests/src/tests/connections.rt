@@ -285,7 +285,7 @@ struct Calendar {
 }
 
 /// A calendar from 2024-05-01 on.
-fn calendar() -> Calendar {
+fn calendar_from_may() -> Calendar {
     Calendar {
         day: Cell::new(19_844),
     }
@@ -357,7 +357,7 @@ fn prints(alloc: Global, listener: &TcpListener, case: &Case) -> Result<bool, Fa
     let count = case.count;
     let status = serve_some(
         alloc,
-        &calendar(),
+        &calendar_from_may(),
         listener,
         count,
         &mut printed,
@@ -403,7 +403,7 @@ fn has_ended(
     log: &mut Failing<'_>,
     fails: bool,
 ) -> Result<bool, Fail> {
-    let status = serve_some(alloc, &calendar(), listener, 2, out, log)?;
+    let status = serve_some(alloc, &calendar_from_may(), listener, 2, out, log)?;
     Ok(status == if fails { 6 } else { 0 })
 }
 
