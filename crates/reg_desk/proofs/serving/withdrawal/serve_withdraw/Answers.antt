@@ -28,7 +28,7 @@ pub returns-in-Ok-Some-true : goal.returns-in-Ok-Some-true
 returns-in-Ok-Some-true g c = λ day.
     let own = rw c.in-Ok-Some-true.field-0-is at c.in-Ok-Some-true.ensures.own in
     withdraw_again g.K.Keep c.args.policy.now c.args.caller.now c.args.project.now c.args.number day c.args.keep.now c.own_mark.new.keep _ (sym c.decide_request.ensures ∙ c.in-Permit.is) c.in-Ok-Some-true.ensures.reads
-    (λ s. ap (λ (w : Bool). Some w) (sym c.in-Ok-Some-true.field-0-0-is) ∙ own s)
+    (λ s. ap (λ (w : Bool). Some w) (sym c.in-Ok-Some-true.field-0-0-test) ∙ own s)
 
 pub withdraw-requires-clause-working : goal.withdraw-requires-clause-working
 withdraw-requires-clause-working g c = still_works g.K.Keep c.args.keep.now c.own_mark.new.keep c.in-Ok-Some-false.ensures.reads
@@ -42,17 +42,17 @@ pub withdraw-requires-clause-unmarked : goal.withdraw-requires-clause-unmarked
 withdraw-requires-clause-unmarked g c =
     let own = rw c.in-Ok-Some-false.field-0-is at c.in-Ok-Some-false.ensures.own in
     own_unmarked g.K.Keep c.args.caller.now c.args.project.now c.args.number c.args.keep.now c.own_mark.new.keep c.in-Ok-Some-false.ensures.reads
-    (λ s. ap (λ (w : Bool). Some w) (sym c.in-Ok-Some-false.field-0-0-is) ∙ own s)
+    (λ s. ap (λ (w : Bool). Some w) (sym c.in-Ok-Some-false.field-0-0-test) ∙ own s)
 
 pub returns-in-Err-withdraw : goal.returns-in-Err-withdraw
 returns-in-Err-withdraw g c = λ day.
     let own = rw c.in-Ok-Some-false.field-0-is at c.in-Ok-Some-false.ensures.own in
     subst (Serves g.K.Keep c.args.policy.now (withdraw c.args.caller.now c.args.project.now c.args.number day) c.args.keep.now c.withdraw.new.self) (sym c.refused-in-Err-withdraw.ensures)
     (withdraw_unmarked g.K.Keep c.args.policy.now c.args.caller.now c.args.project.now c.args.number day c.args.keep.now c.own_mark.new.keep c.withdraw.new.self _ c.in-Err-withdraw.error (sym c.decide_request.ensures ∙ c.in-Permit.is)
-    c.in-Ok-Some-false.ensures.reads (λ s. ap (λ (w : Bool). Some w) (sym c.in-Ok-Some-false.field-0-0-is) ∙ own s) c.in-Err-withdraw.ensures.leaves c.in-Err-withdraw.ensures.refused)
+    c.in-Ok-Some-false.ensures.reads (λ s. ap (λ (w : Bool). Some w) (sym c.in-Ok-Some-false.field-0-0-test) ∙ own s) c.in-Err-withdraw.ensures.leaves c.in-Err-withdraw.ensures.refused)
 
 pub returns-in-Ok : goal.returns-in-Ok
 returns-in-Ok g c = λ day.
     let own = rw c.in-Ok-Some-false.field-0-is at c.in-Ok-Some-false.ensures.own in
     withdraw_marks g.K.Keep c.args.policy.now c.args.caller.now c.args.project.now c.args.number day c.args.keep.now c.own_mark.new.keep c.withdraw.new.self _ c.in-Ok.field-0 (sym c.decide_request.ensures ∙ c.in-Permit.is)
-    c.in-Ok-Some-false.ensures.reads (λ s. ap (λ (w : Bool). Some w) (sym c.in-Ok-Some-false.field-0-0-is) ∙ own s) c.in-Ok.ensures.leaves
+    c.in-Ok-Some-false.ensures.reads (λ s. ap (λ (w : Bool). Some w) (sym c.in-Ok-Some-false.field-0-0-test) ∙ own s) c.in-Ok.ensures.leaves
