@@ -48,7 +48,7 @@ held_at state (suc n) low high =
     get_at (d ∷ state) zero lt = (d, refl)
     get_at (d ∷ state) (suc n) lt = get_at state n (omega arith)
 
-pub none_held : (state : List Deposit) (n : ℕ) → (n ≡ 0) ⊎ (length state < n) → held n state ≡ None
+none_held : (state : List Deposit) (n : ℕ) → (n ≡ 0) ⊎ (length state < n) → held n state ≡ None
 none_held state zero h = refl
 none_held state (suc n) (inl e) = absurd (omega (arith, e))
 none_held [] (suc n) (inr lt) = refl
@@ -64,7 +64,7 @@ fit_at given state i d all at = subst (IsFit given) (get_or_from_slice_get state
 
 pub look_same : (terms : Terms) (caller : Caller) (day : ℤ) (d : Deposit) (head : KeptHead) → IsHeadOf d head → look_on terms.policy caller head day ≡ look_at terms caller day d.sent
 look_same terms caller day d head is =
-    ap (λ (f : List ℕ). record { rules = terms.policy; caller = caller; owner = f; project = head.sent.project; embargo = head.embargo; day = day }) is.firm
+    ap (λ (f : List ℕ). record { rules = terms.policy; caller = caller; owner = f; project = head.project; embargo = head.embargo; day = day }) is.firm
     ∙ ap (λ (p : List ℕ). record { rules = terms.policy; caller = caller; owner = d.sent.firm; project = p; embargo = head.embargo; day = day }) is.project
     ∙ ap (λ (e : ℤ). record { rules = terms.policy; caller = caller; owner = d.sent.firm; project = d.sent.project; embargo = e; day = day }) is.embargo
 
@@ -112,7 +112,7 @@ drawn_of : (terms : Terms) (caller : Caller) (groups : List (List ℕ)) (day : �
     → IsExtractOf (look_at terms caller day d.sent) (file_of file) groups text → IsDrawnFrom terms caller project groups day (Some d) (text_answer text)
 drawn_of terms caller groups day project d file (Some text) is unmarked same drawn =
     let clean = clean_of terms.dictionary d.sent file is in
-    where_true (bytes_eq d.sent.project project) _ _ same (inl ((unmarked, file_of file, clean, drawn.0), (text, (file_of file, clean, drawn.1), refl)))
+    where_true (bytes_eq d.sent.project project) _ _ same (inl ((unmarked, (file_of file, clean, drawn.0)), (text, (file_of file, clean, drawn.1), refl)))
 drawn_of terms caller groups day project d file None is unmarked same hidden =
     let clean = clean_of terms.dictionary d.sent file is in
     let look = look_at terms caller day d.sent in
@@ -238,7 +238,7 @@ seen_listed keep rules old mid caller number day head look seen reads s h same s
     let terms = terms_at keep rules old in
     subst (λ (k : Deposit). ∥ IsLineFor terms caller day number k (Some (record { number = number; firm = head.firm; embargo = head.embargo })) ∥₁) (same_kept (held number (keep.deposits old)) h.kept d h.holds holds)
     (∥∥₁_map h.fit (λ (f : (file : CheckedFile) × IsFileOf terms.dictionary h.kept.sent file). (
-      (sym h.of_head.withdrawn ∙ unmarked, file_of f.0, clean_of terms.dictionary h.kept.sent f.0 f.1, (seen_file keep terms old mid caller number day head look seen reads s h same sees f.0 f.1).0 is),
+      (sym h.of_head.withdrawn ∙ unmarked, (file_of f.0, clean_of terms.dictionary h.kept.sent f.0 f.1, (seen_file keep terms old mid caller number day head look seen reads s h same sees f.0 f.1).0 is)),
       ap (λ (firm : List ℕ). record { number = number; firm = firm; embargo = head.embargo }) h.of_head.firm ∙ ap (λ (e : ℤ). record { number = number; firm = h.kept.sent.firm; embargo = e }) h.of_head.embargo,
     )))
 

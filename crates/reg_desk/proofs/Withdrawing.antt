@@ -19,25 +19,23 @@ use Rattle.reg_desk.specs.declared.answer.Answer.{Answer}
 use Rattle.reg_desk.specs.declared.answer.Answer.TheVariants.{Denied, Unknown, Withdrawn}
 use Rattle.reg_desk.specs.Machine.{Terms, decided, held, is_own, withdrawal_of, IsReply, IsWithdrawn, Changes, IsNext}
 use Rattle.reg_desk.specs.Serving.{AsksStore, mark_of, terms_at, OnlyReads, Serves, answer_of}
-use Rattle.reg_desk.proofs.Drawing.{held_at, none_held}
+use Rattle.reg_desk.proofs.Drawing.{held_at}
 use Rattle.reg_desk.proofs.Serves.{Makes, IsMaking, made_serves, unmade_serves, asks_of, replies_at_once, refused_serves, replies_serves, permitted_reply, denied_reply, permit_stands}
 
 -- ---- the mark of a firm's own deposit
 
--- no deposit has the number
-pub unheld_mark : (caller : Caller) (project : List ℕ) (state : List Deposit) (number : ℕ) → (number ≡ 0) ⊎ (length state < number) → None ≡ mark_of caller project (held number state)
-unheld_mark caller project state number outside = sym (ap (mark_of caller project) (none_held state number outside))
-
--- by its head, and whether that is the project's and the firm's
-pub head_mark : (caller : Caller) (project : List ℕ) (state : List Deposit) (number : ℕ) (head : KeptHead) (own : Bool) → 0 < number → number ≤ length state
-    → ((d : Deposit) → slice_get state (number - 1) ≡ Some d → IsHeadOf d head)
-    → (bytes_eq head.project project && bytes_eq head.firm caller.firm) ≡ own → cond own (Some head.withdrawn) None ≡ mark_of caller project (held number state)
-head_mark caller project state number head own low high read is =
+-- by its head, which is the project's and the firm's
+pub head_mark : (caller : Caller) (project : List ℕ) (state : List Deposit) (number : ℕ) (head : KeptHead) → 0 < number → number ≤ length state
+    → ((d : Deposit) → slice_get state (number - 1) ≡ Some d → IsHeadOf d head) → bytes_eq head.project project ≡ true → bytes_eq head.firm caller.firm ≡ true
+    → Some head.withdrawn ≡ mark_of caller project (held number state)
+head_mark caller project state number head low high read of_project of_firm =
     let d = held_at state number low high in
     let of_head = read d.0 d.1 in
-    let same : is_own caller project d.0 ≡ own =
-    ap (λ (p : List ℕ). bytes_eq p project && bytes_eq d.0.sent.firm caller.firm) (sym of_head.project) ∙ ap (λ (f : List ℕ). bytes_eq head.project project && bytes_eq f caller.firm) (sym of_head.firm) ∙ is in
-    ap (λ (w : Bool). cond own (Some w) None) of_head.withdrawn ∙ ap (λ (t : Bool). cond t (Some d.0.withdrawn) None) (sym same) ∙ sym (ap (mark_of caller project) d.2)
+    let own : is_own caller project d.0 ≡ true =
+    ap (λ (p : List ℕ). bytes_eq p project && bytes_eq d.0.sent.firm caller.firm) (sym of_head.project)
+    ∙ ap (λ (f : List ℕ). bytes_eq head.project project && bytes_eq f caller.firm) (sym of_head.firm)
+    ∙ ap (λ (t : Bool). t && bytes_eq head.firm caller.firm) of_project ∙ of_firm in
+    ap (λ (w : Bool). Some w) of_head.withdrawn ∙ ap (λ (t : Bool). cond t (Some d.0.withdrawn) None) (sym own) ∙ sym (ap (mark_of caller project) d.2)
 
 -- the deposit with that mark
 pub record IsOwned (caller : Caller) (project : List ℕ) (held : Option Deposit) (withdrawn : Bool) : Type 0 where
@@ -144,7 +142,7 @@ pub withdraw_again : {K : Type 0} (keep : Ghosts K) (rules : List Rule) (caller 
 withdraw_again keep rules caller project number day old new k permit reads is =
     let terms = terms_at keep rules old in
     let state = keep.deposits old in
-    let own = λ s. owned caller project (held number state) true (is s) in
+    let own : keep.is_sound new → IsOwned caller project (held number state) true = λ s. owned caller project (held number state) true (is s) in
     replies_serves keep rules (withdraw caller project number day) old new (Withdrawn number) reads refl
     (λ s. ∣ own_answer terms state caller project number day k true permit (own s) ∣₁)
     (λ s. inl (is_withdrawn terms state caller project number k true permit (own s), marked_once number state (own s).kept (own s).holds (own s).mark))
