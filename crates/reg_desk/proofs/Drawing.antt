@@ -37,7 +37,8 @@ use Rattle.reg_desk.proofs.Serves.{is_told, asks_of, replies_at_once, refused_se
 -- ---- a kept deposit
 
 -- deposit n is held
-pub held_at : (state : List Deposit) (n : ℕ) → 0 < n → n ≤ length state → (d : Deposit) × (slice_get state (n - 1) ≡ Some d) × (held n state ≡ Some d)
+pub held_at : (state : List Deposit) (n : ℕ) → 0 < n → n ≤ length state
+    → (d : Deposit) × (slice_get state (n - 1) ≡ Some d) × (held n state ≡ Some d)
 held_at state zero low high = absurd (omega arith)
 held_at state (suc n) low high =
     let h = get_at state n (omega arith) in
@@ -59,11 +60,26 @@ none_held (d ∷ state) (suc (suc n)) (inr lt) = none_held state (suc n) (inr (o
 pub fit_at : (given : Entries) (state : List Sent) (i : ℕ) (d : Sent) → All (IsFit given) state → slice_get state i ≡ Some d → IsFit given d
 fit_at given state i d all at = subst (IsFit given) (get_or_from_slice_get state i d d at) (all i d (slice_get_within state i d at))
 
-pub look_same : (terms : Terms) (caller : Caller) (day : ℤ) (d : Deposit) (head : KeptHead) → IsHeadOf d head → look_on terms.policy caller head day ≡ look_at terms caller day d.sent
+pub look_same : (terms : Terms) (caller : Caller) (day : ℤ) (d : Deposit) (head : KeptHead) → IsHeadOf d head
+    → look_on terms.policy caller head day ≡ look_at terms caller day d.sent
 look_same terms caller day d head is =
     ap (λ (f : List ℕ). record { rules = terms.policy; caller = caller; owner = f; project = head.project; embargo = head.embargo; day = day }) is.firm
-    ∙ ap (λ (p : List ℕ). record { rules = terms.policy; caller = caller; owner = d.sent.firm; project = p; embargo = head.embargo; day = day }) is.project
-    ∙ ap (λ (e : ℤ). record { rules = terms.policy; caller = caller; owner = d.sent.firm; project = d.sent.project; embargo = e; day = day }) is.embargo
+    ∙ ap (λ (p : List ℕ). record {
+      rules = terms.policy;
+      caller = caller;
+      owner = d.sent.firm;
+      project = p;
+      embargo = head.embargo;
+      day = day;
+    }) is.project
+    ∙ ap (λ (e : ℤ). record {
+      rules = terms.policy;
+      caller = caller;
+      owner = d.sent.firm;
+      project = d.sent.project;
+      embargo = e;
+      day = day;
+    }) is.embargo
 
 pub clean_of : (given : Entries) (d : Sent) (file : CheckedFile) → IsFileOf given d file → IsCleanFile given d.bytes (file_of file)
 clean_of given d file is =
@@ -90,9 +106,11 @@ pub record IsHeaded (given : Entries) (state : List Deposit) (number : ℕ) (hea
   pub of_head : IsHeadOf kept head
   pub fit : IsFit given kept.sent
 
-pub headed : {K : Type 0} (keep : Ghosts K) (old mid : K) (number : ℕ) (head : KeptHead) → (keep.is_sound old → (0 < number) × (number ≤ length (keep.deposits old)))
+pub headed : {K : Type 0} (keep : Ghosts K) (old mid : K) (number : ℕ) (head : KeptHead)
+    → (keep.is_sound old → (0 < number) × (number ≤ length (keep.deposits old)))
     → (keep.is_sound old → All (IsFit (keep.dictionary old)) (sents (keep.deposits old)))
-    → OnlyReads keep old mid false → (keep.is_sound mid → (d : Deposit) → slice_get (keep.deposits old) (number - 1) ≡ Some d → IsHeadOf d head) → keep.is_sound mid
+    → OnlyReads keep old mid false → (keep.is_sound mid → (d : Deposit)
+    → slice_get (keep.deposits old) (number - 1) ≡ Some d → IsHeadOf d head) → keep.is_sound mid
     → IsHeaded (keep.dictionary old) (keep.deposits old) number head
 headed keep old mid number head within fit first read s =
     let s0 = first.sound s in
@@ -100,46 +118,69 @@ headed keep old mid number head within fit first read s =
     let place = within s0 in
     let d = held_at state number place.0 place.1 in
     let sent = sent_at state (number - 1) d.0 d.1 in
-    record { kept = d.0; place = sent; holds = d.2; of_head = read s d.0 d.1; fit = fit_at (keep.dictionary old) (sents state) (number - 1) d.0.sent (fit s0) sent }
+    record {
+      kept = d.0;
+      place = sent;
+      holds = d.2;
+      of_head = read s d.0 d.1;
+      fit = fit_at (keep.dictionary old)
+          (sents state) (number - 1) d.0.sent (fit s0) sent;
+    }
 
 -- ---- what is drawn
 
-drawn_of : (terms : Terms) (caller : Caller) (groups : List (List ℕ)) (day : ℤ) (project : List ℕ) (d : Deposit) (file : CheckedFile) (text : Option (List ℕ))
+drawn_of : (terms : Terms) (caller : Caller) (groups : List (List ℕ)) (day : ℤ) (project : List ℕ) (d : Deposit)
+    (file : CheckedFile) (text : Option (List ℕ))
     → IsFileOf terms.dictionary d.sent file → d.withdrawn ≡ false → bytes_eq d.sent.project project ≡ true
-    → IsExtractOf (look_at terms caller day d.sent) (file_of file) groups text → IsDrawnFrom terms caller project groups day (Some d) (text_answer text)
+    → IsExtractOf (look_at terms caller day d.sent) (file_of file) groups text
+    → IsDrawnFrom terms caller project groups day (Some d) (text_answer text)
 drawn_of terms caller groups day project d file (Some text) is unmarked same drawn =
     let clean = clean_of terms.dictionary d.sent file is in
-    where_true (bytes_eq d.sent.project project) _ _ same (inl ((unmarked, (file_of file, clean, drawn.0)), (text, (file_of file, clean, drawn.1), refl)))
+    where_true (bytes_eq d.sent.project project) _ _ same
+    (inl ((unmarked, (file_of file, clean, drawn.0)), (text, (file_of file, clean, drawn.1), refl)))
 drawn_of terms caller groups day project d file None is unmarked same hidden =
     let clean = clean_of terms.dictionary d.sent file is in
     let look = look_at terms caller day d.sent in
     where_true (bytes_eq d.sent.project project) _ _ same
-    (inr ((λ seen. hidden (subst (IsProjectShown look) (one_file terms.dictionary d.sent.bytes seen.1.0 (file_of file) seen.1.1 clean) seen.1.2)), refl))
+    (inr (
+      (λ seen. hidden (subst (IsProjectShown look)
+          (one_file terms.dictionary d.sent.bytes seen.1.0 (file_of file) seen.1.1 clean) seen.1.2)),
+      refl,
+    ))
 
 -- by its head, and by its files
-pub head_drawn : (terms : Terms) (state : List Deposit) (caller : Caller) (project : List ℕ) (number : ℕ) (groups : List (List ℕ)) (day : ℤ) (head : KeptHead) (text : Option (List ℕ))
+pub head_drawn : (terms : Terms) (state : List Deposit) (caller : Caller) (project : List ℕ) (number : ℕ)
+    (groups : List (List ℕ)) (day : ℤ) (head : KeptHead) (text : Option (List ℕ))
     → IsHeaded terms.dictionary state number head → head.withdrawn ≡ false → bytes_eq head.project project ≡ true
-    → OfDeposit terms.dictionary (sents state) number (λ file. IsExtractOf (look_on terms.policy caller head day) (file_of file) groups text)
+    → OfDeposit terms.dictionary (sents state) number
+    (λ file. IsExtractOf (look_on terms.policy caller head day) (file_of file) groups text)
     → ∥ IsDrawnFrom terms caller project groups day (held number state) (text_answer text) ∥₁
 head_drawn terms state caller project number groups day head text h unmarked same drawn =
     ∥∥₁_map h.fit (λ (f : (file : CheckedFile) × IsFileOf terms.dictionary h.kept.sent file).
-    let is = subst (λ (look : Look). IsExtractOf look (file_of f.0) groups text) (look_same terms caller day h.kept head h.of_head) (drawn h.kept.sent f.0 h.place f.1) in
+    let is = subst (λ (look : Look). IsExtractOf look (file_of f.0) groups text)
+    (look_same terms caller day h.kept head h.of_head) (drawn h.kept.sent f.0 h.place f.1) in
     subst (λ (o : Option Deposit). IsDrawnFrom terms caller project groups day o (text_answer text)) (sym h.holds)
-    (drawn_of terms caller groups day project h.kept f.0 text f.1 (sym h.of_head.withdrawn ∙ unmarked) (ap (λ (p : List ℕ). bytes_eq p project) (sym h.of_head.project) ∙ same) is))
+    (drawn_of terms caller groups day project h.kept f.0 text f.1 (sym h.of_head.withdrawn ∙ unmarked)
+    (ap (λ (p : List ℕ). bytes_eq p project) (sym h.of_head.project) ∙ same) is))
 
 -- no deposit has the number
-pub unheld_drawn : (terms : Terms) (state : List Deposit) (caller : Caller) (project : List ℕ) (number : ℕ) (groups : List (List ℕ)) (day : ℤ) → (number ≡ 0) ⊎ (length state < number)
+pub unheld_drawn : (terms : Terms) (state : List Deposit) (caller : Caller) (project : List ℕ) (number : ℕ)
+    (groups : List (List ℕ)) (day : ℤ) → (number ≡ 0) ⊎ (length state < number)
     → IsDrawnFrom terms caller project groups day (held number state) Unknown
 unheld_drawn terms state caller project number groups day outside =
-    subst (λ (o : Option Deposit). IsDrawnFrom terms caller project groups day o Unknown) (sym (none_held state number outside)) refl
+    subst (λ (o : Option Deposit). IsDrawnFrom terms caller project groups day o Unknown)
+    (sym (none_held state number outside)) refl
 
-unseen : (t : Bool) (Seen Then Else : Type 0) → (t ≡ true → Seen → ⊥) → Else → MatchBool t ((Seen × Then) ⊎ ((Seen → ⊥) × Else)) Else
+unseen : (t : Bool) (Seen Then Else : Type 0) → (t ≡ true → Seen → ⊥) → Else
+    → MatchBool t ((Seen × Then) ⊎ ((Seen → ⊥) × Else)) Else
 unseen true Seen Then Else never is = inr (never refl, is)
 unseen false Seen Then Else never is = is
 
 -- it is withdrawn, or of another project
-pub other_drawn : (terms : Terms) (state : List Deposit) (caller : Caller) (project : List ℕ) (number : ℕ) (groups : List (List ℕ)) (day : ℤ) (d : Deposit) (head : KeptHead) → held number state ≡ Some d → IsHeadOf d head
-    → (head.withdrawn ≡ true) ⊎ (bytes_eq head.project project ≡ false) → IsDrawnFrom terms caller project groups day (held number state) Unknown
+pub other_drawn : (terms : Terms) (state : List Deposit) (caller : Caller) (project : List ℕ) (number : ℕ)
+    (groups : List (List ℕ)) (day : ℤ) (d : Deposit) (head : KeptHead) → held number state ≡ Some d → IsHeadOf d head
+    → (head.withdrawn ≡ true) ⊎ (bytes_eq head.project project ≡ false)
+    → IsDrawnFrom terms caller project groups day (held number state) Unknown
 other_drawn terms state caller project number groups day d head holds of_head other =
     subst (λ (o : Option Deposit). IsDrawnFrom terms caller project groups day o Unknown) (sym holds)
     (unseen (bytes_eq d.sent.project project) _ _ _ (λ same seen. elim other [
@@ -153,15 +194,20 @@ other_drawn terms state caller project number groups day d head holds of_head ot
 abbrev IsOne : Answer → Type 0
 IsOne answer = (answer ≡ Unknown) ⊎ ((t : List ℕ) × (answer ≡ Text t))
 
-one_of : (terms : Terms) (caller : Caller) (project : List ℕ) (groups : List (List ℕ)) (day : ℤ) (d : Deposit) (t : Bool) (answer : Answer)
-    → MatchBool t ((IsSeen terms caller day d × ((text : List ℕ) × IsTextOf terms caller day groups d.sent text × (answer ≡ Text text))) ⊎ ((IsSeen terms caller day d → ⊥) × (answer ≡ Unknown))) (answer ≡ Unknown) → IsOne answer
+one_of : (terms : Terms) (caller : Caller) (project : List ℕ) (groups : List (List ℕ)) (day : ℤ) (d : Deposit)
+    (t : Bool) (answer : Answer)
+    → MatchBool t ((IsSeen terms caller day d ×
+    ((text : List ℕ) × IsTextOf terms caller day groups d.sent text ×
+    (answer ≡ Text text))) ⊎ ((IsSeen terms caller day d → ⊥) × (answer ≡ Unknown))) (answer ≡ Unknown) → IsOne answer
 one_of terms caller project groups day d true answer (inl h) = inr (h.1.0, h.1.2)
 one_of terms caller project groups day d true answer (inr h) = inl h.1
 one_of terms caller project groups day d false answer h = inl h
 
-drawn_one : (terms : Terms) (caller : Caller) (project : List ℕ) (groups : List (List ℕ)) (day : ℤ) (o : Option Deposit) (answer : Answer) → IsDrawnFrom terms caller project groups day o answer → IsOne answer
+drawn_one : (terms : Terms) (caller : Caller) (project : List ℕ) (groups : List (List ℕ)) (day : ℤ)
+    (o : Option Deposit) (answer : Answer) → IsDrawnFrom terms caller project groups day o answer → IsOne answer
 drawn_one terms caller project groups day None answer h = inl h
-drawn_one terms caller project groups day (Some d) answer h = one_of terms caller project groups day d (bytes_eq d.sent.project project) answer h
+drawn_one terms caller project groups day (Some d) answer h = one_of terms caller project groups day d
+    (bytes_eq d.sent.project project) answer h
 
 one_asks : AsksStore IsOne
 one_asks = (
@@ -170,7 +216,8 @@ one_asks = (
   λ h. elim h [ inl e ↦ cc | inr e ↦ let same = e.1 in cc ],
 )
 
-extract_asks : (terms : Terms) (state : List Deposit) (caller : Caller) (project : List ℕ) (number : ℕ) (groups : List (List ℕ)) (day : ℤ) (k : ℕ) → decided terms caller project verbs.Extract ≡ Permit k
+extract_asks : (terms : Terms) (state : List Deposit) (caller : Caller) (project : List ℕ) (number : ℕ)
+    (groups : List (List ℕ)) (day : ℤ) (k : ℕ) → decided terms caller project verbs.Extract ≡ Permit k
     → AsksStore (IsReply terms state (extract caller project number groups day))
 extract_asks terms state caller project number groups day k permit =
     let Drawn = IsDrawnFrom terms caller project groups day (held number state) in
@@ -209,51 +256,83 @@ same_kept : (o : Option Deposit) (d e : Deposit) → o ≡ Some d → o ≡ Some
 same_kept o d e a b = cc
 
 -- a reading of what is kept of a deposit does not fail the store
-pub kept_lives : {K X : Type 0} (keep : Ghosts K) (old : K) (number : ℕ) (r : Result X KeepError) → (0 < number) × (number ≤ length (keep.deposits old)) → All (IsFit (keep.dictionary old)) (sents (keep.deposits old))
-    → (r ≡ Err errors.Store → OfDeposit (keep.dictionary old) (sents (keep.deposits old)) number (λ file. ⊥)) → fails r ≡ false
+pub kept_lives : {K X : Type 0} (keep : Ghosts K) (old : K) (number : ℕ) (r : Result X KeepError)
+    → (0 < number) × (number ≤ length (keep.deposits old))
+    → All (IsFit (keep.dictionary old)) (sents (keep.deposits old))
+    → (r ≡ Err errors.Store → OfDeposit (keep.dictionary old) (sents (keep.deposits old)) number (λ file. ⊥))
+    → fails r ≡ false
 kept_lives keep old number (Ok x) within fit broken = refl
 kept_lives keep old number (Err errors.Full) within fit broken = refl
 kept_lives keep old number (Err errors.NoMemory) within fit broken = refl
 kept_lives keep old number (Err errors.Store) within fit broken =
     let d = held_at (keep.deposits old) number within.0 within.1 in
     let sent = sent_at (keep.deposits old) (number - 1) d.0 d.1 in
-    absurd (∥∥₁_elim (fit_at (keep.dictionary old) (sents (keep.deposits old)) (number - 1) d.0.sent fit sent) (Prim.hlevel props)
+    absurd (∥∥₁_elim (fit_at (keep.dictionary old) (sents (keep.deposits old)) (number - 1) d.0.sent fit sent)
+    (Prim.hlevel props)
     (λ (f : (file : CheckedFile) × IsFileOf (keep.dictionary old) d.0.sent file). broken refl d.0.sent f.0 sent f.1))
 
 -- whether its row of PROJ is shown, where that was read after its head
 seen_file : {K : Type 0} (keep : Ghosts K) (terms : Terms) (old mid : K) (caller : Caller) (number : ℕ) (day : ℤ) (head : KeptHead) (look : Look) (seen : Bool) → OnlyReads keep old mid false → keep.is_sound mid
-    → (h : IsHeaded (keep.dictionary old) (keep.deposits old) number head) → look ≡ look_at terms caller day h.kept.sent → OfDeposit (keep.dictionary mid) (sents (keep.deposits mid)) number (λ file. Sees look file seen)
-    → (file : CheckedFile) → IsFileOf (keep.dictionary old) h.kept.sent file → (seen ≡ true) ↔ IsProjectShown (look_at terms caller day h.kept.sent) (file_of file)
+    → (h : IsHeaded (keep.dictionary old) (keep.deposits old) number head)
+    → look ≡ look_at terms caller day h.kept.sent
+    → OfDeposit (keep.dictionary mid) (sents (keep.deposits mid)) number (λ file. Sees look file seen)
+    → (file : CheckedFile) → IsFileOf (keep.dictionary old) h.kept.sent file
+    → (seen ≡ true) ↔ IsProjectShown (look_at terms caller day h.kept.sent) (file_of file)
 seen_file keep terms old mid caller number day head look seen reads s h same sees file is =
     subst (λ (l : Look). (seen ≡ true) ↔ IsProjectShown l (file_of file)) same
-    (sees h.kept.sent file (ap (λ (l : List Deposit). slice_get (sents l) (number - 1)) (reads.same s refl) ∙ h.place) (subst (λ (e : Entries). IsFileOf e h.kept.sent file) (sym reads.same_dictionary) is))
+    (sees h.kept.sent file (ap (λ (l : List Deposit). slice_get (sents l) (number - 1)) (reads.same s refl) ∙ h.place)
+    (subst (λ (e : Entries). IsFileOf e h.kept.sent file) (sym reads.same_dictionary) is))
 
 pub seen_listed : {K : Type 0} (keep : Ghosts K) (rules : List Rule) (old mid : K) (caller : Caller) (number : ℕ) (day : ℤ) (head : KeptHead) (look : Look) (seen : Bool) → OnlyReads keep old mid false → keep.is_sound mid
-    → (h : IsHeaded (keep.dictionary old) (keep.deposits old) number head) → look ≡ look_at (terms_at keep rules old) caller day h.kept.sent → OfDeposit (keep.dictionary mid) (sents (keep.deposits mid)) number (λ file. Sees look file seen) → head.withdrawn ≡ false → seen ≡ true
-    → (d : Deposit) → held number (keep.deposits old) ≡ Some d → ∥ IsLineFor (terms_at keep rules old) caller day number d (Some (record { number = number; firm = head.firm; embargo = head.embargo })) ∥₁
+    → (h : IsHeaded (keep.dictionary old) (keep.deposits old) number head)
+    → look ≡ look_at (terms_at keep rules old) caller day h.kept.sent
+    → OfDeposit (keep.dictionary mid) (sents (keep.deposits mid)) number (λ file. Sees look file seen)
+    → head.withdrawn ≡ false → seen ≡ true
+    → (d : Deposit) → held number (keep.deposits old) ≡ Some d
+    → ∥ IsLineFor (terms_at keep rules old) caller day number d
+    (Some (record { number = number; firm = head.firm; embargo = head.embargo })) ∥₁
 seen_listed keep rules old mid caller number day head look seen reads s h same sees unmarked is d holds =
     let terms = terms_at keep rules old in
-    subst (λ (k : Deposit). ∥ IsLineFor terms caller day number k (Some (record { number = number; firm = head.firm; embargo = head.embargo })) ∥₁) (same_kept (held number (keep.deposits old)) h.kept d h.holds holds)
+    subst (λ (k : Deposit). ∥ IsLineFor terms caller day number k
+    (Some (record { number = number; firm = head.firm; embargo = head.embargo })) ∥₁) (same_kept
+    (held number (keep.deposits old)) h.kept d h.holds holds)
     (∥∥₁_map h.fit (λ (f : (file : CheckedFile) × IsFileOf terms.dictionary h.kept.sent file). (
-      (sym h.of_head.withdrawn ∙ unmarked, (file_of f.0, clean_of terms.dictionary h.kept.sent f.0 f.1, (seen_file keep terms old mid caller number day head look seen reads s h same sees f.0 f.1).0 is)),
-      ap (λ (firm : List ℕ). record { number = number; firm = firm; embargo = head.embargo }) h.of_head.firm ∙ ap (λ (e : ℤ). record { number = number; firm = h.kept.sent.firm; embargo = e }) h.of_head.embargo,
+      (
+        sym h.of_head.withdrawn ∙ unmarked,
+        (
+          file_of f.0,
+          clean_of terms.dictionary h.kept.sent f.0 f.1,
+          (seen_file keep terms old mid caller number day head look seen reads s h same sees f.0 f.1).0 is,
+        ),
+      ),
+      ap (λ (firm : List ℕ). record { number = number; firm = firm; embargo = head.embargo }) h.of_head.firm ∙ ap
+          (λ (e : ℤ). record { number = number; firm = h.kept.sent.firm; embargo = e }) h.of_head.embargo,
     )))
 
 pub seen_unlisted : {K : Type 0} (keep : Ghosts K) (rules : List Rule) (old mid : K) (caller : Caller) (number : ℕ) (day : ℤ) (head : KeptHead) (look : Look) (seen : Bool) → OnlyReads keep old mid false → keep.is_sound mid
-    → (h : IsHeaded (keep.dictionary old) (keep.deposits old) number head) → look ≡ look_at (terms_at keep rules old) caller day h.kept.sent → OfDeposit (keep.dictionary mid) (sents (keep.deposits mid)) number (λ file. Sees look file seen) → seen ≡ false
-    → (d : Deposit) → held number (keep.deposits old) ≡ Some d → ∥ IsLineFor (terms_at keep rules old) caller day number d None ∥₁
+    → (h : IsHeaded (keep.dictionary old) (keep.deposits old) number head)
+    → look ≡ look_at (terms_at keep rules old) caller day h.kept.sent
+    → OfDeposit (keep.dictionary mid) (sents (keep.deposits mid)) number (λ file. Sees look file seen) → seen ≡ false
+    → (d : Deposit) → held number (keep.deposits old) ≡ Some d
+    → ∥ IsLineFor (terms_at keep rules old) caller day number d None ∥₁
 seen_unlisted keep rules old mid caller number day head look seen reads s h same sees is d holds =
     let terms = terms_at keep rules old in
-    subst (λ (k : Deposit). ∥ IsLineFor terms caller day number k None ∥₁) (same_kept (held number (keep.deposits old)) h.kept d h.holds holds)
-    (∥∥₁_map h.fit (λ (f : (file : CheckedFile) × IsFileOf terms.dictionary h.kept.sent file) (was : IsSeen terms caller day h.kept).
+    subst (λ (k : Deposit). ∥ IsLineFor terms caller day number k None ∥₁)
+    (same_kept (held number (keep.deposits old)) h.kept d h.holds holds)
+    (∥∥₁_map h.fit (λ (f : (file : CheckedFile) × IsFileOf terms.dictionary h.kept.sent file)
+    (was : IsSeen terms caller day h.kept).
     let clean = clean_of terms.dictionary h.kept.sent f.0 f.1 in
-    let shown = subst (IsProjectShown (look_at terms caller day h.kept.sent)) (one_file terms.dictionary h.kept.sent.bytes was.1.0 (file_of f.0) was.1.1 clean) was.1.2 in
+    let shown = subst (IsProjectShown (look_at terms caller day h.kept.sent))
+    (one_file terms.dictionary h.kept.sent.bytes was.1.0 (file_of f.0) was.1.1 clean) was.1.2 in
     true≢false (sym ((seen_file keep terms old mid caller number day head look seen reads s h same sees f.0 f.1).1 shown) ∙ is)))
 
 -- it is withdrawn
-pub marked_unlisted : {K : Type 0} (keep : Ghosts K) (rules : List Rule) (old : K) (caller : Caller) (number : ℕ) (day : ℤ) (head : KeptHead)
+pub marked_unlisted : {K : Type 0} (keep : Ghosts K) (rules : List Rule) (old : K) (caller : Caller) (number : ℕ)
+    (day : ℤ) (head : KeptHead)
     → IsHeaded (keep.dictionary old) (keep.deposits old) number head → head.withdrawn ≡ true
-    → (d : Deposit) → held number (keep.deposits old) ≡ Some d → ∥ IsLineFor (terms_at keep rules old) caller day number d None ∥₁
+    → (d : Deposit) → held number (keep.deposits old) ≡ Some d
+    → ∥ IsLineFor (terms_at keep rules old) caller day number d None ∥₁
 marked_unlisted keep rules old caller number day head h marked d holds =
-    subst (λ (k : Deposit). ∥ IsLineFor (terms_at keep rules old) caller day number k None ∥₁) (same_kept (held number (keep.deposits old)) h.kept d h.holds holds)
+    subst (λ (k : Deposit). ∥ IsLineFor (terms_at keep rules old) caller day number k None ∥₁)
+    (same_kept (held number (keep.deposits old)) h.kept d h.holds holds)
     ∣ (λ seen. true≢false (sym marked ∙ h.of_head.withdrawn ∙ seen.0)) ∣₁
