@@ -16,7 +16,7 @@ use Rattle.reg_store.specs.declared.keep.Keep.{Ghosts}
 use Rattle.reg_desk.specs.Asked.{Asked, deposit, check, listing, extract, withdraw}
 use Rattle.reg_desk.specs.declared.answer.Listed.{Listed}
 use Rattle.reg_desk.specs.declared.answer.Answer.{Answer}
-use Rattle.reg_desk.specs.declared.answer.Answer.TheVariants.{Receipt, Clean, Findings, Listing, Text, Denied, Unknown, TooLarge, Full, Withdrawn}
+use Rattle.reg_desk.specs.declared.answer.Answer.TheVariants.{Receipt, Clean, Listing, Text, Unknown, TooLarge, Full, Withdrawn}
 use Rattle.reg_desk.specs.Machine.{Terms, decided, OrDenied, OrFound, OrRefused, first_equal, receipt_of, IsListing, held, is_own, withdrawal_of, IsReply}
 use Rattle.reg_desk.specs.Serving.{IsAnswer, terms_at, Serves}
 use Rattle.reg_desk.specs.Desks.{IsCleanText, IsSameText, IsSameAnswer}
