@@ -55,21 +55,28 @@ where_seen true Seen One Other one other none = either Seen (λ x. elim x [
 ])
 where_seen false Seen One Other one other none = other none
 
-some_listing : (terms : Terms) (caller : Caller) (project : List ℕ) (day : ℤ) (n : ℕ) (state : List Deposit) → ThereIs (IsListing terms caller project day n state)
+some_listing : (terms : Terms) (caller : Caller) (project : List ℕ) (day : ℤ) (n : ℕ) (state : List Deposit)
+    → ThereIs (IsListing terms caller project day n state)
 some_listing terms caller project day n [] none = none [] refl
 some_listing terms caller project day n (kept ∷ state) none =
     let rest = some_listing terms caller project day (n + 1) state in
     where_seen (bytes_eq kept.sent.project project) (IsSeen terms caller day kept)
-    (λ lines. (more : List Listed) × (lines ≡ listed_line n kept.sent ∷ more) × IsListing terms caller project day (n + 1) state more)
+    (λ lines.
+    (more : List Listed) × (lines ≡ listed_line n kept.sent ∷ more)
+    × IsListing terms caller project day (n + 1) state more)
     (IsListing terms caller project day (n + 1) state)
     (λ seen absent. rest (λ more h. absent (listed_line n kept.sent ∷ more) (more, refl, h))) rest none
 
-some_drawn : (terms : Terms) (caller : Caller) (project : List ℕ) (groups : List (List ℕ)) (day : ℤ) (of : Option Deposit) → ThereIs (IsDrawnFrom terms caller project groups day of)
+some_drawn : (terms : Terms) (caller : Caller) (project : List ℕ) (groups : List (List ℕ)) (day : ℤ)
+    (of : Option Deposit) → ThereIs (IsDrawnFrom terms caller project groups day of)
 some_drawn terms caller project groups day None none = none Unknown refl
 some_drawn terms caller project groups day (Some kept) none =
     where_seen (bytes_eq kept.sent.project project) (IsSeen terms caller day kept)
-    (λ reply. (text : List ℕ) × IsTextOf terms caller day groups kept.sent text × (reply ≡ Text text)) (λ reply. reply ≡ Unknown)
-    (λ seen absent. some_text (look_at terms caller day kept.sent) seen.1.0 groups (λ text h. absent (Text text) (text, (seen.1.0, seen.1.1, h), refl)))
+    (λ reply. (text : List ℕ) × IsTextOf terms caller day groups kept.sent text × (reply ≡ Text text))
+    (λ reply. reply ≡ Unknown)
+    (λ seen absent.
+    some_text (look_at terms caller day kept.sent) seen.1.0 groups
+    (λ text h. absent (Text text) (text, (seen.1.0, seen.1.1, h), refl)))
     (λ absent. absent Unknown refl) none
 
 or_denied : (d : Decision) (Stands : Answer → Type 0) → ThereIs Stands → ThereIs (OrDenied d Stands)
@@ -99,7 +106,8 @@ some_reply terms state (listing caller project day) =
 some_reply terms state (extract caller project number groups day) =
     or_denied (decided terms caller project verbs.Extract) (IsDrawnFrom terms caller project groups day (held number state)) (some_drawn terms caller project groups day (held number state))
 some_reply terms state (withdraw caller project number day) =
-    let reply = withdrawal_of caller project number (held number state) in or_denied (decided terms caller project verbs.Withdraw) (λ r. r ≡ reply) (λ none. none reply refl)
+    let reply = withdrawal_of caller project number (held number state) in
+    or_denied (decided terms caller project verbs.Withdraw) (λ r. r ≡ reply) (λ none. none reply refl)
 
 -- ---- a run
 
@@ -117,7 +125,8 @@ some_run terms state (request ∷ requests) none =
 
 pub no_leak : NoLeak
 no_leak terms before after kept bytes file other clean other_clean requests tells replies final run =
-    let same = λ (others : List Answer) (last : List Deposit) (rest : IsRun terms (before ++ with_bytes kept bytes ∷ after) requests others last).
+    let same = λ (others : List Answer) (last : List Deposit)
+    (rest : IsRun terms (before ++ with_bytes kept bytes ∷ after) requests others last).
     same_replies terms before after kept bytes file other clean other_clean requests tells replies others final last run rest in (
       same,
       λ none. some_run terms (before ++ with_bytes kept bytes ∷ after) requests (λ other_run rest.

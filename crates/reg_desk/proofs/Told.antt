@@ -17,7 +17,8 @@ told_is NoMemory told = absurd told
 told_is StoreFailed told = absurd told
 told_is a told = refl
 
-pub answers_run : (terms : Terms) (state : List Deposit) (requests : List Asked) (answers : List Answer) (last : List Deposit)
+pub answers_run : (terms : Terms) (state : List Deposit) (requests : List Asked) (answers : List Answer)
+    (last : List Deposit)
     → AreAnswers terms state requests answers last → AllByRecursion IsTold answers → IsRun terms state requests answers last
 answers_run terms state [] [] last h told = (refl, h)
 answers_run terms state [] (a ∷ answers) last h told = absurd h
