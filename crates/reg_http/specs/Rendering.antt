@@ -74,7 +74,8 @@ IsBody answers.StoreFailed body = body ≡ error_body (codes "store failed")
 
 -- The whole reply to an answer.
 abbrev pub IsRendered : Answer → List ℕ → Type 0
-IsRendered answer reply = (body : List ℕ) × IsBody answer body × (reply ≡ reply_text (answer_status answer) (answer_kind answer) body)
+IsRendered answer reply = (body : List ℕ) × IsBody answer body
+    × (reply ≡ reply_text (answer_status answer) (answer_kind answer) body)
 
 -- the reply is the same whatever was asked, and takes no memory
 abbrev pub is_fixed : Answer → Bool

@@ -8,9 +8,9 @@ use Rattle.matchit.specs.Params.{walk, named}
 use Rattle.matchit.specs.declared.params.Params.{Params}
 use Rattle.reg_http.specs.declared.refusal.Refusal.{Refusal}
 use Rattle.reg_http.specs.declared.refusal.Refusal.TheVariants.{NoRoute, Method}
-use Rattle.reg_http.specs.declared.route.Page.{Page}
-use Rattle.reg_http.specs.declared.route.Kind.{Kind}
-use Rattle.reg_http.specs.declared.route.Kind.TheVariants.{Check, Deposit, List as Listing, Extract}
+use Rattle.reg_http.specs.declared.request.route.Page.{Page}
+use Rattle.reg_http.specs.declared.request.route.Kind.{Kind}
+use Rattle.reg_http.specs.declared.request.route.Kind.TheVariants.{Check, Deposit, List as Listing, Extract}
 
 -- the pattern up to the project
 abbrev pub front : List ℕ
@@ -78,7 +78,9 @@ pub record FoundAt : Type 0 where
 
 abbrev pub page_by : List ℕ → Option (RouteOf Page) → Result FoundAt Refusal
 page_by path None = Err NoRoute
-page_by path (Some r) = Ok (record { page = r.value; project = param (codes "project") r path; number = param (codes "number") r path })
+page_by path (Some r) = Ok (record {
+  page = r.value; project = param (codes "project") r path; number = param (codes "number") r path;
+})
 
 -- the page of a path
 abbrev pub page_in : List ℕ → Result FoundAt Refusal
@@ -86,7 +88,9 @@ page_in path = page_by path (route_of path)
 
 -- what a method asks of a page; methods are compared by their bytes
 abbrev pub method_of : Page → List ℕ → Option Kind
-method_of page method = if bytes_eq method (codes "POST") then page.post else (if bytes_eq method (codes "GET") then page.get else None)
+method_of page method =
+    if bytes_eq method (codes "POST") then page.post else (
+    if bytes_eq method (codes "GET") then page.get else None)
 
 abbrev pub kind_by : Option Kind → Result Kind Refusal
 kind_by None = Err Method

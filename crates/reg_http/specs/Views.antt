@@ -8,12 +8,12 @@ use Rattle.reg_policy.specs.declared.callers.Caller.{Caller}
 use Rattle.reg_http.specs.Asks.{Asking}
 use Rattle.reg_http.specs.Queries.{Sought, deposit, check, listing, extract, groups_in}
 use Rattle.reg_http.specs.Routes.{FoundAt}
-use Rattle.reg_http.specs.declared.route.Found.{Found}
-use Rattle.reg_http.specs.declared.ask.Ask.{Ask}
-use Rattle.reg_http.specs.declared.query.Seeks.{Seeks}
-use Rattle.reg_http.specs.declared.query.Seeks.TheVariants as seeks
-use Rattle.reg_http.specs.declared.body.BodyFault.{BodyFault}
-use Rattle.reg_http.specs.declared.body.BodyFault.TheVariants as fault
+use Rattle.reg_http.specs.declared.request.route.Found.{Found}
+use Rattle.reg_http.specs.declared.request.ask.Ask.{Ask}
+use Rattle.reg_http.specs.declared.request.query.Seeks.{Seeks}
+use Rattle.reg_http.specs.declared.request.query.Seeks.TheVariants as seeks
+use Rattle.reg_http.specs.declared.request.body.BodyFault.{BodyFault}
+use Rattle.reg_http.specs.declared.request.body.BodyFault.TheVariants as fault
 
 abbrev pub itself : {A : Type 0} → A → A
 itself a = a
