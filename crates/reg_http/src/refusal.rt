@@ -58,7 +58,6 @@ impl Refusal {
     }
 
     /// Its whole reply, which takes no memory.
-    #[tactic(auto, unfolding(std::specs::Fmt::digits, crate::specs::Replies::phrase_of))]
     pub(crate) fn reply(self) -> &'static str
         ensures { result.now ≡ rendered self }
     {

@@ -2,6 +2,11 @@
 ghost use Rattle.std.specs.Prelude.{◌≡◌, IfOk, OnOk, string_bytes};
 ghost use Rattle.reg_http.specs.Replies.{phrase_of, reply_front, reply_text, with_fields, with_status_line};
 
+pub(crate) mod answer;
+pub(crate) mod lists;
+pub(crate) mod values;
+pub(crate) mod write;
+
 use http::StatusCode;
 use std::alloc::{AllocError, Global};
 

@@ -17,22 +17,32 @@ use serde_json::Value;
 use std::alloc::{AllocError, Global};
 
 /// The reply to an answer whose reply is always the same. It takes no memory.
-#[tactic(auto, unfolding(std::specs::Fmt::digits, crate::specs::Replies::phrase_of))]
 pub(crate) fn fixed_reply(answer: &Answer) -> Option<&'static str>
     ensures some { IsSome result ↔ IsTrue (is_fixed answer.now) }
     ensures reply { IfSome result (λ text. IsRendered answer.now text.now) }
 {
     match answer {
-        Answer::Unknown => Some(error_reply!("404 Not Found", "19", "unknown")),
+        Answer::Unknown => Some(unknown_reply()),
         Answer::TooLarge => Some(Refusal::TooLarge.reply()),
-        Answer::Full => Some(error_reply!("507 Insufficient Storage", "16", "full")),
+        Answer::Full => Some(full_reply()),
         Answer::NoMemory => Some(Refusal::OutOfMemory.reply()),
         Answer::StoreFailed => Some(store_failed_reply()),
         _ => None,
     }
 }
 
-#[tactic(auto, unfolding(std::specs::Fmt::digits, crate::specs::Replies::phrase_of))]
+fn unknown_reply() -> &'static str
+    ensures { IsRendered Answer.Unknown result.now }
+{
+    error_reply!("404 Not Found", "19", "unknown")
+}
+
+fn full_reply() -> &'static str
+    ensures { IsRendered Answer.Full result.now }
+{
+    error_reply!("507 Insufficient Storage", "16", "full")
+}
+
 fn store_failed_reply() -> &'static str
     ensures { IsRendered Answer.StoreFailed result.now }
 {
