@@ -12,6 +12,8 @@ use Rattle.reg_policy.specs.declared.subject.Decision.{Decision}
 use Rattle.reg_policy.specs.declared.subject.Decision.TheVariants.{Permit, Deny}
 use Rattle.reg_policy.specs.declared.subject.Verb.TheVariants as verbs
 use Rattle.reg_store.specs.Sent.{Sent, is_repeat}
+use Rattle.reg_store.specs.Deposit.{Deposit, sents}
+use Rattle.reg_store.proofs.DepositLemmas.{length_sents}
 use Rattle.reg_desk.specs.Asked.{deposit}
 use Rattle.reg_desk.specs.declared.answer.Answer.{Answer}
 use Rattle.reg_desk.specs.declared.answer.Answer.TheVariants.{Receipt, Findings, Denied, TooLarge, Full}
@@ -19,8 +21,8 @@ use Rattle.reg_desk.specs.Machine.{Terms, decided, OrDenied, OrFound, OrRefused,
 use Rattle.reg_desk.specs.Laws.{TakenIsReceived}
 
 -- what stands of the receipt
-abbrev IsReceipt : Terms → List Sent → Caller → List ℕ → ℤ → List ℕ → Answer → Type 0
-IsReceipt terms state caller project embargo bytes r = r ≡ receipt_of terms embargo (length state) (first_equal 1 caller.firm project bytes state)
+abbrev IsReceipt : Terms → List Deposit → Caller → List ℕ → ℤ → List ℕ → Answer → Type 0
+IsReceipt terms state caller project embargo bytes r = r ≡ receipt_of terms embargo (length state) (first_equal 1 caller.firm project bytes (sents state))
 
 -- ---- a body that is taken
 
@@ -30,7 +32,7 @@ clean_stands terms bytes P r small clean h =
     let found : Found = subst (λ (b : Bool). MatchBool b (r ≡ TooLarge) Found) (le-ltb LIMIT (length bytes) small) h in
     subst (λ (l : List Finding). OrFound l P r) (one_list terms.dictionary bytes found.0 [] found.1 clean) found.2
 
-received : (terms : Terms) (state : List Sent) (caller : Caller) (project : List ℕ) (embargo : ℤ) (bytes : List ℕ) (day : ℤ) (reply : Answer)
+received : (terms : Terms) (state : List Deposit) (caller : Caller) (project : List ℕ) (embargo : ℤ) (bytes : List ℕ) (day : ℤ) (reply : Answer)
     → IsReply terms state (deposit caller project embargo bytes day) reply → IsTaken terms state caller project bytes → reply ≡ Receipt (length state + 1) embargo
 received terms state caller project embargo bytes day reply h t =
     let stands = IsReceipt terms state caller project embargo bytes in
@@ -41,15 +43,15 @@ received terms state caller project embargo bytes day reply h t =
 
 -- ---- the receipt of a new number
 
-not_denied : (d : Decision) (P : Answer → Type 0) (r : Answer) → OrDenied d P r → ((n : ℕ) → r ≡ Denied n → ⊥) → (n : ℕ) × (d ≡ Permit n) × P r
+pub not_denied : (d : Decision) (P : Answer → Type 0) (r : Answer) → OrDenied d P r → ((n : ℕ) → r ≡ Denied n → ⊥) → (n : ℕ) × (d ≡ Permit n) × P r
 not_denied (Permit n) P r h never = (n, refl, h)
 not_denied (Deny n) P r h never = absurd (never n h)
 
-not_where : (t : Bool) (A B : Type 0) → MatchBool t A B → (A → ⊥) → (t ≡ false) × B
+pub not_where : (t : Bool) (A B : Type 0) → MatchBool t A B → (A → ⊥) → (t ≡ false) × B
 not_where true A B h never = absurd (never h)
 not_where false A B h never = (refl, h)
 
-not_found : (found : List Finding) (P : Answer → Type 0) (r : Answer) → OrFound found P r → ((l : List Finding) → r ≡ Findings l → ⊥) → (found ≡ []) × P r
+pub not_found : (found : List Finding) (P : Answer → Type 0) (r : Answer) → OrFound found P r → ((l : List Finding) → r ≡ Findings l → ⊥) → (found ≡ []) × P r
 not_found [] P r h never = (refl, h)
 not_found (f ∷ found) P r h never = absurd (never (f ∷ found) h)
 
@@ -72,7 +74,7 @@ new_number : (terms : Terms) (embargo : ℤ) (count : ℕ) (first : Option (ℕ 
 new_number terms embargo count (Some held) low h = let same : held.0 ≡ count + 1 = cc in let lt = low held.0 held.1 refl in absurd (omega (arith, same, lt))
 new_number terms embargo count None low h = (refl, ltb-true count terms.limit (room_for (nat_lt count terms.limit) (count + 1) embargo h))
 
-taken : (terms : Terms) (state : List Sent) (caller : Caller) (project : List ℕ) (embargo : ℤ) (bytes : List ℕ) (day : ℤ) (reply : Answer)
+taken : (terms : Terms) (state : List Deposit) (caller : Caller) (project : List ℕ) (embargo : ℤ) (bytes : List ℕ) (day : ℤ) (reply : Answer)
     → IsReply terms state (deposit caller project embargo bytes day) reply → reply ≡ Receipt (length state + 1) embargo
     → IsTaken terms state caller project bytes
 taken terms state caller project embargo bytes day reply h is =
@@ -81,7 +83,9 @@ taken terms state caller project embargo bytes day reply h is =
     let small = not_where (nat_lt LIMIT (length bytes)) (reply ≡ TooLarge) ((found : List Finding) × AreFindings terms.dictionary bytes found × OrFound found stands reply) permit.2 (λ e. cc) in
     let found = small.1 in
     let clean = not_found found.0 stands reply found.2 (λ l e. cc) in
-    let new = new_number terms embargo (length state) (first_equal 1 caller.firm project bytes state) (first_held caller.firm project bytes 1 state) (sym clean.1 ∙ is) in
+    let held_low : (k : ℕ) (e : ℤ) → first_equal 1 caller.firm project bytes (sents state) ≡ Some (k, e) → k < 1 + length state =
+    λ k e first. omega (arith, first_held caller.firm project bytes 1 (sents state) k e first, length_sents state) in
+    let new = new_number terms embargo (length state) (first_equal 1 caller.firm project bytes (sents state)) held_low (sym clean.1 ∙ is) in
     ((permit.0, permit.1), ltb-false LIMIT (length bytes) small.0, subst (AreFindings terms.dictionary bytes) clean.0 found.1, new.0, new.1)
 
 pub taken_received : TakenIsReceived
