@@ -35,6 +35,7 @@ pub data Sought : Type 0 where
   check : Sought
   listing : Sought
   extract : (number : ℕ) (groups : List (List ℕ)) → Sought
+  withdraw : (number : ℕ) → Sought
 
 abbrev pub embargo_by : Option ℤ → Result Sought Refusal
 embargo_by None = Err BadParameter
@@ -66,12 +67,17 @@ abbrev pub bare : Sought → List (List ℕ × List ℕ) → Result Sought Refus
 bare sought [] = Ok sought
 bare sought (pair ∷ pairs) = Err BadParameter
 
+-- the withdrawal that a number and the pairs of a query ask
+abbrev pub withdraw_sought : List ℕ → List (List ℕ × List ℕ) → Result Sought Refusal
+withdraw_sought number pairs = and_then (deposit_number number) (λ n. bare (withdraw n) pairs)
+
 -- what a request of this kind asks, by the number in its path, the pairs of its query and the day of serving
 abbrev pub sought_in : Kind → List ℕ → List (List ℕ × List ℕ) → ℤ → Result Sought Refusal
 sought_in kinds.Check number pairs day = bare check pairs
 sought_in kinds.Deposit number pairs day = and_then (value_of (codes "embargo") pairs) (embargo_in day)
 sought_in kinds.List number pairs day = bare listing pairs
 sought_in kinds.Extract number pairs day = extract_sought number pairs
+sought_in kinds.Withdraw number pairs day = withdraw_sought number pairs
 
 abbrev pub project_in : List ℕ → Result (List ℕ) Refusal
 project_in text = if is_name text then Ok text else Err BadParameter

@@ -58,6 +58,12 @@ pub(crate) fn request_of<'a>(
             groups,
             day,
         },
+        Seeks::Withdraw(number) => Request::Withdraw {
+            caller,
+            project,
+            number: *number,
+            day,
+        },
     }
 }
 

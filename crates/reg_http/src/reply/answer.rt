@@ -7,7 +7,7 @@ ghost use Rattle.reg_http.specs.Replies.{json_kind, reply_text};
 
 use crate::refusal::{Refusal, error_reply};
 use crate::reply::lists::{findings_text, listing_text};
-use crate::reply::values::{clean_value, denied_value, receipt_value, value_text};
+use crate::reply::values::{clean_value, denied_value, receipt_value, value_text, withdrawn_value};
 use crate::reply::whole_reply;
 use ags_rows::FindingList;
 use http::StatusCode;
@@ -60,6 +60,7 @@ pub(crate) fn built_reply(alloc: Global, answer: &Answer) -> Result<Vec<u8>, All
         Answer::Findings(findings) => findings_reply(alloc, findings),
         Answer::Listing(listing) => listing_reply(alloc, listing.as_slice()),
         Answer::Text(text) => text_reply(alloc, text.as_slice()),
+        Answer::Withdrawn(number) => withdrawn_reply(alloc, *number),
         Answer::Denied(number) => denied_reply(alloc, *number),
         _ => unreachable!(),
     }
@@ -106,6 +107,13 @@ fn text_reply(alloc: Global, text: &[u8]) -> Result<Vec<u8>, AllocError>
     whole_reply(alloc, StatusCode::OK, "text/plain; charset=us-ascii", text)
 }
 
+fn withdrawn_reply(alloc: Global, number: u32) -> Result<Vec<u8>, AllocError>
+    ensures { IfOk result (λ reply. IsRendered (Answer.Withdrawn number) reply.items) }
+{
+    let value = withdrawn_value(alloc, number)?;
+    value_reply(alloc, StatusCode::OK, &value)
+}
+
 /// The reply with a JSON body.
 fn json_reply(alloc: Global, status: StatusCode, body: &[u8]) -> Result<Vec<u8>, AllocError>
     ensures { IfOk result (λ reply. reply.items ≡ reply_text status json_kind body.now) }
@@ -128,7 +136,7 @@ pub(crate) fn status_of(answer: &Answer) -> StatusCode
 {
     match answer {
         Answer::Receipt { .. } | Answer::Clean | Answer::Listing(_) => StatusCode::OK,
-        Answer::Text(_) => StatusCode::OK,
+        Answer::Text(_) | Answer::Withdrawn(_) => StatusCode::OK,
         Answer::Denied(_) => StatusCode::FORBIDDEN,
         Answer::Unknown => StatusCode::NOT_FOUND,
         Answer::TooLarge => StatusCode::PAYLOAD_TOO_LARGE,

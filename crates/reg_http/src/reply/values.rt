@@ -2,7 +2,7 @@
 ghost use Rattle.std.specs.Prelude.{◌≡◌, false, IfOk};
 ghost use Rattle.serde_json.specs.View.{view};
 ghost use Rattle.serde_json.specs.Written.{compact_text, has_float};
-ghost use Rattle.reg_http.specs.Bodies.{clean_data, denied_data, receipt_data, IsReceiptData};
+ghost use Rattle.reg_http.specs.Bodies.{clean_data, denied_data, receipt_data, withdrawn_data, IsReceiptData};
 
 use crate::text::as_text;
 use reg_policy::Day;
@@ -36,6 +36,13 @@ pub(crate) fn clean_value(alloc: Global) -> Result<Value, AllocError>
     ensures { IfOk result (λ value. view value ≡ clean_data) }
 {
     json!(in alloc; {"clean": true})
+}
+
+/// The body that says that a deposit is withdrawn.
+pub(crate) fn withdrawn_value(alloc: Global, number: u32) -> Result<Value, AllocError>
+    ensures { IfOk result (λ value. view value ≡ withdrawn_data number) }
+{
+    json!(in alloc; {"withdrawn": number})
 }
 
 /// The text of a value without floats.

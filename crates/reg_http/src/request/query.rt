@@ -8,7 +8,7 @@ ghost use Rattle.ags_text.specs.Names.{is_group_name};
 ghost use Rattle.reg_http.specs.Agree.{Agrees, and_then, is_want_of_memory};
 ghost use Rattle.reg_desk.specs.Asked.{names_in};
 ghost use Rattle.reg_http.specs.Numbers.{deposit_number};
-ghost use Rattle.reg_http.specs.Queries.{embargo_in, extract_in, extract_sought, groups_in, bare, project_in, sought_in, decoded, value_in, value_of};
+ghost use Rattle.reg_http.specs.Queries.{embargo_in, extract_in, extract_sought, groups_in, bare, project_in, sought_in, decoded, value_in, value_of, withdraw_sought};
 ghost use Rattle.reg_http.specs.Views.{itself, sought_at, text_at};
 
 use crate::refusal::Refusal;
@@ -35,6 +35,7 @@ pub(crate) fn read_seeks<'b>(
         Kind::Extract => seeks_extract(alloc, number, query),
         Kind::Check => bare(query, Seeks::Check),
         Kind::List => bare(query, Seeks::List),
+        Kind::Withdraw => seeks_withdraw(number, query),
     }
 }
 
@@ -47,6 +48,8 @@ pub(crate) enum Seeks<'b> {
     List,
     /// The number of a deposit, and the text that lists the groups.
     Extract(u32, Option<CowStr<'b>>),
+    /// The number of a deposit.
+    Withdraw(u32),
 }
 
 fn seeks_deposit<'b>(alloc: Global, query: &'b [u8], day: Day) -> Result<Seeks<'b>, Refusal>
@@ -85,6 +88,12 @@ fn seeks_groups<'b>(
         check_groups(alloc, text.as_bytes())?;
     }
     Ok(Seeks::Extract(number, text))
+}
+
+fn seeks_withdraw<'b>(number: &str, query: &[u8]) -> Result<Seeks<'b>, Refusal>
+    ensures { Agrees sought_at (withdraw_sought number.now (raw_pairs query.now)) result }
+{
+    bare(query, Seeks::Withdraw(deposit_number(number.as_bytes())?))
 }
 
 /// What has no parameter: any that is given is refused.

@@ -34,6 +34,7 @@ pub(crate) struct Found<'p> {
 pub(crate) struct Page {
     pub(crate) post: Option<Kind>,
     pub(crate) get: Option<Kind>,
+    pub(crate) delete: Option<Kind>,
 }
 
 /// The kinds of request.
@@ -43,6 +44,7 @@ pub(crate) enum Kind {
     Deposit,
     List,
     Extract,
+    Withdraw,
 }
 
 /// The router of the register: the table of routes, methods and kinds.
@@ -51,9 +53,12 @@ fn router(alloc: Global) -> Result<Router<Page>, InsertError>
     ensures { IfOk result (λ routes. routes ≡ table) }
 {
     let mut routes = Router::new(alloc);
-    routes.insert("/v1/projects/{project}/check", Page { post: Some(Kind::Check), get: None })?;
-    routes.insert("/v1/projects/{project}/deposits", Page { post: Some(Kind::Deposit), get: Some(Kind::List) })?;
-    routes.insert("/v1/projects/{project}/deposits/{number}", Page { post: None, get: Some(Kind::Extract) })?;
+    routes.insert("/v1/projects/{project}/check",
+        Page { post: Some(Kind::Check), get: None, delete: None })?;
+    routes.insert("/v1/projects/{project}/deposits",
+        Page { post: Some(Kind::Deposit), get: Some(Kind::List), delete: None })?;
+    routes.insert("/v1/projects/{project}/deposits/{number}",
+        Page { post: None, get: Some(Kind::Extract), delete: Some(Kind::Withdraw) })?;
     Ok(routes)
 }
 
@@ -101,6 +106,8 @@ impl Page {
             self.post
         } else if method == b"GET".as_slice() {
             self.get
+        } else if method == b"DELETE".as_slice() {
+            self.delete
         } else {
             None
         }
@@ -114,7 +121,7 @@ impl Kind {
     {
         match self {
             Kind::Check | Kind::Deposit => true,
-            Kind::List | Kind::Extract => false,
+            Kind::List | Kind::Extract | Kind::Withdraw => false,
         }
     }
 }

@@ -17,3 +17,6 @@ returns-in-Listing c = rw (c.in-Listing.is, ← c.as_slice.ensures) c.listing_re
 
 pub returns-in-Text : goal.returns-in-Text
 returns-in-Text c = rw (c.in-Text.is, ← c.as_slice-in-Text.ensures) c.text_reply.ensures
+
+pub returns-in-Withdrawn : goal.returns-in-Withdrawn
+returns-in-Withdrawn c = rw c.in-Withdrawn.is c.withdrawn_reply.ensures
