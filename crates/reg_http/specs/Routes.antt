@@ -80,7 +80,9 @@ pub record FoundAt : Type 0 where
 abbrev pub page_by : List ℕ → Option (RouteOf Page) → Result FoundAt Refusal
 page_by path None = Err NoRoute
 page_by path (Some r) = Ok (record {
-  page = r.value; project = param (codes "project") r path; number = param (codes "number") r path;
+  page = r.value;
+  project = param (codes "project") r path;
+  number = param (codes "number") r path;
 })
 
 -- the page of a path

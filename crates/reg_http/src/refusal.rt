@@ -38,6 +38,7 @@ macro_rules! error_reply {
         )
     };
 }
+
 pub(crate) use error_reply;
 
 impl Refusal {

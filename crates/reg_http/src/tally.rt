@@ -4,8 +4,8 @@ ghost use Rattle.std.specs.Io.{ReadsAtMost, WritesAtMost};
 ghost use Rattle.std.specs.Io.KnownBytes.{Keeps, ReadConsumes, WriteAppends};
 ghost use Rattle.reg_http.specs.Tallies.{inner_of, calls_of, has_failed, IsFresh, one_call_more, is_refused};
 
-use std::io::{Read, Write};
 use std::io;
+use std::io::{Read, Write};
 
 /// A reader or a writer, the number of reads or writes asked of it, and whether one of them failed.
 #[derive(Drop)]
