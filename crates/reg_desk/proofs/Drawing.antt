@@ -1,8 +1,8 @@
 -- What is drawn and seen of a kept deposit, from what a keep tells of it.
 use Rattle.std.proofs.Common.{◌≡◌, ◌≢◌, ℕ, zero, suc, ◌-◌, ◌<◌, ◌≤◌, Bool, true, false, Option, Some, None, Ok, Err, List, [], ◌∷◌, refl, sym, ap, subst, ◌∙◌, inl, inr, ◌⊎◌, arith}
-use Rattle.std.proofs.lemmas.Option.{slice_get_within, slice_get-map, get_or_from_slice_get}
+use Rattle.std.proofs.lemmas.Option.{slice_get_within, get_or_from_slice_get}
 use Rattle.std.proofs.lemmas.Bool.{true≢false}
-use Rattle.std.specs.Prelude.{All, ℤ, slice_get, length, option_map, Result, ◌↔◌, MatchBool}
+use Rattle.std.specs.Prelude.{All, ℤ, slice_get, length, Result, ◌↔◌, MatchBool}
 use Rattle.std.specs.Str.{bytes_eq}
 use Rattle.std.proofs.Math.Logic.{∥∥₁_map, ∥∥₁_elim}
 use Rattle.std.proofs.Props.{props}
@@ -14,6 +14,7 @@ use Rattle.reg_policy.specs.declared.subject.Decision.TheVariants.{Permit, Deny}
 use Rattle.reg_policy.specs.declared.subject.Verb.TheVariants as verbs
 use Rattle.reg_store.specs.Sent.{Sent}
 use Rattle.reg_store.specs.Deposit.{Deposit, sents}
+use Rattle.reg_store.proofs.DepositLemmas.{sent_at}
 use Rattle.reg_store.specs.Fit.{IsFit, IsFileOf}
 use Rattle.reg_store.specs.Keep.{IsHeadOf, OfDeposit, is_store, fails}
 use Rattle.reg_store.specs.declared.keep.Keep.{Ghosts}
@@ -54,10 +55,6 @@ none_held state (suc n) (inl e) = absurd (omega (arith, e))
 none_held [] (suc n) (inr lt) = refl
 none_held (d ∷ state) (suc zero) (inr lt) = absurd (omega (arith, lt))
 none_held (d ∷ state) (suc (suc n)) (inr lt) = none_held state (suc n) (inr (omega (arith, lt)))
-
--- what was sent of a deposit of the list
-pub sent_at : (state : List Deposit) (i : ℕ) (d : Deposit) → slice_get state i ≡ Some d → slice_get (sents state) i ≡ Some d.sent
-sent_at state i d at = slice_get-map (λ k. k.sent) state i ∙ ap (option_map (λ k. k.sent)) at
 
 pub fit_at : (given : Entries) (state : List Sent) (i : ℕ) (d : Sent) → All (IsFit given) state → slice_get state i ≡ Some d → IsFit given d
 fit_at given state i d all at = subst (IsFit given) (get_or_from_slice_get state i d d at) (all i d (slice_get_within state i d at))

@@ -20,11 +20,10 @@ use Rattle.reg_store.specs.declared.keep.Keep.{Ghosts}
 use Rattle.reg_desk.specs.Asked.{Asked, deposit, withdraw}
 use Rattle.reg_desk.specs.declared.answer.Answer.{Answer}
 use Rattle.reg_desk.specs.declared.answer.Answer.TheVariants.{Receipt, TooLarge, Full, NoMemory, StoreFailed, Withdrawn}
-use Rattle.reg_desk.specs.Machine.{Terms, decided, OrDenied, OrFound, OrRefused, first_equal, receipt_of, held, withdrawal_of, IsReply, IsWithdrawn, asked_deposit, Changes, IsNext}
+use Rattle.reg_desk.specs.Machine.{Terms, decided, OrDenied, OrFound, OrRefused, first_equal, receipt_of, held, IsReply, asked_deposit, Changes, IsNext}
 use Rattle.reg_desk.specs.Serving.{is_failed, IsAnswer, IsAfter, terms_at}
 use Rattle.reg_desk.specs.Running.{AreFailed, AreAnswers, failing, Runs, IsHeldIn}
-use Rattle.reg_desk.proofs.Taken.{not_denied, not_where, not_found, taken_received}
-use Rattle.reg_desk.proofs.Withdrawals.{replied_own}
+use Rattle.reg_desk.proofs.Taken.{not_denied, not_where, not_found, taken_received, withdrawn_own}
 
 -- ---- a list that grew, and in which more may be marked
 
@@ -143,14 +142,6 @@ receipt_held terms caller project embargo bytes day state next n e is (inr h) =
 
 -- ---- a withdrawal
 
--- the deposit that is replied to be withdrawn is the caller's own
-pub withdrawn_own : (terms : Terms) (caller : Caller) (project : List ℕ) (number : ℕ) (day : ℤ) (state : List Deposit) (n : ℕ) → IsReply terms state (withdraw caller project number day) (Withdrawn n)
-    → (number ≡ n) × IsWithdrawn terms state caller project number
-withdrawn_own terms caller project number day state n is =
-    let permit = not_denied (decided terms caller project verbs.Withdraw) (λ r. r ≡ withdrawal_of caller project number (held number state)) (Withdrawn n) is (λ k e. cc) in
-    let own = replied_own caller project number n (held number state) (sym permit.2) in
-    (own.0, ((permit.0, permit.1), own.1))
-
 -- the mark of deposit n
 abbrev pub mark_at : ℕ → List Deposit → Option Bool
 mark_at n list = option_map (λ (e : Deposit). e.withdrawn) (held n list)
@@ -164,7 +155,7 @@ marked_held (suc (suc n)) (k ∷ state) d at = marked_held (suc n) state d at
 pub withdrawn_held : (terms : Terms) (caller : Caller) (project : List ℕ) (number : ℕ) (day : ℤ) (state next : List Deposit) (n : ℕ) → IsReply terms state (withdraw caller project number day) (Withdrawn n)
     → IsNext terms state (withdraw caller project number day) next → mark_at n next ≡ Some true
 withdrawn_held terms caller project number day state next n is step =
-    let own = withdrawn_own terms caller project number day state n is in
+    let own = withdrawn_own terms state caller project number day n is in
     let same : next ≡ marked number state = elim step [ inl h ↦ h.1 | inr h ↦ absurd (h.0 _ (own.1, refl)) ] in
     ap (λ (l : List Deposit). mark_at n l) same ∙ ap (λ (k : ℕ). mark_at k (marked number state)) (sym own.0) ∙ marked_held number state own.1.1.0 own.1.1.1
 

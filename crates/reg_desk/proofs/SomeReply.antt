@@ -104,7 +104,7 @@ some_reply terms state (withdraw caller project number day) =
 -- ---- a run
 
 some_next : (terms : Terms) (state : List Deposit) (request : Asked) → ThereIs (IsNext terms state request)
-some_next terms state request none = either ((list : List Sent) × Changes terms state request list) (λ x. elim x [
+some_next terms state request none = either ((list : List Deposit) × Changes terms state request list) (λ x. elim x [
   | inl change ↦ none change.0 (inl change.1)
   | inr never ↦ none state (inr (λ list change. never (list, change), refl))
 ])

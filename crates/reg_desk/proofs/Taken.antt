@@ -1,4 +1,4 @@
--- A body is taken exactly where the reply is the receipt of a new number.
+-- A body is taken exactly where the reply is the receipt of a new number, and a deposit is withdrawn exactly where the reply is so.
 use Rattle.std.proofs.Common.{◌≡◌, ℕ, suc, ◌+◌, ◌≤◌, ◌<◌, Bool, true, false, cond, Option, Some, None, List, [], ◌∷◌, length, refl, sym, ap, subst, ◌∙◌, arith}
 use Rattle.std.specs.Prelude.{ℤ, nat_lt, MatchBool}
 use Rattle.std.proofs.lemmas.Bool.{cond-true, lt-ltb, le-ltb, ltb-true, ltb-false}
@@ -14,11 +14,11 @@ use Rattle.reg_policy.specs.declared.subject.Verb.TheVariants as verbs
 use Rattle.reg_store.specs.Sent.{Sent, is_repeat}
 use Rattle.reg_store.specs.Deposit.{Deposit, sents}
 use Rattle.reg_store.proofs.DepositLemmas.{length_sents}
-use Rattle.reg_desk.specs.Asked.{deposit}
+use Rattle.reg_desk.specs.Asked.{deposit, withdraw}
 use Rattle.reg_desk.specs.declared.answer.Answer.{Answer}
-use Rattle.reg_desk.specs.declared.answer.Answer.TheVariants.{Receipt, Findings, Denied, TooLarge, Full}
-use Rattle.reg_desk.specs.Machine.{Terms, decided, OrDenied, OrFound, OrRefused, first_equal, receipt_of, IsReply, IsTaken}
-use Rattle.reg_desk.specs.Laws.{TakenIsReceived}
+use Rattle.reg_desk.specs.declared.answer.Answer.TheVariants.{Receipt, Findings, Denied, Unknown, TooLarge, Full, Withdrawn}
+use Rattle.reg_desk.specs.Machine.{Terms, decided, OrDenied, OrFound, OrRefused, first_equal, receipt_of, held, is_own, withdrawal_of, IsReply, IsTaken, IsWithdrawn}
+use Rattle.reg_desk.specs.Laws.{TakenIsReceived, WithdrawnIsReplied}
 
 -- what stands of the receipt
 abbrev IsReceipt : Terms → List Deposit → Caller → List ℕ → ℤ → List ℕ → Answer → Type 0
@@ -91,3 +91,34 @@ taken terms state caller project embargo bytes day reply h is =
 pub taken_received : TakenIsReceived
 taken_received terms state caller project embargo bytes day reply h =
     (received terms state caller project embargo bytes day reply h, taken terms state caller project embargo bytes day reply h)
+
+-- ---- a deposit that is withdrawn
+
+-- the caller's own deposit of the number is replied to be withdrawn
+pub own_reply : (caller : Caller) (project : List ℕ) (number : ℕ) (o : Option Deposit) (kept : Deposit) → o ≡ Some kept → is_own caller project kept ≡ true → withdrawal_of caller project number o ≡ Withdrawn number
+own_reply caller project number o kept holds own = ap (withdrawal_of caller project number) holds ∙ ap (λ (t : Bool). cond t (Withdrawn number) Unknown) own
+
+-- what is replied to be withdrawn is the caller's own deposit of the number
+pub replied_own : (caller : Caller) (project : List ℕ) (number n : ℕ) (o : Option Deposit) → withdrawal_of caller project number o ≡ Withdrawn n
+    → (number ≡ n) × ((kept : Deposit) × (o ≡ Some kept) × (is_own caller project kept ≡ true))
+replied_own caller project number n None is = absurd cc
+replied_own caller project number n (Some kept) is = by (is_own caller project kept) refl is
+  where
+    by : (t : Bool) → is_own caller project kept ≡ t → cond t (Withdrawn number) Unknown ≡ Withdrawn n → (number ≡ n) × ((d : Deposit) × (Some kept ≡ Some d) × (is_own caller project d ≡ true))
+    by true own e = (cc, (kept, refl, own))
+    by false own e = absurd cc
+
+pub withdrawn_own : (terms : Terms) (state : List Deposit) (caller : Caller) (project : List ℕ) (number : ℕ) (day : ℤ) (n : ℕ) → IsReply terms state (withdraw caller project number day) (Withdrawn n)
+    → (number ≡ n) × IsWithdrawn terms state caller project number
+withdrawn_own terms state caller project number day n h =
+    let permit = not_denied (decided terms caller project verbs.Withdraw) (λ r. r ≡ withdrawal_of caller project number (held number state)) (Withdrawn n) h (λ k e. cc) in
+    let own = replied_own caller project number n (held number state) (sym permit.2) in
+    (own.0, ((permit.0, permit.1), own.1))
+
+pub withdrawn_replied : WithdrawnIsReplied
+withdrawn_replied terms state caller project number day reply h = (
+  λ w.
+      subst (λ (d : Decision). OrDenied d (λ r. r ≡ withdrawal_of caller project number (held number state)) reply) w.0.1 h
+      ∙ own_reply caller project number (held number state) w.1.0 w.1.1 w.1.2,
+  λ is. (withdrawn_own terms state caller project number day number (subst (IsReply terms state (withdraw caller project number day)) is h)).1,
+)

@@ -1,9 +1,8 @@
 -- A deposit: taken once, with a receipt.
 use Rattle.std.proofs.Common.{◌≡◌, ◌≢◌, ℕ, ◌+◌, ◌-◌, ◌<◌, ◌≤◌, Bool, true, false, cond, Option, Some, None, Ok, Err, List, [], ◌∷◌, ◌++◌, refl, sym, ap, subst, ◌∙◌, inl, inr, ◌⊎◌, arith, length-append}
-use Rattle.std.specs.Prelude.{ℤ, nat_lt, length, slice_get, option_map, Result}
+use Rattle.std.specs.Prelude.{ℤ, nat_lt, length, slice_get, Result}
 use Rattle.std.proofs.lemmas.Bool.{cases_Bool, ltb-true, lt-ltb}
-use Rattle.std.proofs.lemmas.List.{length-map}
-use Rattle.std.proofs.lemmas.Option.{slice_get_within, slice_get-map, same_Some}
+use Rattle.std.proofs.lemmas.Option.{slice_get_within}
 use Rattle.ags_rows.specs.declared.TheConstants.{LIMIT}
 use Rattle.ags_dict.specs.Entries.{Entries}
 use Rattle.ags_check.specs.Findings.{Findings as AreFindings}
@@ -13,6 +12,7 @@ use Rattle.reg_policy.specs.declared.subject.Decision.TheVariants.{Permit, Deny}
 use Rattle.reg_policy.specs.declared.subject.Verb.TheVariants as verbs
 use Rattle.reg_store.specs.Sent.{Sent, number_of}
 use Rattle.reg_store.specs.Deposit.{Deposit, sents, unmarked}
+use Rattle.reg_store.proofs.DepositLemmas.{length_sents, deposit_at}
 use Rattle.reg_store.specs.Keep.{is_store, IsHeadOf}
 use Rattle.reg_store.specs.declared.keep.Keep.{Ghosts}
 use Rattle.reg_store.specs.declared.keep.KeepError.{KeepError}
@@ -140,16 +140,7 @@ pub found_within : (firm project bytes : List ℕ) (state : List Deposit) (n : �
 found_within firm project bytes state n found =
     let first = first_some firm project bytes 1 (sents state) n found in
     let within = slice_get_within (sents state) first.place first.found first.at in
-    (omega (arith, first.number), omega (arith, first.number, within, length-map state (λ d. d.sent)))
-
--- the deposit of which this was sent
-pub deposit_at : (state : List Deposit) (i : ℕ) (sent : Sent) → slice_get (sents state) i ≡ Some sent
-    → (d : Deposit) × (slice_get state i ≡ Some d) × (d.sent ≡ sent)
-deposit_at state i sent at = of_some (slice_get state i) (sym (slice_get-map (λ d. d.sent) state i) ∙ at)
-  where
-    of_some : (o : Option Deposit) → option_map (λ d. d.sent) o ≡ Some sent → (d : Deposit) × (o ≡ Some d) × (d.sent ≡ sent)
-    of_some (Some d) is = (d, refl, same_Some d.sent sent is)
-    of_some None is = absurd cc
+    (omega (arith, first.number), omega (arith, first.number, within, length_sents state))
 
 -- the first equal deposit, by its number and the head that is kept of it
 pub first_found : (firm project bytes : List ℕ) (state : List Deposit) (n : ℕ) (head : KeptHead) → number_of firm project bytes (sents state) ≡ Some n

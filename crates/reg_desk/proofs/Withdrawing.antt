@@ -9,6 +9,7 @@ use Rattle.reg_policy.specs.declared.callers.Caller.{Caller}
 use Rattle.reg_policy.specs.declared.subject.Decision.TheVariants.{Permit, Deny}
 use Rattle.reg_policy.specs.declared.subject.Verb.TheVariants as verbs
 use Rattle.reg_store.specs.Deposit.{Deposit, marked}
+use Rattle.reg_store.proofs.DepositLemmas.{marked_again}
 use Rattle.reg_store.specs.Keep.{IsHeadOf, is_store}
 use Rattle.reg_store.specs.declared.keep.Keep.{Ghosts}
 use Rattle.reg_store.specs.declared.keep.KeepError.{KeepError}
@@ -20,9 +21,18 @@ use Rattle.reg_desk.specs.declared.answer.Answer.TheVariants.{Denied, Unknown, W
 use Rattle.reg_desk.specs.Machine.{Terms, decided, held, is_own, withdrawal_of, IsReply, IsWithdrawn, Changes, IsNext}
 use Rattle.reg_desk.specs.Serving.{AsksStore, mark_of, terms_at, OnlyReads, Serves, answer_of}
 use Rattle.reg_desk.proofs.Drawing.{held_at}
+use Rattle.reg_desk.proofs.Taken.{own_reply}
 use Rattle.reg_desk.proofs.Serves.{Makes, IsMaking, made_serves, unmade_serves, asks_of, replies_at_once, refused_serves, replies_serves, permitted_reply, denied_reply, permit_stands}
 
 -- ---- the mark of a firm's own deposit
+
+held_within : (state : List Deposit) (number : ℕ) (d : Deposit) → held number state ≡ Some d → (0 < number) × (number ≤ length state)
+held_within state zero d holds = absurd cc
+held_within state (suc n) d holds = let lt = slice_get_within state n d holds in (omega arith, omega (arith, lt))
+
+held_place : (state : List Deposit) (number : ℕ) (d : Deposit) → held number state ≡ Some d → slice_get state (number - 1) ≡ Some d
+held_place state zero d holds = absurd cc
+held_place state (suc n) d holds = let e : n ≡ suc n - 1 = omega arith in subst (λ (i : ℕ). slice_get state i ≡ Some d) e holds
 
 -- by its head, which is the project's and the firm's
 pub head_mark : (caller : Caller) (project : List ℕ) (state : List Deposit) (number : ℕ) (head : KeptHead) → 0 < number → number ≤ length state
@@ -54,10 +64,6 @@ owned caller project (Some kept) withdrawn is = step (is_own caller project kept
 
 -- ---- the reply
 
-own_reply : (caller : Caller) (project : List ℕ) (number : ℕ) (o : Option Deposit) (withdrawn : Bool) → IsOwned caller project o withdrawn → Withdrawn number ≡ withdrawal_of caller project number o
-own_reply caller project number o withdrawn owned =
-    sym (ap (withdrawal_of caller project number) owned.holds ∙ ap (λ (t : Bool). cond t (Withdrawn number) Unknown) owned.own)
-
 unowned_reply : (caller : Caller) (project : List ℕ) (number : ℕ) (o : Option Deposit) → None ≡ mark_of caller project o
     → (Unknown ≡ withdrawal_of caller project number o) × ((kept : Deposit) → o ≡ Some kept → is_own caller project kept ≡ true → ⊥)
 unowned_reply caller project number None is = (refl, λ kept holds own. cc)
@@ -88,15 +94,10 @@ withdraw_asks terms state caller project number day k permit =
 
 -- ---- the next state
 
--- a deposit that is marked is marked once
-marked_once : (number : ℕ) (state : List Deposit) (d : Deposit) → held number state ≡ Some d → d.withdrawn ≡ true → state ≡ marked number state
-marked_once zero [] d holds is = refl
-marked_once zero (k ∷ state) d holds is = refl
-marked_once (suc n) [] d holds is = refl
-marked_once (suc zero) (k ∷ state) d holds is =
-    let same : k.withdrawn ≡ true = ap (λ (x : Deposit). x.withdrawn) (same_Some k d holds) ∙ is in
-    ap (λ (w : Bool). record { sent = k.sent; withdrawn = w } ∷ state) same
-marked_once (suc (suc n)) (k ∷ state) d holds is = ap (λ (l : List Deposit). k ∷ l) (marked_once (suc n) state d holds is)
+-- a deposit that is marked already
+still_marked : (caller : Caller) (project : List ℕ) (number : ℕ) (state : List Deposit) → IsOwned caller project (held number state) true → state ≡ marked number state
+still_marked caller project number state own =
+    sym (marked_again state number own.kept (held_within state number own.kept own.holds).0 (held_place state number own.kept own.holds) own.mark)
 
 is_withdrawn : (terms : Terms) (state : List Deposit) (caller : Caller) (project : List ℕ) (number k : ℕ) (withdrawn : Bool) → decided terms caller project verbs.Withdraw ≡ Permit k
     → IsOwned caller project (held number state) withdrawn → IsWithdrawn terms state caller project number
@@ -133,7 +134,7 @@ withdraw_unknown keep rules caller project number day old new k permit reads is 
 own_answer : (terms : Terms) (state : List Deposit) (caller : Caller) (project : List ℕ) (number : ℕ) (day : ℤ) (k : ℕ) (withdrawn : Bool) → decided terms caller project verbs.Withdraw ≡ Permit k
     → IsOwned caller project (held number state) withdrawn → IsReply terms state (withdraw caller project number day) (Withdrawn number)
 own_answer terms state caller project number day k withdrawn permit owned =
-    permitted_reply (decided terms caller project verbs.Withdraw) k (IsWithdrawal state caller project number) (Withdrawn number) permit (own_reply caller project number (held number state) withdrawn owned)
+    permitted_reply (decided terms caller project verbs.Withdraw) k (IsWithdrawal state caller project number) (Withdrawn number) permit (sym (own_reply caller project number (held number state) owned.kept owned.holds owned.own))
 
 -- it is marked already
 pub withdraw_again : {K : Type 0} (keep : Ghosts K) (rules : List Rule) (caller : Caller) (project : List ℕ) (number : ℕ) (day : ℤ) (old new : K) (k : ℕ)
@@ -145,7 +146,7 @@ withdraw_again keep rules caller project number day old new k permit reads is =
     let own : keep.is_sound new → IsOwned caller project (held number state) true = λ s. owned caller project (held number state) true (is s) in
     replies_serves keep rules (withdraw caller project number day) old new (Withdrawn number) reads refl
     (λ s. ∣ own_answer terms state caller project number day k true permit (own s) ∣₁)
-    (λ s. inl (is_withdrawn terms state caller project number k true permit (own s), marked_once number state (own s).kept (own s).holds (own s).mark))
+    (λ s. inl (is_withdrawn terms state caller project number k true permit (own s), still_marked caller project number state (own s)))
     (withdraw_asks terms state caller project number day k permit).0
 
 marking : {K X : Type 0} (keep : Ghosts K) (rules : List Rule) (caller : Caller) (project : List ℕ) (number : ℕ) (day : ℤ) (old mid new : K) (k : ℕ) (result : Result X KeepError)
@@ -184,14 +185,6 @@ withdraw_unmarked {X = X} keep rules caller project number day old mid new k e p
     (marking keep rules caller project number day old mid new k (Err e) permit reads is marks) (λ s. named)
 
 -- ---- what the keep asks before it marks
-
-held_within : (state : List Deposit) (number : ℕ) (d : Deposit) → held number state ≡ Some d → (0 < number) × (number ≤ length state)
-held_within state zero d holds = absurd cc
-held_within state (suc n) d holds = let lt = slice_get_within state n d holds in (omega arith, omega (arith, lt))
-
-held_place : (state : List Deposit) (number : ℕ) (d : Deposit) → held number state ≡ Some d → slice_get state (number - 1) ≡ Some d
-held_place state zero d holds = absurd cc
-held_place state (suc n) d holds = let e : n ≡ suc n - 1 = omega arith in subst (λ (i : ℕ). slice_get state i ≡ Some d) e holds
 
 -- the number is one of the list
 pub own_within : {K : Type 0} (keep : Ghosts K) (caller : Caller) (project : List ℕ) (number : ℕ) (old mid : K) (withdrawn : Bool) → OnlyReads keep old mid false

@@ -8,15 +8,15 @@ use Rattle.std.proofs.lemmas.Option.{same_Some}
 use Rattle.reg_policy.specs.declared.callers.Caller.{Caller}
 use Rattle.reg_policy.specs.declared.subject.Verb.TheVariants as verbs
 use Rattle.reg_store.specs.Deposit.{Deposit, sents}
-use Rattle.reg_desk.specs.Asked.{Asked, listing}
+use Rattle.reg_desk.specs.Asked.{Asked, listing, withdraw}
 use Rattle.reg_desk.specs.declared.answer.Listed.{Listed}
 use Rattle.reg_desk.specs.declared.answer.Answer.{Answer}
 use Rattle.reg_desk.specs.declared.answer.Answer.TheVariants.{Listing}
 use Rattle.reg_desk.specs.Machine.{Terms, decided, IsSeen, listed_line, IsListing, held, IsReply, IsRun}
 use Rattle.reg_desk.specs.Laws.{WithdrawnStaysHidden}
-use Rattle.reg_desk.proofs.Taken.{not_denied}
+use Rattle.reg_desk.proofs.Taken.{not_denied, withdrawn_own}
 use Rattle.reg_desk.proofs.Runs.{given_by}
-use Rattle.reg_desk.proofs.Lasting.{Grows, grows_itself, grows_then, next_grows, mark_at, mark_then, held_sent, sent_then, withdrawn_own, withdrawn_held}
+use Rattle.reg_desk.proofs.Lasting.{Grows, grows_itself, grows_then, next_grows, mark_at, mark_then, held_sent, sent_then, withdrawn_held}
 
 run_grows : (terms : Terms) (state : List Deposit) (requests : List Asked) (replies : List Answer) (final : List Deposit) → IsRun terms state requests replies final → Grows state final
 run_grows terms state [] replies final run = grows_itself state final run.1
@@ -54,9 +54,9 @@ unlisted terms state number marked caller project day lines h =
 
 pub withdrawn_hidden : WithdrawnStaysHidden
 withdrawn_hidden terms state next caller project number day is step requests replies final run =
-    let own = (withdrawn_own terms caller project number day state number is).1.1 in
+    let own = (withdrawn_own terms state caller project number day number is).1.1 in
     let later = run_grows terms next requests replies final run in
-    let grows = grows_then state next final (next_grows terms _ state next step) later in
+    let grows = grows_then state next final (next_grows terms (withdraw caller project number day) state next step) later in
     let marked = mark_then number next final later (withdrawn_held terms caller project number day state next number is step) in
     let sent = held_sent number state own.0 own.1 in (
       sent_then number state final own.0.sent grows sent ∙ sym sent,
