@@ -22,12 +22,7 @@ use std::{env, io};
 
 /// An empty desk over memory that takes so many deposits, under this policy and dictionary; none where memory is refused,
 /// or the dictionary is longer than what can be read.
-fn desk_under(
-    alloc: Global,
-    policy: &str,
-    dictionary: &[u8],
-    most: u32,
-) -> Option<Desk<PlainKeep>>
+fn desk_under(alloc: Global, policy: &str, dictionary: &[u8], most: u32) -> Option<Desk<PlainKeep>>
     requires least { 0 < most }
     requires most { most ≤ 999999 }
 {
