@@ -132,7 +132,7 @@ def hidden_changed(chance, file, shown):
 
 def held(text, deposit):
     register = machine.Register()
-    register.deposits.append({**deposit, "bytes": text})
+    register.deposits.append(machine.unmarked(data=text, **deposit))
     return register
 
 
