@@ -188,7 +188,8 @@ def still_served(rule, rules, callers):
             project, verbs = rule.get("project", ""), ("list", "extract", "withdraw")
             may = " and ".join(verb for verb in verbs if machine.decide(rules, caller, project, verb)[0] == "permit")
             if may:
-                return f"denies deposits alone: {caller['firm']} may still {may}. A denial without verb ends every access"
+                return (f"denies deposits alone: {caller['firm']} may still {may}."
+                        " A denial without verb ends every access")
     return None
 
 
