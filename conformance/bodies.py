@@ -83,8 +83,11 @@ def clean_body(chance):
 def policy(chance):
     """The text of a policy that mostly lets requests through and hides some rows."""
     rules = ['verb = "deposit"\nrole = "contractor"', 'verb = "check"', 'verb = "list"', 'verb = "extract"']
+    if chance.random() < 0.6:
+        rules.append('verb = "withdraw"' + chance.choice(["", '\nrole = "contractor"']))
     if chance.random() < 0.2:
-        rules.insert(0, f'verb = "{chance.choice(["deposit", "list", "extract"])}"\nfirm = "{chance.choice(FIRMS)}"')
+        verb = chance.choice(["deposit", "list", "extract", "withdraw"])
+        rules.insert(0, f'verb = "{verb}"\nfirm = "{chance.choice(FIRMS)}"')
     sights = ['owner = "own"', 'embargo = "running"', f'group = "LOCA"\nheading = "LOCA_STAT"\nvalue = "{chance.choice(STATES)}"',
               f'group = "SAMP"\nheading = "SAMP_REF"\nvalue = "S{chance.randrange(5)}"', f'group = "{chance.choice(["FILE", "LNMC", "SAMP", "PROJ"])}"',
               f'firm = "{chance.choice(FIRMS)}"\nproject = "N1"', 'owner = "other"\nembargo = "past"\nheading = "LOCA_ID"\nvalue = "BH2"']
