@@ -44,8 +44,6 @@ FORMAT_1 = {"meta": [("name", "text"), ("num", "integer"), ("body", "blob")],
            "steps": [("deposit", "integer"), ("child", "integer"), ("target", "integer")]}
 COLUMNS = {**FORMAT_1, "withdrawals": [("deposit", "integer")]}
 FORMATS = {1: FORMAT_1, 2: COLUMNS}
-# What makes a register of format 1 of one of format 2.
-TO_FORMAT_1 = ["DROP TABLE withdrawals", "UPDATE meta SET num = 1 WHERE name = 'format'"]
 KINDS = [b"GROUP", b"HEADING", b"UNIT", b"TYPE", b"DATA"]
 # The registers that are changed; those of format 1 are named for those that they are made of.
 NAMES = ["empty", "one", "three", "marked", "old-empty", "old-one", "old-three"]
@@ -205,7 +203,7 @@ class Place:
             self.right(words, f"withdrawn {number}\n".encode())
         for name in NAMES:
             if name.startswith("old-"):
-                self.make_old(name)
+                bodies.copy_as_format_1(self.folder, name.removeprefix("old-"), name)
             self.copy(name, "whole-" + name)
             self.written("whole-" + name, ["VACUUM"])
         self.schemas = {1: self.schema_of("old-three"), 2: self.schema_of("three")}
@@ -237,15 +235,6 @@ class Place:
     def right(self, words, want):
         if (got := self.run(words)) != (want, b"", 0):
             sys.exit(f"{words}: {got}")
-
-    def make_old(self, name):
-        """Makes a register of format 1, with its last changes in its log as in the others."""
-        self.copy(name[len("old-"):], "work")
-        connection = sqlite3.connect(self.path("work"), isolation_level=None)
-        for statement in TO_FORMAT_1:
-            connection.execute(statement)
-        self.copy("work", name)  # before the connection ends, which puts the log into the file
-        connection.close()
 
     def copy(self, name, copy):
         bodies.copy_register(self.folder, name, copy)
@@ -441,7 +430,7 @@ def of_withdrawals():
     yield of("the last two taken out whole, one of them withdrawn", *two)
     yield of("the same, with its withdrawal", *two, "DELETE FROM withdrawals WHERE deposit = 2")
     yield of("format 3 with four tables", "UPDATE meta SET num = 3 WHERE name = 'format'", "DROP TABLE withdrawals")
-    yield of("format 1 with four tables, and its steps missing", *TO_FORMAT_1, "DELETE FROM steps")
+    yield of("format 1 with four tables, and its steps missing", *bodies.TO_FORMAT_1, "DELETE FROM steps")
     for text in DEFINED:
         for end in (" STRICT", "", " STRICT, WITHOUT ROWID"):
             made = ["DROP TABLE withdrawals", WITHDRAWALS.format(text) + end]

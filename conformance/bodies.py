@@ -12,6 +12,7 @@ import os
 import random
 import shutil
 import socket
+import sqlite3
 import subprocess
 import sys
 import tempfile
@@ -204,6 +205,20 @@ def copy_register(folder, name, copy):
             os.remove(here)
         if os.path.exists(there):
             shutil.copy(there, here)
+
+
+# What makes a register of format 1 of one of format 2.
+TO_FORMAT_1 = ["DROP TABLE withdrawals", "UPDATE meta SET num = 1 WHERE name = 'format'"]
+
+
+def copy_as_format_1(folder, name, copy):
+    """Copies a register as one of format 1, with the last changes in its log."""
+    copy_register(folder, name, "work")
+    connection = sqlite3.connect(os.path.join(folder, "work"), isolation_level=None)
+    for statement in TO_FORMAT_1:
+        connection.execute(statement)
+    copy_register(folder, "work", copy)  # before the connection ends, which puts the log into the file
+    connection.close()
 
 
 def answer_in(reply):

@@ -565,7 +565,7 @@ class Story:
         bodies.copy_register(self.folder, "s", "t")
         held = self.computer.files["s"]
         if self.chance.random() < 0.5:
-            self.written("DROP TABLE withdrawals; UPDATE meta SET num = 1 WHERE name = 'format'")
+            self.written("; ".join(bodies.TO_FORMAT_1))
             found = register_like(held, marked(held, False), 1)
             if self.chance.random() < 0.7 and self.written(self.chance.choice(list(self.spoils()))):
                 found = machine.Damaged(1)
