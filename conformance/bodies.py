@@ -212,13 +212,15 @@ TO_FORMAT_1 = ["DROP TABLE withdrawals", "UPDATE meta SET num = 1 WHERE name = '
 
 
 def copy_as_format_1(folder, name, copy):
-    """Copies a register as one of format 1, with the last changes in its log."""
+    """Copies a register as one of format 1. Its log has a page that was written last."""
     copy_register(folder, name, "work")
-    connection = sqlite3.connect(os.path.join(folder, "work"), isolation_level=None)
-    for statement in TO_FORMAT_1:
-        connection.execute(statement)
-    copy_register(folder, "work", copy)  # before the connection ends, which puts the log into the file
-    connection.close()
+    setting = "UPDATE meta SET num = {} WHERE name = 'format'".format
+    for statements in (TO_FORMAT_1, ["BEGIN", setting(0), setting(1), "COMMIT"]):
+        connection = sqlite3.connect(os.path.join(folder, "work"), isolation_level=None)
+        for statement in statements:
+            connection.execute(statement)
+        copy_register(folder, "work", copy)  # before the connection ends, which puts the log into the file
+        connection.close()
 
 
 def answer_in(reply):
