@@ -1046,7 +1046,8 @@ def deletions(by):
         yield f"withdrawal over a connection: {name}", (status, text.split(b"\r\n\r\n", 1)[-1].decode()), want
     _, text = serve(register, rules, by, "2024-06-01", head(one.format(1), "t-delta"))
     yield "a whole reply to a withdrawal", text, (
-        b'HTTP/1.1 200 OK\r\nContent-Type: application/json\r\nContent-Length: 15\r\nConnection: close\r\n\r\n{"withdrawn":1}')
+        b'HTTP/1.1 200 OK\r\nContent-Type: application/json\r\nContent-Length: 15\r\n'
+        b'Connection: close\r\n\r\n{"withdrawn":1}')
 
 
 def runs():

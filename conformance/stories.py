@@ -561,7 +561,7 @@ class Story:
         return changes > 0 or "TABLE" in statement
 
     def damage(self):
-        """Another hand changes a copy of the register, or makes it one of format 1, which is then opened and migrated."""
+        """Another hand changes a copy of the register, or makes it one of format 1; it is opened and migrated."""
         bodies.copy_register(self.folder, "s", "t")
         held = self.computer.files["s"]
         if self.chance.random() < 0.5:
