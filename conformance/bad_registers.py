@@ -197,10 +197,7 @@ class Place:
         self.make("empty", "mini", [])
         self.make("one", "other", [("t-delta", "a")])
         self.make("three", "mini", [("t-delta", "b"), ("t-foxtrot", "c"), ("t-delta", "a")])
-        self.copy("three", "marked")
-        for token, number in (("t-delta", 1), ("t-foxtrot", 2)):
-            words = ["withdraw", "--store=marked", f"--token={token}", *ASKING, str(number)]
-            self.right(words, f"withdrawn {number}\n".encode())
+        self.make_marked()
         for name in NAMES:
             if name.startswith("old-"):
                 bodies.copy_as_format_1(self.folder, name.removeprefix("old-"), name)
@@ -231,6 +228,13 @@ class Place:
         given += [(["deposit", f"--store={name}", f"--token={token}", "--embargo=2024-06-01", *ASKING, file], f"receipt {n} 2024-06-01\n".encode()) for n, (token, file) in enumerate(deposits, 1)]
         for words, want in given:
             self.right(words, want)
+
+    def make_marked(self):
+        """Makes a register whose first two deposits of three are withdrawn."""
+        self.copy("three", "marked")
+        for token, number in (("t-delta", 1), ("t-foxtrot", 2)):
+            words = ["withdraw", "--store=marked", f"--token={token}", *ASKING, str(number)]
+            self.right(words, f"withdrawn {number}\n".encode())
 
     def right(self, words, want):
         if (got := self.run(words)) != (want, b"", 0):
