@@ -532,7 +532,7 @@ def files_by_hand(place):
         place.copy("marked", "bad")
         place.written("bad", [text.format(value) for text in LOOSE_RECORDS])
         yield f"marked, with a record of {value} for a withdrawal", "marked"
-    for name in NAMES:
+    for name in ("empty", "one", "three", "marked", "old-three"):
         file, log, whole = place.got(name), place.got(name + "-wal"), place.got("whole-" + name)
         for what, *parts in [("as it is", file, log), ("without its log", file), ("without its file", b"", log), ("with an empty log", file, b""), ("put together", whole), ("put together, with an empty log", whole, b""),
                              ("put together, with its old log", whole, log), ("with a log of zeros", file, bytes(len(log))), ("with a log of text", file, b"no log\n" * 99), ("with more behind its file", file + b"x" * 4096, log),
