@@ -19,18 +19,8 @@ use std::io::ErrorKind;
 use std::os::unix::fs::OpenOptionsExt;
 use std::path::Path;
 
-/// Makes an empty file that its owner alone may read and write, where none is there. The log beside it has the same rights once it is
-/// made. What fails here fails where the register is made, and is said there.
-pub(crate) fn make_private(rt: &HostRuntime, store: &str) {
-    let _made = OpenOptions::new()
-        .write(true)
-        .create_new(true)
-        .mode(0o600)
-        .open(rt, store);
-}
-
-/// Makes an empty register at a path, and closes it. What names the type of a keep in a file is kept short: it is written out
-/// at each point of a function that holds one.
+/// Makes an empty register at a path, and closes it. What names the type of a keep in a file is kept short: it is
+/// written out at each point of a function that holds one.
 pub(crate) fn create_store<F: Start>(
     rt: &HostRuntime,
     alloc: Global,
@@ -58,6 +48,16 @@ pub(crate) fn not_made<'w>(error: CreateError) -> Refusal<'w> {
         CreateError::Store => Fault::StoreFailed,
         CreateError::NoMemory => Fault::NoMemory,
     })
+}
+
+/// Makes an empty file that its owner alone may read and write, where none is there. The log beside it has the same
+/// rights once it is made. What fails here fails where the register is made, and is said there.
+pub(crate) fn make_private(rt: &HostRuntime, store: &str) {
+    let _made = OpenOptions::new()
+        .write(true)
+        .create_new(true)
+        .mode(0o600)
+        .open(rt, store);
 }
 
 /// The register in the file at a path, where `F` stands for what its files held.

@@ -10,7 +10,8 @@ use Rattle.reg_desk.specs.declared.answer.Listed.{Listed}
 
 -- a receipt: the number of the deposit, and the first day on which it is no longer under embargo
 abbrev pub IsReceipt : ℕ → ℤ → List ℕ → Type 0
-IsReceipt number embargo text = (day : List ℕ) × Writes day embargo × (text ≡ codes "receipt " ++ decimal number ++ codes " " ++ day ++ codes "\n")
+IsReceipt number embargo text =
+    (day : List ℕ) × Writes day embargo × (text ≡ codes "receipt " ++ decimal number ++ codes " " ++ day ++ codes "\n")
 
 -- a line of a listing, with the text of its embargo day
 abbrev pub dated_line : Listed → List ℕ → List ℕ
@@ -23,7 +24,8 @@ IsListedLine listed line = (day : List ℕ) × Writes day listed.embargo × (lin
 -- a line for each deposit, in the order of the listing
 pub data ListsAs : List Listed → List ℕ → Type 0 where
   empty : ListsAs [] []
-  next : (more : List Listed) (text : List ℕ) (listed : Listed) (line : List ℕ) → ListsAs more text → IsListedLine listed line → ListsAs (more ++ listed ∷ []) (text ++ line)
+  next : (more : List Listed) (text : List ℕ) (listed : Listed) (line : List ℕ) → ListsAs more text
+      → IsListedLine listed line → ListsAs (more ++ listed ∷ []) (text ++ line)
 
 -- the text of an answer
 abbrev pub IsPrinted : Answer → List ℕ → Type 0

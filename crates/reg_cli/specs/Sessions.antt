@@ -17,6 +17,7 @@ deposit_request session embargo bytes = deposit session.caller.now session.proje
 abbrev pub listing_request : Session → Asked
 listing_request session = listing session.caller.now session.project session.day
 
--- the request for an extract of these groups of the deposit of a number, by the caller, of the project and on the day of the session
+-- the request for an extract of these groups of the deposit of a number, by the caller, of the project and on the day
+-- of the session
 abbrev pub extract_request : Session → ℕ → List (List ℕ) → Asked
 extract_request session number groups = extract session.caller.now session.project number groups session.day

@@ -1,6 +1,7 @@
-//! What the program reads, asks, prints and is told, apart from any store and socket: the words of the command line, the
-//! files that they name, the streams that are watched, the faults and reports that are printed, who asks, what is asked of
-//! a desk and what is printed of its answer, and the check of standard input or of a file under another dictionary.
+//! What the program reads, asks, prints and is told, apart from any store and socket: the words of the command line,
+//! the files that they name, the streams that are watched, the faults and reports that are printed, who asks, what is
+//! asked of a desk and what is printed of its answer, and the check of standard input or of a file under another
+//! dictionary.
 //!
 //! Words and streams are passed in, so that what is printed, what is said of a fault and the status of a run are
 //! contracts over readers and writers that tell their bytes.
@@ -26,4 +27,4 @@ pub use refusal::Refusal;
 pub use report::{Report, findings_report};
 pub use session::{Session, day_or, session_of};
 pub use watched::{StreamFailed, Watched};
-pub use words::{Asker, Service, Words, read_words};
+pub use words::{Action, Asker, Service, Words, read_words};
