@@ -5,11 +5,11 @@ ghost use Rattle.reg_cli.specs.Checking.{ChecksInput};
 ghost use Rattle.reg_cli.specs.Streams.{HaveNotFailed, has_failed};
 
 use crate::serving::{Serving, serve, serve_desk};
-use crate::stores::{create_store, make_private, not_made, open_store};
+use crate::stores::{create_store, make_private, migrate_store, not_made, open_store};
 use reg_cli::{
     Action, Asker, Fault, Refusal, Session, Watched, Words, ask_deposit, ask_extract, ask_list,
-    check_given, day_or, dictionary_in, read_path, read_rights, read_words, run_without_words,
-    session_of, tell,
+    ask_withdraw, check_given, day_or, dictionary_in, read_path, read_rights, read_words,
+    run_without_words, session_of, tell,
 };
 use reg_desk::Desk;
 use reg_http::{groups_listed, number_of_deposit};
@@ -67,6 +67,7 @@ fn run_command<'w, F: Start, W: Write, E: Write>(
 {
     match words {
         Words::Init { store, dictionary } => init(rt, alloc, start, store, dictionary, out),
+        Words::Migrate { store } => migrate(rt, alloc, start, store, out),
         Words::Check { dictionary, file } => check_file(rt, alloc, dictionary, file, out, err),
         Words::Ask(asker, action) => ask_register(rt, alloc, start, &asker, &action, today, out),
         Words::Serve(service) => serve(rt, alloc, start, &service, today, out),
@@ -90,6 +91,18 @@ fn init<'w, F: Start, W: Write>(
         Ok(()) => Ok(tell(out, b"created\n", 0)),
         Err(error) => Err(not_made(error)),
     }
+}
+
+/// Makes a register of format 1 one of format 2.
+fn migrate<'w, F: Start, W: Write>(
+    rt: &HostRuntime,
+    alloc: Global,
+    start: F,
+    store: &'w str,
+    out: &mut Watched<W>,
+) -> Result<u8, Refusal<'w>> {
+    migrate_store(rt, alloc, start, store)?.close();
+    Ok(tell(out, b"migrated\n", 0))
 }
 
 /// Checks a file under the dictionary of another.
@@ -140,6 +153,10 @@ pub(crate) enum Task<'t> {
     List {
         session: &'t Session<'t>,
     },
+    Withdraw {
+        session: &'t Session<'t>,
+        number: u32,
+    },
     Serve {
         serving: &'t Serving<'t>,
         port: u16,
@@ -166,6 +183,10 @@ fn task_of<'t, 'w: 't>(
             number: number_given(number)?,
         }),
         Action::List => Ok(Task::List { session }),
+        Action::Withdraw { number } => Ok(Task::Withdraw {
+            session,
+            number: number_given(number)?,
+        }),
     }
 }
 
@@ -251,6 +272,7 @@ fn do_task<'w, K: Keep, W: Write>(
             groups,
         } => ask_extract(alloc, desk, session, *number, groups, out),
         Task::List { session } => ask_list(alloc, desk, session, out),
+        Task::Withdraw { session, number } => ask_withdraw(alloc, desk, session, *number, out),
         Task::Serve { serving, port, log } => serve_desk(
             rt, alloc, desk, serving, *port, *log, out,
         ),

@@ -6,7 +6,7 @@ ghost use Rattle.sqlite.specs.WalFiles.{image_at};
 ghost use Rattle.reg_tables.specs.Making.{RefusesBytes};
 ghost use Rattle.reg_tables.specs.Opened.{AdoptsFiles};
 
-use crate::refusal::adopting;
+use crate::refusal::{adopting, migrating};
 use ags_rows::READABLE;
 use reg_cli::{Fault, Refusal};
 use reg_tables::{CreateError, SqlKeep};
@@ -76,6 +76,22 @@ pub(crate) fn open_store<'w, F: Start>(
     match SqlKeep::open_from(rt, alloc, store, start) {
         Ok(keep) => Ok(keep),
         Err((error, _connection)) => Err(adopting(error)),
+    }
+}
+
+/// The register of format 1 in the file at a path, made one of format 2, where `F` stands for what its files held.
+pub(crate) fn migrate_store<'w, F: Start>(
+    rt: &HostRuntime,
+    alloc: Global,
+    start: F,
+    store: &'w str,
+) -> Result<SqlKeep<FileStore<FileFrom<F>>>, Refusal<'w>> {
+    if is_absent(rt, store) {
+        return Err(Refusal::Plain(Fault::NotRegister));
+    }
+    match SqlKeep::migrate_from(rt, alloc, store, start) {
+        Ok(keep) => Ok(keep),
+        Err((error, _connection)) => Err(migrating(error)),
     }
 }
 

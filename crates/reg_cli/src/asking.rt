@@ -2,7 +2,7 @@
 
 ghost use Rattle.reg_desk.specs.Asked.{asked, names_in};
 ghost use Rattle.reg_cli.specs.Asking.{AsksDesk};
-ghost use Rattle.reg_cli.specs.Sessions.{deposit_request, extract_request, listing_request};
+ghost use Rattle.reg_cli.specs.Sessions.{deposit_request, extract_request, listing_request, withdrawal_request};
 
 use crate::printing::answer_report;
 use crate::refusal::Refusal;
@@ -72,6 +72,25 @@ pub fn ask_extract<'w, K: Keep, W: Write>(
         project: &session.project,
         number,
         groups,
+        day: session.day,
+    };
+    ask_desk(alloc, desk, &request, out)
+}
+
+/// Asks the desk to withdraw the deposit of a number, from 1 on, as the one who asks. It is refused as `ask_deposit` is.
+pub fn ask_withdraw<'w, K: Keep, W: Write>(
+    alloc: Global,
+    desk: &mut Desk<K>,
+    session: &Session<'_>,
+    number: u32,
+    out: &mut Watched<W>,
+) -> Result<u8, Refusal<'w>>
+    ensures { AsksDesk W.Write (withdrawal_request session.now number) desk.old desk.new out.old out.new result }
+{
+    let request = Request::Withdraw {
+        caller: session.caller,
+        project: &session.project,
+        number,
         day: session.day,
     };
     ask_desk(alloc, desk, &request, out)

@@ -19,7 +19,7 @@ mod session;
 mod watched;
 mod words;
 
-pub use asking::{ask_deposit, ask_extract, ask_list};
+pub use asking::{ask_deposit, ask_extract, ask_list, ask_withdraw};
 pub use check::{check_given, check_stream, run_without_words};
 pub use fault::{Fault, tell};
 pub use files::{dictionary_in, read_path, read_rights};

@@ -21,6 +21,7 @@ pub(crate) fn answer_report(alloc: Global, answer: Answer) -> Result<Report, All
         Answer::Findings(found) => findings_report(alloc, &found),
         Answer::Listing(listing) => listing_report(alloc, listing.as_slice()),
         Answer::Text(text) => Ok(Report { text, status: 0 }),
+        Answer::Withdrawn(number) => number_report(alloc, b"withdrawn ", number, 0),
         Answer::Denied(number) => number_report(alloc, b"denied ", number, 2),
         Answer::Unknown => said(alloc, b"unknown\n", 3),
         Answer::TooLarge => said(alloc, b"too large\n", 4),

@@ -24,6 +24,7 @@ pub fn read_words<'w, S: AsStr>(alloc: Global, words: &'w [S]) -> Result<Words<'
 #[derive(Clone, Copy)]
 pub enum Words<'w> {
     Init { store: &'w str, dictionary: &'w str },
+    Migrate { store: &'w str },
     Check { dictionary: &'w str, file: &'w str },
     Ask(Asker<'w>, Action<'w>),
     Serve(Service<'w>),
@@ -41,6 +42,9 @@ pub enum Action<'w> {
         number: &'w str,
     },
     List,
+    Withdraw {
+        number: &'w str,
+    },
 }
 
 /// Who asks, of which store, by which policy, for which project and on which day, as it was given.
@@ -88,10 +92,12 @@ struct Form {
 /// What a command does.
 enum Task {
     Init,
+    Migrate,
     Check,
     Deposit,
     Extract,
     List,
+    Withdraw,
     Serve,
 }
 
@@ -107,12 +113,18 @@ enum Word {
     Plain(&'static str),
 }
 
-static FORMS: [Form; 6] = [
+static FORMS: [Form; 8] = [
     Form {
         name: "init",
         task: Task::Init,
         shared: &[],
         own: &[Word::Required("store"), Word::Required("dictionary")],
+    },
+    Form {
+        name: "migrate",
+        task: Task::Migrate,
+        shared: &[],
+        own: &[Word::Required("store")],
     },
     Form {
         name: "check",
@@ -137,6 +149,12 @@ static FORMS: [Form; 6] = [
         task: Task::List,
         shared: ASKER,
         own: &[],
+    },
+    Form {
+        name: "withdraw",
+        task: Task::Withdraw,
+        shared: ASKER,
+        own: &[Word::Plain("number")],
     },
     Form {
         name: "serve",
@@ -227,10 +245,12 @@ fn flag<'w>(alloc: Global, name: &'w str) -> Arg<'w> {
 fn words_of<'w>(task: &Task, given: &ArgMatches<'w>) -> Option<Words<'w>> {
     match task {
         Task::Init => init_words(given),
+        Task::Migrate => migrate_words(given),
         Task::Check => check_words(given),
         Task::Deposit => deposit_words(given),
         Task::Extract => extract_words(given),
         Task::List => Some(Words::Ask(asker_in(given)?, Action::List)),
+        Task::Withdraw => withdraw_words(given),
         Task::Serve => Some(Words::Serve(service_in(given)?)),
     }
 }
@@ -239,6 +259,12 @@ fn init_words<'w>(given: &ArgMatches<'w>) -> Option<Words<'w>> {
     Some(Words::Init {
         store: text(given, "store")?,
         dictionary: text(given, "dictionary")?,
+    })
+}
+
+fn migrate_words<'w>(given: &ArgMatches<'w>) -> Option<Words<'w>> {
+    Some(Words::Migrate {
+        store: text(given, "store")?,
     })
 }
 
@@ -260,6 +286,13 @@ fn deposit_words<'w>(given: &ArgMatches<'w>) -> Option<Words<'w>> {
 fn extract_words<'w>(given: &ArgMatches<'w>) -> Option<Words<'w>> {
     let action = Action::Extract {
         groups: text(given, "groups"),
+        number: text(given, "number")?,
+    };
+    Some(Words::Ask(asker_in(given)?, action))
+}
+
+fn withdraw_words<'w>(given: &ArgMatches<'w>) -> Option<Words<'w>> {
+    let action = Action::Withdraw {
         number: text(given, "number")?,
     };
     Some(Words::Ask(asker_in(given)?, action))
