@@ -26,8 +26,8 @@ fn today(rt: &HostRuntime) -> Option<Day> {
     Day::new(now.date().to_plain().to_unix_epoch_day())
 }
 
-/// Runs the program over its three streams, of any types: what names the types of the real ones is kept short. `F` stands for what
-/// the files of a store held.
+/// Runs the program over its three streams, of any types: what names the types of the real ones is kept short. `F`
+/// stands for what the files of a store held.
 fn run_program<F: Start, R: Read + Drop, W: Write + Drop, E: Write + Drop>(
     rt: &HostRuntime,
     start: F,

@@ -2,14 +2,14 @@
 
 ghost use Rattle.std.specs.Prelude.{◌≡◌, ◌≤◌, false, length};
 ghost use Rattle.reg_cli.specs.Checking.{ChecksInput};
-ghost use Rattle.reg_cli.specs.Streams.{has_failed};
+ghost use Rattle.reg_cli.specs.Streams.{HaveNotFailed, has_failed};
 
 use crate::serving::{Serving, serve, serve_desk};
-use crate::stores::{create_store, make_private, not_made, open_store};
+use crate::stores::{create_store, make_private, migrate_store, not_made, open_store};
 use reg_cli::{
-    Asker, Fault, Refusal, Session, Watched, Words, ask_deposit, ask_extract, ask_list,
-    check_given, day_or, dictionary_in, read_path, read_rights, read_words, run_without_words,
-    session_of, tell,
+    Action, Asker, Fault, Refusal, Session, Watched, Words, ask_deposit, ask_extract, ask_list,
+    ask_withdraw, check_given, day_or, dictionary_in, read_path, read_rights, read_words,
+    run_without_words, session_of, tell,
 };
 use reg_desk::Desk;
 use reg_http::{groups_listed, number_of_deposit};
@@ -22,27 +22,56 @@ use std::convert::AsStr;
 use std::fs::File;
 use std::io::{Read, Write};
 
-/// What is done with a register once it is open.
-#[derive(Drop)]
-pub(crate) enum Task<'t> {
-    Deposit {
-        session: &'t Session<'t>,
-        embargo: Day,
-        bytes: &'t [u8],
-    },
-    List {
-        session: &'t Session<'t>,
-    },
-    Extract {
-        session: &'t Session<'t>,
-        number: u32,
-        groups: &'t [&'t [u8]],
-    },
-    Serve {
-        serving: &'t Serving<'t>,
-        port: u16,
-        log: Option<&'t File>,
-    },
+/// Runs the program on its words, of which the first is its name; without others it checks the file that the input
+/// carries. `today` is what the clock tells, if it tells a day, and `F` stands for what the files of a store held. No
+/// clause says what is done with further words, or with `today`.
+pub fn run_words<F: Start, S: AsStr, R: Read, W: Write, E: Write>(
+    rt: &HostRuntime,
+    start: F,
+    words: &[S],
+    today: Option<Day>,
+    input: &mut Watched<R>,
+    out: &mut Watched<W>,
+    err: &mut Watched<E>,
+) -> u8
+    requires { HaveNotFailed input.old out.old err.old }
+    ensures wordless { length words.now ≤ 1
+        → ChecksInput R.Read W.Write E.Write input.old input.new out.old out.new err.old err.new result }
+{
+    let alloc = rt.alloc();
+    if words.len() <= 1 {
+        return run_without_words(alloc, input, out, err);
+    }
+    let words = match read_words(alloc, words) {
+        Ok(words) => words,
+        Err(fault) => return fault.tell(err),
+    };
+    match run_command(rt, alloc, start, words, today, out, err) {
+        Ok(status) => status,
+        Err(refusal) => refusal.tell(err),
+    }
+}
+
+/// Does what the words ask.
+fn run_command<'w, F: Start, W: Write, E: Write>(
+    rt: &HostRuntime,
+    alloc: Global,
+    start: F,
+    words: Words<'w>,
+    today: Option<Day>,
+    out: &mut Watched<W>,
+    err: &mut Watched<E>,
+) -> Result<u8, Refusal<'w>>
+    requires out { has_failed out.old ≡ false }
+    requires err { has_failed err.old ≡ false }
+{
+    match words {
+        Words::Init { store, dictionary } => init(rt, alloc, start, store, dictionary, out),
+        Words::Migrate { store } => migrate(rt, alloc, start, store, out),
+        Words::Check { dictionary, file } => check_file(rt, alloc, dictionary, file, out, err),
+        Words::Ask(asker, action) => ask_register(rt, alloc, start, &asker, &action, today, out),
+        Words::Serve(service) => serve(rt, alloc, start, &service, today, out),
+    }
 }
 
 /// Makes a register.
@@ -64,6 +93,18 @@ fn init<'w, F: Start, W: Write>(
     }
 }
 
+/// Makes a register of format 1 one of format 2.
+fn migrate<'w, F: Start, W: Write>(
+    rt: &HostRuntime,
+    alloc: Global,
+    start: F,
+    store: &'w str,
+    out: &mut Watched<W>,
+) -> Result<u8, Refusal<'w>> {
+    migrate_store(rt, alloc, start, store)?.close();
+    Ok(tell(out, b"migrated\n", 0))
+}
+
 /// Checks a file under the dictionary of another.
 fn check_file<'w, W: Write, E: Write>(
     rt: &HostRuntime,
@@ -80,65 +121,73 @@ fn check_file<'w, W: Write, E: Write>(
     check_given(alloc, &dictionary, read_path(rt, alloc, file), out, err)
 }
 
-fn deposit<'w, F: Start, W: Write>(
+/// Asks a register.
+fn ask_register<'w, F: Start, W: Write>(
     rt: &HostRuntime,
     alloc: Global,
     start: F,
     asker: &Asker<'w>,
-    embargo: Option<&'w str>,
-    file: &'w str,
+    action: &Action<'w>,
     today: Option<Day>,
     out: &mut Watched<W>,
 ) -> Result<u8, Refusal<'w>> {
     let (policy, callers) = read_rights(rt, alloc, asker.policy, asker.callers)?;
     let session = session_of(alloc, &callers, asker, today)?;
-    deposit_as(
-        rt,
-        alloc,
-        start,
-        asker.store,
-        policy,
-        &session,
-        embargo,
-        file,
-        out,
-    )
-}
-
-/// Deposits a file as the one who asks.
-fn deposit_as<'w, F: Start, W: Write>(
-    rt: &HostRuntime,
-    alloc: Global,
-    start: F,
-    store: &'w str,
-    policy: Policy,
-    session: &Session<'_>,
-    embargo: Option<&'w str>,
-    file: &'w str,
-    out: &mut Watched<W>,
-) -> Result<u8, Refusal<'w>> {
-    let embargo = day_or(embargo, Some(session.day))?;
-    let bytes = read_path(rt, alloc, file)?;
-    let task = Task::Deposit {
-        session,
-        embargo,
-        bytes: &bytes,
-    };
-    use_store(rt, alloc, start, store, policy, &task, out)
-}
-
-fn list<'w, F: Start, W: Write>(
-    rt: &HostRuntime,
-    alloc: Global,
-    start: F,
-    asker: &Asker<'w>,
-    today: Option<Day>,
-    out: &mut Watched<W>,
-) -> Result<u8, Refusal<'w>> {
-    let (policy, callers) = read_rights(rt, alloc, asker.policy, asker.callers)?;
-    let session = session_of(alloc, &callers, asker, today)?;
-    let task = Task::List { session: &session };
+    let task = task_of(rt, alloc, &session, action)?;
     use_store(rt, alloc, start, asker.store, policy, &task, out)
+}
+
+/// What is done with a register once it is open.
+#[derive(Drop)]
+pub(crate) enum Task<'t> {
+    Deposit {
+        session: &'t Session<'t>,
+        embargo: Day,
+        bytes: Vec<u8>,
+    },
+    Extract {
+        session: &'t Session<'t>,
+        number: u32,
+        groups: Vec<&'t [u8]>,
+    },
+    List {
+        session: &'t Session<'t>,
+    },
+    Withdraw {
+        session: &'t Session<'t>,
+        number: u32,
+    },
+    Serve {
+        serving: &'t Serving<'t>,
+        port: u16,
+        log: Option<&'t File>,
+    },
+}
+
+/// What is done for the one who asks.
+fn task_of<'t, 'w: 't>(
+    rt: &HostRuntime,
+    alloc: Global,
+    session: &'t Session<'t>,
+    action: &Action<'w>,
+) -> Result<Task<'t>, Refusal<'w>> {
+    match action {
+        Action::Deposit { embargo, file } => Ok(Task::Deposit {
+            session,
+            embargo: day_or(*embargo, Some(session.day))?,
+            bytes: read_path(rt, alloc, file)?,
+        }),
+        Action::Extract { groups, number } => Ok(Task::Extract {
+            session,
+            groups: groups_of(alloc, *groups)?,
+            number: number_given(number)?,
+        }),
+        Action::List => Ok(Task::List { session }),
+        Action::Withdraw { number } => Ok(Task::Withdraw {
+            session,
+            number: number_given(number)?,
+        }),
+    }
 }
 
 /// The groups that a text lists; none for all.
@@ -150,30 +199,14 @@ fn groups_of<'w>(alloc: Global, text: Option<&'w str>) -> Result<Vec<&'w [u8]>, 
     }
 }
 
-fn extract<'w, F: Start, W: Write>(
-    rt: &HostRuntime,
-    alloc: Global,
-    start: F,
-    asker: &Asker<'w>,
-    groups: Option<&'w str>,
-    number: &'w str,
-    today: Option<Day>,
-    out: &mut Watched<W>,
-) -> Result<u8, Refusal<'w>> {
-    let (policy, callers) = read_rights(rt, alloc, asker.policy, asker.callers)?;
-    let session = session_of(alloc, &callers, asker, today)?;
-    let groups = groups_of(alloc, groups)?;
-    let number = number_of_deposit(number.as_bytes()).ok_or(Fault::NumberRefused)?;
-    let task = Task::Extract {
-        session: &session,
-        number,
-        groups: &groups,
-    };
-    use_store(rt, alloc, start, asker.store, policy, &task, out)
+/// The number of a deposit that a text writes.
+fn number_given(text: &str) -> Result<u32, Fault> {
+    number_of_deposit(text.as_bytes()).ok_or(Fault::NumberRefused)
 }
 
-/// Opens the register in the file at a path, and does with it what is asked. Each command that opens one comes here: a keep is
-/// shown to be one at length where its type is named, so that is once over the store of a file, and once over any store.
+/// Opens the register in the file at a path, and does with it what is asked. Each command that opens one comes here: a
+/// keep is shown to be one at length where its type is named, so that is once over the store of a file, and once over
+/// any store.
 pub(crate) fn use_store<'w, F: Start, W: Write>(
     rt: &HostRuntime,
     alloc: Global,
@@ -233,76 +266,15 @@ fn do_task<'w, K: Keep, W: Write>(
             embargo,
             bytes,
         } => ask_deposit(alloc, desk, session, *embargo, bytes, out),
-        Task::List { session } => ask_list(alloc, desk, session, out),
         Task::Extract {
             session,
             number,
             groups,
         } => ask_extract(alloc, desk, session, *number, groups, out),
-        Task::Serve { serving, port, log } => {
-            serve_desk(rt, alloc, desk, serving, *port, *log, out)
-        }
-    }
-}
-
-/// Does what the words ask.
-fn run_command<'w, F: Start, W: Write, E: Write>(
-    rt: &HostRuntime,
-    alloc: Global,
-    start: F,
-    words: Words<'w>,
-    today: Option<Day>,
-    out: &mut Watched<W>,
-    err: &mut Watched<E>,
-) -> Result<u8, Refusal<'w>>
-    requires out { has_failed out.old ≡ false }
-    requires err { has_failed err.old ≡ false }
-{
-    match words {
-        Words::Init { store, dictionary } => init(rt, alloc, start, store, dictionary, out),
-        Words::Check { dictionary, file } => check_file(rt, alloc, dictionary, file, out, err),
-        Words::Deposit {
-            asker,
-            embargo,
-            file,
-        } => deposit(rt, alloc, start, &asker, embargo, file, today, out),
-        Words::Extract {
-            asker,
-            groups,
-            number,
-        } => extract(rt, alloc, start, &asker, groups, number, today, out),
-        Words::List(asker) => list(rt, alloc, start, &asker, today, out),
-        Words::Serve(service) => serve(rt, alloc, start, &service, today, out),
-    }
-}
-
-/// Runs the program on its words, of which the first is its name; without others it checks the file that the input carries.
-/// `today` is what the clock tells, if it tells a day, and `F` stands for what the files of a store held. No clause says what is done with further words, or with `today`.
-pub fn run_words<F: Start, S: AsStr, R: Read, W: Write, E: Write>(
-    rt: &HostRuntime,
-    start: F,
-    words: &[S],
-    today: Option<Day>,
-    input: &mut Watched<R>,
-    out: &mut Watched<W>,
-    err: &mut Watched<E>,
-) -> u8
-    requires input { has_failed input.old ≡ false }
-    requires out { has_failed out.old ≡ false }
-    requires err { has_failed err.old ≡ false }
-    ensures wordless { length words.now ≤ 1
-        → ChecksInput R.Read W.Write E.Write input.old input.new out.old out.new err.old err.new result }
-{
-    let alloc = rt.alloc();
-    if words.len() <= 1 {
-        return run_without_words(alloc, input, out, err);
-    }
-    let words = match read_words(alloc, words) {
-        Ok(words) => words,
-        Err(fault) => return fault.tell(err),
-    };
-    match run_command(rt, alloc, start, words, today, out, err) {
-        Ok(status) => status,
-        Err(refusal) => refusal.tell(err),
+        Task::List { session } => ask_list(alloc, desk, session, out),
+        Task::Withdraw { session, number } => ask_withdraw(alloc, desk, session, *number, out),
+        Task::Serve { serving, port, log } => serve_desk(
+            rt, alloc, desk, serving, *port, *log, out,
+        ),
     }
 }

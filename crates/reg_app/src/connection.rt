@@ -14,11 +14,24 @@ use std::io::Read;
 use std::net::{Shutdown, TcpListener, TcpStream};
 use std::time::{Clock, Duration, Instant};
 
-/// For how many seconds what a peer still sends behind its reply is read.
-const DRAINING: u64 = 2;
-
-/// How many bytes of it are read: as many as a request may have.
-const MOST_DRAINED: u64 = LIMIT as u64 + MOST_HELD as u64;
+/// Accepts a connection and serves it, on the day of the clock where no other is given.
+pub(crate) fn serve_next<K: Keep, C: Clock>(
+    alloc: Global,
+    clock: &C,
+    listener: &TcpListener,
+    desk: &mut Desk<K>,
+    serving: &Serving<'_>,
+) -> Outcome {
+    let accepted = listener.accept();
+    let mut outcome = Outcome::new(Moment::now(clock));
+    if let Ok((stream, _)) = accepted {
+        let _served = serve_stream(alloc, clock, &stream, desk, serving, &mut outcome);
+        if outcome.status.is_some() {
+            let _ended = finish(clock, &stream);
+        }
+    }
+    outcome
+}
 
 /// What came of a connection.
 #[derive(Drop)]
@@ -51,42 +64,8 @@ impl Outcome {
     }
 }
 
-/// Accepts a connection and serves it, on the day of the clock where no other is given.
-pub(crate) fn serve_next<K: Keep, C: Clock>(
-    alloc: Global,
-    clock: &C,
-    listener: &TcpListener,
-    desk: &mut Desk<K>,
-    serving: &Serving<'_>,
-) -> Outcome {
-    let accepted = listener.accept();
-    let mut outcome = Outcome::new(Moment::now(clock));
-    if let Ok((stream, _)) = accepted {
-        let _ended = serve_stream(alloc, clock, &stream, desk, serving, &mut outcome);
-    }
-    outcome
-}
-
-/// Serves a connection. After a reply nothing more is written, and what the peer still sends is read and dropped, so that it has
-/// the reply before it finds the connection closed.
-fn serve_stream<K: Keep, C: Clock>(
-    alloc: Global,
-    clock: &C,
-    stream: &TcpStream,
-    desk: &mut Desk<K>,
-    serving: &Serving<'_>,
-    outcome: &mut Outcome,
-) -> io::Result<()> {
-    serve_within(alloc, clock, stream, desk, serving, outcome)?;
-    if outcome.status.is_some() {
-        stream.shutdown(Shutdown::Write)?;
-        drain(clock, stream)?;
-    }
-    Ok(())
-}
-
 /// Reads a request within its time, and writes the reply within the same time again.
-fn serve_within<K: Keep, C: Clock>(
+fn serve_stream<K: Keep, C: Clock>(
     alloc: Global,
     clock: &C,
     stream: &TcpStream,
@@ -117,10 +96,18 @@ fn serve_within<K: Keep, C: Clock>(
     Ok(())
 }
 
-/// Reads what a peer still sends, and drops it.
-fn drain<C: Clock>(clock: &C, stream: &TcpStream) -> io::Result<()> {
+/// Ends a connection that has its reply: nothing more is written, and what the peer still sends is read and dropped, so
+/// that it has the reply before it finds the connection closed.
+fn finish<C: Clock>(clock: &C, stream: &TcpStream) -> io::Result<()> {
+    stream.shutdown(Shutdown::Write)?;
     let end = end_of(clock, Duration::from_secs(DRAINING))?;
     let rest = Received::until(end, clock, stream);
     io::copy(&mut rest.take(MOST_DRAINED), &mut io::sink())?;
     Ok(())
 }
+
+/// For how many seconds what a peer still sends behind its reply is read.
+const DRAINING: u64 = 2;
+
+/// How many bytes of it are read: as many as a request may have.
+const MOST_DRAINED: u64 = LIMIT as u64 + MOST_HELD as u64;

@@ -29,8 +29,8 @@ impl<W: Write + Drop> Log<W> {
         })
     }
 
-    /// Appends the line of a connection, and has it passed on: time, firm and role, method and path, status, bytes in and out,
-    /// milliseconds. What is not known is `-`. No token is in it, since it has no field and no query.
+    /// Appends the line of a connection, and has it passed on: time, firm and role, method and path, status, bytes in
+    /// and out, milliseconds. What is not known is `-`. No token is in it, since it has no field and no query.
     pub(crate) fn append(&mut self, callers: &Callers, outcome: &Outcome) -> Result<(), Fault> {
         self.line.clear();
         push_moment(&mut self.line, outcome.moment)?;

@@ -16,22 +16,8 @@ use std::net::TcpListener;
 use std::os::unix::fs::OpenOptionsExt;
 use std::time::{Clock, Duration};
 
-/// How connections are served.
-#[derive(Drop)]
-pub struct Serving<'s> {
-    pub callers: &'s Callers,
-    /// The day of the requests; none where it is that of the clock.
-    pub day: Option<Day>,
-    /// The time for reading a request, and again for writing its reply.
-    pub patience: Duration,
-    /// How many connections are served.
-    pub connections: u32,
-    /// Whether no more are served behind a reply that the store failed.
-    pub ends_on_failure: bool,
-}
-
-/// Serves connections, one after the other, and of each writes the line of the log, and prints the status of the reply, or
-/// `fault`. `Stream` where such a line is not written, and `StoreFailed` where that ends it. No clause says so.
+/// Serves connections, one after the other, and of each writes the line of the log, and prints the status of the reply,
+/// or `fault`. `Stream` where such a line is not written, and `StoreFailed` where that ends it. No clause says so.
 pub fn serve_on<K: Keep, C: Clock, W: Write, L: Write + Drop>(
     alloc: Global,
     clock: &C,
@@ -52,6 +38,20 @@ pub fn serve_on<K: Keep, C: Clock, W: Write, L: Write + Drop>(
         }
     }
     Ok(())
+}
+
+/// How connections are served.
+#[derive(Drop)]
+pub struct Serving<'s> {
+    pub callers: &'s Callers,
+    /// The day of the requests; none where it is that of the clock.
+    pub day: Option<Day>,
+    /// The time for reading a request, and again for writing its reply.
+    pub patience: Duration,
+    /// How many connections are served.
+    pub connections: u32,
+    /// Whether no more are served behind a reply that the store failed.
+    pub ends_on_failure: bool,
 }
 
 /// Prints the line of a connection.

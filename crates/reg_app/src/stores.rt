@@ -6,7 +6,7 @@ ghost use Rattle.sqlite.specs.WalFiles.{image_at};
 ghost use Rattle.reg_tables.specs.Making.{RefusesBytes};
 ghost use Rattle.reg_tables.specs.Opened.{AdoptsFiles};
 
-use crate::refusal::adopting;
+use crate::refusal::{adopting, migrating};
 use ags_rows::READABLE;
 use reg_cli::{Fault, Refusal};
 use reg_tables::{CreateError, SqlKeep};
@@ -19,18 +19,8 @@ use std::io::ErrorKind;
 use std::os::unix::fs::OpenOptionsExt;
 use std::path::Path;
 
-/// Makes an empty file that its owner alone may read and write, where none is there. The log beside it has the same rights once it is
-/// made. What fails here fails where the register is made, and is said there.
-pub(crate) fn make_private(rt: &HostRuntime, store: &str) {
-    let _made = OpenOptions::new()
-        .write(true)
-        .create_new(true)
-        .mode(0o600)
-        .open(rt, store);
-}
-
-/// Makes an empty register at a path, and closes it. What names the type of a keep in a file is kept short: it is written out
-/// at each point of a function that holds one.
+/// Makes an empty register at a path, and closes it. What names the type of a keep in a file is kept short: it is
+/// written out at each point of a function that holds one.
 pub(crate) fn create_store<F: Start>(
     rt: &HostRuntime,
     alloc: Global,
@@ -60,6 +50,16 @@ pub(crate) fn not_made<'w>(error: CreateError) -> Refusal<'w> {
     })
 }
 
+/// Makes an empty file that its owner alone may read and write, where none is there. The log beside it has the same
+/// rights once it is made. What fails here fails where the register is made, and is said there.
+pub(crate) fn make_private(rt: &HostRuntime, store: &str) {
+    let _made = OpenOptions::new()
+        .write(true)
+        .create_new(true)
+        .mode(0o600)
+        .open(rt, store);
+}
+
 /// The register in the file at a path, where `F` stands for what its files held.
 pub(crate) fn open_store<'w, F: Start>(
     rt: &HostRuntime,
@@ -76,6 +76,22 @@ pub(crate) fn open_store<'w, F: Start>(
     match SqlKeep::open_from(rt, alloc, store, start) {
         Ok(keep) => Ok(keep),
         Err((error, _connection)) => Err(adopting(error)),
+    }
+}
+
+/// The register of format 1 in the file at a path, made one of format 2, where `F` stands for what its files held.
+pub(crate) fn migrate_store<'w, F: Start>(
+    rt: &HostRuntime,
+    alloc: Global,
+    start: F,
+    store: &'w str,
+) -> Result<SqlKeep<FileStore<FileFrom<F>>>, Refusal<'w>> {
+    if is_absent(rt, store) {
+        return Err(Refusal::Plain(Fault::NotRegister));
+    }
+    match SqlKeep::migrate_from(rt, alloc, store, start) {
+        Ok(keep) => Ok(keep),
+        Err((error, _connection)) => Err(migrating(error)),
     }
 }
 

@@ -1,6 +1,6 @@
+mod answers;
 mod checks;
 mod connections;
-mod full;
 
 use ags_rows::vectors::FILE_A;
 use reg_cli::{Watched, run_without_words};

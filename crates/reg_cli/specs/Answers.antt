@@ -1,5 +1,6 @@
 -- The answer of a run to a file, under the entries of a dictionary.
-use Rattle.std.specs.Prelude.{◌≡◌, ℕ, ◌<◌, ◌≤◌, List, [], ◌++◌, length, Option, IfSome, Result, Ok, Err, Bool, true, false, ⊤}
+use Rattle.std.specs.Prelude.{◌≡◌, ℕ, ◌<◌, ◌≤◌, List, [], ◌++◌, length, Option, IfSome, Result, Ok, Err, ⊤}
+use Rattle.std.specs.Prelude.{Bool, true, false}
 use Rattle.std.specs.Io.KnownBytes.{Appends}
 use Rattle.std.specs.declared.io.Read.{Ghosts as ReadGhosts}
 use Rattle.std.specs.declared.io.Write.{Ghosts as WriteGhosts}
@@ -26,15 +27,20 @@ pub data Answers (entries : Entries) (bytes : List ℕ) : List ℕ → List ℕ 
 -- they took all of an answer, the reader failed and they took nothing, or the one that had an answer to take failed and
 -- took a first part of it.
 pub data Outcome (entries : Entries) (bytes : List ℕ) : Bool → Bool → Bool → List ℕ → List ℕ → ℕ → Type 0 where
-  answered : (printed said : List ℕ) (status : ℕ) → Answers entries bytes printed said status → Outcome entries bytes false false false printed said status
+  answered : (printed said : List ℕ) (status : ℕ) → Answers entries bytes printed said status
+      → Outcome entries bytes false false false printed said status
   not_read : Outcome entries bytes true false false [] [] (fault_status Stream)
-  not_printed : (part rest : List ℕ) (status : ℕ) → Answers entries bytes (part ++ rest) [] status → Outcome entries bytes false true false part [] (fault_status Stream)
-  not_said : (part rest : List ℕ) (status : ℕ) → Answers entries bytes [] (part ++ rest) status → Outcome entries bytes false false true [] part (fault_status Stream)
+  not_printed : (part rest : List ℕ) (status : ℕ) → Answers entries bytes (part ++ rest) [] status
+      → Outcome entries bytes false true false part [] (fault_status Stream)
+  not_said : (part rest : List ℕ) (status : ℕ) → Answers entries bytes [] (part ++ rest) status
+      → Outcome entries bytes false false true [] part (fault_status Stream)
 
 -- the outcome of a run, by what its writers held before and hold after it
-abbrev pub AnswersOn : Entries → List ℕ → Option (List ℕ) → Option (List ℕ) → Option (List ℕ) → Option (List ℕ) → Bool → Bool → Bool → ℕ → Type 0
+abbrev pub AnswersOn : Entries → List ℕ → Option (List ℕ) → Option (List ℕ) → Option (List ℕ) → Option (List ℕ)
+    → Bool → Bool → Bool → ℕ → Type 0
 AnswersOn entries bytes out out_after err err_after in_failed out_failed err_failed status =
-    (printed said : List ℕ) × Outcome entries bytes in_failed out_failed err_failed printed said status × Appends out out_after printed × Appends err err_after said
+    (printed said : List ℕ) × Outcome entries bytes in_failed out_failed err_failed printed said status
+    × Appends out out_after printed × Appends err err_after said
 
 module _ {W E : Type 0} (writer : WriteGhosts W) (errors : WriteGhosts E) where
   -- the outcome of a run on bytes, by what two watched writers are before and after it
@@ -59,7 +65,8 @@ module _ {R W E : Type 0} (reader : ReadGhosts R) (writer : WriteGhosts W) (erro
 
 -- the report on the file's findings, or why there is none
 abbrev pub ReportsOn : Entries → List ℕ → Result Report Fault → Type 0
-ReportsOn entries bytes (Ok report) = (length bytes ≤ longest_file) × ((found : List Finding) × Findings entries bytes found × (report ≡ report_of found))
+ReportsOn entries bytes (Ok report) =
+    (length bytes ≤ longest_file) × ((found : List Finding) × Findings entries bytes found × (report ≡ report_of found))
 ReportsOn entries bytes (Err TooLarge) = longest_file < length bytes
 ReportsOn entries bytes (Err NoMemory) = ⊤
 ReportsOn entries bytes (Err Stream) = ⊤

@@ -6,7 +6,10 @@ use Rattle.reg_cli.specs.Streams.{has_failed, inner_of}
 use Rattle.reg_cli.specs.Writing.{TakesPart}
 use Rattle.reg_cli.specs.declared.fault.Fault.{Fault}
 use Rattle.reg_cli.specs.declared.watched.Watched.{Watched}
-use Rattle.reg_cli.specs.declared.fault.Fault.TheVariants.{WordsRefused, PolicyRefused, CallersRefused, TokenRefused, ProjectRefused, DayRefused, GroupsRefused, NumberRefused, DictionaryRefused, TooLarge, StoreNotEmpty, NotRegister, StoreFailed, NoMemory, Stream}
+use Rattle.reg_cli.specs.declared.fault.Fault.TheVariants.{WordsRefused, PolicyRefused, CallersRefused, TokenRefused}
+use Rattle.reg_cli.specs.declared.fault.Fault.TheVariants.{ProjectRefused, DayRefused, GroupsRefused, NumberRefused}
+use Rattle.reg_cli.specs.declared.fault.Fault.TheVariants.{DictionaryRefused, TooLarge, StoreNotEmpty, NotRegister}
+use Rattle.reg_cli.specs.declared.fault.Fault.TheVariants.{StoreFailed, NoMemory, Stream}
 
 -- the text; nothing is said of a stream that failed
 abbrev pub fault_text : Fault → List ℕ
@@ -36,7 +39,8 @@ fault_status _ = 4
 -- the writer has taken all of the text and the run ends with the status, or the writer has failed
 abbrev pub Tells : Option (List ℕ) → Option (List ℕ) → List ℕ → Bool → Bool → ℕ → ℕ → Type 0
 Tells old new text before after status ended =
-    (Appends old new text × (after ≡ before) × (ended ≡ status)) ⊎ (TakesPart old new text × (after ≡ true) × (ended ≡ fault_status Stream))
+    (Appends old new text × (after ≡ before) × (ended ≡ status))
+    ⊎ (TakesPart old new text × (after ≡ true) × (ended ≡ fault_status Stream))
 
 -- the same of a watched writer
 abbrev pub TellsTo : {W : Type 0} → WriteGhosts W → Watched W → Watched W → List ℕ → ℕ → ℕ → Type 0

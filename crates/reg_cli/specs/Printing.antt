@@ -10,7 +10,8 @@ use Rattle.reg_desk.specs.declared.answer.Listed.{Listed}
 
 -- a receipt: the number of the deposit, and the first day on which it is no longer under embargo
 abbrev pub IsReceipt : ℕ → ℤ → List ℕ → Type 0
-IsReceipt number embargo text = (day : List ℕ) × Writes day embargo × (text ≡ codes "receipt " ++ decimal number ++ codes " " ++ day ++ codes "\n")
+IsReceipt number embargo text =
+    (day : List ℕ) × Writes day embargo × (text ≡ codes "receipt " ++ decimal number ++ codes " " ++ day ++ codes "\n")
 
 -- a line of a listing, with the text of its embargo day
 abbrev pub dated_line : Listed → List ℕ → List ℕ
@@ -23,7 +24,8 @@ IsListedLine listed line = (day : List ℕ) × Writes day listed.embargo × (lin
 -- a line for each deposit, in the order of the listing
 pub data ListsAs : List Listed → List ℕ → Type 0 where
   empty : ListsAs [] []
-  next : (more : List Listed) (text : List ℕ) (listed : Listed) (line : List ℕ) → ListsAs more text → IsListedLine listed line → ListsAs (more ++ listed ∷ []) (text ++ line)
+  next : (more : List Listed) (text : List ℕ) (listed : Listed) (line : List ℕ) → ListsAs more text
+      → IsListedLine listed line → ListsAs (more ++ listed ∷ []) (text ++ line)
 
 -- the text of an answer
 abbrev pub IsPrinted : Answer → List ℕ → Type 0
@@ -32,6 +34,7 @@ IsPrinted answers.Clean text = text ≡ (report_of []).text
 IsPrinted (answers.Findings found) text = text ≡ (report_of found).text
 IsPrinted (answers.Listing listing) text = ListsAs listing text
 IsPrinted (answers.Text extract) text = text ≡ extract
+IsPrinted (answers.Withdrawn number) text = text ≡ codes "withdrawn " ++ decimal number ++ codes "\n"
 IsPrinted (answers.Denied rule) text = text ≡ codes "denied " ++ decimal rule ++ codes "\n"
 IsPrinted answers.Unknown text = text ≡ codes "unknown\n"
 IsPrinted answers.TooLarge text = text ≡ codes "too large\n"
@@ -46,6 +49,7 @@ status_of answers.Clean = 0
 status_of (answers.Findings found) = (report_of found).status
 status_of (answers.Listing listing) = 0
 status_of (answers.Text extract) = 0
+status_of (answers.Withdrawn number) = 0
 status_of (answers.Denied rule) = 2
 status_of answers.Unknown = 3
 status_of answers.TooLarge = 4

@@ -26,7 +26,8 @@ shown_subject subject = map shown_byte subject
 
 -- a finding as it is printed: code, line and subject
 abbrev pub report_line : Finding → List ℕ
-report_line found = code_text found.code ++ codes " " ++ decimal found.line ++ codes " " ++ shown_subject found.subject ++ codes "\n"
+report_line found =
+    code_text found.code ++ codes " " ++ decimal found.line ++ codes " " ++ shown_subject found.subject ++ codes "\n"
 
 -- what is printed for the findings of a file, and the status
 abbrev pub report_of : List Finding → Report

@@ -2,7 +2,7 @@
 use Rattle.std.specs.Prelude.{◌≡◌, ℕ, ℤ, List, Option, Some, MatchOption}
 use Rattle.std.specs.Borrow.{Bor}
 use Rattle.reg_policy.specs.Days.{day_of}
-use Rattle.reg_desk.specs.Asked.{Asked, deposit, extract, listing}
+use Rattle.reg_desk.specs.Asked.{Asked, deposit, extract, listing, withdraw}
 use Rattle.reg_cli.specs.declared.session.Session.{Session}
 
 -- the day is the one that a text writes, or the other one where there is no text
@@ -17,6 +17,11 @@ deposit_request session embargo bytes = deposit session.caller.now session.proje
 abbrev pub listing_request : Session → Asked
 listing_request session = listing session.caller.now session.project session.day
 
--- the request for an extract of these groups of the deposit of a number, by the caller, of the project and on the day of the session
+-- the request for an extract of these groups of the deposit of a number, by the caller, of the project and on the day
+-- of the session
 abbrev pub extract_request : Session → ℕ → List (List ℕ) → Asked
 extract_request session number groups = extract session.caller.now session.project number groups session.day
+
+-- the request to withdraw the deposit of a number, by the caller, of the project and on the day of the session
+abbrev pub withdrawal_request : Session → ℕ → Asked
+withdrawal_request session number = withdraw session.caller.now session.project number session.day

@@ -2,7 +2,7 @@
 
 ghost use Rattle.reg_desk.specs.Asked.{asked, names_in};
 ghost use Rattle.reg_cli.specs.Asking.{AsksDesk};
-ghost use Rattle.reg_cli.specs.Sessions.{deposit_request, extract_request, listing_request};
+ghost use Rattle.reg_cli.specs.Sessions.{deposit_request, extract_request, listing_request, withdrawal_request};
 
 use crate::printing::answer_report;
 use crate::refusal::Refusal;
@@ -14,22 +14,8 @@ use reg_store::Keep;
 use std::alloc::Global;
 use std::io::Write;
 
-/// Asks the desk, and prints its answer.
-fn ask_desk<'w, K: Keep, W: Write>(
-    alloc: Global,
-    desk: &mut Desk<K>,
-    request: &Request<'_>,
-    out: &mut Watched<W>,
-) -> Result<u8, Refusal<'w>>
-    ensures { AsksDesk W.Write (asked request.entry.now) desk.old desk.new out.old out.new result }
-{
-    let answer = desk.answer(alloc, request);
-    let report = answer_report(alloc, answer)?;
-    Ok(report.print(out))
-}
-
-/// Asks the desk to keep a file, as the one who asks. Its one refusal is want of memory: then nothing is printed, and the
-/// desk is as its answer left it.
+/// Asks the desk to keep a file, as the one who asks. Its one refusal is want of memory: then nothing is printed, and
+/// the desk is as its answer left it.
 pub fn ask_deposit<'w, K: Keep, W: Write>(
     alloc: Global,
     desk: &mut Desk<K>,
@@ -68,8 +54,8 @@ pub fn ask_list<'w, K: Keep, W: Write>(
     ask_desk(alloc, desk, &request, out)
 }
 
-/// Asks the desk for an extract of the deposit of a number, from 1 on, as the one who asks: of these groups, or of all where
-/// none is named. It is refused as `ask_deposit` is.
+/// Asks the desk for an extract of the deposit of a number, from 1 on, as the one who asks: of these groups, or of all
+/// where none is named. It is refused as `ask_deposit` is.
 pub fn ask_extract<'w, K: Keep, W: Write>(
     alloc: Global,
     desk: &mut Desk<K>,
@@ -89,4 +75,37 @@ pub fn ask_extract<'w, K: Keep, W: Write>(
         day: session.day,
     };
     ask_desk(alloc, desk, &request, out)
+}
+
+/// Asks the desk to withdraw the deposit of a number, from 1 on, as the one who asks. It is refused as `ask_deposit` is.
+pub fn ask_withdraw<'w, K: Keep, W: Write>(
+    alloc: Global,
+    desk: &mut Desk<K>,
+    session: &Session<'_>,
+    number: u32,
+    out: &mut Watched<W>,
+) -> Result<u8, Refusal<'w>>
+    ensures { AsksDesk W.Write (withdrawal_request session.now number) desk.old desk.new out.old out.new result }
+{
+    let request = Request::Withdraw {
+        caller: session.caller,
+        project: &session.project,
+        number,
+        day: session.day,
+    };
+    ask_desk(alloc, desk, &request, out)
+}
+
+/// Asks the desk, and prints its answer.
+fn ask_desk<'w, K: Keep, W: Write>(
+    alloc: Global,
+    desk: &mut Desk<K>,
+    request: &Request<'_>,
+    out: &mut Watched<W>,
+) -> Result<u8, Refusal<'w>>
+    ensures { AsksDesk W.Write (asked request.entry.now) desk.old desk.new out.old out.new result }
+{
+    let answer = desk.answer(alloc, request);
+    let report = answer_report(alloc, answer)?;
+    Ok(report.print(out))
 }

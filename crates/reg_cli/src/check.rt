@@ -1,14 +1,13 @@
 //! The check of the file that a stream carries, or of a file under the dictionary of another.
 
-ghost use Rattle.std.specs.Prelude.{◌≡◌, ◌↔◌, ◌||◌, IsTrue, false, ◌+◌, ◌≤◌, IfOk, IfSome, length};
+ghost use Rattle.std.specs.Prelude.{◌≡◌, ◌||◌, false, ◌+◌, ◌≤◌, IfOk, IfSome, length};
 ghost use Rattle.ags_dict.specs.Mini.{mini_entries};
 ghost use Rattle.ags_check.specs.Findings.{Findings};
-ghost use Rattle.reg_cli.specs.Answers.{AnswersOnBytes, AnswersOnInput, ReportsOn};
-ghost use Rattle.reg_cli.specs.Checking.{ChecksInput, ChecksUnder};
-ghost use Rattle.reg_cli.specs.declared.fault.Fault.TheVariants.{Stream};
-ghost use Rattle.reg_cli.specs.Faults.{fault_status, is_stream_fault};
+ghost use Rattle.reg_cli.specs.Answers.{ReportsOn};
+ghost use Rattle.reg_cli.specs.Checking.{ChecksInput, ChecksStream, ChecksUnder};
+ghost use Rattle.reg_cli.specs.Faults.{is_stream_fault};
 ghost use Rattle.reg_cli.specs.Reading.{TakesAtMost, longest_file};
-ghost use Rattle.reg_cli.specs.Streams.{has_failed, inner_of};
+ghost use Rattle.reg_cli.specs.Streams.{HaveNotFailed, has_failed};
 
 use crate::fault::Fault;
 use crate::files::dictionary_in;
@@ -24,6 +23,22 @@ use ags_rows::laws::one_list_of_findings;
 use ags_rows::vectors::MINI;
 use std::alloc::{AllocError, Global};
 use std::io::{Read, Write};
+
+/// A run without words: checks the file that the stream carries under the dictionary that is built in.
+pub fn run_without_words<R: Read, W: Write, E: Write>(
+    alloc: Global,
+    input: &mut Watched<R>,
+    out: &mut Watched<W>,
+    err: &mut Watched<E>,
+) -> u8
+    requires { HaveNotFailed input.old out.old err.old }
+    ensures { ChecksInput R.Read W.Write E.Write input.old input.new out.old out.new err.old err.new result }
+{
+    match built_in(alloc) {
+        Ok(dictionary) => check_stream(alloc, &dictionary, input, out, err),
+        Err(refused) => Fault::from(refused).tell(err),
+    }
+}
 
 /// The dictionary that is built into the program.
 fn built_in(alloc: Global) -> Result<Dictionary, AllocError>
@@ -41,19 +56,21 @@ fn built_in(alloc: Global) -> Result<Dictionary, AllocError>
     }
 }
 
-/// The findings of a file under a dictionary, none where it is clean.
-fn findings_of(
+/// Checks the file that the stream carries: prints its findings under the dictionary, or `clean`, and gives the status.
+pub fn check_stream<R: Read, W: Write, E: Write>(
     alloc: Global,
     dictionary: &Dictionary,
-    bytes: &[u8],
-) -> Result<FindingList, AllocError>
-    requires { length bytes.now ≤ longest_file }
-    ensures { IfOk result (λ found. Findings dictionary.now bytes.now found) }
+    input: &mut Watched<R>,
+    out: &mut Watched<W>,
+    err: &mut Watched<E>,
+) -> u8
+    requires { HaveNotFailed input.old out.old err.old }
+    ensures { ChecksStream R.Read W.Write E.Write dictionary.now
+        input.old input.new out.old out.new err.old err.new result }
 {
-    match check(alloc, dictionary, bytes) {
-        Ok(_) => Ok(FindingList::none(alloc)),
-        Err(CheckError::Findings(found)) => Ok(found),
-        Err(CheckError::NoMemory) => Err(AllocError),
+    match report_on(alloc, dictionary, input) {
+        Ok(report) => report.print(out),
+        Err(fault) => fault.tell(err),
     }
 }
 
@@ -73,55 +90,24 @@ fn report_on<R: Read>(
     Ok(findings_report(alloc, &found)?)
 }
 
-/// Checks the file that the stream carries: prints its findings under the dictionary, or `clean`, and gives the status.
-pub fn check_stream<R: Read, W: Write, E: Write>(
+/// The findings of a file under a dictionary, none where it is clean.
+fn findings_of(
     alloc: Global,
     dictionary: &Dictionary,
-    input: &mut Watched<R>,
-    out: &mut Watched<W>,
-    err: &mut Watched<E>,
-) -> u8
-    requires input { has_failed input.old ≡ false }
-    requires out { has_failed out.old ≡ false }
-    requires err { has_failed err.old ≡ false }
-    ensures failed { (result ≡ fault_status Stream)
-        ↔ IsTrue (has_failed input.new || (has_failed out.new || has_failed err.new)) }
-    ensures taken { TakesAtMost (longest_file + 1)
-        (R.remaining (inner_of input.old)) (R.remaining (inner_of input.new)) }
-    ensures answers { AnswersOnInput R.Read W.Write E.Write dictionary.now
-        input.old input.new out.old out.new err.old err.new result }
+    bytes: &[u8],
+) -> Result<FindingList, AllocError>
+    requires { length bytes.now ≤ longest_file }
+    ensures { IfOk result (λ found. Findings dictionary.now bytes.now found) }
 {
-    match report_on(alloc, dictionary, input) {
-        Ok(report) => report.print(out),
-        Err(fault) => fault.tell(err),
+    match check(alloc, dictionary, bytes) {
+        Ok(_) => Ok(FindingList::none(alloc)),
+        Err(CheckError::Findings(found)) => Ok(found),
+        Err(CheckError::NoMemory) => Err(AllocError),
     }
 }
 
-/// A run without words: checks the file that the stream carries under the dictionary that is built in.
-pub fn run_without_words<R: Read, W: Write, E: Write>(
-    alloc: Global,
-    input: &mut Watched<R>,
-    out: &mut Watched<W>,
-    err: &mut Watched<E>,
-) -> u8
-    requires input { has_failed input.old ≡ false }
-    requires out { has_failed out.old ≡ false }
-    requires err { has_failed err.old ≡ false }
-    ensures failed { (result ≡ fault_status Stream)
-        ↔ IsTrue (has_failed input.new || (has_failed out.new || has_failed err.new)) }
-    ensures taken { TakesAtMost (longest_file + 1)
-        (R.remaining (inner_of input.old)) (R.remaining (inner_of input.new)) }
-    ensures answers { ChecksInput R.Read W.Write E.Write
-        input.old input.new out.old out.new err.old err.new result }
-{
-    match built_in(alloc) {
-        Ok(dictionary) => check_stream(alloc, &dictionary, input, out, err),
-        Err(refused) => Fault::from(refused).tell(err),
-    }
-}
-
-/// Checks a file, if it was read, under the dictionary that bytes are: prints its findings, or `clean`, and gives the status.
-/// Bytes that are no dictionary are refused first, then the file, as why it was not read.
+/// Checks a file, if it was read, under the dictionary that bytes are: prints its findings, or `clean`, and gives the
+/// status. Bytes that are no dictionary are refused first, then the file, as why it was not read.
 pub fn check_given<'w, W: Write, E: Write>(
     alloc: Global,
     dictionary: &[u8],
@@ -136,21 +122,6 @@ pub fn check_given<'w, W: Write, E: Write>(
 {
     let dictionary = dictionary_in(alloc, dictionary)?;
     let bytes = file?;
-    Ok(check_bytes(alloc, &dictionary, &bytes, out, err))
-}
-
-/// Checks bytes under a dictionary.
-fn check_bytes<W: Write, E: Write>(
-    alloc: Global,
-    dictionary: &Dictionary,
-    bytes: &[u8],
-    out: &mut Watched<W>,
-    err: &mut Watched<E>,
-) -> u8
-    requires out { has_failed out.old ≡ false }
-    requires err { has_failed err.old ≡ false }
-    ensures { AnswersOnBytes W.Write E.Write dictionary.now bytes.now out.old out.new err.old err.new result }
-{
-    let mut input = Watched::new(bytes);
-    check_stream(alloc, dictionary, &mut input, out, err)
+    let mut input = Watched::new(bytes.as_slice());
+    Ok(check_stream(alloc, &dictionary, &mut input, out, err))
 }

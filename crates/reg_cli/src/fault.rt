@@ -9,7 +9,8 @@ use crate::watched::{StreamFailed, Watched};
 use std::alloc::AllocError;
 use std::io::Write;
 
-/// Why a run has no answer, where the text is the same each time. Its status is 6 where a stream failed, and only there.
+/// Why a run has no answer, where the text is the same each time. Its status is 6 where a stream failed, and only
+/// there.
 #[derive(Clone, Copy, Debug, PartialEq, Eq)]
 pub enum Fault {
     /// The words are none of a command's.

@@ -15,39 +15,31 @@ use std::io::{ErrorKind, Read};
 use std::str::from_utf8;
 use std::{fs, io};
 
-/// Why the file at a path is not read.
-fn unread<'w>(path: &'w str, error: io::Error) -> Refusal<'w> {
-    match error.kind() {
-        ErrorKind::OutOfMemory => Refusal::Plain(Fault::NoMemory),
-        _ => Refusal::CannotRead(path),
-    }
+/// The policy and the callers in the files at two paths. No clause says so.
+pub fn read_rights<'w>(
+    rt: &HostRuntime,
+    alloc: Global,
+    policy: &'w str,
+    callers: &'w str,
+) -> Result<(Policy, Callers), Refusal<'w>> {
+    let policy = read_policy(rt, alloc, policy)?;
+    Ok((policy, read_callers(rt, alloc, callers)?))
 }
 
-/// The bytes of the file at a path, of which at most LIMIT and one are read. No clause says so.
-pub fn read_path<'w>(
+/// The policy in the file at a path.
+fn read_policy<'w>(rt: &HostRuntime, alloc: Global, path: &'w str) -> Result<Policy, Refusal<'w>> {
+    let bytes = read_path(rt, alloc, path)?;
+    Ok(policy_in(alloc, &bytes)?)
+}
+
+/// The callers in the file at a path.
+fn read_callers<'w>(
     rt: &HostRuntime,
     alloc: Global,
     path: &'w str,
-) -> Result<Vec<u8>, Refusal<'w>> {
-    let file = match fs::open(rt, path) {
-        Ok(file) => file,
-        Err(error) => return Err(unread(path, error)),
-    };
-    let mut bytes = Vec::new(alloc);
-    match file.take(LIMIT as u64 + 1).read_to_end(&mut bytes) {
-        Ok(_) => Ok(bytes),
-        Err(error) => Err(unread(path, error)),
-    }
-}
-
-/// The text that bytes are, if they are UTF-8 and not longer than LIMIT.
-fn text_of(bytes: &[u8]) -> Option<&str>
-    ensures { IfSome result (λ text. text.now ≡ bytes.now) }
-{
-    if bytes.len() > LIMIT {
-        return None;
-    }
-    from_utf8(bytes).ok()
+) -> Result<Callers, Refusal<'w>> {
+    let bytes = read_path(rt, alloc, path)?;
+    Ok(callers_in(alloc, &bytes)?)
 }
 
 /// The policy that bytes are.
@@ -78,6 +70,16 @@ fn callers_in(alloc: Global, bytes: &[u8]) -> Result<Callers, Fault>
     }
 }
 
+/// The text that bytes are, if they are UTF-8 and not longer than LIMIT.
+fn text_of(bytes: &[u8]) -> Option<&str>
+    ensures { IfSome result (λ text. text.now ≡ bytes.now) }
+{
+    if bytes.len() > LIMIT {
+        return None;
+    }
+    from_utf8(bytes).ok()
+}
+
 /// The dictionary that bytes are.
 pub fn dictionary_in(alloc: Global, bytes: &[u8]) -> Result<Dictionary, Fault>
     ensures read { IfOk result (λ dictionary. IsDictionary bytes.now dictionary) }
@@ -93,29 +95,27 @@ pub fn dictionary_in(alloc: Global, bytes: &[u8]) -> Result<Dictionary, Fault>
     }
 }
 
-/// The policy in the file at a path.
-fn read_policy<'w>(rt: &HostRuntime, alloc: Global, path: &'w str) -> Result<Policy, Refusal<'w>> {
-    let bytes = read_path(rt, alloc, path)?;
-    Ok(policy_in(alloc, &bytes)?)
-}
-
-/// The callers in the file at a path.
-fn read_callers<'w>(
+/// The bytes of the file at a path, of which at most LIMIT and one are read. No clause says so.
+pub fn read_path<'w>(
     rt: &HostRuntime,
     alloc: Global,
     path: &'w str,
-) -> Result<Callers, Refusal<'w>> {
-    let bytes = read_path(rt, alloc, path)?;
-    Ok(callers_in(alloc, &bytes)?)
+) -> Result<Vec<u8>, Refusal<'w>> {
+    let file = match fs::open(rt, path) {
+        Ok(file) => file,
+        Err(error) => return Err(unread(path, error)),
+    };
+    let mut bytes = Vec::new(alloc);
+    match file.take(LIMIT as u64 + 1).read_to_end(&mut bytes) {
+        Ok(_) => Ok(bytes),
+        Err(error) => Err(unread(path, error)),
+    }
 }
 
-/// The policy and the callers in the files at two paths. No clause says so.
-pub fn read_rights<'w>(
-    rt: &HostRuntime,
-    alloc: Global,
-    policy: &'w str,
-    callers: &'w str,
-) -> Result<(Policy, Callers), Refusal<'w>> {
-    let policy = read_policy(rt, alloc, policy)?;
-    Ok((policy, read_callers(rt, alloc, callers)?))
+/// Why the file at a path is not read.
+fn unread<'w>(path: &'w str, error: io::Error) -> Refusal<'w> {
+    match error.kind() {
+        ErrorKind::OutOfMemory => Refusal::Plain(Fault::NoMemory),
+        _ => Refusal::CannotRead(path),
+    }
 }

@@ -14,6 +14,25 @@ use std::io::Read;
 /// How many bytes are asked for at a time.
 const PIECE: usize = 65_536;
 
+/// All bytes of the stream. No byte beyond the one after LIMIT is asked for.
+pub(crate) fn read_file<R: Read>(alloc: Global, input: &mut Watched<R>) -> Result<Vec<u8>, Fault>
+    ensures taken { TakesAtMost (longest_file + 1) (R.remaining input.old.inner) (R.remaining input.new.inner) }
+    ensures short { IfOk result (λ bytes. length bytes.items ≤ longest_file) }
+    ensures noted { input.new.failed ≡ (input.old.failed || is_stream_fault result) }
+    ensures file { IfSome (R.remaining input.old.inner) (λ all. ReadsFile all result) }
+{
+    let mut bytes = Vec::new(alloc);
+    let mut piece = vec![in alloc; 0u8; PIECE].map_err(AllocError::from)?;
+    while bytes.len() <= LIMIT {
+        let room = min(PIECE, LIMIT + 1 - bytes.len());
+        let count = read_piece(input, &mut piece, room, &mut bytes)?;
+        if count == 0 {
+            return Ok(bytes);
+        }
+    }
+    Err(Fault::TooLarge)
+}
+
 /// Appends the bytes of one read of at most `room` bytes: how many, 0 at the end.
 fn read_piece<R: Read>(
     input: &mut Watched<R>,
@@ -33,23 +52,4 @@ fn read_piece<R: Read>(
     let count = input.read(&mut piece[..room])?;
     bytes.extend_from_slice(&piece[..count])?;
     Ok(count)
-}
-
-/// All bytes of the stream. No byte beyond the one after LIMIT is asked for.
-pub(crate) fn read_file<R: Read>(alloc: Global, input: &mut Watched<R>) -> Result<Vec<u8>, Fault>
-    ensures taken { TakesAtMost (longest_file + 1) (R.remaining input.old.inner) (R.remaining input.new.inner) }
-    ensures short { IfOk result (λ bytes. length bytes.items ≤ longest_file) }
-    ensures noted { input.new.failed ≡ (input.old.failed || is_stream_fault result) }
-    ensures file { IfSome (R.remaining input.old.inner) (λ all. ReadsFile all result) }
-{
-    let mut bytes = Vec::new(alloc);
-    let mut piece = vec![in alloc; 0u8; PIECE].map_err(AllocError::from)?;
-    while bytes.len() <= LIMIT {
-        let room = min(PIECE, LIMIT + 1 - bytes.len());
-        let count = read_piece(input, &mut piece, room, &mut bytes)?;
-        if count == 0 {
-            return Ok(bytes);
-        }
-    }
-    Err(Fault::TooLarge)
 }

@@ -1,6 +1,7 @@
-//! What the program reads, asks, prints and is told, apart from any store and socket: the words of the command line, the
-//! files that they name, the streams that are watched, the faults and reports that are printed, who asks, what is asked of
-//! a desk and what is printed of its answer, and the check of standard input or of a file under another dictionary.
+//! What the program reads, asks, prints and is told, apart from any store and socket: the words of the command line,
+//! the files that they name, the streams that are watched, the faults and reports that are printed, who asks, what is
+//! asked of a desk and what is printed of its answer, and the check of standard input or of a file under another
+//! dictionary.
 //!
 //! Words and streams are passed in, so that what is printed, what is said of a fault and the status of a run are
 //! contracts over readers and writers that tell their bytes.
@@ -18,7 +19,7 @@ mod session;
 mod watched;
 mod words;
 
-pub use asking::{ask_deposit, ask_extract, ask_list};
+pub use asking::{ask_deposit, ask_extract, ask_list, ask_withdraw};
 pub use check::{check_given, check_stream, run_without_words};
 pub use fault::{Fault, tell};
 pub use files::{dictionary_in, read_path, read_rights};
@@ -26,4 +27,4 @@ pub use refusal::Refusal;
 pub use report::{Report, findings_report};
 pub use session::{Session, day_or, session_of};
 pub use watched::{StreamFailed, Watched};
-pub use words::{Asker, Service, Words, read_words};
+pub use words::{Action, Asker, Service, Words, read_words};

@@ -11,13 +11,34 @@ use reg_policy::Day;
 use std::alloc::{AllocError, Global};
 use std::io::Write;
 
-/// A text that is printed, and the status that the run ends with.
-fn said(alloc: Global, text: &[u8], status: u8) -> Result<Report, AllocError>
-    ensures { IfOk result (λ report. (report.text ≡ text.now) × (report.status ≡ status)) }
+/// What is printed of an answer, and the status that the run ends with.
+pub(crate) fn answer_report(alloc: Global, answer: Answer) -> Result<Report, AllocError>
+    ensures { IfOk result (λ report. ReportsAnswer answer report) }
 {
+    match answer {
+        Answer::Receipt { number, embargo } => receipt_report(alloc, number, embargo),
+        Answer::Clean => findings_report(alloc, &FindingList::none(alloc)),
+        Answer::Findings(found) => findings_report(alloc, &found),
+        Answer::Listing(listing) => listing_report(alloc, listing.as_slice()),
+        Answer::Text(text) => Ok(Report { text, status: 0 }),
+        Answer::Withdrawn(number) => number_report(alloc, b"withdrawn ", number, 0),
+        Answer::Denied(number) => number_report(alloc, b"denied ", number, 2),
+        Answer::Unknown => said(alloc, b"unknown\n", 3),
+        Answer::TooLarge => said(alloc, b"too large\n", 4),
+        Answer::Full => said(alloc, b"full\n", 5),
+        Answer::NoMemory => said(alloc, b"out of memory\n", 5),
+        Answer::StoreFailed => said(alloc, b"store failed\n", 5),
+    }
+}
+
+fn receipt_report(alloc: Global, number: u32, embargo: Day) -> Result<Report, AllocError>
+    ensures { IfOk result (λ report. IsReceipt number embargo report.text × (report.status ≡ 0)) }
+{
+    let day = embargo.text();
+    let text = dated_receipt(alloc, number, &day)?;
     Ok(Report {
-        text: Sequence::from_vec(Vec::from_slice(alloc, text)?),
-        status,
+        text: Sequence::from_vec(text),
+        status: 0,
     })
 }
 
@@ -33,48 +54,27 @@ fn dated_receipt(alloc: Global, number: u32, embargo: &[u8]) -> Result<Vec<u8>, 
     Ok(text)
 }
 
-fn receipt_report(alloc: Global, number: u32, embargo: Day) -> Result<Report, AllocError>
-    ensures { IfOk result (λ report. IsReceipt number embargo report.text × (report.status ≡ 0)) }
-{
-    let day = embargo.text();
-    let text = dated_receipt(alloc, number, &day)?;
-    Ok(Report {
-        text: Sequence::from_vec(text),
-        status: 0,
-    })
-}
-
-fn denied_report(alloc: Global, number: u32) -> Result<Report, AllocError>
+/// A word and a number, and the status that the run ends with.
+fn number_report(alloc: Global, word: &[u8], number: u32, status: u8) -> Result<Report, AllocError>
     ensures { IfOk result (λ report.
-        (report.text ≡ codes "denied " ++ decimal number ++ codes "\n") × (report.status ≡ 2)) }
+        (report.text ≡ word.now ++ decimal number ++ codes "\n") × (report.status ≡ status)) }
 {
-    let mut text = Vec::new(alloc);
-    writeln!(text, "denied {number}").map_err(|_| AllocError)?;
+    let mut text = Vec::from_slice(alloc, word)?;
+    writeln!(text, "{number}").map_err(|_| AllocError)?;
     Ok(Report {
         text: Sequence::from_vec(text),
-        status: 2,
+        status,
     })
 }
 
-/// The line of a deposit, with the text of its embargo day.
-fn dated_line(alloc: Global, listed: &Listed, embargo: &[u8]) -> Result<Vec<u8>, AllocError>
-    ensures { IfOk result (λ line. line.items ≡ dated_line listed.now embargo.now) }
+/// A text that is printed, and the status that the run ends with.
+fn said(alloc: Global, text: &[u8], status: u8) -> Result<Report, AllocError>
+    ensures { IfOk result (λ report. (report.text ≡ text.now) × (report.status ≡ status)) }
 {
-    let mut line = Vec::new(alloc);
-    write!(line, "{} ", listed.number).map_err(|_| AllocError)?;
-    line.extend_from_slice(listed.firm.text().as_bytes())?;
-    line.push(b' ')?;
-    line.extend_from_slice(embargo)?;
-    line.push(b'\n')?;
-    Ok(line)
-}
-
-/// The line of a deposit.
-fn listed_line(alloc: Global, listed: &Listed) -> Result<Vec<u8>, AllocError>
-    ensures { IfOk result (λ line. IsListedLine listed.now line.items) }
-{
-    let day = listed.embargo.text();
-    dated_line(alloc, listed, &day)
+    Ok(Report {
+        text: Sequence::from_vec(Vec::from_slice(alloc, text)?),
+        status,
+    })
 }
 
 fn listing_report(alloc: Global, listing: &[Listed]) -> Result<Report, AllocError>
@@ -91,21 +91,23 @@ fn listing_report(alloc: Global, listing: &[Listed]) -> Result<Report, AllocErro
     })
 }
 
-/// What is printed of an answer, and the status that the run ends with.
-pub(crate) fn answer_report(alloc: Global, answer: Answer) -> Result<Report, AllocError>
-    ensures { IfOk result (λ report. ReportsAnswer answer report) }
+/// The line of a deposit.
+fn listed_line(alloc: Global, listed: &Listed) -> Result<Vec<u8>, AllocError>
+    ensures { IfOk result (λ line. IsListedLine listed.now line.items) }
 {
-    match answer {
-        Answer::Receipt { number, embargo } => receipt_report(alloc, number, embargo),
-        Answer::Clean => findings_report(alloc, &FindingList::none(alloc)),
-        Answer::Findings(found) => findings_report(alloc, &found),
-        Answer::Listing(listing) => listing_report(alloc, listing.as_slice()),
-        Answer::Text(text) => Ok(Report { text, status: 0 }),
-        Answer::Denied(number) => denied_report(alloc, number),
-        Answer::Unknown => said(alloc, b"unknown\n", 3),
-        Answer::TooLarge => said(alloc, b"too large\n", 4),
-        Answer::Full => said(alloc, b"full\n", 5),
-        Answer::NoMemory => said(alloc, b"out of memory\n", 5),
-        Answer::StoreFailed => said(alloc, b"store failed\n", 5),
-    }
+    let day = listed.embargo.text();
+    dated_line(alloc, listed, &day)
+}
+
+/// The line of a deposit, with the text of its embargo day.
+fn dated_line(alloc: Global, listed: &Listed, embargo: &[u8]) -> Result<Vec<u8>, AllocError>
+    ensures { IfOk result (λ line. line.items ≡ dated_line listed.now embargo.now) }
+{
+    let mut line = Vec::new(alloc);
+    write!(line, "{} ", listed.number).map_err(|_| AllocError)?;
+    line.extend_from_slice(listed.firm.text().as_bytes())?;
+    line.push(b' ')?;
+    line.extend_from_slice(embargo)?;
+    line.push(b'\n')?;
+    Ok(line)
 }

@@ -21,7 +21,7 @@ pub enum Refusal<'w> {
     CannotRead(&'w str),
     /// The file that this word names can not be written.
     CannotWrite(&'w str),
-    /// The register has a format of this number, and not 1.
+    /// The register has a format of this number, and not the one that is asked for.
     Version(i64),
     /// The port can not be listened on.
     CannotListen,

@@ -12,6 +12,22 @@ use ags_text::{Bytes, Sequence};
 use std::alloc::{AllocError, Global};
 use std::io::Write;
 
+/// What is printed for the findings of a file, `clean` where there is none.
+pub fn findings_report(alloc: Global, findings: &FindingList) -> Result<Report, AllocError>
+    ensures { IfOk result (λ report. report ≡ report_of findings.now) }
+{
+    if findings.is_empty() {
+        return Ok(Report {
+            text: Sequence::from_vec(Vec::from_slice(alloc, b"clean\n")?),
+            status: 0,
+        });
+    }
+    Ok(Report {
+        text: Sequence::from_vec(report_lines(alloc, findings)?),
+        status: 1,
+    })
+}
+
 /// The text that is printed for a file, and the status that the run ends with.
 #[derive(Drop)]
 pub struct Report {
@@ -28,15 +44,26 @@ impl Report {
     }
 }
 
-/// A byte of a subject as it is printed: one below the space or above `~` as `?`.
-fn shown_byte(byte: u8) -> u8
-    ensures { result ≡ shown_byte byte }
+/// The lines that report findings.
+fn report_lines(alloc: Global, findings: &FindingList) -> Result<Vec<u8>, AllocError>
+    ensures { IfOk result (λ text. text.items ≡ flat_map report_line findings.now) }
 {
-    if b' ' <= byte && byte <= b'~' {
-        byte
-    } else {
-        b'?'
+    let mut text = Vec::new(alloc);
+    for place in 0..findings.len() {
+        push_line(&mut text, findings.at(place))?;
     }
+    Ok(text)
+}
+
+/// Appends the line that reports a finding.
+fn push_line(text: &mut Vec<u8>, finding: FindingRef<'_>) -> Result<(), AllocError>
+    ensures { OnOk result (text.new.items ≡ text.old.items ++ report_line (finding_of finding.entry)) }
+{
+    text.extend_from_slice(finding.code.text())?;
+    write!(text, " {} ", finding.line).map_err(|_| AllocError)?;
+    push_subject(text, finding.subject)?;
+    text.push(b'\n')?;
+    Ok(())
 }
 
 /// Appends a subject, or `-` where it is empty.
@@ -53,40 +80,13 @@ fn push_subject(text: &mut Vec<u8>, subject: &[u8]) -> Result<(), AllocError>
     Ok(())
 }
 
-/// Appends the line that reports a finding.
-fn push_line(text: &mut Vec<u8>, finding: FindingRef<'_>) -> Result<(), AllocError>
-    ensures { OnOk result (text.new.items ≡ text.old.items ++ report_line (finding_of finding.entry)) }
+/// A byte of a subject as it is printed: one below the space or above `~` as `?`.
+fn shown_byte(byte: u8) -> u8
+    ensures { result ≡ shown_byte byte }
 {
-    text.extend_from_slice(finding.code.text())?;
-    write!(text, " {} ", finding.line).map_err(|_| AllocError)?;
-    push_subject(text, finding.subject)?;
-    text.push(b'\n')?;
-    Ok(())
-}
-
-/// The lines that report findings.
-fn report_lines(alloc: Global, findings: &FindingList) -> Result<Vec<u8>, AllocError>
-    ensures { IfOk result (λ text. text.items ≡ flat_map report_line findings.now) }
-{
-    let mut text = Vec::new(alloc);
-    for place in 0..findings.len() {
-        push_line(&mut text, findings.at(place))?;
+    if b' ' <= byte && byte <= b'~' {
+        byte
+    } else {
+        b'?'
     }
-    Ok(text)
-}
-
-/// What is printed for the findings of a file, `clean` where there is none.
-pub fn findings_report(alloc: Global, findings: &FindingList) -> Result<Report, AllocError>
-    ensures { IfOk result (λ report. report ≡ report_of findings.now) }
-{
-    if findings.is_empty() {
-        return Ok(Report {
-            text: Sequence::from_vec(Vec::from_slice(alloc, b"clean\n")?),
-            status: 0,
-        });
-    }
-    Ok(Report {
-        text: Sequence::from_vec(report_lines(alloc, findings)?),
-        status: 1,
-    })
 }

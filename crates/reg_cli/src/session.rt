@@ -9,37 +9,9 @@ use crate::words::Asker;
 use reg_policy::{Caller, Callers, Day, Name, NameError};
 use std::alloc::Global;
 
-/// Who asks, for which project, and on which day.
-#[derive(Drop)]
-pub struct Session<'c> {
-    pub caller: &'c Caller,
-    pub project: Name,
-    pub day: Day,
-}
-
-/// The day that a text writes, or the one for where none is given. `DayRefused` where that is none; no clause names the refusal.
-pub fn day_or(text: Option<&str>, other: Option<Day>) -> Result<Day, Fault>
-    ensures { IfOk result (λ day. IsDayOr text.entry other day) }
-{
-    match text {
-        Some(text) => Day::read(text).ok_or(Fault::DayRefused),
-        None => other.ok_or(Fault::DayRefused),
-    }
-}
-
-/// The project of a name.
-fn project_of(alloc: Global, text: &str) -> Result<Name, Fault>
-    ensures { IfOk result (λ project. project ≡ text.now) }
-{
-    match Name::read(alloc, text) {
-        Ok(name) => Ok(name),
-        Err(NameError::BadName) => Err(Fault::ProjectRefused),
-        Err(NameError::NoMemory) => Err(Fault::NoMemory),
-    }
-}
-
-/// Who asks by this token, for the project and on the day that the words give, or on `today` where they give none.
-/// A token of no caller, a project that is no name and a day that is none are refused. No clause says which of them is named.
+/// Who asks by this token, for the project and on the day that the words give, or on `today` where they give none. A
+/// token of no caller, a project that is no name and a day that is none are refused. No clause says which of them is
+/// named.
 pub fn session_of<'c>(
     alloc: Global,
     callers: &'c Callers,
@@ -61,4 +33,34 @@ pub fn session_of<'c>(
         project,
         day,
     })
+}
+
+/// Who asks, for which project, and on which day.
+#[derive(Drop)]
+pub struct Session<'c> {
+    pub caller: &'c Caller,
+    pub project: Name,
+    pub day: Day,
+}
+
+/// The project of a name.
+fn project_of(alloc: Global, text: &str) -> Result<Name, Fault>
+    ensures { IfOk result (λ project. project ≡ text.now) }
+{
+    match Name::read(alloc, text) {
+        Ok(name) => Ok(name),
+        Err(NameError::BadName) => Err(Fault::ProjectRefused),
+        Err(NameError::NoMemory) => Err(Fault::NoMemory),
+    }
+}
+
+/// The day that a text writes, or the one for where none is given. `DayRefused` where that is none; no clause names the
+/// refusal.
+pub fn day_or(text: Option<&str>, other: Option<Day>) -> Result<Day, Fault>
+    ensures { IfOk result (λ day. IsDayOr text.entry other day) }
+{
+    match text {
+        Some(text) => Day::read(text).ok_or(Fault::DayRefused),
+        None => other.ok_or(Fault::DayRefused),
+    }
 }

@@ -8,6 +8,45 @@ use clap::{Arg, ArgAction, ArgMatches, Command, Error};
 use std::alloc::{AllocError, Global};
 use std::convert::AsStr;
 
+/// What the words ask, of which the first is the program's name. No clause says so.
+pub fn read_words<'w, S: AsStr>(alloc: Global, words: &'w [S]) -> Result<Words<'w>, Fault> {
+    let [_program, words @ ..] = words else {
+        return Err(Fault::WordsRefused);
+    };
+    let Some(form) = words.first().and_then(|name| form_of(name.as_str())) else {
+        return Err(Fault::WordsRefused);
+    };
+    let given = given_by(alloc, form, words)?;
+    words_of(&form.task, &given).ok_or(Fault::WordsRefused)
+}
+
+/// A command with the texts that its words give.
+#[derive(Clone, Copy)]
+pub enum Words<'w> {
+    Init { store: &'w str, dictionary: &'w str },
+    Migrate { store: &'w str },
+    Check { dictionary: &'w str, file: &'w str },
+    Ask(Asker<'w>, Action<'w>),
+    Serve(Service<'w>),
+}
+
+/// What is done for the one who asks, as it was given.
+#[derive(Clone, Copy)]
+pub enum Action<'w> {
+    Deposit {
+        embargo: Option<&'w str>,
+        file: &'w str,
+    },
+    Extract {
+        groups: Option<&'w str>,
+        number: &'w str,
+    },
+    List,
+    Withdraw {
+        number: &'w str,
+    },
+}
+
 /// Who asks, of which store, by which policy, for which project and on which day, as it was given.
 #[derive(Clone, Copy)]
 pub struct Asker<'w> {
@@ -33,7 +72,8 @@ pub struct Service<'w> {
     pub port: u16,
     /// 1 to 1,000,000, as `read_words` reads it. No clause says so.
     pub connections: u32,
-    /// The seconds for reading a request, and for writing its reply: 1 to 3,600, as `read_words` reads it. No clause says so.
+    /// The seconds for reading a request, and for writing its reply: 1 to 3,600, as `read_words` reads it. No clause
+    /// says so.
     pub patience: u32,
     /// Whether `serve` ends behind an answer that the store failed.
     pub ends_on_failure: bool,
@@ -41,47 +81,23 @@ pub struct Service<'w> {
     pub log: Option<&'w str>,
 }
 
-/// A command with the texts that its words give.
-#[derive(Clone, Copy)]
-pub enum Words<'w> {
-    Init {
-        store: &'w str,
-        dictionary: &'w str,
-    },
-    Check {
-        dictionary: &'w str,
-        file: &'w str,
-    },
-    Deposit {
-        asker: Asker<'w>,
-        embargo: Option<&'w str>,
-        file: &'w str,
-    },
-    Extract {
-        asker: Asker<'w>,
-        groups: Option<&'w str>,
-        number: &'w str,
-    },
-    List(Asker<'w>),
-    Serve(Service<'w>),
+/// A command's name, the words that other commands have too, and its own.
+struct Form {
+    name: &'static str,
+    task: Task,
+    shared: &'static [Word],
+    own: &'static [Word],
 }
-
-/// The greatest number of connections that `serve` serves.
-const MOST_CONNECTIONS: u32 = 1_000_000;
-
-/// The greatest patience with a connection, in seconds.
-const MOST_PATIENCE: u32 = 3_600;
-
-/// The patience where none is given.
-const USUAL_PATIENCE: u32 = 30;
 
 /// What a command does.
 enum Task {
     Init,
+    Migrate,
     Check,
     Deposit,
     Extract,
     List,
+    Withdraw,
     Serve,
 }
 
@@ -97,68 +113,54 @@ enum Word {
     Plain(&'static str),
 }
 
-/// A command's name, and the words behind it.
-struct Form {
-    name: &'static str,
-    task: Task,
-    words: &'static [Word],
-}
-
-static FORMS: [Form; 6] = [
+static FORMS: [Form; 8] = [
     Form {
         name: "init",
         task: Task::Init,
-        words: &[Word::Required("store"), Word::Required("dictionary")],
+        shared: &[],
+        own: &[Word::Required("store"), Word::Required("dictionary")],
+    },
+    Form {
+        name: "migrate",
+        task: Task::Migrate,
+        shared: &[],
+        own: &[Word::Required("store")],
     },
     Form {
         name: "check",
         task: Task::Check,
-        words: &[Word::Required("dictionary"), Word::Plain("file")],
+        shared: &[],
+        own: &[Word::Required("dictionary"), Word::Plain("file")],
     },
     Form {
         name: "deposit",
         task: Task::Deposit,
-        words: &[
-            Word::Required("store"),
-            Word::Required("policy"),
-            Word::Required("callers"),
-            Word::Required("token"),
-            Word::Required("project"),
-            Word::Optional("day"),
-            Word::Optional("embargo"),
-            Word::Plain("file"),
-        ],
+        shared: ASKER,
+        own: &[Word::Optional("embargo"), Word::Plain("file")],
     },
     Form {
         name: "extract",
         task: Task::Extract,
-        words: &[
-            Word::Required("store"),
-            Word::Required("policy"),
-            Word::Required("callers"),
-            Word::Required("token"),
-            Word::Required("project"),
-            Word::Optional("day"),
-            Word::Optional("groups"),
-            Word::Plain("number"),
-        ],
+        shared: ASKER,
+        own: &[Word::Optional("groups"), Word::Plain("number")],
     },
     Form {
         name: "list",
         task: Task::List,
-        words: &[
-            Word::Required("store"),
-            Word::Required("policy"),
-            Word::Required("callers"),
-            Word::Required("token"),
-            Word::Required("project"),
-            Word::Optional("day"),
-        ],
+        shared: ASKER,
+        own: &[],
+    },
+    Form {
+        name: "withdraw",
+        task: Task::Withdraw,
+        shared: ASKER,
+        own: &[Word::Plain("number")],
     },
     Form {
         name: "serve",
         task: Task::Serve,
-        words: &[
+        shared: &[],
+        own: &[
             Word::Required("store"),
             Word::Required("policy"),
             Word::Required("callers"),
@@ -173,6 +175,16 @@ static FORMS: [Form; 6] = [
     },
 ];
 
+/// The words that say who asks.
+const ASKER: &[Word] = &[
+    Word::Required("store"),
+    Word::Required("policy"),
+    Word::Required("callers"),
+    Word::Required("token"),
+    Word::Required("project"),
+    Word::Optional("day"),
+];
+
 /// The form of the command that has this name.
 fn form_of(name: &str) -> Option<&'static Form> {
     for form in &FORMS {
@@ -183,12 +195,33 @@ fn form_of(name: &str) -> Option<&'static Form> {
     None
 }
 
-fn option<'w>(alloc: Global, name: &'w str) -> Arg<'w> {
-    Arg::new(alloc, name).long(name).action(ArgAction::Set)
+/// What the words give to a command, whose name is the first. A request for help is refused as well.
+fn given_by<'w, S: AsStr>(
+    alloc: Global,
+    form: &Form,
+    words: &'w [S],
+) -> Result<ArgMatches<'w>, Fault> {
+    let command = command(alloc, form)?;
+    command.try_get_matches_from(words).map_err(fault_of)
 }
 
-fn flag<'w>(alloc: Global, name: &'w str) -> Arg<'w> {
-    Arg::new(alloc, name).long(name).action(ArgAction::SetTrue)
+fn fault_of(error: Error) -> Fault {
+    match error.kind() {
+        ErrorKind::OutOfMemory => Fault::NoMemory,
+        _ => Fault::WordsRefused,
+    }
+}
+
+/// The command of a form. The prover writes it out at each point of a function that holds one, and at most where it is
+/// handed on, so few functions do.
+fn command<'w>(alloc: Global, form: &Form) -> Result<Command<'w>, AllocError> {
+    let mut command = Command::new(alloc, form.name)
+        .disable_help_flag(true)
+        .disable_version_flag(true);
+    for word in form.shared.iter().chain(form.own) {
+        command = command.arg(argument(alloc, word))?;
+    }
+    Ok(command)
 }
 
 fn argument<'w>(alloc: Global, word: &Word) -> Arg<'w> {
@@ -200,35 +233,69 @@ fn argument<'w>(alloc: Global, word: &Word) -> Arg<'w> {
     }
 }
 
-/// The command of a form. The prover writes it out at each point of a function that holds one, and at most where it is handed
-/// on, so few functions do.
-fn command<'w>(alloc: Global, form: &Form) -> Result<Command<'w>, AllocError> {
-    let mut command = Command::new(alloc, form.name)
-        .disable_help_flag(true)
-        .disable_version_flag(true);
-    for word in form.words {
-        command = command.arg(argument(alloc, word))?;
-    }
-    Ok(command)
+fn option<'w>(alloc: Global, name: &'w str) -> Arg<'w> {
+    Arg::new(alloc, name).long(name).action(ArgAction::Set)
 }
 
-/// The text that is given under a name.
-fn text<'w>(given: &ArgMatches<'w>, name: &str) -> Option<&'w str> {
-    given.get_str(name)
+fn flag<'w>(alloc: Global, name: &'w str) -> Arg<'w> {
+    Arg::new(alloc, name).long(name).action(ArgAction::SetTrue)
 }
 
-/// The number that digits give under a name, from 1 to `most`.
-fn number(given: &ArgMatches<'_>, name: &str, most: u32) -> Option<u32>
-    ensures { IfSome result (λ number. (1 ≤ number) × (number ≤ most)) }
-{
-    let digits = text(given, name)?;
-    if !digits.bytes().all(|b| b.is_ascii_digit()) {
-        return None;
+/// What a command's own words give.
+fn words_of<'w>(task: &Task, given: &ArgMatches<'w>) -> Option<Words<'w>> {
+    match task {
+        Task::Init => init_words(given),
+        Task::Migrate => migrate_words(given),
+        Task::Check => check_words(given),
+        Task::Deposit => deposit_words(given),
+        Task::Extract => extract_words(given),
+        Task::List => Some(Words::Ask(asker_in(given)?, Action::List)),
+        Task::Withdraw => withdraw_words(given),
+        Task::Serve => Some(Words::Serve(service_in(given)?)),
     }
-    match digits.parse::<u32>() {
-        Ok(number) if (1..=most).contains(&number) => Some(number),
-        _ => None,
-    }
+}
+
+fn init_words<'w>(given: &ArgMatches<'w>) -> Option<Words<'w>> {
+    Some(Words::Init {
+        store: text(given, "store")?,
+        dictionary: text(given, "dictionary")?,
+    })
+}
+
+fn migrate_words<'w>(given: &ArgMatches<'w>) -> Option<Words<'w>> {
+    Some(Words::Migrate {
+        store: text(given, "store")?,
+    })
+}
+
+fn check_words<'w>(given: &ArgMatches<'w>) -> Option<Words<'w>> {
+    Some(Words::Check {
+        dictionary: text(given, "dictionary")?,
+        file: text(given, "file")?,
+    })
+}
+
+fn deposit_words<'w>(given: &ArgMatches<'w>) -> Option<Words<'w>> {
+    let action = Action::Deposit {
+        embargo: text(given, "embargo"),
+        file: text(given, "file")?,
+    };
+    Some(Words::Ask(asker_in(given)?, action))
+}
+
+fn extract_words<'w>(given: &ArgMatches<'w>) -> Option<Words<'w>> {
+    let action = Action::Extract {
+        groups: text(given, "groups"),
+        number: text(given, "number")?,
+    };
+    Some(Words::Ask(asker_in(given)?, action))
+}
+
+fn withdraw_words<'w>(given: &ArgMatches<'w>) -> Option<Words<'w>> {
+    let action = Action::Withdraw {
+        number: text(given, "number")?,
+    };
+    Some(Words::Ask(asker_in(given)?, action))
 }
 
 fn asker_in<'w>(given: &ArgMatches<'w>) -> Option<Asker<'w>> {
@@ -240,14 +307,6 @@ fn asker_in<'w>(given: &ArgMatches<'w>) -> Option<Asker<'w>> {
         project: text(given, "project")?,
         day: text(given, "day"),
     })
-}
-
-/// The seconds of patience with a connection.
-fn patience_in(given: &ArgMatches<'_>) -> Option<u32> {
-    match text(given, "patience") {
-        Some(_) => number(given, "patience", MOST_PATIENCE),
-        None => Some(USUAL_PATIENCE),
-    }
 }
 
 fn service_in<'w>(given: &ArgMatches<'w>) -> Option<Service<'w>> {
@@ -270,84 +329,38 @@ fn service_in<'w>(given: &ArgMatches<'w>) -> Option<Service<'w>> {
     })
 }
 
-fn init_words<'w>(given: &ArgMatches<'w>) -> Option<Words<'w>> {
-    Some(Words::Init {
-        store: text(given, "store")?,
-        dictionary: text(given, "dictionary")?,
-    })
-}
-
-fn check_words<'w>(given: &ArgMatches<'w>) -> Option<Words<'w>> {
-    Some(Words::Check {
-        dictionary: text(given, "dictionary")?,
-        file: text(given, "file")?,
-    })
-}
-
-fn deposit_words<'w>(given: &ArgMatches<'w>) -> Option<Words<'w>> {
-    Some(Words::Deposit {
-        asker: asker_in(given)?,
-        embargo: text(given, "embargo"),
-        file: text(given, "file")?,
-    })
-}
-
-fn extract_words<'w>(given: &ArgMatches<'w>) -> Option<Words<'w>> {
-    Some(Words::Extract {
-        asker: asker_in(given)?,
-        groups: text(given, "groups"),
-        number: text(given, "number")?,
-    })
-}
-
-fn list_words<'w>(given: &ArgMatches<'w>) -> Option<Words<'w>> {
-    Some(Words::List(asker_in(given)?))
-}
-
-fn serve_words<'w>(given: &ArgMatches<'w>) -> Option<Words<'w>> {
-    Some(Words::Serve(service_in(given)?))
-}
-
-/// What a command's own words give.
-fn words_of<'w>(task: &Task, given: &ArgMatches<'w>) -> Option<Words<'w>> {
-    match task {
-        Task::Init => init_words(given),
-        Task::Check => check_words(given),
-        Task::Deposit => deposit_words(given),
-        Task::Extract => extract_words(given),
-        Task::List => list_words(given),
-        Task::Serve => serve_words(given),
+/// The seconds of patience with a connection.
+fn patience_in(given: &ArgMatches<'_>) -> Option<u32> {
+    match text(given, "patience") {
+        Some(_) => number(given, "patience", MOST_PATIENCE),
+        None => Some(USUAL_PATIENCE),
     }
 }
 
-fn fault_of(error: Error) -> Fault {
-    match error.kind() {
-        ErrorKind::OutOfMemory => Fault::NoMemory,
-        _ => Fault::WordsRefused,
+/// The greatest number of connections that `serve` serves.
+const MOST_CONNECTIONS: u32 = 1_000_000;
+
+/// The greatest patience with a connection, in seconds.
+const MOST_PATIENCE: u32 = 3_600;
+
+/// The patience where none is given.
+const USUAL_PATIENCE: u32 = 30;
+
+/// The number that digits give under a name, from 1 to `most`.
+fn number(given: &ArgMatches<'_>, name: &str, most: u32) -> Option<u32>
+    ensures { IfSome result (λ number. (1 ≤ number) × (number ≤ most)) }
+{
+    let digits = text(given, name)?;
+    if !digits.bytes().all(|b| b.is_ascii_digit()) {
+        return None;
+    }
+    match digits.parse::<u32>() {
+        Ok(number) if (1..=most).contains(&number) => Some(number),
+        _ => None,
     }
 }
 
-/// What the words give to a command, whose name is the first. A request for help is refused as well.
-fn given_by<'w, S: AsStr>(
-    alloc: Global,
-    form: &Form,
-    words: &'w [S],
-) -> Result<ArgMatches<'w>, Fault> {
-    let command = command(alloc, form)?;
-    command.try_get_matches_from(words).map_err(fault_of)
-}
-
-/// What the words ask, of which the first is the program's name. No clause says so.
-pub fn read_words<'w, S: AsStr>(alloc: Global, words: &'w [S]) -> Result<Words<'w>, Fault> {
-    let [_program, words @ ..] = words else {
-        return Err(Fault::WordsRefused);
-    };
-    let [name, ..] = words else {
-        return Err(Fault::WordsRefused);
-    };
-    let Some(form) = form_of(name.as_str()) else {
-        return Err(Fault::WordsRefused);
-    };
-    let given = given_by(alloc, form, words)?;
-    words_of(&form.task, &given).ok_or(Fault::WordsRefused)
+/// The text that is given under a name.
+fn text<'w>(given: &ArgMatches<'w>, name: &str) -> Option<&'w str> {
+    given.get_str(name)
 }

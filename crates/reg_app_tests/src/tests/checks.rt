@@ -26,7 +26,8 @@ impl<R: Read> Read for Asked<R> {
     }
 }
 
-/// A file: so many bytes of a text and of the spaces behind it. What is printed, what is said of a fault, and the status.
+/// A file: so many bytes of a text and of the spaces behind it. What is printed, what is said of a fault, and the
+/// status.
 struct Input {
     text: &'static [u8],
     length: u64,

@@ -36,8 +36,9 @@ struct Peer {
     reply: &'static [u8],
 }
 
-/// Connections that are there when a listener is served, which waits for others or does not. As many are served as `count`
-/// says, from 2024-05-01 on, each a day after the one before. Their lines are printed, and logged where lines of the log are given.
+/// Connections that are there when a listener is served, which waits for others or does not. As many are served as
+/// `count` says, from 2024-05-01 on, each a day after the one before. Their lines are printed, and logged where lines
+/// of the log are given.
 struct Case {
     waits: bool,
     peers: &'static [Peer],
@@ -192,7 +193,8 @@ static CASES: [Case; 4] = [
         printed: b"404\n200\n",
         logged: b"",
     },
-    // A listener that does not wait fails to accept where no connection is there. That is printed, and counts as a connection.
+    // A listener that does not wait fails to accept where no connection is there. That is printed, and counts as a
+    // connection.
     Case {
         waits: false,
         peers: &[Peer {
@@ -304,7 +306,8 @@ impl Clock for Calendar {
     }
 }
 
-/// Serves so many connections by a clock, with a second of patience, from an empty keep in memory: the status of the run.
+/// Serves so many connections by a clock, with a second of patience, from an empty keep in memory: the status of the
+/// run.
 fn serve_some<C: Clock, W: Write, L: Write + Drop>(
     alloc: Global,
     clock: &C,
@@ -407,7 +410,8 @@ fn has_ended(
     Ok(status == if fails { 6 } else { 0 })
 }
 
-/// Whether a run is right whose write or flush of a line after `calls` others fails: two connections that fail take four.
+/// Whether a run is right whose write or flush of a line after `calls` others fails: two connections that fail take
+/// four.
 fn line_fails(alloc: Global, listener: &TcpListener, calls: usize) -> Result<bool, Fail> {
     let mut out = failing_after(alloc, b"", 100, calls);
     let mut log = failing_after(alloc, b"", 100, 9);
