@@ -31,7 +31,7 @@ use Rattle.ags_check.specs.Findings.{file_of}
 use Rattle.reg_desk.specs.View.{look_on, IsExtractOf, Sees}
 use Rattle.reg_desk.specs.Serving.{AsksStore, IsLineFor, text_answer, terms_at, OnlyReads, Serves, answer_of}
 use Rattle.reg_desk.proofs.Replies.{one_file}
-use Rattle.reg_desk.proofs.Bodies.{where_true, where_false}
+use Rattle.reg_desk.proofs.Bodies.{where_true}
 use Rattle.reg_desk.proofs.Serves.{is_told, asks_of, replies_at_once, refused_serves, replies_serves, permitted_reply, denied_reply, permit_stands}
 
 -- ---- a kept deposit

@@ -4,7 +4,7 @@ use Rattle.std.proofs.Common.{◌≡◌, ◌≢◌, ℕ, zero, suc, ◌+◌, Boo
 use Rattle.std.specs.Prelude.{ℤ, nat_lt, slice_get, MatchBool, option_map}
 use Rattle.std.specs.List.{AllZip}
 use Rattle.std.specs.Str.{bytes_eq}
-use Rattle.std.proofs.lemmas.Bool.{true≢false, and_parts}
+use Rattle.std.proofs.lemmas.Bool.{and_parts}
 use Rattle.std.proofs.lemmas.Slice.Eq.{bytes_eq-Decides}
 use Rattle.std.proofs.lemmas.Option.{same_Some}
 use Rattle.reg_policy.specs.declared.rule.Rule.{Rule}
@@ -16,8 +16,8 @@ use Rattle.reg_store.proofs.DepositLemmas.{sent_at, deposit_at}
 use Rattle.reg_store.specs.declared.keep.Keep.{Ghosts}
 use Rattle.reg_desk.specs.Asked.{Asked, deposit, withdraw}
 use Rattle.reg_desk.specs.declared.answer.Answer.{Answer}
-use Rattle.reg_desk.specs.declared.answer.Answer.TheVariants.{Receipt, TooLarge, Full, NoMemory, StoreFailed, Withdrawn}
-use Rattle.reg_desk.specs.Machine.{Terms, decided, OrDenied, OrFound, OrRefused, first_equal, receipt_of, held, IsReply, asked_deposit, Changes, IsNext}
+use Rattle.reg_desk.specs.declared.answer.Answer.TheVariants.{Receipt, Full, NoMemory, StoreFailed, Withdrawn}
+use Rattle.reg_desk.specs.Machine.{Terms, decided, first_equal, receipt_of, held, IsReply, asked_deposit, Changes, IsNext}
 use Rattle.reg_desk.specs.Serving.{is_failed, IsAnswer, IsAfter, terms_at}
 use Rattle.reg_desk.specs.Running.{AreFailed, AreAnswers, failing, Runs, IsHeldIn}
 use Rattle.reg_desk.proofs.Taken.{not_refused, taken_received, withdrawn_own}

@@ -1,5 +1,5 @@
 -- A deposit: taken once, with a receipt.
-use Rattle.std.proofs.Common.{◌≡◌, ◌≢◌, ℕ, ◌+◌, ◌-◌, ◌<◌, ◌≤◌, Bool, true, false, cond, Option, Some, None, Ok, Err, List, [], ◌∷◌, ◌++◌, refl, sym, ap, subst, ◌∙◌, inl, inr, ◌⊎◌, arith, length-append}
+use Rattle.std.proofs.Common.{◌≡◌, ◌≢◌, ℕ, ◌+◌, ◌-◌, ◌<◌, ◌≤◌, Bool, true, false, cond, Option, Some, None, Ok, Err, List, [], ◌∷◌, ◌++◌, refl, sym, ap, subst, ◌∙◌, inl, inr, arith, length-append}
 use Rattle.std.specs.Prelude.{ℤ, nat_lt, length, slice_get, Result}
 use Rattle.std.proofs.lemmas.Bool.{cases_Bool, ltb-true, lt-ltb}
 use Rattle.std.proofs.lemmas.Option.{slice_get_within}
@@ -21,7 +21,7 @@ use Rattle.reg_store.specs.declared.keep.KeepError.TheVariants as errors
 use Rattle.reg_desk.specs.Asked.{deposit}
 use Rattle.reg_desk.specs.declared.answer.Answer.{Answer}
 use Rattle.reg_desk.specs.declared.answer.Answer.TheVariants.{Receipt, Denied, Full}
-use Rattle.reg_desk.specs.Machine.{Terms, decided, OrRefused, first_equal, receipt_of, IsReply, IsTaken, asked_deposit, Changes, IsNext}
+use Rattle.reg_desk.specs.Machine.{Terms, decided, OrRefused, first_equal, receipt_of, IsReply, IsTaken, asked_deposit, IsNext}
 use Rattle.reg_desk.specs.Serving.{AsksStore, NeedsMemory, IsRefusal, terms_at, OnlyReads, Serves, answer_of}
 use Rattle.reg_desk.proofs.Taken.{taken_received}
 use Rattle.reg_desk.proofs.Firsts.{first_some}

@@ -1,5 +1,5 @@
 -- A withdrawal: a firm's own deposit is marked, and stays kept.
-use Rattle.std.proofs.Common.{◌≡◌, ◌≢◌, ◌<◌, ◌≤◌, ◌-◌, ℕ, zero, suc, Bool, true, false, cond, Option, Some, None, Ok, Err, List, [], ◌∷◌, refl, sym, ap, subst, ◌∙◌, inl, inr, ◌⊎◌, arith}
+use Rattle.std.proofs.Common.{◌≡◌, ◌≢◌, ◌<◌, ◌≤◌, ◌-◌, ℕ, zero, suc, Bool, true, false, cond, Option, Some, None, Ok, Err, List, refl, sym, ap, subst, ◌∙◌, inl, inr, arith}
 use Rattle.std.specs.Prelude.{ℤ, slice_get, length, Result, ◌&&◌}
 use Rattle.std.specs.Str.{bytes_eq}
 use Rattle.std.proofs.lemmas.Bool.{true≢false}
@@ -18,7 +18,7 @@ use Rattle.reg_store.specs.declared.keep.KeptHead.{KeptHead}
 use Rattle.reg_desk.specs.Asked.{withdraw}
 use Rattle.reg_desk.specs.declared.answer.Answer.{Answer}
 use Rattle.reg_desk.specs.declared.answer.Answer.TheVariants.{Denied, Unknown, Withdrawn}
-use Rattle.reg_desk.specs.Machine.{Terms, decided, held, is_own, withdrawal_of, IsReply, IsWithdrawn, Changes, IsNext}
+use Rattle.reg_desk.specs.Machine.{Terms, decided, held, is_own, withdrawal_of, IsReply, IsWithdrawn}
 use Rattle.reg_desk.specs.Serving.{AsksStore, mark_of, terms_at, OnlyReads, Serves, answer_of}
 use Rattle.reg_desk.proofs.Drawing.{held_at}
 use Rattle.reg_desk.proofs.Taken.{own_reply}

@@ -1,4 +1,4 @@
-use Rattle.std.proofs.Common.{◌∙◌, sym, ap, subst, Err, Some, Bool, true, false}
+use Rattle.std.proofs.Common.{◌∙◌, sym, ap, subst, Err, Some, Bool}
 use Rattle.reg_desk.specs.Asked.{withdraw}
 use Rattle.reg_desk.specs.Serving.{Serves}
 use Rattle.reg_desk.proofs.Serves.{still_works}
