@@ -4,9 +4,10 @@ ghost use Rattle.std.specs.Prelude.{◌≡◌, ◌≤◌, false, IfErr, IfOk, le
 ghost use Rattle.sqlite.specs.Files.{file_state};
 ghost use Rattle.sqlite.specs.WalFiles.{image_at};
 ghost use Rattle.reg_tables.specs.Making.{RefusesBytes};
+ghost use Rattle.reg_tables.specs.Migrates.{MigratesFiles};
 ghost use Rattle.reg_tables.specs.Opened.{AdoptsFiles};
 
-use crate::refusal::{adopting, migrating};
+use crate::refusal::adopting;
 use ags_rows::READABLE;
 use reg_cli::{Fault, Refusal};
 use reg_tables::{CreateError, SqlKeep};
@@ -85,13 +86,15 @@ pub(crate) fn migrate_store<'w, F: Start>(
     alloc: Global,
     start: F,
     store: &'w str,
-) -> Result<SqlKeep<FileStore<FileFrom<F>>>, Refusal<'w>> {
+) -> Result<SqlKeep<FileStore<FileFrom<F>>>, Refusal<'w>>
+    ensures { IfOk result (λ k. MigratesFiles (image_at F.Start) k.dictionary (file_state k.connection)) }
+{
     if is_absent(rt, store) {
         return Err(Refusal::Plain(Fault::NotRegister));
     }
     match SqlKeep::migrate_from(rt, alloc, store, start) {
         Ok(keep) => Ok(keep),
-        Err((error, _connection)) => Err(migrating(error)),
+        Err((error, _connection)) => Err(adopting(error)),
     }
 }
 
