@@ -55,12 +55,12 @@ Counts db None = (list : List Sent) → length list ≤ 999999 → IsPermutation
 abbrev pub AreWhole : Database → Entries → ℕ → Type 0
 AreWhole db dictionary count = (k : ℕ) → k < count → IsWhole db dictionary (k + 1)
 
--- What meta says: the dictionary's bytes, and what they read as.
-pub record HasMeta (db : Database) (dictionary : Entries) : Type 0 where
+-- What meta says: the format's number, the dictionary's bytes, and what they read as.
+pub record HasMeta (number : ℕ) (db : Database) (dictionary : Entries) : Type 0 where
   pub text : List ℕ
   pub short : length text ≤ READABLE
   pub reads : IsDictionary text dictionary
-  pub meta : IsPermutation (meta_columns text) (map columns_3 (db.trees 0))
+  pub meta : IsPermutation (meta_columns number text) (map columns_3 (db.trees 0))
 
 -- ---- a register has whole deposits
 

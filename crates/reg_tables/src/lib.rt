@@ -6,6 +6,7 @@ mod adopting;
 mod compare;
 mod creating;
 mod examining;
+mod format;
 mod gathering;
 mod graph;
 mod heads;
