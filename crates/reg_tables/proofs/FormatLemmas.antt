@@ -15,7 +15,8 @@ use Rattle.sqlite_tied.specs.Compute.{everything}
 use Rattle.sqlite.specs.Listing.{understood, reads_listing}
 use Rattle.sqlite.proofs.StateLemmas.{survives_weaker}
 use Rattle.sqlite.proofs.Callers.{IsPlain, command_of, never_commits, reads_as}
-use Rattle.reg_tables.specs.Tables.{HasTables, register_schema, register_tables}
+use Rattle.reg_tables.specs.declared.format.Format.{Format}
+use Rattle.reg_tables.specs.Tables.{HasTables, format_tables, number_of, schema_of}
 use Rattle.reg_tables.specs.Tables as tables
 use Rattle.reg_tables.specs.Texts.{select_meta}
 use Rattle.reg_tables.specs.Meaning.{all_meta, plainly}
@@ -96,11 +97,13 @@ module _ (old new : State) (first : StartsWithMeta old.now.schema) where
 
 -- ---- the refusals
 
-pub refused_unstarted : (db : Database) → starts_with_meta db.schema.tables ≡ false → Adopts db (Err NotRegister)
-refused_unstarted db h = (λ n has. absurd (not_meta db.schema h has.0), λ dictionary list r. absurd (not_meta db.schema h (tables_first db.schema (register_tables db.schema r.schema))))
+pub refused_unstarted : (format : Format) (db : Database) → starts_with_meta db.schema.tables ≡ false → Adopts format db (Err NotRegister)
+refused_unstarted format db h = (λ n has. absurd (not_meta db.schema h has.0), λ dictionary list r. absurd (not_meta db.schema h (tables_first db.schema (format_tables format db.schema r.holds.schema))))
 
-pub refused_format : (db : Database) (rows : List Row) (n : ℤ) → StartsWithMeta db.schema → IsPermutation rows (map columns_3 (db.trees 0)) → (n ≢ pos 1) × ((row : Row) × Contains rows row × IsFormatRow n row) → Adopts db (Err (Version n))
-refused_format db rows n first all found = (found.0, (first, (found.1.0, Contains-permutation _ _ _ all found.1.1, found.1.2)))
+pub refused_format : (format : Format) (db : Database) (rows : List Row) (n : ℤ) → StartsWithMeta db.schema → IsPermutation rows (map columns_3 (db.trees 0)) → (n ≢ pos (number_of format)) × ((row : Row) × Contains rows row × IsFormatRow n row)
+    → Adopts format db (Err (Version n))
+refused_format format db rows n first all found = (found.0, (first, (found.1.0, Contains-permutation _ _ _ all found.1.1, found.1.2)))
 
-pub refused_tables : (db : Database) (rows : List Row) → db.schema ≢ register_schema → IsPermutation rows (map columns_3 (db.trees 0)) → ((n : ℤ) (row : Row) → Contains rows row → IsFormatRow n row → n ≡ pos 1) → Adopts db (Err NotRegister)
-refused_tables db rows other all none = (λ n has. none n has.1.0 (Contains-permutation _ _ _ (IsPermutation-sym _ _ all) has.1.1) has.1.2, λ dictionary list r. absurd (other r.schema))
+pub refused_tables : (format : Format) (db : Database) (rows : List Row) → db.schema ≢ schema_of format → IsPermutation rows (map columns_3 (db.trees 0)) → ((n : ℤ) (row : Row) → Contains rows row → IsFormatRow n row → n ≡ pos (number_of format))
+    → Adopts format db (Err NotRegister)
+refused_tables format db rows other all none = (λ n has. none n has.1.0 (Contains-permutation _ _ _ (IsPermutation-sym _ _ all) has.1.1) has.1.2, λ dictionary list r. absurd (other r.holds.schema))

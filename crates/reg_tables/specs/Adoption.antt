@@ -1,5 +1,8 @@
 -- What the adopting of a register answers.
 use Rattle.std.specs.Prelude.{◌≡◌, ◌≢◌, ◌≤◌, ℕ, ℤ, pos, Bool, true, false, List, length, Option, Some, None, Result, Ok, Err, Contains}
+use Rattle.std.specs.declared.alloc.Global.{Global}
+use Rattle.std.specs.declared.vec.Vec.{Vec}
+use Rattle.std.specs.List.Sorted.{IsPermutation}
 use Rattle.sqlite.specs.Order.{Row}
 use Rattle.sqlite.specs.Effect.{Database}
 use Rattle.sqlite.specs.State.{State, HasCleanDisk}
@@ -13,9 +16,10 @@ use Rattle.reg_store.specs.declared.keep.KeepError.TheVariants as keep
 use Rattle.reg_store.specs.Sent.{Sent}
 use Rattle.reg_store.specs.Deposit.{Deposit}
 use Rattle.reg_tables.specs.declared.format.Format.{Format}
-use Rattle.reg_tables.specs.Tables.{number_of}
+use Rattle.reg_tables.specs.declared.format.Format.TheVariants.{Second}
+use Rattle.reg_tables.specs.Tables.{number_of, schema_of}
 use Rattle.reg_tables.specs.Formats.{HasFormat, IsFormatRow}
-use Rattle.reg_tables.specs.Register.{HoldsSent, IsRegister, IsRegisterOf, deposits_in, meta_columns}
+use Rattle.reg_tables.specs.Register.{HoldsSent, IsRegister, IsRegisterOf, deposits_in, mark_rows, mark_table, meta_columns}
 use Rattle.reg_tables.specs.Whole.{HasMeta}
 
 -- What is answered where a query is refused.
@@ -72,6 +76,10 @@ abbrev pub CountsDeposits : Format → Database → Entries → Option ℕ → T
 CountsDeposits format db dictionary (Some count) = ∥ ((list : List Sent) × HoldsSent format db dictionary list × (length list ≡ count)) ∥₁
 CountsDeposits format db dictionary None = (list : List Sent) → HoldsSent format db dictionary list → ⊥
 
+-- This holds of each format whose tables the database has, and whose number with the dictionary meta has.
+abbrev pub InEachFormat : Database → Entries → (Format → Type 0) → Type 0
+InEachFormat db dictionary Holds = (format : Format) → db.schema ≡ schema_of format → HasMeta (number_of format) db dictionary → Holds format
+
 -- What a database is answered in which what was sent is looked for, whatever the marks are.
 abbrev pub Examines : Format → Database → Result (Entries × ℕ) AdoptError → Type 0
 Examines format db (Ok found) = ∥ ((list : List Sent) × HoldsSent format db found.0 list × (length list ≡ found.1)) ∥₁
@@ -79,6 +87,18 @@ Examines format db (Err (Version n)) = (n ≢ pos (number_of format)) × HasForm
 Examines format db (Err NotRegister) = HasNoOtherFormat (number_of format) db × ((dictionary : Entries) (list : List Sent) → HoldsSent format db dictionary list → ⊥)
 Examines format db (Err Store) = Unit {0}
 Examines format db (Err NoMemory) = Unit {0}
+
+-- The table `withdrawals` holds the marks of so many deposits.
+abbrev pub HoldsMarks : ℕ → Database → List Bool → Type 0
+HoldsMarks count db marks = (length marks ≡ count) × IsPermutation (mark_rows 1 marks) (mark_table Second db.trees)
+
+-- What the marks of so many deposits are answered.
+abbrev pub FindsMarks : ℕ → Database → Result (Vec Bool Global) AdoptError → Type 0
+FindsMarks count db (Ok marks) = HoldsMarks count db marks.items
+FindsMarks count db (Err NotRegister) = (marks : List Bool) → HoldsMarks count db marks → ⊥
+FindsMarks count db (Err (Version n)) = ⊥
+FindsMarks count db (Err Store) = Unit {0}
+FindsMarks count db (Err NoMemory) = Unit {0}
 
 -- What a database is answered. The tables are a register of this format, of this dictionary and of so many deposits; or the row `format` has another
 -- number, whatever else is wrong; or it has no other number, and the tables are a register of this format of no list.

@@ -15,14 +15,15 @@ ghost use Rattle.reg_tables.specs.Commits.{CommitsAll};
 ghost use Rattle.reg_tables.specs.Quiet.{StaysIfClean, StaysIfOpen};
 ghost use Rattle.reg_tables.specs.Register.{deposits_in};
 ghost use Rattle.reg_tables.specs.Adoption.{Adopts, AdoptsRegister, is_store_failure};
+ghost use Rattle.reg_tables.specs.declared.format.Format.TheVariants.{Second};
 ghost use Rattle.reg_tables.specs.Opened.{AdoptsFiles, FindsEmpty, FindsNotEmpty, RefusesFiles};
 
 use crate::adopting::AdoptError;
 use crate::creating::make_register;
-use crate::examining::examine;
+use crate::format::Format;
 use crate::memory::Memory;
 use crate::reading::read_error;
-use crate::repeats::Digests;
+use crate::recall::recall;
 use crate::schema::{is_register, is_vacant};
 use crate::sql::SqlKeep;
 use crate::versions::{has_meta, refuse_tables};
@@ -208,7 +209,7 @@ impl<S: Alter> SqlKeep<S> {
 
         // Each refusal, by what the database was.
         ensures refused { IfErr result (λ e. HasCleanDisk (state S.Store e.1)
-            → Adopts (state S.Store connection).now (Err e.0)) }
+            → Adopts Second (state S.Store connection).now (Err e.0)) }
 
         // The connection that comes with a refusal, and what a crash may leave.
         ensures same { IfErr result (λ e. is_store_failure e.0 ≡ false
@@ -223,22 +224,17 @@ impl<S: Alter> SqlKeep<S> {
             return Err((AdoptError::Store, connection));
         }
         if !is_register(connection.schema()) {
-            let error = refuse_tables(&mut connection);
+            let error = refuse_tables(&mut connection, Format::Second);
             return Err((error, connection));
         }
-        let mut heads = Vec::new(alloc);
-        let mut digests = Digests::new(alloc);
-        match examine(&mut connection, alloc, &mut heads, &mut digests) {
-            Ok((dictionary, _count)) => match Memory::of(alloc, &heads, digests) {
-                Ok(memory) => Ok(SqlKeep {
-                    connection,
-                    dictionary,
-                    memory,
-                    has_failed: false,
-                    alloc,
-                }),
-                Err(_) => Err((AdoptError::NoMemory, connection)),
-            },
+        match recall(&mut connection, alloc) {
+            Ok((dictionary, memory)) => Ok(SqlKeep {
+                connection,
+                dictionary,
+                memory,
+                has_failed: false,
+                alloc,
+            }),
             Err(error) => Err((error, connection)),
         }
     }
@@ -415,7 +411,7 @@ impl<F: Start> SqlKeep<FileStore<FileFrom<F>>> {
         ensures adopted { IfOk result (λ k. AdoptsFiles (image_at F.Start) k.dictionary (file_state k.connection)) }
         ensures working { IfOk result (λ k. k.has_failed ≡ false) }
         ensures refused { IfErr result (λ e.
-            IfSome e.1 (λ c. HasCleanDisk (file_state c) → RefusesFiles (image_at F.Start) e.0)) }
+            IfSome e.1 (λ c. HasCleanDisk (file_state c) → RefusesFiles Second (image_at F.Start) e.0)) }
         ensures unopened { IfErr result (λ e. e.1 ≡ None → (e.0 ≡ AdoptError.Store) ⊎ (e.0 ≡ AdoptError.NoMemory)) }
 
         // The connection that comes with another refusal than `Store`.

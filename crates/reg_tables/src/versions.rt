@@ -3,7 +3,7 @@
 ghost use Rattle.std.specs.Prelude.{◌≡◌, ◌≢◌, false, IsTrue, map, Err, OnOk};
 ghost use Rattle.sqlite.specs.State.{HasCleanDisk, Survives};
 ghost use Rattle.sqlite.specs.Held.{state};
-ghost use Rattle.reg_tables.specs.Tables.{register_schema};
+ghost use Rattle.reg_tables.specs.Tables.{schema_of};
 ghost use Rattle.reg_tables.specs.Rows.{columns_3};
 ghost use Rattle.reg_tables.specs.Formats.{StartsWithMeta, starts_with_meta as test};
 ghost use Rattle.reg_tables.specs.Quiet.{IsSettled, StaysIfOpen};
@@ -11,6 +11,7 @@ ghost use Rattle.reg_tables.specs.Found.{FindsAll, StaysUnless};
 ghost use Rattle.reg_tables.specs.Adoption.{Adopts, is_store_failure};
 
 use crate::adopting::{AdoptError, other_format};
+use crate::format::Format;
 use crate::queries::is_refused;
 use crate::schema::is_meta;
 use sqlite::{Alter, Connection, Error, Row};
@@ -46,22 +47,23 @@ fn ask_meta<S: Alter>(conn: &mut Connection<S>) -> Result<Vec<Row>, Error>
     conn.query_all("SELECT name, num, body FROM meta ORDER BY name", &[])
 }
 
-/// Why a database is refused whose first table is meta, and whose tables are not those of a register.
+/// Why a database is refused whose first table is meta, and whose tables are not those of the format.
 ///
 /// Another number of the format comes before that it is no register.
 #[tactic(auto, using(crate::proofs::QueryLemmas::still_then))]
-pub(crate) fn refuse_tables<S: Alter>(conn: &mut Connection<S>) -> AdoptError
+pub(crate) fn refuse_tables<S: Alter>(conn: &mut Connection<S>, format: Format) -> AdoptError
     requires mode { conn.old.in_transaction ≡ false }
     requires meta { StartsWithMeta (state S.Store conn.old).now.schema }
-    requires other { (state S.Store conn.old).now.schema ≢ register_schema }
+    requires other { (state S.Store conn.old).now.schema ≢ schema_of format }
     requires settled { HasCleanDisk (state S.Store conn.old) → IsSettled (state S.Store conn.old) }
-    ensures refused { HasCleanDisk (state S.Store conn.new) → Adopts (state S.Store conn.old).now (Err result) }
+    ensures refused { HasCleanDisk (state S.Store conn.new)
+        → Adopts format (state S.Store conn.old).now (Err result) }
     ensures same { StaysUnless (is_store_failure result) (state S.Store conn.old) (state S.Store conn.new) }
     ensures still { StaysIfOpen (state S.Store conn.old) (state S.Store conn.new) }
     ensures crash { Survives (state S.Store conn.old) (state S.Store conn.new) (λ _. ⊥) }
 {
     match ask_meta(conn) {
-        Ok(rows) => match other_format(&rows) {
+        Ok(rows) => match other_format(&rows, format.number()) {
             Some(number) => AdoptError::Version(number),
             None => AdoptError::NotRegister,
         },
