@@ -20,7 +20,7 @@ sent_at list k d at = slice_get-map (λ (x : Deposit). x.sent) list k ∙ ap (op
 
 some_sent : (o : Option Deposit) (sent : Sent) → option_map (λ (x : Deposit). x.sent) o ≡ Some sent → (d : Deposit) × (o ≡ Some d) × (d.sent ≡ sent)
 some_sent None sent h = absurd cc
-some_sent (Some d) sent h = (d, (refl, cc))
+some_sent (Some d) sent h = (d, refl, cc)
 
 -- what was sent at a place is that of the deposit there
 pub deposit_at : (list : List Deposit) (k : ℕ) (sent : Sent) → slice_get (sents list) k ≡ Some sent → (d : Deposit) × (slice_get list k ≡ Some d) × (d.sent ≡ sent)
@@ -34,15 +34,19 @@ length_marked zero (d ∷ more) = refl
 length_marked (suc zero) (d ∷ more) = refl
 length_marked (suc (suc n)) (d ∷ more) = ap suc (length_marked (suc n) more)
 
+marked_place : (list : List Deposit) (k : ℕ) (d : Deposit) → slice_get list k ≡ Some d → slice_get (marked (suc k) list) k ≡ Some (mark d)
+marked_place [] k d at = absurd cc
+marked_place (x ∷ more) zero d at = let same : x ≡ d = cc in ap (λ (y : Deposit). Some (mark y)) same
+marked_place (x ∷ more) (suc k) d at = marked_place more k d at
+
 -- the deposit with its mark
 pub marked_here : (list : List Deposit) (n : ℕ) (d : Deposit) → 0 < n → slice_get list (n - 1) ≡ Some d → slice_get (marked n list) (n - 1) ≡ Some (mark d)
-marked_here list zero d low at = absurd (omega (arith, low))
-marked_here [] (suc n) d low at = absurd cc
-marked_here (x ∷ more) (suc zero) d low at = let same : x ≡ d = cc in ap (λ (y : Deposit). Some (mark y)) same
-marked_here (x ∷ more) (suc (suc n)) d low at = marked_here more (suc n) d (omega arith) at
+marked_here list n d low at =
+    let number : suc (n - 1) ≡ n = omega (arith, low) in
+    ap (λ (m : ℕ). slice_get (marked m list) (n - 1)) (sym number) ∙ marked_place list (n - 1) d at
 
 -- each other deposit is as before
-pub marked_other : (list : List Deposit) (n k : ℕ) → n ≢ k + 1 → slice_get (marked n list) k ≡ slice_get list k
+pub marked_other : (list : List Deposit) (n k : ℕ) → n ≢ suc k → slice_get (marked n list) k ≡ slice_get list k
 marked_other [] n k other = refl
 marked_other (x ∷ more) zero k other = refl
 marked_other (x ∷ more) (suc zero) zero other = absurd (other refl)
@@ -53,9 +57,13 @@ marked_other (x ∷ more) (suc (suc n)) (suc k) other = marked_other more (suc n
 mark_again : (d : Deposit) → d.withdrawn ≡ true → mark d ≡ d
 mark_again d h = let make : Bool → Deposit = λ b. record { sent = d.sent; withdrawn = b } in ap make (sym h)
 
--- a list with the mark already is the list itself
-pub marked_again : (list : List Deposit) (n : ℕ) (d : Deposit) → slice_get list (n - 1) ≡ Some d → d.withdrawn ≡ true → marked n list ≡ list
-marked_again [] n d at h = refl
-marked_again (x ∷ more) zero d at h = refl
-marked_again (x ∷ more) (suc zero) d at h = let same : x ≡ d = cc in ap (λ (y : Deposit). y ∷ more) (mark_again x (ap (λ (y : Deposit). y.withdrawn) same ∙ h))
-marked_again (x ∷ more) (suc (suc n)) d at h = ap (λ (rest : List Deposit). x ∷ rest) (marked_again more (suc n) d at h)
+again_place : (list : List Deposit) (k : ℕ) (d : Deposit) → slice_get list k ≡ Some d → d.withdrawn ≡ true → marked (suc k) list ≡ list
+again_place [] k d at h = refl
+again_place (x ∷ more) zero d at h = let same : x ≡ d = cc in ap (λ (y : Deposit). y ∷ more) (mark_again x (ap (λ (y : Deposit). y.withdrawn) same ∙ h))
+again_place (x ∷ more) (suc k) d at h = ap (λ (rest : List Deposit). x ∷ rest) (again_place more k d at h)
+
+-- a list that has the mark already is left as it is
+pub marked_again : (list : List Deposit) (n : ℕ) (d : Deposit) → 0 < n → slice_get list (n - 1) ≡ Some d → d.withdrawn ≡ true → marked n list ≡ list
+marked_again list n d low at h =
+    let number : suc (n - 1) ≡ n = omega (arith, low) in
+    ap (λ (m : ℕ). marked m list) (sym number) ∙ again_place list (n - 1) d at h

@@ -80,11 +80,11 @@ fn kept_of(
     withdrawn: bool,
 ) -> Result<Kept, AllocError>
     ensures { IfOk result (λ kept. kept ≡ record {
-        firm = firm.now;
-        project = project.now;
-        embargo = embargo;
-        bytes = bytes.now;
-        withdrawn = withdrawn;
+      firm = firm.now;
+      project = project.now;
+      embargo = embargo;
+      bytes = bytes.now;
+      withdrawn = withdrawn;
     }) }
 {
     Ok(Kept {
@@ -260,7 +260,8 @@ impl Keep for PlainKeep {
     }
 
     fn withdraw(&mut self, n: u32) -> Result<(), KeepError> {
-        self.kept[n as usize - 1].withdrawn = true;
+        let kept = &mut self.kept[n as usize - 1];
+        kept.withdrawn = true;
         Ok(())
     }
 
