@@ -200,7 +200,7 @@ deposit_taken n d = rw (cast_int (pos n), cast_int d.embargo) refl
 pub puts_deposit : (old new : State) (n : ℕ) (d : Sent) (count : ℕ) → old.now.schema ≡ register_schema → Executes insert_deposit (given_deposit n d) old new (Ok count) → AddsDeposit n d old.now new.now
 puts_deposit old new n d count =
     puts 1 deposits.name deposits.tree deposits.columns deposits.key deposits.primary deposits.uniques deposits.orders deposits.references refl columns_5 6 insert_deposit deposit_terms deposit_is deposit_plain
-    (given_deposit n d) (λ db. refl) (seen_blind columns_5 columns_5_blind _) (given_deposit n d ∷ []) (deposit_taken n d) old new count
+    (given_deposit n d) (λ db. refl) (seen_blind columns_5 columns_5_blind (taken_as deposits 6 deposit_terms (given_deposit n d))) (given_deposit n d ∷ []) (deposit_taken n d) old new count
 
 meta_taken : (dictionary : List ℕ) → map columns_3 (taken_as meta 4 fill_terms (Bytes dictionary ∷ [])) ≡ meta_rows 2 dictionary
 meta_taken dictionary = rw (cast_int (pos 2), cast_int (pos 0)) refl
@@ -208,13 +208,16 @@ meta_taken dictionary = rw (cast_int (pos 2), cast_int (pos 0)) refl
 pub fills_meta : (old new : State) (dictionary : List ℕ) (count : ℕ) → old.now.schema ≡ register_schema → Executes fill_meta (Bytes dictionary ∷ []) old new (Ok count) → FillsMeta dictionary old.now new.now
 fills_meta old new dictionary count =
     puts 0 meta.name meta.tree meta.columns meta.key meta.primary meta.uniques meta.orders meta.references refl columns_3 4 fill_meta fill_terms fill_is fill_plain
-    (Bytes dictionary ∷ []) (λ db. refl) (seen_blind columns_3 columns_3_blind _) (meta_rows 2 dictionary) (meta_taken dictionary) old new count
+    (Bytes dictionary ∷ []) (λ db. refl) (seen_blind columns_3 columns_3_blind (taken_as meta 4 fill_terms (Bytes dictionary ∷ []))) (meta_rows 2 dictionary) (meta_taken dictionary) old new count
 
--- the number is the row's own, and stands in its column as nothing
-mark_taken : (n : ℕ) → taken_as withdrawals 2 mark_terms (mark_row n) ≡ (Int (pos n) ∷ Null ∷ []) ∷ []
+-- the number is that of the row itself
+mark_taken : (n : ℕ) → map mark_column (taken_as withdrawals 2 mark_terms (mark_row n)) ≡ mark_row n ∷ []
 mark_taken n = rw (cast_int (pos n)) refl
+
+mark_seen : (n : ℕ) → AreSeen mark_column (taken_as withdrawals 2 mark_terms (mark_row n))
+mark_seen n = rw (cast_int (pos n)) ((λ rows. refl), tt)
 
 pub puts_mark : (old new : State) (n : ℕ) (count : ℕ) → old.now.schema ≡ register_schema → Executes insert_mark (mark_row n) old new (Ok count) → AddsMark n old.now new.now
 puts_mark old new n count =
     puts 4 withdrawals.name withdrawals.tree withdrawals.columns withdrawals.key withdrawals.primary withdrawals.uniques withdrawals.orders withdrawals.references refl mark_column 2 insert_mark mark_terms mark_is mark_plain
-    (mark_row n) (λ db. refl) (subst (AreSeen mark_column) (sym (mark_taken n)) ((λ rows. refl), tt)) (mark_row n ∷ []) (ap (map mark_column) (mark_taken n)) old new count
+    (mark_row n) (λ db. refl) (mark_seen n) (mark_row n ∷ []) (mark_taken n) old new count

@@ -1,5 +1,5 @@
 -- The marks of deposits as rows: they are read back, and there may be one more.
-use Rattle.std.proofs.Common.{◌≡◌, ℕ, zero, suc, ◌+◌, ◌-◌, ◌<◌, ◌≤◌, List, [], ◌∷◌, ◌++◌, map, length, Bool, true, false, Some, slice_get, refl, sym, ap, subst, ◌∙◌, arith}
+use Rattle.std.proofs.Common.{◌≡◌, ℕ, zero, suc, ◌+◌, ◌-◌, ◌<◌, ◌≤◌, List, [], ◌∷◌, ◌++◌, map, length, Bool, true, false, Option, Some, None, slice_get, refl, sym, ap, subst, ◌∙◌, arith}
 use Rattle.std.specs.Prelude.{option_map}
 use Rattle.std.specs.List.{list_any}
 use Rattle.std.specs.List.Sorted.{IsPermutation}
@@ -29,6 +29,14 @@ sents_of trees = sents_with_marks 1 (mark_table Second trees) (sents_in trees)
 -- what was sent of a deposit stands at its place
 pub sent_at : (list : List Deposit) (k : ℕ) (d : Deposit) → slice_get list k ≡ Some d → slice_get (sents list) k ≡ Some d.sent
 sent_at list k d at = slice_get-map (λ (x : Deposit). x.sent) list k ∙ ap (option_map (λ (x : Deposit). x.sent)) at
+
+some_sent : (o : Option Deposit) (sent : Sent) → option_map (λ (x : Deposit). x.sent) o ≡ Some sent → (d : Deposit) × (o ≡ Some d) × (d.sent ≡ sent)
+some_sent None sent h = absurd cc
+some_sent (Some d) sent h = (d, refl, cc)
+
+-- what was sent at a place is that of the deposit there
+pub deposit_there : (list : List Deposit) (k : ℕ) (sent : Sent) → slice_get (sents list) k ≡ Some sent → (d : Deposit) × (slice_get list k ≡ Some d) × (d.sent ≡ sent)
+deposit_there list k sent at = some_sent (slice_get list k) sent (sym (slice_get-map (λ (x : Deposit). x.sent) list k) ∙ at)
 
 pub long_sents : (list : List Deposit) → length (sents list) ≡ length list
 long_sents list = length-map list (λ d. d.sent)
@@ -85,6 +93,38 @@ pub sents_unmarked : (list : List Sent) → sents (map unmarked list) ≡ list
 sents_unmarked [] = refl
 sents_unmarked (d ∷ list) = ap (λ more. d ∷ more) (sents_unmarked list)
 
+-- ---- what was sent, with marks that are found beside it
+
+abbrev pub paired : List Sent → List Bool → List Deposit
+paired [] marks = []
+paired (d ∷ list) [] = []
+paired (d ∷ list) (mark ∷ marks) = record { sent = d; withdrawn = mark } ∷ paired list marks
+
+pub sents_paired : (list : List Sent) (marks : List Bool) → length marks ≡ length list → sents (paired list marks) ≡ list
+sents_paired [] marks long = refl
+sents_paired (d ∷ list) [] long = absurd (omega (arith, long))
+sents_paired (d ∷ list) (mark ∷ marks) long = ap (λ more. d ∷ more) (sents_paired list marks (omega (arith, long)))
+
+pub marks_paired : (list : List Sent) (marks : List Bool) → length marks ≡ length list → marks_of (paired list marks) ≡ marks
+marks_paired [] [] long = refl
+marks_paired [] (mark ∷ marks) long = absurd (omega (arith, long))
+marks_paired (d ∷ list) [] long = absurd (omega (arith, long))
+marks_paired (d ∷ list) (mark ∷ marks) long = ap (λ more. mark ∷ more) (marks_paired list marks (omega (arith, long)))
+
+-- ---- marks leave the length
+
+pub length_marked : (n : ℕ) (list : List Deposit) → length (marked n list) ≡ length list
+length_marked n [] = refl
+length_marked zero (d ∷ list) = refl
+length_marked (suc zero) (d ∷ list) = refl
+length_marked (suc (suc n)) (d ∷ list) = ap suc (length_marked (suc n) list)
+
+pub marked_none : (n : ℕ) (list : List Deposit) → (0 < n → n ≤ length list → ⊥) → marked n list ≡ list
+marked_none n [] none = refl
+marked_none zero (d ∷ list) none = refl
+marked_none (suc zero) (d ∷ list) none = absurd (none (omega arith) (omega arith))
+marked_none (suc (suc n)) (d ∷ list) none = ap (λ more. d ∷ more) (marked_none (suc n) list (λ low high. none (omega arith) (omega (arith, high))))
+
 -- ---- a deposit more, and a mark more
 
 push_false : (n : ℕ) (marks : List Bool) → mark_rows n (marks ++ false ∷ []) ≡ mark_rows n marks
@@ -107,17 +147,16 @@ more_marks m zero (x ∷ list) d at none =
     let rest = mark_rows (m + 1) (marks_of list) in
     subst (λ b. IsPermutation (mark_rows m (b ∷ marks_of list) ++ mark_row (m + 0) ∷ []) (mark_row m ∷ rest)) (sym bare)
     (subst (λ j. IsPermutation (rest ++ mark_row j ∷ []) (mark_row m ∷ rest)) (sym e) (IsPermutation-to_front rest (mark_row m)))
-more_marks m (suc k) (x ∷ list) d at none = go x.withdrawn
+more_marks m (suc k) (x ∷ list) d at none =
+    let e : (m + 1) + k ≡ m + suc k = omega arith in
+    let rest = mark_rows (m + 1) (marks_of list) in
+    let more = mark_rows (m + 1) (marks_of (marked (suc k) list)) in
+    go x.withdrawn (subst (λ j. IsPermutation (rest ++ mark_row j ∷ []) more) e (more_marks (m + 1) k list d at none))
   where
-    e : (m + 1) + k ≡ m + suc k
-    e = omega arith
-
-    later : IsPermutation (mark_rows (m + 1) (marks_of list) ++ mark_row (m + suc k) ∷ []) (mark_rows (m + 1) (marks_of (marked (suc k) list)))
-    later = subst (λ j. IsPermutation (mark_rows (m + 1) (marks_of list) ++ mark_row j ∷ []) (mark_rows (m + 1) (marks_of (marked (suc k) list)))) e (more_marks (m + 1) k list d at none)
-
-    go : (b : Bool) → IsPermutation (mark_rows m (b ∷ marks_of list) ++ mark_row (m + suc k) ∷ []) (mark_rows m (b ∷ marks_of (marked (suc k) list)))
-    go true = IsPermutation-cons (mark_row m) _ _ later
-    go false = later
+    go : (b : Bool) → IsPermutation (mark_rows (m + 1) (marks_of list) ++ mark_row (m + suc k) ∷ []) (mark_rows (m + 1) (marks_of (marked (suc k) list)))
+        → IsPermutation (mark_rows m (b ∷ marks_of list) ++ mark_row (m + suc k) ∷ []) (mark_rows m (b ∷ marks_of (marked (suc k) list)))
+    go true later = IsPermutation-cons (mark_row m) _ _ later
+    go false later = later
 
 -- the marks of a list with one deposit marked are those of the list, and that one
 pub mark_more : (n : ℕ) (list : List Deposit) (d : Deposit) → 0 < n → slice_get list (n - 1) ≡ Some d → d.withdrawn ≡ false → IsPermutation (mark_rows 1 (marks_of list) ++ mark_row n ∷ []) (mark_rows 1 (marks_of (marked n list)))

@@ -1,5 +1,5 @@
 -- What is known of the deposits without the tables, and that it agrees with the list of deposits.
-use Rattle.std.specs.Prelude.{◌≡◌, ◌<◌, ◌≤◌, ◌+◌, ℕ, List, [], ◌∷◌, ◌++◌, length, IsSome, Some, None, slice_get, vec_len, vec_capacity}
+use Rattle.std.specs.Prelude.{◌≡◌, ◌<◌, ◌≤◌, ◌+◌, ℕ, Bool, List, [], ◌∷◌, ◌++◌, length, IsSome, Some, None, slice_get, vec_len, vec_capacity}
 use Rattle.std.specs.Option.{ForSome}
 use Rattle.ags_dict.specs.Entries.{Entries}
 use Rattle.ags_check.specs.Findings.{CheckedFile}
@@ -16,7 +16,7 @@ use Rattle.reg_tables.specs.declared.memory.Memory.{Memory}
 use Rattle.reg_tables.specs.declared.recent.RecentGraph.{RecentGraph}
 use Rattle.reg_tables.specs.declared.recent.RecentRows.{RecentRows}
 use Rattle.sqlite.specs.Effect.{Database}
-use Rattle.reg_tables.specs.Register.{IsRegister}
+use Rattle.reg_tables.specs.Register.{IsRegister, deposits_in}
 use Rattle.reg_tables.specs.Digests.{AreBelow, AreDigested, found_at, numbers_under, own_digest}
 use Rattle.reg_tables.specs.Heads.{head_of}
 
@@ -24,9 +24,15 @@ use Rattle.reg_tables.specs.Heads.{head_of}
 abbrev pub new_known : KeptHead → Known
 new_known head = record { head = head; project = None; alone = None }
 
--- the head of a deposit with its mark
-abbrev pub marked_head : Deposit → KeptHead
-marked_head d = record { firm = d.sent.firm; project = d.sent.project; embargo = d.sent.embargo; withdrawn = d.withdrawn }
+-- the head with this mark
+abbrev pub with_mark : KeptHead → Bool → KeptHead
+with_mark head mark = record { firm = head.firm; project = head.project; embargo = head.embargo; withdrawn = mark }
+
+-- of deposits of these heads and marks nothing was read
+abbrev pub marked_known : List KeptHead → List Bool → List Known
+marked_known [] marks = []
+marked_known (head ∷ heads) [] = []
+marked_known (head ∷ heads) (mark ∷ marks) = new_known (with_mark head mark) ∷ marked_known heads marks
 
 -- A deposit of the head that is known, without bytes.
 abbrev pub bare_of : Known → Sent
@@ -38,7 +44,7 @@ HasNoTarget row file = [] ≡ targets_of row file.graph.steps
 
 -- What is known of a deposit is its head with its mark, and what was read is what its file has.
 pub record IsKnown (dictionary : Entries) (d : Deposit) (one : Known) : Type 0 where
-  pub head : one.head ≡ marked_head d
+  pub head : one.head ≡ with_mark (head_of d.sent) d.withdrawn
   pub project : ForSome one.project (λ row. OfFile dictionary d.sent (HasProjectRow (Some row)))
   pub alone : ForSome one.alone (λ row. OfFile dictionary d.sent (HasNoTarget row))
 
@@ -61,9 +67,10 @@ pub record Agrees (memory : Memory) (dictionary : Entries) (list : List Deposit)
   pub graph : ForSome memory.graph (λ (held : RecentGraph).
       IsNumberOf held.number list × OfDeposit dictionary (sents list) held.number (HasGraph held.graph))
 
--- The tables are a register of this dictionary and of a list with which the memory agrees.
-abbrev pub Recalls : Database → Entries → Memory → Type 0
-Recalls db dictionary memory = ∥ ((list : List Deposit) × IsRegister db dictionary list × (length list ≡ length memory.known.items) × Agrees memory dictionary list) ∥₁
+-- The tables are a register of this dictionary and of a list that is as long as what is known, which agrees with it.
+pub record Recalls (db : Database) (dictionary : Entries) (memory : Memory) : Type 0 where
+  pub register : ∥ ((list : List Deposit) × IsRegister db dictionary list × (length list ≡ length memory.known.items)) ∥₁
+  pub agrees : Agrees memory dictionary (deposits_in db.trees)
 
 -- As many deposits are known, and what agreed with a list still does, if this is so of it and the number is one of its deposits.
 pub record Notes (old new : Memory) (n : ℕ) (IsRead : Entries → List Sent → Type 0) : Type 0 where

@@ -1,6 +1,6 @@
 //! The marks of withdrawn deposits: the rows of the table `withdrawals`.
 
-ghost use Rattle.std.specs.Prelude.{◌≡◌, ◌≢◌, ◌≤◌, List, Bool, None, Ok, length, false, IsTrue, IfOk, IfErr, IfSome, OnOk};
+ghost use Rattle.std.specs.Prelude.{◌≡◌, ◌≢◌, ◌↔◌, List, Bool, None, Some, Ok, length, slice_get, false, IsTrue, IfOk, IfErr, IfSome, OnOk};
 ghost use Rattle.sqlite.specs.State.{HasCleanDisk, Survives};
 ghost use Rattle.sqlite.specs.Held.{state};
 ghost use Rattle.reg_store.specs.Keep.{fails};
@@ -12,6 +12,7 @@ ghost use Rattle.reg_tables.specs.Inside.{ChangesInside, CommitsNothing, HasSche
 ghost use Rattle.reg_tables.specs.KeepLaws.{MarksOf};
 ghost use Rattle.reg_tables.specs.Quiet.{FindsThat, IsIdle, IsStill};
 ghost use Rattle.reg_tables.specs.Register.{mark_rows};
+ghost use Rattle.reg_tables.specs.Rows.{mark_row};
 ghost use Rattle.reg_tables.specs.Tables.{register_schema};
 
 use crate::adopting::AdoptError;
@@ -107,6 +108,16 @@ fn read_marks<S: Alter>(conn: &mut Connection<S>) -> Result<Vec<Row>, KeepError>
     query(conn, "SELECT deposit FROM withdrawals ORDER BY deposit", &[])
 }
 
+/// Whether there is a row at this place, and it is the mark of this deposit.
+fn is_mark(rows: &[Row], at: usize, number: u32) -> bool
+    ensures { IsTrue result ↔ (slice_get rows.now at ≡ Some (mark_row number)) }
+{
+    match rows.get(at) {
+        Some(row) => is_row(row, &[number.to_sql()]),
+        None => false,
+    }
+}
+
 /// Of each of so many deposits whether it is marked, if the rows, rising, are numbers of these deposits.
 fn marks_in(alloc: Global, rows: &[Row], count: u32) -> Result<Option<Vec<bool>>, AllocError>
     ensures found { IfOk result (λ found. IfSome found (λ marks. rows.now ≡ mark_rows 1 marks.items)) }
@@ -116,11 +127,12 @@ fn marks_in(alloc: Global, rows: &[Row], count: u32) -> Result<Option<Vec<bool>>
     let mut marks = Vec::with_capacity(alloc, count as usize)?;
     let mut next: usize = 0;
     for at in 0..count {
-        let is_marked = next < rows.len() && is_row(&rows[next], &[(at + 1).to_sql()]);
-        if is_marked {
+        if is_mark(rows, next, at + 1) {
+            marks.push(true)?;
             next += 1;
+        } else {
+            marks.push(false)?;
         }
-        marks.push(is_marked)?;
     }
     if next == rows.len() {
         Ok(Some(marks))

@@ -144,16 +144,11 @@ impl<S: Alter> Keep for SqlKeep<S> {
     }
 
     fn withdraw(&mut self, n: u32) -> Result<(), KeepError> {
-        match add_mark(&mut self.connection, n) {
-            Ok(()) => {
-                self.memory.mark(n);
-                Ok(())
-            }
-            Err(error) => {
-                self.has_failed = is_store_error(&error);
-                Err(error)
-            }
-        }
+        let added = add_mark(&mut self.connection, n);
+        self.has_failed = is_store(&added);
+        added?;
+        self.memory.mark(n);
+        Ok(())
     }
 
     fn deposit(&mut self, n: u32) -> Result<Kept, KeepError> {
