@@ -15,7 +15,7 @@ use Rattle.reg_tables.specs.Register.{IsRegister}
 use Rattle.reg_tables.specs.Adoption.{Adopts}
 use Rattle.reg_tables.specs.Opened.{FindsTables, FindsSchema, HoldsRegister, RefusesFiles}
 
-found_tables : {image : Image} (s : State) → Opens s → FindsIn image s → FindsTables image s.now.trees
+pub found_tables : {image : Image} (s : State) → Opens s → FindsIn image s → FindsTables image s.now.trees
 found_tables {image} s opened found =
     let same : s.committed.trees ≡ s.now.trees = ap (λ (d : Database). d.trees) (sym opened.clean) in
     record { found = subst (AreFoundIn image) same found.reads; only = λ held has. sym same ∙ found.holds held has }

@@ -223,7 +223,7 @@ impl<S: Alter> SqlKeep<S> {
         if !connection.is_autocommit() {
             return Err((AdoptError::Store, connection));
         }
-        if !is_register(connection.schema()) {
+        if !is_register(connection.schema(), Format::Second) {
             let error = refuse_tables(&mut connection, Format::Second);
             return Err((error, connection));
         }
@@ -273,7 +273,7 @@ impl SqlKeep<MemStore> {
 fn release<S: Alter + Drop>(_keep: Option<SqlKeep<S>>, _connection: Option<Connection<S>>) {}
 
 /// Lets go of a register in a file, or of its connection. That a file is a store is shown here once for both, since that is long.
-fn close_file<F: Start>(
+pub(crate) fn close_file<F: Start>(
     keep: Option<SqlKeep<FileStore<FileFrom<F>>>>,
     connection: Option<Connection<FileStore<FileFrom<F>>>>,
 ) {
@@ -327,7 +327,7 @@ impl SqlKeep<FileStore<File>> {
 }
 
 /// Opens the database at a path, where `F` stands for what its files held.
-fn connect<F: Start>(
+pub(crate) fn connect<F: Start>(
     rt: &HostRuntime,
     path: &str,
     start: F,
