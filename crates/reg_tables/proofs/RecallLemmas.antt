@@ -47,7 +47,7 @@ recalled db dictionary count heads marks digests memory some are digested below 
       (∥∥₁_elim some (Prim.hlevel props) (λ (p : HoldsSome db dictionary count). are p.0 p.1.deposits p.2 ∙ ap (map head_of) (sent_is p)))
       (∥∥₁_elim some (Prim.hlevel props) (λ (p : HoldsSome db dictionary count). sym (marks_paired p.0 marks (marks_long p)) ∙ ap marks_of (list_is p)))
       (λ k d at. ∥∥₁_elim some (Prim.hlevel props) (λ (p : HoldsSome db dictionary count).
-          subst (AreDigested digests) (sent_is p) (digested_held db digests p.0 p.1.deposits (subst (λ n. HoldsDigests db (n + 1) digests) (sym p.2) digested)) k d at))
+      subst (AreDigested digests) (sent_is p) (digested_held db digests p.0 p.1.deposits (subst (λ n. HoldsDigests db (n + 1) digests) (sym p.2) digested)) k d at))
       (subst (λ n. AreBelow digests (n + 1)) (sym (∥∥₁_elim some (Prim.hlevel props) (λ (p : HoldsSome db dictionary count). ap length (sym (list_is p)) ∙ count_is p))) below);
 }
   where

@@ -105,7 +105,11 @@ fn read_marks<S: Alter>(conn: &mut Connection<S>) -> Result<Vec<Row>, KeepError>
     ensures refused { IfErr result (λ e. e ≢ KeepError.Full) }
     ensures quiet { IsStill (state S.Store conn.old) (state S.Store conn.new) (fails result) }
 {
-    query(conn, "SELECT deposit FROM withdrawals ORDER BY deposit", &[])
+    query(
+        conn,
+        "SELECT deposit FROM withdrawals ORDER BY deposit",
+        &[],
+    )
 }
 
 /// Whether there is a row at this place, and it is the mark of this deposit.

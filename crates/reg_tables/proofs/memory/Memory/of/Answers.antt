@@ -37,7 +37,7 @@ returns-clause-long c =
 pub returns-clause-agrees : goal.returns-clause-agrees
 returns-clause-agrees c = λ dictionary list heads marks digests below.
     let all = known_all c.args.heads.now c.args.marks.now c.loop-at.known.items c.loop-at.at c.loop-at-test.false c.requires.marks c.loop-at.invariant
-        ∙ ap (λ (first : List KeptHead). marked_known first c.args.marks.now) heads ∙ ap (marked_known (map head_of (sents list))) marks in
+    ∙ ap (λ (first : List KeptHead). marked_known first c.args.marks.now) heads ∙ ap (marked_known (map head_of (sents list))) marks in
     record {
       known = subst (AreKnown dictionary list) (sym all) (known_new dictionary list);
       digests = digests;

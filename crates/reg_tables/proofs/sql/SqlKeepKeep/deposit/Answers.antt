@@ -1,6 +1,9 @@
-use Rattle.std.proofs.Common.{rules, ◌≡◌, false, Ok, refl, subst, sym, ◌∙◌}
+use Rattle.std.proofs.Common.{rules, ◌≡◌, false, IfOk, Ok, Result, refl, subst, sym, ◌∙◌}
 use Rattle.sqlite.specs.Held.{state}
-use Rattle.reg_store.specs.Keep.{fails}
+use Rattle.reg_store.specs.declared.keep.KeepError.{KeepError}
+use Rattle.reg_store.specs.declared.keep.Kept.{Kept}
+use Rattle.reg_store.specs.Keep.{fails, sent_of}
+use Rattle.reg_tables.specs.Digests.{IsRowOf}
 use Rattle.reg_tables.specs.Quiet.{IsStill, clean_before}
 use Rattle.reg_tables.specs.Register.{deposits_in}
 use Rattle.reg_tables.specs.KeepLaws.{idle_at, keeps_quiet}
@@ -39,5 +42,7 @@ returns-clause-read g c clean =
     let first = clean_before old new c.find_deposit-found.ensures.quiet.survives clean in
     let its = c.requires.number first in
     let kept = c.in_ok-kept.kept in
+    let was : c.find_deposit-found.result ≡ Ok kept = search (rules, c.in_ok-kept.was) in
+    let row = subst (λ (r : Result Kept KeepError). IfOk r (λ k. IsRowOf old.now c.args.n (sent_of k))) was (c.find_deposit-found.ensures.found clean) in
     deposit_read_at {s = old} c.args.n (Ok (record { firm = kept.firm; project = kept.project; embargo = kept.embargo; bytes = kept.bytes; withdrawn = c.is_withdrawn.result })) its.0 its.1 (keep.kept c.requires.working first)
-    (c.in_ok-kept.ensures.found clean) (λ d at. c.is_withdrawn.ensures keep.dictionary (deposits_in old.committed.trees) (keep.agrees c.requires.working first) its.0 d at)
+    row (λ d at. c.is_withdrawn.ensures keep.dictionary (deposits_in old.committed.trees) (keep.agrees c.requires.working first) its.0 d at)

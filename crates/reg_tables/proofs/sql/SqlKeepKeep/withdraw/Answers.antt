@@ -1,16 +1,17 @@
 use Rattle.std.proofs.Common.{◌≡◌, List, false, length, refl, sym, ap, subst, ◌∙◌}
-use Rattle.sqlite.specs.Effect.{Database, IsDatabase}
+use Rattle.sqlite.specs.Effect.{Database}
 use Rattle.sqlite.specs.State.{HasCleanDisk}
 use Rattle.sqlite.specs.Held.{state}
 use Rattle.reg_store.specs.Deposit.{Deposit, marked}
 use Rattle.reg_store.specs.Keep.{is_store}
 use Rattle.reg_tables.specs.Inserts.{AddsMark}
-use Rattle.reg_tables.specs.KeepLaws.{HoldsNext, Turns, counted_at, crash_at, idle_at, keeps_same, mark_turns, next_at, schema_at, settled_of, whole_next}
+use Rattle.reg_tables.specs.KeepLaws.{HoldsNext, Turns, counted_at, crash_at, keeps_same, mark_turns, next_at, schema_at, settled_of, whole_next}
 use Rattle.reg_tables.specs.Marks.{length_marked}
 use Rattle.reg_tables.specs.Memory.{Agrees}
 use Rattle.reg_tables.specs.Quiet.{clean_before}
 use Rattle.reg_tables.specs.Register.{KeepsRegister, deposits_in}
 use Rattle.reg_tables.proofs.sql.SqlKeepKeep.withdraw.Given.{Over}
+use Rattle.reg_tables.proofs.sql.SqlKeepKeep.withdraw.Goals.{After-mark}
 use Rattle.reg_tables.proofs.sql.SqlKeepKeep.withdraw.Goals as goal
 
 pub add_mark-requires : goal.add_mark-requires
@@ -41,10 +42,10 @@ invariant_of-self-in-Err-clause-agrees g c works clean =
 
 -- ---- where the mark was set
 
-abbrev held : (g : Over) → goal.After-mark g → List Deposit
+abbrev held : (g : Over) → After-mark g → List Deposit
 held g c = deposits_in (state g.S.Store c.args.self.now.connection).committed.trees
 
-turns : (g : Over) (c : goal.After-mark g) → HasCleanDisk (state g.S.Store c.add_mark.new.conn)
+turns : (g : Over) (c : After-mark g) → HasCleanDisk (state g.S.Store c.add_mark.new.conn)
     → Turns (state g.S.Store c.args.self.now.connection) c.args.self.now.dictionary (length c.args.self.now.memory.known.items) (AddsMark c.args.n) (marked c.args.n (held g c))
 turns g c clean =
     let old = state g.S.Store c.args.self.now.connection in
@@ -53,7 +54,7 @@ turns g c clean =
     mark_turns {old = old} c.args.n number.0 number.1 (c.requires.unmarked first)
 
 -- the keep that held the list holds it with the mark
-more : (g : Over) (c : goal.After-mark g) → HasCleanDisk (state g.S.Store c.add_mark.new.conn)
+more : (g : Over) (c : After-mark g) → HasCleanDisk (state g.S.Store c.add_mark.new.conn)
     → HoldsNext (state g.S.Store c.add_mark.new.conn) c.args.self.now.dictionary (length (marked c.args.n (held g c))) (marked c.args.n (held g c))
 more g c clean =
     let keep = c.args.self.now in
@@ -63,16 +64,16 @@ more g c clean =
     let put = c.in-Ok.ensures.put clean in
     next_at {old = old} {new = new} (AddsMark c.args.n) (marked c.args.n (held g c)) (keep.kept c.requires.working first) (turns g c clean) put put.sound (c.in-Ok.ensures.settled clean) (c.in-Ok.ensures.open clean refl)
 
-pub invariant_of-self-in-Ok-clause-kept : goal.invariant_of-self-in-Ok-clause-kept
-invariant_of-self-in-Ok-clause-kept g c works clean =
+pub invariant_of-self-clause-kept : goal.invariant_of-self-clause-kept
+invariant_of-self-clause-kept g c works clean =
     let keep = c.args.self.now in
     let old = state g.S.Store keep.connection in
     let first = clean_before old (state g.S.Store c.add_mark.new.conn) c.add_mark.ensures.crash clean in
     let long = length_marked c.args.n (held g c) ∙ sym (counted_at {s = old} (keep.kept c.requires.working first)) ∙ sym c.mark.ensures.same in
     subst (λ n. ∥ KeepsRegister (state g.S.Store c.add_mark.new.conn) keep.dictionary n ∥₁) long (more g c clean).kept
 
-pub invariant_of-self-in-Ok-clause-agrees : goal.invariant_of-self-in-Ok-clause-agrees
-invariant_of-self-in-Ok-clause-agrees g c works clean =
+pub invariant_of-self-clause-agrees : goal.invariant_of-self-clause-agrees
+invariant_of-self-clause-agrees g c works clean =
     let keep = c.args.self.now in
     let old = state g.S.Store keep.connection in
     let first = clean_before old (state g.S.Store c.add_mark.new.conn) c.add_mark.ensures.crash clean in
