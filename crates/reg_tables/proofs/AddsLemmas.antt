@@ -139,6 +139,7 @@ file_then n d rows graph a b c e one two three =
         deposits = subst (λ (new : List Row). IsMore (map columns_5 (a.now.trees 2)) (given_deposit n d ∷ []) (map columns_5 new)) (sym deposits) one.change.rows;
         lines = subst₂ (λ (old new : List Row). IsMore (map columns_5 old) (line_rows n 0 rows) (map columns_5 new)) first (sym last) two.change.rows;
         steps = subst (λ (old : List Row). IsMore (map columns_3 old) (step_rows n graph) (map columns_3 (e.now.trees 6))) before three.change.rows;
+        marks = three.change.others.1.1.1.1.0 (apart 8 6 refl) ∙ two.change.others.1.1.1.1.0 (apart 8 4 refl) ∙ one.change.others.1.1.1.1.0 (apart 8 2 refl);
       };
       goes_on = three.goes_on;
       is_open = three.is_open;

@@ -5,15 +5,15 @@ use Rattle.sqlite.specs.Effect.{Database}
 use Rattle.ags_dict.specs.Entries.{Entries}
 use Rattle.ags_dict.specs.Reading.{IsDictionary}
 use Rattle.reg_tables.specs.Register.{deposits_in, IsRegister, KeepsRegister}
-use Rattle.reg_tables.specs.RegisterLaws.{read_back}
+use Rattle.reg_tables.specs.Turns.{read_back}
 use Rattle.sqlite.specs.Tree.{Trees}
 use Rattle.sqlite.specs.State.{State, HasCleanDisk, Survives}
 use Rattle.reg_tables.specs.Quiet.{IsAsBefore}
-use Rattle.reg_tables.specs.Tables.{no_schema}
-use Rattle.reg_tables.specs.Texts.{create_meta, create_deposits, create_lines, create_steps, fill_meta}
+use Rattle.reg_tables.specs.Tables.{first_schema, no_schema}
+use Rattle.reg_tables.specs.Texts.{create_meta, create_deposits, create_lines, create_steps, create_withdrawals, fill_meta}
 use Rattle.reg_tables.specs.Inserts.{fills_meta}
 use Rattle.reg_tables.specs.Inside.{Inside, Ran}
-use Rattle.reg_tables.specs.Creates.{HasFirst, HasAll, IsEmptyRegister, IsNewRegister, makes_meta, makes_deposits, makes_lines, makes_steps, first_two, last_two, filled}
+use Rattle.reg_tables.specs.Creates.{HasFirst, HasFour, IsEmptyRegister, IsNewRegister, MakesWithdrawals, makes_meta, makes_deposits, makes_lines, makes_steps, makes_withdrawals, all_five, first_two, last_two, filled}
 use Rattle.reg_tables.proofs.ExamineLemmas.{one_dictionary}
 
 pub first_ran : (a b c : State) → a.now.schema ≡ no_schema → Ran create_meta [] a b → Ran create_deposits [] b c → Inside (λ _ db. HasFirst db) a c
@@ -21,26 +21,31 @@ first_ran a b c has one two =
     let made = makes_meta a b one.count has one.ran in
     record { change = first_two a.now b.now c.now made (makes_deposits b c two.count made.schema two.ran); goes_on = two.goes_on; is_open = two.is_open; committed = two.committed ∙ one.committed }
 
-pub second_ran : (a b c : State) → HasFirst a.now → Ran create_lines [] a b → Ran create_steps [] b c → Inside (λ _ db. HasAll db) a c
+pub second_ran : (a b c : State) → HasFirst a.now → Ran create_lines [] a b → Ran create_steps [] b c → Inside (λ _ db. HasFour db) a c
 second_ran a b c has one two =
     let made = makes_lines a b one.count has.schema one.ran in
     record { change = last_two a.now b.now c.now has made (makes_steps b c two.count made.schema two.ran); goes_on = two.goes_on; is_open = two.is_open; committed = two.committed ∙ one.committed }
 
-pub all_ran : (text : List ℕ) (a b c e : State) → Inside (λ _ db. HasFirst db) a b → Inside (λ _ db. HasAll db) b c → Ran fill_meta (Bytes text ∷ []) c e → Inside (λ _ db. IsNewRegister text db) a e
-all_ran text a b c e one two three = record {
-  change = filled text c.now e.now two.change (fills_meta c e text three.count two.change.schema three.ran);
-  goes_on = three.goes_on;
-  is_open = three.is_open;
-  committed = three.committed ∙ two.committed ∙ one.committed;
-}
+pub third_ran : (a b : State) → a.now.schema ≡ first_schema → Ran create_withdrawals [] a b → Inside MakesWithdrawals a b
+third_ran a b has one = record { change = makes_withdrawals a b one.count has one.ran; goes_on = one.goes_on; is_open = one.is_open; committed = one.committed }
+
+pub all_ran : (text : List ℕ) (a b c e f : State) → Inside (λ _ db. HasFirst db) a b → Inside (λ _ db. HasFour db) b c → Inside MakesWithdrawals c e → Ran fill_meta (Bytes text ∷ []) e f → Inside (λ _ db. IsNewRegister text db) a f
+all_ran text a b c e f one two three four =
+    let five = all_five c.now e.now two.change three.change in
+    record {
+      change = filled text e.now f.now five (fills_meta e f text four.count five.schema four.ran);
+      goes_on = four.goes_on;
+      is_open = four.is_open;
+      committed = four.committed ∙ three.committed ∙ two.committed ∙ one.committed;
+    }
 
 pub new_list : (text : List ℕ) (s : State) → IsEmptyRegister text s.now → s.committed ≡ s.now → deposits_in s.committed.trees ≡ []
-new_list text s it settled = ap (λ (db : Database). deposits_in db.trees) settled ∙ read_back s.now.trees [] it.register.deposits
+new_list text s it settled = ap (λ (db : Database). deposits_in db.trees) settled ∙ read_back s.now [] it.register
 
 pub new_keeps : (text : List ℕ) (dictionary : Entries) (s : State) → IsEmptyRegister text s.now → IsTrue s.is_open → s.committed ≡ s.now → IsDictionary text dictionary → ∥ KeepsRegister s dictionary 0 ∥₁
 new_keeps text dictionary s it is_open settled reads =
     let none = new_list text s it settled in
-    let same : it.dictionary ≡ dictionary = one_dictionary text it.dictionary dictionary (subst (λ (t : List ℕ). IsDictionary t it.dictionary) it.bytes it.register.reads) reads in
+    let same : it.dictionary ≡ dictionary = one_dictionary text it.dictionary dictionary (subst (λ (t : List ℕ). IsDictionary t it.dictionary) it.bytes it.register.holds.reads) reads in
     let register = subst (λ (d : Entries). IsRegister s.now d []) same it.register in
     let kept : KeepsRegister s dictionary 0 = record {
       is_open = is_open;

@@ -27,9 +27,12 @@ use Rattle.reg_tables.specs.declared.repeats.Digests.{Digests}
 use Rattle.reg_store.specs.declared.keep.KeptRow.{KeptRow}
 use Rattle.reg_store.specs.Sent.{Sent, is_repeat}
 use Rattle.reg_store.specs.Fit.{IsFileOf, IsNamed, kept_rows}
-use Rattle.reg_tables.specs.Rows.{columns_3, deposit_table, given_deposit}
-use Rattle.reg_tables.specs.Tables.{HasTables, register_schema}
-use Rattle.reg_tables.specs.Register.{deposit_rows, has_number, meta_columns, integer_in, IsRegister}
+use Rattle.reg_tables.specs.Rows.{columns_3, deposit_table, dictionary_row, format_row, given_deposit}
+use Rattle.reg_store.specs.Deposit.{sents}
+use Rattle.reg_tables.specs.declared.format.Format.{Format}
+use Rattle.reg_tables.specs.Found.{AreMetaByName}
+use Rattle.reg_tables.specs.Tables.{HasTables, number_of, schema_of}
+use Rattle.reg_tables.specs.Register.{HoldsSent, deposit_rows, has_number, integer_in, meta_columns}
 use Rattle.reg_tables.specs.RegisterLaws.{rows-length}
 use Rattle.reg_tables.specs.Digests.{AreBelow, HasEqual, HasNoEqual, HoldsDigests, IsFirst, IsNew, is_among, numbers_under, own_digest}
 use Rattle.reg_tables.specs.Heads.{IsDigestedAt, head_of}
@@ -38,7 +41,7 @@ use Rattle.reg_tables.proofs.RepeatsLemmas.{false_if, same_digest}
 use Rattle.reg_tables.specs.declared.adopting.AdoptError.{AdoptError}
 use Rattle.reg_tables.specs.declared.adopting.AdoptError.TheVariants.{NotRegister, Version, Store, NoMemory}
 use Rattle.reg_tables.specs.Formats.{HasFormat, IsFormatRow}
-use Rattle.reg_tables.specs.Adoption.{Adopts, CountsDeposits, MetaOf, ReadsMeta}
+use Rattle.reg_tables.specs.Adoption.{Adopts, CountsDeposits, Examines, HasNoOtherFormat, MetaOf, ReadsMeta}
 use Rattle.reg_tables.proofs.RowsLemmas.{numbers_long}
 use Rattle.reg_tables.specs.Adopts.{id_of, number_rows}
 use Rattle.reg_tables.specs.Whole.{AreWhole, Counts, HasMeta, HoldsBody, IsWhole, Tests, adopts_whole, of_all, whole_at}
@@ -196,89 +199,101 @@ one_dictionary text a b x y = x.4 ∙ ap entries_of_file (same_contents text x.0
 abbrev text_of : List Row → List ℕ
 text_of rows = bytes (column (get_or rows 0 []) 2)
 
-one_text : (rows : List Row) (text other : List ℕ) → rows ≡ meta_columns text → rows ≡ meta_columns other → other ≡ text
-one_text rows text other a b = ap text_of (sym b ∙ a)
+one_text : (number : ℕ) (rows : List Row) (text other : List ℕ) → rows ≡ meta_columns number text → rows ≡ meta_columns number other → other ≡ text
+one_text number rows text other a b = ap text_of (sym b ∙ a)
 
-pub meta_reads : (r : Result Entries AdoptError) (rows : List Row) (text : List ℕ) → rows ≡ meta_columns text → ((n : ℤ) (row : Row) → Contains rows row → IsFormatRow n row → n ≡ pos 1)
+pub meta_reads : (number : ℕ) (r : Result Entries AdoptError) (rows : List Row) (text : List ℕ) → rows ≡ meta_columns number text → ((n : ℤ) (row : Row) → Contains rows row → IsFormatRow n row → n ≡ pos number)
     → IfOk r (λ dictionary. (length text ≤ READABLE) × IsDictionary text dictionary) → (r ≡ Err NotRegister → (dictionary : Entries) → length text ≤ READABLE → IsDictionary text dictionary → ⊥)
-    → IfErr r (λ e. (e ≡ NotRegister) ⊎ (e ≡ NoMemory)) → ReadsMeta rows r
-meta_reads (Ok dictionary) rows text same formats read refused named = (text, same, read.0, read.1)
-meta_reads (Err NotRegister) rows text same formats read refused named = (
+    → IfErr r (λ e. (e ≡ NotRegister) ⊎ (e ≡ NoMemory)) → ReadsMeta number rows r
+meta_reads number (Ok dictionary) rows text same formats read refused named = (text, same, read.0, read.1)
+meta_reads number (Err NotRegister) rows text same formats read refused named = (
   λ n has. formats n has.0 has.1 has.2,
   λ dictionary reads.
-      (let one = one_text rows text reads.0 same reads.1 in
+      (let one = one_text number rows text reads.0 same reads.1 in
       refused refl dictionary (subst (λ (t : List ℕ). length t ≤ READABLE) one reads.2) (subst (λ (t : List ℕ). IsDictionary t dictionary) one reads.3)),
 )
-meta_reads (Err (Version n)) rows text same formats read refused (inl e) = absurd cc
-meta_reads (Err (Version n)) rows text same formats read refused (inr e) = absurd cc
-meta_reads (Err Store) rows text same formats read refused (inl e) = absurd cc
-meta_reads (Err Store) rows text same formats read refused (inr e) = absurd cc
-meta_reads (Err NoMemory) rows text same formats read refused named = tt
+meta_reads number (Err (Version n)) rows text same formats read refused (inl e) = absurd cc
+meta_reads number (Err (Version n)) rows text same formats read refused (inr e) = absurd cc
+meta_reads number (Err Store) rows text same formats read refused (inl e) = absurd cc
+meta_reads number (Err Store) rows text same formats read refused (inr e) = absurd cc
+meta_reads number (Err NoMemory) rows text same formats read refused named = tt
 
-pub meta_of : (r : Result Entries AdoptError) (db : Database) (rows : List Row) → HasTables db.schema → IsPermutation rows (map columns_3 (db.trees 0)) → ((text : List ℕ) → IsPermutation (meta_columns text) (map columns_3 (db.trees 0)) → rows ≡ meta_columns text)
-    → ReadsMeta rows r → MetaOf db r
-meta_of (Ok dictionary) db rows schema all found reads = record { text = reads.0; short = reads.2; reads = reads.3; meta = subst (λ rs. IsPermutation rs (map columns_3 (db.trees 0))) reads.1 all }
-meta_of (Err (Version n)) db rows schema all found reads = (reads.0, (tables_first db.schema schema, (reads.1.0, Contains-permutation _ _ _ all reads.1.1, reads.1.2)))
-meta_of (Err NotRegister) db rows schema all found reads =
-    (λ n has. reads.0 n (has.1.0, Contains-permutation _ _ _ (IsPermutation-sym _ _ all) has.1.1, has.1.2), λ dictionary meta. reads.1 dictionary (meta.text, found meta.text meta.meta, meta.short, meta.reads))
-meta_of (Err Store) db rows schema all found reads = tt
-meta_of (Err NoMemory) db rows schema all found reads = tt
+pub meta_of : (number : ℕ) (r : Result Entries AdoptError) (db : Database) (rows : List Row) → HasTables db.schema → IsPermutation rows (map columns_3 (db.trees 0)) → AreMetaByName db rows
+    → ReadsMeta number rows r → MetaOf number db r
+meta_of number (Ok dictionary) db rows schema all found reads = record { text = reads.0; short = reads.2; reads = reads.3; meta = subst (λ rs. IsPermutation rs (map columns_3 (db.trees 0))) reads.1 all }
+meta_of number (Err (Version n)) db rows schema all found reads = (reads.0, (tables_first db.schema schema, (reads.1.0, Contains-permutation _ _ _ all reads.1.1, reads.1.2)))
+meta_of number (Err NotRegister) db rows schema all found reads =
+    (λ n has. reads.0 n (has.1.0, Contains-permutation _ _ _ (IsPermutation-sym _ _ all) has.1.1, has.1.2), λ dictionary meta. reads.1 dictionary (meta.text, found number meta.text meta.meta, meta.short, meta.reads))
+meta_of number (Err Store) db rows schema all found reads = tt
+meta_of number (Err NoMemory) db rows schema all found reads = tt
 
-pub register_meta : (db : Database) (dictionary : Entries) (list : List Sent) → IsRegister db dictionary list → HasMeta db dictionary
-register_meta db dictionary list r = record { text = r.text; short = r.short; reads = r.reads; meta = r.meta }
+pub register_meta : (format : Format) (db : Database) (dictionary : Entries) (list : List Sent) → HoldsSent format db dictionary list → HasMeta (number_of format) db dictionary
+register_meta format db dictionary list r = record { text = r.text; short = r.short; reads = r.reads; meta = r.meta }
 
 -- ---- a register is found
 
-pub finds_whole : (db : Database) (dictionary : Entries) (count : ℕ) → db.schema ≡ register_schema → IsDatabase db → HasMeta db dictionary → Counts db (Some count) → ∥ AreWhole db dictionary count ∥₁ → CountsDeposits db dictionary (Some count)
-finds_whole db dictionary count schema sound meta counts all = ∥∥₁_map all (λ whole. adopts_whole db dictionary count schema sound meta counts whole)
+pub finds_whole : (format : Format) (db : Database) (dictionary : Entries) (count : ℕ) → db.schema ≡ schema_of format → IsDatabase db → HasMeta (number_of format) db dictionary → Counts db (Some count) → ∥ AreWhole db dictionary count ∥₁
+    → CountsDeposits format db dictionary (Some count)
+finds_whole format db dictionary count schema sound meta counts all = ∥∥₁_map all (λ whole. adopts_whole format db dictionary count schema sound meta counts whole)
 
-pub finds_none : (db : Database) (dictionary : Entries) (count : ℕ) → Counts db (Some count) → (AreWhole db dictionary count → ⊥) → CountsDeposits db dictionary None
-finds_none db dictionary count counts none list r =
+pub finds_none : (format : Format) (db : Database) (dictionary : Entries) (count : ℕ) → Counts db (Some count) → (AreWhole db dictionary count → ⊥) → CountsDeposits format db dictionary None
+finds_none format db dictionary count counts none list r =
     let ids = IsPermutation-map id_of _ _ r.deposits in
     let rows = length_permutation _ _ counts.1 ∙ numbers_long 1 count in
     let listed = length_permutation _ _ ids ∙ length-map (deposit_rows 1 list) id_of ∙ rows-length 1 list in
     let same : length list ≡ count = sym listed ∙ rows in
-    none (subst (AreWhole db dictionary) same (whole_at db dictionary list r))
+    none (subst (AreWhole db dictionary) same (whole_at {format = format} db dictionary list r))
 
-pub meta_adopts : (r : Result Entries AdoptError) (db : Database) (e : AdoptError) → r ≡ Err e → MetaOf db r → Adopts db (Err e)
-meta_adopts (Ok dictionary) db e same meta = absurd cc
-meta_adopts (Err x) db e same meta = go e (subst (λ (y : AdoptError). MetaOf db (Err y)) is meta)
+pub meta_examines : (format : Format) (r : Result Entries AdoptError) (db : Database) (e : AdoptError) → r ≡ Err e → MetaOf (number_of format) db r → Examines format db (Err e)
+meta_examines format (Ok dictionary) db e same meta = absurd cc
+meta_examines format (Err x) db e same meta = go e (subst (λ (y : AdoptError). MetaOf (number_of format) db (Err y)) is meta)
   where
     is : x ≡ e
     is = cc
 
-    go : (y : AdoptError) → MetaOf db (Err y) → Adopts db (Err y)
+    go : (y : AdoptError) → MetaOf (number_of format) db (Err y) → Examines format db (Err y)
     go (Version n) m = m
-    go NotRegister m = (m.0, λ dictionary list r. m.1 dictionary (register_meta db dictionary list r))
+    go NotRegister m = (m.0, λ dictionary list r. m.1 dictionary (register_meta format db dictionary list r))
     go Store m = tt
     go NoMemory m = tt
 
 -- a row of meta is one of the two
-two_rows : (text : List ℕ) (row : Row) → Contains (meta_columns text) row → (row ≡ Words (codes "dictionary") ∷ Int (pos 0) ∷ Bytes text ∷ []) ⊎ (row ≡ Words (codes "format") ∷ Int (pos 1) ∷ Bytes [] ∷ [])
-two_rows text row (zero, low, is) = inl (sym is)
-two_rows text row (suc zero, low, is) = inr (sym is)
-two_rows text row (suc (suc k), low, is) = absurd (omega (arith, low))
+two_rows : (number : ℕ) (text : List ℕ) (row : Row) → Contains (meta_columns number text) row → (row ≡ dictionary_row text) ⊎ (row ≡ format_row number)
+two_rows number text row (zero, low, is) = inl (sym is)
+two_rows number text row (suc zero, low, is) = inr (sym is)
+two_rows number text row (suc (suc k), low, is) = absurd (omega (arith, low))
 
-one_number : (text : List ℕ) (n : ℤ) (row : Row) → (row ≡ Words (codes "dictionary") ∷ Int (pos 0) ∷ Bytes text ∷ []) ⊎ (row ≡ Words (codes "format") ∷ Int (pos 1) ∷ Bytes [] ∷ []) → IsFormatRow n row → n ≡ pos 1
-one_number text n row (inl e) is = absurd (let names : codes "format" ≡ codes "dictionary" = ap (λ (r : Row). bytes (column r 0)) (sym is.1 ∙ e) in cc)
-one_number text n row (inr e) is = ap (λ (r : Row). integer_in (column r 1)) (sym is.1 ∙ e)
+one_number : (number : ℕ) (text : List ℕ) (n : ℤ) (row : Row) → (row ≡ dictionary_row text) ⊎ (row ≡ format_row number) → IsFormatRow n row → n ≡ pos number
+one_number number text n row (inl e) is = absurd (let names : codes "format" ≡ codes "dictionary" = ap (λ (r : Row). bytes (column r 0)) (sym is.1 ∙ e) in cc)
+one_number number text n row (inr e) is = ap (λ (r : Row). integer_in (column r 1)) (sym is.1 ∙ e)
 
-pub one_format_in : (db : Database) (dictionary : Entries) → HasMeta db dictionary → (n : ℤ) → HasFormat db n → n ≡ pos 1
-one_format_in db dictionary meta n has = one_number meta.text n has.1.0 (two_rows meta.text has.1.0 (Contains-permutation _ _ _ (IsPermutation-sym _ _ meta.meta) has.1.1)) has.1.2
+pub one_format_in : (number : ℕ) (db : Database) (dictionary : Entries) → HasMeta number db dictionary → HasNoOtherFormat number db
+one_format_in number db dictionary meta n has = one_number number meta.text n has.1.0 (two_rows number meta.text has.1.0 (Contains-permutation _ _ _ (IsPermutation-sym _ _ meta.meta) has.1.1)) has.1.2
 
-first_row : (text : List ℕ) → Contains (meta_columns text) (Words (codes "dictionary") ∷ Int (pos 0) ∷ Bytes text ∷ [])
-first_row text = (0, omega arith, refl)
+first_row : (number : ℕ) (text : List ℕ) → Contains (meta_columns number text) (dictionary_row text)
+first_row number text = (0, omega arith, refl)
 
-its_text : (text other : List ℕ) → (◌≡◌ {A = Row} (Words (codes "dictionary") ∷ Int (pos 0) ∷ Bytes text ∷ []) (Words (codes "dictionary") ∷ Int (pos 0) ∷ Bytes other ∷ [])) ⊎ (◌≡◌ {A = Row} (Words (codes "dictionary") ∷ Int (pos 0) ∷ Bytes text ∷ []) (Words (codes "format") ∷ Int (pos 1) ∷ Bytes [] ∷ [])) → text ≡ other
-its_text text other (inl e) = ap (λ (r : Row). bytes (column r 2)) e
-its_text text other (inr e) = absurd (let names : codes "dictionary" ≡ codes "format" = ap (λ (r : Row). bytes (column r 0)) e in cc)
+its_text : (number : ℕ) (text other : List ℕ) → (dictionary_row text ≡ dictionary_row other) ⊎ (dictionary_row text ≡ format_row number) → text ≡ other
+its_text number text other (inl e) = ap (λ (r : Row). bytes (column r 2)) e
+its_text number text other (inr e) = absurd (let names : codes "dictionary" ≡ codes "format" = ap (λ (r : Row). bytes (column r 0)) e in cc)
 
-pub one_meta : (db : Database) (a b : Entries) → HasMeta db a → HasMeta db b → a ≡ b
-one_meta db a b x y =
-    let there = Contains-permutation _ _ _ (IsPermutation-sym _ _ y.meta) (Contains-permutation _ _ _ x.meta (first_row x.text)) in
-    let text : x.text ≡ y.text = its_text x.text y.text (two_rows y.text _ there) in
+pub one_meta : (number : ℕ) (db : Database) (a b : Entries) → HasMeta number db a → HasMeta number db b → a ≡ b
+one_meta number db a b x y =
+    let there = Contains-permutation _ _ _ (IsPermutation-sym _ _ y.meta) (Contains-permutation _ _ _ x.meta (first_row number x.text)) in
+    let text : x.text ≡ y.text = its_text number x.text y.text (two_rows number y.text _ there) in
     one_dictionary y.text a b (subst (λ (t : List ℕ). IsDictionary t a) text x.reads) y.reads
 
-pub none_adopts : (db : Database) (dictionary : Entries) → HasMeta db dictionary → CountsDeposits db dictionary None → Adopts db (Err NotRegister)
-none_adopts db dictionary meta none =
-    (one_format_in db dictionary meta, λ other list r. none list (subst (λ (d : Entries). IsRegister db d list) (one_meta db other dictionary (register_meta db other list r) meta) r))
+pub none_examines : (format : Format) (db : Database) (dictionary : Entries) → HasMeta (number_of format) db dictionary → CountsDeposits format db dictionary None → Examines format db (Err NotRegister)
+none_examines format db dictionary meta none = (
+  one_format_in (number_of format) db dictionary meta,
+  λ other list r. none list (subst (λ (d : Entries). HoldsSent format db d list) (one_meta (number_of format) db other dictionary (register_meta format db other list r) meta) r),
+)
+
+-- ---- what was sent, and the marks
+
+-- where no such thing was sent, the tables are no register
+pub refused_sent : (format : Format) (db : Database) (e : AdoptError) → Examines format db (Err e) → Adopts format db (Err e)
+refused_sent format db (Version n) h = h
+refused_sent format db NotRegister h = (h.0, λ dictionary list r. h.1 dictionary (sents list) r.holds)
+refused_sent format db Store h = tt
+refused_sent format db NoMemory h = tt

@@ -15,30 +15,20 @@ use Rattle.sqlite_tied.specs.Compute.{everything}
 use Rattle.sqlite.specs.Listing.{understood, reads_listing}
 use Rattle.sqlite.proofs.StateLemmas.{survives_weaker}
 use Rattle.sqlite.proofs.Callers.{IsPlain, command_of, never_commits, reads_as}
-use Rattle.reg_tables.specs.Tables.{HasTables, register_schema, register_tables}
+use Rattle.reg_tables.specs.declared.format.Format.{Format}
+use Rattle.reg_tables.specs.Tables.{HasTables, format_tables, number_of, schema_of}
 use Rattle.reg_tables.specs.Tables as tables
 use Rattle.reg_tables.specs.Texts.{select_meta}
 use Rattle.reg_tables.specs.Meaning.{all_meta, plainly}
 use Rattle.reg_tables.specs.Answers.{answered, passes, shown_of}
 use Rattle.reg_tables.specs.Rows.{columns_3}
-use Rattle.reg_tables.specs.Formats.{IsFormatRow, StartsWithMeta, starts_with_meta}
+use Rattle.reg_tables.specs.Formats.{IsFormatRow, StartsWithMeta}
 use Rattle.reg_tables.specs.Quiet.{IsAsBefore}
 use Rattle.reg_tables.specs.declared.adopting.AdoptError.TheVariants.{NotRegister, Version}
 use Rattle.reg_tables.specs.Adoption.{Adopts}
-use Rattle.reg_tables.proofs.SchemaLemmas.{meta}
 use Rattle.reg_tables.proofs.QueryLemmas.{fails_keeps, shown_same}
 
 -- ---- the first table
-
-pub meta_first : (schema : Schema) → starts_with_meta schema.tables ≡ true → StartsWithMeta schema
-meta_first schema h = go schema.tables refl h
-  where
-    go : (all : List Table) → schema.tables ≡ all → starts_with_meta all ≡ true → StartsWithMeta schema
-    go [] is h = absurd cc
-    go (t ∷ more) is h = (more, is ∙ ap (λ (first : Table). first ∷ more) (meta t h))
-
-pub not_meta : (schema : Schema) → starts_with_meta schema.tables ≡ false → StartsWithMeta schema → ⊥
-not_meta schema h first = absurd (let clash : true ≡ false = sym (ap starts_with_meta first.1) ∙ h in cc)
 
 pub tables_first : (schema : Schema) → HasTables schema → StartsWithMeta schema
 tables_first schema has = (tables.deposits ∷ tables.lines ∷ tables.steps ∷ has.0, has.1)
@@ -96,11 +86,13 @@ module _ (old new : State) (first : StartsWithMeta old.now.schema) where
 
 -- ---- the refusals
 
-pub refused_unstarted : (db : Database) → starts_with_meta db.schema.tables ≡ false → Adopts db (Err NotRegister)
-refused_unstarted db h = (λ n has. absurd (not_meta db.schema h has.0), λ dictionary list r. absurd (not_meta db.schema h (tables_first db.schema (register_tables db.schema r.schema))))
+pub refused_unstarted : (format : Format) (db : Database) → (StartsWithMeta db.schema → ⊥) → Adopts format db (Err NotRegister)
+refused_unstarted format db none = (λ n has. absurd (none has.0), λ dictionary list r. absurd (none (tables_first db.schema (format_tables format db.schema r.holds.schema))))
 
-pub refused_format : (db : Database) (rows : List Row) (n : ℤ) → StartsWithMeta db.schema → IsPermutation rows (map columns_3 (db.trees 0)) → (n ≢ pos 1) × ((row : Row) × Contains rows row × IsFormatRow n row) → Adopts db (Err (Version n))
-refused_format db rows n first all found = (found.0, (first, (found.1.0, Contains-permutation _ _ _ all found.1.1, found.1.2)))
+pub refused_format : (format : Format) (db : Database) (rows : List Row) (n : ℤ) → StartsWithMeta db.schema → IsPermutation rows (map columns_3 (db.trees 0)) → (n ≢ pos (number_of format)) × ((row : Row) × Contains rows row × IsFormatRow n row)
+    → Adopts format db (Err (Version n))
+refused_format format db rows n first all found = (found.0, (first, (found.1.0, Contains-permutation _ _ _ all found.1.1, found.1.2)))
 
-pub refused_tables : (db : Database) (rows : List Row) → db.schema ≢ register_schema → IsPermutation rows (map columns_3 (db.trees 0)) → ((n : ℤ) (row : Row) → Contains rows row → IsFormatRow n row → n ≡ pos 1) → Adopts db (Err NotRegister)
-refused_tables db rows other all none = (λ n has. none n has.1.0 (Contains-permutation _ _ _ (IsPermutation-sym _ _ all) has.1.1) has.1.2, λ dictionary list r. absurd (other r.schema))
+pub refused_tables : (format : Format) (db : Database) (rows : List Row) → db.schema ≢ schema_of format → IsPermutation rows (map columns_3 (db.trees 0)) → ((n : ℤ) (row : Row) → Contains rows row → IsFormatRow n row → n ≡ pos (number_of format))
+    → Adopts format db (Err NotRegister)
+refused_tables format db rows other all none = (λ n has. none n has.1.0 (Contains-permutation _ _ _ (IsPermutation-sym _ _ all) has.1.1) has.1.2, λ dictionary list r. absurd (other r.holds.schema))

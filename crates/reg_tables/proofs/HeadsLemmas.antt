@@ -49,10 +49,3 @@ heads_read db heads head k list are is there low =
     let n : suc k ≡ k + 1 = omega arith in
     let more : take (k + 1) list ≡ take k list ++ found.0 ∷ [] = subst (λ m. take m list ≡ take k list ++ found.0 ∷ []) n (taken list k found.0 found.1) in
     ap (λ h. heads ++ h ∷ []) its ∙ heads_push heads (take k list) (take (k + 1) list) found.0 are more
-
--- a register that was found has the heads that were read
-pub heads_found : (s : State) (dictionary : Entries) (count : ℕ) (old : Database) (heads : List KeptHead) → ∥ KeepsRegister s dictionary count ∥₁ → s.now ≡ old → HoldsHeads old count heads → AreHeads heads (deposits_in s.committed.trees)
-heads_found s dictionary count old heads kept same are = ∥∥₁_elim kept (Prim.hlevel props) found
-  where
-    found : KeepsRegister s dictionary count → AreHeads heads (deposits_in s.committed.trees)
-    found k = are (deposits_in s.committed.trees) (subst (λ (db : Database). IsPermutation (deposit_rows 1 (deposits_in s.committed.trees)) (deposit_table db.trees)) same k.register.deposits) (sym k.counted)

@@ -14,3 +14,5 @@ pub mod MemoryLemmas
 pub mod ExamineLemmas
 pub mod SchemaLemmas
 pub mod CompareLemmas
+pub mod MarksLemmas
+pub mod RecallLemmas

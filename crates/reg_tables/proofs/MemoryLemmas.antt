@@ -1,7 +1,7 @@
 -- What is known of the deposits, as it is looked up, noted and grows with the list.
-use Rattle.std.proofs.Common.{zero, suc, ◌≡◌, ℕ, ◌+◌, ◌-◌, ◌<◌, Bool, true, false, List, [], ◌∷◌, ◌++◌, get_or, length, map, if◌then◌else◌, Option, Some, None, IfSome, slice_get, refl, sym, ap, subst, subst₂, ◌∙◌, arith}
+use Rattle.std.proofs.Common.{zero, suc, ◌≡◌, ℕ, ◌+◌, ◌-◌, ◌<◌, ◌≤◌, Bool, true, false, List, [], ◌∷◌, ◌++◌, get_or, length, map, take, if◌then◌else◌, Option, Some, None, IfSome, slice_get, refl, sym, ap, subst, subst₂, ◌∙◌, arith}
 use Rattle.std.proofs.Math.ListN.{set}
-use Rattle.std.proofs.lemmas.List.{length_push}
+use Rattle.std.proofs.lemmas.List.{length_push, take_all}
 use Rattle.std.proofs.lemmas.Option.{slice_get_read}
 use Rattle.std.proofs.lemmas.Slice.Zip.{AllZip-long}
 use Rattle.std.specs.List.{AllZip}
@@ -15,6 +15,7 @@ use Rattle.reg_store.specs.declared.keep.KeptHead.{KeptHead}
 use Rattle.reg_store.specs.Keep.{OfDeposit}
 use Rattle.reg_store.specs.Reading.{HasGraph, HasKeptRows}
 use Rattle.reg_store.specs.Sent.{Sent, numbers_from}
+use Rattle.reg_store.specs.Deposit.{Deposit, marked, sents, sents_marked, unmarked}
 use Rattle.reg_tables.specs.declared.memory.Coming.{Coming}
 use Rattle.reg_tables.specs.declared.memory.Known.{Known}
 use Rattle.reg_tables.specs.declared.memory.Memory.{Memory}
@@ -24,14 +25,15 @@ use Rattle.reg_tables.specs.declared.recent.RecentRows.{RecentRows}
 use Rattle.reg_tables.specs.Digests.{AddsNumber, AreBelow, AreDigested, PutsNumbers, numbers_under, own_digest}
 use Rattle.reg_tables.specs.Heads.{head_of}
 use Rattle.reg_tables.specs.KeepLaws.{keeps_quiet}
-use Rattle.reg_tables.specs.Memory.{Agrees, AreKnown, IsComing, IsKnown, IsNumberOf, Notes, bare_of, new_known}
+use Rattle.reg_tables.specs.Memory.{Agrees, AreKnown, IsComing, IsKnown, IsNumberOf, Notes, bare_of, marked_known, new_known, with_mark}
 use Rattle.reg_tables.specs.Quiet.{IsStill, clean_before}
-use Rattle.reg_tables.specs.Register.{KeepsRegister, deposits_in}
+use Rattle.reg_tables.specs.Register.{KeepsRegister, deposits_in, marks_of}
+use Rattle.reg_tables.specs.Marks.{deposit_there, length_marked, long_sents, marked_none, sents_push}
 use Rattle.reg_tables.proofs.RepeatsLemmas.{below_more, below_same, digested_push, digested_same}
 
 -- ---- what is known of each deposit
 
-known_at : (dictionary : Entries) (list : List Sent) (known : List Known) (k : ℕ) (one : Known) (d : Sent) → AllZip (IsKnown dictionary) list known → slice_get known k ≡ Some one → slice_get list k ≡ Some d → IsKnown dictionary d one
+known_at : (dictionary : Entries) (list : List Deposit) (known : List Known) (k : ℕ) (one : Known) (d : Deposit) → AllZip (IsKnown dictionary) list known → slice_get known k ≡ Some one → slice_get list k ≡ Some d → IsKnown dictionary d one
 known_at dictionary [] [] k one d all here there = absurd cc
 known_at dictionary [] (x ∷ known) k one d all here there = absurd all
 known_at dictionary (e ∷ list) [] k one d all here there = absurd all
@@ -41,32 +43,65 @@ known_at dictionary (e ∷ list) (x ∷ known) zero one d all here there =
     subst₂ (IsKnown dictionary) p q all.0
 known_at dictionary (e ∷ list) (x ∷ known) (suc k) one d all here there = known_at dictionary list known k one d all.1 here there
 
-zipped : (dictionary : Entries) (list : List Sent) (known : List Known) → AreKnown dictionary list known → AllZip (IsKnown dictionary) list known
+zipped : (dictionary : Entries) (list : List Deposit) (known : List Known) → AreKnown dictionary list known → AllZip (IsKnown dictionary) list known
 zipped dictionary [] [] are = tt
 zipped dictionary [] (one ∷ known) are = absurd (omega (arith, are.long))
 zipped dictionary (d ∷ list) [] are = absurd (omega (arith, are.long))
 zipped dictionary (d ∷ list) (one ∷ known) are =
     (are.each 0 d one refl refl, zipped dictionary list known (record { long = omega (arith, are.long); each = λ k e other there here. are.each (suc k) e other there here }))
 
-unzipped : (dictionary : Entries) (list : List Sent) (known : List Known) → AllZip (IsKnown dictionary) list known → AreKnown dictionary list known
+unzipped : (dictionary : Entries) (list : List Deposit) (known : List Known) → AllZip (IsKnown dictionary) list known → AreKnown dictionary list known
 unzipped dictionary list known all = record { long = AllZip-long (IsKnown dictionary) list known all; each = λ k d one there here. known_at dictionary list known k one d all here there }
 
-pub known_here : (dictionary : Entries) (list : List Sent) (known : List Known) (k : ℕ) (one : Known) (d : Sent) → AreKnown dictionary list known → k < length known → one ≡ get_or known k one → slice_get list k ≡ Some d → IsKnown dictionary d one
+pub known_here : (dictionary : Entries) (list : List Deposit) (known : List Known) (k : ℕ) (one : Known) (d : Deposit) → AreKnown dictionary list known → k < length known → one ≡ get_or known k one → slice_get list k ≡ Some d → IsKnown dictionary d one
 known_here dictionary list known k one d are low is there = are.each k d one there (slice_get_read known (length known) k one refl low is)
 
+-- so is what is known at the place of what was sent
+pub known_sent : (dictionary : Entries) (list : List Deposit) (known : List Known) (k : ℕ) (one : Known) (sent : Sent) → AreKnown dictionary list known → k < length known → one ≡ get_or known k one → slice_get (sents list) k ≡ Some sent
+    → (d : Deposit) × (d.sent ≡ sent) × IsKnown dictionary d one
+known_sent dictionary list known k one sent are low is there =
+    let d = deposit_there list k sent there in (d.0, d.2, known_here dictionary list known k one d.0 are low is d.1)
+
 -- of deposits of which nothing was read
-new_zipped : (dictionary : Entries) (list : List Sent) → AllZip (IsKnown dictionary) list (map new_known (map head_of list))
+new_zipped : (dictionary : Entries) (list : List Deposit) → AllZip (IsKnown dictionary) list (marked_known (map head_of (sents list)) (marks_of list))
 new_zipped dictionary [] = tt
 new_zipped dictionary (d ∷ list) = (record { head = refl; project = λ row none. absurd cc; alone = λ row none. absurd cc }, new_zipped dictionary list)
 
-push_zipped : (dictionary : Entries) (list : List Sent) (known : List Known) (d : Sent) (one : Known) → AllZip (IsKnown dictionary) list known → IsKnown dictionary d one → AllZip (IsKnown dictionary) (list ++ d ∷ []) (known ++ one ∷ [])
+pub long_known : (heads : List KeptHead) (marks : List Bool) → length marks ≡ length heads → length (marked_known heads marks) ≡ length heads
+long_known [] marks long = refl
+long_known (h ∷ heads) [] long = absurd (omega (arith, long))
+long_known (h ∷ heads) (m ∷ marks) long = ap suc (long_known heads marks (omega (arith, long)))
+
+-- all heads and marks have come
+pub known_all : (heads : List KeptHead) (marks : List Bool) (known : List Known) (at : ℕ) → length heads ≤ at → length marks ≡ length heads → known ≡ marked_known (take at heads) (take at marks) → known ≡ marked_known heads marks
+known_all heads marks known at end long are =
+    let ended : length marks ≤ at = omega (arith, end, long) in
+    are ∙ ap (λ (first : List KeptHead). marked_known first (take at marks)) (take_all at heads end) ∙ ap (marked_known heads) (take_all at marks ended)
+
+pub get_there : {X : Type 0} (xs : List X) (k : ℕ) (d : X) → k < length xs → slice_get xs k ≡ Some (get_or xs k d)
+get_there [] k d low = absurd (omega (arith, low))
+get_there (x ∷ xs) zero d low = refl
+get_there (x ∷ xs) (suc k) d low = get_there xs k d (omega (arith, low))
+
+-- one head and one mark more
+pub marked_more : (heads : List KeptHead) (marks : List Bool) (k : ℕ) (head : KeptHead) (mark : Bool) → slice_get heads k ≡ Some head → slice_get marks k ≡ Some mark
+    → marked_known (take (suc k) heads) (take (suc k) marks) ≡ marked_known (take k heads) (take k marks) ++ new_known (with_mark head mark) ∷ []
+marked_more [] marks k head mark here there = absurd cc
+marked_more (h ∷ heads) [] k head mark here there = absurd cc
+marked_more (h ∷ heads) (m ∷ marks) zero head mark here there =
+    let p : h ≡ head = cc in
+    let q : m ≡ mark = cc in
+    rw (p, q) refl
+marked_more (h ∷ heads) (m ∷ marks) (suc k) head mark here there = ap (λ all. new_known (with_mark h m) ∷ all) (marked_more heads marks k head mark here there)
+
+push_zipped : (dictionary : Entries) (list : List Deposit) (known : List Known) (d : Deposit) (one : Known) → AllZip (IsKnown dictionary) list known → IsKnown dictionary d one → AllZip (IsKnown dictionary) (list ++ d ∷ []) (known ++ one ∷ [])
 push_zipped dictionary [] [] d one all last = (last, tt)
 push_zipped dictionary [] (x ∷ known) d one all last = absurd all
 push_zipped dictionary (e ∷ list) [] d one all last = absurd all
 push_zipped dictionary (e ∷ list) (x ∷ known) d one all last = (all.0, push_zipped dictionary list known d one all.1 last)
 
 -- something else is known of one deposit
-set_zipped : (dictionary : Entries) (list : List Sent) (known : List Known) (k : ℕ) (one : Known) → AllZip (IsKnown dictionary) list known → ((d : Sent) → slice_get list k ≡ Some d → IsKnown dictionary d one) → AllZip (IsKnown dictionary) list (set known k one)
+set_zipped : (dictionary : Entries) (list : List Deposit) (known : List Known) (k : ℕ) (one : Known) → AllZip (IsKnown dictionary) list known → ((d : Deposit) → slice_get list k ≡ Some d → IsKnown dictionary d one) → AllZip (IsKnown dictionary) list (set known k one)
 set_zipped dictionary [] [] k one all its = tt
 set_zipped dictionary [] (x ∷ known) k one all its = absurd all
 set_zipped dictionary (e ∷ list) [] k one all its = absurd all
@@ -74,26 +109,26 @@ set_zipped dictionary (e ∷ list) (x ∷ known) zero one all its = (its e refl,
 set_zipped dictionary (e ∷ list) (x ∷ known) (suc k) one all its = (all.0, set_zipped dictionary list known k one all.1 its)
 
 -- the numbers of a project are told by the heads
-told_zipped : (n : ℕ) (project : List ℕ) (dictionary : Entries) (list : List Sent) (known : List Known) → AllZip (IsKnown dictionary) list known → numbers_from n project (map bare_of known) ≡ numbers_from n project list
+told_zipped : (n : ℕ) (project : List ℕ) (dictionary : Entries) (list : List Deposit) (known : List Known) → AllZip (IsKnown dictionary) list known → numbers_from n project (map bare_of known) ≡ numbers_from n project (sents list)
 told_zipped n project dictionary [] [] all = refl
 told_zipped n project dictionary [] (x ∷ known) all = absurd all
 told_zipped n project dictionary (d ∷ list) [] all = absurd all
 told_zipped n project dictionary (d ∷ list) (x ∷ known) all =
-    rw (ap (λ (h : KeptHead). h.project) all.0.head) (go (bytes_eq d.project project) (told_zipped (n + 1) project dictionary list known all.1))
+    rw (ap (λ (h : KeptHead). h.project) all.0.head) (go (bytes_eq d.sent.project project) (told_zipped (n + 1) project dictionary list known all.1))
   where
-    go : (b : Bool) → numbers_from (n + 1) project (map bare_of known) ≡ numbers_from (n + 1) project list
+    go : (b : Bool) → numbers_from (n + 1) project (map bare_of known) ≡ numbers_from (n + 1) project (sents list)
         → (if b then n ∷ numbers_from (n + 1) project (map bare_of known) else numbers_from (n + 1) project (map bare_of known))
-        ≡ (if b then n ∷ numbers_from (n + 1) project list else numbers_from (n + 1) project list)
+        ≡ (if b then n ∷ numbers_from (n + 1) project (sents list) else numbers_from (n + 1) project (sents list))
     go true h = ap (λ all. n ∷ all) h
     go false h = h
 
-pub known_new : (dictionary : Entries) (list : List Sent) → AreKnown dictionary list (map new_known (map head_of list))
+pub known_new : (dictionary : Entries) (list : List Deposit) → AreKnown dictionary list (marked_known (map head_of (sents list)) (marks_of list))
 known_new dictionary list = unzipped dictionary list _ (new_zipped dictionary list)
 
-pub known_set : (dictionary : Entries) (list : List Sent) (known : List Known) (k : ℕ) (one : Known) → AreKnown dictionary list known → ((d : Sent) → slice_get list k ≡ Some d → IsKnown dictionary d one) → AreKnown dictionary list (set known k one)
+pub known_set : (dictionary : Entries) (list : List Deposit) (known : List Known) (k : ℕ) (one : Known) → AreKnown dictionary list known → ((d : Deposit) → slice_get list k ≡ Some d → IsKnown dictionary d one) → AreKnown dictionary list (set known k one)
 known_set dictionary list known k one are its = unzipped dictionary list _ (set_zipped dictionary list known k one (zipped dictionary list known are) its)
 
-pub numbers_told : (n : ℕ) (project : List ℕ) (dictionary : Entries) (list : List Sent) (known : List Known) → AreKnown dictionary list known → numbers_from n project (map bare_of known) ≡ numbers_from n project list
+pub numbers_told : (n : ℕ) (project : List ℕ) (dictionary : Entries) (list : List Deposit) (known : List Known) → AreKnown dictionary list known → numbers_from n project (map bare_of known) ≡ numbers_from n project (sents list)
 numbers_told n project dictionary list known are = told_zipped n project dictionary list known (zipped dictionary list known are)
 
 -- ---- one deposit more
@@ -104,32 +139,72 @@ still_there [] d k low = absurd (omega (arith, low))
 still_there (x ∷ list) d zero low = refl
 still_there (x ∷ list) d (suc k) low = still_there list d k (omega (arith, low))
 
-still_of : (dictionary : Entries) (list : List Sent) (d : Sent) (n : ℕ) (Holds : CheckedFile → Type 0) → IsNumberOf n list × OfDeposit dictionary list n Holds → IsNumberOf n (list ++ d ∷ []) × OfDeposit dictionary (list ++ d ∷ []) n Holds
+still_of : (dictionary : Entries) (list : List Deposit) (d : Sent) (n : ℕ) (Holds : CheckedFile → Type 0) → IsNumberOf n list × OfDeposit dictionary (sents list) n Holds
+    → IsNumberOf n (list ++ unmarked d ∷ []) × OfDeposit dictionary (sents (list ++ unmarked d ∷ [])) n Holds
 still_of dictionary list d n Holds it =
-    let longer = length_push list d in
-    let low : n - 1 < length list = omega (arith, it.0.0, it.0.1) in
-    ((it.0.0, omega (arith, it.0.1, longer)), λ e file at of. it.1 e file (sym (still_there list d (n - 1) low) ∙ at) of)
+    let longer = length_push list (unmarked d) in
+    let low : n - 1 < length (sents list) = omega (arith, it.0.0, it.0.1, long_sents list) in
+    ((it.0.0, omega (arith, it.0.1, longer)), λ e file at of. it.1 e file (sym (still_there (sents list) d (n - 1) low) ∙ ap (λ (all : List Sent). slice_get all (n - 1)) (sym (sents_push list d)) ∙ at) of)
 
-pub agrees_push : (old new : Memory) (coming : Coming) (dictionary : Entries) (list : List Sent) (d : Sent) → new.known.items ≡ old.known.items ++ coming.known ∷ [] → PutsNumbers old.digests new.digests coming.digest coming.numbers.items
-    → new.rows ≡ old.rows → new.graph ≡ old.graph → IsComing old d coming → Agrees old dictionary list → Agrees new dictionary (list ++ d ∷ [])
+pub agrees_push : (old new : Memory) (coming : Coming) (dictionary : Entries) (list : List Deposit) (d : Sent) → new.known.items ≡ old.known.items ++ coming.known ∷ [] → PutsNumbers old.digests new.digests coming.digest coming.numbers.items
+    → new.rows ≡ old.rows → new.graph ≡ old.graph → IsComing old d coming → Agrees old dictionary list → Agrees new dictionary (list ++ unmarked d ∷ [])
 agrees_push old new coming dictionary list d known puts rows graph its agrees =
     let number : length old.known.items + 1 ≡ length list + 1 = ap (λ n. n + 1) agrees.known.long in
     let numbers = its.numbers ∙ ap (λ n. numbers_under old.digests (own_digest d) ++ n ∷ []) number ∙ ap (λ (x : List ℕ). numbers_under old.digests x ++ (length list + 1) ∷ []) (sym its.digest) in
     let adds : AddsNumber old.digests new.digests coming.digest (length list + 1) = subst (PutsNumbers old.digests new.digests coming.digest) numbers puts in
+    let next = list ++ unmarked d ∷ [] in
     record {
-      known = subst (AreKnown dictionary (list ++ d ∷ [])) (sym (known ∙ ap (λ one. old.known.items ++ one ∷ []) its.known))
-          (unzipped dictionary (list ++ d ∷ []) _ (push_zipped dictionary list old.known.items d (new_known (head_of d)) (zipped dictionary list old.known.items agrees.known) (new_zipped dictionary (d ∷ [])).0));
-      digests = digested_push old.digests new.digests coming.digest list (list ++ d ∷ []) d (length list + 1) agrees.digests adds its.digest refl refl;
-      below = subst (λ n. AreBelow new.digests (n + 1)) (sym (length_push list d)) (below_more old.digests new.digests coming.digest (length list + 1) (omega arith) adds agrees.below);
+      known = subst (AreKnown dictionary next) (sym (known ∙ ap (λ one. old.known.items ++ one ∷ []) its.known))
+          (unzipped dictionary next _ (push_zipped dictionary list old.known.items (unmarked d) (new_known (head_of d)) (zipped dictionary list old.known.items agrees.known) (new_zipped dictionary (unmarked d ∷ [])).0));
+      digests = digested_push old.digests new.digests coming.digest (sents list) (sents next) d (length list + 1) agrees.digests adds its.digest (ap (λ n. n + 1) (sym (long_sents list))) (sents_push list d);
+      below = subst (λ n. AreBelow new.digests (n + 1)) (sym (length_push list (unmarked d))) (below_more old.digests new.digests coming.digest (length list + 1) (omega arith) adds agrees.below);
       rows = λ held at. still_of dictionary list d held.number (HasKeptRows held.rows) (agrees.rows held (sym rows ∙ at));
       graph = λ held at. still_of dictionary list d held.number (HasGraph held.graph) (agrees.graph held (sym graph ∙ at));
     }
 
 -- where room is made, what is known stays
-pub agrees_same : (memory : Memory) (digests : Digests) (known : List Known) (dictionary : Entries) (list : List Sent) → known ≡ memory.known.items → ((digest : List ℕ) → numbers_under digests digest ≡ numbers_under memory.digests digest) → Agrees memory dictionary list
-    → AreKnown dictionary list known × AreDigested digests list × AreBelow digests (length list + 1)
+pub agrees_same : (memory : Memory) (digests : Digests) (known : List Known) (dictionary : Entries) (list : List Deposit) → known ≡ memory.known.items → ((digest : List ℕ) → numbers_under digests digest ≡ numbers_under memory.digests digest) → Agrees memory dictionary list
+    → AreKnown dictionary list known × AreDigested digests (sents list) × AreBelow digests (length list + 1)
 agrees_same memory digests known dictionary list is same agrees =
-    (subst (AreKnown dictionary list) (sym is) agrees.known, digested_same memory.digests digests list list same refl agrees.digests, below_same memory.digests digests (length list + 1) same agrees.below)
+    (subst (AreKnown dictionary list) (sym is) agrees.known, digested_same memory.digests digests (sents list) (sents list) same refl agrees.digests, below_same memory.digests digests (length list + 1) same agrees.below)
+
+-- ---- one mark more
+
+-- what is known of a deposit, with the mark
+abbrev pub marked_one : Known → Known
+marked_one one = record { head = with_mark one.head true; project = one.project; alone = one.alone }
+
+mark_zipped : (dictionary : Entries) (list : List Deposit) (known : List Known) (k : ℕ) (one : Known) → slice_get known k ≡ Some one → AllZip (IsKnown dictionary) list known → AllZip (IsKnown dictionary) (marked (suc k) list) (set known k (marked_one one))
+mark_zipped dictionary [] [] k one at all = tt
+mark_zipped dictionary [] (x ∷ known) k one at all = absurd all
+mark_zipped dictionary (e ∷ list) [] k one at all = absurd all
+mark_zipped dictionary (e ∷ list) (x ∷ known) zero one at all =
+    let same : x ≡ one = cc in
+    let was : IsKnown dictionary e one = subst (IsKnown dictionary e) same all.0 in
+    (record { head = ap (λ (h : KeptHead). with_mark h true) was.head; project = was.project; alone = was.alone }, all.1)
+mark_zipped dictionary (e ∷ list) (x ∷ known) (suc k) one at all = (all.0, mark_zipped dictionary list known k one at all.1)
+
+marked_of : (dictionary : Entries) (list : List Deposit) (n m : ℕ) (Holds : CheckedFile → Type 0) → IsNumberOf m list × OfDeposit dictionary (sents list) m Holds → IsNumberOf m (marked n list) × OfDeposit dictionary (sents (marked n list)) m Holds
+marked_of dictionary list n m Holds it =
+    ((it.0.0, omega (arith, it.0.1, length_marked n list)), subst (λ (all : List Sent). OfDeposit dictionary all m Holds) (sym (sents_marked n list)) it.1)
+
+-- what is known agrees with the list, whose deposit is marked
+pub agrees_mark : (old new : Memory) (dictionary : Entries) (list : List Deposit) (n : ℕ) (one : Known) → 0 < n → slice_get old.known.items (n - 1) ≡ Some one → new.known.items ≡ set old.known.items (n - 1) (marked_one one)
+    → new.digests ≡ old.digests → new.rows ≡ old.rows → new.graph ≡ old.graph → Agrees old dictionary list → Agrees new dictionary (marked n list)
+agrees_mark old new dictionary list n one low at known digests rows graph agrees =
+    let e : suc (n - 1) ≡ n = omega (arith, low) in
+    let all = mark_zipped dictionary list old.known.items (n - 1) one at (zipped dictionary list old.known.items agrees.known) in
+    record {
+      known = subst₂ (λ (j : ℕ) (items : List Known). AreKnown dictionary (marked j list) items) e (sym known) (unzipped dictionary (marked (suc (n - 1)) list) _ all);
+      digests = subst₂ AreDigested (sym digests) (sym (sents_marked n list)) agrees.digests;
+      below = subst₂ (λ (held : Digests) (m : ℕ). AreBelow held (m + 1)) (sym digests) (sym (length_marked n list)) agrees.below;
+      rows = λ held there. marked_of dictionary list n held.number (HasKeptRows held.rows) (agrees.rows held (sym rows ∙ there));
+      graph = λ held there. marked_of dictionary list n held.number (HasGraph held.graph) (agrees.graph held (sym graph ∙ there));
+    }
+
+-- no deposit has the number
+pub agrees_unmarked : (memory : Memory) (dictionary : Entries) (list : List Deposit) (n : ℕ) → (0 < n → n ≤ length memory.known.items → ⊥) → Agrees memory dictionary list → Agrees memory dictionary (marked n list)
+agrees_unmarked memory dictionary list n none agrees = subst (Agrees memory dictionary) (sym (marked_none n list (λ low high. none low (omega (arith, high, agrees.known.long))))) agrees
 
 -- ---- for the calls of the keep
 
@@ -141,7 +216,7 @@ agrees_still old new memory dictionary agrees quiet clean well =
 
 -- what was read is noted
 pub agrees_noted : (old new : State) {failed : Bool} (memory noted : Memory) (dictionary : Entries) (n : ℕ) {IsRead : Entries → List Sent → Type 0} → (HasCleanDisk old → Agrees memory dictionary (deposits_in old.committed.trees)) → IsStill old new failed
-    → Notes memory noted n IsRead → IsNumberOf n (deposits_in old.committed.trees) → IsRead dictionary (deposits_in old.committed.trees) → HasCleanDisk new → failed ≡ false → Agrees noted dictionary (deposits_in new.committed.trees)
+    → Notes memory noted n IsRead → IsNumberOf n (deposits_in old.committed.trees) → IsRead dictionary (sents (deposits_in old.committed.trees)) → HasCleanDisk new → failed ≡ false → Agrees noted dictionary (deposits_in new.committed.trees)
 agrees_noted old new memory noted dictionary n agrees quiet notes number read clean well =
     subst (λ (db : Database). Agrees noted dictionary (deposits_in db.trees)) (sym (quiet.same clean well).1)
     (notes.agrees dictionary (deposits_in old.committed.trees) number read (agrees (clean_before old new quiet.survives clean)))

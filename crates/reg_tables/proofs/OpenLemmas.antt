@@ -9,22 +9,23 @@ use Rattle.sqlite.specs.Files.{AreFoundIn}
 use Rattle.sqlite.specs.Start.{FindsIn}
 use Rattle.ags_dict.specs.Entries.{Entries}
 use Rattle.reg_tables.specs.declared.adopting.AdoptError.{AdoptError}
-use Rattle.reg_store.specs.Sent.{Sent}
+use Rattle.reg_store.specs.Deposit.{Deposit}
+use Rattle.reg_tables.specs.declared.format.Format.{Format}
 use Rattle.reg_tables.specs.Register.{IsRegister}
 use Rattle.reg_tables.specs.Adoption.{Adopts}
 use Rattle.reg_tables.specs.Opened.{FindsTables, FindsSchema, HoldsRegister, RefusesFiles}
 
-found_tables : {image : Image} (s : State) → Opens s → FindsIn image s → FindsTables image s.now.trees
+pub found_tables : {image : Image} (s : State) → Opens s → FindsIn image s → FindsTables image s.now.trees
 found_tables {image} s opened found =
     let same : s.committed.trees ≡ s.now.trees = ap (λ (d : Database). d.trees) (sym opened.clean) in
     record { found = subst (AreFoundIn image) same found.reads; only = λ held has. sym same ∙ found.holds held has }
 
-pub found_register : {image : Image} {dictionary : Entries} {list : List Sent} (s : State) → Opens s → FindsIn image s → ∥ IsRegister s.now dictionary list ∥₁ → ∥ HoldsRegister image dictionary list ∥₁
+pub found_register : {image : Image} {dictionary : Entries} {list : List Deposit} (s : State) → Opens s → FindsIn image s → ∥ IsRegister s.now dictionary list ∥₁ → ∥ HoldsRegister image dictionary list ∥₁
 found_register {image} {dictionary} {list} s opened found register =
     ∥∥₁_map register (λ (is : IsRegister s.now dictionary list). record { db = s.now; found = found_tables {image = image} s opened found; register = is })
 
-pub found_refused : {image : Image} {error : AdoptError} (s : State) → Opens s × IsLive s → FindsIn image s → Adopts s.now (Err error) → RefusesFiles image error
-found_refused {image} {error} s opened found refused =
+pub found_refused : {format : Format} {image : Image} {error : AdoptError} (s : State) → Opens s × IsLive s → FindsIn image s → Adopts format s.now (Err error) → RefusesFiles format image error
+found_refused {format} {image} {error} s opened found refused =
     record { db = s.now; sound = (opened.1 opened.0.is_open).0; found = found_tables {image = image} s opened.0 found; refused = refused }
 
 pub found_schema : {image : Image} {Has : Schema → Type 0} (s : State) → Opens s × IsLive s → FindsIn image s → Has s.now.schema → FindsSchema image Has

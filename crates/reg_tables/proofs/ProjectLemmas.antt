@@ -20,6 +20,7 @@ use Rattle.reg_store.specs.declared.keep.KeepError.{KeepError}
 use Rattle.reg_tables.specs.Tables.{HasTables}
 use Rattle.reg_tables.specs.Texts.{select_front, select_targets}
 use Rattle.reg_store.specs.Sent.{Sent}
+use Rattle.reg_store.specs.Deposit.{sents}
 use Rattle.reg_store.specs.Fit.{IsFileOf, kept_rows}
 use Rattle.reg_tables.specs.Rows.{line_table, step_table, placed_rows, step_pair, rows_under}
 use Rattle.reg_tables.specs.Register.{deposits_in, KeepsRegister}
@@ -71,7 +72,7 @@ targets_set a b = Prim.hlevel props
 
 pub project_at : {s : State} {dictionary : Entries} {count : ℕ} (n : ℕ) (r : Result (Option ProjectRow) KeepError) → 0 < n → ∥ KeepsRegister s dictionary count ∥₁
     → IfOk r (λ found. (rows : List KeptRow) → IsPermutation (placed_rows 0 rows) (rows_under n (line_table s.now.trees)) → found ≡ project_of rows)
-    → IfOk r (λ found. (d : Sent) (file : CheckedFile) → slice_get (deposits_in s.committed.trees) (n - 1) ≡ Some d → IsFileOf dictionary d file → found ≡ project_of (kept_rows file.groups))
+    → IfOk r (λ found. (d : Sent) (file : CheckedFile) → slice_get (sents (deposits_in s.committed.trees)) (n - 1) ≡ Some d → IsFileOf dictionary d file → found ≡ project_of (kept_rows file.groups))
 project_at {s} {dictionary} {count} n (Ok found) low h ok = λ d file at its.
     let read : (k : KeepsRegister s dictionary count) → found ≡ project_of (kept_rows file.groups) = λ k.
     (let held = held_file n d k low at in ok (kept_rows held.0.groups) held.2 ∙ ap (λ (groups : List Group). project_of (kept_rows groups)) (same_file dictionary d held.0 file held.1 its).0) in
@@ -80,7 +81,7 @@ project_at n (Err e) low h ok = tt
 
 pub targets_at : {X : Type 0} (items : X → List ℕ) {s : State} {dictionary : Entries} {count : ℕ} (n row : ℕ) (r : Result X KeepError) → 0 < n → ∥ KeepsRegister s dictionary count ∥₁
     → IfOk r (λ x. (steps : List (ℕ × ℕ)) → IsAscending IsBefore steps → IsPermutation (map step_pair steps) (rows_under n (step_table s.now.trees)) → items x ≡ targets_of row steps)
-    → IfOk r (λ x. (d : Sent) (file : CheckedFile) → slice_get (deposits_in s.committed.trees) (n - 1) ≡ Some d → IsFileOf dictionary d file → items x ≡ targets_of row file.graph.steps)
+    → IfOk r (λ x. (d : Sent) (file : CheckedFile) → slice_get (sents (deposits_in s.committed.trees)) (n - 1) ≡ Some d → IsFileOf dictionary d file → items x ≡ targets_of row file.graph.steps)
 targets_at items {s} {dictionary} {count} n row (Ok x) low h ok = λ d file at its.
     let read : (k : KeepsRegister s dictionary count) → items x ≡ targets_of row file.graph.steps = λ k.
     (let held = held_file n d k low at in

@@ -15,6 +15,7 @@ use Rattle.sqlite.proofs.StateLemmas.{survives_weaker, survives_then}
 use Rattle.sqlite.proofs.Callers.{IsPlain, never_commits, unchanged_then}
 use Rattle.reg_tables.specs.Tables.{HasTables}
 use Rattle.reg_tables.specs.Meaning.{IsPlainText}
+use Rattle.reg_tables.specs.Found.{OnlyReads}
 use Rattle.reg_tables.specs.Quiet.{IsAsBefore, IsStill, clean_before}
 
 pub plain_at : (sql : List ℕ) (s : State) → IsPlainText sql → HasTables s.now.schema → IsPlain (understood s.now.schema sql)
@@ -57,24 +58,24 @@ shown_from sql params old mid new rows plain same h =
       subst (ShowsRows old new sql h.0 full rows) (sym none) (it.0, source, it.2, unchanged_then old mid new same it.3),
     )
 
-module _ (sql : List ℕ) (plain : IsPlainText sql) where
-  pub asks_quietly : (old new : State) (params : Row) → (HasCleanDisk old → HasTables old.now.schema) → Survives old new (CommitsShowing sql params old) → Survives old new (λ _. ⊥)
-  asks_quietly old new params has s =
-      survives_weaker old new _ _ (λ clean db. never_commits sql params old db (plain_at sql old plain (has (omega (arith, s.clean))))) s
+module _ (sql : List ℕ) where
+  pub asks_quietly : (old new : State) (params : Row) → OnlyReads sql old → Survives old new (CommitsShowing sql params old) → Survives old new (λ _. ⊥)
+  asks_quietly old new params plain s =
+      survives_weaker old new _ _ (λ clean db. never_commits sql params old db (plain (omega (arith, s.clean)))) s
 
-  module _ {X : Type 0} (items : X → List Row) (old new : State) (r : Result X Error) (has : HasTables old.now.schema) (params : Row) where
+  module _ {X : Type 0} (items : X → List Row) (old new : State) (r : Result X Error) (plain : IsPlain (understood old.now.schema sql)) (params : Row) where
     pub opened_by : IfOk r (λ x. Shown sql params old new (items x)) → OnOk r (IsTrue new.is_open)
     opened_by h = go r h
       where
         go : (s : Result X Error) → IfOk s (λ x. Shown sql params old new (items x)) → OnOk s (IsTrue new.is_open)
-        go (Ok x) h = (shown_same sql old new params (items x) (plain_at sql old plain has) h).0.is_open
+        go (Ok x) h = (shown_same sql old new params (items x) plain h).0.is_open
         go (Err e) h = tt
 
     pub same_by : (IsTrue old.is_open → old.committed ≡ old.now) → IsTrue new.is_open → IfOk r (λ x. Shown sql params old new (items x)) → IfErr r (FailsToQuery sql params old new) → IsAsBefore old new
     same_by settled is_open ok err = go r ok err
       where
         go : (s : Result X Error) → IfOk s (λ x. Shown sql params old new (items x)) → IfErr s (FailsToQuery sql params old new) → IsAsBefore old new
-        go (Ok x) h f = let it = (shown_same sql old new params (items x) (plain_at sql old plain has) h).0 in (it.was_open, it.now_is, it.committed_is)
+        go (Ok x) h f = let it = (shown_same sql old new params (items x) plain h).0 in (it.was_open, it.now_is, it.committed_is)
         go (Err e) h f = fails_keeps sql params old new e settled is_open f
 
 -- no call, no crash

@@ -25,7 +25,9 @@ use Rattle.reg_tables.specs.declared.repeats.Digests.{Digests}
 use Rattle.reg_store.specs.Apart.{AreApart}
 use Rattle.reg_store.specs.ApartLaws.{none_at, parts_of}
 use Rattle.reg_store.specs.Sent.{Sent, is_repeat, number_of}
+use Rattle.reg_store.specs.Deposit.{sents}
 use Rattle.reg_tables.specs.Digests.{AddsNumber, AreBelow, AreDigested, HasEqual, HasNoEqual, HoldsDigests, IsRowOf, digest_of, is_among, numbers_under, own_digest}
+use Rattle.reg_tables.specs.Marks.{long_sents}
 use Rattle.reg_tables.specs.Methods.{same_deposit, slice_get_in}
 use Rattle.reg_tables.specs.Quiet.{IsStill, clean_before}
 use Rattle.reg_tables.specs.Register.{deposit_rows, deposits_in, KeepsRegister}
@@ -162,12 +164,6 @@ noted_adds old mid new digest numbers n same more noted other = noted other ∙ 
 pub none_digested : (digests : Digests) (list : List Sent) → list ≡ [] → AreDigested digests list
 none_digested digests list empty k d at = absurd (let none = subst (λ all. slice_get all k ≡ Some d) empty at in cc)
 
--- where the connection is still, the digests stay
-pub digested_quiet : (old new : State) {failed : Bool} (digests : Digests) → (HasCleanDisk old → AreDigested digests (deposits_in old.committed.trees)) → IsStill old new failed → HasCleanDisk new → failed ≡ false
-    → AreDigested digests (deposits_in new.committed.trees)
-digested_quiet old new digests are quiet clean well =
-    subst (λ (db : Database). AreDigested digests (deposits_in db.trees)) (sym (quiet.same clean well).1) (are (clean_before old new quiet.survives clean))
-
 -- what stands under digests is that of the list, where the tables hold it
 pub digested_held : (db : Database) (digests : Digests) (list : List Sent) → IsPermutation (deposit_rows 1 list) (deposit_table db.trees) → HoldsDigests db (length list + 1) digests → AreDigested digests list
 digested_held db digests list there held k d at =
@@ -178,14 +174,6 @@ digested_held db digests list there held k d at =
     place [] k d at = absurd cc
     place (x ∷ list) zero d at = omega arith
     place (x ∷ list) (suc k) d at = omega (arith, place list k d at)
-
-pub digested_found : (s : State) (dictionary : Entries) (count : ℕ) (old : Database) (digests : Digests) → ∥ KeepsRegister s dictionary count ∥₁ → s.now ≡ old → HoldsDigests old (count + 1) digests → AreDigested digests (deposits_in s.committed.trees)
-digested_found s dictionary count old digests kept same held k d at = ∥∥₁_elim kept (Prim.hlevel props) found
-  where
-    found : KeepsRegister s dictionary count → is_among (k + 1) (numbers_under digests (own_digest d)) ≡ true
-    found r =
-        let list = deposits_in s.committed.trees in
-        digested_held old digests list (subst (λ (db : Database). IsPermutation (deposit_rows 1 list) (deposit_table db.trees)) same r.register.deposits) (subst (λ (n : ℕ). HoldsDigests old (n + 1) digests) r.counted held) k d at
 
 -- ---- repeats
 
@@ -241,19 +229,19 @@ found_none db firm project bytes list digests there are none = sym (not_found 1 
 
 -- what is found under the digest is the first repeat
 pub repeat_told : {s : State} {dictionary : Entries} {count : ℕ} (firm project bytes : List ℕ) (digests : Digests) (numbers : List ℕ) (r : Result (Option ℕ) KeepError) → ∥ KeepsRegister s dictionary count ∥₁
-    → numbers ≡ numbers_under digests (digest_of firm project bytes) → AreBelow digests (count + 1) → AreDigested digests (deposits_in s.committed.trees)
+    → numbers ≡ numbers_under digests (digest_of firm project bytes) → AreBelow digests (count + 1) → AreDigested digests (sents (deposits_in s.committed.trees))
     → IfOk r (λ found. IfSome found (HasEqual s.now firm project bytes)) → IfOk r (λ found. IfSome found (λ n. is_among n numbers ≡ true)) → (r ≡ Ok None → HasNoEqual s.now numbers firm project bytes)
-    → IfOk r (λ n. n ≡ number_of firm project bytes (deposits_in s.committed.trees))
+    → IfOk r (λ n. n ≡ number_of firm project bytes (sents (deposits_in s.committed.trees)))
 repeat_told {s} {dictionary} {count} firm project bytes digests numbers (Ok (Some n)) kept own below are equal among none = ∥∥₁_elim kept (Prim.hlevel props) found
   where
-    found : KeepsRegister s dictionary count → Some n ≡ number_of firm project bytes (deposits_in s.committed.trees)
+    found : KeepsRegister s dictionary count → Some n ≡ number_of firm project bytes (sents (deposits_in s.committed.trees))
     found k =
         let it = below (digest_of firm project bytes) n (subst (λ all. is_among n all ≡ true) own among) in
-        found_some s.now firm project bytes (deposits_in s.committed.trees) n k.register.deposits k.register.apart it.0 (omega (arith, it.1, k.counted)) equal
+        found_some s.now firm project bytes (sents (deposits_in s.committed.trees)) n k.register.holds.deposits k.register.holds.apart it.0 (omega (arith, it.1, k.counted, long_sents (deposits_in s.committed.trees))) equal
 repeat_told {s} {dictionary} {count} firm project bytes digests numbers (Ok None) kept own below are equal among none = ∥∥₁_elim kept (Prim.hlevel props) found
   where
-    found : KeepsRegister s dictionary count → None ≡ number_of firm project bytes (deposits_in s.committed.trees)
-    found k = found_none s.now firm project bytes (deposits_in s.committed.trees) digests k.register.deposits are (subst (λ all. HasNoEqual s.now all firm project bytes) own (none refl))
+    found : KeepsRegister s dictionary count → None ≡ number_of firm project bytes (sents (deposits_in s.committed.trees))
+    found k = found_none s.now firm project bytes (sents (deposits_in s.committed.trees)) digests k.register.holds.deposits are (subst (λ all. HasNoEqual s.now all firm project bytes) own (none refl))
 repeat_told firm project bytes digests numbers (Err e) kept own below are equal among none = tt
 
 -- one number more of which the deposit is not equal

@@ -11,7 +11,7 @@ use Rattle.sqlite.specs.State.{State, Shown}
 use Rattle.sqlite_value.proofs.OrderLemmas.{value_cmp_total}
 use Rattle.sqlite_keyed.proofs.ListLemmas.{filter-map, filter-filter, IsPermutation-filter}
 use Rattle.reg_store.specs.Sent.{Sent}
-use Rattle.reg_tables.specs.Tables.{HasTables, register_schema}
+use Rattle.reg_tables.specs.Tables.{HasTables, number_of, schema_of}
 use Rattle.reg_tables.specs.Texts.{select_all_numbers, select_deposit, select_meta}
 use Rattle.reg_tables.specs.Meaning.{all_numbers, all_numbers_read, by_number, deposit_read, all_meta, all_meta_read}
 use Rattle.reg_tables.specs.Rows.{columns_5, deposit_table, given_deposit, columns_3, line_table, step_table, rows_under, placed_rows, step_pair}
@@ -24,13 +24,13 @@ use Rattle.ags_dict.specs.Reading.{IsDictionary}
 use Rattle.ags_check.specs.Findings.{CheckedFile}
 use Rattle.reg_store.specs.Fit.{IsFileOf, IsNamed, kept_rows}
 use Rattle.reg_store.specs.Apart.{AreApart}
-use Rattle.reg_tables.specs.Register.{deposit_rows, has_number, meta_columns, file_lines, file_steps, IsRegister}
+use Rattle.reg_tables.specs.Register.{deposit_rows, has_number, meta_columns, file_lines, file_steps, HoldsSent}
 use Rattle.reg_tables.specs.Pushes.{equal_at, apart_at}
 use Rattle.reg_tables.specs.Answers.{passes, shown_of, answers}
 use Rattle.reg_tables.specs.Reads.{and_true, equal_order, eq_int}
-use Rattle.reg_tables.specs.Foreign.{no_lines, no_steps}
+use Rattle.reg_tables.specs.Foreign.{keyed_lines, keyed_steps, no_lines, no_steps}
 use Rattle.sqlite_catalog.specs.Listing.{IsSound}
-use Rattle.sqlite_schema.specs.declared.schema.Constraint.TheVariants.{ForeignKey}
+use Rattle.reg_tables.specs.declared.format.Format.{Format}
 
 -- ---- what the queries show_number
 
@@ -133,13 +133,13 @@ by_numbers m (d ∷ list) table ids one =
 -- ---- a register is adopted
 
 -- All that `adopt` reads of a database: the two rows of meta, the numbers, the row of each deposit, and its lines and steps. The foreign keys leave no other lines and steps.
-pub record IsRead (db : Database) (dictionary : Entries) (list : List Sent) : Type 0 where
-  pub schema : db.schema ≡ register_schema
+pub record IsRead (format : Format) (db : Database) (dictionary : Entries) (list : List Sent) : Type 0 where
+  pub schema : db.schema ≡ schema_of format
   pub sound : IsDatabase db
   pub text : List ℕ
   pub short : length text ≤ READABLE
   pub reads : IsDictionary text dictionary
-  pub meta : IsPermutation (meta_columns text) (map columns_3 (db.trees 0))
+  pub meta : IsPermutation (meta_columns (number_of format) text) (map columns_3 (db.trees 0))
   pub numbers : IsPermutation (number_rows 1 (length list)) (map id_of (deposit_table db.trees))
   pub deposits : (k : ℕ) (d : Sent) → slice_get list k ≡ Some d → filter (has_number (1 + k)) (deposit_table db.trees) ≡ given_deposit (1 + k) d ∷ []
   pub files : List CheckedFile
@@ -176,10 +176,9 @@ outside count n table ids low =
     let kept = IsPermutation-filter (has_number n) _ _ ids in
     empty_map (filter (has_number n) table) (subst₂ IsPermutation (none_above 1 n count (omega arith)) (filter-map (has_number n) id_of table) kept)
 
-pub adopts : (db : Database) (dictionary : Entries) (list : List Sent) → IsRead db dictionary list → IsRegister db dictionary list
-adopts db dictionary list read =
-    let sound : IsSound register_schema db.trees = subst (λ k. IsSound k db.trees) read.schema read.sound in
-    let keyed = sound.obeys.rules ForeignKey in
+pub adopts : (format : Format) (db : Database) (dictionary : Entries) (list : List Sent) → IsRead format db dictionary list → HoldsSent format db dictionary list
+adopts format db dictionary list read =
+    let sound : IsSound (schema_of format) db.trees = subst (λ k. IsSound k db.trees) read.schema read.sound in
     let long : length read.files ≡ length list = AllZip-long (IsFileOf dictionary) list read.files read.each in
     record {
       schema = read.schema;
@@ -194,6 +193,8 @@ adopts db dictionary list read =
       named = read.named;
       apart = read.apart;
       few = read.few;
-      lines = each_of file_lines refl read.files (line_table db.trees) read.lines (λ k low. no_lines db.trees (k + 1) (db.trees 4) (outside (length list) (k + 1) (deposit_table db.trees) read.numbers (omega (arith, low, long))) keyed.1.1.0);
-      steps = each_of file_steps refl read.files (step_table db.trees) read.steps (λ k low. no_steps db.trees (k + 1) (db.trees 6) (outside (length list) (k + 1) (deposit_table db.trees) read.numbers (omega (arith, low, long))) keyed.1.1.1.0);
+      lines = each_of file_lines refl read.files (line_table db.trees) read.lines
+          (λ k low. no_lines db.trees (k + 1) (db.trees 4) (outside (length list) (k + 1) (deposit_table db.trees) read.numbers (omega (arith, low, long))) (keyed_lines format db.trees sound));
+      steps = each_of file_steps refl read.files (step_table db.trees) read.steps
+          (λ k low. no_steps db.trees (k + 1) (db.trees 6) (outside (length list) (k + 1) (deposit_table db.trees) read.numbers (omega (arith, low, long))) (keyed_steps format db.trees sound));
     }

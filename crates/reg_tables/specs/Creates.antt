@@ -2,7 +2,6 @@
 use Rattle.std.proofs.Common.{◌≡◌, ℕ, ◌+◌, ◌≤◌, pos, List, [], ◌∷◌, ◌++◌, map, length, false, None, Ok, refl, sym, ap, subst, ◌∙◌, arith}
 use Rattle.std.specs.List.Sorted.{IsPermutation}
 use Rattle.std.proofs.lemmas.List.Sorted.{IsPermutation-refl, IsPermutation-trans, IsPermutation-append_comm}
-use Rattle.sqlite.specs.declared.types.Value.TheVariants.{Int, Text as Words, Blob as Bytes}
 use Rattle.sqlite.specs.Order.{Row}
 use Rattle.sqlite.specs.Schema.{Schema}
 use Rattle.sqlite.specs.Command.TheVariants.{CreateTable}
@@ -17,12 +16,11 @@ use Rattle.sqlite.proofs.Callers.{runs_as}
 use Rattle.ags_rows.specs.declared.TheConstants.{READABLE}
 use Rattle.ags_dict.specs.Entries.{Entries}
 use Rattle.ags_dict.specs.Reading.{IsDictionary}
-use Rattle.reg_tables.specs.Tables.{meta, deposits, lines, steps, no_schema, register_schema}
-use Rattle.reg_tables.specs.Texts.{create_meta, create_deposits, create_lines, create_steps}
-use Rattle.reg_tables.specs.Meaning.{meta_is, deposits_is, lines_is, steps_is, with_meta, with_deposits, with_lines, schema_is, meta_text, deposits_text, lines_text, steps_text}
-use Rattle.reg_tables.specs.Rows.{columns_3, columns_5, meta_rows, rows_under}
+use Rattle.reg_tables.specs.Tables.{meta, deposits, lines, steps, withdrawals, no_schema, first_schema, register_schema}
+use Rattle.reg_tables.specs.Texts.{create_meta, create_deposits, create_lines, create_steps, create_withdrawals}
+use Rattle.reg_tables.specs.Meaning.{meta_is, deposits_is, lines_is, steps_is, withdrawals_is, with_meta, with_deposits, with_lines, first_is, schema_is, meta_text, deposits_text, lines_text, steps_text, withdrawals_text}
+use Rattle.reg_tables.specs.Rows.{columns_3, columns_5, dictionary_row, format_row, mark_column, meta_rows, rows_under}
 use Rattle.reg_tables.specs.Inserts.{FillsMeta, same_value, went}
-use Rattle.std.specs.Prelude.{codes}
 use Rattle.reg_tables.specs.Register.{deposits_in, meta_columns, IsRegister, tables}
 
 -- the text makes this table under this schema: the schema with it, its tree empty, the trees of the other tables kept
@@ -59,15 +57,31 @@ pub makes_lines : (old new : State) (count : ℕ) → old.now.schema ≡ with_de
 makes_lines old new count has h =
     makes old new count with_deposits create_lines (record lines { tree = 0 }) with_lines lines_is refl refl has (subst (λ t. Writes old new None CreateTable t [] count) lines_text.1 (runs_as create_lines [] old new with_deposits has CreateTable lines_text.0 lines_text.2 count h))
 
-pub makes_steps : (old new : State) (count : ℕ) → old.now.schema ≡ with_lines → Executes create_steps [] old new (Ok count) → Made with_lines register_schema old.now new.now
+pub makes_steps : (old new : State) (count : ℕ) → old.now.schema ≡ with_lines → Executes create_steps [] old new (Ok count) → Made with_lines first_schema old.now new.now
 makes_steps old new count has h =
-    makes old new count with_lines create_steps (record steps { tree = 0 }) register_schema steps_is schema_is refl has (subst (λ t. Writes old new None CreateTable t [] count) steps_text.1 (runs_as create_steps [] old new with_lines has CreateTable steps_text.0 steps_text.2 count h))
+    makes old new count with_lines create_steps (record steps { tree = 0 }) first_schema steps_is first_is refl has (subst (λ t. Writes old new None CreateTable t [] count) steps_text.1 (runs_as create_steps [] old new with_lines has CreateTable steps_text.0 steps_text.2 count h))
+
+-- the table of format 2 that format 1 has not
+abbrev pub MakesWithdrawals : Database → Database → Type 0
+MakesWithdrawals = Made first_schema register_schema
+
+pub makes_withdrawals : (old new : State) (count : ℕ) → old.now.schema ≡ first_schema → Executes create_withdrawals [] old new (Ok count) → MakesWithdrawals old.now new.now
+makes_withdrawals old new count has h =
+    makes old new count first_schema create_withdrawals (record withdrawals { tree = 0 }) register_schema withdrawals_is schema_is refl has (subst (λ t. Writes old new None CreateTable t [] count) withdrawals_text.1 (runs_as create_withdrawals [] old new first_schema has CreateTable withdrawals_text.0 withdrawals_text.2 count h))
 
 -- the first two tables, both empty
 pub record HasFirst (db : Database) : Type 0 where
   pub schema : db.schema ≡ with_deposits
   pub meta : db.trees 0 ≡ []
   pub deposits : db.trees 2 ≡ []
+
+-- the tables of format 1, all empty
+pub record HasFour (db : Database) : Type 0 where
+  pub schema : db.schema ≡ first_schema
+  pub meta : db.trees 0 ≡ []
+  pub deposits : db.trees 2 ≡ []
+  pub lines : db.trees 4 ≡ []
+  pub steps : db.trees 6 ≡ []
 
 -- all tables, all empty
 pub record HasAll (db : Database) : Type 0 where
@@ -76,21 +90,23 @@ pub record HasAll (db : Database) : Type 0 where
   pub deposits : db.trees 2 ≡ []
   pub lines : db.trees 4 ≡ []
   pub steps : db.trees 6 ≡ []
+  pub marks : db.trees 8 ≡ []
 
 -- the tables of a register without deposits
 pub record IsNewRegister (text : List ℕ) (db : Database) : Type 0 where
   pub schema : db.schema ≡ register_schema
   pub sound : IsDatabase db
-  pub meta : IsPermutation (meta_columns text) (map columns_3 (db.trees 0))
+  pub meta : IsPermutation (meta_columns 2 text) (map columns_3 (db.trees 0))
   pub deposits : db.trees 2 ≡ []
   pub lines : db.trees 4 ≡ []
   pub steps : db.trees 6 ≡ []
+  pub marks : db.trees 8 ≡ []
 
 -- A register of no deposits, whose dictionary is these bytes.
 pub record IsEmptyRegister (text : List ℕ) (db : Database) : Type 0 where
   pub dictionary : Entries
   pub register : IsRegister db dictionary []
-  pub bytes : register.text ≡ text
+  pub bytes : register.holds.text ≡ text
 
 -- On a clean disk the connection shows a register of no deposits, whose dictionary is these bytes.
 abbrev pub ShowsEmptyRegister : List ℕ → State → Type 0
@@ -111,7 +127,7 @@ SurvivesMaking text old new = Survives old new (LeavesEmpty old text)
 pub first_two : (a b c : Database) → Made no_schema with_meta a b → Made with_meta with_deposits b c → HasFirst c
 first_two a b c one two = record { schema = two.schema; meta = two.others.0 ∙ one.empty; deposits = two.empty }
 
-pub last_two : (a b c : Database) → HasFirst a → Made with_deposits with_lines a b → Made with_lines register_schema b c → HasAll c
+pub last_two : (a b c : Database) → HasFirst a → Made with_deposits with_lines a b → Made with_lines first_schema b c → HasFour c
 last_two a b c was one two = record {
   schema = two.schema;
   meta = two.others.0 ∙ one.others.0 ∙ was.meta;
@@ -120,40 +136,48 @@ last_two a b c was one two = record {
   steps = two.empty;
 }
 
+pub all_five : (a b : Database) → HasFour a → MakesWithdrawals a b → HasAll b
+all_five a b was one = record {
+  schema = one.schema;
+  meta = one.others.0 ∙ was.meta;
+  deposits = one.others.1.0 ∙ was.deposits;
+  lines = one.others.1.1.0 ∙ was.lines;
+  steps = one.others.1.1.1.0 ∙ was.steps;
+  marks = one.empty;
+}
+
 pub filled : (text : List ℕ) (a b : Database) → HasAll a → FillsMeta text a b → IsNewRegister text b
 filled text a b was put =
-    let added : IsPermutation (meta_rows text) (map columns_3 (b.trees 0)) = subst (λ (rows : List Row). IsPermutation (map columns_3 rows ++ meta_rows text) (map columns_3 (b.trees 0))) was.meta put.rows in
+    let added : IsPermutation (meta_rows 2 text) (map columns_3 (b.trees 0)) = subst (λ (rows : List Row). IsPermutation (map columns_3 rows ++ meta_rows 2 text) (map columns_3 (b.trees 0))) was.meta put.rows in
     record {
       schema = put.schema;
       sound = put.sound;
-      meta = IsPermutation-trans _ _ _ (IsPermutation-append_comm (dictionary_row ∷ []) (format_row ∷ [])) added;
+      meta = IsPermutation-trans _ _ _ (IsPermutation-append_comm (dictionary_row text ∷ []) (format_row 2 ∷ [])) added;
       deposits = put.others.1.0 (λ e. absurd (let no : 2 ≡ 0 = e in omega arith)) ∙ was.deposits;
       lines = put.others.1.1.0 (λ e. absurd (let no : 4 ≡ 0 = e in omega arith)) ∙ was.lines;
       steps = put.others.1.1.1.0 (λ e. absurd (let no : 6 ≡ 0 = e in omega arith)) ∙ was.steps;
+      marks = put.others.1.1.1.1.0 (λ e. absurd (let no : 8 ≡ 0 = e in omega arith)) ∙ was.marks;
     }
-  where
-    dictionary_row : Row
-    dictionary_row = Words (codes "dictionary") ∷ Int (pos 0) ∷ Bytes text ∷ []
-
-    format_row : Row
-    format_row = Words (codes "format") ∷ Int (pos 1) ∷ Bytes [] ∷ []
 
 abbrev pub new_register : (text : List ℕ) (dictionary : Entries) (db : Database) → IsNewRegister text db → length text ≤ READABLE → IsDictionary text dictionary → IsRegister db dictionary []
 new_register text dictionary db it short reads = record {
-  schema = it.schema;
-  sound = it.sound;
-  text = text;
-  short = short;
-  reads = reads;
-  meta = it.meta;
-  deposits = subst (λ rows. IsPermutation [] (map columns_5 rows)) (sym it.deposits) (IsPermutation-refl []);
-  files = [];
-  each = tt;
-  named = tt;
-  apart = tt;
-  few = omega arith;
-  lines = λ k. subst (λ rows. IsPermutation [] (rows_under (k + 1) (map columns_5 rows))) (sym it.lines) (IsPermutation-refl []);
-  steps = λ k. subst (λ rows. IsPermutation [] (rows_under (k + 1) (map columns_3 rows))) (sym it.steps) (IsPermutation-refl []);
+  holds = record {
+    schema = it.schema;
+    sound = it.sound;
+    text = text;
+    short = short;
+    reads = reads;
+    meta = it.meta;
+    deposits = subst (λ rows. IsPermutation [] (map columns_5 rows)) (sym it.deposits) (IsPermutation-refl []);
+    files = [];
+    each = tt;
+    named = tt;
+    apart = tt;
+    few = omega arith;
+    lines = λ k. subst (λ rows. IsPermutation [] (rows_under (k + 1) (map columns_5 rows))) (sym it.lines) (IsPermutation-refl []);
+    steps = λ k. subst (λ rows. IsPermutation [] (rows_under (k + 1) (map columns_3 rows))) (sym it.steps) (IsPermutation-refl []);
+  };
+  marks = subst (λ rows. IsPermutation [] (map mark_column rows)) (sym it.marks) (IsPermutation-refl []);
 }
 
 pub new_empty : (text : List ℕ) (dictionary : Entries) (db : Database) → length text ≤ READABLE → IsDictionary text dictionary → IsNewRegister text db → IsEmptyRegister text db

@@ -8,16 +8,19 @@ use Rattle.sqlite.specs.Order.{Row, column, value_cmp}
 use Rattle.sqlite.specs.Tree.{Trees}
 use Rattle.sqlite.specs.Collation.TheVariants.{Binary}
 use Rattle.sqlite.specs.Ops.{is_null}
+use Rattle.sqlite_catalog.specs.Listing.{IsSound}
 use Rattle.sqlite_schema.specs.declared.schema.Constraint.TheVariants.{ForeignKey}
 use Rattle.sqlite_schema.specs.Rules.{equal, passes}
 use Rattle.sqlite_schema.specs.Names.{same_name}
 use Rattle.sqlite_value.specs.Keys.{first_key, joined}
 use Rattle.sqlite_value.proofs.OrderLemmas.{value_cmp_total}
 use Rattle.sqlite.specs.Ops.{binary}
+use Rattle.reg_tables.specs.declared.format.Format.{Format}
+use Rattle.reg_tables.specs.declared.format.Format.TheVariants.{First, Second}
 use Rattle.reg_tables.specs.Reads.{equal_order, truth_is}
 use Rattle.reg_tables.specs.Register.{has_number}
 use Rattle.reg_tables.specs.Rows.{columns_3, columns_5, deposit_table, is_of, rows_under}
-use Rattle.reg_tables.specs.Tables.{lines, steps, register_schema}
+use Rattle.reg_tables.specs.Tables.{lines, steps, register_schema, schema_of}
 
 -- a row of lines has a row of deposits with its number
 pub has_deposit : (trees : Trees) (r : Row) → passes ForeignKey register_schema trees lines r ≡ true → (((is_null (column r 1) || false) || list_any (λ p. equal Binary (column p 1) (column r 1) && true) (trees 2)) && true) ≡ true
@@ -113,3 +116,14 @@ no_steps trees n (r ∷ rows) none keyed = go (no_steps trees n rows none keyed.
     go : rows_under n (map columns_3 rows) ≡ [] → (b : Bool) → is_of n (columns_3 r) ≡ b → map (drop 1) (if b then columns_3 r ∷ filter (is_of n) (map columns_3 rows) else filter (is_of n) (map columns_3 rows)) ≡ []
     go more true e = absurd (let held = rw (not_null (column r 1) n e, no_parent n (column r 1) (trees 2) e none) at (step_has_deposit trees r keyed.0) in cc)
     go more false e = more
+
+-- the rows of lines, and those of steps, have their rows of deposits, in either format
+pub keyed_lines : (format : Format) (trees : Trees) → IsSound (schema_of format) trees → AllByRecursion (λ r. passes ForeignKey register_schema trees lines r ≡ true) (trees 4)
+unfolding same_name first_key joined
+keyed_lines First trees sound = (sound.obeys.rules ForeignKey).1.1.0
+keyed_lines Second trees sound = (sound.obeys.rules ForeignKey).1.1.0
+
+pub keyed_steps : (format : Format) (trees : Trees) → IsSound (schema_of format) trees → AllByRecursion (λ r. passes ForeignKey register_schema trees steps r ≡ true) (trees 6)
+unfolding same_name first_key joined
+keyed_steps First trees sound = (sound.obeys.rules ForeignKey).1.1.1.0
+keyed_steps Second trees sound = (sound.obeys.rules ForeignKey).1.1.1.0

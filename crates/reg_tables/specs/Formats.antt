@@ -7,7 +7,6 @@ use Rattle.sqlite.specs.Effect.{Database}
 use Rattle.sqlite.specs.Table.{Table}
 use Rattle.sqlite.specs.Schema.{Schema}
 use Rattle.reg_tables.specs.Tables.{meta}
-use Rattle.reg_tables.specs.Schemas.{is_meta}
 use Rattle.reg_tables.specs.Rows.{columns_3}
 
 -- A row of meta, by its columns, that is named `format` and has this number.
@@ -17,10 +16,6 @@ IsFormatRow n row = (body : Value) × (row ≡ Words (codes "format") ∷ Int n 
 -- The first table is meta as a register has it, whatever the other tables, the indexes and the views are.
 abbrev pub StartsWithMeta : Schema → Type 0
 StartsWithMeta schema = (more : List Table) × (schema.tables ≡ meta ∷ more)
-
-abbrev pub starts_with_meta : List Table → Bool
-starts_with_meta [] = false
-starts_with_meta (table ∷ more) = is_meta table
 
 -- The first table is meta, and it has such a row.
 abbrev pub HasFormat : Database → ℤ → Type 0

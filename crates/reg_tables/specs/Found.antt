@@ -6,17 +6,24 @@ use Rattle.std.specs.List.Sorted.{IsPermutation}
 use Rattle.sqlite.specs.Order.{Row}
 use Rattle.sqlite.specs.Tree.{IsAscending}
 use Rattle.sqlite.specs.Effect.{Database}
+use Rattle.sqlite.specs.Listing.{understood}
 use Rattle.sqlite.specs.State.{State, HasCleanDisk, Shown}
+use Rattle.sqlite.proofs.Callers.{IsPlain}
 use Rattle.ags_links.specs.Steps.{IsBefore}
 use Rattle.reg_store.specs.declared.keep.KeptRow.{KeptRow}
 use Rattle.reg_store.specs.Sent.{Sent, is_repeat}
+use Rattle.reg_tables.specs.declared.format.Format.TheVariants.{Second}
 use Rattle.reg_tables.specs.Rows.{columns_3, deposit_table}
-use Rattle.reg_tables.specs.Register.{deposit_rows, has_number, meta_columns}
+use Rattle.reg_tables.specs.Register.{deposit_rows, has_number, mark_rows, mark_table, meta_columns}
 use Rattle.reg_tables.specs.Quiet.{FindsThat, IsTheSame}
 use Rattle.reg_tables.specs.Digests.{HasEqual, HasNoEqual, IsRowOf}
 use Rattle.reg_tables.specs.Adopts.{number_rows}
 use Rattle.reg_tables.specs.Methods.{HoldsLines, HoldsSteps}
 use Rattle.reg_tables.specs.Whole.{Tests}
+
+-- On a clean disk, the text only reads.
+abbrev pub OnlyReads : List ℕ → State → Type 0
+OnlyReads sql s = HasCleanDisk s → IsPlain (understood s.now.schema sql)
 
 -- On a clean disk, the rows that are found are those that the query shows.
 abbrev pub FindsShown : {E : Type 0} → Result (Vec Row Global) E → List ℕ → Row → State → State → Type 0
@@ -63,9 +70,13 @@ rows_numbered n db = filter (has_number n) (deposit_table db.trees)
 abbrev pub AreNumbersFromOne : Database → List Row → Type 0
 AreNumbersFromOne db rows = (list : List Sent) → IsPermutation (deposit_rows 1 list) (deposit_table db.trees) → rows ≡ number_rows 1 (length list)
 
--- Where the table `meta` holds the two rows of a dictionary's bytes, the rows are these, ordered by name.
+-- The rows are those of the table `withdrawals`; where that holds the marks of a list of deposits, the rows are these, rising.
+abbrev pub AreMarksInOrder : Database → List Row → Type 0
+AreMarksInOrder db rows = IsPermutation rows (mark_table Second db.trees) × ((marks : List Bool) → IsPermutation (mark_rows 1 marks) (mark_table Second db.trees) → rows ≡ mark_rows 1 marks)
+
+-- Where the table `meta` holds the two rows of a format's number and a dictionary's bytes, the rows are these, ordered by name.
 abbrev pub AreMetaByName : Database → List Row → Type 0
-AreMetaByName db rows = (text : List ℕ) → IsPermutation (meta_columns text) (map columns_3 (db.trees 0)) → rows ≡ meta_columns text
+AreMetaByName db rows = (number : ℕ) (text : List ℕ) → IsPermutation (meta_columns number text) (map columns_3 (db.trees 0)) → rows ≡ meta_columns number text
 
 -- On a clean disk, one deposit alone has the number, and the answer is whether it is equal.
 abbrev pub FindsIfEqual : {E : Type 0} → Result Bool E → ℕ → List ℕ → List ℕ → List ℕ → State → State → Type 0

@@ -1,5 +1,5 @@
 -- The heads of a register's deposits.
-use Rattle.std.specs.Prelude.{◌≡◌, ℕ, Bool, true, List, [], ◌∷◌, ◌++◌, length, map, Result, Ok}
+use Rattle.std.specs.Prelude.{◌≡◌, ℕ, Bool, true, false, List, [], ◌∷◌, ◌++◌, length, map, Result, Ok}
 use Rattle.std.specs.declared.alloc.Global.{Global}
 use Rattle.std.specs.declared.vec.Vec.{Vec}
 use Rattle.std.specs.List.Sorted.{IsPermutation}
@@ -13,8 +13,9 @@ use Rattle.reg_tables.specs.Digests.{AddsNumber, IsRowOf, own_digest}
 use Rattle.reg_tables.specs.Rows.{deposit_table}
 use Rattle.reg_tables.specs.Register.{deposit_rows}
 
+-- the head of what was sent, as of a deposit without a mark
 abbrev pub head_of : Sent → KeptHead
-head_of d = record { firm = d.firm; project = d.project; embargo = d.embargo }
+head_of d = record { firm = d.firm; project = d.project; embargo = d.embargo; withdrawn = false }
 
 -- The heads are, in order, those of the deposits.
 abbrev pub AreHeads : List KeptHead → List Sent → Type 0

@@ -1,5 +1,5 @@
 -- What the inserts do.
-use Rattle.std.proofs.Common.{◌≡◌, ◌≢◌, ◌⊎◌, inl, inr, ℕ, ◌+◌, ◌/◌, drop, pos, List, [], ◌∷◌, ◌++◌, map, length, Some, None, slice_get, Ok, Err, Result, refl, sym, ap, subst, ◌∙◌, arith}
+use Rattle.std.proofs.Common.{◌≡◌, ◌≢◌, ◌⊎◌, inl, inr, ℕ, ◌+◌, ◌/◌, drop, pos, List, [], ◌∷◌, ◌++◌, map, length, Option, Some, None, slice_get, Ok, Err, Result, refl, sym, ap, subst, ◌∙◌, arith}
 use Rattle.std.specs.List.{AllByRecursion}
 use Rattle.std.specs.List.Sorted.{IsPermutation}
 use Rattle.sqlite.specs.declared.types.Value.TheVariants.{Null, Int, Blob as Bytes}
@@ -20,7 +20,6 @@ use Rattle.sqlite_schema.specs.declared.schema.Column.{Column}
 use Rattle.sqlite_schema.specs.declared.schema.Reference.{Reference}
 use Rattle.sqlite_schema.specs.declared.schema.Table.{Table}
 use Rattle.sqlite_value.specs.declared.keys.Order.{Order}
-use Rattle.sqlite_value.specs.Keys.{plain}
 use Rattle.sqlite_rules.specs.Action as action
 use Rattle.sqlite_schema.specs.declared.schema.Keys.TheVariants.{Enforced}
 use Rattle.sqlite.specs.Listing.{understood}
@@ -28,11 +27,11 @@ use Rattle.sqlite.specs.State.{State, mode_of, Executes}
 use Rattle.sqlite.proofs.Callers.{IsPlain, command_of, statement_of, runs_as, one_step}
 use Rattle.reg_store.specs.declared.keep.KeptRow.{KeptRow}
 use Rattle.reg_store.specs.Sent.{Sent}
-use Rattle.reg_tables.specs.Tables.{keyed, falling, meta, deposits, lines, steps, register_schema}
-use Rattle.reg_tables.specs.Texts.{insert_deposit, insert_line, insert_step, insert_eight_lines, insert_eight_steps, fill_meta}
-use Rattle.reg_tables.specs.Meaning.{deposit_terms, deposit_is, deposit_plain, line_terms, line_is, line_plain, step_terms, step_is, step_plain, eight_line_terms, eight_lines_are, eight_lines_plain, eight_step_terms, eight_steps_are, eight_steps_plain, fill_terms, fill_is, fill_plain}
-use Rattle.reg_tables.specs.Rows.{columns_5, columns_3, joined, line_table, line_row, line_rows, step_table, step_row, step_rows, given_deposit, deposit_table, meta_rows, IsMore}
-use Rattle.reg_tables.specs.Put.{cast_int, IsBlind, all_seen}
+use Rattle.reg_tables.specs.Tables.{simple, meta, deposits, lines, steps, withdrawals, register_schema}
+use Rattle.reg_tables.specs.Texts.{insert_deposit, insert_line, insert_step, insert_mark, insert_eight_lines, insert_eight_steps, fill_meta}
+use Rattle.reg_tables.specs.Meaning.{deposit_terms, deposit_is, deposit_plain, line_terms, line_is, line_plain, step_terms, step_is, step_plain, mark_terms, mark_is, mark_plain, eight_line_terms, eight_lines_are, eight_lines_plain, eight_step_terms, eight_steps_are, eight_steps_plain, fill_terms, fill_is, fill_plain}
+use Rattle.reg_tables.specs.Rows.{columns_5, columns_3, joined, line_table, line_row, line_rows, step_table, step_row, step_rows, given_deposit, deposit_table, mark_column, mark_row, meta_rows, IsMore}
+use Rattle.reg_tables.specs.Put.{cast_int, IsBlind, AreSeen, seen_blind, all_seen}
 
 pub same_value : {B E : Type 0} {a b : B} → ◌≡◌ {A = Result B E} (Ok a) (Ok b) → a ≡ b
 same_value e = cc
@@ -49,7 +48,7 @@ pub record Adds (tree : ℕ) (see : Row → Row) (more : List Row) (old new : Da
   pub others : AllByRecursion (λ t. t.tree ≢ tree → new.trees t.tree ≡ old.trees t.tree) register_schema.tables
 
 abbrev pub FillsMeta : List ℕ → Database → Database → Type 0
-FillsMeta dictionary = Adds 0 columns_3 (meta_rows dictionary)
+FillsMeta dictionary = Adds 0 columns_3 (meta_rows 2 dictionary)
 
 abbrev pub AddsDeposit : ℕ → Sent → Database → Database → Type 0
 AddsDeposit n d = Adds 2 columns_5 (given_deposit n d ∷ [])
@@ -60,6 +59,9 @@ AddsLines = Adds 4 columns_5
 abbrev pub AddsSteps : List Row → Database → Database → Type 0
 AddsSteps = Adds 6 columns_3
 
+abbrev pub AddsMark : ℕ → Database → Database → Type 0
+AddsMark n = Adds 8 mark_column (mark_row n ∷ [])
+
 -- a deposit with its rows and its steps
 pub record AddsFile (n : ℕ) (d : Sent) (rows : List KeptRow) (graph : List (ℕ × ℕ)) (old new : Database) : Type 0 where
   pub schema : new.schema ≡ register_schema
@@ -67,6 +69,7 @@ pub record AddsFile (n : ℕ) (d : Sent) (rows : List KeptRow) (graph : List (�
   pub deposits : IsMore (deposit_table old.trees) (given_deposit n d ∷ []) (deposit_table new.trees)
   pub lines : IsMore (line_table old.trees) (line_rows n 0 rows) (line_table new.trees)
   pub steps : IsMore (step_table old.trees) (step_rows n graph) (step_table new.trees)
+  pub marks : new.trees 8 ≡ old.trees 8
 
 -- a row's columns behind its rowid are the same whatever that is
 columns_5_blind : IsBlind columns_5
@@ -103,12 +106,15 @@ by_eight P all (a ∷ b ∷ c ∷ d ∷ e ∷ f ∷ g ∷ []) eight = absurd (om
 by_eight P all (a ∷ b ∷ c ∷ d ∷ e ∷ f ∷ g ∷ i ∷ j ∷ more) eight = absurd (omega arith)
 
 -- What an insert puts in a table, where no foreign key acts on it.
-puts : (at : ℕ) (name : List ℕ) (tree : ℕ) (columns : List Column) (key : List ℕ) (order : Order) (references : List Reference) → slice_get register_schema.tables at ≡ Some (keyed name tree columns key order references)
-    → (see : Row → Row) → IsBlind see → (width : ℕ) (sql : List ℕ) (terms : List Term) → command_of (understood register_schema sql) ≡ Insert at (Values terms width) → IsPlain (understood register_schema sql)
-    → (params : Row) → IsLone (keyed name tree columns key order references) width terms params → (more : List Row) → map see (taken_as (keyed name tree columns key order references) width terms params) ≡ more
+puts : (at : ℕ) (name : List ℕ) (tree : ℕ) (columns : List Column) (alias : Option ℕ) (key : List ℕ) (uniques : List (List ℕ)) (orders : List Order) (references : List Reference)
+    → slice_get register_schema.tables at ≡ Some (simple name tree columns alias key uniques orders references)
+    → (see : Row → Row) (width : ℕ) (sql : List ℕ) (terms : List Term) → command_of (understood register_schema sql) ≡ Insert at (Values terms width) → IsPlain (understood register_schema sql)
+    → (params : Row) → IsLone (simple name tree columns alias key uniques orders references) width terms params
+    → AreSeen see (taken_as (simple name tree columns alias key uniques orders references) width terms params)
+    → (more : List Row) → map see (taken_as (simple name tree columns alias key uniques orders references) width terms params) ≡ more
     → (old new : State) (count : ℕ) → old.now.schema ≡ register_schema → Executes sql params old new (Ok count) → Adds tree see more old.now new.now
-puts at name tree columns key order references here see blind width sql terms is plain params lone more seen_as old new count has h =
-    let table = keyed name tree columns key order references in
+puts at name tree columns alias key uniques orders references here see width sql terms is plain params lone same_seen more seen_as old new count has h =
+    let table = simple name tree columns alias key uniques orders references in
     let db = old.now.trees in
     let command = Insert at (Values terms width) in
     let w = runs_as sql params old new register_schema has command is plain count h in
@@ -126,7 +132,7 @@ puts at name tree columns key order references here see blind width sql terms is
     let wrote : action.Writes register_schema Enforced db edit (Ok written.0) = subst (λ all. action.Writes register_schema Enforced db (edit_of db table [] Chosen 0 all) (Ok written.0)) given.1.1 written.1 in
     let step = one_step register_schema Enforced db written.0 edit (lone db) wrote in
     let seen = subst (λ rows. IsPermutation (map see (db tree) ++ rows) (map see (put_all (db tree) edit.news))) seen_as
-    (all_seen see blind (db tree) (taken_as table width terms params) step.fresh) in
+    (all_seen see (db tree) (taken_as table width terms params) same_seen step.fresh) in
     record {
       schema = ap (λ (d : Database). d.schema) now;
       sound = w.sound;
@@ -137,12 +143,14 @@ puts at name tree columns key order references here see blind width sql terms is
 puts_lines : (sql : List ℕ) (terms : List Term) → command_of (understood register_schema sql) ≡ Insert 2 (Values terms 6) → IsPlain (understood register_schema sql)
     → (params : Row) → IsLone lines 6 terms params → (more : List Row) → map columns_5 (taken_as lines 6 terms params) ≡ more
     → (old new : State) (count : ℕ) → old.now.schema ≡ register_schema → Executes sql params old new (Ok count) → AddsLines more old.now new.now
-puts_lines = puts 2 lines.name lines.tree lines.columns lines.primary plain lines.references refl columns_5 columns_5_blind 6
+puts_lines sql terms is plain params lone =
+    puts 2 lines.name lines.tree lines.columns lines.key lines.primary lines.uniques lines.orders lines.references refl columns_5 6 sql terms is plain params lone (seen_blind columns_5 columns_5_blind _)
 
 puts_steps : (sql : List ℕ) (terms : List Term) → command_of (understood register_schema sql) ≡ Insert 3 (Values terms 4) → IsPlain (understood register_schema sql)
     → (params : Row) → IsLone steps 4 terms params → (more : List Row) → map columns_3 (taken_as steps 4 terms params) ≡ more
     → (old new : State) (count : ℕ) → old.now.schema ≡ register_schema → Executes sql params old new (Ok count) → AddsSteps more old.now new.now
-puts_steps = puts 3 steps.name steps.tree steps.columns steps.primary plain steps.references refl columns_3 columns_3_blind 4
+puts_steps sql terms is plain params lone =
+    puts 3 steps.name steps.tree steps.columns steps.key steps.primary steps.uniques steps.orders steps.references refl columns_3 4 sql terms is plain params lone (seen_blind columns_3 columns_3_blind _)
 
 -- a row of a file, as the table takes it
 line_taken : (n at : ℕ) (row : KeptRow) → columns_5 (cast_row lines (Null ∷ line_row n at row)) ≡ line_row n at row
@@ -191,13 +199,25 @@ deposit_taken n d = rw (cast_int (pos n), cast_int d.embargo) refl
 
 pub puts_deposit : (old new : State) (n : ℕ) (d : Sent) (count : ℕ) → old.now.schema ≡ register_schema → Executes insert_deposit (given_deposit n d) old new (Ok count) → AddsDeposit n d old.now new.now
 puts_deposit old new n d count =
-    puts 1 deposits.name deposits.tree deposits.columns deposits.primary falling deposits.references refl columns_5 columns_5_blind 6 insert_deposit deposit_terms deposit_is deposit_plain
-    (given_deposit n d) (λ db. refl) (given_deposit n d ∷ []) (deposit_taken n d) old new count
+    puts 1 deposits.name deposits.tree deposits.columns deposits.key deposits.primary deposits.uniques deposits.orders deposits.references refl columns_5 6 insert_deposit deposit_terms deposit_is deposit_plain
+    (given_deposit n d) (λ db. refl) (seen_blind columns_5 columns_5_blind (taken_as deposits 6 deposit_terms (given_deposit n d))) (given_deposit n d ∷ []) (deposit_taken n d) old new count
 
-meta_taken : (dictionary : List ℕ) → map columns_3 (taken_as meta 4 fill_terms (Bytes dictionary ∷ [])) ≡ meta_rows dictionary
-meta_taken dictionary = rw (cast_int (pos 1), cast_int (pos 0)) refl
+meta_taken : (dictionary : List ℕ) → map columns_3 (taken_as meta 4 fill_terms (Bytes dictionary ∷ [])) ≡ meta_rows 2 dictionary
+meta_taken dictionary = rw (cast_int (pos 2), cast_int (pos 0)) refl
 
 pub fills_meta : (old new : State) (dictionary : List ℕ) (count : ℕ) → old.now.schema ≡ register_schema → Executes fill_meta (Bytes dictionary ∷ []) old new (Ok count) → FillsMeta dictionary old.now new.now
 fills_meta old new dictionary count =
-    puts 0 meta.name meta.tree meta.columns meta.primary plain meta.references refl columns_3 columns_3_blind 4 fill_meta fill_terms fill_is fill_plain
-    (Bytes dictionary ∷ []) (λ db. refl) (meta_rows dictionary) (meta_taken dictionary) old new count
+    puts 0 meta.name meta.tree meta.columns meta.key meta.primary meta.uniques meta.orders meta.references refl columns_3 4 fill_meta fill_terms fill_is fill_plain
+    (Bytes dictionary ∷ []) (λ db. refl) (seen_blind columns_3 columns_3_blind (taken_as meta 4 fill_terms (Bytes dictionary ∷ []))) (meta_rows 2 dictionary) (meta_taken dictionary) old new count
+
+-- the number is that of the row itself
+mark_taken : (n : ℕ) → map mark_column (taken_as withdrawals 2 mark_terms (mark_row n)) ≡ mark_row n ∷ []
+mark_taken n = rw (cast_int (pos n)) refl
+
+mark_seen : (n : ℕ) → AreSeen mark_column (taken_as withdrawals 2 mark_terms (mark_row n))
+mark_seen n = rw (cast_int (pos n)) ((λ rows. refl), tt)
+
+pub puts_mark : (old new : State) (n : ℕ) (count : ℕ) → old.now.schema ≡ register_schema → Executes insert_mark (mark_row n) old new (Ok count) → AddsMark n old.now new.now
+puts_mark old new n count =
+    puts 4 withdrawals.name withdrawals.tree withdrawals.columns withdrawals.key withdrawals.primary withdrawals.uniques withdrawals.orders withdrawals.references refl mark_column 2 insert_mark mark_terms mark_is mark_plain
+    (mark_row n) (λ db. refl) (mark_seen n) (mark_row n ∷ []) (mark_taken n) old new count

@@ -11,6 +11,8 @@ pub mod Quiet
 pub mod Commits
 pub mod Pushes
 pub mod RegisterLaws
+pub mod Marks
+pub mod Turns
 pub mod Digests
 pub mod Heads
 pub mod KeepLaws

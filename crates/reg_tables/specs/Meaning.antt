@@ -16,12 +16,12 @@ use Rattle.sqlite_value.specs.declared.keys.Key.{Key}
 use Rattle.sqlite.specs.declared.types.Value.TheVariants.{Null, Int, Text as Words, Blob as Bytes}
 use Rattle.sqlite.specs.Source.TheVariants.{Values}
 use Rattle.sqlite.specs.Command.{Command}
-use Rattle.sqlite.specs.Command.TheVariants.{Insert, Select, CreateTable}
+use Rattle.sqlite.specs.Command.TheVariants.{Insert, Update, Select, CreateTable}
 use Rattle.sqlite_tied.specs.Compute.{everything}
 use Rattle.sqlite.specs.Listing.{understood, reads_listing}
 use Rattle.sqlite.proofs.Callers.{IsPlain, command_of, statement_of}
-use Rattle.reg_tables.specs.Tables.{HasTables, meta, deposits, lines, steps, no_schema, register_schema}
-use Rattle.reg_tables.specs.Texts.{create_meta, create_deposits, create_lines, create_steps, fill_meta, insert_deposit, insert_line, insert_step, insert_eight_lines, insert_eight_steps, select_deposit, select_lines, select_steps, select_front, select_targets, select_all_numbers, select_meta}
+use Rattle.reg_tables.specs.Tables.{HasTables, meta, deposits, lines, steps, withdrawals, no_schema, first_schema, register_schema}
+use Rattle.reg_tables.specs.Texts.{create_meta, create_deposits, create_lines, create_steps, create_withdrawals, fill_meta, raise_format, insert_deposit, insert_line, insert_step, insert_mark, insert_eight_lines, insert_eight_steps, select_deposit, select_lines, select_steps, select_front, select_targets, select_all_numbers, select_marks, select_meta}
 
 -- ---- the tables
 
@@ -41,6 +41,10 @@ pub steps_is : table_defined_by create_steps ≡ Ok (record steps { tree = 0 })
 unfolding understood everything
 steps_is = refl
 
+pub withdrawals_is : table_defined_by create_withdrawals ≡ Ok (record withdrawals { tree = 0 })
+unfolding understood everything
+withdrawals_is = refl
+
 -- the schemas on the way
 abbrev pub with_meta : Schema
 with_meta = created no_schema meta
@@ -51,7 +55,11 @@ with_deposits = created with_meta (record deposits { tree = 0 })
 abbrev pub with_lines : Schema
 with_lines = created with_deposits (record lines { tree = 0 })
 
-pub schema_is : created with_lines (record steps { tree = 0 }) ≡ register_schema
+pub first_is : created with_lines (record steps { tree = 0 }) ≡ first_schema
+unfolding understood everything
+first_is = refl
+
+pub schema_is : created first_schema (record withdrawals { tree = 0 }) ≡ register_schema
 unfolding understood everything
 schema_is = refl
 
@@ -71,10 +79,14 @@ pub steps_text : (command_of (understood with_lines create_steps) ≡ CreateTabl
 unfolding understood everything
 steps_text = (refl, refl, (refl, refl))
 
+pub withdrawals_text : (command_of (understood first_schema create_withdrawals) ≡ CreateTable) × (statement_of create_withdrawals (understood first_schema create_withdrawals) ≡ create_withdrawals) × IsPlain (understood first_schema create_withdrawals)
+unfolding understood everything
+withdrawals_text = (refl, refl, (refl, refl))
+
 -- ---- the inserts
 
 abbrev pub fill_terms : List Term
-fill_terms = lit Null ∷ lit (Words (codes "format")) ∷ lit (Int (pos 1)) ∷ lit (Bytes []) ∷ lit Null ∷ lit (Words (codes "dictionary")) ∷ lit (Int (pos 0)) ∷ col 0 0 ∷ []
+fill_terms = lit Null ∷ lit (Words (codes "format")) ∷ lit (Int (pos 2)) ∷ lit (Bytes []) ∷ lit Null ∷ lit (Words (codes "dictionary")) ∷ lit (Int (pos 0)) ∷ col 0 0 ∷ []
 
 pub fill_is : command_of (understood register_schema fill_meta) ≡ Insert 0 (Values fill_terms 4)
 unfolding understood everything
@@ -116,6 +128,17 @@ step_is = refl
 pub step_plain : IsPlain (understood register_schema insert_step)
 unfolding understood everything
 step_plain = (refl, refl)
+
+abbrev pub mark_terms : List Term
+mark_terms = col 0 0 ∷ lit Null ∷ []
+
+pub mark_is : command_of (understood register_schema insert_mark) ≡ Insert 4 (Values mark_terms 2)
+unfolding understood everything
+mark_is = refl
+
+pub mark_plain : IsPlain (understood register_schema insert_mark)
+unfolding understood everything
+mark_plain = (refl, refl)
 
 abbrev pub eight_line_terms : List Term
 eight_line_terms =
@@ -248,3 +271,24 @@ all_meta = query (inner 0 end) [] (col 1 1 ∷ col 1 2 ∷ col 1 3 ∷ []) (risi
 pub all_meta_read : Asks select_meta all_meta (codes "name" ∷ codes "num" ∷ codes "body" ∷ [])
 unfolding understood everything
 all_meta_read = asks select_meta all_meta (codes "name" ∷ codes "num" ∷ codes "body" ∷ []) (λ more indexes views. (refl, (refl, refl), refl))
+
+abbrev pub all_marks : Query
+all_marks = query (inner 8 end) [] (col 1 0 ∷ []) (rising (col 1 0) ∷ [])
+
+pub all_marks_read : AsksIn register_schema select_marks all_marks (codes "deposit" ∷ [])
+unfolding understood everything
+all_marks_read = (refl, (refl, refl), refl)
+
+-- ---- the update
+
+-- the row `format` of meta, by its rowid, with the number 2
+abbrev pub format_raised : Query
+format_raised = query (inner 0 end) (op2 (Compare Eq Binary) (col 1 1) (lit (Words (codes "format"))) ∷ []) (col 1 0 ∷ col 1 0 ∷ col 1 1 ∷ lit (Int (pos 2)) ∷ col 1 3 ∷ []) []
+
+pub raise_is : command_of (understood register_schema raise_format) ≡ Update 0 (record { lets = []; body = format_raised })
+unfolding understood everything
+raise_is = refl
+
+pub raise_plain : IsPlain (understood register_schema raise_format)
+unfolding understood everything
+raise_plain = (refl, refl)

@@ -1,5 +1,5 @@
 -- What is known of the deposits without the tables, and that it agrees with the list of deposits.
-use Rattle.std.specs.Prelude.{◌≡◌, ◌<◌, ◌≤◌, ◌+◌, ℕ, List, [], ◌∷◌, ◌++◌, length, IsSome, Some, None, slice_get, vec_len, vec_capacity}
+use Rattle.std.specs.Prelude.{◌≡◌, ◌<◌, ◌≤◌, ◌+◌, ℕ, Bool, List, [], ◌∷◌, ◌++◌, length, IsSome, Some, None, slice_get, vec_len, vec_capacity}
 use Rattle.std.specs.Option.{ForSome}
 use Rattle.ags_dict.specs.Entries.{Entries}
 use Rattle.ags_check.specs.Findings.{CheckedFile}
@@ -9,17 +9,30 @@ use Rattle.reg_store.specs.Keep.{OfDeposit}
 use Rattle.reg_store.specs.Project.{targets_of}
 use Rattle.reg_store.specs.Reading.{HasGraph, HasKeptRows, HasProjectRow, OfFile}
 use Rattle.reg_store.specs.Sent.{Sent}
+use Rattle.reg_store.specs.Deposit.{Deposit, sents}
 use Rattle.reg_tables.specs.declared.memory.Coming.{Coming}
 use Rattle.reg_tables.specs.declared.memory.Known.{Known}
 use Rattle.reg_tables.specs.declared.memory.Memory.{Memory}
 use Rattle.reg_tables.specs.declared.recent.RecentGraph.{RecentGraph}
 use Rattle.reg_tables.specs.declared.recent.RecentRows.{RecentRows}
+use Rattle.sqlite.specs.Effect.{Database}
+use Rattle.reg_tables.specs.Register.{IsRegister, deposits_in}
 use Rattle.reg_tables.specs.Digests.{AreBelow, AreDigested, found_at, numbers_under, own_digest}
 use Rattle.reg_tables.specs.Heads.{head_of}
 
 -- Of a deposit of this head nothing was read.
 abbrev pub new_known : KeptHead → Known
 new_known head = record { head = head; project = None; alone = None }
+
+-- the head with this mark
+abbrev pub with_mark : KeptHead → Bool → KeptHead
+with_mark head mark = record { firm = head.firm; project = head.project; embargo = head.embargo; withdrawn = mark }
+
+-- of deposits of these heads and marks nothing was read
+abbrev pub marked_known : List KeptHead → List Bool → List Known
+marked_known [] marks = []
+marked_known (head ∷ heads) [] = []
+marked_known (head ∷ heads) (mark ∷ marks) = new_known (with_mark head mark) ∷ marked_known heads marks
 
 -- A deposit of the head that is known, without bytes.
 abbrev pub bare_of : Known → Sent
@@ -29,35 +42,40 @@ bare_of one = record { firm = one.head.firm; project = one.head.project; embargo
 abbrev pub HasNoTarget : ℕ → CheckedFile → Type 0
 HasNoTarget row file = [] ≡ targets_of row file.graph.steps
 
--- What is known of a deposit is its head, and what was read is what its file has.
-pub record IsKnown (dictionary : Entries) (d : Sent) (one : Known) : Type 0 where
-  pub head : one.head ≡ head_of d
-  pub project : ForSome one.project (λ row. OfFile dictionary d (HasProjectRow (Some row)))
-  pub alone : ForSome one.alone (λ row. OfFile dictionary d (HasNoTarget row))
+-- What is known of a deposit is its head with its mark, and what was read is what its file has.
+pub record IsKnown (dictionary : Entries) (d : Deposit) (one : Known) : Type 0 where
+  pub head : one.head ≡ with_mark (head_of d.sent) d.withdrawn
+  pub project : ForSome one.project (λ row. OfFile dictionary d.sent (HasProjectRow (Some row)))
+  pub alone : ForSome one.alone (λ row. OfFile dictionary d.sent (HasNoTarget row))
 
 -- Of each deposit this is known, in the order of the list.
-pub record AreKnown (dictionary : Entries) (list : List Sent) (known : List Known) : Type 0 where
+pub record AreKnown (dictionary : Entries) (list : List Deposit) (known : List Known) : Type 0 where
   pub long : length known ≡ length list
-  pub each : (k : ℕ) (d : Sent) (one : Known) → slice_get list k ≡ Some d → slice_get known k ≡ Some one → IsKnown dictionary d one
+  pub each : (k : ℕ) (d : Deposit) (one : Known) → slice_get list k ≡ Some d → slice_get known k ≡ Some one → IsKnown dictionary d one
 
 -- A deposit has the number.
-abbrev pub IsNumberOf : ℕ → List Sent → Type 0
+abbrev pub IsNumberOf : ℕ → List Deposit → Type 0
 IsNumberOf n list = (0 < n) × (n ≤ length list)
 
 -- What is known agrees with the list: of each deposit, of each digest, and of the deposits whose rows and steps were read last.
-pub record Agrees (memory : Memory) (dictionary : Entries) (list : List Sent) : Type 0 where
+pub record Agrees (memory : Memory) (dictionary : Entries) (list : List Deposit) : Type 0 where
   pub known : AreKnown dictionary list memory.known.items
-  pub digests : AreDigested memory.digests list
+  pub digests : AreDigested memory.digests (sents list)
   pub below : AreBelow memory.digests (length list + 1)
   pub rows : ForSome memory.rows (λ (held : RecentRows).
-      IsNumberOf held.number list × OfDeposit dictionary list held.number (HasKeptRows held.rows))
+      IsNumberOf held.number list × OfDeposit dictionary (sents list) held.number (HasKeptRows held.rows))
   pub graph : ForSome memory.graph (λ (held : RecentGraph).
-      IsNumberOf held.number list × OfDeposit dictionary list held.number (HasGraph held.graph))
+      IsNumberOf held.number list × OfDeposit dictionary (sents list) held.number (HasGraph held.graph))
+
+-- The tables are a register of this dictionary and of a list that is as long as what is known, which agrees with it.
+pub record Recalls (db : Database) (dictionary : Entries) (memory : Memory) : Type 0 where
+  pub register : ∥ ((list : List Deposit) × IsRegister db dictionary list × (length list ≡ length memory.known.items)) ∥₁
+  pub agrees : Agrees memory dictionary (deposits_in db.trees)
 
 -- As many deposits are known, and what agreed with a list still does, if this is so of it and the number is one of its deposits.
 pub record Notes (old new : Memory) (n : ℕ) (IsRead : Entries → List Sent → Type 0) : Type 0 where
   pub long : length new.known.items ≡ length old.known.items
-  pub agrees : (dictionary : Entries) (list : List Sent) → IsNumberOf n list → IsRead dictionary list → Agrees old dictionary list → Agrees new dictionary list
+  pub agrees : (dictionary : Entries) (list : List Deposit) → IsNumberOf n list → IsRead dictionary (sents list) → Agrees old dictionary list → Agrees new dictionary list
 
 -- There is room for one deposit more.
 pub record HasRoom (memory : Memory) (coming : Coming) : Type 0 where

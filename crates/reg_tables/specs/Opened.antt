@@ -8,7 +8,8 @@ use Rattle.sqlite.specs.State.{State, HasCleanDisk}
 use Rattle.sqlite.specs.Files.{AreFoundIn, HoldsDatabase}
 use Rattle.ags_dict.specs.Entries.{Entries}
 use Rattle.reg_tables.specs.declared.adopting.AdoptError.{AdoptError}
-use Rattle.reg_store.specs.Sent.{Sent}
+use Rattle.reg_store.specs.Deposit.{Deposit}
+use Rattle.reg_tables.specs.declared.format.Format.{Format}
 use Rattle.reg_tables.specs.Tables.{no_schema}
 use Rattle.reg_tables.specs.Register.{IsRegister, deposits_in}
 use Rattle.reg_tables.specs.Adoption.{Adopts}
@@ -19,7 +20,7 @@ pub record FindsTables (image : Image) (trees : Trees) : Type 0 where
   pub only : (held : Trees) → HoldsDatabase image held → trees ≡ held
 
 -- An open finds a register of this list.
-pub record HoldsRegister (image : Image) (dictionary : Entries) (list : List Sent) : Type 0 where
+pub record HoldsRegister (image : Image) (dictionary : Entries) (list : List Deposit) : Type 0 where
   pub db : Database
   pub found : FindsTables image db.trees
   pub register : IsRegister db dictionary list
@@ -28,12 +29,12 @@ pub record HoldsRegister (image : Image) (dictionary : Entries) (list : List Sen
 abbrev pub AdoptsFiles : Image → Entries → State → Type 0
 AdoptsFiles image dictionary s = HasCleanDisk s → ∥ HoldsRegister image dictionary (deposits_in s.committed.trees) ∥₁
 
--- An open finds a sound database, and this is what it is answered where it is adopted.
-pub record RefusesFiles (image : Image) (error : AdoptError) : Type 0 where
+-- An open finds a sound database, and this is what it is answered where a register of this format is looked for.
+pub record RefusesFiles (format : Format) (image : Image) (error : AdoptError) : Type 0 where
   pub db : Database
   pub sound : IsDatabase db
   pub found : FindsTables image db.trees
-  pub refused : Adopts db (Err error)
+  pub refused : Adopts format db (Err error)
 
 -- An open finds a sound database, and this holds of its tables, indexes and views.
 pub record FindsSchema (image : Image) (Has : Schema → Type 0) : Type 0 where

@@ -1,6 +1,6 @@
 -- A register in tables, and what a connection keeps.
-use Rattle.std.specs.Prelude.{◌≡◌, ℕ, zero, suc, ℤ, ◌+◌, ◌≤◌, pos, Bool, find, unwrap_or, List, [], ◌∷◌, map, length, IsTrue, codes, Option, Some, None, slice_get}
-use Rattle.std.specs.List.{AllByRecursion, AllZip}
+use Rattle.std.specs.Prelude.{◌≡◌, ℕ, zero, suc, ℤ, ◌+◌, ◌≤◌, pos, Bool, true, false, find, unwrap_or, List, [], ◌∷◌, map, length, IsTrue, Option, Some, None, slice_get}
+use Rattle.std.specs.List.{AllByRecursion, AllZip, list_any}
 use Rattle.std.specs.Ordering.{is_eq}
 use Rattle.std.specs.List.Sorted.{IsPermutation}
 use Rattle.sqlite.specs.declared.types.Value.{Value}
@@ -14,8 +14,11 @@ use Rattle.ags_dict.specs.Entries.{Entries}
 use Rattle.ags_dict.specs.Reading.{IsDictionary}
 use Rattle.ags_check.specs.Findings.{CheckedFile}
 use Rattle.reg_store.specs.Sent.{Sent}
-use Rattle.reg_tables.specs.Tables.{register_schema}
-use Rattle.reg_tables.specs.Rows.{columns_3, deposit_table, line_table, step_table, placed_rows, step_pair, rows_under}
+use Rattle.reg_store.specs.Deposit.{Deposit, sents}
+use Rattle.reg_tables.specs.declared.format.Format.{Format}
+use Rattle.reg_tables.specs.declared.format.Format.TheVariants.{First, Second}
+use Rattle.reg_tables.specs.Tables.{number_of, register_schema, schema_of}
+use Rattle.reg_tables.specs.Rows.{columns_3, deposit_table, dictionary_row, format_row, is_of, line_table, mark_column, mark_row, step_table, placed_rows, step_pair, rows_under}
 use Rattle.reg_store.specs.Fit.{IsFileOf, IsNamed, kept_rows}
 use Rattle.reg_store.specs.Apart.{AreApart}
 
@@ -49,8 +52,34 @@ deposits_from rows n zero = []
 deposits_from rows n (suc count) = deposit_at rows n ∷ deposits_from rows (n + 1) count
 
 -- what the table `deposits` says: as many deposits as it has rows, by their numbers from 1
-unfoldable pub deposits_in : Trees → List Sent
-deposits_in trees = deposits_from (deposit_table trees) 1 (length (deposit_table trees))
+unfoldable pub sents_in : Trees → List Sent
+sents_in trees = deposits_from (deposit_table trees) 1 (length (deposit_table trees))
+
+-- ---- the marks
+
+-- of each deposit, whether it is withdrawn
+abbrev pub marks_of : List Deposit → List Bool
+marks_of list = map (λ d. d.withdrawn) list
+
+-- the numbers of the marked deposits as rows, numbered from n
+abbrev pub mark_rows : ℕ → List Bool → List Row
+mark_rows n [] = []
+mark_rows n (true ∷ more) = mark_row n ∷ mark_rows (n + 1) more
+mark_rows n (false ∷ more) = mark_rows (n + 1) more
+
+-- the numbers in the table `withdrawals`; format 1 has no such table
+abbrev pub mark_table : Format → Trees → List Row
+mark_table First trees = []
+mark_table Second trees = map mark_column (trees 8)
+
+-- what was sent, numbered from n, each with its mark among these
+abbrev pub with_marks : ℕ → List Row → List Sent → List Deposit
+with_marks n marks [] = []
+with_marks n marks (d ∷ more) = record { sent = d; withdrawn = list_any (is_of n) marks } ∷ with_marks (n + 1) marks more
+
+-- what the tables of format 2 say
+unfoldable pub deposits_in : Trees → List Deposit
+deposits_in trees = with_marks 1 (mark_table Second trees) (sents_in trees)
 
 -- ---- the rows and steps of a deposit, where there is one
 
@@ -62,19 +91,19 @@ abbrev pub file_steps : Option CheckedFile → List Row
 file_steps None = []
 file_steps (Some file) = map step_pair file.graph.steps
 
--- the rows of meta by their columns
-abbrev pub meta_columns : List ℕ → List Row
-meta_columns text = (Words (codes "dictionary") ∷ Int (pos 0) ∷ Bytes text ∷ []) ∷ (Words (codes "format") ∷ Int (pos 1) ∷ Bytes [] ∷ []) ∷ []
+-- the rows of meta by their columns, ordered by name
+abbrev pub meta_columns : ℕ → List ℕ → List Row
+meta_columns number text = dictionary_row text ∷ format_row number ∷ []
 
--- The tables are a register of this list, under the dictionary that they hold. Rows are compared by their columns, in whatever order they stand;
--- of the rowids only the number of a deposit counts.
-pub record IsRegister (db : Database) (dictionary : Entries) (list : List Sent) : Type 0 where
-  pub schema : db.schema ≡ register_schema
+-- What both formats have: the tables hold what was sent, under the dictionary that they hold. Rows are compared by their columns, in whatever order
+-- they stand; of the rowids only the number of a deposit counts.
+pub record HoldsSent (format : Format) (db : Database) (dictionary : Entries) (list : List Sent) : Type 0 where
+  pub schema : db.schema ≡ schema_of format
   pub sound : IsDatabase db
   pub text : List ℕ
   pub short : length text ≤ READABLE
   pub reads : IsDictionary text dictionary
-  pub meta : IsPermutation (meta_columns text) (map columns_3 (db.trees 0))
+  pub meta : IsPermutation (meta_columns (number_of format) text) (map columns_3 (db.trees 0))
   pub deposits : IsPermutation (deposit_rows 1 list) (deposit_table db.trees)
   pub files : List CheckedFile
   pub each : AllZip (IsFileOf dictionary) list files
@@ -85,16 +114,25 @@ pub record IsRegister (db : Database) (dictionary : Entries) (list : List Sent) 
   pub lines : (k : ℕ) → IsPermutation (file_lines (slice_get files k)) (rows_under (k + 1) (line_table db.trees))
   pub steps : (k : ℕ) → IsPermutation (file_steps (slice_get files k)) (rows_under (k + 1) (step_table db.trees))
 
+-- The tables are a register of this format and this list: they hold what was sent, and the marks are those of the list.
+pub record IsRegisterOf (format : Format) (db : Database) (dictionary : Entries) (list : List Deposit) : Type 0 where
+  pub holds : HoldsSent format db dictionary (sents list)
+  pub marks : IsPermutation (mark_rows 1 (marks_of list)) (mark_table format db.trees)
+
+-- The tables are a register, which is of format 2.
+abbrev pub IsRegister : Database → Entries → List Deposit → Type 0
+IsRegister = IsRegisterOf Second
+
 abbrev pub tables : Trees → Database
 tables trees = record { schema = register_schema; trees = trees }
 
 -- a crash may leave tables that are a register of this list
-abbrev pub LeavesList : (Trees → Type 0) → Entries → List Sent → Type 0
+abbrev pub LeavesList : (Trees → Type 0) → Entries → List Deposit → Type 0
 LeavesList may_leave dictionary list = (trees : Trees) × may_leave trees × IsRegister (tables trees) dictionary list
 
 -- a crash may leave tables that are a register of no list
 abbrev pub LeavesBroken : (Trees → Type 0) → Entries → Type 0
-LeavesBroken may_leave dictionary = (trees : Trees) × may_leave trees × ((list : List Sent) → IsRegister (tables trees) dictionary list → ⊥)
+LeavesBroken may_leave dictionary = (trees : Trees) × may_leave trees × ((list : List Deposit) → IsRegister (tables trees) dictionary list → ⊥)
 
 -- what a keep that has not failed keeps true of its connection
 pub record KeepsRegister (s : State) (dictionary : Entries) (count : ℕ) : Type 0 where

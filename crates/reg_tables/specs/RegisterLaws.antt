@@ -1,4 +1,4 @@
--- Reading back, and a deposit more.
+-- What was sent is read back, and one deposit more is held.
 use Rattle.std.proofs.Common.{◌≡◌, ℕ, suc, ◌+◌, ◌<◌, List, [], ◌∷◌, ◌++◌, map, filter, unwrap_or, append_assoc, length, length-append, IsTrue, None, slice_get, refl, sym, ap, subst, ◌∙◌, arith}
 use Rattle.std.specs.List.{AllZip}
 use Rattle.std.specs.List.Sorted.{IsPermutation}
@@ -9,15 +9,15 @@ use Rattle.sqlite.proofs.Callers.{one_permutation}
 use Rattle.sqlite.specs.Order.{Row}
 use Rattle.sqlite.specs.Tree.{Trees}
 use Rattle.sqlite.specs.Effect.{Database, IsDatabase}
-use Rattle.sqlite.specs.State.{State}
 use Rattle.ags_dict.specs.Entries.{Entries}
 use Rattle.ags_check.specs.Findings.{CheckedFile}
 use Rattle.reg_store.specs.Sent.{Sent, number_of}
+use Rattle.reg_tables.specs.declared.format.Format.TheVariants.{Second}
 use Rattle.reg_tables.specs.Rows.{given_deposit, deposit_table, IsMore, columns_3, rows_under, line_table, step_table, placed_rows, line_rows, step_pair, step_rows}
 use Rattle.reg_tables.specs.Inserts.{AddsFile}
 use Rattle.reg_store.specs.Fit.{IsFileOf, IsNamed, kept_rows}
 use Rattle.reg_store.specs.ApartLaws.{apart_push}
-use Rattle.reg_tables.specs.Register.{meta_columns, deposit_rows, deposit_in, has_number, deposit_at, deposits_from, deposits_in, file_lines, file_steps, IsRegister, KeepsRegister}
+use Rattle.reg_tables.specs.Register.{meta_columns, deposit_rows, deposit_in, has_number, deposit_at, deposits_from, sents_in, file_lines, file_steps, HoldsSent}
 use Rattle.reg_tables.specs.Pushes.{equal_at, apart_at, deposits_push, own_lines, other_lines, own_steps, other_steps, table_push}
 
 -- among the rows of a list one has the number of a deposit
@@ -50,9 +50,9 @@ pub rows-length : (n : ℕ) (list : List Sent) → length (deposit_rows n list) 
 rows-length n [] = refl
 rows-length n (d ∷ list) = ap suc (rows-length (n + 1) list)
 
-pub read_back : (trees : Trees) (list : List Sent) → IsPermutation (deposit_rows 1 list) (deposit_table trees) → deposits_in trees ≡ list
-unfolding deposits_in
-read_back trees list is =
+pub sents_back : (trees : Trees) (list : List Sent) → IsPermutation (deposit_rows 1 list) (deposit_table trees) → sents_in trees ≡ list
+unfolding sents_in
+sents_back trees list is =
     let table = deposit_table trees in
     ap (deposits_from table 1) (length_permutation _ _ is ∙ rows-length 1 list) ∙ reads_all [] list table is
 
@@ -68,9 +68,9 @@ pub record IsReady (dictionary : Entries) (list : List Sent) (d : Sent) (file : 
   pub named : IsNamed d
   pub fresh : number_of d.firm d.project d.bytes list ≡ None
 
-pub register_push : (dictionary : Entries) (old new : Database) (list : List Sent) (d : Sent) (file : CheckedFile) (count : ℕ) → IsRegister old dictionary list → count ≡ length list → count < 999999
-    → AddsFile (count + 1) d (kept_rows file.groups) file.graph.steps old new → IsDatabase new → IsReady dictionary list d file → IsRegister new dictionary (list ++ d ∷ [])
-register_push dictionary old new list d file count was counted low put sound ready =
+pub holds_push : (dictionary : Entries) (old new : Database) (list : List Sent) (d : Sent) (file : CheckedFile) (count : ℕ) → HoldsSent Second old dictionary list → count ≡ length list → count < 999999
+    → AddsFile (count + 1) d (kept_rows file.groups) file.graph.steps old new → IsDatabase new → IsReady dictionary list d file → HoldsSent Second new dictionary (list ++ d ∷ [])
+holds_push dictionary old new list d file count was counted low put sound ready =
     let long : length was.files ≡ length list = AllZip-long (IsFileOf dictionary) list was.files was.each in
     let n : count + 1 ≡ 1 + length list = omega (arith, counted) in
     let at : length was.files + 1 ≡ count + 1 = omega (arith, counted, long) in
@@ -80,7 +80,7 @@ register_push dictionary old new list d file count was counted low put sound rea
       text = was.text;
       short = was.short;
       reads = was.reads;
-      meta = subst (λ rows. IsPermutation (meta_columns was.text) (map columns_3 rows)) (sym put.meta) was.meta;
+      meta = subst (λ rows. IsPermutation (meta_columns 2 was.text) (map columns_3 rows)) (sym put.meta) was.meta;
       deposits = deposits_push list d (deposit_table old.trees) (deposit_table new.trees) was.deposits (subst (λ k. IsMore (deposit_table old.trees) (given_deposit k d ∷ []) (deposit_table new.trees)) n put.deposits);
       files = was.files ++ file ∷ [];
       each = zip_push (IsFileOf dictionary) list was.files d file was.each ready.its;
@@ -93,20 +93,4 @@ register_push dictionary old new list d file count was counted low put sound rea
       steps = table_push (λ _. file_steps) (λ _. refl) was.files file (step_table old.trees) (step_rows (count + 1) file.graph.steps) (step_table new.trees)
           (subst (λ k. rows_under k (step_rows (count + 1) file.graph.steps) ≡ map step_pair file.graph.steps) (sym at) (own_steps (count + 1) file.graph.steps))
           (λ m differ. other_steps m (count + 1) file.graph.steps (λ e. differ (at ∙ e))) put.steps was.steps;
-    }
-
-pub record Pushed (dictionary : Entries) (old new : State) (count : ℕ) (d : Sent) : Type 0 where
-  pub kept : KeepsRegister new dictionary (count + 1)
-  pub list : deposits_in new.committed.trees ≡ deposits_in old.committed.trees ++ d ∷ []
-
-pub keeps_push : (dictionary : Entries) (old new : State) (d : Sent) (file : CheckedFile) (count : ℕ) → KeepsRegister old dictionary count → count < 999999
-    → AddsFile (count + 1) d (kept_rows file.groups) file.graph.steps old.now new.now → IsDatabase new.now → new.committed ≡ new.now → IsTrue new.is_open → IsReady dictionary (deposits_in old.committed.trees) d file
-    → Pushed dictionary old new count d
-keeps_push dictionary old new d file count was low put sound settled is_open ready =
-    let list = deposits_in old.committed.trees in
-    let register = register_push dictionary old.now new.now list d file count was.register was.counted low put sound ready in
-    let read : deposits_in new.committed.trees ≡ list ++ d ∷ [] = ap (λ (db : Database). deposits_in db.trees) settled ∙ read_back new.now.trees (list ++ d ∷ []) register.deposits in
-    record {
-      kept = record { is_open = is_open; settled = settled; register = subst (IsRegister new.now dictionary) (sym read) register; counted = omega (arith, length-append list (d ∷ []), was.counted, ap length read) };
-      list = read;
     }

@@ -11,12 +11,13 @@ use Rattle.ags_dict.specs.Entries.{Entries}
 use Rattle.ags_dict.specs.Reading.{IsDictionary}
 use Rattle.ags_check.specs.Findings.{CheckedFile}
 use Rattle.reg_store.specs.Sent.{Sent, is_repeat}
-use Rattle.reg_tables.specs.Tables.{register_schema}
+use Rattle.reg_tables.specs.declared.format.Format.{Format}
+use Rattle.reg_tables.specs.Tables.{number_of, schema_of}
 use Rattle.reg_store.specs.Fit.{IsFileOf, IsNamed, kept_rows}
 use Rattle.reg_store.specs.ApartLaws.{apart_all, apart_pair}
 use Rattle.reg_tables.specs.Digests.{IsFirst}
 use Rattle.reg_tables.specs.Rows.{deposit_table, given_deposit, columns_3, line_table, step_table, rows_under, placed_rows, step_pair}
-use Rattle.reg_tables.specs.Register.{deposit_rows, has_number, meta_columns, file_lines, file_steps, IsRegister}
+use Rattle.reg_tables.specs.Register.{deposit_rows, has_number, meta_columns, file_lines, file_steps, HoldsSent}
 use Rattle.reg_tables.specs.Shows.{row_of_number}
 use Rattle.reg_tables.specs.Adopts.{number_rows, id_of, IsRead, adopts}
 use Rattle.reg_tables.specs.Methods.{HoldsLines, HoldsSteps, same_deposit, slice_get_in, zip_at}
@@ -55,16 +56,16 @@ Counts db None = (list : List Sent) → length list ≤ 999999 → IsPermutation
 abbrev pub AreWhole : Database → Entries → ℕ → Type 0
 AreWhole db dictionary count = (k : ℕ) → k < count → IsWhole db dictionary (k + 1)
 
--- What meta says: the dictionary's bytes, and what they read as.
-pub record HasMeta (db : Database) (dictionary : Entries) : Type 0 where
+-- What meta says: the format's number, the dictionary's bytes, and what they read as.
+pub record HasMeta (number : ℕ) (db : Database) (dictionary : Entries) : Type 0 where
   pub text : List ℕ
   pub short : length text ≤ READABLE
   pub reads : IsDictionary text dictionary
-  pub meta : IsPermutation (meta_columns text) (map columns_3 (db.trees 0))
+  pub meta : IsPermutation (meta_columns number text) (map columns_3 (db.trees 0))
 
 -- ---- a register has whole deposits
 
-pub whole_at : (db : Database) (dictionary : Entries) (list : List Sent) → IsRegister db dictionary list → AreWhole db dictionary (length list)
+pub whole_at : {format : Format} (db : Database) (dictionary : Entries) (list : List Sent) → HoldsSent format db dictionary list → AreWhole db dictionary (length list)
 whole_at db dictionary list r k low =
     let found = slice_get_in list k low in
     let d = found.0 in
@@ -128,8 +129,9 @@ of_all P (suc count) each = both (each 0 (omega arith)) (of_all (λ k. P (suc k)
     both : ∥ P 0 ∥₁ → ∥ ((k : ℕ) → k < count → P (suc k)) ∥₁ → ∥ ((k : ℕ) → k < suc count → P k) ∥₁
     both first rest = ∥∥₁_elim first (Prim.hlevel props) (λ one. ∥∥₁_map rest (λ more. join one more))
 
-pub adopts_whole : (db : Database) (dictionary : Entries) (count : ℕ) → db.schema ≡ register_schema → IsDatabase db → HasMeta db dictionary → Counts db (Some count) → AreWhole db dictionary count → (list : List Sent) × IsRegister db dictionary list × (length list ≡ count)
-adopts_whole db dictionary count schema sound meta counts all = (list, adopts db dictionary list read, long)
+pub adopts_whole : (format : Format) (db : Database) (dictionary : Entries) (count : ℕ) → db.schema ≡ schema_of format → IsDatabase db → HasMeta (number_of format) db dictionary → Counts db (Some count) → AreWhole db dictionary count
+    → (list : List Sent) × HoldsSent format db dictionary list × (length list ≡ count)
+adopts_whole format db dictionary count schema sound meta counts all = (list, adopts format db dictionary list read, long)
   where
     P : ℕ → Type 0
     P k = IsWhole db dictionary (k + 1)
@@ -160,7 +162,7 @@ adopts_whole db dictionary count schema sound meta counts all = (list, adopts db
         let it = list_at P (λ k p. p.deposit) count all k d second in
         subst (λ (y : Sent). is_repeat y.firm y.project y.bytes x ≡ false) it.1 (it.0.alone (1 + j) (omega arith) (omega (arith, low)) x (rows j x first))
 
-    read : IsRead db dictionary list
+    read : IsRead format db dictionary list
     read = record {
       schema = schema;
       sound = sound;

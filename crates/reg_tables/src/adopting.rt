@@ -7,7 +7,9 @@ ghost use Rattle.reg_tables.specs.Adopts.{number_rows};
 ghost use Rattle.ags_dict.specs.Reading.{IsDictionary};
 ghost use Rattle.reg_tables.specs.Formats.{IsFormatRow};
 ghost use Rattle.reg_tables.specs.Adoption.{AreNoKeptDictionary, ReadsMeta};
+ghost use Rattle.reg_tables.specs.Tables.{number_of};
 
+use crate::format::Format;
 use crate::values::{holds, is_row};
 use ags_dict::{DictError, Dictionary};
 use ags_rows::READABLE;
@@ -23,7 +25,7 @@ pub enum AdoptError {
     /// The tables are no register of any list of deposits.
     #[error("not a register")]
     NotRegister,
-    /// The register has a format of this number, and not 1.
+    /// The register has a format of this number, and not the one that is looked for.
     #[error("register version {0}")]
     Version(i64),
     /// The database failed.
@@ -62,24 +64,30 @@ fn format_in(row: &Row) -> Option<i64>
     }
 }
 
-/// The number in a row of meta that is named `format`, if it is not 1.
-fn other_in(row: &Row) -> Option<i64>
-    ensures found { IfSome result (λ n. (n ≢ pos 1) × IsFormatRow n row.now) }
-    ensures none { result ≡ None → (n : ℤ) → IsFormatRow n row.now → n ≡ pos 1 }
+/// The number in a row of meta that is named `format`, if it is another than this.
+fn other_in(row: &Row, format: u32) -> Option<i64>
+    ensures found { IfSome result (λ n. (n ≢ pos format) × IsFormatRow n row.now) }
+    ensures none { result ≡ None → (n : ℤ) → IsFormatRow n row.now → n ≡ pos format }
 {
     match format_in(row) {
-        Some(number) => { if number == 1 { None } else { Some(number) } }
+        Some(number) => {
+            if number == format as i64 {
+                None
+            } else {
+                Some(number)
+            }
+        }
         None => None,
     }
 }
 
-/// A number of the format that is not 1.
-pub(crate) fn other_format(rows: &[Row]) -> Option<i64>
-    ensures found { IfSome result (λ n. (n ≢ pos 1) × ((r : Values) × Contains rows.now r × IsFormatRow n r)) }
-    ensures none { result ≡ None → (n : ℤ) (r : Values) → Contains rows.now r → IsFormatRow n r → n ≡ pos 1 }
+/// A number of the format that is another than this.
+pub(crate) fn other_format(rows: &[Row], format: u32) -> Option<i64>
+    ensures found { IfSome result (λ n. (n ≢ pos format) × ((r : Values) × Contains rows.now r × IsFormatRow n r)) }
+    ensures none { result ≡ None → (n : ℤ) (r : Values) → Contains rows.now r → IsFormatRow n r → n ≡ pos format }
 {
     for row in rows {
-        match other_in(row) {
+        match other_in(row, format) {
             Some(number) => return Some(number),
             None => {}
         }
@@ -87,10 +95,10 @@ pub(crate) fn other_format(rows: &[Row]) -> Option<i64>
     None
 }
 
-/// The dictionary's bytes in the rows of meta, ordered by name, if they are those of format 1.
-pub(crate) fn meta_text<'a>(rows: &'a [Row]) -> Option<&'a [u8]>
-    ensures found { IfSome result (λ text. rows.now ≡ meta_columns text.now) }
-    ensures none { result ≡ None → (text : List ℕ) → rows.now ≡ meta_columns text → ⊥ }
+/// The dictionary's bytes in the rows of meta, ordered by name, if they are those of the format of this number.
+pub(crate) fn meta_text<'a>(rows: &'a [Row], number: u32) -> Option<&'a [u8]>
+    ensures found { IfSome result (λ text. rows.now ≡ meta_columns number text.now) }
+    ensures none { result ≡ None → (text : List ℕ) → rows.now ≡ meta_columns number text → ⊥ }
 {
     if rows.len() != 2 {
         return None;
@@ -105,7 +113,7 @@ pub(crate) fn meta_text<'a>(rows: &'a [Row]) -> Option<&'a [u8]>
     ];
     let format = [
         ValueRef::Text(b"format"),
-        ValueRef::Int(1),
+        ValueRef::Int(number as i64),
         ValueRef::Blob(b""),
     ];
     if is_row(&rows[0], &dictionary) && is_row(&rows[1], &format) {
@@ -133,15 +141,20 @@ fn read_kept_dictionary(alloc: Global, text: &[u8]) -> Result<Dictionary, AdoptE
     }
 }
 
-/// The dictionary in the rows of meta, ordered by name. Another number of the format is refused before anything else.
-pub(crate) fn read_meta(alloc: Global, rows: &[Row]) -> Result<Dictionary, AdoptError>
-    ensures { ReadsMeta rows.now result }
+/// The dictionary in the rows of meta, ordered by name. Another number than that of the format is refused before anything else.
+pub(crate) fn read_meta(
+    alloc: Global,
+    rows: &[Row],
+    format: Format,
+) -> Result<Dictionary, AdoptError>
+    ensures { ReadsMeta (number_of format) rows.now result }
 {
-    match other_format(rows) {
+    let wanted = format.number();
+    match other_format(rows, wanted) {
         Some(number) => return Err(AdoptError::Version(number)),
         None => {}
     }
-    match meta_text(rows) {
+    match meta_text(rows, wanted) {
         Some(text) => read_kept_dictionary(alloc, text),
         None => Err(AdoptError::NotRegister),
     }

@@ -3,13 +3,13 @@
 ghost use Rattle.std.specs.Prelude.{◌≡◌, ◌≢◌, ◌≤◌, [], false, length, IsTrue, IfErr, OnOk, OnErr};
 ghost use Rattle.sqlite.specs.State.{HasCleanDisk, Survives};
 ghost use Rattle.sqlite.specs.Held.{state};
-ghost use Rattle.reg_tables.specs.Tables.{no_schema};
+ghost use Rattle.reg_tables.specs.Tables.{first_schema, no_schema};
 ghost use Rattle.reg_store.specs.Keep.{fails};
 ghost use Rattle.reg_tables.specs.Quiet.{IsSettled, StaysIfOpen};
 ghost use Rattle.reg_tables.specs.Commits.{CommitsAll, UndoesIfOpen, UndoesUnlessFailed, WasOpenIfOpen};
 ghost use Rattle.reg_tables.specs.Inside.{ChangesInside, CommitsNothing, HasSchema, HasTransaction, state_in};
 ghost use Rattle.reg_tables.specs.Making.{AreDictionary};
-ghost use Rattle.reg_tables.specs.Creates.{HasFirst, HasAll, IsEmptyRegister, IsNewRegister, SurvivesMaking};
+ghost use Rattle.reg_tables.specs.Creates.{HasFirst, HasFour, IsEmptyRegister, IsNewRegister, MakesWithdrawals, SurvivesMaking};
 
 use crate::queries::is_refused;
 use crate::running::run;
@@ -43,7 +43,7 @@ fn create_second<S: Alter>(tx: &mut Transaction<'_, S>) -> Result<(), Error>
     requires inside { HasTransaction (state_in S.Store tx.old) }
     requires first { HasCleanDisk (state_in S.Store tx.old) → HasFirst (state_in S.Store tx.old).now }
     ensures same_reference { tx.new.conn.ghost_name ≡ tx.old.conn.ghost_name }
-    ensures made { ChangesInside result (λ _ db. HasAll db) (state_in S.Store tx.old) (state_in S.Store tx.new) }
+    ensures made { ChangesInside result (λ _ db. HasFour db) (state_in S.Store tx.old) (state_in S.Store tx.new) }
     ensures kept { CommitsNothing (state_in S.Store tx.old) (state_in S.Store tx.new) }
     ensures survives { Survives (state_in S.Store tx.old) (state_in S.Store tx.new) (λ _. ⊥) }
 {
@@ -55,6 +55,22 @@ fn create_second<S: Alter>(tx: &mut Transaction<'_, S>) -> Result<(), Error>
     run(
         tx,
         "CREATE TABLE steps (deposit INTEGER NOT NULL REFERENCES deposits (number), child INTEGER NOT NULL, target INTEGER NOT NULL, PRIMARY KEY (deposit, child, target)) STRICT",
+        &[],
+    )
+}
+
+/// Makes the table that format 2 has and format 1 has not. Nothing is committed.
+pub(crate) fn create_withdrawals<S: Alter>(tx: &mut Transaction<'_, S>) -> Result<(), Error>
+    requires inside { HasTransaction (state_in S.Store tx.old) }
+    requires schema { HasSchema (state_in S.Store tx.old) first_schema }
+    ensures same_reference { tx.new.conn.ghost_name ≡ tx.old.conn.ghost_name }
+    ensures made { ChangesInside result MakesWithdrawals (state_in S.Store tx.old) (state_in S.Store tx.new) }
+    ensures kept { CommitsNothing (state_in S.Store tx.old) (state_in S.Store tx.new) }
+    ensures survives { Survives (state_in S.Store tx.old) (state_in S.Store tx.new) (λ _. ⊥) }
+{
+    run(
+        tx,
+        "CREATE TABLE withdrawals (deposit INTEGER PRIMARY KEY REFERENCES deposits (number)) STRICT",
         &[],
     )
 }
@@ -71,9 +87,10 @@ fn make_tables<S: Alter>(tx: &mut Transaction<'_, S>, dictionary: &[u8]) -> Resu
 {
     create_first(tx)?;
     create_second(tx)?;
+    create_withdrawals(tx)?;
     run(
         tx,
-        "INSERT INTO meta VALUES ('format', 1, x''), ('dictionary', 0, ?1)",
+        "INSERT INTO meta VALUES ('format', 2, x''), ('dictionary', 0, ?1)",
         params![dictionary],
     )
 }

@@ -6,23 +6,24 @@ ghost use Rattle.sqlite.specs.Held.{state};
 ghost use Rattle.sqlite.specs.Tree.{IsAscending};
 ghost use Rattle.ags_links.specs.Steps.{IsBefore};
 ghost use Rattle.ags_check.specs.Findings.{IsClean};
-ghost use Rattle.reg_store.specs.Keep.{fails, deposit_of};
+ghost use Rattle.reg_store.specs.Keep.{fails, sent_of};
 ghost use Rattle.reg_tables.specs.Quiet.{IsIdle, IsStill, FindsThat};
 ghost use Rattle.reg_tables.specs.Found.{AreNumbersFromOne, FindsAll, FindsOneIf, FindsOut, OnYes};
 ghost use Rattle.reg_tables.specs.Rows.{deposit_table, given_deposit};
-ghost use Rattle.reg_tables.specs.Tables.{register_schema};
+ghost use Rattle.reg_tables.specs.Tables.{number_of, schema_of};
 ghost use Rattle.reg_tables.specs.Heads.{HoldsHeads, IsDigestedAt, AddsHead, IsDigestedFrom};
 ghost use Rattle.reg_tables.specs.Digests.{AreBelow, HoldsDigests, IsNew, numbers_under, own_digest};
 ghost use Rattle.reg_tables.specs.Adopts.{id_of};
 ghost use Rattle.reg_store.specs.Fit.{IsNamed, kept_rows};
 ghost use Rattle.reg_store.specs.Sent.{Sent};
-ghost use Rattle.reg_tables.specs.Whole.{AreWhole, Counts, HasMeta, HoldsBody, IsWhole};
-ghost use Rattle.reg_tables.specs.Adoption.{Adopts, CountsDeposits, MetaOf, gives_up};
+ghost use Rattle.reg_tables.specs.Whole.{AreWhole, Counts, HoldsBody, IsWhole};
+ghost use Rattle.reg_tables.specs.Adoption.{CountsDeposits, Examines, InEachFormat, MetaOf, gives_up};
 ghost use Rattle.reg_tables.specs.Methods.{HoldsLines, HoldsSteps};
 ghost use Rattle.sqlite.specs.Effect.{IsDatabase};
 
 use crate::adopting::{AdoptError, count_numbers, read_meta};
 use crate::compare::{SameLines, SameSteps, are_all};
+use crate::format::Format;
 use crate::gathering::take_shown;
 use crate::heads::{DigestedHead, into_head};
 use crate::lines::few_rows;
@@ -173,7 +174,7 @@ fn holds_body<S: Alter>(
     kept: &Kept,
 ) -> Result<bool, KeepError>
     requires idle { IsIdle (state S.Store conn.old) }
-    ensures tested { FindsOut result (λ db. HoldsBody db dictionary.now number (deposit_of kept.now))
+    ensures tested { FindsOut result (λ db. HoldsBody db dictionary.now number (sent_of kept.now))
         (state S.Store conn.old) (state S.Store conn.new) }
     ensures refused { IfErr result (λ e. e ≢ KeepError.Full) }
     ensures quiet { IsStill (state S.Store conn.old) (state S.Store conn.new) (fails result) }
@@ -197,7 +198,7 @@ fn is_new<S: Alter>(
     kept: &Kept,
 ) -> Result<bool, KeepError>
     requires idle { IsIdle (state S.Store conn.old) }
-    ensures tested { FindsOut result (λ db. IsNew db numbers.now (deposit_of kept.now))
+    ensures tested { FindsOut result (λ db. IsNew db numbers.now (sent_of kept.now))
         (state S.Store conn.old) (state S.Store conn.new) }
     ensures refused { IfErr result (λ e. e ≢ KeepError.Full) }
     ensures quiet { IsStill (state S.Store conn.old) (state S.Store conn.new) (fails result) }
@@ -226,8 +227,8 @@ fn holds_kept<S: Alter>(
     numbers: &[u32],
 ) -> Result<bool, KeepError>
     requires idle { IsIdle (state S.Store conn.old) }
-    ensures tested { FindsOut result (λ db. HoldsBody db dictionary.now number (deposit_of kept.now)
-        × IsNew db numbers.now (deposit_of kept.now))
+    ensures tested { FindsOut result (λ db. HoldsBody db dictionary.now number (sent_of kept.now)
+        × IsNew db numbers.now (sent_of kept.now))
         (state S.Store conn.old) (state S.Store conn.new) }
     ensures refused { IfErr result (λ e. e ≢ KeepError.Full) }
     ensures quiet { IsStill (state S.Store conn.old) (state S.Store conn.new) (fails result) }
@@ -249,10 +250,10 @@ fn kept_head<S: Alter>(
     digests: &Digests,
 ) -> Result<Option<DigestedHead>, KeepError>
     requires idle { IsIdle (state S.Store conn.old) }
-    ensures tested { FindsOneIf result (λ db. HoldsBody db dictionary.now number (deposit_of kept)
-        × IsNew db (numbers_under digests.now (own_digest (deposit_of kept))) (deposit_of kept))
+    ensures tested { FindsOneIf result (λ db. HoldsBody db dictionary.now number (sent_of kept)
+        × IsNew db (numbers_under digests.now (own_digest (sent_of kept))) (sent_of kept))
         (state S.Store conn.old) (state S.Store conn.new) }
-    ensures head { IfOk result (λ found. IfSome found (IsDigestedFrom (deposit_of kept))) }
+    ensures head { IfOk result (λ found. IfSome found (IsDigestedFrom (sent_of kept))) }
     ensures refused { IfErr result (λ e. e ≢ KeepError.Full) }
     ensures quiet { IsStill (state S.Store conn.old) (state S.Store conn.new) (fails result) }
 {
@@ -269,8 +270,8 @@ fn kept_head<S: Alter>(
 
 /// The deposit of a number, which is the one row of the answer. The row goes, so that its body is held once.
 fn take_deposit(alloc: Global, number: u32, rows: Vec<Row>) -> Result<Kept, KeepError>
-    ensures read { IfOk result (λ kept. rows.items ≡ given_deposit number (deposit_of kept) ∷ []) }
-    ensures is_named { IfOk result (λ kept. IsNamed (deposit_of kept)) }
+    ensures read { IfOk result (λ kept. rows.items ≡ given_deposit number (sent_of kept) ∷ []) }
+    ensures is_named { IfOk result (λ kept. IsNamed (sent_of kept)) }
     ensures refused { IfErr result (λ e. e ≢ KeepError.Full) }
     ensures other { result ≡ Err KeepError.Store → (d : Sent) → IsNamed d
         → rows.items ≡ given_deposit number d ∷ [] → ⊥ }
@@ -381,7 +382,8 @@ pub(crate) fn holds_deposits<S: Alter>(
     Ok(true)
 }
 
-/// How many deposits the register has, if the tables are one. The dictionary is that of its meta; heads and digests are put into the lists.
+/// How many deposits the register has, if the tables are one, whatever the marks are. Its tables are those of a format, and the dictionary is that of
+/// its meta; heads and digests are put into the lists.
 fn find_register<S: Alter>(
     conn: &mut Connection<S>,
     alloc: Global,
@@ -390,14 +392,13 @@ fn find_register<S: Alter>(
     digests: &mut Digests,
 ) -> Result<u32, AdoptError>
     requires idle { IsIdle (state S.Store conn.old) }
-    requires schema { HasCleanDisk (state S.Store conn.old) → (state S.Store conn.old).now.schema ≡ register_schema }
-    requires meta { HasCleanDisk (state S.Store conn.old) → HasMeta (state S.Store conn.old).now dictionary.now }
     requires sound { HasCleanDisk (state S.Store conn.old) → IsDatabase (state S.Store conn.old).now }
     requires none { heads.old.items ≡ [] }
     requires no_digests { (digest : List ℕ) → numbers_under digests.old digest ≡ [] }
 
     // The count at success.
-    ensures found { FindsThat result (λ db n. CountsDeposits db dictionary.now (Some n))
+    ensures found { FindsThat result (λ db n. InEachFormat db dictionary.now (λ format.
+        CountsDeposits format db dictionary.now (Some n)))
         (state S.Store conn.old) (state S.Store conn.new) }
     ensures few { IfOk result (λ count. count ≤ 999999) }
 
@@ -411,7 +412,8 @@ fn find_register<S: Alter>(
 
     // Each refusal, by what the tables are.
     ensures refused { HasCleanDisk (state S.Store conn.new)
-        → IfErr result (λ e. Adopts (state S.Store conn.old).now (Err e)) }
+        → IfErr result (λ e. InEachFormat (state S.Store conn.old).now dictionary.now (λ format.
+        Examines format (state S.Store conn.old).now (Err e))) }
 
     // What is left in either case.
     ensures quiet { IsStill (state S.Store conn.old) (state S.Store conn.new) (gives_up result) }
@@ -428,37 +430,40 @@ fn find_register<S: Alter>(
     }
 }
 
-/// The dictionary of the register, if meta is that of format 1.
+/// The dictionary of the register, if meta is that of the format.
 fn find_dictionary<S: Alter>(
     conn: &mut Connection<S>,
     alloc: Global,
+    format: Format,
 ) -> Result<Dictionary, AdoptError>
     requires idle { IsIdle (state S.Store conn.old) }
-    ensures read { HasCleanDisk (state S.Store conn.new) → MetaOf (state S.Store conn.old).now result }
+    ensures read { HasCleanDisk (state S.Store conn.new) → MetaOf (number_of format) (state S.Store conn.old).now result }
     ensures open { HasCleanDisk (state S.Store conn.new) → gives_up result ≡ false
         → IsTrue (state S.Store conn.new).is_open }
     ensures quiet { IsStill (state S.Store conn.old) (state S.Store conn.new) (gives_up result) }
 {
     match meta_rows(conn) {
-        Ok(rows) => read_meta(alloc, &rows),
+        Ok(rows) => read_meta(alloc, &rows, format),
         Err(error) => Err(AdoptError::from(error)),
     }
 }
 
-/// The dictionary of the register and how many deposits it has, if the tables are one. Heads and digests are put into the lists.
+/// The dictionary of the register and how many deposits it has, if the tables are one of the format, whatever the marks are. Heads and digests are put
+/// into the lists.
 pub(crate) fn examine<S: Alter>(
     conn: &mut Connection<S>,
     alloc: Global,
+    format: Format,
     heads: &mut Vec<KeptHead>,
     digests: &mut Digests,
 ) -> Result<(Dictionary, u32), AdoptError>
     requires idle { IsIdle (state S.Store conn.old) }
-    requires schema { HasCleanDisk (state S.Store conn.old) → (state S.Store conn.old).now.schema ≡ register_schema }
+    requires schema { HasCleanDisk (state S.Store conn.old) → (state S.Store conn.old).now.schema ≡ schema_of format }
     requires none { heads.old.items ≡ [] }
     requires no_digests { (digest : List ℕ) → numbers_under digests.old digest ≡ [] }
 
     // What is answered, by what the tables are.
-    ensures adopts { HasCleanDisk (state S.Store conn.new) → Adopts (state S.Store conn.old).now result }
+    ensures examines { HasCleanDisk (state S.Store conn.new) → Examines format (state S.Store conn.old).now result }
 
     // The count at success, and the heads and digests in the lists.
     ensures few { IfOk result (λ found. found.1 ≤ 999999) }
@@ -474,7 +479,7 @@ pub(crate) fn examine<S: Alter>(
         → IsTrue (state S.Store conn.new).is_open }
     ensures quiet { IsStill (state S.Store conn.old) (state S.Store conn.new) (gives_up result) }
 {
-    let dictionary = match find_dictionary(conn, alloc) {
+    let dictionary = match find_dictionary(conn, alloc, format) {
         Ok(dictionary) => dictionary,
         Err(error) => return Err(error),
     };

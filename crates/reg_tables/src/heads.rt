@@ -1,7 +1,7 @@
 //! The heads of deposits with their digests, as a register is examined.
 
 ghost use Rattle.std.specs.Prelude.{◌≡◌};
-ghost use Rattle.reg_store.specs.Keep.{deposit_of};
+ghost use Rattle.reg_store.specs.Keep.{sent_of};
 ghost use Rattle.reg_tables.specs.Heads.{head_of};
 
 use reg_store::{Kept, KeptHead};
@@ -13,19 +13,21 @@ pub(crate) struct DigestedHead {
     pub digest: [u8; 32],
 }
 
-/// The head of a deposit, whose bytes are dropped.
+/// The head of a deposit, whose bytes are dropped. It has no mark: the marks are read later.
 pub(crate) fn into_head(kept: Kept) -> KeptHead
-    ensures { result ≡ head_of (deposit_of kept) }
+    ensures { result ≡ head_of (sent_of kept) }
 {
     let Kept {
         firm,
         project,
         embargo,
         bytes: _,
+        withdrawn: _,
     } = kept;
     KeptHead {
         firm,
         project,
         embargo,
+        withdrawn: false,
     }
 }

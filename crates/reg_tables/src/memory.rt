@@ -5,9 +5,11 @@ ghost use Rattle.ags_dict.specs.Entries.{Entries};
 ghost use Rattle.reg_store.specs.Fit.{kept_rows};
 ghost use Rattle.reg_store.specs.Keep.{OfDeposit, fails};
 ghost use Rattle.reg_store.specs.Reading.{HasGraph, HasKeptRows, HasProjectRow, HasTargets, IsHeadAt};
+ghost use Rattle.reg_store.specs.Deposit.{Deposit, marked, sents, unmarked};
 ghost use Rattle.reg_store.specs.Sent.{Sent, numbers_from};
 ghost use Rattle.reg_tables.specs.Digests.{AreBelow, AreDigested, numbers_under};
 ghost use Rattle.reg_tables.specs.Heads.{AreHeads};
+ghost use Rattle.reg_tables.specs.Register.{marks_of};
 ghost use Rattle.reg_tables.specs.Rows.{deposit_from};
 
 use crate::recent::{RecentGraph, RecentRows, small_graph, small_rows};
@@ -75,21 +77,26 @@ impl Memory {
         }
     }
 
-    /// The deposits of these heads, whose numbers these digests have.
+    /// The deposits of these heads and marks, whose numbers these digests have.
     pub(crate) fn of(
         alloc: Global,
         heads: &[KeptHead],
+        marks: &[bool],
         digests: Digests,
     ) -> Result<Memory, AllocError>
-        requires { length heads.now ≤ 999999 }
-        ensures agrees { IfOk result (λ memory. (dictionary : Entries) (list : List Sent) → AreHeads heads.now list
-            → AreDigested digests list → AreBelow digests (length list + 1) → Agrees memory dictionary list) }
+        requires few { length heads.now ≤ 999999 }
+        requires marks { length marks.now ≡ length heads.now }
+        ensures agrees { IfOk result (λ memory. (dictionary : Entries) (list : List Deposit)
+            → AreHeads heads.now (sents list) → marks.now ≡ marks_of list → AreDigested digests (sents list)
+            → AreBelow digests (length list + 1) → Agrees memory dictionary list) }
         ensures long { IfOk result (λ memory. length memory.known.items ≡ length heads.now) }
     {
         let mut known = Vec::with_capacity(alloc, heads.len())?;
-        for head in heads {
+        for at in 0..heads.len() {
+            let mut head = heads[at].clone()?;
+            head.withdrawn = marks[at];
             known.push(Known {
-                head: head.clone()?,
+                head,
                 project: None,
                 alone: None,
             })?;
@@ -119,7 +126,7 @@ impl Memory {
 
     /// The head of deposit n. A number that no deposit has is `Store`: the disk that it was read from was not sound.
     pub(crate) fn held_head(&self, n: u32) -> Result<KeptHead, KeepError>
-        ensures read { IfOk result (λ head. (dictionary : Entries) (list : List Sent) → Agrees self.now dictionary list
+        ensures read { IfOk result (λ head. (dictionary : Entries) (list : List Deposit) → Agrees self.now dictionary list
             → IsHeadAt list n head) }
         ensures refused { IfErr result (λ e. e ≢ KeepError.Full) }
         ensures there { 0 < n → n ≤ length self.now.known.items → result ≢ Err KeepError.Store }
@@ -131,10 +138,18 @@ impl Memory {
         Ok(head)
     }
 
+    /// Whether deposit n is withdrawn.
+    pub(crate) fn is_withdrawn(&self, n: u32) -> bool
+        ensures { (dictionary : Entries) (list : List Deposit) → Agrees self.now dictionary list
+            → 0 < n → (d : Deposit) → slice_get list (n - 1) ≡ Some d → result ≡ d.withdrawn }
+    {
+        self.is_known(n) && self.known[n as usize - 1].head.withdrawn
+    }
+
     /// The numbers of a project's deposits, rising.
     pub(crate) fn held_numbers(&self, alloc: Global, project: &Name) -> Result<Vec<u32>, KeepError>
-        ensures numbers { IfOk result (λ ns. (dictionary : Entries) (list : List Sent) → Agrees self.now dictionary list
-            → ns.items ≡ numbers_from 1 project.now list) }
+        ensures numbers { IfOk result (λ ns. (dictionary : Entries) (list : List Deposit) → Agrees self.now dictionary list
+            → ns.items ≡ numbers_from 1 project.now (sents list)) }
         ensures refused { IfErr result (λ e. e ≢ KeepError.Full) }
         ensures well { fails result ≡ false }
     {
@@ -158,8 +173,8 @@ impl Memory {
 
     /// The row of PROJ of deposit n.
     pub(crate) fn held_project(&self, n: u32) -> Option<&ProjectRow>
-        ensures { (dictionary : Entries) (list : List Sent) → Agrees self.now dictionary list
-            → IfSome result (λ row. OfDeposit dictionary list n (HasProjectRow (Some row.now))) }
+        ensures { (dictionary : Entries) (list : List Deposit) → Agrees self.now dictionary list
+            → IfSome result (λ row. OfDeposit dictionary (sents list) n (HasProjectRow (Some row.now))) }
     {
         if !self.is_known(n) {
             return None;
@@ -172,8 +187,8 @@ impl Memory {
 
     /// Whether it is known that this DATA row of deposit n has no step.
     pub(crate) fn is_alone(&self, n: u32, row: u32) -> bool
-        ensures { IsTrue result → (dictionary : Entries) (list : List Sent) → Agrees self.now dictionary list
-            → OfDeposit dictionary list n (HasNoTarget row) }
+        ensures { IsTrue result → (dictionary : Entries) (list : List Deposit)
+            → Agrees self.now dictionary list → OfDeposit dictionary (sents list) n (HasNoTarget row) }
     {
         if !self.is_known(n) {
             return false;
@@ -186,8 +201,8 @@ impl Memory {
 
     /// The rows of deposit n.
     pub(crate) fn held_rows(&self, n: u32) -> Option<&[KeptRow]>
-        ensures { (dictionary : Entries) (list : List Sent) → Agrees self.now dictionary list
-            → IfSome result (λ rows. OfDeposit dictionary list n (λ file. rows.now ≡ kept_rows file.groups)) }
+        ensures { (dictionary : Entries) (list : List Deposit) → Agrees self.now dictionary list
+            → IfSome result (λ rows. OfDeposit dictionary (sents list) n (λ file. rows.now ≡ kept_rows file.groups)) }
     {
         match &self.rows {
             Some(held) if held.number == n => Some(held.rows.as_slice()),
@@ -197,8 +212,8 @@ impl Memory {
 
     /// The steps of deposit n.
     pub(crate) fn held_graph(&self, n: u32) -> Option<&Graph>
-        ensures { (dictionary : Entries) (list : List Sent) → Agrees self.now dictionary list
-            → IfSome result (λ graph. OfDeposit dictionary list n (HasGraph graph.now)) }
+        ensures { (dictionary : Entries) (list : List Deposit) → Agrees self.now dictionary list
+            → IfSome result (λ graph. OfDeposit dictionary (sents list) n (HasGraph graph.now)) }
     {
         match &self.graph {
             Some(held) if held.number == n => Some(&held.graph),
@@ -279,7 +294,7 @@ impl Memory {
         bytes: &[u8],
     ) -> Result<Coming, AllocError>
         ensures same { length self.new.known.items ≡ length self.old.known.items }
-        ensures agrees { (dictionary : Entries) (list : List Sent) → Agrees self.old dictionary list
+        ensures agrees { (dictionary : Entries) (list : List Deposit) → Agrees self.old dictionary list
             → Agrees self.new dictionary list }
         ensures room { IfOk result (HasRoom self.new) }
         ensures coming { IfOk result (IsComing self.new (deposit_from firm.now project.now embargo bytes.now)) }
@@ -288,6 +303,7 @@ impl Memory {
             firm: firm.clone()?,
             project: project.clone()?,
             embargo,
+            withdrawn: false,
         };
         let digest = digest_of(firm, project, bytes);
         let number = self.count() + 1;
@@ -308,8 +324,8 @@ impl Memory {
     pub(crate) fn push(&mut self, coming: Coming)
         requires few { length self.old.known.items < 999999 }
         requires room { HasRoom self.old coming }
-        ensures agrees { (dictionary : Entries) (list : List Sent) (d : Sent) → IsComing self.old d coming
-            → Agrees self.old dictionary list → Agrees self.new dictionary (list ++ d ∷ []) }
+        ensures agrees { (dictionary : Entries) (list : List Deposit) (d : Sent) → IsComing self.old d coming
+            → Agrees self.old dictionary list → Agrees self.new dictionary (list ++ unmarked d ∷ []) }
         ensures long { length self.new.known.items ≡ length self.old.known.items + 1 }
     {
         let Coming {
@@ -319,6 +335,17 @@ impl Memory {
         } = coming;
         self.known.push_reserved(known);
         self.digests.note(digest, numbers);
+    }
+
+    /// Marks deposit n, if one has that number.
+    pub(crate) fn mark(&mut self, n: u32)
+        ensures same { length self.new.known.items ≡ length self.old.known.items }
+        ensures agrees { (dictionary : Entries) (list : List Deposit) → Agrees self.old dictionary list
+            → Agrees self.new dictionary (marked n list) }
+    {
+        if self.is_known(n) {
+            self.known[n as usize - 1].head.withdrawn = true;
+        }
     }
 }
 

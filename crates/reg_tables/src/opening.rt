@@ -15,17 +15,18 @@ ghost use Rattle.reg_tables.specs.Commits.{CommitsAll};
 ghost use Rattle.reg_tables.specs.Quiet.{StaysIfClean, StaysIfOpen};
 ghost use Rattle.reg_tables.specs.Register.{deposits_in};
 ghost use Rattle.reg_tables.specs.Adoption.{Adopts, AdoptsRegister, is_store_failure};
+ghost use Rattle.reg_tables.specs.declared.format.Format.TheVariants.{Second};
 ghost use Rattle.reg_tables.specs.Opened.{AdoptsFiles, FindsEmpty, FindsNotEmpty, RefusesFiles};
 
 use crate::adopting::AdoptError;
 use crate::creating::make_register;
-use crate::examining::examine;
+use crate::format::Format;
 use crate::memory::Memory;
 use crate::reading::read_error;
-use crate::repeats::Digests;
-use crate::schema::{is_register, is_vacant};
+use crate::recall::recall;
+use crate::schema::is_vacant;
 use crate::sql::SqlKeep;
-use crate::versions::{has_meta, refuse_tables};
+use crate::versions::test_tables;
 use ags_dict::{DictError, Dictionary};
 use ags_rows::READABLE;
 use reg_store::KeepError;
@@ -208,7 +209,7 @@ impl<S: Alter> SqlKeep<S> {
 
         // Each refusal, by what the database was.
         ensures refused { IfErr result (λ e. HasCleanDisk (state S.Store e.1)
-            → Adopts (state S.Store connection).now (Err e.0)) }
+            → Adopts Second (state S.Store connection).now (Err e.0)) }
 
         // The connection that comes with a refusal, and what a crash may leave.
         ensures same { IfErr result (λ e. is_store_failure e.0 ≡ false
@@ -216,29 +217,18 @@ impl<S: Alter> SqlKeep<S> {
         ensures still { IfErr result (λ e. StaysIfOpen (state S.Store connection) (state S.Store e.1)) }
         ensures left { IfErr result (λ e. Survives (state S.Store connection) (state S.Store e.1) (λ _. ⊥)) }
     {
-        if !has_meta(connection.schema()) {
-            return Err((AdoptError::NotRegister, connection));
+        match test_tables(&mut connection, Format::Second) {
+            Ok(()) => {}
+            Err(error) => return Err((error, connection)),
         }
-        if !connection.is_autocommit() {
-            return Err((AdoptError::Store, connection));
-        }
-        if !is_register(connection.schema()) {
-            let error = refuse_tables(&mut connection);
-            return Err((error, connection));
-        }
-        let mut heads = Vec::new(alloc);
-        let mut digests = Digests::new(alloc);
-        match examine(&mut connection, alloc, &mut heads, &mut digests) {
-            Ok((dictionary, _count)) => match Memory::of(alloc, &heads, digests) {
-                Ok(memory) => Ok(SqlKeep {
-                    connection,
-                    dictionary,
-                    memory,
-                    has_failed: false,
-                    alloc,
-                }),
-                Err(_) => Err((AdoptError::NoMemory, connection)),
-            },
+        match recall(&mut connection, alloc) {
+            Ok((dictionary, memory)) => Ok(SqlKeep {
+                connection,
+                dictionary,
+                memory,
+                has_failed: false,
+                alloc,
+            }),
             Err(error) => Err((error, connection)),
         }
     }
@@ -277,7 +267,7 @@ impl SqlKeep<MemStore> {
 fn release<S: Alter + Drop>(_keep: Option<SqlKeep<S>>, _connection: Option<Connection<S>>) {}
 
 /// Lets go of a register in a file, or of its connection. That a file is a store is shown here once for both, since that is long.
-fn close_file<F: Start>(
+pub(crate) fn close_file<F: Start>(
     keep: Option<SqlKeep<FileStore<FileFrom<F>>>>,
     connection: Option<Connection<FileStore<FileFrom<F>>>>,
 ) {
@@ -331,7 +321,7 @@ impl SqlKeep<FileStore<File>> {
 }
 
 /// Opens the database at a path, where `F` stands for what its files held.
-fn connect<F: Start>(
+pub(crate) fn connect<F: Start>(
     rt: &HostRuntime,
     path: &str,
     start: F,
@@ -415,7 +405,7 @@ impl<F: Start> SqlKeep<FileStore<FileFrom<F>>> {
         ensures adopted { IfOk result (λ k. AdoptsFiles (image_at F.Start) k.dictionary (file_state k.connection)) }
         ensures working { IfOk result (λ k. k.has_failed ≡ false) }
         ensures refused { IfErr result (λ e.
-            IfSome e.1 (λ c. HasCleanDisk (file_state c) → RefusesFiles (image_at F.Start) e.0)) }
+            IfSome e.1 (λ c. HasCleanDisk (file_state c) → RefusesFiles Second (image_at F.Start) e.0)) }
         ensures unopened { IfErr result (λ e. e.1 ≡ None → (e.0 ≡ AdoptError.Store) ⊎ (e.0 ≡ AdoptError.NoMemory)) }
 
         // The connection that comes with another refusal than `Store`.

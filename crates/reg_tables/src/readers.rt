@@ -6,7 +6,7 @@ ghost use Rattle.sqlite.specs.declared.types.Value.TheVariants.{Int, Text as Wor
 ghost use Rattle.reg_policy.specs.Names.{is_name};
 ghost use Rattle.reg_policy.specs.Days.{is_day_number};
 ghost use Rattle.reg_store.specs.Sent.{Sent};
-ghost use Rattle.reg_store.specs.Keep.{deposit_of};
+ghost use Rattle.reg_store.specs.Keep.{sent_of};
 ghost use Rattle.reg_tables.specs.Rows.{given_deposit, placed_row, placed_rows, step_pair};
 ghost use Rattle.reg_tables.specs.DataCount.{is_shown_data};
 ghost use Rattle.reg_store.specs.Fit.{IsNamed};
@@ -110,10 +110,10 @@ fn only_row<'a>(rows: &'a [Row], width: usize) -> Result<&'a Row, KeepError>
     Ok(row)
 }
 
-/// The deposit of a number, which is the one row of the answer.
+/// The deposit of a number, which is the one row of the answer. The mark is not in the row.
 pub(crate) fn read_deposit(alloc: Global, number: u32, rows: &[Row]) -> Result<Kept, KeepError>
-    ensures read { IfOk result (λ kept. rows.now ≡ given_deposit number (deposit_of kept) ∷ []) }
-    ensures is_named { IfOk result (λ kept. IsNamed (deposit_of kept)) }
+    ensures read { IfOk result (λ kept. rows.now ≡ given_deposit number (sent_of kept) ∷ []) }
+    ensures is_named { IfOk result (λ kept. IsNamed (sent_of kept)) }
     ensures refused { IfErr result (λ e. e ≢ KeepError.Full) }
     ensures other { result ≡ Err KeepError.Store → (d : Sent) → IsNamed d
         → rows.now ≡ given_deposit number d ∷ [] → ⊥ }
@@ -130,6 +130,7 @@ pub(crate) fn read_deposit(alloc: Global, number: u32, rows: &[Row]) -> Result<K
         project: read_name(alloc, row, 2)?,
         embargo: read_day(row, 3)?,
         bytes: read_bytes(row, 4)?,
+        withdrawn: false,
     })
 }
 

@@ -6,7 +6,7 @@ ghost use Rattle.sqlite.specs.Held.{state};
 ghost use Rattle.reg_tables.specs.Quiet.{IsIdle, IsStill, FindsThat};
 ghost use Rattle.reg_tables.specs.Found.{AreMetaByName, FindsAll, OfSteps, rows_numbered};
 ghost use Rattle.reg_tables.specs.Digests.{IsRowOf};
-ghost use Rattle.reg_store.specs.Keep.{fails, deposit_of};
+ghost use Rattle.reg_store.specs.Keep.{fails, sent_of};
 ghost use Rattle.reg_tables.specs.Rows.{line_table, step_table, placed_rows, step_pair, rows_under, columns_3};
 ghost use Rattle.reg_tables.specs.Methods.{AreRowsAt, HasRows, HoldsLines, HoldsSteps};
 ghost use Rattle.reg_store.specs.Fit.{IsNamed};
@@ -47,16 +47,16 @@ pub(crate) fn numbered_rows<S: Alter>(
     )
 }
 
-/// The deposit of a number: its row is the only one.
+/// The deposit of a number: its row is the only one. The mark is not in the row.
 pub(crate) fn find_deposit<S: Alter>(
     conn: &mut Connection<S>,
     alloc: Global,
     number: u32,
 ) -> Result<Kept, KeepError>
     requires idle { IsIdle (state S.Store conn.old) }
-    ensures found { FindsThat result (λ db kept. IsRowOf db number (deposit_of kept))
+    ensures found { FindsThat result (λ db kept. IsRowOf db number (sent_of kept))
         (state S.Store conn.old) (state S.Store conn.new) }
-    ensures is_named { IfOk result (λ kept. IsNamed (deposit_of kept)) }
+    ensures is_named { IfOk result (λ kept. IsNamed (sent_of kept)) }
     ensures refused { IfErr result (λ e. e ≢ KeepError.Full) }
     ensures quiet { IsStill (state S.Store conn.old) (state S.Store conn.new) (fails result) }
 {

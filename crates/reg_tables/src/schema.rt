@@ -1,376 +1,167 @@
 //! Whether the tables of a database are those of a register.
 
-ghost use Rattle.std.specs.Prelude.{◌≡◌, IsTrue};
-ghost use Rattle.reg_tables.specs.Tables.{no_schema};
-ghost use Rattle.reg_tables.specs.Schemas as test;
+ghost use Rattle.std.specs.Prelude.{◌≡◌, [], ◌∷◌, ◌↔◌, map, codes, IsTrue};
+ghost use Rattle.reg_tables.specs.Tables.{meta, no_schema, schema_of};
+ghost use Rattle.reg_tables.specs.Schemas.{HasKey, column_of, index_of, reference_at, references_of, schema_with, table_of};
 
+use crate::format::Format;
 use sqlite_schema::code::Terms;
 use sqlite_schema::schema::{Action, Column, Index, Kind, Reference, Schema, Stamps, Table};
 use sqlite_value::keys::{Collation, Order};
 use sqlite_value::value::Value;
 
-fn is_integer(kind: Kind) -> bool
-    ensures { result ≡ test.is_integer kind }
-{
-    matches!(kind, Kind::Integer)
+/// A column that is expected.
+pub(crate) enum ExpectedColumn {
+    /// Each row has a value of this type.
+    Filled(&'static [u8], Kind),
+    /// The number of a row.
+    RowNumber(&'static [u8]),
 }
 
-fn is_text(kind: Kind) -> bool
-    ensures { result ≡ test.is_text kind }
-{
-    matches!(kind, Kind::Text)
+/// The key of a table that is expected.
+pub(crate) enum ExpectedKey {
+    /// The columns at these places, with an index in this order.
+    Columns(&'static [usize], Order),
+    /// The number of a row.
+    RowNumber,
 }
 
-fn is_blob(kind: Kind) -> bool
-    ensures { result ≡ test.is_blob kind }
-{
-    matches!(kind, Kind::Blob)
+/// A table that is expected.
+pub(crate) struct ExpectedTable {
+    pub name: &'static [u8],
+    pub tree: u32,
+    pub columns: &'static [ExpectedColumn],
+    pub key: ExpectedKey,
+    /// The place of the column that refers to the number of a deposit.
+    pub deposit: Option<usize>,
 }
 
-fn is_binary(collation: Collation) -> bool
-    ensures { result ≡ test.is_binary collation }
-{
-    matches!(collation, Collation::Binary)
+/// The index of a key that is expected.
+pub(crate) struct ExpectedIndex {
+    pub name: &'static [u8],
+    pub tree: u32,
+    pub table: u32,
+    pub columns: &'static [usize],
+    pub order: Order,
 }
 
-fn is_null(value: &Value) -> bool
-    ensures { result ≡ test.is_null value.now }
-{
-    matches!(value, Value::Null)
-}
+const RISING: Order = Order { digits: 0 };
 
-/// A column of a STRICT table without a default.
-fn is_strict(column: &Column, name: &[u8]) -> bool
-    ensures { result ≡ test.is_strict column.now name.now }
-{
-    column.name.as_slice() == name
-        && column.is_strict
-        && is_null(&column.default)
-        && is_binary(column.collation)
-}
+const FALLING: Order = Order { digits: 1 };
 
-fn is_integers(column: &Column, name: &[u8]) -> bool
-    ensures { result ≡ test.is_integers column.now name.now }
-{
-    is_strict(column, name) && is_integer(column.kind) && column.not_null
-}
+const META: ExpectedTable = ExpectedTable {
+    name: b"meta",
+    tree: 0,
+    columns: &[
+        ExpectedColumn::Filled(b"name", Kind::Text),
+        ExpectedColumn::Filled(b"num", Kind::Integer),
+        ExpectedColumn::Filled(b"body", Kind::Blob),
+    ],
+    key: ExpectedKey::Columns(&[1], RISING),
+    deposit: None,
+};
 
-fn is_texts(column: &Column, name: &[u8]) -> bool
-    ensures { result ≡ test.is_texts column.now name.now }
-{
-    is_strict(column, name) && is_text(column.kind) && column.not_null
-}
+const DEPOSITS: ExpectedTable = ExpectedTable {
+    name: b"deposits",
+    tree: 2,
+    columns: &[
+        ExpectedColumn::Filled(b"number", Kind::Integer),
+        ExpectedColumn::Filled(b"firm", Kind::Text),
+        ExpectedColumn::Filled(b"project", Kind::Text),
+        ExpectedColumn::Filled(b"embargo", Kind::Integer),
+        ExpectedColumn::Filled(b"body", Kind::Blob),
+    ],
+    key: ExpectedKey::Columns(&[1], FALLING),
+    deposit: None,
+};
 
-fn is_blobs(column: &Column, name: &[u8]) -> bool
-    ensures { result ≡ test.is_blobs column.now name.now }
-{
-    is_strict(column, name) && is_blob(column.kind) && column.not_null
-}
+const LINES: ExpectedTable = ExpectedTable {
+    name: b"lines",
+    tree: 4,
+    columns: &[
+        ExpectedColumn::Filled(b"deposit", Kind::Integer),
+        ExpectedColumn::Filled(b"seq", Kind::Integer),
+        ExpectedColumn::Filled(b"grp", Kind::Text),
+        ExpectedColumn::Filled(b"kind", Kind::Integer),
+        ExpectedColumn::Filled(b"line", Kind::Blob),
+    ],
+    key: ExpectedKey::Columns(&[1, 2], RISING),
+    deposit: Some(1),
+};
 
-fn has_no_terms(terms: &Terms) -> bool
-    ensures { result ≡ test.is_nil terms.now }
-{
-    terms.roots.is_empty()
-}
+const STEPS: ExpectedTable = ExpectedTable {
+    name: b"steps",
+    tree: 6,
+    columns: &[
+        ExpectedColumn::Filled(b"deposit", Kind::Integer),
+        ExpectedColumn::Filled(b"child", Kind::Integer),
+        ExpectedColumn::Filled(b"target", Kind::Integer),
+    ],
+    key: ExpectedKey::Columns(&[1, 2, 3], RISING),
+    deposit: Some(1),
+};
 
-fn is_unstamped(stamps: &Stamps) -> bool
-    ensures { result ≡ test.is_unstamped stamps.now }
-{
-    stamps.places.as_slice().is_empty()
-        && has_no_terms(&stamps.terms)
-        && stamps.formats.as_slice().is_empty()
-}
+const WITHDRAWALS: ExpectedTable = ExpectedTable {
+    name: b"withdrawals",
+    tree: 8,
+    columns: &[ExpectedColumn::RowNumber(b"deposit")],
+    key: ExpectedKey::RowNumber,
+    deposit: Some(0),
+};
 
-/// A table without checks, computed columns and counters.
-fn is_plain(table: &Table, name: &[u8], tree: u32) -> bool
-    ensures { result ≡ test.is_plain table.now name.now tree }
-{
-    table.name.as_slice() == name
-        && table.tree == tree
-        && has_no_terms(&table.checks)
-        && table.computed.as_slice().is_empty()
-        && is_unstamped(&table.stamps)
-        && !table.is_counted
-}
+/// The tables of format 1.
+static FIRST: [ExpectedTable; 4] = [META, DEPOSITS, LINES, STEPS];
 
-fn is_one(places: &[usize], first: usize) -> bool
-    ensures { result ≡ test.is_one places.now first }
+/// The tables of format 2.
+static SECOND: [ExpectedTable; 5] = [META, DEPOSITS, LINES, STEPS, WITHDRAWALS];
+
+/// The indexes of either format.
+static INDEXES: [ExpectedIndex; 4] = [
+    ExpectedIndex {
+        name: b"sqlite_autoindex_meta_1",
+        tree: 1,
+        table: 0,
+        columns: &[1],
+        order: RISING,
+    },
+    ExpectedIndex {
+        name: b"sqlite_autoindex_deposits_1",
+        tree: 3,
+        table: 2,
+        columns: &[1],
+        order: FALLING,
+    },
+    ExpectedIndex {
+        name: b"sqlite_autoindex_lines_1",
+        tree: 5,
+        table: 4,
+        columns: &[1, 2],
+        order: RISING,
+    },
+    ExpectedIndex {
+        name: b"sqlite_autoindex_steps_1",
+        tree: 7,
+        table: 6,
+        columns: &[1, 2, 3],
+        order: RISING,
+    },
+];
+
+/// Whether these are the tables and indexes of a register of this format, and no others.
+pub(crate) fn is_register(schema: &Schema, format: Format) -> bool
+    ensures { IsTrue result ↔ (schema.now ≡ schema_of format) }
 {
-    match places {
-        [a] => *a == first,
-        _ => false,
+    match format {
+        Format::First => is_schema(schema, &FIRST),
+        Format::Second => is_schema(schema, &SECOND),
     }
 }
 
-fn is_two(places: &[usize]) -> bool
-    ensures { result ≡ test.is_two places.now }
-{
-    match places {
-        [a, b] => *a == 1 && *b == 2,
-        _ => false,
-    }
-}
-
-fn is_three(places: &[usize]) -> bool
-    ensures { result ≡ test.is_three places.now }
-{
-    match places {
-        [a, b, c] => *a == 1 && *b == 2 && *c == 3,
-        _ => false,
-    }
-}
-
-fn is_order(orders: &[Order], digits: u64) -> bool
-    ensures { result ≡ test.is_order orders.now digits }
-{
-    match orders {
-        [order] => order.digits == digits,
-        _ => false,
-    }
-}
-
-fn is_no_action(action: Action) -> bool
-    ensures { result ≡ test.is_no_action action }
-{
-    matches!(action, Action::NoAction)
-}
-
-fn is_of_deposits(reference: &Reference) -> bool
-    ensures { result ≡ test.is_of_deposits reference.now }
-{
-    match reference.parent_columns.as_slice() {
-        [column] => {
-            is_one(reference.columns.as_slice(), 1)
-                && reference.parent.as_slice() == b"deposits".as_slice()
-                && column.as_slice() == b"number".as_slice()
-                && is_no_action(reference.on_delete)
-                && is_no_action(reference.on_update)
-                && !reference.is_deferred
-        }
-        _ => false,
-    }
-}
-
-/// One foreign key, to the number of a deposit.
-fn refers_to_deposits(references: &[Reference]) -> bool
-    ensures { result ≡ test.refers_to_deposits references.now }
-{
-    match references {
-        [reference] => is_of_deposits(reference),
-        _ => false,
-    }
-}
-
-fn has_meta_columns(columns: &[Column]) -> bool
-    ensures { result ≡ test.has_meta_columns columns.now }
-{
-    match columns {
-        [name, num, body] => {
-            is_texts(name, b"name") && is_integers(num, b"num") && is_blobs(body, b"body")
-        }
-        _ => false,
-    }
-}
-
-/// The key of the first column, in this order.
-fn has_first_key(table: &Table, key: &[usize], digits: u64) -> bool
-    ensures { result ≡ test.has_first_key table.now key.now digits }
-{
-    table.key.is_none()
-        && is_one(table.primary.as_slice(), 1)
-        && is_one(key, 1)
-        && is_order(table.orders.as_slice(), digits)
-        && table.references.as_slice().is_empty()
-}
-
+/// Whether a table is meta.
 pub(crate) fn is_meta(table: &Table) -> bool
-    ensures { result ≡ test.is_meta table.now }
+    ensures { IsTrue result ↔ (table.now ≡ meta) }
 {
-    match table.uniques.as_slice() {
-        [key] => {
-            is_plain(table, b"meta", 0)
-                && has_meta_columns(table.columns.as_slice())
-                && has_first_key(table, key.as_slice(), 0)
-        }
-        _ => false,
-    }
-}
-
-fn has_deposit_columns(columns: &[Column]) -> bool
-    ensures { result ≡ test.has_deposit_columns columns.now }
-{
-    match columns {
-        [number, firm, project, embargo, body] => {
-            is_integers(number, b"number")
-                && is_texts(firm, b"firm")
-                && is_texts(project, b"project")
-                && is_integers(embargo, b"embargo")
-                && is_blobs(body, b"body")
-        }
-        _ => false,
-    }
-}
-
-fn is_deposits(table: &Table) -> bool
-    ensures { result ≡ test.is_deposits table.now }
-{
-    match table.uniques.as_slice() {
-        [key] => {
-            is_plain(table, b"deposits", 2)
-                && has_deposit_columns(table.columns.as_slice())
-                && has_first_key(table, key.as_slice(), 1)
-        }
-        _ => false,
-    }
-}
-
-fn has_line_columns(columns: &[Column]) -> bool
-    ensures { result ≡ test.has_line_columns columns.now }
-{
-    match columns {
-        [deposit, seq, grp, kind, line] => {
-            is_integers(deposit, b"deposit")
-                && is_integers(seq, b"seq")
-                && is_texts(grp, b"grp")
-                && is_integers(kind, b"kind")
-                && is_blobs(line, b"line")
-        }
-        _ => false,
-    }
-}
-
-fn has_line_key(table: &Table, key: &[usize]) -> bool
-    ensures { result ≡ test.has_line_key table.now key.now }
-{
-    table.key.is_none()
-        && is_two(table.primary.as_slice())
-        && is_two(key)
-        && is_order(table.orders.as_slice(), 0)
-        && refers_to_deposits(table.references.as_slice())
-}
-
-fn is_lines(table: &Table) -> bool
-    ensures { result ≡ test.is_lines table.now }
-{
-    match table.uniques.as_slice() {
-        [key] => {
-            is_plain(table, b"lines", 4)
-                && has_line_columns(table.columns.as_slice())
-                && has_line_key(table, key.as_slice())
-        }
-        _ => false,
-    }
-}
-
-fn has_step_columns(columns: &[Column]) -> bool
-    ensures { result ≡ test.has_step_columns columns.now }
-{
-    match columns {
-        [deposit, child, target] => {
-            is_integers(deposit, b"deposit")
-                && is_integers(child, b"child")
-                && is_integers(target, b"target")
-        }
-        _ => false,
-    }
-}
-
-fn has_step_key(table: &Table, key: &[usize]) -> bool
-    ensures { result ≡ test.has_step_key table.now key.now }
-{
-    table.key.is_none()
-        && is_three(table.primary.as_slice())
-        && is_three(key)
-        && is_order(table.orders.as_slice(), 0)
-        && refers_to_deposits(table.references.as_slice())
-}
-
-fn is_steps(table: &Table) -> bool
-    ensures { result ≡ test.is_steps table.now }
-{
-    match table.uniques.as_slice() {
-        [key] => {
-            is_plain(table, b"steps", 6)
-                && has_step_columns(table.columns.as_slice())
-                && has_step_key(table, key.as_slice())
-        }
-        _ => false,
-    }
-}
-
-/// A unique index that a key makes.
-fn is_key(index: &Index, name: &[u8], tree: u32, table: u32, digits: u64) -> bool
-    ensures { result ≡ test.is_key index.now name.now tree table digits }
-{
-    index.name.as_slice() == name
-        && index.tree == tree
-        && index.table == table
-        && index.order.digits == digits
-        && index.is_unique
-}
-
-fn is_meta_index(index: &Index) -> bool
-    ensures { result ≡ test.is_meta_index index.now }
-{
-    is_key(index, b"sqlite_autoindex_meta_1", 1, 0, 0) && is_one(index.columns.as_slice(), 1)
-}
-
-fn is_deposit_index(index: &Index) -> bool
-    ensures { result ≡ test.is_deposit_index index.now }
-{
-    is_key(index, b"sqlite_autoindex_deposits_1", 3, 2, 1) && is_one(index.columns.as_slice(), 1)
-}
-
-fn is_line_index(index: &Index) -> bool
-    ensures { result ≡ test.is_line_index index.now }
-{
-    is_key(index, b"sqlite_autoindex_lines_1", 5, 4, 0) && is_two(index.columns.as_slice())
-}
-
-fn is_step_index(index: &Index) -> bool
-    ensures { result ≡ test.is_step_index index.now }
-{
-    is_key(index, b"sqlite_autoindex_steps_1", 7, 6, 0) && is_three(index.columns.as_slice())
-}
-
-fn has_indexes(indexes: &[Index]) -> bool
-    ensures { result ≡ test.has_indexes indexes.now }
-{
-    match indexes {
-        [meta, deposits, lines, steps] => {
-            is_meta_index(meta)
-                && is_deposit_index(deposits)
-                && is_line_index(lines)
-                && is_step_index(steps)
-        }
-        _ => false,
-    }
-}
-
-fn has_tables(tables: &[Table]) -> bool
-    ensures { result ≡ test.has_tables tables.now }
-{
-    match tables {
-        [meta, deposits, lines, steps] => {
-            is_meta(meta) && is_deposits(deposits) && is_lines(lines) && is_steps(steps)
-        }
-        _ => false,
-    }
-}
-
-fn has_no_views(schema: &Schema) -> bool
-    ensures { result ≡ test.is_nil schema.now.views }
-{
-    schema.views.as_slice().is_empty()
-}
-
-/// Whether these are the tables and indexes of a register, and no others.
-pub(crate) fn is_register(schema: &Schema) -> bool
-    ensures { result ≡ test.is_register schema.now }
-{
-    has_tables(schema.tables.as_slice())
-        && has_indexes(schema.indexes.as_slice())
-        && has_no_views(schema)
+    is_table(table, &META)
 }
 
 /// Whether there is no table, no index and no view.
@@ -379,4 +170,166 @@ pub(crate) fn is_vacant(schema: &Schema) -> bool
     ensures not_blank { schema.now ≡ no_schema → IsTrue result }
 {
     schema.tables.is_empty() && schema.indexes.is_empty() && schema.views.is_empty()
+}
+
+fn is_schema(schema: &Schema, expected: &[ExpectedTable]) -> bool
+    ensures { IsTrue result ↔ (schema.now ≡ schema_with expected.now) }
+{
+    are_tables(schema.tables.as_slice(), expected)
+        && are_indexes(schema.indexes.as_slice(), &INDEXES)
+        && schema.views.is_empty()
+}
+
+fn are_tables(tables: &[Table], expected: &[ExpectedTable]) -> bool
+    ensures { IsTrue result ↔ (tables.now ≡ map table_of expected.now) }
+{
+    tables.len() == expected.len() && tables.iter().zip(expected).all(|(t, e)| is_table(t, e))
+}
+
+fn is_table(table: &Table, expected: &ExpectedTable) -> bool
+    ensures { IsTrue result ↔ (table.now ≡ table_of expected.now) }
+{
+    table.name.as_slice() == expected.name
+        && table.tree == expected.tree
+        && are_columns(table.columns.as_slice(), expected.columns)
+        && has_key(table, &expected.key)
+        && has_no_terms(&table.checks)
+        && are_references(table.references.as_slice(), expected.deposit)
+        && table.computed.is_empty()
+        && is_unstamped(&table.stamps)
+        && !table.is_counted
+}
+
+fn are_columns(columns: &[Column], expected: &[ExpectedColumn]) -> bool
+    ensures { IsTrue result ↔ (columns.now ≡ map column_of expected.now) }
+{
+    columns.len() == expected.len() && columns.iter().zip(expected).all(|(c, e)| is_column(c, e))
+}
+
+/// A column of a STRICT table without a default.
+fn is_column(column: &Column, expected: &ExpectedColumn) -> bool
+    ensures { IsTrue result ↔ (column.now ≡ column_of expected.now) }
+{
+    let (name, kind, is_filled) = match expected {
+        ExpectedColumn::Filled(name, kind) => (*name, *kind, true),
+        ExpectedColumn::RowNumber(name) => (*name, Kind::Integer, false),
+    };
+    column.name.as_slice() == name
+        && column.kind == kind
+        && column.is_strict
+        && column.not_null == is_filled
+        && is_null(&column.default)
+        && column.collation == Collation::Binary
+}
+
+fn is_null(value: &Value) -> bool
+    ensures { IsTrue result ↔ (value.now ≡ Value.Null) }
+{
+    matches!(value, Value::Null)
+}
+
+fn has_key(table: &Table, key: &ExpectedKey) -> bool
+    ensures { IsTrue result ↔ HasKey table.now key.now }
+{
+    match key {
+        ExpectedKey::Columns(places, order) => {
+            table.key.is_none()
+                && table.primary.as_slice() == *places
+                && has_unique(table, places)
+                && has_order(table, *order)
+        }
+        ExpectedKey::RowNumber => {
+            table.key == Some(0)
+                && is_one(table.primary.as_slice(), 0)
+                && table.uniques.is_empty()
+                && table.orders.is_empty()
+        }
+    }
+}
+
+fn has_unique(table: &Table, places: &[usize]) -> bool
+    ensures { IsTrue result ↔ (table.now.uniques ≡ places.now ∷ []) }
+{
+    match table.uniques.as_slice() {
+        [unique] => unique.as_slice() == places,
+        _ => false,
+    }
+}
+
+fn has_order(table: &Table, order: Order) -> bool
+    ensures { IsTrue result ↔ (table.now.orders ≡ order ∷ []) }
+{
+    match table.orders.as_slice() {
+        [only] => *only == order,
+        _ => false,
+    }
+}
+
+fn is_one(places: &[usize], place: usize) -> bool
+    ensures { IsTrue result ↔ (places.now ≡ place ∷ []) }
+{
+    match places {
+        [only] => *only == place,
+        _ => false,
+    }
+}
+
+fn are_references(references: &[Reference], deposit: Option<usize>) -> bool
+    ensures { IsTrue result ↔ (references.now ≡ references_of deposit) }
+{
+    match (references, deposit) {
+        ([], None) => true,
+        ([reference], Some(place)) => is_reference(reference, place),
+        _ => false,
+    }
+}
+
+/// A foreign key to the number of a deposit.
+fn is_reference(reference: &Reference, place: usize) -> bool
+    ensures { IsTrue result ↔ (reference.now ≡ reference_at place) }
+{
+    is_one(reference.columns.as_slice(), place)
+        && reference.parent.as_slice() == b"deposits".as_slice()
+        && is_to_number(reference)
+        && reference.on_delete == Action::NoAction
+        && reference.on_update == Action::NoAction
+        && !reference.is_deferred
+}
+
+fn is_to_number(reference: &Reference) -> bool
+    ensures { IsTrue result ↔ (reference.now.parent_columns ≡ codes "number" ∷ []) }
+{
+    match reference.parent_columns.as_slice() {
+        [column] => column.as_slice() == b"number".as_slice(),
+        _ => false,
+    }
+}
+
+fn has_no_terms(terms: &Terms) -> bool
+    ensures { IsTrue result ↔ (terms.now ≡ []) }
+{
+    terms.roots.is_empty()
+}
+
+fn is_unstamped(stamps: &Stamps) -> bool
+    ensures { IsTrue result ↔ (stamps.now ≡ meta.stamps) }
+{
+    stamps.places.is_empty() && has_no_terms(&stamps.terms) && stamps.formats.is_empty()
+}
+
+fn are_indexes(indexes: &[Index], expected: &[ExpectedIndex]) -> bool
+    ensures { IsTrue result ↔ (indexes.now ≡ map index_of expected.now) }
+{
+    indexes.len() == expected.len() && indexes.iter().zip(expected).all(|(i, e)| is_index(i, e))
+}
+
+fn is_index(index: &Index, expected: &ExpectedIndex) -> bool
+    ensures { IsTrue result ↔ (index.now ≡ index_of expected.now) }
+{
+    index.name.as_slice() == expected.name
+        && index.tree == expected.tree
+        && index.table == expected.table
+        && index.columns.as_slice() == expected.columns
+        && index.order == expected.order
+        && index.is_unique
 }

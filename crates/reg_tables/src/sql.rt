@@ -10,6 +10,7 @@ ghost use Rattle.reg_tables.specs.Register.{deposits_in, KeepsIfClean, KeepsRegi
 
 use crate::adding::add_checked;
 use crate::graph::read_graph;
+use crate::marks::add_mark;
 use crate::memory::{Memory, copy_project};
 use crate::project::{find_project, find_targets};
 use crate::reading::{find_deposit, find_lines};
@@ -142,10 +143,25 @@ impl<S: Alter> Keep for SqlKeep<S> {
         }
     }
 
+    fn withdraw(&mut self, n: u32) -> Result<(), KeepError> {
+        match add_mark(&mut self.connection, n) {
+            Ok(()) => {
+                self.memory.mark(n);
+                Ok(())
+            }
+            Err(refused) => {
+                self.has_failed = is_store_error(&refused);
+                Err(refused)
+            }
+        }
+    }
+
     fn deposit(&mut self, n: u32) -> Result<Kept, KeepError> {
         let found = find_deposit(&mut self.connection, self.alloc, n);
         self.has_failed = is_store(&found);
-        found
+        let mut kept = found?;
+        kept.withdrawn = self.memory.is_withdrawn(n);
+        Ok(kept)
     }
 
     fn head(&mut self, n: u32) -> Result<KeptHead, KeepError> {

@@ -1,35 +1,30 @@
 //! The format of a database whose first table is meta, whatever its other tables are.
 
-ghost use Rattle.std.specs.Prelude.{◌≡◌, ◌≢◌, false, IsTrue, map, Err, OnOk};
+ghost use Rattle.std.specs.Prelude.{◌≡◌, ◌≢◌, ◌↔◌, false, IsTrue, map, Err, IfErr, OnOk, OnErr};
 ghost use Rattle.sqlite.specs.State.{HasCleanDisk, Survives};
 ghost use Rattle.sqlite.specs.Held.{state};
-ghost use Rattle.reg_tables.specs.Tables.{register_schema};
+ghost use Rattle.reg_tables.specs.Tables.{schema_of};
 ghost use Rattle.reg_tables.specs.Rows.{columns_3};
-ghost use Rattle.reg_tables.specs.Formats.{StartsWithMeta, starts_with_meta as test};
-ghost use Rattle.reg_tables.specs.Quiet.{IsSettled, StaysIfOpen};
+ghost use Rattle.reg_tables.specs.Formats.{StartsWithMeta};
+ghost use Rattle.reg_tables.specs.Quiet.{IsIdle, IsSettled, StaysIfClean, StaysIfOpen};
 ghost use Rattle.reg_tables.specs.Found.{FindsAll, StaysUnless};
 ghost use Rattle.reg_tables.specs.Adoption.{Adopts, is_store_failure};
 
 use crate::adopting::{AdoptError, other_format};
+use crate::format::Format;
 use crate::queries::is_refused;
-use crate::schema::is_meta;
+use crate::schema::{is_meta, is_register};
 use sqlite::{Alter, Connection, Error, Row};
-use sqlite_schema::schema::{Schema, Table};
+use sqlite_schema::schema::Schema;
 
-fn starts_with_meta(tables: &[Table]) -> bool
-    ensures { result ≡ test tables.now }
+/// Whether the first table is meta.
+fn has_meta(schema: &Schema) -> bool
+    ensures { IsTrue result ↔ StartsWithMeta schema.now }
 {
-    match tables {
+    match schema.tables.as_slice() {
         [first, ..] => is_meta(first),
         [] => false,
     }
-}
-
-/// Whether the first table is meta.
-pub(crate) fn has_meta(schema: &Schema) -> bool
-    ensures { result ≡ test schema.now.tables }
-{
-    starts_with_meta(schema.tables.as_slice())
 }
 
 fn ask_meta<S: Alter>(conn: &mut Connection<S>) -> Result<Vec<Row>, Error>
@@ -46,22 +41,23 @@ fn ask_meta<S: Alter>(conn: &mut Connection<S>) -> Result<Vec<Row>, Error>
     conn.query_all("SELECT name, num, body FROM meta ORDER BY name", &[])
 }
 
-/// Why a database is refused whose first table is meta, and whose tables are not those of a register.
+/// Why a database is refused whose first table is meta, and whose tables are not those of the format.
 ///
 /// Another number of the format comes before that it is no register.
 #[tactic(auto, using(crate::proofs::QueryLemmas::still_then))]
-pub(crate) fn refuse_tables<S: Alter>(conn: &mut Connection<S>) -> AdoptError
+fn refuse_tables<S: Alter>(conn: &mut Connection<S>, format: Format) -> AdoptError
     requires mode { conn.old.in_transaction ≡ false }
     requires meta { StartsWithMeta (state S.Store conn.old).now.schema }
-    requires other { (state S.Store conn.old).now.schema ≢ register_schema }
+    requires other { (state S.Store conn.old).now.schema ≢ schema_of format }
     requires settled { HasCleanDisk (state S.Store conn.old) → IsSettled (state S.Store conn.old) }
-    ensures refused { HasCleanDisk (state S.Store conn.new) → Adopts (state S.Store conn.old).now (Err result) }
+    ensures refused { HasCleanDisk (state S.Store conn.new)
+        → Adopts format (state S.Store conn.old).now (Err result) }
     ensures same { StaysUnless (is_store_failure result) (state S.Store conn.old) (state S.Store conn.new) }
     ensures still { StaysIfOpen (state S.Store conn.old) (state S.Store conn.new) }
     ensures crash { Survives (state S.Store conn.old) (state S.Store conn.new) (λ _. ⊥) }
 {
     match ask_meta(conn) {
-        Ok(rows) => match other_format(&rows) {
+        Ok(rows) => match other_format(&rows, format.number()) {
             Some(number) => AdoptError::Version(number),
             None => AdoptError::NotRegister,
         },
@@ -73,4 +69,34 @@ pub(crate) fn refuse_tables<S: Alter>(conn: &mut Connection<S>) -> AdoptError
             }
         }
     }
+}
+
+/// Whether the tables are those of the format, and no transaction runs; or else why they are refused.
+pub(crate) fn test_tables<S: Alter>(
+    conn: &mut Connection<S>,
+    format: Format,
+) -> Result<(), AdoptError>
+    // At success, nothing changed.
+    ensures unchanged { OnOk result (conn.new ≡ conn.old) }
+    ensures idle { OnOk result (IsIdle (state S.Store conn.new)) }
+    ensures tables { OnOk result ((state S.Store conn.new).now.schema ≡ schema_of format) }
+
+    // Each refusal, by what the database was, and what it leaves.
+    ensures refused { HasCleanDisk (state S.Store conn.new)
+        → IfErr result (λ e. Adopts format (state S.Store conn.old).now (Err e)) }
+    ensures same { IfErr result (λ e. is_store_failure e ≡ false
+        → StaysIfClean (state S.Store conn.old) (state S.Store conn.new)) }
+    ensures still { OnErr result (StaysIfOpen (state S.Store conn.old) (state S.Store conn.new)) }
+    ensures left { Survives (state S.Store conn.old) (state S.Store conn.new) (λ _. ⊥) }
+{
+    if !has_meta(conn.schema()) {
+        return Err(AdoptError::NotRegister);
+    }
+    if !conn.is_autocommit() {
+        return Err(AdoptError::Store);
+    }
+    if !is_register(conn.schema(), format) {
+        return Err(refuse_tables(conn, format));
+    }
+    Ok(())
 }

@@ -13,7 +13,7 @@ use ags_links::Graph;
 use ags_rows::vectors::{FILE_A, FILE_B};
 use ags_rows::{LIMIT, READABLE};
 use reg_policy::{Day, Name};
-use reg_store::{Keep, KeepError, Kept, KeptRow, ProjectRow};
+use reg_store::{Keep, KeepError, Kept, KeptHead, KeptRow, ProjectRow};
 use reg_tables::{CreateError, SqlKeep};
 use sqlite::{Alter, Connection};
 use std::alloc::{AllocError, Global};
@@ -24,6 +24,8 @@ use std::fmt::Write;
 enum Call {
     /// `find` of a firm's file for a project, and `add` where there is none.
     Take(&'static str, &'static str, File),
+    /// `withdraw` of a deposit, where it is not withdrawn yet.
+    Withdraw(u32),
     Deposit(u32),
     Head(u32),
     Rows(u32),
@@ -203,9 +205,20 @@ fn tell_sent(
     write!(told, "{firm} {project} {day}")
 }
 
+/// The mark of a withdrawn deposit.
+fn mark_of(withdrawn: bool) -> &'static str {
+    if withdrawn { " withdrawn" } else { "" }
+}
+
 fn tell_kept(kept: &Kept, told: &mut String) -> Result<(), AllocError> {
     tell_sent(&kept.firm, &kept.project, kept.embargo, told)?;
+    told.push_str(mark_of(kept.withdrawn))?;
     told.push_str(file_of(kept.bytes.as_slice()))
+}
+
+fn tell_kept_head(head: &KeptHead, told: &mut String) -> Result<(), AllocError> {
+    tell_sent(&head.firm, &head.project, head.embargo, told)?;
+    told.push_str(mark_of(head.withdrawn))
 }
 
 /// How many of the rows are DATA rows.
@@ -298,7 +311,31 @@ fn tell_head<K: Keep>(keep: &mut K, n: u32, told: &mut String) -> Result<(), Kee
         return Ok(());
     }
     let head = keep.head(n)?;
-    Ok(tell_sent(&head.firm, &head.project, head.embargo, told)?)
+    Ok(tell_kept_head(&head, told)?)
+}
+
+/// Withdraws the deposit of that number, if one is held that is not withdrawn.
+pub(crate) fn withdraw_held<K: Keep>(keep: &mut K, n: u32) -> Result<bool, KeepError>
+    requires { K.has_failed keep.old ≡ false }
+    ensures { OnOk result (K.has_failed keep.new ≡ false) }
+{
+    if !is_held(keep, n) {
+        return Ok(false);
+    }
+    let head = keep.head(n)?;
+    if head.withdrawn {
+        return Ok(false);
+    }
+    keep.withdraw(n)?;
+    Ok(true)
+}
+
+fn tell_withdraw<K: Keep>(keep: &mut K, n: u32, told: &mut String) -> Result<(), KeepError>
+    requires { K.has_failed keep.old ≡ false }
+    ensures { OnOk result (K.has_failed keep.new ≡ false) }
+{
+    let is_new = withdraw_held(keep, n)?;
+    Ok(told.push_str(mark_of(is_new))?)
 }
 
 fn tell_rows<K: Keep>(
@@ -412,6 +449,7 @@ fn tell<K: Keep>(
 {
     match call {
         Call::Take(firm, project, file) => tell_take(alloc, keep, firm, project, file, told),
+        Call::Withdraw(n) => tell_withdraw(keep, n, told),
         Call::Deposit(n) => tell_deposit(keep, n, told),
         Call::Head(n) => tell_head(keep, n, told),
         Call::Rows(n) => tell_rows(alloc, keep, n, told),

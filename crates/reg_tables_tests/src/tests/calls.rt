@@ -97,6 +97,70 @@ static CASES: [Case; 20] = [
     },
 ];
 
+/// A withdrawn deposit has a mark, and is as it was besides: its rows and steps, its number and that of a repeat.
+static WITHDRAWN: [Case; 15] = [
+    Case {
+        call: Call::Take("Delta", "N1", File::A),
+        want: "1",
+    },
+    Case {
+        call: Call::Take("Gamma", "N1", File::B),
+        want: "2",
+    },
+    Case {
+        call: Call::Rows(2),
+        want: ROWS_OF_B,
+    },
+    Case {
+        call: Call::Withdraw(2),
+        want: " withdrawn",
+    },
+    Case {
+        call: Call::Head(1),
+        want: "Delta N1 19875",
+    },
+    Case {
+        call: Call::Head(2),
+        want: "Gamma N1 19875 withdrawn",
+    },
+    Case {
+        call: Call::Deposit(1),
+        want: "Delta N1 19875 A",
+    },
+    Case {
+        call: Call::Deposit(2),
+        want: "Gamma N1 19875 withdrawn B",
+    },
+    Case {
+        call: Call::Withdraw(2),
+        want: "",
+    },
+    Case {
+        call: Call::Rows(2),
+        want: ROWS_OF_B,
+    },
+    Case {
+        call: Call::Steps(2),
+        want: STEPS_OF_B,
+    },
+    Case {
+        call: Call::Numbers("N1"),
+        want: "1;2;",
+    },
+    Case {
+        call: Call::Take("Gamma", "N1", File::B),
+        want: "2",
+    },
+    Case {
+        call: Call::Withdraw(1),
+        want: " withdrawn",
+    },
+    Case {
+        call: Call::Sizes,
+        want: "2 of 999999, 10 and 38 entries",
+    },
+];
+
 static FULL: [Case; 4] = [
     Case {
         call: Call::Take("Delta", "N1", File::A),
@@ -348,6 +412,12 @@ fn calls_in_memory(rt: HostRuntime) -> Result<(), Fail> {
 #[test]
 fn calls_in_tables(rt: HostRuntime) -> Result<(), Fail> {
     hold_in_tables(rt.alloc(), &CASES)
+}
+
+#[test]
+fn calls_of_withdrawn(rt: HostRuntime) -> Result<(), Fail> {
+    hold_in_memory(rt.alloc(), &WITHDRAWN)?;
+    hold_in_tables(rt.alloc(), &WITHDRAWN)
 }
 
 #[test]

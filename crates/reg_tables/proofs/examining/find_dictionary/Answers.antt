@@ -1,6 +1,7 @@
 use Rattle.std.proofs.Common.{rules, ◌≡◌}
 use Rattle.sqlite.specs.Held.{state}
 use Rattle.reg_tables.specs.Quiet.{clean_before}
+use Rattle.reg_tables.specs.Tables.{number_of}
 use Rattle.reg_tables.proofs.ExamineLemmas.{meta_of}
 use Rattle.reg_tables.proofs.examining.find_dictionary.Goals as goal
 
@@ -9,4 +10,4 @@ returns-in-Ok-clause-read g c clean =
     let old = state g.S.Store c.args.conn.now in
     let first = clean_before old (state g.S.Store c.meta_rows.new.conn) c.meta_rows.ensures.quiet.survives clean in
     let same : c.deref.result.now ≡ c.in-Ok.rows.items = search rules in
-    meta_of c.read_meta.result old.now c.in-Ok.rows.items (c.requires.idle.schema first) (c.in-Ok.ensures.all clean) (c.in-Ok.ensures.found clean) (rw same at c.read_meta.ensures)
+    meta_of (number_of c.args.format) c.read_meta.result old.now c.in-Ok.rows.items (c.requires.idle.schema first) (c.in-Ok.ensures.all clean) (c.in-Ok.ensures.found clean) (rw same at c.read_meta.ensures)

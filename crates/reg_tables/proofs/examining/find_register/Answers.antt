@@ -5,27 +5,27 @@ use Rattle.sqlite.specs.Held.{state}
 use Rattle.reg_store.specs.declared.keep.KeepError.{KeepError}
 use Rattle.reg_store.specs.declared.keep.KeepError.TheVariants as keep
 use Rattle.reg_store.specs.Keep.{is_store}
+use Rattle.reg_tables.specs.declared.format.Format.{Format}
 use Rattle.reg_tables.specs.declared.adopting.AdoptError.{AdoptError}
-use Rattle.reg_tables.specs.Adoption.{Adopts, adopt_error, is_store_failure}
+use Rattle.reg_tables.specs.Adoption.{Examines, adopt_error, is_store_failure}
 use Rattle.reg_tables.specs.Quiet.{IsStill, clean_before, idle_then, quiet_read, quiet_then}
 use Rattle.reg_tables.specs.Whole.{AreWhole, Counts, Tests}
 use Rattle.reg_tables.specs.Digests.{HoldsDigests}
 use Rattle.reg_tables.specs.Heads.{HoldsHeads}
-use Rattle.reg_tables.proofs.ExamineLemmas.{finds_none, finds_whole, none_adopts, tests_false, tests_true}
+use Rattle.reg_tables.proofs.ExamineLemmas.{finds_none, finds_whole, none_examines, tests_false, tests_true}
 use Rattle.reg_tables.proofs.examining.find_register.Goals as goal
 
 pub holds_deposits-requires-clause-idle : goal.holds_deposits-requires-clause-idle
 holds_deposits-requires-clause-idle g c = idle_then _ _ c.requires.idle c.in-Ok-Some.ensures.quiet
 
 pub returns-in-Ok-None-clause-refused : goal.returns-in-Ok-None-clause-refused
-returns-in-Ok-None-clause-refused g c clean =
+returns-in-Ok-None-clause-refused g c clean format schema meta =
     let old = state g.S.Store c.args.conn.now in
-    let first = clean_before old (state g.S.Store c.find_count.new.conn) c.in-Ok-None.ensures.quiet.survives clean in
     let counts : Counts old.now None = subst (Counts old.now) c.in-Ok-None.field-0-is (c.in-Ok-None.ensures.counted clean) in
-    none_adopts old.now c.args.dictionary.now (c.requires.meta first) (λ list r. counts list r.few r.deposits)
+    none_examines format old.now c.args.dictionary.now meta (λ list r. counts list r.few r.deposits)
 
 pub returns-in-Ok-true-clause-found : goal.returns-in-Ok-true-clause-found
-returns-in-Ok-true-clause-found g c clean =
+returns-in-Ok-true-clause-found g c clean format schema meta =
     let old = state g.S.Store c.args.conn.now in
     let mid = state g.S.Store c.find_count.new.conn in
     let early = clean_before mid (state g.S.Store c.holds_deposits.new.conn) c.holds_deposits.ensures.quiet.survives clean in
@@ -34,7 +34,7 @@ returns-in-Ok-true-clause-found g c clean =
     let counts : Counts old.now (Some count) = subst (Counts old.now) c.in-Ok-Some.field-0-is (c.in-Ok-Some.ensures.counted early) in
     let is : c.in-Ok-true.field-0 ≡ true = search rules in
     let test = subst (λ (db : Database). Tests true (AreWhole db c.args.dictionary.now count)) (c.in-Ok-Some.ensures.quiet.same early refl).0 (tests_true is (c.in-Ok-true.ensures.tested clean)) in
-    finds_whole old.now c.args.dictionary.now count (c.requires.schema first) (c.requires.sound first) (c.requires.meta first) counts (test.yes refl)
+    finds_whole format old.now c.args.dictionary.now count schema (c.requires.sound first) meta counts (test.yes refl)
 
 pub returns-in-Ok-true-clause-heads : goal.returns-in-Ok-true-clause-heads
 returns-in-Ok-true-clause-heads g c clean =
@@ -54,25 +54,24 @@ pub returns-in-Ok-true-clause-quiet : goal.returns-in-Ok-true-clause-quiet
 returns-in-Ok-true-clause-quiet g c = quiet_then _ _ _ _ c.in-Ok-Some.ensures.quiet c.in-Ok-true.ensures.quiet
 
 pub returns-in-Ok-false-clause-refused : goal.returns-in-Ok-false-clause-refused
-returns-in-Ok-false-clause-refused g c clean =
+returns-in-Ok-false-clause-refused g c clean format schema meta =
     let old = state g.S.Store c.args.conn.now in
     let mid = state g.S.Store c.find_count.new.conn in
     let early = clean_before mid (state g.S.Store c.holds_deposits.new.conn) c.holds_deposits.ensures.quiet.survives clean in
-    let first = clean_before old mid c.in-Ok-Some.ensures.quiet.survives early in
     let count = c.in-Ok-Some.count in
     let counts : Counts old.now (Some count) = subst (Counts old.now) c.in-Ok-Some.field-0-is (c.in-Ok-Some.ensures.counted early) in
     let is : c.in-Ok-false.field-0 ≡ false = search rules in
     let test = subst (λ (db : Database). Tests false (AreWhole db c.args.dictionary.now count)) (c.in-Ok-Some.ensures.quiet.same early refl).0 (tests_false is (c.in-Ok-false.ensures.tested clean)) in
-    none_adopts old.now c.args.dictionary.now (c.requires.meta first) (finds_none old.now c.args.dictionary.now count counts (test.no refl))
+    none_examines format old.now c.args.dictionary.now meta (finds_none format old.now c.args.dictionary.now count counts (test.no refl))
 
 pub returns-in-Ok-false-clause-quiet : goal.returns-in-Ok-false-clause-quiet
 returns-in-Ok-false-clause-quiet g c = quiet_then _ _ _ _ c.in-Ok-Some.ensures.quiet c.in-Ok-false.ensures.quiet
 
 -- what a keep's failure is answered says nothing of the tables
-fault_adopts : (db : Database) (e : KeepError) (a : AdoptError) → a ≡ adopt_error e → Adopts db (Err a)
-fault_adopts db keep.Full a is = subst (λ (x : AdoptError). Adopts db (Err x)) (sym is) tt
-fault_adopts db keep.Store a is = subst (λ (x : AdoptError). Adopts db (Err x)) (sym is) tt
-fault_adopts db keep.NoMemory a is = subst (λ (x : AdoptError). Adopts db (Err x)) (sym is) tt
+fault_examines : (format : Format) (db : Database) (e : KeepError) (a : AdoptError) → a ≡ adopt_error e → Examines format db (Err a)
+fault_examines format db keep.Full a is = subst (λ (x : AdoptError). Examines format db (Err x)) (sym is) tt
+fault_examines format db keep.Store a is = subst (λ (x : AdoptError). Examines format db (Err x)) (sym is) tt
+fault_examines format db keep.NoMemory a is = subst (λ (x : AdoptError). Examines format db (Err x)) (sym is) tt
 
 -- it is a failure of the store where the keep failed
 fault_quiet : (old new : State) (e : KeepError) (a : AdoptError) → a ≡ adopt_error e → IsStill old new (is_store e) → IsStill old new (is_store_failure a)
@@ -81,7 +80,7 @@ fault_quiet old new keep.Store a is quiet = subst (λ (x : AdoptError). IsStill 
 fault_quiet old new keep.NoMemory a is quiet = subst (λ (x : AdoptError). IsStill old new (is_store_failure x)) (sym is) quiet
 
 pub returns-in-Err-clause-refused : goal.returns-in-Err-clause-refused
-returns-in-Err-clause-refused g c _ = fault_adopts (state g.S.Store c.args.conn.now).now c.in-Err.error c.from.result c.from.ensures
+returns-in-Err-clause-refused g c _ format schema meta = fault_examines format (state g.S.Store c.args.conn.now).now c.in-Err.error c.from.result c.from.ensures
 
 pub returns-in-Err-clause-quiet : goal.returns-in-Err-clause-quiet
 returns-in-Err-clause-quiet g c = fault_quiet (state g.S.Store c.args.conn.now) (state g.S.Store c.find_count.new.conn) c.in-Err.error c.from.result c.from.ensures c.in-Err.ensures.quiet

@@ -1,7 +1,7 @@
 use Rattle.std.proofs.Common.{rules, arith, ◌≡◌, ap, length, subst}
 use Rattle.sqlite.specs.Held.{state}
 use Rattle.ags_check.specs.Findings.{Findings}
-use Rattle.reg_store.specs.Keep.{deposit_of}
+use Rattle.reg_store.specs.Keep.{sent_of}
 use Rattle.reg_store.specs.Fit.{IsFileOf}
 use Rattle.reg_tables.specs.Quiet.{quiet_none}
 use Rattle.reg_tables.proofs.ExamineLemmas.{body_tests, no_body, no_file}
@@ -9,20 +9,20 @@ use Rattle.reg_tables.proofs.examining.holds_body.Goals as goal
 
 pub returns-then-bytes-gt-LIMIT-clause-tested : goal.returns-then-bytes-gt-LIMIT-clause-tested
 returns-then-bytes-gt-LIMIT-clause-tested g c clean =
-    let d = deposit_of c.args.kept.now in
+    let d = sent_of c.args.kept.now in
     let same : c.as_slice-bytes.result.now ≡ d.bytes = search rules in
     no_body (state g.S.Store c.args.conn.now).now c.args.dictionary.now c.args.number d (λ file its. absurd (omega (arith, its.short, ap length same)))
 
 pub returns-in-Ok-clause-tested : goal.returns-in-Ok-clause-tested
 returns-in-Ok-clause-tested g c clean =
-    let d = deposit_of c.args.kept.now in
+    let d = sent_of c.args.kept.now in
     let same : c.as_slice-bytes.result.now ≡ d.bytes = search rules in
     let its : IsFileOf c.args.dictionary.now d c.in-Ok.file = record { given = c.in-Ok.ensures.given; bytes = search rules; clean = c.in-Ok.ensures.clean; short = omega (arith, ap length same) } in
     body_tests c.holds_checked.result (state g.S.Store c.args.conn.now).now c.args.dictionary.now c.args.number d c.in-Ok.file its (c.holds_checked.ensures.tested clean)
 
 pub returns-in-Err-Findings-clause-tested : goal.returns-in-Err-Findings-clause-tested
 returns-in-Err-Findings-clause-tested g c clean =
-    let d = deposit_of c.args.kept.now in
+    let d = sent_of c.args.kept.now in
     let same : c.as_slice-bytes.result.now ≡ d.bytes = search rules in
     let found = c.in-Err-Findings._found in
     let stands = c.in-Err-Findings.ensures.findings found (search rules) in

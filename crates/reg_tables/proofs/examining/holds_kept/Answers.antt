@@ -1,7 +1,7 @@
 use Rattle.std.proofs.Common.{rules, ◌≡◌, true, false, refl}
 use Rattle.sqlite.specs.Effect.{Database}
 use Rattle.sqlite.specs.Held.{state}
-use Rattle.reg_store.specs.Keep.{deposit_of}
+use Rattle.reg_store.specs.Keep.{sent_of}
 use Rattle.reg_tables.specs.Digests.{IsNew}
 use Rattle.reg_tables.specs.Quiet.{clean_before, idle_then, quiet_then}
 use Rattle.reg_tables.proofs.ExamineLemmas.{tests_false, tests_first, tests_later, tests_true}
@@ -16,7 +16,7 @@ returns-in-Ok-true-clause-tested g c clean =
     let early = clean_before mid (state g.S.Store c.is_new.new.conn) c.is_new.ensures.quiet.survives clean in
     let is : c.in-Ok-true.field-0 ≡ true = search rules in
     let first = tests_true is (c.in-Ok-true.ensures.tested early) in
-    tests_later c.is_new.result _ (λ (db : Database). IsNew db c.args.numbers.now (deposit_of c.args.kept.now)) (state g.S.Store c.args.conn.now).now mid.now (c.in-Ok-true.ensures.quiet.same early refl).0 first (c.is_new.ensures.tested clean)
+    tests_later c.is_new.result _ (λ (db : Database). IsNew db c.args.numbers.now (sent_of c.args.kept.now)) (state g.S.Store c.args.conn.now).now mid.now (c.in-Ok-true.ensures.quiet.same early refl).0 first (c.is_new.ensures.tested clean)
 
 pub returns-in-Ok-true-clause-quiet : goal.returns-in-Ok-true-clause-quiet
 returns-in-Ok-true-clause-quiet g c = quiet_then _ _ _ _ c.in-Ok-true.ensures.quiet c.is_new.ensures.quiet

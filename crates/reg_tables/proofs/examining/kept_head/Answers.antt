@@ -1,6 +1,6 @@
 use Rattle.std.proofs.Common.{rules, ◌≡◌, true, false, ap, ◌∙◌, subst}
 use Rattle.sqlite.specs.Held.{state}
-use Rattle.reg_store.specs.Keep.{deposit_of}
+use Rattle.reg_store.specs.Keep.{sent_of}
 use Rattle.reg_tables.specs.Digests.{IsNew, numbers_under, own_digest}
 use Rattle.reg_tables.specs.Whole.{HoldsBody, Tests}
 use Rattle.reg_tables.proofs.ExamineLemmas.{tests_false, tests_true}
@@ -9,7 +9,7 @@ use Rattle.reg_tables.proofs.examining.kept_head.Goals as goal
 pub returns-in-Ok-true-clause-tested : goal.returns-in-Ok-true-clause-tested
 returns-in-Ok-true-clause-tested g c clean =
     let old = state g.S.Store c.args.conn.now in
-    let d = deposit_of c.args.kept in
+    let d = sent_of c.args.kept in
     let is : c.in-Ok-true.field-0 ≡ true = search rules in
     let its : c.digest_of-digest.result ≡ own_digest d = search rules in
     let own : c.of.result.now ≡ numbers_under c.args.digests.now (own_digest d) = c.of.ensures ∙ ap (numbers_under c.args.digests.now) its in
@@ -18,7 +18,7 @@ returns-in-Ok-true-clause-tested g c clean =
 pub returns-in-Ok-false-clause-tested : goal.returns-in-Ok-false-clause-tested
 returns-in-Ok-false-clause-tested g c clean =
     let old = state g.S.Store c.args.conn.now in
-    let d = deposit_of c.args.kept in
+    let d = sent_of c.args.kept in
     let is : c.in-Ok-false.field-0 ≡ false = search rules in
     let its : c.digest_of-digest.result ≡ own_digest d = search rules in
     let own : c.of.result.now ≡ numbers_under c.args.digests.now (own_digest d) = c.of.ensures ∙ ap (numbers_under c.args.digests.now) its in

@@ -6,7 +6,7 @@ use Rattle.reg_tables.specs.Ordered.{numbers_by, numbers_found_by}
 use Rattle.reg_tables.proofs.examining.number_rows.Goals as goal
 
 pub query-requires-clause-plain : goal.query-requires-clause-plain
-query-requires-clause-plain g c = all_numbers_read.1
+query-requires-clause-plain g c clean = all_numbers_read.1 _ (c.requires.idle.schema clean)
 
 pub returns-clause-all : goal.returns-clause-all
 returns-clause-all g c clean =

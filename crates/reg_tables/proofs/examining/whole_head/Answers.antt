@@ -1,6 +1,6 @@
 use Rattle.std.proofs.Common.{rules, ◌≡◌, refl, ◌∷◌, []}
 use Rattle.sqlite.specs.Held.{state}
-use Rattle.reg_store.specs.Keep.{deposit_of}
+use Rattle.reg_store.specs.Keep.{sent_of}
 use Rattle.reg_tables.specs.Rows.{given_deposit}
 use Rattle.reg_tables.specs.Quiet.{clean_before, idle_then, quiet_then}
 use Rattle.reg_tables.proofs.ExamineLemmas.{whole_tests, only_shown, tests_none, head_shown}
@@ -15,7 +15,7 @@ returns-in-Ok-take_deposit-clause-tested g c clean =
     let mid = state g.S.Store c.numbered_rows.new.conn in
     let early = clean_before mid (state g.S.Store c.kept_head.new.conn) c.kept_head.ensures.quiet.survives clean in
     let first = clean_before old mid c.in-Ok.ensures.quiet.survives early in
-    let d = deposit_of c.in-Ok-take_deposit.kept in
+    let d = sent_of c.in-Ok-take_deposit.kept in
     let rows = c.in-Ok.rows.items in
     let read : rows ≡ given_deposit c.args.number d ∷ [] = c.in-Ok-take_deposit.ensures.read in
     whole_tests c.kept_head.result old.now mid.now c.args.dictionary.now c.args.number d rows c.args.digests.now
@@ -25,7 +25,7 @@ pub returns-in-Ok-take_deposit-clause-head : goal.returns-in-Ok-take_deposit-cla
 returns-in-Ok-take_deposit-clause-head g c clean =
     let mid = state g.S.Store c.numbered_rows.new.conn in
     let early = clean_before mid (state g.S.Store c.kept_head.new.conn) c.kept_head.ensures.quiet.survives clean in
-    let d = deposit_of c.in-Ok-take_deposit.kept in
+    let d = sent_of c.in-Ok-take_deposit.kept in
     let rows = c.in-Ok.rows.items in
     let read : rows ≡ given_deposit c.args.number d ∷ [] = c.in-Ok-take_deposit.ensures.read in
     head_shown c.kept_head.result (state g.S.Store c.args.conn.now).now c.args.number d rows (c.in-Ok.ensures.found early) read c.kept_head.ensures.head

@@ -10,7 +10,7 @@ returns-in_err-rows-clause-crash g c =
     let old = state g.S.Store c.args.conn.now in
     let new = state g.S.Store c.query.follows.lender-at-none in
     let kept : Survives old new (CommitsShowing c.args.sql.now (bound c.args.params.now) old) = search rules in
-    asks_quietly c.args.sql.now c.requires.plain old new _ c.requires.idle.schema kept
+    asks_quietly c.args.sql.now old new _ (λ clean. plain_at c.args.sql.now old c.requires.plain (c.requires.idle.schema clean)) kept
 
 pub returns-in_err-rows-clause-same : goal.returns-in_err-rows-clause-same
 returns-in_err-rows-clause-same g c clean is_open =

@@ -6,7 +6,7 @@ use Rattle.reg_tables.specs.Shows.{deposit_by}
 use Rattle.reg_tables.proofs.reading.numbered_rows.Goals as goal
 
 pub query-requires-clause-plain : goal.query-requires-clause-plain
-query-requires-clause-plain g c = deposit_read.1
+query-requires-clause-plain g c clean = deposit_read.1 _ (c.requires.idle.schema clean)
 
 pub returns-clause-found : goal.returns-clause-found
 returns-clause-found g c clean =

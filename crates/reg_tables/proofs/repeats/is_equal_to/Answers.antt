@@ -1,8 +1,8 @@
-use Rattle.reg_store.specs.Keep.{deposit_of}
+use Rattle.reg_store.specs.Keep.{sent_of}
 use Rattle.reg_tables.proofs.repeats.is_equal_to.Goals as goal
 
 pub returns-in-Ok-clause-equal : goal.returns-in-Ok-clause-equal
-returns-in-Ok-clause-equal g c clean = (deposit_of c.in-Ok.kept, c.in-Ok.ensures.found clean, c.is_equal.ensures)
+returns-in-Ok-clause-equal g c clean = (sent_of c.in-Ok.kept, c.in-Ok.ensures.found clean, c.is_equal.ensures)
 
 pub returns-in-Ok-clause-quiet : goal.returns-in-Ok-clause-quiet
 returns-in-Ok-clause-quiet g c = c.in-Ok.ensures.quiet

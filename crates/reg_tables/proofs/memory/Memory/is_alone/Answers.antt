@@ -1,11 +1,13 @@
-use Rattle.std.proofs.Common.{◌≡◌, ◌-◌, arith, subst}
+use Rattle.std.proofs.Common.{◌≡◌, ◌-◌, arith, subst, sym}
+use Rattle.reg_store.specs.Fit.{IsFileOf}
+use Rattle.reg_store.specs.Sent.{Sent}
 use Rattle.reg_tables.specs.Memory.{HasNoTarget}
-use Rattle.reg_tables.proofs.MemoryLemmas.{known_here}
+use Rattle.reg_tables.proofs.MemoryLemmas.{known_sent}
 use Rattle.reg_tables.proofs.memory.Memory.is_alone.Goals as goal
 
 pub returns-in-Some : goal.returns-in-Some
 returns-in-Some c = λ yes dictionary list agrees d file at of.
     let its = c.is_known.ensures.0 c.if-not-is_known.false in
-    let one = known_here dictionary list c.args.self.now.known.items (c.args.n - 1) c.index.result.now d agrees.known (omega (arith, its.0, its.1)) c.index.ensures at in
+    let one = known_sent dictionary list c.args.self.now.known.items (c.args.n - 1) c.index.result.now d agrees.known (omega (arith, its.0, its.1)) c.index.ensures at in
     let same : c.in-Some.held ≡ c.args.row = omega arith in
-    subst (λ row. HasNoTarget row file) same (one.alone c.in-Some.held c.in-Some.is file of)
+    subst (λ row. HasNoTarget row file) same (one.2.alone c.in-Some.held c.in-Some.is file (subst (λ (x : Sent). IsFileOf dictionary x file) (sym one.1) of))

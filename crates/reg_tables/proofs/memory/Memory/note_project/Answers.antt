@@ -1,7 +1,9 @@
 use Rattle.std.proofs.Common.{◌≡◌, ◌-◌, ◌<◌, length, Some, IfOk, sym, ap, subst, ◌∙◌, arith}
 use Rattle.std.proofs.lemmas.List.{length-set}
+use Rattle.reg_store.specs.Deposit.{sents}
 use Rattle.reg_store.specs.Keep.{OfDeposit}
 use Rattle.reg_store.specs.Reading.{HasProjectRow}
+use Rattle.reg_tables.specs.Marks.{sent_at}
 use Rattle.reg_tables.proofs.MemoryLemmas.{known_here, known_set}
 use Rattle.reg_tables.proofs.memory.Memory.note_project.Goals as goal
 
@@ -15,11 +17,11 @@ returns-in-Ok-copy_project c =
     record {
       long = length-set known (n - 1) (record { head = old.head; project = Some c.in-Ok-copy_project.copied; alone = old.alone });
       agrees = λ dictionary list number read agrees.
-          (let told = subst (λ r. IfOk r (λ found. OfDeposit dictionary list n (HasProjectRow found))) c.in-Ok.is read in
+          (let told = subst (λ r. IfOk r (λ found. OfDeposit dictionary (sents list) n (HasProjectRow found))) c.in-Ok.is read in
           record {
             known = known_set dictionary list known (n - 1) (record { head = old.head; project = Some c.in-Ok-copy_project.copied; alone = old.alone }) agrees.known (λ d at.
                 (let was = known_here dictionary list known (n - 1) old d agrees.known low c.index_mut.ensures.value at in
-                record { head = was.head; project = λ row is file of. sym is ∙ ap Some c.in-Ok-copy_project.ensures ∙ sym c.in-Some.is ∙ told d file at of; alone = was.alone }));
+                record { head = was.head; project = λ row is file of. sym is ∙ ap Some c.in-Ok-copy_project.ensures ∙ sym c.in-Some.is ∙ told d.sent file (sent_at list (n - 1) d at) of; alone = was.alone }));
             digests = agrees.digests;
             below = agrees.below;
             rows = agrees.rows;

@@ -1,9 +1,11 @@
 use Rattle.std.proofs.Common.{◌≡◌, ◌∷◌, ◌-◌, ◌<◌, List, [], refl, length, Some, IfOk, sym, subst, ◌∙◌, arith, rules}
 use Rattle.std.proofs.lemmas.List.{length-set}
 use Rattle.std.proofs.lemmas.Option.{same_Some}
+use Rattle.reg_store.specs.Deposit.{sents}
 use Rattle.reg_store.specs.Keep.{OfDeposit}
 use Rattle.reg_store.specs.Reading.{HasTargets}
 use Rattle.reg_tables.specs.Memory.{HasNoTarget}
+use Rattle.reg_tables.specs.Marks.{sent_at}
 use Rattle.reg_tables.proofs.MemoryLemmas.{known_here, known_set}
 use Rattle.reg_tables.proofs.memory.Memory.note_targets.Goals as goal
 
@@ -23,11 +25,11 @@ returns-then-is_known c =
     record {
       long = length-set known (n - 1) (record { head = old.head; project = old.project; alone = Some c.args.row });
       agrees = λ dictionary list number read agrees.
-          (let told = subst (λ r. IfOk r (λ targets. OfDeposit dictionary list n (HasTargets c.args.row targets))) c.in-Ok.is read in
+          (let told = subst (λ r. IfOk r (λ targets. OfDeposit dictionary (sents list) n (HasTargets c.args.row targets))) c.in-Ok.is read in
           record {
             known = known_set dictionary list known (n - 1) (record { head = old.head; project = old.project; alone = Some c.args.row }) agrees.known (λ d at.
                 (let was = known_here dictionary list known (n - 1) old d agrees.known low c.index_mut.ensures.value at in
-                record { head = was.head; project = was.project; alone = λ row is file of. subst (λ r. HasNoTarget r file) (same_Some c.args.row row is) (sym none ∙ told d file at of) }));
+                record { head = was.head; project = was.project; alone = λ row is file of. subst (λ r. HasNoTarget r file) (same_Some c.args.row row is) (sym none ∙ told d.sent file (sent_at list (n - 1) d at) of) }));
             digests = agrees.digests;
             below = agrees.below;
             rows = agrees.rows;

@@ -1,7 +1,7 @@
-use Rattle.std.proofs.Common.{◌≡◌, map, take}
-use Rattle.reg_tables.specs.Memory.{new_known}
+use Rattle.std.proofs.Common.{◌≡◌, take}
+use Rattle.reg_tables.specs.Memory.{marked_known}
 use Rattle.reg_tables.proofs.memory.Memory.of.Given as goal
 
 -- of the deposits so far nothing was read
-abbrev pub invariant-loop-head : goal.invariant-loop-head
-invariant-loop-head l = l.known.items ≡ map new_known (take l.head-index l.heads)
+abbrev pub invariant-loop-at : goal.invariant-loop-at
+invariant-loop-at l = l.known.items ≡ marked_known (take l.at l.heads) (take l.at l.marks)

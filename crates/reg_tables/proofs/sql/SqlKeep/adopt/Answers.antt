@@ -1,85 +1,40 @@
-use Rattle.std.proofs.Common.{rules, ◌≡◌, ◌+◌, IsTrue, ap, length, refl, sym, subst, ◌∙◌}
+use Rattle.std.proofs.Common.{◌≡◌, Err, IsTrue, length, refl, sym, subst, ◌∙◌}
+use Rattle.sqlite.specs.Effect.{Database}
 use Rattle.sqlite.specs.State.{HasCleanDisk}
 use Rattle.sqlite.specs.Held.{state}
-use Rattle.reg_tables.specs.Digests.{AreBelow}
-use Rattle.reg_tables.specs.KeepLaws.{adopted_keeps, adopted_list, counted_at}
-use Rattle.reg_tables.specs.Register.{KeepsRegister, deposits_in}
-use Rattle.reg_tables.specs.Tables.{register_tables}
-use Rattle.reg_tables.proofs.SchemaLemmas.{register_is}
-use Rattle.reg_tables.proofs.FormatLemmas.{autocommit_idle, meta_first}
-use Rattle.reg_tables.proofs.HeadsLemmas.{heads_found}
-use Rattle.reg_tables.proofs.QueryLemmas.{survives_none}
-use Rattle.reg_tables.proofs.RepeatsLemmas.{digested_found}
+use Rattle.reg_tables.specs.declared.format.Format.TheVariants.{Second}
+use Rattle.reg_tables.specs.Adoption.{Adopts}
+use Rattle.reg_tables.specs.KeepLaws.{adopted_keeps, adopted_list}
+use Rattle.reg_tables.specs.Memory.{Agrees}
+use Rattle.reg_tables.specs.Quiet.{clean_before}
+use Rattle.reg_tables.specs.Register.{IsRegister, deposits_in}
 use Rattle.reg_tables.proofs.sql.SqlKeep.adopt.Goals as goal
-
-pub examine-requires : goal.examine-requires
-examine-requires g c = record {
-  idle = record {
-    idle = autocommit_idle _ _ c.is_autocommit.ensures.value (search rules);
-    schema = λ clean. register_tables _ (register_is c.args.connection.schema (search rules));
-    settled = λ clean is_open. sym (c.is_autocommit.ensures.settled (search rules) is_open);
-  };
-  schema = λ clean. register_is c.args.connection.schema (search rules);
-  none = search rules;
-  no_digests = c.new-digests.ensures;
-}
-
-pub refuse_tables-error-requires-clause-mode : goal.refuse_tables-error-requires-clause-mode
-refuse_tables-error-requires-clause-mode g c = autocommit_idle _ _ c.is_autocommit.ensures.value (search rules)
-
-pub refuse_tables-error-requires-clause-meta : goal.refuse_tables-error-requires-clause-meta
-refuse_tables-error-requires-clause-meta g c = meta_first c.args.connection.schema (search rules)
 
 pub invariant_of-result : goal.invariant_of-result
 invariant_of-result g c =
-    let old = state g.S.Store c.args.connection in
-    let new = state g.S.Store c.examine.new.conn in
-    let made = c.in-Ok.ensures in
-    let kept = λ (clean : HasCleanDisk new).
-    (let opened = made.open clean refl in
-    let was : IsTrue old.is_open = subst IsTrue (made.quiet.is_open clean refl) opened in
-    let same = made.quiet.same clean refl in
-    let settled : old.now ≡ old.committed = search (rules, was) in
-    adopted_keeps old new c.in-Ok.dictionary c.in-Ok._count opened same.0 (same.1 ∙ sym settled ∙ sym same.0) (made.adopts clean)) in
-    let heads : c.deref.result.now ≡ c.examine.new.heads.items = search rules in
-    let long = c.in-Ok-of.ensures.long ∙ ap length heads ∙ made.long in
+    let mid = state g.S.Store c.test_tables.new.conn in
+    let new = state g.S.Store c.recall.new.conn in
+    let made = c.in-Ok-recall.ensures in
+    let settled = λ (clean : HasCleanDisk new).
+    (let is : mid.committed ≡ mid.now = c.in-Ok.ensures.idle.settled (clean_before mid new made.quiet.survives clean) (subst IsTrue (made.quiet.is_open clean refl) (made.open clean refl)) in is) in
     record {
       idle = made.quiet.idle;
-      kept = λ _ clean. subst (λ n. ∥ KeepsRegister new c.in-Ok.dictionary n ∥₁) (sym long) (kept clean);
-      agrees = λ _ clean. c.in-Ok-of.ensures.agrees c.in-Ok.dictionary (deposits_in new.committed.trees)
-          (heads ∙ heads_found new c.in-Ok.dictionary c.in-Ok._count old.now c.examine.new.heads.items (kept clean) (made.quiet.same clean refl).0 (made.heads clean))
-          (digested_found new c.in-Ok.dictionary c.in-Ok._count old.now c.examine.new.digests (kept clean) (made.quiet.same clean refl).0 (made.digests clean))
-          (subst (λ n. AreBelow c.examine.new.digests (n + 1)) (counted_at {s = new} (kept clean)) made.below);
+      kept = λ _ clean. (let same = made.quiet.same clean refl in
+          adopted_keeps mid new c.in-Ok-recall.dictionary (length c.in-Ok-recall.memory.known.items) (made.open clean refl) same.0 (same.1 ∙ settled clean ∙ sym same.0) (made.found clean).register);
+      agrees = λ _ clean. (let same = made.quiet.same clean refl in
+          subst (λ (db : Database). Agrees c.in-Ok-recall.memory c.in-Ok-recall.dictionary (deposits_in db.trees)) (sym (same.1 ∙ settled clean)) (made.found clean).agrees);
     }
 
-pub returns-in-Ok-of-clause-adopted : goal.returns-in-Ok-of-clause-adopted
-returns-in-Ok-of-clause-adopted g c clean =
-    let old = state g.S.Store c.args.connection in
-    let new = state g.S.Store c.examine.new.conn in
-    let made = c.in-Ok.ensures in
-    let opened = made.open clean refl in
-    let was : IsTrue old.is_open = subst IsTrue (made.quiet.is_open clean refl) opened in
+pub returns-in-Ok-recall-clause-adopted : goal.returns-in-Ok-recall-clause-adopted
+returns-in-Ok-recall-clause-adopted g c clean =
+    let mid = state g.S.Store c.test_tables.new.conn in
+    let new = state g.S.Store c.recall.new.conn in
+    let made = c.in-Ok-recall.ensures in
     let same = made.quiet.same clean refl in
-    let settled : old.now ≡ old.committed = search (rules, was) in
-    adopted_list old new c.in-Ok.dictionary c.in-Ok._count same.0 (same.1 ∙ sym settled ∙ sym same.0) (made.adopts clean)
+    let settled : mid.committed ≡ mid.now = c.in-Ok.ensures.idle.settled (clean_before mid new made.quiet.survives clean) (subst IsTrue (made.quiet.is_open clean refl) (made.open clean refl)) in
+    subst (λ h. ∥ IsRegister (state g.S.Store h).now c.in-Ok-recall.dictionary (deposits_in new.committed.trees) ∥₁) c.in-Ok.ensures.unchanged
+    (adopted_list mid new c.in-Ok-recall.dictionary (length c.in-Ok-recall.memory.known.items) same.0 (same.1 ∙ settled ∙ sym same.0) (made.found clean).register)
 
-pub returns-in-Ok-of-clause-quiet : goal.returns-in-Ok-of-clause-quiet
-returns-in-Ok-of-clause-quiet g c = c.in-Ok.ensures.quiet.survives
-
-pub returns-then-not-is_register-clause-refused : goal.returns-then-not-is_register-clause-refused
-returns-then-not-is_register-clause-refused g c = c.refuse_tables-error.ensures.refused
-
-pub returns-then-not-is_register-clause-same : goal.returns-then-not-is_register-clause-same
-returns-then-not-is_register-clause-same g c well clean = c.refuse_tables-error.ensures.same clean well
-
-pub returns-then-not-is_register-clause-still : goal.returns-then-not-is_register-clause-still
-returns-then-not-is_register-clause-still g c = c.refuse_tables-error.ensures.still
-
-pub returns-then-not-is_register-clause-left : goal.returns-then-not-is_register-clause-left
-returns-then-not-is_register-clause-left g c = c.refuse_tables-error.ensures.crash
-
-pub returns-then-not-has_meta-clause-left : goal.returns-then-not-has_meta-clause-left
-returns-then-not-has_meta-clause-left g c = survives_none (state g.S.Store c.args.connection)
-
-pub returns-then-not-is_autocommit-clause-left : goal.returns-then-not-is_autocommit-clause-left
-returns-then-not-is_autocommit-clause-left g c = survives_none (state g.S.Store c.args.connection)
+pub returns-in-Err-recall-clause-refused : goal.returns-in-Err-recall-clause-refused
+returns-in-Err-recall-clause-refused g c clean =
+    subst (λ h. Adopts Second (state g.S.Store h).now (Err c.in-Err-recall.error)) c.in-Ok.ensures.unchanged (c.in-Err-recall.ensures.refused clean)

@@ -1,6 +1,6 @@
 use Rattle.std.proofs.Common.{◌≡◌, List, length, refl, subst, sym, ap}
 use Rattle.sqlite.specs.Held.{state}
-use Rattle.reg_store.specs.Sent.{Sent}
+use Rattle.reg_store.specs.Deposit.{Deposit}
 use Rattle.reg_tables.specs.Memory.{Agrees}
 use Rattle.reg_tables.specs.Register.{KeepsRegister}
 use Rattle.reg_tables.proofs.CreateLemmas.{new_list, new_keeps}
@@ -17,7 +17,7 @@ invariant_of-result g c =
       idle = made.mode;
       kept = λ _ clean. subst (λ n. ∥ KeepsRegister new c.args.dictionary n ∥₁) (sym (ap length c.new.ensures.none))
           (new_keeps c.args.bytes.now c.args.dictionary new (made.put clean) (made.open clean) (made.settled clean) c.requires.read);
-      agrees = λ _ clean. subst (λ (list : List Sent). Agrees c.new.result c.args.dictionary list) (sym (new_list c.args.bytes.now new (made.put clean) (made.settled clean))) (c.new.ensures.agrees c.args.dictionary);
+      agrees = λ _ clean. subst (λ (list : List Deposit). Agrees c.new.result c.args.dictionary list) (sym (new_list c.args.bytes.now new (made.put clean) (made.settled clean))) (c.new.ensures.agrees c.args.dictionary);
     }
 
 pub returns-in-Ok : goal.returns-in-Ok

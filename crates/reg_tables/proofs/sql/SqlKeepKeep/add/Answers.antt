@@ -1,7 +1,9 @@
 use Rattle.std.proofs.Common.{arith, ℕ, List, ◌≡◌, ◌<◌, false, length, refl, sym, ap, subst, ◌+◌, ◌++◌, ◌∷◌, [], ◌∙◌}
+use Rattle.std.proofs.lemmas.List.{length_push}
 use Rattle.sqlite.specs.Effect.{Database}
 use Rattle.sqlite.specs.State.{HasCleanDisk, Survives}
 use Rattle.sqlite.specs.Held.{state}
+use Rattle.reg_store.specs.Deposit.{Deposit, sents, unmarked}
 use Rattle.reg_store.specs.Sent.{Sent}
 use Rattle.reg_store.specs.Keep.{is_store}
 use Rattle.reg_store.specs.Fit.{IsFileOf, kept_rows}
@@ -11,7 +13,7 @@ use Rattle.reg_tables.specs.Inserts.{AddsFile}
 use Rattle.reg_tables.specs.Memory.{Agrees, IsComing}
 use Rattle.reg_tables.specs.Register.{KeepsRegister, deposits_in}
 use Rattle.reg_tables.specs.RegisterLaws.{IsReady}
-use Rattle.reg_tables.specs.KeepLaws.{PutsOf, idle_at, schema_at, settled_of, keeps_same, HoldsMore, adds_at, counted_at, crash_at, whole_put}
+use Rattle.reg_tables.specs.KeepLaws.{ChangesOf, HoldsNext, PutsOf, Turns, counted_at, crash_at, idle_at, keeps_same, next_at, put_turns, schema_at, settled_of, whole_next}
 use Rattle.reg_tables.proofs.AddsLemmas.{opened_at}
 use Rattle.reg_tables.proofs.sql.SqlKeepKeep.add.Given.{Over}
 use Rattle.reg_tables.proofs.sql.SqlKeepKeep.add.Goals as goal
@@ -55,20 +57,27 @@ invariant_of-self-in-Err-clause-agrees g c works clean =
 abbrev added : (g : Over) → goal.After-push g → Sent
 added g c = deposit_from c.args.firm.now c.args.project.now c.args.embargo c.args.checked.now.bytes
 
-ready : (g : Over) (c : goal.After-push g) → HasCleanDisk (state g.S.Store c.add_checked-added.new.conn)
-    → IsReady c.args.self.now.dictionary (deposits_in (state g.S.Store c.args.self.now.connection).committed.trees) (added g c) c.args.checked.now
-ready g c clean =
+-- what was held, and the list with the deposit
+abbrev held : (g : Over) → goal.After-push g → List Deposit
+held g c = deposits_in (state g.S.Store c.args.self.now.connection).committed.trees
+
+abbrev next : (g : Over) → goal.After-push g → List Deposit
+next g c = held g c ++ unmarked (added g c) ∷ []
+
+-- the change of the tables
+abbrev Change : (g : Over) → goal.After-push g → Database → Database → Type 0
+Change g c = AddsFile (length c.args.self.now.memory.known.items + 1) (added g c) (kept_rows c.args.checked.now.groups) c.args.checked.now.graph.steps
+
+turns : (g : Over) (c : goal.After-push g) → HasCleanDisk (state g.S.Store c.add_checked-added.new.conn)
+    → Turns (state g.S.Store c.args.self.now.connection) c.args.self.now.dictionary (length c.args.self.now.memory.known.items) (Change g c) (next g c)
+turns g c clean =
     let first = clean_before (state g.S.Store c.args.self.now.connection) (state g.S.Store c.add_checked-added.new.conn) c.add_checked-added.ensures.crash clean in
+    let low : length c.args.self.now.memory.known.items < 999999 = omega (arith, c.count-count.ensures) in
     let fit : IsFileOf c.args.self.now.dictionary (added g c) c.args.checked.now = record { given = c.requires.dictionary; bytes = refl; clean = c.bytes.ensures.clean; short = c.requires.short } in
-    record { its = fit; named = c.add_checked-added.ensures.fit; fresh = c.requires.fresh first }
+    let ready : IsReady c.args.self.now.dictionary (sents (held g c)) (added g c) c.args.checked.now = record { its = fit; named = c.add_checked-added.ensures.fit; fresh = c.requires.fresh first } in
+    put_turns {old = state g.S.Store c.args.self.now.connection} (added g c) c.args.checked.now low ready
 
-put : (g : Over) (c : goal.After-push g) → HasCleanDisk (state g.S.Store c.add_checked-added.new.conn)
-    → AddsFile (length c.args.self.now.memory.known.items + 1) (added g c) (kept_rows c.args.checked.now.groups) c.args.checked.now.graph.steps (state g.S.Store c.args.self.now.connection).now (state g.S.Store c.add_checked-added.new.conn).now
-put g c clean =
-    subst (λ n. AddsFile (n + 1) (added g c) (kept_rows c.args.checked.now.groups) c.args.checked.now.graph.steps (state g.S.Store c.args.self.now.connection).now (state g.S.Store c.add_checked-added.new.conn).now) c.count-count.ensures (c.in-Ok-added.ensures.put clean)
-
-crash : (g : Over) (c : goal.After-push g) → Survives (state g.S.Store c.args.self.now.connection) (state g.S.Store c.add_checked-added.new.conn)
-    (PutsOf (state g.S.Store c.args.self.now.connection) (length c.args.self.now.memory.known.items + 1) (added g c) (kept_rows c.args.checked.now.groups) c.args.checked.now.graph.steps)
+crash : (g : Over) (c : goal.After-push g) → Survives (state g.S.Store c.args.self.now.connection) (state g.S.Store c.add_checked-added.new.conn) (ChangesOf (Change g c) (state g.S.Store c.args.self.now.connection))
 crash g c =
     let old = state g.S.Store c.args.self.now.connection in
     let new = state g.S.Store c.add_checked-added.new.conn in
@@ -76,42 +85,47 @@ crash g c =
 
 -- the keep that held the list holds it with the deposit
 more : (g : Over) (c : goal.After-push g) → HasCleanDisk (state g.S.Store c.add_checked-added.new.conn)
-    → HoldsMore (state g.S.Store c.args.self.now.connection) (state g.S.Store c.add_checked-added.new.conn) c.args.self.now.dictionary (length c.args.self.now.memory.known.items) (added g c)
+    → HoldsNext (state g.S.Store c.add_checked-added.new.conn) c.args.self.now.dictionary (length (next g c)) (next g c)
 more g c clean =
     let keep = c.args.self.now in
     let old = state g.S.Store keep.connection in
     let new = state g.S.Store c.add_checked-added.new.conn in
     let first = clean_before old new c.add_checked-added.ensures.crash clean in
-    let low : length keep.memory.known.items < 999999 = omega (arith, c.count-count.ensures) in
-    adds_at {old = old} {new = new} (added g c) c.args.checked.now (keep.kept c.requires.working first) low (put g c clean) (c.in-Ok-added.ensures.sound clean) (c.in-Ok-added.ensures.settled clean) (c.in-Ok-added.ensures.open clean refl) (ready g c clean)
+    let put = subst (λ n. AddsFile (n + 1) (added g c) (kept_rows c.args.checked.now.groups) c.args.checked.now.graph.steps old.now new.now) c.count-count.ensures (c.in-Ok-added.ensures.put clean) in
+    next_at {old = old} {new = new} (Change g c) (next g c) (keep.kept c.requires.working first) (turns g c clean) put (c.in-Ok-added.ensures.sound clean) (c.in-Ok-added.ensures.settled clean) (c.in-Ok-added.ensures.open clean refl)
+
+-- it counts one more
+counts : (g : Over) (c : goal.After-push g) → HasCleanDisk (state g.S.Store c.add_checked-added.new.conn) → length (next g c) ≡ length c.args.self.now.memory.known.items + 1
+counts g c clean =
+    let old = state g.S.Store c.args.self.now.connection in
+    let first = clean_before old (state g.S.Store c.add_checked-added.new.conn) c.add_checked-added.ensures.crash clean in
+    length_push (held g c) (unmarked (added g c)) ∙ ap (λ n. n + 1) (sym (counted_at {s = old} (c.args.self.now.kept c.requires.working first)))
 
 pub invariant_of-self-in-Ok-added-clause-kept : goal.invariant_of-self-in-Ok-added-clause-kept
 invariant_of-self-in-Ok-added-clause-kept g c works clean =
     let keep = c.args.self.now in
     let long = c.push.ensures.long ∙ ap (λ n. n + 1) c.make_room-room.ensures.same in
-    subst (λ n. ∥ KeepsRegister (state g.S.Store c.add_checked-added.new.conn) keep.dictionary n ∥₁) (sym long) (more g c clean).kept
+    subst (λ n. ∥ KeepsRegister (state g.S.Store c.add_checked-added.new.conn) keep.dictionary n ∥₁) (counts g c clean ∙ sym long) (more g c clean).kept
 
 pub invariant_of-self-in-Ok-added-clause-agrees : goal.invariant_of-self-in-Ok-added-clause-agrees
 invariant_of-self-in-Ok-added-clause-agrees g c works clean =
     let keep = c.args.self.now in
     let old = state g.S.Store keep.connection in
     let first = clean_before old (state g.S.Store c.add_checked-added.new.conn) c.add_checked-added.ensures.crash clean in
-    let list = deposits_in old.committed.trees in
     let its : IsComing c.make_room-room.new.self (added g c) c.in-Ok.coming = subst (λ (bytes : List ℕ). IsComing c.make_room-room.new.self (deposit_from c.args.firm.now c.args.project.now c.args.embargo bytes) c.in-Ok.coming) c.bytes.ensures.bytes c.in-Ok.ensures.coming in
-    subst (λ (all : List Sent). Agrees c.push.new.self keep.dictionary all) (sym (more g c clean).list)
-    (c.push.ensures.agrees keep.dictionary list (added g c) its (c.make_room-room.ensures.agrees keep.dictionary list (keep.agrees c.requires.working first)))
+    subst (λ (all : List Deposit). Agrees c.push.new.self keep.dictionary all) (sym (more g c clean).list)
+    (c.push.ensures.agrees keep.dictionary (held g c) (added g c) its (c.make_room-room.ensures.agrees keep.dictionary (held g c) (keep.agrees c.requires.working first)))
 
 pub returns-in-Ok-added : goal.returns-in-Ok-added
 returns-in-Ok-added g c =
     let keep = c.args.self.now in
     let old = state g.S.Store keep.connection in
     let new = state g.S.Store c.add_checked-added.new.conn in
-    let file = c.args.checked.now in
-    let d = added g c.before in
+    let base = c.before in
     let low : length keep.memory.known.items < 999999 = omega (arith, c.count-count.ensures) in
     let before = λ (clean : HasCleanDisk new). clean_before old new c.add_checked-added.ensures.crash clean in
     record {
-      number = λ clean. ap (λ n. n + 1) c.count-count.ensures ∙ counted_at {s = new} (more g c.before clean).kept;
+      number = λ clean. ap (λ n. n + 1) c.count-count.ensures ∙ sym (counts g base clean) ∙ sym (ap length (more g base clean).list);
       room = λ clean. subst (λ n. n < 999999) (counted_at {s = old} (keep.kept c.requires.working (before clean))) low;
       full = λ clean e. absurd cc;
       leaves = record {
@@ -119,10 +133,10 @@ returns-in-Ok-added g c =
         same_dictionary = refl;
         same_limit = refl;
         failing = c.requires.working;
-        added = λ clean. (more g c.before clean).list;
+        added = λ clean. (more g base clean).list;
         refused = λ clean well. tt;
-        crash = λ clean. crash_at {old = old} {new = new} d (kept_rows file.groups) file.graph.steps (keep.kept c.requires.working (before clean)) (crash g c.before) clean;
-        whole = λ clean. whole_put {old = old} {new = new} d file (keep.kept c.requires.working (before clean)) low (crash g c.before) (ready g c.before clean) clean;
+        crash = λ clean. crash_at {old = old} {new = new} (Change g base) (next g base) (keep.kept c.requires.working (before clean)) (turns g base clean) (crash g base) clean;
+        whole = λ clean. whole_next {old = old} {new = new} (Change g base) (next g base) (keep.kept c.requires.working (before clean)) (turns g base clean) (crash g base) clean;
       };
     }
 
@@ -132,11 +146,15 @@ returns-in-Err-clause-leaves g c =
     let old = state g.S.Store keep.connection in
     let new = state g.S.Store c.add_checked-added.new.conn in
     let file = c.args.checked.now in
+    let count = length keep.memory.known.items in
     let d = deposit_from c.args.firm.now c.args.project.now c.args.embargo file.bytes in
-    let low : length keep.memory.known.items < 999999 = omega (arith, c.count-count.ensures) in
+    let list = deposits_in old.committed.trees in
+    let low : count < 999999 = omega (arith, c.count-count.ensures) in
     let before = λ (clean : HasCleanDisk new). clean_before old new c.add_checked-added.ensures.crash clean in
     let fit : IsFileOf keep.dictionary d file = record { given = c.requires.dictionary; bytes = refl; clean = c.bytes.ensures.clean; short = c.requires.short } in
-    let ready = λ (clean : HasCleanDisk new). (let is : IsReady keep.dictionary (deposits_in old.committed.trees) d file = record { its = fit; named = c.add_checked-added.ensures.fit; fresh = c.requires.fresh (before clean) } in is) in
+    let ready = λ (clean : HasCleanDisk new). (let is : IsReady keep.dictionary (sents list) d file = record { its = fit; named = c.add_checked-added.ensures.fit; fresh = c.requires.fresh (before clean) } in is) in
+    let turns = λ (clean : HasCleanDisk new). put_turns {old = old} d file low (ready clean) in
+    let Change = AddsFile (count + 1) d (kept_rows file.groups) file.graph.steps in
     let crash = subst (λ n. Survives old new (PutsOf old (n + 1) d (kept_rows file.groups) file.graph.steps)) c.count-count.ensures c.add_checked-added.ensures.crash in
     record {
       sound = before;
@@ -145,8 +163,8 @@ returns-in-Err-clause-leaves g c =
       failing = c.is_store_error-self.ensures;
       added = λ clean. tt;
       refused = λ clean well. ap (λ (db : Database). deposits_in db.trees) (c.in-Err.ensures.undone clean well).1;
-      crash = λ clean. crash_at {old = old} {new = new} d (kept_rows file.groups) file.graph.steps (keep.kept c.requires.working (before clean)) crash clean;
-      whole = λ clean. whole_put {old = old} {new = new} d file (keep.kept c.requires.working (before clean)) low crash (ready clean) clean;
+      crash = λ clean. crash_at {old = old} {new = new} Change (list ++ unmarked d ∷ []) (keep.kept c.requires.working (before clean)) (turns clean) crash clean;
+      whole = λ clean. whole_next {old = old} {new = new} Change (list ++ unmarked d ∷ []) (keep.kept c.requires.working (before clean)) (turns clean) crash clean;
     }
 
 pub returns-then-count-ge-MOST-clause-full : goal.returns-then-count-ge-MOST-clause-full

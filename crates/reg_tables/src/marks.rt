@@ -1,0 +1,171 @@
+//! The marks of withdrawn deposits: the rows of the table `withdrawals`.
+
+ghost use Rattle.std.specs.Prelude.{◌≡◌, ◌≢◌, ◌↔◌, List, Bool, None, Some, Ok, length, slice_get, false, IsTrue, IfOk, IfErr, IfSome, OnOk};
+ghost use Rattle.sqlite.specs.State.{HasCleanDisk, Survives};
+ghost use Rattle.sqlite.specs.Held.{state};
+ghost use Rattle.reg_store.specs.Keep.{fails};
+ghost use Rattle.reg_tables.specs.Adoption.{FindsMarks, gives_up};
+ghost use Rattle.reg_tables.specs.Commits.{Changes, CommitsAll, UndoesIfOpen, UndoesUnlessFailed};
+ghost use Rattle.reg_tables.specs.Found.{AreMarksInOrder};
+ghost use Rattle.reg_tables.specs.Inserts.{AddsMark};
+ghost use Rattle.reg_tables.specs.Inside.{ChangesInside, CommitsNothing, HasSchema, HasTransaction, state_in};
+ghost use Rattle.reg_tables.specs.KeepLaws.{MarksOf};
+ghost use Rattle.reg_tables.specs.Quiet.{FindsThat, IsIdle, IsStill};
+ghost use Rattle.reg_tables.specs.Register.{mark_rows};
+ghost use Rattle.reg_tables.specs.Rows.{mark_row};
+ghost use Rattle.reg_tables.specs.Tables.{register_schema};
+
+use crate::adopting::AdoptError;
+use crate::queries::{is_refused, query};
+use crate::running::run;
+use crate::values::is_row;
+use reg_store::KeepError;
+use sqlite::types::ToSql;
+use sqlite::{Alter, Connection, Error, Row, Transaction, params};
+use std::alloc::{AllocError, Global};
+
+/// Adds the mark of a deposit. Nothing is committed.
+fn insert_mark<S: Alter>(tx: &mut Transaction<'_, S>, number: u32) -> Result<(), Error>
+    requires inside { HasTransaction (state_in S.Store tx.old) }
+    requires schema { HasSchema (state_in S.Store tx.old) register_schema }
+    ensures same_reference { tx.new.conn.ghost_name ≡ tx.old.conn.ghost_name }
+    ensures put { ChangesInside result (AddsMark number) (state_in S.Store tx.old) (state_in S.Store tx.new) }
+    ensures kept { CommitsNothing (state_in S.Store tx.old) (state_in S.Store tx.new) }
+    ensures survives { Survives (state_in S.Store tx.old) (state_in S.Store tx.new) (λ _. ⊥) }
+{
+    run(tx, "INSERT INTO withdrawals VALUES (?1)", params![number])
+}
+
+/// Adds the mark of a deposit in a transaction of its own.
+#[tactic(auto, using(crate::proofs::AddsLemmas::undone_by))]
+fn store_mark<S: Alter>(conn: &mut Connection<S>, number: u32) -> Result<(), Error>
+    requires mode { conn.old.in_transaction ≡ false }
+    requires schema { HasCleanDisk (state S.Store conn.old) → (state S.Store conn.old).now.schema ≡ register_schema }
+
+    // The connection and the mark at success.
+    ensures open { HasCleanDisk (state S.Store conn.new) → OnOk result (IsTrue (state S.Store conn.new).is_open) }
+    ensures put { Changes result (AddsMark number) (state S.Store conn.old) (state S.Store conn.new) }
+    ensures settled { CommitsAll result (state S.Store conn.new) }
+
+    // What is undone at an error that leaves the connection open.
+    ensures undone { UndoesIfOpen result (state S.Store conn.old) (state S.Store conn.new) }
+
+    // The transaction in either case, and what a crash may leave.
+    ensures mode { conn.new.in_transaction ≡ false }
+    ensures crash { Survives (state S.Store conn.old) (state S.Store conn.new)
+        (MarksOf (state S.Store conn.old) number) }
+{
+    let mut tx = conn.transaction();
+    insert_mark(&mut tx, number)?;
+    tx.commit()?;
+    Ok(())
+}
+
+/// Adds the mark of a deposit. Want of memory is answered only where nothing changed.
+#[tactic(auto, using(crate::proofs::QueryLemmas::settled_undone))]
+pub(crate) fn add_mark<S: Alter>(conn: &mut Connection<S>, number: u32) -> Result<(), KeepError>
+    requires mode { conn.old.in_transaction ≡ false }
+    requires schema { HasCleanDisk (state S.Store conn.old) → (state S.Store conn.old).now.schema ≡ register_schema }
+
+    // The mark at success, as it is added and committed.
+    ensures put { Changes result (AddsMark number) (state S.Store conn.old) (state S.Store conn.new) }
+    ensures settled { CommitsAll result (state S.Store conn.new) }
+
+    // Which refusal never comes, and what is undone at one that is not `Store`.
+    ensures refused { IfErr result (λ e. e ≢ KeepError.Full) }
+    ensures undone { UndoesUnlessFailed result (state S.Store conn.old) (state S.Store conn.new) }
+
+    // Transaction and connection in either case, and what a crash may leave.
+    ensures mode { conn.new.in_transaction ≡ false }
+    ensures open { HasCleanDisk (state S.Store conn.new) → fails result ≡ false
+        → IsTrue (state S.Store conn.new).is_open }
+    ensures crash { Survives (state S.Store conn.old) (state S.Store conn.new)
+        (MarksOf (state S.Store conn.old) number) }
+{
+    match store_mark(conn, number) {
+        Ok(()) => Ok(()),
+        Err(error) => {
+            if is_refused(conn, &error) {
+                Err(KeepError::NoMemory)
+            } else {
+                Err(KeepError::Store)
+            }
+        }
+    }
+}
+
+/// The rows of the table, in the order of their numbers.
+fn read_marks<S: Alter>(conn: &mut Connection<S>) -> Result<Vec<Row>, KeepError>
+    requires idle { IsIdle (state S.Store conn.old) }
+    requires schema { HasCleanDisk (state S.Store conn.old) → (state S.Store conn.old).now.schema ≡ register_schema }
+    ensures found { FindsThat result (λ db rows. AreMarksInOrder db rows.items)
+        (state S.Store conn.old) (state S.Store conn.new) }
+    ensures open { HasCleanDisk (state S.Store conn.new) → fails result ≡ false
+        → IsTrue (state S.Store conn.new).is_open }
+    ensures refused { IfErr result (λ e. e ≢ KeepError.Full) }
+    ensures quiet { IsStill (state S.Store conn.old) (state S.Store conn.new) (fails result) }
+{
+    query(
+        conn,
+        "SELECT deposit FROM withdrawals ORDER BY deposit",
+        &[],
+    )
+}
+
+/// Whether there is a row at this place, and it is the mark of this deposit.
+fn is_mark(rows: &[Row], at: usize, number: u32) -> bool
+    ensures { IsTrue result ↔ (slice_get rows.now at ≡ Some (mark_row number)) }
+{
+    match rows.get(at) {
+        Some(row) => is_row(row, &[number.to_sql()]),
+        None => false,
+    }
+}
+
+/// Of each of so many deposits whether it is marked, if the rows, rising, are numbers of these deposits.
+fn marks_in(alloc: Global, rows: &[Row], count: u32) -> Result<Option<Vec<bool>>, AllocError>
+    ensures found { IfOk result (λ found. IfSome found (λ marks. rows.now ≡ mark_rows 1 marks.items)) }
+    ensures long { IfOk result (λ found. IfSome found (λ marks. length marks.items ≡ count)) }
+    ensures none { result ≡ Ok None → (marks : List Bool) → length marks ≡ count → rows.now ≡ mark_rows 1 marks → ⊥ }
+{
+    let mut marks = Vec::with_capacity(alloc, count as usize)?;
+    let mut next: usize = 0;
+    for at in 0..count {
+        if is_mark(rows, next, at + 1) {
+            marks.push(true)?;
+            next += 1;
+        } else {
+            marks.push(false)?;
+        }
+    }
+    if next == rows.len() {
+        Ok(Some(marks))
+    } else {
+        Ok(None)
+    }
+}
+
+/// Of each of so many deposits whether it is marked, if the rows of the table are numbers of these deposits.
+pub(crate) fn find_marks<S: Alter>(
+    conn: &mut Connection<S>,
+    alloc: Global,
+    count: u32,
+) -> Result<Vec<bool>, AdoptError>
+    requires idle { IsIdle (state S.Store conn.old) }
+    requires schema { HasCleanDisk (state S.Store conn.old) → (state S.Store conn.old).now.schema ≡ register_schema }
+    ensures found { HasCleanDisk (state S.Store conn.new) → FindsMarks count (state S.Store conn.old).now result }
+    ensures long { IfOk result (λ marks. length marks.items ≡ count) }
+    ensures open { HasCleanDisk (state S.Store conn.new) → gives_up result ≡ false
+        → IsTrue (state S.Store conn.new).is_open }
+    ensures quiet { IsStill (state S.Store conn.old) (state S.Store conn.new) (gives_up result) }
+{
+    let rows = match read_marks(conn) {
+        Ok(rows) => rows,
+        Err(error) => return Err(AdoptError::from(error)),
+    };
+    match marks_in(alloc, &rows, count) {
+        Ok(Some(marks)) => Ok(marks),
+        Ok(None) => Err(AdoptError::NotRegister),
+        Err(_) => Err(AdoptError::NoMemory),
+    }
+}
