@@ -14,13 +14,13 @@ returns-in-Some-clause-refused g c clean =
     let rows = c.in-Ok.rows.items in
     let same : c.deref.result.now ≡ rows = search rules in
     let wide : c.in-Some.number ≡ to_z w64 (of_z w64 c.in-Some.number) = search rules in
-    subst (λ (n : ℤ). Adopts c.args.format db (Err (Version n))) wide (refused_format c.args.format db rows c.in-Some.number c.requires.meta (c.in-Ok.ensures.shown clean) (rw same at c.in-Some.ensures.found))
+    subst (λ (n : ℤ). Adopts c.args.format db (Err (Version n))) wide (refused_format c.args.format db rows c.in-Some.number c.requires.meta (c.in-Ok.ensures.shown clean) (rw (same, c.number.ensures) at c.in-Some.ensures.found))
 
 pub returns-in-Ok-clause-refused : goal.returns-in-Ok-clause-refused
 returns-in-Ok-clause-refused g c clean =
     let rows = c.in-Ok.rows.items in
     let same : c.deref.result.now ≡ rows = search rules in
-    refused_tables c.args.format (state g.S.Store c.args.conn.now).now rows c.requires.other (c.in-Ok.ensures.shown clean) (rw same at (c.in-None.ensures.none refl))
+    refused_tables c.args.format (state g.S.Store c.args.conn.now).now rows c.requires.other (c.in-Ok.ensures.shown clean) (rw (same, c.number.ensures) at (c.in-None.ensures.none refl))
 
 pub returns-in-Some-clause-same : goal.returns-in-Some-clause-same
 returns-in-Some-clause-same g c clean well = let o = c.in-Ok.ensures.open clean in let it = c.ask_meta.ensures.same clean o in (both_open o it.0, it.1, it.2)

@@ -32,7 +32,7 @@ returns-then-not-is_register-clause-left g c = c.refuse_tables.ensures.crash
 pub returns-clause-idle : goal.returns-clause-idle
 returns-clause-idle g c = record {
   idle = autocommit_idle _ _ c.is_autocommit.ensures.value (search rules);
-  schema = λ clean. format_tables c.args.format _ (search rules);
+  schema = λ clean. format_tables c.args.format c.args.conn.now.schema (search rules);
   settled = λ clean is_open. sym (c.is_autocommit.ensures.settled (search rules) is_open);
 }
 
