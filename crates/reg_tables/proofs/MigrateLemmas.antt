@@ -6,6 +6,8 @@ use Rattle.std.proofs.lemmas.List.{length-map}
 use Rattle.std.specs.List.{AllByRecursion, flat_map, filter_map}
 use Rattle.std.specs.List.Sorted.{IsPermutation}
 use Rattle.std.proofs.lemmas.List.Sorted.{All-permutation, IsPermutation-refl, IsPermutation-sym, IsPermutation-trans}
+use Rattle.sqlite.specs.Recovery.{Image}
+use Rattle.sqlite.specs.Start.{FindsIn}
 use Rattle.sqlite.specs.declared.types.Value.TheVariants.{Int}
 use Rattle.sqlite.specs.Order.{Row, column}
 use Rattle.sqlite.specs.Command.TheVariants.{Update}
@@ -17,7 +19,7 @@ use Rattle.sqlite.specs.Rows.{Written}
 use Rattle.sqlite.specs.Tree.{Trees}
 use Rattle.sqlite.specs.Listing.{understood}
 use Rattle.sqlite.specs.declared.error.Error.{Error}
-use Rattle.sqlite.specs.State.{State, mode_of, Executes, Shown, FailsToQuery, FailsToShow, IsNotRun, IsRolledBack, IsTooLate, IsUnchanged, KeepsCommit}
+use Rattle.sqlite.specs.State.{State, mode_of, Executes, Opens, Shown, FailsToQuery, FailsToShow, IsNotRun, IsRolledBack, IsTooLate, IsUnchanged, KeepsCommit}
 use Rattle.sqlite.specs.Clock.{timed}
 use Rattle.sqlite.proofs.Callers.{one_step, runs_as, statement_of}
 use Rattle.sqlite_rules.specs.Action.{deed_for, pairs, work_by, works}
@@ -43,7 +45,7 @@ use Rattle.reg_tables.specs.Digests.{AreBelow, AreDigested, HoldsDigests}
 use Rattle.reg_tables.specs.Formats.{StartsWithMeta}
 use Rattle.reg_tables.specs.Heads.{AreHeads, HoldsHeads, head_of}
 use Rattle.reg_tables.specs.Memory.{Agrees, Recalls}
-use Rattle.reg_tables.specs.Migrates.{AddsWithdrawals, HoldsFirst, IsMigrated, MigratedOf, Migrates, RecallsFirst}
+use Rattle.reg_tables.specs.Migrates.{AddsWithdrawals, FindsFirst, HoldsFirst, IsMigrated, MigratedOf, Migrates, RecallsFirst}
 use Rattle.reg_tables.specs.Register.{deposit_rows, deposits_in, file_lines, file_steps, HoldsSent, IsRegister, IsRegisterOf, marks_of, meta_columns, sents_in, tables}
 use Rattle.reg_tables.specs.RegisterLaws.{sents_back}
 use Rattle.reg_tables.specs.Rows.{columns_3, columns_5, dictionary_row, mark_column, rows_under}
@@ -51,6 +53,7 @@ use Rattle.reg_tables.specs.Tables.{first_schema, meta, register_schema}
 use Rattle.reg_tables.specs.Turns.{read_back, unmarked_register}
 use Rattle.reg_tables.specs.Texts.{create_withdrawals, raise_format, select_meta}
 use Rattle.reg_tables.proofs.FormatLemmas.{asks_meta}
+use Rattle.reg_tables.proofs.OpenLemmas.{found_tables}
 use Rattle.reg_tables.proofs.QueryLemmas.{shown_same}
 use Rattle.reg_tables.proofs.RepeatsLemmas.{digested_held}
 
@@ -221,6 +224,10 @@ migrated_left old mid dictionary memory trees same found put = ∥∥₁_map fou
     (let list = map unmarked p.0 in
     let there = put.1 dictionary p.0 (subst (λ (db : Database). HoldsSent First db dictionary p.0) (sym same) p.1) in
     let all : MigratedOf old trees = (dictionary, list, unmarked_register old.now dictionary p.0 p.1, subst (λ t. IsRegister (tables t) dictionary list) (sym put.3) (as_tables put.0 dictionary list there)) in all))
+
+pub found_first : {image : Image} {dictionary : Entries} {list : List Deposit} (s : State) → Opens s → FindsIn image s → ∥ IsRegisterOf First s.now dictionary list ∥₁ → ∥ FindsFirst image dictionary list ∥₁
+found_first {image} {dictionary} {list} s opened found register =
+    ∥∥₁_map register (λ (is : IsRegisterOf First s.now dictionary list). record { db = s.now; found = found_tables {image = image} s opened found; register = is })
 
 -- ---- a query inside a transaction commits nothing
 

@@ -27,15 +27,19 @@ pub record AddsWithdrawals (old new : Database) : Type 0 where
 
 -- Whatever was sent in a register of format 1, the new tables are a register of it, without a mark.
 abbrev pub Migrates : Database → Database → Type 0
-Migrates old new = (dictionary : Entries) (list : List Sent) → HoldsSent First old dictionary list → IsRegister new dictionary (map unmarked list)
+Migrates old new = (dictionary : Entries) (list : List Sent) → HoldsSent First old dictionary list
+    → IsRegister new dictionary (map unmarked list)
 
--- On a clean disk, the tables from before are a register of format 1, of this dictionary and of the list that is committed now.
+-- On a clean disk, the tables from before are a register of format 1, of this dictionary and of the list that is now
+-- committed.
 abbrev pub MigratesRegister : Entries → State → State → Type 0
-MigratesRegister dictionary old new = HasCleanDisk new → ∥ IsRegisterOf First old.now dictionary (deposits_in new.committed.trees) ∥₁
+MigratesRegister dictionary old new =
+    HasCleanDisk new → ∥ IsRegisterOf First old.now dictionary (deposits_in new.committed.trees) ∥₁
 
 -- The tables from before are a register of format 1, and these are one of format 2, of one dictionary and one list.
 abbrev pub MigratedOf : State → Trees → Type 0
-MigratedOf old trees = (dictionary : Entries) × (list : List Deposit) × IsRegisterOf First old.now dictionary list × IsRegister (tables trees) dictionary list
+MigratedOf old trees = (dictionary : Entries) × (list : List Deposit)
+    × IsRegisterOf First old.now dictionary list × IsRegister (tables trees) dictionary list
 
 abbrev pub IsMigrated : State → Trees → Type 0
 IsMigrated old trees = ∥ MigratedOf old trees ∥₁
@@ -63,6 +67,7 @@ pub record FindsFirst (image : Image) (dictionary : Entries) (list : List Deposi
   pub found : FindsTables image db.trees
   pub register : IsRegisterOf First db dictionary list
 
--- On a clean disk, an open finds a register of format 1, of this dictionary and of the list that the connection has committed.
+-- On a clean disk, an open finds a register of format 1, of this dictionary and of the list that the connection has
+-- committed.
 abbrev pub MigratesFiles : Image → Entries → State → Type 0
 MigratesFiles image dictionary s = HasCleanDisk s → ∥ FindsFirst image dictionary (deposits_in s.committed.trees) ∥₁

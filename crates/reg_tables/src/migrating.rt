@@ -34,10 +34,11 @@ pub type MigrateError = AdoptError;
 impl<S: Alter> SqlKeep<S> {
     /// The register of format 1 that a database holds, as one of format 2 without a mark.
     ///
-    /// It is examined as `adopt` examines one of format 2. A connection in a transaction is answered `Store`, where its tables are not refused first; no
-    /// clause says so. The rest holds where the disk is clean at the end. After a refusal other than `Store` the connection is as before; after
-    /// `Store`, one that comes back open shows the tables from before. A crash leaves what it could leave before; at `Ok` and at `Store` also the
-    /// register in format 2, whole and with the same list.
+    /// It is examined as `adopt` examines one of format 2. A connection in a transaction is answered `Store`, where its
+    /// tables are not refused first; no clause says so. The rest holds where the disk is clean at the end. After a
+    /// refusal other than `Store` the connection is as before; after `Store`, one that comes back open shows the tables
+    /// from before. A crash leaves what it could leave before; at `Ok` and at `Store` also the register in format 2,
+    /// whole and with the same list.
     pub fn migrate_in(
         alloc: Global,
         mut connection: Connection<S>,
@@ -75,7 +76,8 @@ impl<S: Alter> SqlKeep<S> {
 impl SqlKeep<FileStore<File>> {
     /// The register of format 1 that the database at a path holds, as one of format 2 without a mark.
     ///
-    /// It is `migrate_from` with `Unknown`. Its one clause says that the keep has not failed. No clause says what it holds, or when it is refused.
+    /// It is `migrate_from` with `Unknown`. Its one clause says that the keep has not failed. No clause says what it
+    /// holds, or when it is refused.
     pub fn migrate(
         rt: &HostRuntime,
         alloc: Global,
@@ -94,9 +96,11 @@ impl SqlKeep<FileStore<File>> {
 }
 
 impl<F: Start> SqlKeep<FileStore<FileFrom<F>>> {
-    /// The register of format 1 that the database at a path holds, as one of format 2, where `F` stands for what its files held.
+    /// The register of format 1 that the database at a path holds, as one of format 2. `F` stands for what its files
+    /// held.
     ///
-    /// A file that cannot be opened is `Store`, or `NoMemory`; every other refusal comes with the connection that was opened.
+    /// A file that cannot be opened is `Store`, or `NoMemory`; every other refusal comes with the connection that was
+    /// opened.
     pub fn migrate_from(
         rt: &HostRuntime,
         alloc: Global,

@@ -22,7 +22,8 @@ use crate::running::run;
 use reg_store::KeepError;
 use sqlite::{Alter, Connection, Error, Row, Transaction};
 
-/// Makes the tables of format 1 those of format 2 in one transaction. Want of memory is answered only where nothing changed.
+/// Makes the tables of format 1 those of format 2 in one transaction. Want of memory is answered only where nothing
+/// changed.
 #[tactic(auto, using(crate::proofs::QueryLemmas::undone_laws))]
 pub(crate) fn raise_register<S: Alter>(conn: &mut Connection<S>) -> Result<(), KeepError>
     requires idle { IsIdle (state S.Store conn.old) }
@@ -87,7 +88,8 @@ fn raise_all<S: Alter>(conn: &mut Connection<S>) -> Result<(), Error>
 
 /// Adds the table of marks and raises the number of the format. Nothing is committed.
 ///
-/// No clause of the database says that no two rows have one rowid. So the rows of meta are read again after they were changed.
+/// No clause of the database says that no two rows have one rowid. So the rows of meta are read again after they were
+/// changed.
 #[tactic(auto, using(crate::proofs::AddsLemmas::kept_then))]
 fn raise_tables<S: Alter>(tx: &mut Transaction<'_, S>) -> Result<(), Error>
     requires inside { HasTransaction (state_in S.Store tx.old) }
