@@ -49,7 +49,7 @@ push_mark n (false ∷ marks) mark =
 drop_here : {X : Type 0} (xs : List X) (k : ℕ) (x : X) → slice_get xs k ≡ Some x → drop k xs ≡ x ∷ drop (k + 1) xs
 drop_here [] k x at = absurd cc
 drop_here (y ∷ xs) zero x at = let same : y ≡ x = cc in ap (λ z. z ∷ xs) same
-drop_here (y ∷ xs) (suc k) x at = drop_here xs k x at
+drop_here (y ∷ xs) (suc k) x at = let e : suc (k + 1) ≡ suc k + 1 = omega arith in subst (λ n. drop k xs ≡ x ∷ drop n (y ∷ xs)) e (drop_here xs k x at)
 
 first_of_drop : {X : Type 0} (xs : List X) (k : ℕ) (x : X) → slice_get (drop k xs) 0 ≡ Some x → slice_get xs k ≡ Some x
 first_of_drop [] zero x at = at

@@ -60,12 +60,17 @@ known_here dictionary list known k one d are low is there = are.each k d one the
 pub known_sent : (dictionary : Entries) (list : List Deposit) (known : List Known) (k : ℕ) (one : Known) (sent : Sent) → AreKnown dictionary list known → k < length known → one ≡ get_or known k one → slice_get (sents list) k ≡ Some sent
     → (d : Deposit) × (d.sent ≡ sent) × IsKnown dictionary d one
 known_sent dictionary list known k one sent are low is there =
-    let d = deposit_there list k sent there in (d.0, (d.2, known_here dictionary list known k one d.0 are low is d.1))
+    let d = deposit_there list k sent there in (d.0, d.2, known_here dictionary list known k one d.0 are low is d.1)
 
 -- of deposits of which nothing was read
 new_zipped : (dictionary : Entries) (list : List Deposit) → AllZip (IsKnown dictionary) list (marked_known (map head_of (sents list)) (marks_of list))
 new_zipped dictionary [] = tt
 new_zipped dictionary (d ∷ list) = (record { head = refl; project = λ row none. absurd cc; alone = λ row none. absurd cc }, new_zipped dictionary list)
+
+pub long_known : (heads : List KeptHead) (marks : List Bool) → length marks ≡ length heads → length (marked_known heads marks) ≡ length heads
+long_known [] marks long = refl
+long_known (h ∷ heads) [] long = absurd (omega (arith, long))
+long_known (h ∷ heads) (m ∷ marks) long = ap suc (long_known heads marks (omega (arith, long)))
 
 -- one head and one mark more
 pub marked_more : (heads : List KeptHead) (marks : List Bool) (k : ℕ) (head : KeptHead) (mark : Bool) → slice_get heads k ≡ Some head → slice_get marks k ≡ Some mark

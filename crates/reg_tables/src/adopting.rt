@@ -149,11 +149,12 @@ pub(crate) fn read_meta(
 ) -> Result<Dictionary, AdoptError>
     ensures { ReadsMeta (number_of format) rows.now result }
 {
-    match other_format(rows, format.number()) {
+    let wanted = format.number();
+    match other_format(rows, wanted) {
         Some(number) => return Err(AdoptError::Version(number)),
         None => {}
     }
-    match meta_text(rows, format.number()) {
+    match meta_text(rows, wanted) {
         Some(text) => read_kept_dictionary(alloc, text),
         None => Err(AdoptError::NotRegister),
     }

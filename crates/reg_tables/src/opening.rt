@@ -24,9 +24,9 @@ use crate::format::Format;
 use crate::memory::Memory;
 use crate::reading::read_error;
 use crate::recall::recall;
-use crate::schema::{is_register, is_vacant};
+use crate::schema::is_vacant;
 use crate::sql::SqlKeep;
-use crate::versions::{has_meta, refuse_tables};
+use crate::versions::test_tables;
 use ags_dict::{DictError, Dictionary};
 use ags_rows::READABLE;
 use reg_store::KeepError;
@@ -217,15 +217,9 @@ impl<S: Alter> SqlKeep<S> {
         ensures still { IfErr result (λ e. StaysIfOpen (state S.Store connection) (state S.Store e.1)) }
         ensures left { IfErr result (λ e. Survives (state S.Store connection) (state S.Store e.1) (λ _. ⊥)) }
     {
-        if !has_meta(connection.schema()) {
-            return Err((AdoptError::NotRegister, connection));
-        }
-        if !connection.is_autocommit() {
-            return Err((AdoptError::Store, connection));
-        }
-        if !is_register(connection.schema(), Format::Second) {
-            let error = refuse_tables(&mut connection, Format::Second);
-            return Err((error, connection));
+        match test_tables(&mut connection, Format::Second) {
+            Ok(()) => {}
+            Err(error) => return Err((error, connection)),
         }
         match recall(&mut connection, alloc) {
             Ok((dictionary, memory)) => Ok(SqlKeep {

@@ -44,7 +44,6 @@ pub(crate) fn recall<S: Alter>(
         Ok(found) => found,
         Err(error) => return Err(error),
     };
-    let _schema = conn.schema();
     let marks = match find_marks(conn, alloc, count) {
         Ok(marks) => marks,
         Err(error) => return Err(error),

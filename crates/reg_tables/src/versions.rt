@@ -18,7 +18,7 @@ use sqlite::{Alter, Connection, Error, Row};
 use sqlite_schema::schema::Schema;
 
 /// Whether the first table is meta.
-pub(crate) fn has_meta(schema: &Schema) -> bool
+fn has_meta(schema: &Schema) -> bool
     ensures { IsTrue result ↔ StartsWithMeta schema.now }
 {
     match schema.tables.as_slice() {
@@ -45,7 +45,7 @@ fn ask_meta<S: Alter>(conn: &mut Connection<S>) -> Result<Vec<Row>, Error>
 ///
 /// Another number of the format comes before that it is no register.
 #[tactic(auto, using(crate::proofs::QueryLemmas::still_then))]
-pub(crate) fn refuse_tables<S: Alter>(conn: &mut Connection<S>, format: Format) -> AdoptError
+fn refuse_tables<S: Alter>(conn: &mut Connection<S>, format: Format) -> AdoptError
     requires mode { conn.old.in_transaction ≡ false }
     requires meta { StartsWithMeta (state S.Store conn.old).now.schema }
     requires other { (state S.Store conn.old).now.schema ≢ schema_of format }

@@ -11,22 +11,6 @@ use Rattle.reg_tables.proofs.FormatLemmas.{autocommit_idle, meta_first}
 use Rattle.reg_tables.proofs.QueryLemmas.{survives_none}
 use Rattle.reg_tables.proofs.sql.SqlKeep.adopt.Goals as goal
 
-pub recall-requires : goal.recall-requires
-recall-requires g c = record {
-  idle = record {
-    idle = autocommit_idle _ _ c.is_autocommit.ensures.value (search rules);
-    schema = λ clean. register_tables _ (register_is c.args.connection.schema (search rules));
-    settled = λ clean is_open. sym (c.is_autocommit.ensures.settled (search rules) is_open);
-  };
-  schema = λ clean. register_is c.args.connection.schema (search rules);
-}
-
-pub refuse_tables-error-requires-clause-mode : goal.refuse_tables-error-requires-clause-mode
-refuse_tables-error-requires-clause-mode g c = autocommit_idle _ _ c.is_autocommit.ensures.value (search rules)
-
-pub refuse_tables-error-requires-clause-meta : goal.refuse_tables-error-requires-clause-meta
-refuse_tables-error-requires-clause-meta g c = meta_first c.args.connection.schema (search rules)
-
 pub invariant_of-result : goal.invariant_of-result
 invariant_of-result g c =
     let old = state g.S.Store c.args.connection in
@@ -53,21 +37,3 @@ returns-in-Ok-clause-adopted g c clean =
 
 pub returns-in-Ok-clause-quiet : goal.returns-in-Ok-clause-quiet
 returns-in-Ok-clause-quiet g c = c.in-Ok.ensures.quiet.survives
-
-pub returns-then-not-is_register-clause-refused : goal.returns-then-not-is_register-clause-refused
-returns-then-not-is_register-clause-refused g c = c.refuse_tables-error.ensures.refused
-
-pub returns-then-not-is_register-clause-same : goal.returns-then-not-is_register-clause-same
-returns-then-not-is_register-clause-same g c well clean = c.refuse_tables-error.ensures.same clean well
-
-pub returns-then-not-is_register-clause-still : goal.returns-then-not-is_register-clause-still
-returns-then-not-is_register-clause-still g c = c.refuse_tables-error.ensures.still
-
-pub returns-then-not-is_register-clause-left : goal.returns-then-not-is_register-clause-left
-returns-then-not-is_register-clause-left g c = c.refuse_tables-error.ensures.crash
-
-pub returns-then-not-has_meta-clause-left : goal.returns-then-not-has_meta-clause-left
-returns-then-not-has_meta-clause-left g c = survives_none (state g.S.Store c.args.connection)
-
-pub returns-then-not-is_autocommit-clause-left : goal.returns-then-not-is_autocommit-clause-left
-returns-then-not-is_autocommit-clause-left g c = survives_none (state g.S.Store c.args.connection)
