@@ -19,8 +19,9 @@ use Rattle.sqlite.specs.Rows.{Written}
 use Rattle.sqlite.specs.Tree.{Trees}
 use Rattle.sqlite.specs.Listing.{understood}
 use Rattle.sqlite.specs.declared.error.Error.{Error}
-use Rattle.sqlite.specs.State.{State, mode_of, Executes, Opens, Shown, FailsToQuery, FailsToShow, IsNotRun, IsRolledBack, IsTooLate, IsUnchanged, KeepsCommit}
+use Rattle.sqlite.specs.State.{State, HasCleanDisk, Survives, mode_of, Executes, Opens, Shown, FailsToQuery, FailsToShow, IsNotRun, IsRolledBack, IsTooLate, IsUnchanged, KeepsCommit}
 use Rattle.sqlite.specs.Clock.{timed}
+use Rattle.sqlite.proofs.StateLemmas.{survives_then, survives_weaker}
 use Rattle.sqlite.proofs.Callers.{one_step, runs_as, statement_of}
 use Rattle.sqlite_rules.specs.Action.{deed_for, pairs, work_by, works}
 use Rattle.sqlite_rules.specs.Calls.{ids_of}
@@ -32,6 +33,12 @@ use Rattle.ags_dict.specs.Entries.{Entries}
 use Rattle.reg_store.specs.Deposit.{Deposit, sents, unmarked}
 use Rattle.reg_store.specs.Sent.{Sent}
 use Rattle.reg_store.specs.declared.keep.KeptHead.{KeptHead}
+use Rattle.reg_store.specs.declared.keep.KeepError.{KeepError}
+use Rattle.reg_store.specs.declared.keep.KeepError.TheVariants as keep
+use Rattle.reg_store.specs.Keep.{is_store}
+use Rattle.reg_tables.specs.declared.adopting.AdoptError.TheVariants.{Store}
+use Rattle.reg_tables.specs.Adoption.{adopt_error}
+use Rattle.reg_tables.specs.Quiet.{IsStill, clean_before}
 use Rattle.reg_tables.specs.declared.format.Format.TheVariants.{First, Second}
 use Rattle.reg_tables.specs.Creates.{makes_withdrawals}
 use Rattle.reg_tables.specs.Inserts.{same_value, went}
@@ -224,6 +231,22 @@ migrated_left old mid dictionary memory trees same found put = ∥∥₁_map fou
     (let list = map unmarked p.0 in
     let there = put.1 dictionary p.0 (subst (λ (db : Database). HoldsSent First db dictionary p.0) (sym same) p.1) in
     let all : MigratedOf old trees = (dictionary, list, unmarked_register old.now dictionary p.0 p.1, subst (λ t. IsRegister (tables t) dictionary list) (sym put.3) (as_tables put.0 dictionary list there)) in all))
+
+-- what a crash leaves after the register was examined, and its tables were changed
+pub migrates_then : (start mid new : State) (dictionary : Entries) (memory : Memory) → IsStill start mid false → (HasCleanDisk mid → RecallsFirst start.now dictionary memory) → Survives mid new (ChangesOf Migrates mid)
+    → Survives start new (IsMigrated start)
+migrates_then start mid new dictionary memory quiet found crash =
+    survives_then start mid new _ _ (IsMigrated start) (λ _ db none. absurd none)
+    (λ clean db put. (let early = clean_before mid new crash clean in migrated_left start mid dictionary memory db (quiet.same early refl).0 (found early) put)) quiet.survives crash
+
+-- and what it leaves where that was refused
+pub refused_then : (start mid new : State) (dictionary : Entries) (memory : Memory) (e : KeepError) → (e ≡ keep.Full → ⊥) → IsStill start mid false → (HasCleanDisk mid → RecallsFirst start.now dictionary memory)
+    → Survives mid new (ChangesOf Migrates mid) → (is_store e ≡ false → Survives mid new (λ _. ⊥)) → Survives start new (λ trees. (adopt_error e ≡ Store) × IsMigrated start trees)
+refused_then start mid new dictionary memory keep.Full never quiet found crash none = absurd (never refl)
+refused_then start mid new dictionary memory keep.Store never quiet found crash none =
+    survives_weaker start new _ _ (λ _ _ left. (refl, left)) (migrates_then start mid new dictionary memory quiet found crash)
+refused_then start mid new dictionary memory keep.NoMemory never quiet found crash none =
+    survives_then start mid new _ _ (λ trees. (adopt_error keep.NoMemory ≡ Store) × IsMigrated start trees) (λ _ db no. absurd no) (λ _ db no. absurd no) quiet.survives (none refl)
 
 pub found_first : {image : Image} {dictionary : Entries} {list : List Deposit} (s : State) → Opens s → FindsIn image s → ∥ IsRegisterOf First s.now dictionary list ∥₁ → ∥ FindsFirst image dictionary list ∥₁
 found_first {image} {dictionary} {list} s opened found register =

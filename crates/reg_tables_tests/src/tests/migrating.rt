@@ -113,6 +113,7 @@ fn held<S: Alter + Drop>(alloc: Global, keep: SqlKeep<S>) -> Result<&'static str
 }
 
 /// Makes a register of format 1 that holds A, and migrates it.
+#[derive(Drop)]
 struct Migrate;
 
 impl AskMade for Migrate {
