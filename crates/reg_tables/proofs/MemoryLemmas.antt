@@ -1,7 +1,7 @@
 -- What is known of the deposits, as it is looked up, noted and grows with the list.
 use Rattle.std.proofs.Common.{zero, suc, ◌≡◌, ℕ, ◌+◌, ◌-◌, ◌<◌, ◌≤◌, Bool, true, false, List, [], ◌∷◌, ◌++◌, get_or, length, map, take, if◌then◌else◌, Option, Some, None, IfSome, slice_get, refl, sym, ap, subst, subst₂, ◌∙◌, arith}
 use Rattle.std.proofs.Math.ListN.{set}
-use Rattle.std.proofs.lemmas.List.{length_push}
+use Rattle.std.proofs.lemmas.List.{length_push, take_all}
 use Rattle.std.proofs.lemmas.Option.{slice_get_read}
 use Rattle.std.proofs.lemmas.Slice.Zip.{AllZip-long}
 use Rattle.std.specs.List.{AllZip}
@@ -71,6 +71,17 @@ pub long_known : (heads : List KeptHead) (marks : List Bool) → length marks �
 long_known [] marks long = refl
 long_known (h ∷ heads) [] long = absurd (omega (arith, long))
 long_known (h ∷ heads) (m ∷ marks) long = ap suc (long_known heads marks (omega (arith, long)))
+
+-- all heads and marks have come
+pub known_all : (heads : List KeptHead) (marks : List Bool) (known : List Known) (at : ℕ) → length heads ≤ at → length marks ≡ length heads → known ≡ marked_known (take at heads) (take at marks) → known ≡ marked_known heads marks
+known_all heads marks known at end long are =
+    let ended : length marks ≤ at = omega (arith, end, long) in
+    are ∙ ap (λ (first : List KeptHead). marked_known first (take at marks)) (take_all at heads end) ∙ ap (marked_known heads) (take_all at marks ended)
+
+pub get_there : {X : Type 0} (xs : List X) (k : ℕ) (d : X) → k < length xs → slice_get xs k ≡ Some (get_or xs k d)
+get_there [] k d low = absurd (omega (arith, low))
+get_there (x ∷ xs) zero d low = refl
+get_there (x ∷ xs) (suc k) d low = get_there xs k d (omega (arith, low))
 
 -- one head and one mark more
 pub marked_more : (heads : List KeptHead) (marks : List Bool) (k : ℕ) (head : KeptHead) (mark : Bool) → slice_get heads k ≡ Some head → slice_get marks k ≡ Some mark

@@ -144,11 +144,16 @@ impl<S: Alter> Keep for SqlKeep<S> {
     }
 
     fn withdraw(&mut self, n: u32) -> Result<(), KeepError> {
-        let added = add_mark(&mut self.connection, n);
-        self.has_failed = is_store(&added);
-        added?;
-        self.memory.mark(n);
-        Ok(())
+        match add_mark(&mut self.connection, n) {
+            Ok(()) => {
+                self.memory.mark(n);
+                Ok(())
+            }
+            Err(refused) => {
+                self.has_failed = is_store_error(&refused);
+                Err(refused)
+            }
+        }
     }
 
     fn deposit(&mut self, n: u32) -> Result<Kept, KeepError> {

@@ -52,23 +52,23 @@ invariant_of-self-in-Err-clause-agrees g c works clean =
     subst (λ (db : Database). Agrees c.make_room-room.new.self keep.dictionary (deposits_in db.trees)) (sym (c.in-Err.ensures.undone clean bare).1)
     (c.make_room-room.ensures.agrees keep.dictionary (deposits_in old.committed.trees) (keep.agrees c.requires.working first))
 
--- ---- where the file was added, or may have been
+-- ---- where the file was added
 
-abbrev added : (g : Over) → goal.After-add_checked-added g → Sent
+abbrev added : (g : Over) → goal.After-push g → Sent
 added g c = deposit_from c.args.firm.now c.args.project.now c.args.embargo c.args.checked.now.bytes
 
 -- what was held, and the list with the deposit
-abbrev held : (g : Over) → goal.After-add_checked-added g → List Deposit
+abbrev held : (g : Over) → goal.After-push g → List Deposit
 held g c = deposits_in (state g.S.Store c.args.self.now.connection).committed.trees
 
-abbrev next : (g : Over) → goal.After-add_checked-added g → List Deposit
+abbrev next : (g : Over) → goal.After-push g → List Deposit
 next g c = held g c ++ unmarked (added g c) ∷ []
 
 -- the change of the tables
-abbrev Change : (g : Over) → goal.After-add_checked-added g → Database → Database → Type 0
+abbrev Change : (g : Over) → goal.After-push g → Database → Database → Type 0
 Change g c = AddsFile (length c.args.self.now.memory.known.items + 1) (added g c) (kept_rows c.args.checked.now.groups) c.args.checked.now.graph.steps
 
-turns : (g : Over) (c : goal.After-add_checked-added g) → HasCleanDisk (state g.S.Store c.add_checked-added.new.conn)
+turns : (g : Over) (c : goal.After-push g) → HasCleanDisk (state g.S.Store c.add_checked-added.new.conn)
     → Turns (state g.S.Store c.args.self.now.connection) c.args.self.now.dictionary (length c.args.self.now.memory.known.items) (Change g c) (next g c)
 turns g c clean =
     let first = clean_before (state g.S.Store c.args.self.now.connection) (state g.S.Store c.add_checked-added.new.conn) c.add_checked-added.ensures.crash clean in
@@ -77,7 +77,7 @@ turns g c clean =
     let ready : IsReady c.args.self.now.dictionary (sents (held g c)) (added g c) c.args.checked.now = record { its = fit; named = c.add_checked-added.ensures.fit; fresh = c.requires.fresh first } in
     put_turns {old = state g.S.Store c.args.self.now.connection} (added g c) c.args.checked.now low ready
 
-crash : (g : Over) (c : goal.After-add_checked-added g) → Survives (state g.S.Store c.args.self.now.connection) (state g.S.Store c.add_checked-added.new.conn) (ChangesOf (Change g c) (state g.S.Store c.args.self.now.connection))
+crash : (g : Over) (c : goal.After-push g) → Survives (state g.S.Store c.args.self.now.connection) (state g.S.Store c.add_checked-added.new.conn) (ChangesOf (Change g c) (state g.S.Store c.args.self.now.connection))
 crash g c =
     let old = state g.S.Store c.args.self.now.connection in
     let new = state g.S.Store c.add_checked-added.new.conn in
@@ -85,21 +85,21 @@ crash g c =
 
 -- the keep that held the list holds it with the deposit
 more : (g : Over) (c : goal.After-push g) → HasCleanDisk (state g.S.Store c.add_checked-added.new.conn)
-    → HoldsNext (state g.S.Store c.add_checked-added.new.conn) c.args.self.now.dictionary (length (next g c.before)) (next g c.before)
+    → HoldsNext (state g.S.Store c.add_checked-added.new.conn) c.args.self.now.dictionary (length (next g c)) (next g c)
 more g c clean =
     let keep = c.args.self.now in
     let old = state g.S.Store keep.connection in
     let new = state g.S.Store c.add_checked-added.new.conn in
     let first = clean_before old new c.add_checked-added.ensures.crash clean in
-    let put = subst (λ n. AddsFile (n + 1) (added g c.before) (kept_rows c.args.checked.now.groups) c.args.checked.now.graph.steps old.now new.now) c.count-count.ensures (c.in-Ok-added.ensures.put clean) in
-    next_at {old = old} {new = new} (Change g c.before) (next g c.before) (keep.kept c.requires.working first) (turns g c.before clean) put (c.in-Ok-added.ensures.sound clean) (c.in-Ok-added.ensures.settled clean) (c.in-Ok-added.ensures.open clean refl)
+    let put = subst (λ n. AddsFile (n + 1) (added g c) (kept_rows c.args.checked.now.groups) c.args.checked.now.graph.steps old.now new.now) c.count-count.ensures (c.in-Ok-added.ensures.put clean) in
+    next_at {old = old} {new = new} (Change g c) (next g c) (keep.kept c.requires.working first) (turns g c clean) put (c.in-Ok-added.ensures.sound clean) (c.in-Ok-added.ensures.settled clean) (c.in-Ok-added.ensures.open clean refl)
 
 -- it counts one more
-counts : (g : Over) (c : goal.After-push g) → HasCleanDisk (state g.S.Store c.add_checked-added.new.conn) → length (next g c.before) ≡ length c.args.self.now.memory.known.items + 1
+counts : (g : Over) (c : goal.After-push g) → HasCleanDisk (state g.S.Store c.add_checked-added.new.conn) → length (next g c) ≡ length c.args.self.now.memory.known.items + 1
 counts g c clean =
     let old = state g.S.Store c.args.self.now.connection in
     let first = clean_before old (state g.S.Store c.add_checked-added.new.conn) c.add_checked-added.ensures.crash clean in
-    length_push (held g c.before) (unmarked (added g c.before)) ∙ ap (λ n. n + 1) (sym (counted_at {s = old} (c.args.self.now.kept c.requires.working first)))
+    length_push (held g c) (unmarked (added g c)) ∙ ap (λ n. n + 1) (sym (counted_at {s = old} (c.args.self.now.kept c.requires.working first)))
 
 pub invariant_of-self-in-Ok-added-clause-kept : goal.invariant_of-self-in-Ok-added-clause-kept
 invariant_of-self-in-Ok-added-clause-kept g c works clean =
@@ -112,20 +112,20 @@ invariant_of-self-in-Ok-added-clause-agrees g c works clean =
     let keep = c.args.self.now in
     let old = state g.S.Store keep.connection in
     let first = clean_before old (state g.S.Store c.add_checked-added.new.conn) c.add_checked-added.ensures.crash clean in
-    let its : IsComing c.make_room-room.new.self (added g c.before) c.in-Ok.coming = subst (λ (bytes : List ℕ). IsComing c.make_room-room.new.self (deposit_from c.args.firm.now c.args.project.now c.args.embargo bytes) c.in-Ok.coming) c.bytes.ensures.bytes c.in-Ok.ensures.coming in
+    let its : IsComing c.make_room-room.new.self (added g c) c.in-Ok.coming = subst (λ (bytes : List ℕ). IsComing c.make_room-room.new.self (deposit_from c.args.firm.now c.args.project.now c.args.embargo bytes) c.in-Ok.coming) c.bytes.ensures.bytes c.in-Ok.ensures.coming in
     subst (λ (all : List Deposit). Agrees c.push.new.self keep.dictionary all) (sym (more g c clean).list)
-    (c.push.ensures.agrees keep.dictionary (held g c.before) (added g c.before) its (c.make_room-room.ensures.agrees keep.dictionary (held g c.before) (keep.agrees c.requires.working first)))
+    (c.push.ensures.agrees keep.dictionary (held g c) (added g c) its (c.make_room-room.ensures.agrees keep.dictionary (held g c) (keep.agrees c.requires.working first)))
 
 pub returns-in-Ok-added : goal.returns-in-Ok-added
 returns-in-Ok-added g c =
     let keep = c.args.self.now in
     let old = state g.S.Store keep.connection in
     let new = state g.S.Store c.add_checked-added.new.conn in
-    let base = c.before.before in
+    let base = c.before in
     let low : length keep.memory.known.items < 999999 = omega (arith, c.count-count.ensures) in
     let before = λ (clean : HasCleanDisk new). clean_before old new c.add_checked-added.ensures.crash clean in
     record {
-      number = λ clean. ap (λ n. n + 1) c.count-count.ensures ∙ sym (counts g c.before clean) ∙ sym (ap length (more g c.before clean).list);
+      number = λ clean. ap (λ n. n + 1) c.count-count.ensures ∙ sym (counts g base clean) ∙ sym (ap length (more g base clean).list);
       room = λ clean. subst (λ n. n < 999999) (counted_at {s = old} (keep.kept c.requires.working (before clean))) low;
       full = λ clean e. absurd cc;
       leaves = record {
@@ -133,7 +133,7 @@ returns-in-Ok-added g c =
         same_dictionary = refl;
         same_limit = refl;
         failing = c.requires.working;
-        added = λ clean. (more g c.before clean).list;
+        added = λ clean. (more g base clean).list;
         refused = λ clean well. tt;
         crash = λ clean. crash_at {old = old} {new = new} (Change g base) (next g base) (keep.kept c.requires.working (before clean)) (turns g base clean) (crash g base) clean;
         whole = λ clean. whole_next {old = old} {new = new} (Change g base) (next g base) (keep.kept c.requires.working (before clean)) (turns g base clean) (crash g base) clean;
@@ -145,8 +145,17 @@ returns-in-Err-clause-leaves g c =
     let keep = c.args.self.now in
     let old = state g.S.Store keep.connection in
     let new = state g.S.Store c.add_checked-added.new.conn in
-    let base = c.before in
+    let file = c.args.checked.now in
+    let count = length keep.memory.known.items in
+    let d = deposit_from c.args.firm.now c.args.project.now c.args.embargo file.bytes in
+    let list = deposits_in old.committed.trees in
+    let low : count < 999999 = omega (arith, c.count-count.ensures) in
     let before = λ (clean : HasCleanDisk new). clean_before old new c.add_checked-added.ensures.crash clean in
+    let fit : IsFileOf keep.dictionary d file = record { given = c.requires.dictionary; bytes = refl; clean = c.bytes.ensures.clean; short = c.requires.short } in
+    let ready = λ (clean : HasCleanDisk new). (let is : IsReady keep.dictionary (sents list) d file = record { its = fit; named = c.add_checked-added.ensures.fit; fresh = c.requires.fresh (before clean) } in is) in
+    let turns = λ (clean : HasCleanDisk new). put_turns {old = old} d file low (ready clean) in
+    let Change = AddsFile (count + 1) d (kept_rows file.groups) file.graph.steps in
+    let crash = subst (λ n. Survives old new (PutsOf old (n + 1) d (kept_rows file.groups) file.graph.steps)) c.count-count.ensures c.add_checked-added.ensures.crash in
     record {
       sound = before;
       same_dictionary = refl;
@@ -154,8 +163,8 @@ returns-in-Err-clause-leaves g c =
       failing = c.is_store_error-self.ensures;
       added = λ clean. tt;
       refused = λ clean well. ap (λ (db : Database). deposits_in db.trees) (c.in-Err.ensures.undone clean well).1;
-      crash = λ clean. crash_at {old = old} {new = new} (Change g base) (next g base) (keep.kept c.requires.working (before clean)) (turns g base clean) (crash g base) clean;
-      whole = λ clean. whole_next {old = old} {new = new} (Change g base) (next g base) (keep.kept c.requires.working (before clean)) (turns g base clean) (crash g base) clean;
+      crash = λ clean. crash_at {old = old} {new = new} Change (list ++ unmarked d ∷ []) (keep.kept c.requires.working (before clean)) (turns clean) crash clean;
+      whole = λ clean. whole_next {old = old} {new = new} Change (list ++ unmarked d ∷ []) (keep.kept c.requires.working (before clean)) (turns clean) crash clean;
     }
 
 pub returns-then-count-ge-MOST-clause-full : goal.returns-then-count-ge-MOST-clause-full

@@ -1,6 +1,8 @@
-use Rattle.std.proofs.Common.{refl, sym, ◌∙◌}
+use Rattle.std.proofs.Common.{rules, ◌≡◌, false, Ok, refl, subst, sym, ◌∙◌}
 use Rattle.sqlite.specs.Held.{state}
-use Rattle.reg_tables.specs.Quiet.{clean_before}
+use Rattle.reg_store.specs.Keep.{fails}
+use Rattle.reg_tables.specs.Quiet.{IsStill, clean_before}
+use Rattle.reg_tables.specs.Register.{deposits_in}
 use Rattle.reg_tables.specs.KeepLaws.{idle_at, keeps_quiet}
 use Rattle.reg_tables.specs.Methods.{deposit_read_at}
 use Rattle.reg_tables.proofs.MemoryLemmas.{agrees_still}
@@ -22,11 +24,20 @@ invariant_of-self-clause-agrees g c works clean =
     agrees_still (state g.S.Store c.args.self.now.connection) (state g.S.Store c.find_deposit-found.new.conn) c.args.self.now.memory c.args.self.now.dictionary (c.args.self.now.agrees c.requires.working) c.find_deposit-found.ensures.quiet clean (sym c.is_store-self.ensures ∙ works)
 
 pub returns-clause-leaves : goal.returns-clause-leaves
-returns-clause-leaves g c = reads_still (λ k. state g.S.Store k.connection) (λ k. k.dictionary) 999999 (λ k. k.has_failed) _ _ _ c.find_deposit-found.ensures.quiet refl c.is_store-self.ensures
+returns-clause-leaves g c =
+    let old = state g.S.Store c.args.self.now.connection in
+    let new = state g.S.Store c.find_deposit-found.new.conn in
+    let well : fails c.find_deposit-found.result ≡ false = search (rules, c.in_ok-kept.was) in
+    let still = subst (IsStill old new) well c.find_deposit-found.ensures.quiet in
+    reads_still (λ k. state g.S.Store k.connection) (λ k. k.dictionary) 999999 (λ k. k.has_failed) _ _ false still refl (c.is_store-self.ensures ∙ well)
 
 pub returns-clause-read : goal.returns-clause-read
 returns-clause-read g c clean =
-    let old = state g.S.Store c.args.self.now.connection in
+    let keep = c.args.self.now in
+    let old = state g.S.Store keep.connection in
     let new = state g.S.Store c.find_deposit-found.new.conn in
     let first = clean_before old new c.find_deposit-found.ensures.quiet.survives clean in
-    deposit_read_at {s = old} c.args.n c.find_deposit-found.result (c.requires.number first).0 (c.requires.number first).1 (c.args.self.now.kept c.requires.working first) (c.find_deposit-found.ensures.found clean)
+    let its = c.requires.number first in
+    let kept = c.in_ok-kept.kept in
+    deposit_read_at {s = old} c.args.n (Ok (record { firm = kept.firm; project = kept.project; embargo = kept.embargo; bytes = kept.bytes; withdrawn = c.is_withdrawn.result })) its.0 its.1 (keep.kept c.requires.working first)
+    (c.in_ok-kept.ensures.found clean) (λ d at. c.is_withdrawn.ensures keep.dictionary (deposits_in old.committed.trees) (keep.agrees c.requires.working first) its.0 d at)
