@@ -1,8 +1,10 @@
-use Rattle.std.proofs.Common.{◌≡◌, refl, sym, subst}
+use Rattle.std.proofs.Common.{◌≡◌, Err, refl, sym, subst}
 use Rattle.sqlite.specs.Effect.{Database}
 use Rattle.sqlite.specs.State.{Survives}
 use Rattle.sqlite.specs.Held.{state}
 use Rattle.reg_tables.specs.declared.adopting.AdoptError.TheVariants.{Store}
+use Rattle.reg_tables.specs.declared.format.Format.TheVariants.{First}
+use Rattle.reg_tables.specs.Adoption.{Adopts}
 use Rattle.reg_tables.specs.Migrates.{IsMigrated, Migrates}
 use Rattle.reg_tables.specs.Quiet.{clean_before}
 use Rattle.reg_tables.proofs.MigrateLemmas.{migrated_list, migrates_then, recalled_then, refused_then}
@@ -10,7 +12,8 @@ use Rattle.reg_tables.proofs.migrating.migrate_tables.Goals as goal
 
 pub returns-in-Err-recall_first-clause-refused : goal.returns-in-Err-recall_first-clause-refused
 returns-in-Err-recall_first-clause-refused g c clean =
-    rw c.in-Ok.ensures.unchanged at (c.in-Err-recall_first.ensures.refused clean)
+    subst (λ h. Adopts First (state g.S.Store h).now (Err c.in-Err-recall_first.error)) c.in-Ok.ensures.unchanged
+    (c.in-Err-recall_first.ensures.refused clean)
 
 pub returns-in-Ok-raise_register-clause-found : goal.returns-in-Ok-raise_register-clause-found
 returns-in-Ok-raise_register-clause-found g c clean =
