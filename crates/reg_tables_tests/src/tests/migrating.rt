@@ -13,8 +13,7 @@ use std::alloc::Global;
 use std::test::Fail;
 
 /// What makes a register of format 2 without a mark one of format 1.
-const TO_FORMAT_1: &str =
-    "DROP TABLE withdrawals; UPDATE meta SET num = 1 WHERE name = 'format'";
+const TO_FORMAT_1: &str = "DROP TABLE withdrawals; UPDATE meta SET num = 1 WHERE name = 'format'";
 
 /// A deposit is sent.
 static SENT: [Case; 1] = [Case {
@@ -23,7 +22,7 @@ static SENT: [Case; 1] = [Case {
 }];
 
 /// It is held, and so is one that is sent after the migration.
-pub(crate) static HELD: [Case; 5] = [
+static HELD: [Case; 5] = [
     Case {
         call: Call::Sizes,
         want: "1 of 999999, 10 and 38 entries",

@@ -4,14 +4,26 @@
 ghost use Rattle.std.specs.Prelude.{◌≡◌, false, IsTrue};
 
 use super::calls::Compare;
-use super::migrating::{HELD, made_first};
-use super::{SAME, ask_tables};
+use super::migrating::made_first;
+use super::{Call, Case, SAME, ask_tables};
 use ags_rows::vectors::MINI;
 use reg_tables::{AdoptError, MigrateError, SqlKeep};
 use sqlite::{Alter, Connection, FileStore, Files, Options};
 use sqlite_disk::{Crash, Disk, Fuse, Memory};
 use std::alloc::{AllocError, Global};
 use std::test::Fail;
+
+/// The list of the register.
+static LISTED: [Case; 2] = [
+    Case {
+        call: Call::Sizes,
+        want: "1 of 999999, 10 and 38 entries",
+    },
+    Case {
+        call: Call::Deposit(1),
+        want: "Delta N1 19875 A",
+    },
+];
 
 /// A file of a register.
 #[derive(Clone, Copy)]
@@ -67,7 +79,7 @@ fn migrated<S: Alter + Drop>(
 fn holds<S: Alter + Drop>(alloc: Global, keep: SqlKeep<S>) -> (bool, Connection<S>)
     requires { keep.has_failed ≡ false }
 {
-    let (first, connection) = ask_tables(alloc, keep, Compare(&HELD));
+    let (first, connection) = ask_tables(alloc, keep, Compare(&LISTED));
     (first == Ok(SAME), connection)
 }
 

@@ -1,7 +1,6 @@
 use Rattle.std.proofs.Common.{rules, arith, IsTrue, sym, subst}
 use Rattle.sqlite.specs.State.{HasCleanDisk}
 use Rattle.sqlite.specs.Files.{file_state}
-use Rattle.reg_tables.specs.declared.format.Format.TheVariants.{First}
 use Rattle.reg_tables.proofs.MigrateLemmas.{found_first}
 use Rattle.reg_tables.proofs.OpenLemmas.{found_refused}
 use Rattle.reg_tables.proofs.migrating.SqlKeep+FileStore+FileFrom+F.migrate_from.Goals as goal
