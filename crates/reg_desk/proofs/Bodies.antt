@@ -98,7 +98,8 @@ refusal_serves keep rules request old (Text t) d k bytes Stands works permit ref
 refusal_serves keep rules request old (Denied n) d k bytes Stands works permit refusal needs to from next = absurd refusal
 refusal_serves keep rules request old Unknown d k bytes Stands works permit refusal needs to from next = absurd refusal
 refusal_serves keep rules request old Full d k bytes Stands works permit refusal needs to from next = absurd refusal
-refusal_serves keep rules request old (Withdrawn n) d k bytes Stands works permit refusal needs to from next = absurd refusal
+refusal_serves keep rules request old (Withdrawn n) d k bytes Stands works permit refusal needs to from next =
+    absurd refusal
 refusal_serves keep rules request old StoreFailed d k bytes Stands works permit refusal needs to from next = absurd refusal
 
 -- what a check ends with is a refusal of the body

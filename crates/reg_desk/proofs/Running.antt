@@ -45,7 +45,8 @@ was_sound keep old new (r ∷ requests) (a ∷ answers) by sound =
 
 -- a keep that has not failed leaves its own list alone
 abbrev Settled : {K : Type 0} → Ghosts K → Type 0
-Settled {K} keep = (k : K) (list : List Deposit) → keep.is_sound k → keep.has_failed k ≡ false → keep.may_leave k list → list ≡ keep.deposits k
+Settled {K} keep = (k : K) (list : List Deposit) → keep.is_sound k → keep.has_failed k ≡ false → keep.may_leave k list
+    → list ≡ keep.deposits k
 
 -- a keep that has not failed leaves a register of some list
 abbrev Unbroken : {K : Type 0} → Ghosts K → Type 0

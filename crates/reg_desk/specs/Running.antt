@@ -29,12 +29,13 @@ AreAnswers terms state _ _ last = ⊥
 abbrev pub failing : List Asked → List Answer → Option Asked
 failing requests answers = option_map (λ p. p.0) (find (λ p. is_failed p.1) (zip requests answers))
 
--- a deposit that was answered by a receipt is held under its number, withdrawn or not, with the embargo that the receipt
--- shows; one that was answered as withdrawn is held with its mark
+-- a deposit that was answered by a receipt is held under its number, withdrawn or not, with the embargo that the
+-- receipt shows; one that was answered as withdrawn is held with its mark
 abbrev pub IsHeldIn : List Deposit → Asked → Answer → Type 0
 IsHeldIn list (deposit caller project embargo bytes day) (Receipt n until) =
     held n (sents list) ≡ Some (asked_deposit caller project until bytes)
-IsHeldIn list (withdraw caller project number day) (Withdrawn n) = option_map (λ d. d.withdrawn) (held n list) ≡ Some true
+IsHeldIn list (withdraw caller project number day) (Withdrawn n) =
+    option_map (λ d. d.withdrawn) (held n list) ≡ Some true
 IsHeldIn list _ _ = ⊤
 
 -- The answers of a keep that works at the start, its list at the end where none of them is StoreFailed, and what a crash leaves then.
@@ -53,8 +54,9 @@ pub record Runs {K : Type 0} (keep : Ghosts K) (rules : List Rule) (old new : K)
 abbrev pub RunsIfSound : {K : Type 0} (keep : Ghosts K) → Desk K keep → List Asked → List Answer → Desk K keep → Type 0
 RunsIfSound keep old requests answers new = keep.is_sound new.keep → old.failed ≡ false → ∥ Runs keep old.policy old.keep new.keep requests answers ∥₁
 
--- If the desk had not failed and its keep is sound at the end: every list that a crash may leave holds each deposit that was
--- answered by a receipt, under its number, with the embargo that the receipt shows, and has the mark of each that was
--- answered as withdrawn.
+-- If the desk had not failed and its keep is sound at the end: every list that a crash may leave holds each deposit that
+-- was answered by a receipt, under its number, with the embargo that the receipt shows, and has the mark of each that
+-- was answered as withdrawn.
 abbrev pub ReceiptsSurviveIfSound : {K : Type 0} (keep : Ghosts K) → Desk K keep → List Asked → List Answer → Desk K keep → Type 0
-ReceiptsSurviveIfSound keep old requests answers new = keep.is_sound new.keep → old.failed ≡ false → (list : List Deposit) → keep.may_leave new.keep list → ∥ AllZip (IsHeldIn list) requests answers ∥₁
+ReceiptsSurviveIfSound keep old requests answers new = keep.is_sound new.keep → old.failed ≡ false
+    → (list : List Deposit) → keep.may_leave new.keep list → ∥ AllZip (IsHeldIn list) requests answers ∥₁

@@ -16,8 +16,8 @@ use reg_policy::{Caller, Day, Decision, Name, Policy, Verb};
 use reg_store::{Keep, KeepError};
 use std::alloc::Global;
 
-/// The number and the embargo of the deposit that is held already, withdrawn or not: the first that is equal in firm, project and
-/// bytes.
+/// The number and the embargo of the deposit that is held already, withdrawn or not: the first that is equal in firm,
+/// project and bytes.
 #[tactic(auto, using(crate::proofs::Firsts::none_held))]
 fn held_already<K: Keep>(
     keep: &mut K,

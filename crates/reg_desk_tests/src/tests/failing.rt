@@ -104,8 +104,8 @@ fn stop_of(alloc: Global, requests: &[Request], calls: u32) -> Option<usize> {
     }
 }
 
-/// Behind how many answers the store fails over the keeps that answer 0 to 63 calls (8 where it does not), and how often it fails;
-/// none where a run is not as it should be.
+/// Behind how many answers the store fails over the keeps that answer 0 to 63 calls (8 where it does not), and how often
+/// it fails; none where a run is not as it should be.
 fn stops_of(alloc: Global, requests: &[Request]) -> Option<([bool; 9], u32)> {
     let mut stops = [false; 9];
     let mut failed = 0u32;

@@ -40,6 +40,7 @@ impl Refusing {
 }
 
 impl Keep for Refusing {
+    ghost use Rattle.reg_store.specs.Deposit.{sents};
     ghost use Rattle.reg_store.specs.Plain.{deposits_of, dictionary_of, limit_of};
     ghost use Rattle.reg_store.specs.PlainLaws.{few_of, fit_of};
 
@@ -156,7 +157,7 @@ impl Keep for Refusing {
 
     ghost remains = { λ k _ _ none. none (deposits_of k.keep) refl };
 
-    ghost fit = { λ k _ _. fit_of (dictionary_of k.keep) (deposits_of k.keep) k.keep.fit };
+    ghost fit = { λ k _ _. fit_of (dictionary_of k.keep) (sents (deposits_of k.keep)) k.keep.fit };
 
     ghost few = { λ k _ _. few_of k.keep.kept.items k.keep.limit k.keep.within k.keep.few };
 }

@@ -1,6 +1,6 @@
-//! Stops of the disk, through a desk: a register is made, two deposits are sent and the first is withdrawn, over disks of which one
-//! refuses every call from some call on. What was not synced is lost then, the register is opened again, and both deposits are sent
-//! again.
+//! Stops of the disk, through a desk: a register is made, two deposits are sent and the first is withdrawn, over disks of
+//! which one refuses every call from some call on. What was not synced is lost then, the register is opened again, and
+//! both deposits are sent again.
 
 ghost use Rattle.std.specs.Prelude.{◌≡◌, false, IsTrue};
 
@@ -104,8 +104,8 @@ const UNWITHDRAWN: Step = Step(
     Want::Lists(&[Line(2, "Delta", UNTIL)]),
 );
 
-/// Sends both deposits and withdraws the first: the stage in which the store failed, or that of closing. None where there is another
-/// answer, and where the store failed and one of four further requests is answered otherwise.
+/// Sends both deposits and withdraws the first: the stage in which the store failed, or that of closing. None where there
+/// is another answer, and where the store failed and one of four further requests is answered otherwise.
 fn fill<K: Keep>(
     alloc: Global,
     desk: &mut Desk<K>,

@@ -37,7 +37,9 @@ returns-in-Extract-clause-serves g c =
 
 pub returns-in-Withdraw-clause-serves : goal.returns-in-Withdraw-clause-serves
 returns-in-Withdraw-clause-serves g c =
-    subst (λ (r : Request). Serves g.K.Keep c.args.policy.now (asked r) c.args.keep.now c.serve_withdraw.new.keep c.serve_withdraw.result) (sym c.in-Withdraw.is) (c.serve_withdraw.ensures c.in-Withdraw.day)
+    subst (λ (r : Request).
+    Serves g.K.Keep c.args.policy.now (asked r) c.args.keep.now c.serve_withdraw.new.keep c.serve_withdraw.result)
+    (sym c.in-Withdraw.is) (c.serve_withdraw.ensures c.in-Withdraw.day)
 
 pub returns-in-Deposit-clause-rows : goal.returns-in-Deposit-clause-rows
 returns-in-Deposit-clause-rows g c = subst (λ (r : Request). ShowsRows (asked r) c.serve_deposit.result) (sym c.in-Deposit.is) tt
@@ -52,4 +54,5 @@ pub returns-in-Extract-clause-rows : goal.returns-in-Extract-clause-rows
 returns-in-Extract-clause-rows g c = subst (λ (r : Request). ShowsRows (asked r) c.serve_extract.result) (sym c.in-Extract.is) c.serve_extract.ensures.rows
 
 pub returns-in-Withdraw-clause-rows : goal.returns-in-Withdraw-clause-rows
-returns-in-Withdraw-clause-rows g c = subst (λ (r : Request). ShowsRows (asked r) c.serve_withdraw.result) (sym c.in-Withdraw.is) tt
+returns-in-Withdraw-clause-rows g c = subst (λ (r : Request). ShowsRows (asked r) c.serve_withdraw.result)
+    (sym c.in-Withdraw.is) tt

@@ -12,5 +12,7 @@ returns-clause-seen g c = λ s d file at is.
     record {
       clean = is.clean;
       same_rows = c.in_ok-rows.ensures.read s1 d file at is;
-      same_graph = c.in_ok-graph.ensures.read s d file (ap (λ (l : List Deposit). slice_get (sents l) (c.args.number - 1)) (first.same s1 refl) ∙ at) (subst (λ (e : Entries). IsFileOf e d file) (sym first.same_dictionary) is);
+      same_graph = c.in_ok-graph.ensures.read s d file
+          (ap (λ (l : List Deposit). slice_get (sents l) (c.args.number - 1)) (first.same s1 refl) ∙ at)
+          (subst (λ (e : Entries). IsFileOf e d file) (sym first.same_dictionary) is);
     }

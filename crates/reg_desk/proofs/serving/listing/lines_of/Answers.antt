@@ -21,7 +21,8 @@ loop-number-init g c =
     let leaves = c.in_ok-numbers.ensures.leaves in
     record {
       reads = reads_itself K mid (still_works K c.args.keep.now mid (reads_once K c.args.keep.now mid false leaves));
-      numbers = λ s. c.deref-number-items.ensures.value ∙ c.in_ok-numbers.ensures.numbers s ∙ ap (λ (l : List Deposit). numbers_from 1 c.args.project.now (sents l)) (sym (leaves.same s refl));
+      numbers = λ s. c.deref-number-items.ensures.value ∙ c.in_ok-numbers.ensures.numbers s
+          ∙ ap (λ (l : List Deposit). numbers_from 1 c.args.project.now (sents l)) (sym (leaves.same s refl));
       so_far = λ s.
           subst (λ (l : List Listed). ∥ SoFar terms c.args.caller.now c.args.day (λ k. held k state) items items l ∥₁) (sym c.new-lines.ensures.items)
           ∣ lines_begin terms c.args.caller.now c.args.day (λ k. held k state) items ∣₁;
@@ -63,7 +64,8 @@ loop-number-preserved g c =
       numbers = λ s. was.numbers (c.in_ok-line.ensures.reads.sound s);
       so_far = λ s.
           let s1 = c.in_ok-line.ensures.reads.sound s in
-          let seen : (d : Deposit) → held n state ≡ Some d → ∥ IsLineFor terms c.args.caller.now c.args.day n d c.in_ok-line.field-0 ∥₁ = λ d holds.
+          let seen : (d : Deposit) → held n state ≡ Some d
+          → ∥ IsLineFor terms c.args.caller.now c.args.day n d c.in_ok-line.field-0 ∥₁ = λ d holds.
           subst (λ (r : Terms). ∥ IsLineFor r c.args.caller.now c.args.day n d c.in_ok-line.field-0 ∥₁) (terms_same K c.args.policy.now mid c.loop-number.keep false was.reads)
           (c.in_ok-line.ensures.seen s d (ap (held n) (was.reads.same s1 refl) ∙ holds)) in
           let same : put_line c.loop-number.lines.items c.in_ok-line.field-0 ≡ c.match-branch-3.lines.items =
@@ -89,5 +91,7 @@ returns-clause-listed g c = λ s.
     let first = reads_once K keep mid false c.in_ok-numbers.ensures.leaves in
     let lines = c.loop-number.lines.items in
     subst (λ (r : Terms). ∥ IsListing r c.args.caller.now c.args.project.now c.args.day 1 (K.deposits keep) lines ∥₁) (terms_same K c.args.policy.now keep mid false first)
-    (subst (λ (l : List Deposit). ∥ IsListing (terms_at K c.args.policy.now mid) c.args.caller.now c.args.project.now c.args.day 1 l lines ∥₁) (first.same (was.reads.sound s) refl)
+    (subst (λ (l : List Deposit).
+    ∥ IsListing (terms_at K c.args.policy.now mid) c.args.caller.now c.args.project.now c.args.day 1 l lines ∥₁)
+    (first.same (was.reads.sound s) refl)
     (lines_whole (terms_at K c.args.policy.now mid) c.args.caller.now c.args.project.now c.args.day (K.deposits mid) c.deref-number-items.result.now c.loop-number.number-index lines c.loop-number-test.false (was.numbers s) (was.so_far s)))
