@@ -3,15 +3,20 @@
 
 usage: bad_registers.py PROGRAM [COUNT [SEED [FIRST]]]     the last line is 'N passed, M failed'
 
-The program makes registers. Copies of them are changed by hand in each way that the definition of a register names, and COUNT times at random: bytes of
-the file or of its log, a block, the length, a row, a cell. What the tables then hold is read by Python's sqlite3 and held against the definition, spelled
+The program makes registers, and registers of format 1 are made of those. Copies of them are changed by hand in each
+way that the definition of a register names, and COUNT times at random: bytes of the file or of its log, a block, the
+length, a row, a cell. What the tables then hold is read by Python's sqlite3 and held against the definition, spelled
 out below (`held_by`), and the program has to answer:
 - where a row or a cell was changed: `not a register` or `register version N` as the definition has it, `store failed` in the place of `not a register`,
   or the listing and the extracts that the machine of machine.py gives for the deposits that the tables hold;
 - where the tables themselves, or bytes, were changed: one of these three faults, or those listings and extracts; where sqlite3 cannot read the file, a
   fault, or the listing and the extracts from before the change.
+Of a register of format 1 `migrate` has to answer so: one of these faults, or `migrated`, and then the register has the
+listing and the extracts, with no deposit withdrawn. Before that its listing is refused. Where `migrate` said a fault,
+each table and each row is as it was.
 No start may end by a signal, 101, 134 or 139, or not within a minute. `bad_registers.py PROGRAM 1 SEED 17` does random change 17 alone."""
 import collections
+import contextlib
 import os
 import random
 import re
@@ -33,11 +38,15 @@ NOT_ONE, FAILED = "not a register", "store failed"
 DAY = "2024-06-01"
 ASKING = ["--policy=policy", "--callers=callers", "--project=N1", "--day=" + DAY]
 REQUESTS = [f"GET /v1/projects/N1/deposits/{n} HTTP/1.1\r\nAuthorization: Bearer {token}\r\n\r\n".encode() for n in (1, 2, 3, 4) for token in ("t-echo", "t-delta")]
-COLUMNS = {"meta": [("name", "text"), ("num", "integer"), ("body", "blob")],
+FORMAT_1 = {"meta": [("name", "text"), ("num", "integer"), ("body", "blob")],
            "deposits": [("number", "integer"), ("firm", "text"), ("project", "text"), ("embargo", "integer"), ("body", "blob")],
            "lines": [("deposit", "integer"), ("seq", "integer"), ("grp", "text"), ("kind", "integer"), ("line", "blob")],
            "steps": [("deposit", "integer"), ("child", "integer"), ("target", "integer")]}
+COLUMNS = {**FORMAT_1, "withdrawals": [("deposit", "integer")]}
+FORMATS = {1: FORMAT_1, 2: COLUMNS}
 KINDS = [b"GROUP", b"HEADING", b"UNIT", b"TYPE", b"DATA"]
+# The registers that are changed; those of format 1 are named for those that they are made of.
+NAMES = ["empty", "one", "three", "marked", "old-empty", "old-one", "old-three"]
 NUMBERS = [-1, 0, 1, 2, 3, 4, 5, 7, 99, 999999, 1000000, 2932896, 2932897, 2**31, 2**32 + 1, 2**63 - 1, -2**63]
 TEXTS = ["", "N1", "N 1", "Delta", "Echo", "x" * 32, "x" * 33, "é", "a\x00b", "LOCA", "SAMP", "loca", "format", "dictionary"]
 
@@ -48,9 +57,8 @@ class Unreadable(Exception):
 
 # ---- what the definition says of the tables
 
-def rows_of(connection, table):
+def rows_of(connection, table, columns):
     """The rows of a table by their rowid; each value has its column's type."""
-    columns = COLUMNS[table]
     kinds = ", ".join(f"typeof({name})" for name, _ in columns)
     rows = connection.execute(f"SELECT {kinds}, {', '.join(name for name, _ in columns)} FROM {table} NOT INDEXED ORDER BY rowid").fetchall()
     width = len(columns)
@@ -94,13 +102,21 @@ def is_name(text):
     return re.fullmatch(rb"[A-Za-z0-9_-]{1,32}", text) is not None
 
 
-def held_by(tables, lists):
-    """The fault of opening these rows, or the dictionary's entries with the list of deposits."""
-    for row in tables["meta"]:
-        if row and row[0] == b"format" and row[1] != 1:
-            return f"register version {row[1]}"
+def version_in(tables):
+    """The number in the row `format` of meta, where such a row can be read."""
+    return next((row[1] for row in tables["meta"] if row and row[0] == b"format"), None)
+
+
+def held_by(tables, lists, number):
+    """The fault of taking these rows as a register of that format, or the dictionary's entries with the deposits."""
+    if version_in(tables) not in (None, number):
+        return f"register version {version_in(tables)}"
     meta = {row[0]: row[1:] for row in tables["meta"] if row}
-    if any(None in rows for rows in tables.values()) or set(meta) != {b"format", b"dictionary"} or len(tables["meta"]) != 2 or meta[b"format"] != (1, b"") or meta[b"dictionary"][0] != 0:
+    if any(None in rows for rows in tables.values()):
+        return NOT_ONE
+    if len(tables["meta"]) != 2 or set(meta) != {b"format", b"dictionary"}:
+        return NOT_ONE
+    if meta[b"format"] != (number, b"") or meta[b"dictionary"][0] != 0:
         return NOT_ONE
     text = meta[b"dictionary"][1]
     entries = lists.entries(text) if len(text) <= DICTIONARY_LIMIT else None
@@ -115,29 +131,53 @@ def held_by(tables, lists):
         listed = lists.of(entries, body)
         if listed is None or sorted(row[1:] for row in tables["lines"] if row[0] == number) != listed[0] or sorted(row[1:] for row in tables["steps"] if row[0] == number) != listed[1]:
             return NOT_ONE
-    known = {row[0] for row in deposits}
-    if any(row[0] not in known for row in tables["lines"] + tables["steps"]):
+    known, withdrawn = {row[0] for row in deposits}, {row[0] for row in tables.get("withdrawals", [])}
+    if not withdrawn <= known or any(row[0] not in known for row in tables["lines"] + tables["steps"]):
         return NOT_ONE
-    return entries, [{"firm": row[1].decode(), "project": row[2].decode(), "embargo": day_text(row[3]), "bytes": row[4]} for row in deposits]
+    sent = [(row[0], machine.unmarked(row[1].decode(), row[2].decode(), day_text(row[3]), row[4])) for row in deposits]
+    return entries, [{**deposit, "withdrawn": number in withdrawn} for number, deposit in sent]
 
 
 def day_text(number):
     return str(machine.datetime.date(1970, 1, 1) + machine.datetime.timedelta(number))
 
 
-def tables_in(path, schema):
-    """The rows of the tables in a file, and whether the tables are defined as in a register. The file is opened, and so may be changed."""
+@contextlib.contextmanager
+def reading(path):
+    """A connection to a file, which is opened, and so may be changed."""
     connection = None
     try:
         connection = sqlite3.connect(path)
         connection.text_factory = bytes
-        is_same = connection.execute("SELECT type, name, tbl_name, sql FROM sqlite_master ORDER BY rowid").fetchall() == schema
-        return {table: rows_of(connection, table) for table in COLUMNS}, is_same
+        yield connection
     except (sqlite3.Error, OverflowError, UnicodeDecodeError) as fault:  # the last where an error's own text is no UTF-8
         raise Unreadable(str(fault)) from None
     finally:
         if connection:
             connection.close()
+
+
+def schema_in(connection):
+    return connection.execute("SELECT type, name, tbl_name, sql FROM sqlite_master ORDER BY rowid").fetchall()
+
+
+def tables_in(path, schema, formats):
+    """The rows of a format's tables in a file, and whether its tables are defined so."""
+    with reading(path) as connection:
+        is_same = schema_in(connection) == schema
+        return {table: rows_of(connection, table, columns) for table, columns in formats.items()}, is_same
+
+
+def all_in(path):
+    """What a file holds as sqlite3 reads it, or nothing: its tables, and the rows of each."""
+    try:
+        with reading(path) as connection:
+            schema = schema_in(connection)
+            names = [name.decode() for kind, name, *_ in schema if kind == b"table"]
+            rows = {name: connection.execute(f"SELECT * FROM {name} NOT INDEXED").fetchall() for name in names}
+            return schema, {name: sorted(items, key=repr) for name, items in rows.items()}
+    except Unreadable:
+        return None
 
 
 # ---- the program's answers
@@ -148,7 +188,8 @@ class Place:
     def __init__(self, program, folder):
         self.program, self.folder, self.lists, self.counts = program, folder, Lists(), collections.Counter()
         mini = machine.spelled_dictionary(reference.built_in())
-        files = {"mini": mini, "policy": machine.POLICY.encode(), "callers": machine.CALLERS.encode(), "a": machine.FILE_A, "b": machine.FILE_B, "c": machine.file_c(), "other": mini + b" \r\n"}
+        files = {"mini": mini, "policy": machine.WITHDRAWING.encode(), "callers": machine.CALLERS.encode(),
+                 "a": machine.FILE_A, "b": machine.FILE_B, "c": machine.file_c(), "other": mini + b" \r\n"}
         for name, data in files.items():
             self.put(name, data)
         self.computer = machine.Computer()
@@ -156,11 +197,16 @@ class Place:
         self.make("empty", "mini", [])
         self.make("one", "other", [("t-delta", "a")])
         self.make("three", "mini", [("t-delta", "b"), ("t-foxtrot", "c"), ("t-delta", "a")])
-        self.schema = self.schema_of("three")
-        for name in ("empty", "one", "three"):
+        self.make_marked()
+        for name in NAMES:
+            if name.startswith("old-"):
+                bodies.copy_as_format_1(self.folder, name.removeprefix("old-"), name)
             self.copy(name, "whole-" + name)
             self.written("whole-" + name, ["VACUUM"])
-        self.before = {name: self.asked(name) for name in ("empty", "one", "three")}
+        self.schemas = {1: self.schema_of("old-three"), 2: self.schema_of("three")}
+        self.before = {name: self.asked(name) for name in NAMES if not name.startswith("old-")}
+        for name in ("empty", "one", "three"):
+            self.before["old-" + name] = self.before[name]
 
     def path(self, name):
         return os.path.join(self.folder, name)
@@ -181,19 +227,26 @@ class Place:
         given = [(["init", f"--store={name}", f"--dictionary={dictionary}"], b"created\n")]
         given += [(["deposit", f"--store={name}", f"--token={token}", "--embargo=2024-06-01", *ASKING, file], f"receipt {n} 2024-06-01\n".encode()) for n, (token, file) in enumerate(deposits, 1)]
         for words, want in given:
-            if (got := self.run(words)) != (want, b"", 0):
-                sys.exit(f"{words}: {got}")
+            self.right(words, want)
+
+    def make_marked(self):
+        """Makes a register whose first two deposits of three are withdrawn."""
+        self.copy("three", "marked")
+        for token, number in (("t-delta", 1), ("t-foxtrot", 2)):
+            words = ["withdraw", "--store=marked", f"--token={token}", *ASKING, str(number)]
+            self.right(words, f"withdrawn {number}\n".encode())
+
+    def right(self, words, want):
+        if (got := self.run(words)) != (want, b"", 0):
+            sys.exit(f"{words}: {got}")
 
     def copy(self, name, copy):
         bodies.copy_register(self.folder, name, copy)
 
     def schema_of(self, name):
         self.copy(name, "read")
-        connection = sqlite3.connect(self.path("read"))
-        connection.text_factory = bytes
-        schema = connection.execute("SELECT type, name, tbl_name, sql FROM sqlite_master ORDER BY rowid").fetchall()
-        connection.close()
-        return schema
+        with reading(self.path("read")) as connection:
+            return schema_in(connection)
 
     def written(self, name, statements, loosely=False):
         """Writes into a register as another hand does; loosely, where a column may hold what its type forbids. Whether anything was changed."""
@@ -236,33 +289,52 @@ class Place:
         register = machine.Register(held[0])
         register.deposits = held[1]
         self.computer.files["held"] = register
-        rules, callers = machine.read_policy(machine.POLICY), machine.read_callers(machine.CALLERS)
+        rules, callers = machine.read_policy(machine.WITHDRAWING), machine.read_callers(machine.CALLERS)
         replies = [machine.serve(register, rules, callers, DAY, data) for data in REQUESTS]
         return [self.computer.run(["list", "--store=held", "--token=t-delta", *ASKING], ""), *(reply for _, reply in replies), ("".join(f"{status}\n" for status, _ in replies).encode(), b"", 0)]
 
-    def wrong(self, name, template, is_by_rows):
-        """What is wrong with the answers of a changed register, or None."""
+    def read(self, name, number):
+        """What the definition has of a register of that format, whether its tables are defined so, and their rows."""
         self.copy(name, "read")
         try:
-            tables, is_same = tables_in(self.path("read"), self.schema)
-            held = held_by(tables, self.lists)
-        except Unreadable as fault:
-            held, is_same = None, False
+            tables, is_same = tables_in(self.path("read"), self.schemas[number], FORMATS[number])
+            return held_by(tables, self.lists, number), is_same, tables
+        except Unreadable:
             self.counts["sqlite3 reads nothing"] += 1
+            return None, False, None
+
+    def fault_in(self, answer):
+        """The fault that an answer says, or None."""
+        fault = re.fullmatch(rb"groundreg: (not a register|store failed|register version -?[0-9]+)\n", answer[1])
+        return fault and fault[1].decode()
+
+    def wrong_fault(self, answer, said, held, is_strict):
+        """What is wrong with a fault, where the definition has that of a register."""
+        self.counts[said if said in (NOT_ONE, FAILED) else "register version N"] += 1
+        if (answer[0], answer[2]) != (b"", 5 if said == FAILED else 4):
+            return f"status {answer[2]} with {said}"
+        if not is_strict:
+            self.counts["refused, though its tables read as a register"] += isinstance(held, tuple)
+            return None
+        if said == held or (said == FAILED and held == NOT_ONE):
+            return None
+        return f"said {said}, where the definition has {held if isinstance(held, str) else 'a register'}"
+
+    def wrong(self, name, template, is_by_rows):
+        """What is wrong with the answers of a changed register, or None."""
+        if template.startswith("old-"):
+            return self.wrong_of_format_1(name, template, is_by_rows)
+        held, is_same, _ = self.read(name, 2)
         answers = self.asked(name)
-        if any(answer[2] < 0 or answer[2] in hostile.CRASHES for answer in answers if isinstance(answer, tuple)):
+        if is_crash(answers):
             return f"CRASH: {answers}"
-        fault = re.fullmatch(rb"groundreg: (not a register|store failed|register version -?[0-9]+)\n", answers[0][1])
-        if fault:
-            said, status = fault[1].decode(), answers[0][2]
-            self.counts[said if said in (NOT_ONE, FAILED) else "register version N"] += 1
-            if answers[0] != (b"", fault[0], 5 if said == FAILED else 4):
-                return f"status {status} with {said}"
-            if not is_by_rows or not is_same:
-                self.counts["refused, though its tables read as a register"] += isinstance(held, tuple)
-                return None
-            return None if said == held or (said == FAILED and held == NOT_ONE) else f"said {said}, where the definition has {held if isinstance(held, str) else 'a register'}"
+        if said := self.fault_in(answers[0]):
+            return self.wrong_fault(answers[0], said, held, is_by_rows and is_same)
         self.counts["opened"] += 1
+        return self.wrong_answers(answers, held, template)
+
+    def wrong_answers(self, answers, held, template):
+        """What is wrong with the listing and the extracts, where the definition has that of a register."""
         if held is None:
             self.counts["opened, where sqlite3 reads nothing"] += 1
             return None if answers == self.before[template] else f"opened with {answers}, and sqlite3 reads nothing"
@@ -271,35 +343,147 @@ class Place:
         want = self.wanted(held)
         return None if answers == want else f"answers {answers}\n  wanted {want}"
 
+    def wrong_of_format_1(self, name, template, is_by_rows):
+        """The same of a register of format 1, whose listing is refused before it is migrated."""
+        held, is_same, tables = self.read(name, 1)
+        before = all_in(self.path("read"))
+        is_strict = is_by_rows and is_same
+        listed, answer = self.asked(name), self.run(["migrate", f"--store={name}"])
+        if is_crash([*listed, answer]):
+            return f"CRASH: {listed}, {answer}"
+        opened = self.fault_in(listed[0])
+        if not opened:
+            return f"listed before it was migrated: {listed}"
+        version = version_in(tables) if is_strict else None
+        want = NOT_ONE if version in (None, 2) else f"register version {version}"
+        if wrong := self.wrong_fault(listed[0], opened, want, is_strict):
+            return f"before its migration: {wrong}"
+        if said := self.fault_in(answer):
+            wrong = self.wrong_fault(answer, said, held, is_strict)
+            return wrong or self.wrong_rows(name, before, "a refused migration")
+        if answer != (b"migrated\n", b"", 0):
+            return f"migrate: {answer}"
+        self.counts["migrated"] += 1
+        return self.wrong_migrated(name, template, held, before)
+
+    def wrong_rows(self, name, before, what):
+        """Whether anything is changed of what sqlite3 reads in a register."""
+        self.copy(name, "read")
+        after = all_in(self.path("read"))
+        return None if before in (None, after) else f"{what} changed {before} into {after}"
+
+    def wrong_migrated(self, name, template, held, before):
+        """What is wrong with a register that was migrated."""
+        again = self.run(["migrate", f"--store={name}"])
+        if again != (b"", b"groundreg: register version 2\n", 4):
+            return f"migrated again: {again}"
+        if wrong := self.wrong_answers(self.asked(name), held, template):
+            return f"migrated: {wrong}"
+        if before is None:
+            return None
+        schema, rows = before
+        added = [row for row in self.schemas[2] if row not in self.schemas[1]]
+        meta = sorted([(row[0], 2, *row[2:]) if row[0] == b"format" else row for row in rows["meta"]], key=repr)
+        self.copy(name, "read")
+        after, want = all_in(self.path("read")), (sorted(schema + added), {**rows, "meta": meta, "withdrawals": []})
+        return None if after and (sorted(after[0]), after[1]) == want else f"migrated into {after}, wanted {want}"
+
+
+def is_crash(answers):
+    return any(answer[2] < 0 or answer[2] in hostile.CRASHES for answer in answers if isinstance(answer, tuple))
+
 
 # ---- changes by hand
 
-def by_hand(place):
+def changes(place):
     """(what was changed, register, statements, whether columns may hold what their types forbid)"""
+    yield from by_hand(place, COLUMNS)
+    yield from of_withdrawals()
+    for what, name, *rest in by_hand(place, FORMAT_1):
+        yield f"format 1, {what}", "old-" + name, *rest
+    yield "format 1 as it is", "old-three", [], False
+    yield "format 1 with a table of withdrawals", "old-three", [WITHDRAWALS.format(PLAIN) + " STRICT"], False
+
+
+PLAIN, WITHDRAWALS = "deposit INTEGER PRIMARY KEY REFERENCES deposits(number)", "CREATE TABLE withdrawals ({})"
+# Other definitions of the table of withdrawals.
+DEFINED = ["deposit INTEGER PRIMARY KEY", "deposit INTEGER PRIMARY KEY REFERENCES lines(deposit)",
+           "deposit INTEGER REFERENCES deposits(number)", "deposit INT PRIMARY KEY REFERENCES deposits(number)",
+           "deposit INTEGER PRIMARY KEY DESC REFERENCES deposits(number)", "deposit TEXT PRIMARY KEY",
+           "number INTEGER PRIMARY KEY REFERENCES deposits(number)", PLAIN]
+# Each record of the table of withdrawals has a text, a number with a point or nothing where it has no value of its own.
+LOOSE_RECORDS = ["CREATE TEMP TABLE kept AS SELECT sql FROM sqlite_master WHERE name = 'withdrawals'",
+                 "PRAGMA writable_schema = ON",
+                 "UPDATE sqlite_master SET sql = 'CREATE TABLE withdrawals (deposit ANY)' WHERE name = 'withdrawals'",
+                 "PRAGMA writable_schema = RESET", "DELETE FROM withdrawals", "INSERT INTO withdrawals VALUES ({})",
+                 "PRAGMA writable_schema = ON",
+                 "UPDATE sqlite_master SET sql = (SELECT sql FROM kept) WHERE name = 'withdrawals'"]
+
+
+def of_withdrawals():
+    """The same of the table of withdrawals alone, in a register whose first two deposits of three are withdrawn."""
+    def of(what, *statements):
+        return what, "marked", list(statements), False
+    for value in (3, "NULL", *NUMBERS, "'x'", "1.5", "2.0", "'3'", "x'33'"):
+        marking = f"INSERT OR REPLACE INTO withdrawals VALUES ({value})"
+        yield of(f"a withdrawal of {value} more", marking)
+        yield of(f"a withdrawal of {value} alone", "DELETE FROM withdrawals", marking)
+    places = ("deposits WHERE number", "lines WHERE deposit", "steps WHERE deposit")
+    last, two = ([f"DELETE FROM {place} >= {number}" for place in places] for number in (3, 2))
+    yield of("the last deposit taken out whole", *last)
+    yield of("the last two taken out whole, one of them withdrawn", *two)
+    yield of("the same, with its withdrawal", *two, "DELETE FROM withdrawals WHERE deposit = 2")
+    yield of("format 3 with four tables", "UPDATE meta SET num = 3 WHERE name = 'format'", "DROP TABLE withdrawals")
+    yield of("format 1 with four tables, and its steps missing", *bodies.TO_FORMAT_1, "DELETE FROM steps")
+    for text in DEFINED:
+        for end in (" STRICT", "", " STRICT, WITHOUT ROWID"):
+            made = ["DROP TABLE withdrawals", WITHDRAWALS.format(text) + end]
+            yield of(f"withdrawals ({text}){end}", *made)
+            yield of(f"withdrawals ({text}){end}, with a row", *made, "INSERT INTO withdrawals VALUES (1)")
+
+
+def setting_of(table, column, which):
+    """The statement that sets a column of the first or the last row of a table."""
+    return f"UPDATE OR REPLACE {table} SET {column} = ? WHERE rowid = (SELECT {which}(rowid) FROM {table})"
+
+
+def by_hand(place, columns):
+    """The same of the tables with these columns."""
     clean, other = machine.FILE_A.replace(b"North bank", b"South bank"), machine.spelled_dictionary(reference.built_in()[:-5])
-    for table in COLUMNS:
-        yield f"no table {table}", "three", [f"DROP TABLE {table}"], False
-        yield f"no rows in {table}", "three", [f"DELETE FROM {table}"], False
-        yield f"{table} under another name", "three", [f"ALTER TABLE {table} RENAME TO more"], False
-        yield f"{table} with one column more", "three", [f"ALTER TABLE {table} ADD COLUMN more INTEGER"], False
-        yield f"{table}'s last column under another name", "three", [f"ALTER TABLE {table} RENAME COLUMN {COLUMNS[table][-1][0]} TO more"], False
-        names = ", ".join(name for name, _ in COLUMNS[table])
-        yield f"{table} without types", "three", [f"CREATE TABLE more AS SELECT * FROM {table}", f"DROP TABLE {table}", f"ALTER TABLE more RENAME TO {table}"], False
-        yield f"an index on {table}", "three", [f"CREATE INDEX more ON {table} ({names})"], False
-        yield f"a view on {table}", "three", [f"CREATE VIEW more AS SELECT * FROM {table}"], False
-        yield f"a trigger on {table}", "three", [f"CREATE TRIGGER more AFTER INSERT ON {table} BEGIN DELETE FROM steps; END"], False
-        for column, kind in COLUMNS[table]:
+    for table in columns:
+        name = "marked" if table == "withdrawals" else "three"
+        yield f"no table {table}", name, [f"DROP TABLE {table}"], False
+        yield f"no rows in {table}", name, [f"DELETE FROM {table}"], False
+        yield f"{table} under another name", name, [f"ALTER TABLE {table} RENAME TO more"], False
+        yield f"{table} with one column more", name, [f"ALTER TABLE {table} ADD COLUMN more INTEGER"], False
+        renamed = f"ALTER TABLE {table} RENAME COLUMN {columns[table][-1][0]} TO more"
+        yield f"{table}'s last column under another name", name, [renamed], False
+        listed = ", ".join(each for each, _ in columns[table])
+        untyped = [f"CREATE TABLE more AS SELECT * FROM {table}", f"DROP TABLE {table}"]
+        yield f"{table} without types", name, [*untyped, f"ALTER TABLE more RENAME TO {table}"], False
+        yield f"an index on {table}", name, [f"CREATE INDEX more ON {table} ({listed})"], False
+        yield f"a view on {table}", name, [f"CREATE VIEW more AS SELECT * FROM {table}"], False
+        trigger = f"CREATE TRIGGER more AFTER INSERT ON {table} BEGIN DELETE FROM steps; END"
+        yield f"a trigger on {table}", name, [trigger], False
+        for column, kind in columns[table]:
             for value in NUMBERS if kind == "integer" else TEXTS if kind == "text" else [b"", b"x", clean, machine.FILE_A + b" ", b"\xef\xbb\xbf" + machine.FILE_A, machine.FILE_A[:-1], other]:
                 for where in ("min", "max"):
-                    yield f"{where} {column} of {table} set to {value!r:.20}", "three", [(f"UPDATE OR REPLACE {table} SET {column} = ? WHERE rowid = (SELECT {where}(rowid) FROM {table})", value)], False
+                    setting = setting_of(table, column, where)
+                    yield f"{where} {column} of {table} set to {value!r:.20}", name, [(setting, value)], False
             for value in (None, 1, 1.5, "x", b"x"):
-                yield f"{column} of {table} set to {value!r}, against its type", "three", [(f"UPDATE OR REPLACE {table} SET {column} = ? WHERE rowid = (SELECT max(rowid) FROM {table})", value)], True
-        yield f"a row more in {table}, by numbers", "three", [(f"INSERT OR REPLACE INTO {table} SELECT {', '.join(f'{name} + 1' if name in ('number', 'seq', 'child') else name for name, _ in COLUMNS[table])} FROM {table} ORDER BY rowid DESC LIMIT 1",)], False
+                setting = setting_of(table, column, "max")
+                yield f"{column} of {table} set to {value!r}, against its type", name, [(setting, value)], True
+        more = ", ".join(f"{each} + 1" if each in ("number", "seq", "child") else each for each, _ in columns[table])
+        adding = f"INSERT OR REPLACE INTO {table} SELECT {more} FROM {table} ORDER BY rowid DESC LIMIT 1"
+        yield f"a row more in {table}, by numbers", name, [adding], False
     yield "another table", "three", ["CREATE TABLE more (a INTEGER)"], False
-    for number in (0, 2, 7, -1, 2**63 - 1):
+    for number in (0, 1, 2, 3, 7, -1, 2**63 - 1):
         yield f"format {number}", "three", [f"UPDATE meta SET num = {number} WHERE name = 'format'"], False
         yield f"format {number} without other tables", "three", [f"UPDATE meta SET num = {number} WHERE name = 'format'", "DROP TABLE steps", "DROP TABLE lines", "DROP TABLE deposits"], False
         yield f"format {number} and a table more", "three", [f"UPDATE meta SET num = {number} WHERE name = 'format'", "CREATE TABLE more (a INTEGER)"], False
+    for value in (None, "x", "2", b"2", 1.5, 2.0):
+        setting = "UPDATE meta SET num = ? WHERE name = 'format'"
+        yield f"format {value!r}, against its type", "three", [(setting, value)], True
     for name in ("format", "dictionary"):
         yield f"meta without {name}", "three", [f"DELETE FROM meta WHERE name = '{name}'"], False
         yield f"meta with a body of {name} changed", "three", [f"UPDATE meta SET body = x'41' WHERE name = '{name}'"], False
@@ -344,7 +528,11 @@ def files_by_hand(place):
         place.put("bad", file)
         if log is not None:
             place.put("bad-wal", log)
-    for name in ("empty", "one", "three"):
+    for value in ("'x'", "1.5", "NULL", "7"):
+        place.copy("marked", "bad")
+        place.written("bad", [text.format(value) for text in LOOSE_RECORDS])
+        yield f"marked, with a record of {value} for a withdrawal", "marked"
+    for name in ("empty", "one", "three", "marked", "old-three"):
         file, log, whole = place.got(name), place.got(name + "-wal"), place.got("whole-" + name)
         for what, *parts in [("as it is", file, log), ("without its log", file), ("without its file", b"", log), ("with an empty log", file, b""), ("put together", whole), ("put together, with an empty log", whole, b""),
                              ("put together, with its old log", whole, log), ("with a log of zeros", file, bytes(len(log))), ("with a log of text", file, b"no log\n" * 99), ("with more behind its file", file + b"x" * 4096, log),
@@ -363,7 +551,7 @@ def files_by_hand(place):
         for length in range(0, len(whole), max(1, len(whole) // 20)):
             put(whole[:length])
             yield f"{name}, put together, {length} bytes of it", name
-    for log in ("one", "three"):
+    for log in ("one", "three", "old-three"):
         put(place.got("empty"), place.got(log + "-wal"))
         yield f"empty, with the log of {log}", "empty"
 
@@ -372,7 +560,7 @@ def files_by_hand(place):
 
 def at_random(chance, place):
     """A changed copy under the name `bad`: what was changed, of which register, and whether it was a row or a cell. None where sqlite3 took no change."""
-    name = chance.choice(["one", "three", "three"])
+    name = chance.choice(["one", "three", "three", "marked", "marked", "old-one", "old-three", "old-three"])
     if chance.random() < 0.5:
         template, part = (name, chance.choice(["", "-wal"])) if chance.random() < 0.6 else ("whole-" + name, "")
         place.copy(template, "bad")
@@ -394,7 +582,8 @@ def at_random(chance, place):
         place.put("bad" + part, bytes(data))
         return f"kind {kind} at {at} of {template}{part}", name, False
     place.copy(name, "bad")
-    table = chance.choice(["meta", "deposits", "lines", "lines", "steps", "steps"])
+    withdrawals = ["withdrawals"] * 3 if name == "marked" else []
+    table = chance.choice(["meta", "deposits", "lines", "lines", "steps", "steps", *withdrawals])
     column, kind = chance.choice(COLUMNS[table])
     where = f"rowid = (SELECT rowid FROM {table} ORDER BY rowid LIMIT 1 OFFSET {chance.randrange(99)} % (SELECT count(*) FROM {table}))"
     loosely = chance.random() < 0.2
@@ -420,7 +609,7 @@ def at_random(chance, place):
 def cases(place, seed, numbers):
     """(what was changed, of which register, whether it was a row or a cell), each change made under the name `bad`"""
     if numbers[0] == 1:
-        for what, name, statements, loosely in by_hand(place):
+        for what, name, statements, loosely in changes(place):
             place.copy(name, "bad")
             try:
                 place.written("bad", statements, loosely)

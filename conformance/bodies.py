@@ -12,6 +12,7 @@ import os
 import random
 import shutil
 import socket
+import sqlite3
 import subprocess
 import sys
 import tempfile
@@ -83,8 +84,11 @@ def clean_body(chance):
 def policy(chance):
     """The text of a policy that mostly lets requests through and hides some rows."""
     rules = ['verb = "deposit"\nrole = "contractor"', 'verb = "check"', 'verb = "list"', 'verb = "extract"']
+    if chance.random() < 0.6:
+        rules.append('verb = "withdraw"' + chance.choice(["", '\nrole = "contractor"']))
     if chance.random() < 0.2:
-        rules.insert(0, f'verb = "{chance.choice(["deposit", "list", "extract"])}"\nfirm = "{chance.choice(FIRMS)}"')
+        verb = chance.choice(["deposit", "list", "extract", "withdraw"])
+        rules.insert(0, f'verb = "{verb}"\nfirm = "{chance.choice(FIRMS)}"')
     sights = ['owner = "own"', 'embargo = "running"', f'group = "LOCA"\nheading = "LOCA_STAT"\nvalue = "{chance.choice(STATES)}"',
               f'group = "SAMP"\nheading = "SAMP_REF"\nvalue = "S{chance.randrange(5)}"', f'group = "{chance.choice(["FILE", "LNMC", "SAMP", "PROJ"])}"',
               f'firm = "{chance.choice(FIRMS)}"\nproject = "N1"', 'owner = "other"\nembargo = "past"\nheading = "LOCA_ID"\nvalue = "BH2"']
@@ -132,7 +136,7 @@ def hidden_changed(chance, file, shown):
 
 def held(text, deposit):
     register = machine.Register()
-    register.deposits.append({**deposit, "bytes": text})
+    register.deposits.append(machine.unmarked(data=text, **deposit))
     return register
 
 
@@ -201,6 +205,22 @@ def copy_register(folder, name, copy):
             os.remove(here)
         if os.path.exists(there):
             shutil.copy(there, here)
+
+
+# What makes a register of format 1 of one of format 2.
+TO_FORMAT_1 = ["DROP TABLE withdrawals", "UPDATE meta SET num = 1 WHERE name = 'format'"]
+
+
+def copy_as_format_1(folder, name, copy):
+    """Copies a register as one of format 1. Its log has a page that was written last."""
+    copy_register(folder, name, "work")
+    setting = "UPDATE meta SET num = {} WHERE name = 'format'".format
+    for statements in (TO_FORMAT_1, ["BEGIN", setting(0), setting(1), "COMMIT"]):
+        connection = sqlite3.connect(os.path.join(folder, "work"), isolation_level=None)
+        for statement in statements:
+            connection.execute(statement)
+        copy_register(folder, "work", copy)  # before the connection ends, which puts the log into the file
+        connection.close()
 
 
 def answer_in(reply):

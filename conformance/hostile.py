@@ -39,7 +39,8 @@ TOKENS = re.compile(rb'"[^"\r\n]*"|[A-Za-z0-9_.%-]+')
 ODD_BYTES = b'\x00\x01\t\n\r "\'\\,:;=[]{}#/?&%+-_|0aA~\x7f\x80\xbf\xc3\xff'
 
 TOML_WORDS = rb"""rule caller number effect firm role project verb group owner embargo heading value token "permit" "deny" "*" "see" "list" "extract" "check"
-"deposit" "own" "other" "past" "running" "Delta" "Echo" "LOCA" "SAMP" "LOCA_STAT" "PRELIM" "S1" "N1" "contractor" "consultant" "t-delta" "t-echo" '' ''' [[rule]] [rule]
+"deposit" "withdraw" "own" "other" "past" "running" "Delta" "Echo" "LOCA" "SAMP" "LOCA_STAT" "PRELIM" "S1" "N1"
+"contractor" "consultant" "t-delta" "t-echo" '' ''' [[rule]] [rule]
 [[caller]] [rule.x] [[rule.x]] [[ ]] [ ] { } {} = , . # 1 0 -1 9999 10000 0x10 0o17 0b1 1_0 +7 007 1e3 1.5 inf nan true false 2024-06-01 2024-06-01T10:00:00Z 10:00:00
 9223372036854775807 9223372036854775808 "\u0041" "\U00110000" "\ud800" "\x41" "\e" "\q" \" rule.x "rule" 'number' """.split() + [b'"""', b'"a\tb"', b"\r\n", b"\n", b"\xef\xbb\xbf", b'"' + b"x" * 33 + b'"', b" = "]
 AGS_WORDS = [*compare.WORDS, *rb"""GROUP HEADING UNIT TYPE DATA PROJ TRAN ABBR DICT FILE LNMC "KEY+REQUIRED" "REQUIRED" "OTHER" "DICT_TYPE" "DICT_GRP" "DICT_HDNG" "DICT_STAT" "DICT_PGRP" "PROJ_ID"
@@ -153,7 +154,9 @@ class Side:
         self.program, self.folder, self.computer = program, folder, machine.Computer()
         self.counts = collections.Counter()
         mini = machine.spelled_dictionary(reference.built_in())
-        for name, data in (("mini", mini), ("policy", machine.POLICY.encode()), ("callers", machine.CALLERS.encode()), ("a", machine.FILE_A), ("b", machine.FILE_B), ("c", machine.file_c())):
+        files = {"mini": mini, "policy": machine.WITHDRAWING.encode(), "callers": machine.CALLERS.encode(),
+                 "a": machine.FILE_A, "b": machine.FILE_B, "c": machine.file_c()}
+        for name, data in files.items():
             self.put(name, data)
         self.same(["init", "--store=first", "--dictionary=mini"])
         for token, file in (("t-delta", "b"), ("t-foxtrot", "c"), ("t-delta", "a")):
@@ -210,13 +213,13 @@ def said(answer):
 
 def start_of_line(chance, side, files):
     """The words of a request by words over a fresh copy of the register, or over the register where nothing is deposited."""
-    command = chance.choice(["list", "extract", "extract", "deposit"])
+    command = chance.choice(["list", "extract", "extract", "deposit", "withdraw"])
     store = "first"
-    if command == "deposit":
+    if command in ("deposit", "withdraw"):
         side.fresh("store")
         store = "store"
     words = [command, f"--store={store}", "--project=" + chance.choice(["N1", "N1", "N1", "N2"]), "--day=" + chance.choice(DAYS), *(f"--{name}={file}" for name, file in files.items())]
-    return words + {"list": [], "deposit": [chance.choice("abc")], "extract": [chance.choice("1234")]}[command]
+    return words + {"list": [], "deposit": [chance.choice("abc")]}.get(command, [chance.choice("1234")])
 
 
 def file_turn(chance, side, names):
@@ -229,7 +232,8 @@ def file_turn(chance, side, names):
 
 
 def policy_turn(chance, side, names):
-    base = chance.choice([machine.POLICY, bodies.policy(chance), stories.any_policy(chance) or "\n", chance.choice(POLICIES)])
+    base = chance.choice([machine.POLICY, machine.WITHDRAWING, bodies.policy(chance),
+                          stories.any_policy(chance) or "\n", chance.choice(POLICIES)])
     side.put("p", changed(chance, base.encode(), TOML_WORDS))
     words = start_of_line(chance, side, {"policy": "p", "callers": "callers"})
     return side.same([*words, "--token=" + chance.choice(["t-delta", "t-echo", "t-foxtrot", "t-gamma"])], texts=["p"])
@@ -295,7 +299,7 @@ def answered(chance, port, data):
 def session(side, given, chance):
     """Compares the connections of one start of `serve`; how many were right before the first that was not, and that one."""
     register = side.fresh("served")
-    rules, callers = machine.read_policy(machine.POLICY), machine.read_callers(machine.CALLERS)
+    rules, callers = machine.read_policy(machine.WITHDRAWING), machine.read_callers(machine.CALLERS)
     port = bodies.free_port()
     words = ["serve", "--store=served", "--policy=policy", "--callers=callers", f"--port={port}", f"--connections={len(given)}", "--day=2024-06-01"]
     process = subprocess.Popen([side.program, *words], cwd=side.folder, stdin=subprocess.DEVNULL, stdout=subprocess.PIPE, stderr=subprocess.PIPE)

@@ -41,7 +41,7 @@ class Place(servers.Place):
     """A folder in which the program is started, and what took how long there."""
 
     def __init__(self, program, folder):
-        super().__init__(program, folder)
+        super().__init__(program, folder, machine.WITHDRAWING)
         self.slow = []
         self.start("init", ["init", "--store=register", "--dictionary=mini"], (b"created\n", b"", 0))
 
@@ -172,6 +172,9 @@ def words(place):
         ("an option a thousand times", ["--project=N1", "1", *["--groups=LOCA"] * 1000], NO_WORDS), ("10,000 numbers", ["--project=N1", *["1"] * 10000], NO_WORDS), ("an unknown option of 130,000", ["--project=N1", "1", "--" + "x" * 130000], NO_WORDS),
     ]:
         place.start(name, [*asking, *more], want)
+    unknown = (b"unknown\n", b"", 3)
+    for number, want in (("999999", unknown), ("1000000", refused("number")), ("1" * 130000, refused("number"))):
+        place.start(f"a withdrawal of {number:.20}", ["withdraw", *asking[1:], "--project=N1", number], want)
     for day, want in (("1970-01-01", text), ("9999-12-31", text), ("1969-12-31", refused("day")), ("10000-01-01", refused("day")), ("0" * 130000, refused("day"))):
         place.start(f"day {day:.20}", [*asking[:-1], "--project=N1", "--day=" + day, "1"], want)
 
@@ -224,6 +227,13 @@ def heads(place):
     yield "a length of 9,999,999,999", head(check, [b"Content-Length: 9999999999"], b"POST"), *refusal(413, "too large")
     yield "a length of eleven digits", head(check, [b"Content-Length: 00000000001"], b"POST"), *refusal(400, "bad length")
     yield "a body one byte short", head(check, [b"Content-Length: %d" % LIMIT], b"POST") + filled(machine.FILE_A, LIMIT - 1), *refusal(400, "short body")
+    for name, number, fields, more, want in [
+        ("4 MB behind it", b"999999", [b"Content-Length: %d" % LIMIT], b"x" * LIMIT, refusal(404, "unknown")),
+        ("a length of 9,999,999,999", b"999999", [b"Content-Length: 9999999999"], b"", refusal(404, "unknown")),
+        ("a number of seven digits", b"1000000", [], b"", refusal(400, "bad parameter")),
+        ("2,500 percent signs", b"1?" + b"%41" * 2500, [], b"", refusal(400, "bad parameter")),
+    ]:
+        yield f"a withdrawal with {name}", head(b"/v1/projects/N1/deposits/" + number, fields, b"DELETE") + more, *want
     yield "a body with 4 MB behind it", head(check, [b"Content-Length: 543"], b"POST") + filled(machine.FILE_A, LIMIT), *clean
 
 
@@ -295,11 +305,12 @@ def peers(place, seconds):
 
 def thousand(place):
     """A thousand connections one after the other."""
-    rules, by = machine.read_policy(machine.POLICY), machine.read_callers(machine.CALLERS)
+    rules, by = machine.read_policy(machine.WITHDRAWING), machine.read_callers(machine.CALLERS)
     register = machine.Register()
     register.deposit(rules, by["t-delta"], "N1", DAY, filled(machine.FILE_A, LIMIT))
     post = head(b"/v1/projects/N1/deposits", [b"Content-Length: 1048"], b"POST") + machine.FILE_B
     asked = [LISTING, head(b"/v1/projects/N1/deposits/1", []), post, head(b"/v1/projects/N1/deposits/2?groups=LOCA", []), post[:700], b"GET", b"", head(b"/v1/x", []), head(b"/v1/projects/N1/check", [b"Content-Length: 2"], b"POST") + b"x\n", padded(8193)]
+    asked.append(head(b"/v1/projects/N1/deposits/2", [], b"DELETE"))
     server, begun = Server(place, 1000), time.monotonic()
     memory = [server.memory()]
     for n in range(1000):

@@ -1,9 +1,10 @@
 #!/usr/bin/env python3
 """The register as a machine, written apart from the product and straight from its definitions: slow, plain, nothing kept twice.
 
-It has the policy and the callers, what a caller may see of a file, the extract, the four requests with the state that each leaves,
-a request as it is read from the bytes of a connection with the bytes of its reply, and the command line. Findings are those of
-reference.py. It proves nothing; it is here so that the product's answers are computed twice.
+It has the policy and the callers, what a caller may see of a file, the extract, the five requests with the state that
+each leaves, a request as it is read from the bytes of a connection with the bytes of its reply, the command line, and
+which formats of a register it takes. Findings are those of reference.py. It proves nothing; it is here so that the
+product's answers are computed twice.
 
 usage: machine.py       tries the worked examples below on itself; the last line is 'N passed, M failed'"""
 import datetime
@@ -21,6 +22,7 @@ import reference
 LIMIT = 4194304
 MOST = 999999
 LAST_DAY = "9999-12-31"
+FORMAT = 2  # of a register that is made; one of format 1 has no marks
 
 
 class Refused(Exception):
@@ -78,7 +80,7 @@ def is_one_of(*words):
     return lambda text: isinstance(text, str) and text in words
 
 
-VERBS = ("deposit", "check", "list", "extract", "see")
+VERBS = ("deposit", "check", "list", "extract", "withdraw", "see")
 RULE_VALUES = {
     "firm": is_name, "role": is_name, "project": is_name, "group": is_group_name,
     "verb": is_one_of(*VERBS),
@@ -242,12 +244,19 @@ def extract_text(file, shown, groups):
 
 # ---- requests and the state
 
+def unmarked(firm, project, embargo, data):
+    """A deposit as it is taken: it is not withdrawn."""
+    return {"firm": firm, "project": project, "embargo": embargo, "bytes": data, "withdrawn": False}
+
+
 class Register:
-    """The deposits that are held, under a dictionary's entries, and at most so many."""
+    """The deposits that are held, each with its mark, under a dictionary's entries, and at most so many.
+    In a register of format 1 no deposit is marked."""
 
     def __init__(self, standard=None, most=MOST):
         self.standard = reference.built_in() if standard is None else standard
         self.most = most
+        self.format = FORMAT
         self.deposits = []
         self.files = {}
 
@@ -280,7 +289,7 @@ class Register:
                 return "receipt", n, held["embargo"]
         if len(self.deposits) == self.most:
             return ("full",)
-        self.deposits.append({"firm": caller["firm"], "project": project, "embargo": embargo, "bytes": data})
+        self.deposits.append(unmarked(caller["firm"], project, embargo, data))
         return "receipt", len(self.deposits), embargo
 
     def check(self, rules, caller, project, data):
@@ -293,8 +302,9 @@ class Register:
         effect, number = decide(rules, caller, project, "list")
         if effect == "deny":
             return "denied", number
-        return "listing", [(n, held["firm"], held["embargo"]) for n, held in enumerate(self.deposits, 1)
-                           if held["project"] == project and self.is_seen(rules, caller, held, day)]
+        of_project = [(n, held) for n, held in enumerate(self.deposits, 1) if held["project"] == project]
+        return "listing", [(n, held["firm"], held["embargo"]) for n, held in of_project
+                           if not held["withdrawn"] and self.is_seen(rules, caller, held, day)]
 
     def extract(self, rules, caller, project, number, groups, day):
         effect, rule = decide(rules, caller, project, "extract")
@@ -303,10 +313,22 @@ class Register:
         if not 1 <= number <= len(self.deposits) or self.deposits[number - 1]["project"] != project:
             return ("unknown",)
         held = self.deposits[number - 1]
-        if not self.is_seen(rules, caller, held, day):
+        if held["withdrawn"] or not self.is_seen(rules, caller, held, day):
             return ("unknown",)
         file = self.file_of(held["bytes"])
         return "text", extract_text(file, shown_rows(rules, caller, held, day, file), groups)
+
+    def withdraw(self, rules, caller, project, number):
+        effect, rule = decide(rules, caller, project, "withdraw")
+        if effect == "deny":
+            return "denied", rule
+        if not 1 <= number <= len(self.deposits):
+            return ("unknown",)
+        held = self.deposits[number - 1]
+        if held["project"] != project or held["firm"] != caller["firm"]:
+            return ("unknown",)
+        self.deposits[number - 1] = {**held, "withdrawn": True}
+        return "withdrawn", number
 
 
 # ---- a connection
@@ -380,6 +402,8 @@ def reply(answer):
         return as_json(200, {"number": answer[1], "embargo": answer[2]})
     if kind == "clean":
         return as_json(200, {"clean": True})
+    if kind == "withdrawn":
+        return as_json(200, {"withdrawn": answer[1]})
     if kind == "listing":
         return as_json(200, {"deposits": [{"number": n, "firm": firm, "embargo": embargo} for n, firm, embargo in answer[1]]})
     if kind == "text":
@@ -407,7 +431,8 @@ def serve(register, rules, callers, day, data):
         return error(404, "no route")
     project, page, number = route[1].decode(), route[2].partition(b"/")[0].decode(), route[3]
     kind = {("check", b"POST", False): "check", ("deposits", b"POST", False): "deposit", ("deposits", b"GET", False): "list",
-            ("deposits", b"GET", True): "extract"}.get((page, method, number is not None))
+            ("deposits", b"GET", True): "extract", ("deposits", b"DELETE", True): "withdraw",
+            }.get((page, method, number is not None))
     if kind is None:
         return error(405, "method")
     given = values(fields, b"authorization")
@@ -442,6 +467,8 @@ def serve(register, rules, callers, day, data):
         return reply(register.deposit(rules, caller, project, value or day, body))
     if kind == "list":
         return reply(register.list(rules, caller, project, day))
+    if kind == "withdraw":
+        return reply(register.withdraw(rules, caller, project, number_in(number.decode())))
     return reply(register.extract(rules, caller, project, number_in(number.decode()), groups, day))
 
 
@@ -461,14 +488,22 @@ def logged(callers, data, status, text):
 
 OPTIONS = {"init": "store dictionary", "check": "dictionary", "deposit": "store policy callers token project day embargo",
            "extract": "store policy callers token project day groups", "list": "store policy callers token project day",
+           "withdraw": "store policy callers token project day", "migrate": "store",
            "serve": "store policy callers port connections day day-by-clock patience end-on-failure log"}
 FLAGS = {"day-by-clock", "end-on-failure"}
 MAY_LACK = {"day", "embargo", "groups", "patience", "log", *FLAGS}
-PLACES = {"init": 0, "check": 1, "deposit": 1, "extract": 1, "list": 0, "serve": 0}
+PLACES = {"init": 0, "check": 1, "deposit": 1, "extract": 1, "list": 0, "withdraw": 1, "migrate": 0, "serve": 0}
 
 
 class Fault(Exception):
     """What ends a run before its answer: the text behind `groundreg: ` and the status."""
+
+
+class Damaged:
+    """A database that is no register, with the number that its row `format` has, or None where there is no such row."""
+
+    def __init__(self, number=None):
+        self.format = number
 
 
 def ended_by(fault):
@@ -510,6 +545,8 @@ def printed(answer):
     kind = answer[0]
     if kind == "receipt":
         return f"receipt {answer[1]} {answer[2]}\n".encode(), 0
+    if kind == "withdrawn":
+        return f"withdrawn {answer[1]}\n".encode(), 0
     if kind == "listing":
         return "".join(f"{n} {firm} {embargo}\n" for n, firm, embargo in answer[1]).encode(), 0
     if kind == "text":
@@ -522,7 +559,7 @@ def printed(answer):
 
 
 class Computer:
-    """What stands at each path (bytes, a Register, a Fault that opening it as a register gives, or nothing), the folders that are there,
+    """What stands at each path (bytes, a Register, what is Damaged, or nothing), the folders that are there,
     and what each run of the program makes of them."""
 
     def __init__(self, folders=("",)):
@@ -553,12 +590,14 @@ class Computer:
         """Whether a database may be opened there: the path is no folder and stands in one."""
         return os.path.basename(path) != "" and path not in self.folders and os.path.dirname(path) in self.folders
 
-    def store(self, path):
+    def store(self, path, number=FORMAT):
+        """The register at a path, of the format that a command takes: 1 by `migrate`, 2 by the others."""
         found = self.files.get(path)
-        if isinstance(found, Fault):
-            raise found
+        if isinstance(found, (Register, Damaged)) and found.format not in (None, number):
+            raise Fault(f"register version {found.format}", 4)
         if not isinstance(found, Register):
-            raise Fault("store failed", 5) if found or not self.can_open(path) else Fault("not a register", 4)
+            is_read = not found or isinstance(found, Damaged)
+            raise Fault("not a register", 4) if is_read and self.can_open(path) else Fault("store failed", 5)
         return found
 
     def run(self, words, today, standard_input=b""):
@@ -603,11 +642,15 @@ class Computer:
             standard = self.dictionary(options["dictionary"])
             found = self.files.get(options["store"])
             if found or not self.can_open(options["store"]):
-                raise Fault("store failed", 5) if isinstance(found, bytes) or not found else Fault("store not empty", 4)
+                is_database = isinstance(found, (Register, Damaged))
+                raise Fault("store not empty", 4) if is_database else Fault("store failed", 5)
             self.files[options["store"]] = Register(standard)
             return b"created\n", 0
         if command == "check":
             return self.check(None, (options["dictionary"], places[0]))
+        if command == "migrate":
+            self.store(options["store"], 1).format = FORMAT
+            return b"migrated\n", 0
         rules = self.text(options["policy"], "policy", read_policy)
         callers = self.text(options["callers"], "callers", read_callers)
         if options["token"] not in callers:
@@ -618,10 +661,11 @@ class Computer:
         embargo = day_of(options.get("embargo", day or ""))
         if day is None or embargo is None:
             raise Fault("day refused", 4)
-        groups, number = groups_in(options.get("groups", "")), number_in(places[0]) if command == "extract" else None
+        has_number = command in ("extract", "withdraw")
+        groups, number = groups_in(options.get("groups", "")), number_in(places[0]) if has_number else None
         if groups is None:
             raise Fault("groups refused", 4)
-        if command == "extract" and number is None:
+        if has_number and number is None:
             raise Fault("number refused", 4)
         body = self.read(places[0]) if command == "deposit" else None
         register, caller, project = self.store(options["store"]), callers[options["token"]], options["project"]
@@ -629,6 +673,8 @@ class Computer:
             return printed(register.deposit(rules, caller, project, embargo, body))
         if command == "list":
             return printed(register.list(rules, caller, project, day))
+        if command == "withdraw":
+            return printed(register.withdraw(rules, caller, project, number))
         return printed(register.extract(rules, caller, project, number, groups, day))
 
     def check(self, data, places):
@@ -804,6 +850,17 @@ number = 80
 effect = "permit"
 verb = "see"
 """
+# the same, and contractors may withdraw
+WITHDRAWING = POLICY.replace("""[[rule]]
+number = 50
+""", """[[rule]]
+number = 45
+effect = "permit"
+verb = "withdraw"
+role = "contractor"
+[[rule]]
+number = 50
+""")
 CALLERS = "".join(f'[[caller]]\ntoken = "t-{firm.lower()}"\nfirm = "{firm}"\nrole = "{role}"\n' for firm, role in
                   (("Delta", "contractor"), ("Gamma", "contractor"), ("Foxtrot", "contractor"), ("Echo", "consultant")))
 
@@ -881,11 +938,15 @@ def examples():
            len(register.extract(rules, echo, "N1", 1, [b"NONE"], june)[1])]
     yield "a run", run, ["clean", "findings", "receipt", "listing", "unknown", [], 466]
 
+    yield from withdrawals(rules, by)
+
     q = POLICY
     for name, text, want in [
         ("20 then 10", q.replace("number = 5\n", "number = 90\n"), "Order"), ("no effect", '[[rule]]\nnumber = 1\n', "BadValue"),
         ("colour", '[[rule]]\nnumber = 0\neffect = "permit"\n[[rule]]\ncolour = 1\n', "UnknownKey"), ("not closed", "[[rule", "Syntax"), ("empty", "", "read"),
         ("one table", "[rule]\ncolour = 1\n", "BadValue"), ("a number", "rule = 3", "BadValue"), ("inline", 'rule = [{number = 1, effect = "permit"}]', "read"),
+        ("the verb withdraw", '[[rule]]\nnumber = 1\neffect = "deny"\nverb = "withdraw"\n', "read"),
+        ("another verb", '[[rule]]\nnumber = 1\neffect = "deny"\nverb = "withdrawn"\n', "BadValue"),
     ]:
         yield f"policy: {name}", refusal(read_policy, text), want
     twice = CALLERS.replace("t-gamma", "t-delta")
@@ -929,9 +990,64 @@ def examples():
     ]:
         got = ask(register, data)
         yield f"connection: {name}", got, want
+    yield from deletions(by)
     status, text = serve(Register(), rules, by, "2024-05-01", head(post, "t-delta", size.format(543)) + FILE_A)
     yield "a whole reply", text, (b'HTTP/1.1 200 OK\r\nContent-Type: application/json\r\nContent-Length: 35\r\nConnection: close\r\n\r\n'
                                   b'{"embargo":"2024-06-01","number":1}')
+
+
+def withdrawals(q, by):
+    """Two firms have sent A, and one of them withdraws its deposit; q is the policy under which nobody may."""
+    delta, foxtrot, echo = (by["t-" + firm] for firm in ("delta", "foxtrot", "echo"))
+    rules, register, june = read_policy(WITHDRAWING), Register(), "2024-06-01"
+    for number, firm in enumerate((delta, foxtrot), 1):
+        yield f"deposit {number}", register.deposit(rules, firm, "N1", june, FILE_A), ("receipt", number, june)
+    for name, caller, project, number, want in [
+        ("by Echo", echo, "N1", 1, ("denied", 0)), ("by Foxtrot", foxtrot, "N1", 1, ("unknown",)),
+        ("of number 9", delta, "N1", 9, ("unknown",)), ("of another project", delta, "N2", 1, ("unknown",)),
+        ("by Delta", delta, "N1", 1, ("withdrawn", 1)), ("again", delta, "N1", 1, ("withdrawn", 1)),
+    ]:
+        yield f"a withdrawal {name}", register.withdraw(rules, caller, project, number), want
+    yield "the marks", [held["withdrawn"] for held in register.deposits], [True, False]
+    yield "an extract of it", register.extract(rules, delta, "N1", 1, [], june), ("unknown",)
+    yield "the listing after it", register.list(rules, delta, "N1", june), ("listing", [(2, "Foxtrot", june)])
+    yield "the same file again", register.deposit(rules, delta, "N1", "2030-01-01", FILE_A), ("receipt", 1, june)
+    yield "the listing after that", register.list(rules, delta, "N1", june), ("listing", [(2, "Foxtrot", june)])
+    yield "an extract of the other", register.extract(rules, echo, "N1", 2, [], june), ("text", FILE_A)
+    yield "under a policy without such a rule", register.withdraw(q, delta, "N1", 1), ("denied", 0)
+    small = Register(most=1)
+    small.deposit(rules, delta, "N1", june, FILE_A)
+    small.withdraw(rules, delta, "N1", 1)
+    got = [small.deposit(rules, delta, "N1", june, data) for data in (FILE_B, FILE_A)]
+    yield "a withdrawn one takes room", got, [("full",), ("receipt", 1, june)]
+
+
+def deletions(by):
+    """The same over connections."""
+    rules, register, one = read_policy(WITHDRAWING), Register(), "DELETE /v1/projects/N1/deposits/{} HTTP/1.1"
+    post = head("POST /v1/projects/N1/deposits?embargo=2024-06-01 HTTP/1.1", "t-delta", "Content-Length: 543") + FILE_A
+    for name, data, want in [
+        ("a deposit", post, (200, '{"embargo":"2024-06-01","number":1}')),
+        ("a deletion by Echo", head(one.format(1), "t-echo"), (403, '{"denied":0}')),
+        ("of number 9", head(one.format(9), "t-delta"), (404, '{"error":"unknown"}')),
+        ("of 007", head(one.format("007"), "t-delta"), (400, '{"error":"bad parameter"}')),
+        ("of all", head("DELETE /v1/projects/N1/deposits HTTP/1.1", "t-delta"), (405, '{"error":"method"}')),
+        ("of a check", head("DELETE /v1/projects/N1/check HTTP/1.1", "t-delta"), (405, '{"error":"method"}')),
+        ("with a query", head(one.format("1?groups=LOCA"), "t-delta"), (400, '{"error":"bad parameter"}')),
+        ("with an empty query", head(one.format("9?"), "t-delta"), (404, '{"error":"unknown"}')),
+        ("without a caller", head(one.format(1)), (401, '{"error":"no caller"}')),
+        ("with a body", head(one.format(1), "t-delta", "Content-Length: x") + b"more", (200, '{"withdrawn":1}')),
+        ("again", head(one.format(1), "t-delta"), (200, '{"withdrawn":1}')),
+        ("its text", head("GET /v1/projects/N1/deposits/1 HTTP/1.1", "t-delta"), (404, '{"error":"unknown"}')),
+        ("the listing", head("GET /v1/projects/N1/deposits HTTP/1.1", "t-delta"), (200, '{"deposits":[]}')),
+        ("the same file again", post, (200, '{"embargo":"2024-06-01","number":1}')),
+    ]:
+        status, text = serve(register, rules, by, "2024-06-01", data)
+        yield f"withdrawal over a connection: {name}", (status, text.split(b"\r\n\r\n", 1)[-1].decode()), want
+    _, text = serve(register, rules, by, "2024-06-01", head(one.format(1), "t-delta"))
+    yield "a whole reply to a withdrawal", text, (
+        b'HTTP/1.1 200 OK\r\nContent-Type: application/json\r\nContent-Length: 15\r\n'
+        b'Connection: close\r\n\r\n{"withdrawn":1}')
 
 
 def runs():
@@ -949,7 +1065,7 @@ def runs():
         (["extract", "1", "--day", "2024-05-31", *with_token, "t-echo"], (b"unknown\n", b"", 3)),
         (["extract", "1", "--day", "2024-06-01", *with_token, "t-echo"], (FILE_A, b"", 0)),
         (["list", "--project", "N 1", *with_token[:6], "--token", "t-delta"], (b"", b"groundreg: project refused\n", 4)),
-        (["withdraw"], (b"", b"groundreg: words refused\n", 4)), (["check", "--dictionary", "mini", "a"], (b"clean\n", b"", 0)),
+        (["check", "--dictionary", "mini", "a"], (b"clean\n", b"", 0)),
         (["check", "--dictionary", "mini", "none"], (b"", b"groundreg: cannot read none\n", 6)),
         (["list", *["empty" if word == "s" else word for word in with_token], "t-delta"], (b"", b"groundreg: not a register\n", 4)),
         (["list", *["junk" if word == "s" else word for word in with_token], "t-delta"], (b"", b"groundreg: store failed\n", 5)),
@@ -964,6 +1080,49 @@ def runs():
         ("serve, that and no register", [*serving, "none"], False, (b"", b"groundreg: not a register\n", 4)),
     ]:
         yield name, computer.serve(words, today, [post, head("GET /v1/projects/N1/deposits/999 HTTP/1.1", "t-echo")], is_free)[0], want
+    yield from migrations(computer, today)
+
+
+def migrations(computer, today):
+    """Withdrawals by words, and a register of format 1, which every command refuses but the one that migrates it."""
+    computer.files["w"] = WITHDRAWING.encode()
+    asking = [f"--{word}" for word in ("store=s", "callers=c", "project=N1", "day=2024-06-01")]
+    withdraw = ["withdraw", *asking, "1", "--policy=w", "--token"]
+    listing, unknown = ["list", *asking, "--policy=q", "--token=t-delta"], (b"unknown\n", b"", 3)
+    denied = (b"denied 0\n", b"", 2)
+
+    def fault(text, status=4):
+        return b"", f"groundreg: {text}\n".encode(), status
+
+    def version(number):
+        return fault(f"register version {number}")
+    refused, not_one = fault("words refused"), fault("not a register")
+    for words, want in [
+        (["withdraw"], refused), (["withdraw", *asking, "--policy=w", "--token=t-delta"], refused),
+        ([*withdraw, "t-delta", "--groups=LOCA"], refused), ([*withdraw, "t-x"], fault("token refused")),
+        ([*withdraw[:5], "0", *withdraw[6:], "t-delta"], fault("number refused")),
+        (["withdraw", *asking, "1", "--policy=q", "--token=t-delta"], denied), ([*withdraw, "t-echo"], denied),
+        ([*withdraw, "t-foxtrot"], unknown), *[([*withdraw, "t-delta"], (b"withdrawn 1\n", b"", 0))] * 2,
+        (listing, (b"", b"", 0)), (["extract", *asking, "1", "--policy=q", "--token=t-delta"], unknown),
+        (["migrate"], refused), (["migrate", "--store=s", "s"], refused), (["migrate", "--store=s"], version(2)),
+        (["migrate", "--store=none"], not_one), (["migrate", "--store=empty"], not_one),
+        *[(["migrate", f"--store={path}"], fault("store failed", 5)) for path in ("junk", "nowhere/s")],
+    ]:
+        yield " ".join(words), computer.run(words, today), want
+    old = computer.files["s"] = Register()
+    old.deposits, old.format = [unmarked("Delta", "N1", "2024-06-01", FILE_A)], 1
+    for words, want in [
+        (listing, version(1)), ([*withdraw, "t-delta"], version(1)),
+        (["init", "--store=s", "--dictionary=mini"], fault("store not empty")),
+        (["migrate", "--store=s"], (b"migrated\n", b"", 0)), (["migrate", "--store=s"], version(2)),
+        (listing, (b"1 Delta 2024-06-01\n", b"", 0)), ([*withdraw, "t-delta"], (b"withdrawn 1\n", b"", 0)),
+    ]:
+        yield " ".join(["of format 1:", *words]), computer.run(words, today), want
+    for number, opened, migrated in [(None, not_one, not_one), (1, version(1), not_one), (2, not_one, version(2)),
+                                     (7, version(7), version(7))]:
+        computer.files["s"] = Damaged(number)
+        for words, want in ((listing, opened), (["migrate", "--store=s"], migrated)):
+            yield f"damaged, format {number}: {words[0]}", computer.run(words, today), want
 
 
 def main():

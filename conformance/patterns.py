@@ -72,8 +72,7 @@ def register_of(deposits, standard=None):
     for one in deposits:
         data = read(one["File"], "rb")
         assert not reference.findings(data, 5, register.standard)
-        held = {"firm": one["Firm"], "project": one["Project"], "embargo": one["Embargo"], "bytes": data}
-        register.deposits.append(held)
+        register.deposits.append(machine.unmarked(one["Firm"], one["Project"], one["Embargo"], data))
     return register
 
 
@@ -101,7 +100,7 @@ def cell(register, rules, caller, row, column):
     """What the model answers, as the page writes it."""
     number, day = int(row["Deposit"]), row.get("Day", DAY)
     project = register.deposits[number - 1]["project"]
-    if column in ("deposit", "check"):
+    if column in ("deposit", "check", "withdraw"):
         effect, rule = machine.decide(rules, caller, project, column)
         return "yes" if effect == "permit" else f"denied {rule}"
     if column == "list":

@@ -315,7 +315,9 @@ def of_each_status():
     listing = head(b"/v1/projects/N1/deposits", [])
     return [post(b"deposits", machine.FILE_A), listing, head(b"/v1/projects/N1/deposits/1?groups=LOCA", []), post(b"check", machine.FILE_B), post(b"check", b"x\n"), b"GET / HTTP/1.2\r\n\r\n", head(b"/v1/projects/N1/deposits?token=t-delta", []),
             head(b"/v1/projects/N1/deposits", [], token=b"nobody"), post(b"deposits", machine.FILE_A, b"t-gamma"), head(b"/v1/x\xc3\xa9\\?t-delta", []), head(b"/v1/projects/N1/deposits/9", [], token=b"t-echo"),
-            head(b"/v1/projects/N1/deposits", [], b"PUT"), head(b"/v1/projects/N1/check", [], b"POST"), post(b"check", b"", length=machine.LIMIT + 1), b"", None, post(b"deposits", machine.FILE_B)]
+            head(b"/v1/projects/N1/deposits", [], b"PUT"), head(b"/v1/projects/N1/deposits/1", [], b"DELETE"),
+            head(b"/v1/projects/N1/check", [], b"POST"), post(b"check", b"", length=machine.LIMIT + 1), b"", None,
+            post(b"deposits", machine.FILE_B)]
 
 
 def log(place):

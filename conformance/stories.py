@@ -53,7 +53,8 @@ def toml_text(text):
 
 def any_policy(chance):
     """Rules with any keys: few of them make sense."""
-    keys = {"firm": [*FIRMS, "*"], "role": ["contractor", "consultant", "*"], "project": ["N1", "N2", "*"], "verb": ["deposit", "check", "list", "extract", "see", "see", "*"],
+    keys = {"firm": [*FIRMS, "*"], "role": ["contractor", "consultant", "*"], "project": ["N1", "N2", "*"],
+            "verb": [*machine.VERBS, "see", "*"],
             "group": ["PROJ", "LOCA", "SAMP", "FILE", "LNMC", "*"], "owner": ["own", "other", "*"], "embargo": ["past", "running", "*"]}
     out, number = "", 0
     for _ in range(chance.randrange(8)):
@@ -69,7 +70,8 @@ def any_policy(chance):
 
 
 def policy(chance):
-    text = any_policy(chance) if chance.random() < 0.12 else chance.choice([machine.POLICY, bodies.policy(chance), bodies.policy(chance)])
+    usual = [machine.POLICY, machine.WITHDRAWING, bodies.policy(chance), bodies.policy(chance)]
+    text = any_policy(chance) if chance.random() < 0.12 else chance.choice(usual)
     return ("# who may do what\n" if chance.random() < 0.1 else "") + text
 
 
@@ -78,7 +80,8 @@ def refused_policy(chance):
     return chance.choice([
         lambda: text.replace("number = ", "number = 9", 1) + '[[rule]]\nnumber = 1\neffect = "deny"\n', lambda: text.replace('"permit"', '"allow"', 1), lambda: text + "colour = 1\n",
         lambda: text + "[[rule]]\nnumber = 9999\n", lambda: text + "[[rule", lambda: "rule = 3\n", lambda: "[rule]\nnumber = 1\n", lambda: text + '[[rule]]\nnumber = 10000\neffect = "deny"\n',
-        lambda: text + '[[rule]]\nnumber = 9998\neffect = "deny"\nverb = "withdraw"\n', lambda: text + '[[rule]]\nnumber = 9998\neffect = "deny"\nheading = "LOCA_ID"\n',
+        lambda: text + '[[rule]]\nnumber = 9998\neffect = "deny"\nverb = "delete"\n',
+        lambda: text + '[[rule]]\nnumber = 9998\neffect = "deny"\nheading = "LOCA_ID"\n',
         lambda: text + '[[rule]]\nnumber = 9998\neffect = "deny"\ngroup = "loca"\n', lambda: text + "\x00", lambda: text + '[[caller]]\ntoken = "t"\n'])().encode()
 
 
@@ -152,7 +155,8 @@ def misspelt(chance, words):
     elif kind == 2:
         words += words[1:3]
     elif kind == 3:
-        words[0] = chance.choice(["withdraw", "help", "", "Init", "ini", "--help", "-h", "--", "\udc80", "--store", "checks"])
+        words[0] = chance.choice(["withdraw", "withdrawn", "migrate", "help", "", "Init", "ini", "--help", "-h", "--",
+                                  "\udc80", "--store", "checks"])
     elif kind == 4:
         words[k] = words[k][:-1]
     elif kind == 5:
@@ -217,7 +221,8 @@ def twisted(chance, method, target, fields):
 
 
 def token_for(chance, kind, tokens):
-    return chance.choice(["t-delta", "t-foxtrot"]) if kind == "deposit" and chance.random() < 0.7 else chance.choice(tokens)
+    is_of_firm = kind in ("deposit", "withdraw") and chance.random() < 0.7
+    return chance.choice(["t-delta", "t-foxtrot"]) if is_of_firm else chance.choice(tokens)
 
 
 def number_for(chance, count):
@@ -227,7 +232,7 @@ def number_for(chance, count):
 def request(chance, tokens, texts, count):
     """The bytes that a connection gives."""
     project = chance.choice(PROJECTS).encode()
-    kind = chance.choice(["deposit", "deposit", "check", "list", "extract", "extract", "extract"])
+    kind = chance.choice(["deposit", "deposit", "check", "list", "extract", "extract", "extract", "withdraw"])
     token = token_for(chance, kind, tokens).encode() if chance.random() < 0.95 else b"nobody"
     method, data, length = b"GET", b"", None
     target = b"/v1/projects/" + project + (b"/check" if kind == "check" else b"/deposits")
@@ -236,10 +241,14 @@ def request(chance, tokens, texts, count):
         length = str(len(data)).encode()
     if kind == "deposit" and chance.random() < 0.6:
         target += b"?embargo=" + chance.choice(EMBARGOES if chance.random() < 0.9 else BAD_DAYS).replace(" ", "+").encode()
-    if kind == "extract":
+    if kind == "withdraw":
+        method = b"DELETE"
+        if chance.random() < 0.1:
+            data, length = chance.choice([(b"", b"0"), (b"more", b"4"), (b"more", b"99"), (b"", b"x")])
+    if kind in ("extract", "withdraw"):
         number = number_for(chance, count) if chance.random() < 0.95 else chance.choice(BAD_NUMBERS).replace(" ", "%20")
         target += b"/" + number.encode()
-        if chance.random() < 0.5:
+        if kind == "extract" and chance.random() < 0.5:
             target += b"?groups=" + chance.choice(GROUPS if chance.random() < 0.9 else BAD_GROUPS).replace(" ", "+").encode()
     fields = fields_of(chance, token, length)
     while chance.random() < 0.25:
@@ -303,6 +312,18 @@ def printed_line(process, deadline):
 
 
 # ---- a story
+
+def marked(register, is_withdrawn):
+    """The deposits of a register, each of them withdrawn, or none."""
+    return [{**deposit, "withdrawn": is_withdrawn} for deposit in register.deposits]
+
+
+def register_like(other, deposits, number=machine.FORMAT):
+    """A register with the dictionary of another one, and these deposits."""
+    register = machine.Register(other.standard)
+    register.files, register.deposits, register.format = other.files, deposits, number
+    return register
+
 
 class Story:
     """A folder and the machine's own picture of it. Paths are relative to the folder."""
@@ -437,12 +458,16 @@ class Story:
     def by_words(self):
         """One run by words."""
         chance = self.chance
-        command = chance.choice(["deposit", "deposit", "list", "extract", "extract", "check", "init", "nothing"] if self.count() else ["deposit"])
+        usual = ["deposit", "deposit", "list", "extract", "extract", "withdraw"]
+        command = chance.choice([*usual, "check", "init", "migrate", "nothing"] if self.count() else ["deposit"])
         file = self.mostly([f"b{n}" for n in range(len(self.texts))], ["none", "sub", "p", "none é"])
         if command == "nothing":
             return self.run([], chance.choice(self.texts))
         if command == "init":
             return self.run(self.maybe_misspelt(spelling(chance, command, {"store": chance.choice(["s", "empty", "junk", "sub", "sub/s", "nowhere/s", "new"]), "dictionary": self.mostly(["d"], ["d-bad", "none"])}, [])))
+        if command == "migrate":
+            store = chance.choice(["s", "s", "empty", "junk", "sub", "sub/s", "nowhere/s", "none"])
+            return self.run(self.maybe_misspelt(spelling(chance, command, {"store": store}, [])))
         if command == "check":
             return self.run(self.maybe_misspelt(spelling(chance, command, {"dictionary": self.mostly(["d"], ["d-bad", "none", "sub"])}, [file])))
         options = {"store": self.mostly(["s"], ["none", "new", "empty", "junk", "sub", "nowhere/s"]), "policy": self.mostly(["p", "p", "p-more"], ["p-bad", "none", "sub", "bytes"]),
@@ -454,9 +479,9 @@ class Story:
             places = [file]
             if chance.random() < 0.7:
                 options["embargo"] = self.mostly(EMBARGOES, BAD_DAYS)
-        if command == "extract":
+        if command in ("extract", "withdraw"):
             places = [self.mostly([number_for(chance, self.count())], BAD_NUMBERS + ["999999"])]
-            if chance.random() < 0.5:
+            if command == "extract" and chance.random() < 0.5:
                 options["groups"] = self.mostly(GROUPS, BAD_GROUPS)
         out, _, status = self.run(self.maybe_misspelt(spelling(chance, command, options, places)))
         if command == "extract" and status == 0 and out and chance.random() < 0.5:
@@ -502,28 +527,55 @@ class Story:
         # a store that is none ends it before it listens, whatever else is right
         return self.run(self.maybe_misspelt(spelling(chance, "serve", {**options, "store": "none", "port": "8017", "connections": "1"}, [])))
 
-    def damage(self):
-        """Another hand writes into a copy of the register, which is then opened."""
-        chance = self.chance
-        bodies.copy_register(self.folder, "s", "t")
-        not_one = machine.Fault("not a register", 4)
-        choices = [("UPDATE meta SET num = 7 WHERE name = 'format'", machine.Fault("register version 7", 4)), ("DELETE FROM meta WHERE name = 'dictionary'", not_one),
-                   ("UPDATE meta SET body = x'00' WHERE name = 'dictionary'", not_one), ("DELETE FROM meta", not_one)]
-        held = self.computer.files["s"].deposits
-        if held:
-            last = len(held)
-            choices += [(f"UPDATE deposits SET firm = 'N 1' WHERE number = {last}", not_one), (f"UPDATE deposits SET embargo = -1 WHERE number = {last}", not_one),
-                        (f"UPDATE deposits SET body = x'' WHERE number = {last}", not_one), (f"DELETE FROM lines WHERE deposit = {last} AND seq = 0", not_one),
-                        (f"UPDATE lines SET kind = 3 WHERE deposit = {last} AND kind = 4", not_one), (f"DELETE FROM steps WHERE deposit = {last}", not_one),
-                        (f"INSERT INTO deposits SELECT {last + 2}, firm, 'other', embargo, body FROM deposits WHERE number = {last}", not_one),
-                        ("UPDATE meta SET num = 0 WHERE name = 'format'; DELETE FROM steps", machine.Fault("register version 0", 4))]
-        statement, fault = chance.choice(choices)
+    def damages(self):
+        """Statements of another hand, each with what stands there then where it changes something."""
+        held = self.computer.files["s"]
+        yield "UPDATE meta SET num = 7 WHERE name = 'format'", machine.Damaged(7)
+        yield "UPDATE meta SET num = 0 WHERE name = 'format'; DELETE FROM steps", machine.Damaged(0)
+        yield "DELETE FROM meta", machine.Damaged()
+        yield "DROP TABLE withdrawals", machine.Damaged(2)
+        yield f"INSERT INTO withdrawals VALUES ({len(held.deposits) + 1})", machine.Damaged(2)
+        yield "DELETE FROM withdrawals", register_like(held, marked(held, False))
+        yield "INSERT OR IGNORE INTO withdrawals SELECT number FROM deposits", register_like(held, marked(held, True))
+        yield from ((statement, machine.Damaged(2)) for statement in self.spoils())
+
+    def spoils(self):
+        """Statements after which a register of either format is none, where they change something."""
+        one = "WHERE number = (SELECT max(number) FROM deposits)"
+        yield "DELETE FROM meta WHERE name = 'dictionary'"
+        yield "UPDATE meta SET body = x'00' WHERE name = 'dictionary'"
+        yield f"UPDATE deposits SET firm = 'N 1' {one}"
+        yield f"UPDATE deposits SET embargo = -1 {one}"
+        yield f"UPDATE deposits SET body = x'' {one}"
+        yield f"INSERT INTO deposits SELECT number + 2, firm, 'other', embargo, body FROM deposits {one}"
+        yield "DELETE FROM lines WHERE deposit = (SELECT max(number) FROM deposits) AND seq = 0"
+        yield "UPDATE lines SET kind = 3 WHERE kind = 4"
+        yield "DELETE FROM steps WHERE deposit = (SELECT max(number) FROM deposits)"
+
+    def written(self, statement):
+        """Another hand writes into the copy of the register. Whether it changed anything."""
         connection = sqlite3.connect(os.path.join(self.folder, "t"))
         connection.executescript(statement)
-        changed = connection.total_changes
+        changes = connection.total_changes
         connection.close()
-        self.computer.files["t"] = fault if changed else self.computer.files["s"]
-        self.run(["list", "--store", "t", "--policy", "p", "--callers", "c", "--token", "t-delta", "--project", "N1", "--day", "2024-06-01"])
+        return changes > 0 or "TABLE" in statement
+
+    def damage(self):
+        """Another hand changes a copy of the register, or makes it one of format 1; it is opened and migrated."""
+        bodies.copy_register(self.folder, "s", "t")
+        held = self.computer.files["s"]
+        if self.chance.random() < 0.5:
+            self.written("; ".join(bodies.TO_FORMAT_1))
+            found = register_like(held, marked(held, False), 1)
+            if self.chance.random() < 0.7 and self.written(self.chance.choice(list(self.spoils()))):
+                found = machine.Damaged(1)
+        else:
+            statement, found = self.chance.choice(list(self.damages()))
+            found = found if self.written(statement) else register_like(held, list(held.deposits))
+        self.computer.files["t"] = found
+        asking = ["--store=t", "--policy=p", "--callers=c", "--token=t-delta", "--project=N1", "--day=2024-06-01"]
+        for words in (["list"], ["migrate"], ["list"], ["extract", "1"], ["withdraw", "1"]):
+            self.run([*words, *(asking[:1] if words == ["migrate"] else asking)])
 
     def largest(self):
         """A file at the limit, and one above it."""
@@ -542,7 +594,7 @@ class Story:
             self.by_socket()
         if chance.random() < 0.2:
             self.refused_serve()
-        if chance.random() < 0.2:
+        if chance.random() < 0.3:
             self.damage()
         if chance.random() < 0.01:
             self.largest()

@@ -30,10 +30,12 @@ def longer(text):
 
 
 FILES = {"mini": MINI, "q": POLICY, "c": CALLERS, "a": machine.FILE_A, "b": machine.FILE_B, "--day": machine.FILE_A, "empty": b"", "junk": b"this is no database", "bytes": b"\xff\xfe", "open": b"[[rule",
-         "long": longer(machine.FILE_A), "longest": longer(MINI), "long_q": longer(POLICY), "long_c": longer(CALLERS)}
+         "long": longer(machine.FILE_A), "longest": longer(MINI), "long_q": longer(POLICY), "long_c": longer(CALLERS),
+         "w": machine.WITHDRAWING.encode()}  # the policy under which contractors may withdraw
 
-# What is printed, by the name that a line has for it: file a, and the first 466 bytes of it.
-PRINTED = {machine.FILE_A: b"(a)\n", machine.FILE_A[:466]: b"(a to 466)\n"}
+# What is printed, by the name that a line has for it: file a, the first 466 bytes of it, and a listing of two deposits.
+PRINTED = {machine.FILE_A: b"(a)\n", machine.FILE_A[:466]: b"(a to 466)\n",
+           b"1 Delta 2024-06-01\n2 Foxtrot 2024-06-01\n": b"(both)\n"}
 
 # A register from its making to an extract.
 REGISTER = """
@@ -52,7 +54,6 @@ extract|@|--token=t-echo|1 => 3 unknown
 extract|@|--token=t-echo|--day=2024-06-01|1 => 0 (a)
 extract|@|999999 => 3 unknown
 list|@|--project|N 1 => 4 ! project refused
-withdraw => 4 ! words refused
 # The embargo of a deposit without one is its day, and findings are printed as for the run without words.
 deposit|@|--token=t-foxtrot|--day=2024-05-02|a => 0 receipt 2 2024-05-02
 deposit|@|empty => 1 2 0 -
@@ -63,7 +64,64 @@ check|--dictionary|mini|b => 0 clean
 check|--dictionary=mini|empty => 1 2 0 -
 """
 
+# Two firms have sent file a, and one of them withdraws its deposit.
+WITHDRAWAL = """
+init|--store|s|--dictionary|mini => 0 created
+deposit|@|--embargo|2024-06-01|a => 0 receipt 1 2024-06-01
+deposit|@|--embargo=2024-06-01|--token=t-foxtrot|a => 0 receipt 2 2024-06-01
+list|@|--day=2024-06-01 => 0 (both)
+withdraw|@|1 => 2 denied 0
+withdraw|@|--policy=w|--token=t-echo|1 => 2 denied 0
+withdraw|@|--policy=w|--token=t-foxtrot|1 => 3 unknown
+withdraw|@|--policy=w|--token=t-gamma|1 => 3 unknown
+withdraw|@|--policy=w|9 => 3 unknown
+withdraw|@|--policy=w|999999 => 3 unknown
+withdraw|@|--policy=w|--project=N2|1 => 3 unknown
+# What was refused has changed nothing.
+list|@|--day=2024-06-01 => 0 (both)
+withdraw|@|--policy=w|1 => 0 withdrawn 1
+withdraw|1|--policy|w|--day=1970-01-01|@ => 0 withdrawn 1
+withdraw|@|--policy=w|--|1 => 0 withdrawn 1
+list|@|--day=2024-06-01 => 0 2 Foxtrot 2024-06-01
+list|@ => 0
+extract|@|--day=2024-06-01|1 => 3 unknown
+extract|@|--day=2024-06-01|--token=t-echo|1 => 3 unknown
+extract|@|--day=2024-06-01|--token=t-echo|2 => 0 (a)
+# It is kept: its bytes have its receipt, and its number is given to no other.
+deposit|@|--embargo=2030-01-01|a => 0 receipt 1 2024-06-01
+list|@|--day=2024-06-01 => 0 2 Foxtrot 2024-06-01
+deposit|@|b => 0 receipt 3 2024-05-01
+# One who may not withdraw is told so, and another firm learns nothing.
+withdraw|@|1 => 2 denied 0
+withdraw|@|--policy=w|--token=t-foxtrot|1 => 3 unknown
+withdraw|@|--policy=w|--token=t-foxtrot|2 => 0 withdrawn 2
+withdraw|@|--policy=w|3 => 0 withdrawn 3
+list|@|--day=2030-01-01 => 0
+migrate|--store=s => 4 ! register version 2
+"""
+
 WORDS_REFUSED = """
+withdraw
+withdraw|1
+withdraw|@
+withdraw|@|1|2
+withdraw|@|--groups=LOCA|1
+withdraw|@|--embargo=2024-06-01|1
+withdraw|@|--number=1
+withdraw|@|1|--help
+withdraw|@|-1
+withdraw|--store=s|--policy=q|--callers=c|--token=t-delta|1
+Withdraw|@|1
+migrate
+migrate|s
+migrate|--store
+migrate|--store=s|s
+migrate|--store=s|--store=s
+migrate|--store=s|--dictionary=mini
+migrate|--store=s|--policy=q
+migrate|--store=s|--day=2024-05-01
+migrate|--store=s|--help
+migrated|--store=s
 help
 --help
 -h
@@ -145,17 +203,23 @@ check|--dictionary=none
 deposit|@|--policy=none
 extract|@|--policy=none
 list|@|--policy=none|more
+withdraw|@|--policy=none
+withdraw|@|--policy=none|1|2
+migrate|--store=none|more
 list|@|--policy=none|--help
 serve|&|--policy=none|--port=80
 deposit|@|--policy=none|--callers=gone|gone => 6 ! cannot read none
 extract|@|--policy=none|--callers=gone|07 => 6 ! cannot read none
 list|@|--policy=none|--callers=gone => 6 ! cannot read none
+withdraw|@|--policy=none|--callers=gone|07 => 6 ! cannot read none
 serve|&|--policy=none|--callers=gone|--port=80|--connections=1 => 6 ! cannot read none
 deposit|@|--policy=open|--callers=gone|gone => 4 ! policy refused
 extract|@|--policy=bytes|--callers=gone|07 => 4 ! policy refused
 list|@|--policy=open|--callers=gone => 4 ! policy refused
 list|@|--policy=bytes|--callers=gone => 4 ! policy refused
 list|@|--policy=long_q|--callers=gone => 4 ! policy refused
+withdraw|@|--policy=open|--callers=gone|07 => 4 ! policy refused
+withdraw|@|--policy=bytes|--callers=gone|07 => 4 ! policy refused
 serve|&|--policy=open|--callers=gone|--port=80|--connections=1 => 4 ! policy refused
 """
 
@@ -163,16 +227,19 @@ OF_CALLERS_AND_TOKENS = """
 deposit|@|--callers=none|--token=t-x|gone => 6 ! cannot read none
 extract|@|--callers=none|--token=t-x|07 => 6 ! cannot read none
 list|@|--callers=none|--token=t-x => 6 ! cannot read none
+withdraw|@|--callers=none|--token=t-x|07 => 6 ! cannot read none
 serve|&|--callers=none|--day=1|--port=80|--connections=1 => 6 ! cannot read none
 deposit|@|--callers=q|--token=t-x|gone => 4 ! callers refused
 extract|@|--callers=bytes|--token=t-x|07 => 4 ! callers refused
 list|@|--callers=q|--token=t-x => 4 ! callers refused
+withdraw|@|--callers=q|--token=t-x|07 => 4 ! callers refused
 list|@|--callers=bytes|--token=t-x => 4 ! callers refused
 list|@|--callers=long_c|--token=t-x => 4 ! callers refused
 serve|&|--callers=q|--day=1|--port=80|--connections=1 => 4 ! callers refused
 deposit|@|--token=t-x|--project=N 1|gone => 4 ! token refused
 extract|@|--token=t-x|--project=N 1|07 => 4 ! token refused
 list|@|--token=t-x|--project=N 1 => 4 ! token refused
+withdraw|@|--token=t-x|--project=N 1|07 => 4 ! token refused
 list|@|--token=|--project=N 1 => 4 ! token refused
 """
 
@@ -181,10 +248,12 @@ OF_REQUESTS = """
 deposit|@|--project=N 1|--day=1|gone => 4 ! project refused
 extract|@|--project=N 1|--day=1|07 => 4 ! project refused
 list|@|--project=|--day=1 => 4 ! project refused
+withdraw|@|--project=N 1|--day=1|07 => 4 ! project refused
 deposit|@|--day=2024-02-30|--embargo=2024-06-01|gone => 4 ! day refused
 deposit|@|--embargo=2023-02-29|gone => 4 ! day refused
 extract|@|--day=2024-6-1|--groups=loca|07 => 4 ! day refused
 list|@|--day=1 => 4 ! day refused
+withdraw|@|--day=2024-02-30|07 => 4 ! day refused
 serve|&|--day=tomorrow|--log=none/l|--port=80|--connections=1 => 4 ! day refused
 serve|&|--log=none/l|--port=80|--connections=1 => 6 ! cannot write none/l
 serve|&|--log=.|--port=80|--connections=1 => 6 ! cannot write .
@@ -194,10 +263,18 @@ extract|@|--groups=LOCA,|07 => 4 ! groups refused
 extract|@|07 => 4 ! number refused
 extract|@|0 => 4 ! number refused
 extract|@|1000000 => 4 ! number refused
+withdraw|@|07 => 4 ! number refused
+withdraw|@|0 => 4 ! number refused
+withdraw|@|1000000 => 4 ! number refused
+withdraw|@|+1 => 4 ! number refused
+withdraw|@| => 4 ! number refused
 deposit|@|gone => 6 ! cannot read gone
 deposit|@|a => 4 ! not a register
 extract|@|1 => 4 ! not a register
 list|@ => 4 ! not a register
+withdraw|@|1 => 4 ! not a register
+migrate|--store=s => 4 ! not a register
+migrate|--store|s => 4 ! not a register
 """
 
 OF_DICTIONARIES_AND_FILES = """
@@ -213,7 +290,8 @@ init|--store=s|--dictionary=longest => 4 ! dictionary refused
 init|--store=s|--dictionary=mini => 4 ! store not empty
 """
 
-SCENES = (REGISTER, WORDS_REFUSED, IN_ANY_ORDER, OF_WORDS_AND_POLICIES, OF_CALLERS_AND_TOKENS, OF_REQUESTS, OF_DICTIONARIES_AND_FILES)
+SCENES = (REGISTER, WITHDRAWAL, WORDS_REFUSED, IN_ANY_ORDER, OF_WORDS_AND_POLICIES, OF_CALLERS_AND_TOKENS, OF_REQUESTS,
+          OF_DICTIONARIES_AND_FILES)
 
 # What `serve` says of a port that is taken (PORT): the port comes last.
 PORT_TAKEN = """
@@ -226,47 +304,79 @@ serve|&|--port=PORT|--connections=1|--patience=1|--end-on-failure|--log=l => 6 !
 serve|--end-on-failure|--day-by-clock|&|--port=PORT|--patience|3600|--connections=1 => 6 ! cannot listen
 """
 
-# The commands that open a register, each with all its words.
-COMMANDS = ("deposit|@|a", "extract|@|1", "list|@", "serve|&|--port=80|--connections=1")
+# The commands that open a register of format 2, each with all its words.
+COMMANDS = ("deposit|@|a", "extract|@|1", "list|@", "withdraw|@|1", "serve|&|--port=80|--connections=1")
+NOT_ONE, FAILED, OF_FORMAT = "4 ! not a register", "5 ! store failed", "4 ! register version {}".format
+SET_FORMAT = "UPDATE meta SET num = {} WHERE name = 'format'".format
 
-# Stores that hold no register, or one of another format: each with a statement that another hand runs on it first, if there is one, and what
-# each command says of it then.
+# Stores that hold no register, or one of another format: each with a statement that another hand runs on it first, if
+# there is one, what each command says of it then, and what `migrate` says.
 STORES = [
-    ("empty", "", "4 ! not a register"),
-    ("gone", "", "4 ! not a register"),
-    ("other", "CREATE TABLE note (text TEXT)", "4 ! not a register"),
-    ("junk", "", "5 ! store failed"),
-    ("gone/s", "", "5 ! store failed"),
-    ("a/s", "", "5 ! store failed"),
-    (".", "", "5 ! store failed"),
-    ("s", "DELETE FROM steps", "4 ! not a register"),
-    ("s", "UPDATE meta SET num = 7 WHERE name = 'format'", "4 ! register version 7"),
-    ("s", "UPDATE deposits SET firm = 'N 1'", "4 ! register version 7"),
-    ("s", "UPDATE meta SET num = -12 WHERE name = 'format'", "4 ! register version -12"),
-    ("s", "UPDATE meta SET num = 9223372036854775807 WHERE name = 'format'", "4 ! register version 9223372036854775807"),
-    ("s", "UPDATE meta SET num = 0 WHERE name = 'format'", "4 ! register version 0"),
-    ("s", "UPDATE meta SET num = 1 WHERE name = 'format'", "4 ! not a register"),
+    ("empty", "", NOT_ONE, NOT_ONE),
+    ("gone", "", NOT_ONE, NOT_ONE),
+    ("other", "CREATE TABLE note (text TEXT)", NOT_ONE, NOT_ONE),
+    ("junk", "", FAILED, FAILED),
+    ("gone/s", "", FAILED, FAILED),
+    ("a/s", "", FAILED, FAILED),
+    (".", "", FAILED, FAILED),
+    ("s", "DELETE FROM steps", NOT_ONE, OF_FORMAT(2)),
+    ("s", SET_FORMAT(7), OF_FORMAT(7), OF_FORMAT(7)),
+    ("s", "UPDATE deposits SET firm = 'N 1'", OF_FORMAT(7), OF_FORMAT(7)),
+    ("s", SET_FORMAT(-12), OF_FORMAT(-12), OF_FORMAT(-12)),
+    ("s", SET_FORMAT(9223372036854775807), OF_FORMAT(9223372036854775807), OF_FORMAT(9223372036854775807)),
+    ("s", SET_FORMAT(0), OF_FORMAT(0), OF_FORMAT(0)),
+    ("s", SET_FORMAT(3), OF_FORMAT(3), OF_FORMAT(3)),
+    ("s", SET_FORMAT(2), NOT_ONE, OF_FORMAT(2)),
+    ("s", SET_FORMAT(1), OF_FORMAT(1), NOT_ONE),
+    ("s", "DROP TABLE withdrawals", OF_FORMAT(1), NOT_ONE),
 ]
 BEFORE_STORES = """
 init|--store=s|--dictionary=mini => 0 created
 deposit|@|a => 0 receipt 1 2024-05-01
 """
-# Registers of one deposit, file a, each made anew: the statements that another hand runs on it, with their values, and what each of these commands says
-# of it then.
-CHANGED = [
-    ([("UPDATE deposits SET firm = 'N 1'",)], COMMANDS, "4 ! not a register"),
-    ([("UPDATE deposits SET embargo = 2932897",)], COMMANDS, "4 ! not a register"),
-    ([("INSERT INTO deposits SELECT 2, firm, project, embargo, body FROM deposits",)], COMMANDS, "4 ! not a register"),
-    ([("DELETE FROM meta WHERE name = 'dictionary'",)], COMMANDS, "4 ! not a register"),
-    ([("UPDATE meta SET num = num + 6",)], COMMANDS, "4 ! register version 7"),
-    ([("UPDATE deposits SET body = x''",), ("UPDATE meta SET num = 7 WHERE name = 'format'",)], COMMANDS, "4 ! register version 7"),
-    ([("DROP TABLE steps",)], COMMANDS, "4 ! not a register"),
-    ([("DROP TABLE steps",), ("UPDATE meta SET num = 7 WHERE name = 'format'",)], COMMANDS, "4 ! register version 7"),
-    ([("UPDATE deposits SET body = ?", machine.FILE_A + b" " * (machine.LIMIT - len(machine.FILE_A)))], ["list|@"], "0 1 Delta 2024-05-01"),
-    ([("UPDATE deposits SET body = ?", longer(machine.FILE_A))], COMMANDS, "4 ! not a register"),
+# What makes a register of format 1 of one of format 2.
+TO_FORMAT_1 = [("DROP TABLE withdrawals",), (SET_FORMAT(1),)]
+AT_LIMIT = ("UPDATE deposits SET body = ?", machine.FILE_A + b" " * (machine.LIMIT - len(machine.FILE_A)))
+ABOVE_LIMIT = ("UPDATE deposits SET body = ?", longer(machine.FILE_A))
+# Statements after which a register of one deposit, file a, is none.
+SPOILT = [
+    ("UPDATE deposits SET firm = 'N 1'",),
+    ("UPDATE deposits SET embargo = 2932897",),
+    ("INSERT INTO deposits SELECT 2, firm, project, embargo, body FROM deposits",),
+    ("DELETE FROM meta WHERE name = 'dictionary'",),
+    ("DELETE FROM lines WHERE seq = 0",),
+    ("DROP TABLE steps",),
+    ABOVE_LIMIT,
 ]
-# A line and a step of a deposit that is not there.
-OF_NO_DEPOSIT = ["INSERT INTO lines VALUES (2, 0, 'PROJ', 0, x'')", "INSERT INTO steps VALUES (2, 0, 0)"]
+# Registers of one deposit, file a, each made anew: the statements that another hand runs on it, with their values, and
+# commands with what each of them says of it then, one after the other.
+MIGRATE = ["migrate"]
+CHANGED = [
+    *[([each], [(COMMANDS, NOT_ONE), (MIGRATE, OF_FORMAT(2))]) for each in SPOILT],
+    *[([*TO_FORMAT_1, each], [(COMMANDS, OF_FORMAT(1)), (MIGRATE * 2, NOT_ONE), (["list|@"], OF_FORMAT(1))])
+      for each in SPOILT],
+    *[([each, (SET_FORMAT(7),)], [((*COMMANDS, "migrate"), OF_FORMAT(7))]) for each in SPOILT],
+    ([("UPDATE meta SET num = num + 5",)], [((*COMMANDS, "migrate"), OF_FORMAT(7))]),
+    ([("DELETE FROM meta WHERE name = 'format'",)], [((*COMMANDS, "migrate"), NOT_ONE)]),
+    ([AT_LIMIT], [(["list|@"], "0 1 Delta 2024-05-01"), (MIGRATE, OF_FORMAT(2))]),
+    # A deposit that another hand has withdrawn, one whose mark it has taken away, and withdrawals of no deposit.
+    *[([(f"INSERT INTO withdrawals VALUES ({number})",)],
+       [(["list|@"], "0"), (["extract|@|1"], "3 unknown"), (["withdraw|@|--policy=w|1"], "0 withdrawn 1")])
+      for number in (1, "NULL")],
+    ([("INSERT INTO withdrawals VALUES (1)",), ("DELETE FROM withdrawals",)],
+     [(["list|@"], "0 1 Delta 2024-05-01"), (["extract|@|1"], "0 (a)")]),
+    *[([(f"INSERT INTO withdrawals VALUES ({number})",)], [(COMMANDS, NOT_ONE), (MIGRATE, OF_FORMAT(2))])
+      for number in (0, -1, 2, 999999, 9223372036854775807)],
+    ([("DROP TABLE withdrawals",)], [(COMMANDS, NOT_ONE), (MIGRATE, OF_FORMAT(2))]),
+    # Registers of format 1, each of which is migrated once.
+    (TO_FORMAT_1, [(COMMANDS, OF_FORMAT(1)), (MIGRATE, "0 migrated"), (["list|@"], "0 1 Delta 2024-05-01"),
+                   (["extract|@|1"], "0 (a)"), (MIGRATE, OF_FORMAT(2)),
+                   (["withdraw|@|--policy=w|1"], "0 withdrawn 1"), (["list|@"], "0")]),
+    ([*TO_FORMAT_1, AT_LIMIT], [(["list|@"], OF_FORMAT(1)), (MIGRATE, "0 migrated"), (["extract|@|1"], "0 (a)")]),
+]
+# A line, a step and a withdrawal of a deposit that is not there.
+OF_NO_DEPOSIT = ["INSERT INTO lines VALUES (2, 0, 'PROJ', 0, x'')", "INSERT INTO steps VALUES (2, 0, 0)",
+                 "INSERT INTO withdrawals VALUES (2)"]
 BEHIND_STORES = """
 init|--store=junk|--dictionary=mini => 5 ! store failed
 init|--store=gone/s|--dictionary=mini => 5 ! store failed
@@ -340,24 +450,27 @@ def refuse_stores(folder):
     folder.play(BEFORE_STORES)
     for statement in OF_NO_DEPOSIT:
         folder.count(folder.refuses("s", statement), f"not refused: {statement}")
-    for store, statement, want in STORES:
+    for store, statement, want, migrated in STORES:
         if statement:
             folder.change(store, statement)
         for command in COMMANDS:
             folder.hold(f"{command}|--store={store}", want)
-    folder.play(BEHIND_STORES)
-    # Asking for a register that is not there makes no file.
+        folder.hold(f"migrate|--store={store}", migrated)
+    # Asking for a register that is not there makes no file, and a file of no bytes stays one.
     folder.count(not os.path.exists(os.path.join(folder.place, "gone")), "a file `gone` was made")
+    folder.count(os.path.getsize(os.path.join(folder.place, "empty")) == 0, "the file of no bytes was written to")
+    folder.play(BEHIND_STORES)
 
 
 def refuse_changed(folder):
-    for number, (statements, commands, want) in enumerate(CHANGED):
+    for number, (statements, asked) in enumerate(CHANGED):
         store = f"s{number}"
         folder.play(f"init|--store={store}|--dictionary=mini => 0 created\ndeposit|@|--store={store}|a => 0 receipt 1 2024-05-01")
         for statement in statements:
             folder.change(store, *statement)
-        for command in commands:
-            folder.hold(f"{command}|--store={store}", want)
+        for commands, want in asked:
+            for command in commands:
+                folder.hold(f"{command}|--store={store}", want)
 
 
 def refuse_port(folder):

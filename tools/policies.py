@@ -180,14 +180,16 @@ def misspelt(rule, key, rules, callers):
 
 
 def still_served(rule, rules, callers):
-    """Of a denial of deposits alone: a caller whom it is for and who still lists or draws."""
+    """Of a denial of deposits alone: a caller whom it is for and who still lists, draws or withdraws."""
     if rule["effect"] != "deny" or rule.get("verb") != "deposit" or "firm" not in rule:
         return None
     for caller in callers.values():
         if caller["firm"] == rule["firm"]:
-            verbs = [verb for verb in ("list", "extract") if machine.decide(rules, caller, rule.get("project", ""), verb)[0] == "permit"]
-            if verbs:
-                return f"denies deposits alone: {caller['firm']} may still {' and '.join(verbs)}. A denial without verb ends every access"
+            project, verbs = rule.get("project", ""), ("list", "extract", "withdraw")
+            may = " and ".join(verb for verb in verbs if machine.decide(rules, caller, project, verb)[0] == "permit")
+            if may:
+                return (f"denies deposits alone: {caller['firm']} may still {may}."
+                        " A denial without verb ends every access")
     return None
 
 

@@ -56,22 +56,28 @@ function showWho() {
     : "The token stays in this tab alone, until it is closed.";
 }
 
+/** Whether the policy may let this caller withdraw: true until it denied that once. */
+let mayWithdraw = true;
+
+/** Clears what another caller was shown. */
+function beginAsCaller(text) {
+  for (const result of ["check-result", "deposit-result", "deposits-result", "extract-result"]) byId(result).replaceChildren();
+  mayWithdraw = true;
+  fault("");
+  tell(text);
+  showWho();
+}
+
 byId("who").addEventListener("submit", (event) => {
   event.preventDefault();
   sessionStorage.setItem("project", byId("project").value);
   sessionStorage.setItem("token", byId("token").value);
-  for (const result of ["check-result", "deposit-result", "deposits-result", "extract-result"]) byId(result).replaceChildren();
-  fault("");
-  tell("The project and the token are used from now on.");
-  showWho();
+  beginAsCaller("The project and the token are used from now on.");
 });
 
 byId("forget").addEventListener("click", () => {
   sessionStorage.clear();
-  for (const result of ["check-result", "deposit-result", "deposits-result", "extract-result"]) byId(result).replaceChildren();
-  fault("");
-  tell("The token is forgotten.");
-  showWho();
+  beginAsCaller("The token is forgotten.");
 });
 
 // ---- tabs
@@ -260,13 +266,47 @@ function sortBy(key) {
   document.querySelector(`#deposits-result [data-key=${key}]`).focus();
 }
 
+function withdrawButton(each) {
+  return make("button", { type: "button", class: "plain", "data-withdraw": String(each.number), click: () => withdraw(each) }, `Withdraw ${each.number}`);
+}
+
+/** Asks a question, and gives whether the answer is yes. */
+function agreed(question) {
+  const dialog = byId("question");
+  byId("question-text").textContent = question;
+  dialog.returnValue = "no";
+  dialog.showModal();
+  return new Promise((resolve) => dialog.addEventListener("close", () => resolve(dialog.returnValue === "yes"), { once: true }));
+}
+
+async function withdraw(each) {
+  const asked = register();
+  if (!asked) return;
+  const question = `Withdraw deposit ${each.number} of ${each.firm}? It stays kept, but nobody can list it or draw an extract of it again. This cannot be undone.`;
+  if (!await agreed(question)) return;
+  tell(`Withdrawing deposit ${each.number} ..`);
+  fault("");
+  const reply = await asked.withdraw(each.number);
+  if (reply.status === 200) {
+    if (await list()) tell(`Deposit ${each.number} is withdrawn.`);
+    return;
+  }
+  tell("");
+  if (reply.status === 403) {
+    mayWithdraw = false;
+    showDeposits();
+  }
+  fault(reply.status === 404 ? `Deposit ${each.number} is not your firm's: only the firm that sent it can withdraw it.` : sentenceFor(reply));
+}
+
 function depositRow(each) {
   const state = each.embargo > today() ? "running" : "past";
   const groups = make("input", { type: "text", id: `groups-${each.number}`, size: "12", pattern: "[A-Z0-9]{1,4}(,[A-Z0-9]{1,4})*", title: "groups, joined by commas", placeholder: "all groups", autocomplete: "off" });
   return make("tr", {},
     make("td", {}, String(each.number)), make("td", {}, each.firm), make("td", {}, `${each.embargo} (${state})`),
     make("td", {}, make("div", { class: "actions" }, make("label", { for: groups.id, class: "hint" }, "Groups"), groups,
-      make("button", { type: "button", "data-extract": String(each.number), click: () => draw(each.number, groups.value) }, `Extract of ${each.number}`))));
+      make("button", { type: "button", "data-extract": String(each.number), click: () => draw(each.number, groups.value) }, `Extract of ${each.number}`),
+      ...(mayWithdraw ? [withdrawButton(each)] : []))));
 }
 
 function showDeposits() {
@@ -278,18 +318,25 @@ function showDeposits() {
     make("table", {}, make("caption", {}, `${sorted.length} deposits that you see`), make("thead", {}, make("tr", {}, ...head, make("th", { scope: "col" }, "Extract"))), make("tbody", {}, ...sorted.map(depositRow)))));
 }
 
-byId("list").addEventListener("click", async () => {
+/** Shows the deposits, and gives whether the register told them. */
+async function list() {
   const asked = register();
-  if (!asked) return;
+  if (!asked) return false;
   begin("Asking ..", "deposits-result");
   byId("extract-result").replaceChildren();
   const reply = await asked.deposits();
   tell("");
-  if (reply.status !== 200) return fault(sentenceFor(reply));
+  if (reply.status !== 200) {
+    fault(sentenceFor(reply));
+    return false;
+  }
   listed = { deposits: reply.told.deposits, by: "number", falls: false };
   showDeposits();
-  return tell(`${listed.deposits.length} deposits.`);
-});
+  tell(`${listed.deposits.length} deposits.`);
+  return true;
+}
+
+byId("list").addEventListener("click", list);
 
 /** The rows of a group, at most a thousand. */
 function groupTable(group) {

@@ -56,6 +56,10 @@ class Register {
     return this.request("GET", `deposits/${number}${groups.length ? `?groups=${groups.map(encodeURIComponent).join(",")}` : ""}`);
   }
 
+  withdraw(number) {
+    return this.request("DELETE", `deposits/${number}`);
+  }
+
   /** One request. A register that is not reached has the status 0. */
   request(method, path, bytes, onProgress) {
     return new Promise((resolve) => {

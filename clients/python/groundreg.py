@@ -1,4 +1,6 @@
-"""A client of a register over HTTP: check and deposit AGS4 files, list deposits and draw extracts. One file, the standard library alone, Python 3.9 or later.
+"""A client of a register over HTTP: check, deposit and withdraw AGS4 files, list deposits and draw extracts.
+
+One file, the standard library alone, Python 3.9 or later.
 
     from groundreg import Register, tables
     register = Register("https://register.example.org", token, project="N1")
@@ -75,7 +77,7 @@ class HasFindings(Refused):
 
 
 class Unknown(Refused):
-    """404: no such deposit in this project, or none that this caller sees."""
+    """404: no such deposit in this project, or none that this caller sees, or, of a withdrawal, none of the own firm."""
 
 
 class TooLarge(Refused):
@@ -128,6 +130,10 @@ class Register:
         """The rows of a deposit that this caller is shown, of these groups with all that they belong to or link to, or of all; an AGS4 file."""
         names = ",".join(groups)
         return self._request("GET", f"deposits/{number}", None, {"groups": names} if names else {})
+
+    def withdraw(self, number: int) -> None:
+        """Withdraws a deposit of the caller's own firm. It stays kept, and can be neither listed nor drawn from then on."""
+        self._json("DELETE", f"deposits/{number}")
 
     def _json(self, method: str, path: str, data: Optional[bytes] = None, query: Optional[Dict[str, str]] = None) -> Dict[str, Any]:
         try:

@@ -16,7 +16,7 @@ use Rattle.reg_policy.specs.declared.subject.Verb.TheVariants as verbs
 use Rattle.reg_store.specs.declared.keep.Keep.{Ghosts}
 use Rattle.reg_desk.specs.Asked.{Asked, check}
 use Rattle.reg_desk.specs.declared.answer.Answer.{Answer}
-use Rattle.reg_desk.specs.declared.answer.Answer.TheVariants.{Receipt, Clean, Findings, Listing, Text, Denied, Unknown, TooLarge, Full, NoMemory, StoreFailed}
+use Rattle.reg_desk.specs.declared.answer.Answer.TheVariants.{Receipt, Clean, Findings, Listing, Text, Denied, Unknown, TooLarge, Full, NoMemory, StoreFailed, Withdrawn}
 use Rattle.reg_desk.specs.Machine.{Terms, decided, OrDenied, OrFound, OrRefused, IsReply, IsNext}
 use Rattle.reg_desk.specs.Serving.{NeedsMemory, IsRefusal, terms_at, Serves}
 use Rattle.reg_desk.proofs.Serves.{needs_of, replies_at_once, memory_at_once, permitted_reply, denied_reply, permit_stands}
@@ -98,6 +98,7 @@ refusal_serves keep rules request old (Text t) d k bytes Stands works permit ref
 refusal_serves keep rules request old (Denied n) d k bytes Stands works permit refusal needs to from next = absurd refusal
 refusal_serves keep rules request old Unknown d k bytes Stands works permit refusal needs to from next = absurd refusal
 refusal_serves keep rules request old Full d k bytes Stands works permit refusal needs to from next = absurd refusal
+refusal_serves keep rules request old (Withdrawn n) d k bytes Stands works permit refusal needs to from next = absurd refusal
 refusal_serves keep rules request old StoreFailed d k bytes Stands works permit refusal needs to from next = absurd refusal
 
 -- what a check ends with is a refusal of the body

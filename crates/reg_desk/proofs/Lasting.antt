@@ -1,107 +1,88 @@
--- A deposit with a receipt is held from then on, whatever a crash leaves.
-use Rattle.std.proofs.Common.{◌≡◌, ◌≢◌, ℕ, zero, suc, ◌+◌, Bool, true, false, cond, Option, Some, None, List, [], ◌∷◌, ◌++◌, length, refl, sym, ap, subst, ◌∙◌, inl, inr, ◌⊎◌, arith, append_assoc, append-nil, ◌&&◌}
-use Rattle.std.specs.Prelude.{ℤ, nat_lt, slice_get, MatchBool}
+-- A deposit with a receipt is held from then on, and one that was answered as withdrawn has its mark, whatever a crash
+-- leaves.
+use Rattle.std.proofs.Common.{◌≡◌, ◌≢◌, ℕ, zero, suc, ◌+◌, Bool, true, false, cond, Option, Some, None, List, [], ◌∷◌, ◌++◌, length, refl, sym, ap, subst, ◌∙◌, inl, inr, ◌⊎◌, arith, ◌&&◌}
+use Rattle.std.specs.Prelude.{ℤ, nat_lt, slice_get, MatchBool, option_map}
 use Rattle.std.specs.List.{AllZip}
 use Rattle.std.specs.Str.{bytes_eq}
-use Rattle.std.proofs.lemmas.Bool.{true≢false}
+use Rattle.std.proofs.lemmas.Bool.{and_parts}
 use Rattle.std.proofs.lemmas.Slice.Eq.{bytes_eq-Decides}
 use Rattle.std.proofs.lemmas.Option.{same_Some}
-use Rattle.ags_rows.specs.declared.finding.Finding.{Finding}
-use Rattle.ags_rows.specs.declared.TheConstants.{LIMIT}
-use Rattle.ags_check.specs.Findings.{Findings as AreFindings}
 use Rattle.reg_policy.specs.declared.rule.Rule.{Rule}
 use Rattle.reg_policy.specs.declared.callers.Caller.{Caller}
-use Rattle.reg_policy.specs.declared.subject.Decision.{Decision}
-use Rattle.reg_policy.specs.declared.subject.Decision.TheVariants.{Permit, Deny}
 use Rattle.reg_policy.specs.declared.subject.Verb.TheVariants as verbs
 use Rattle.reg_store.specs.Sent.{Sent, is_repeat}
+use Rattle.reg_store.specs.Deposit.{Deposit, sents, unmarked, mark, marked}
+use Rattle.reg_store.proofs.Lemmas.{sent_at, deposit_at}
 use Rattle.reg_store.specs.declared.keep.Keep.{Ghosts}
-use Rattle.reg_desk.specs.Asked.{Asked, deposit, check, listing, extract}
+use Rattle.reg_desk.specs.Asked.{Asked, deposit, withdraw}
 use Rattle.reg_desk.specs.declared.answer.Answer.{Answer}
-use Rattle.reg_desk.specs.declared.answer.Answer.TheVariants.{Receipt, Clean, Findings, Listing, Text, Denied, Unknown, TooLarge, Full, NoMemory, StoreFailed}
-use Rattle.reg_desk.specs.Machine.{Terms, decided, OrDenied, OrFound, OrRefused, first_equal, receipt_of, held, IsReply, asked_deposit, Changes, IsNext}
+use Rattle.reg_desk.specs.declared.answer.Answer.TheVariants.{Receipt, Full, NoMemory, StoreFailed, Withdrawn}
+use Rattle.reg_desk.specs.Machine.{Terms, decided, first_equal, receipt_of, held, IsReply, asked_deposit, Changes, IsNext}
 use Rattle.reg_desk.specs.Serving.{is_failed, IsAnswer, IsAfter, terms_at}
 use Rattle.reg_desk.specs.Running.{AreFailed, AreAnswers, failing, Runs, IsHeldIn}
-use Rattle.reg_desk.proofs.Taken.{taken_received}
+use Rattle.reg_desk.proofs.Taken.{not_refused, taken_received, withdrawn_own}
 
--- ---- a list that only grew
+-- ---- a list that grew, and in which more may be marked
 
-abbrev IsFront : List Sent → List Sent → Type 0
-IsFront state list = (more : List Sent) × (list ≡ state ++ more)
+-- what is held there is what was sent here, with the mark if it has it here
+abbrev Keeps : Deposit → Option Deposit → Type 0
+Keeps d held = (e : Deposit) × (held ≡ Some e) × (e.sent ≡ d.sent) × (d.withdrawn ≡ true → e.withdrawn ≡ true)
 
-front_itself : (state list : List Sent) → list ≡ state → IsFront state list
-front_itself state list same = ([], same ∙ sym (append-nil state))
+abbrev pub Grows : List Deposit → List Deposit → Type 0
+Grows state list = (i : ℕ) (d : Deposit) → slice_get state i ≡ Some d → Keeps d (slice_get list i)
 
-front_then : (a b c : List Sent) → IsFront a b → IsFront b c → IsFront a c
-front_then a b c f g = (f.0 ++ g.0, g.1 ∙ ap (λ (l : List Sent). l ++ g.0) f.1 ∙ append_assoc a f.0 g.0)
+pub grows_itself : (state list : List Deposit) → list ≡ state → Grows state list
+grows_itself state list same i d at = (d, ap (λ (l : List Deposit). slice_get l i) same ∙ at, refl, λ is. is)
 
-get_front : (state more : List Sent) (i : ℕ) (d : Sent) → slice_get state i ≡ Some d → slice_get (state ++ more) i ≡ Some d
-get_front [] more i d at = absurd cc
-get_front (k ∷ state) more zero d at = at
-get_front (k ∷ state) more (suc i) d at = get_front state more i d at
+pub grows_then : (a b c : List Deposit) → Grows a b → Grows b c → Grows a c
+grows_then a b c f g i d at = let e = f i d at in let k = g i e.0 e.1 in (k.0, k.1, k.2 ∙ e.2, λ is. k.3 (e.3 is))
 
-held_front : (n : ℕ) (state list : List Sent) (d : Sent) → IsFront state list → held n state ≡ Some d → held n list ≡ Some d
-held_front zero state list d front at = absurd cc
-held_front (suc n) state list d front at = ap (λ (l : List Sent). slice_get l n) front.1 ∙ get_front state front.0 n d at
+append_grows : (state more : List Deposit) → Grows state (state ++ more)
+append_grows [] more i d at = absurd cc
+append_grows (k ∷ state) more zero d at = (d, at, refl, λ is. is)
+append_grows (k ∷ state) more (suc i) d at = append_grows state more i d at
 
-get_last : (state : List Sent) (d : Sent) → slice_get (state ++ d ∷ []) (length state) ≡ Some d
-get_last [] d = refl
-get_last (k ∷ state) d = get_last state d
+marked_grows : (n : ℕ) (state : List Deposit) → Grows state (marked n state)
+marked_grows n [] i d at = absurd cc
+marked_grows zero (k ∷ state) i d at = (d, at, refl, λ is. is)
+marked_grows (suc zero) (k ∷ state) zero d at =
+    (mark k, refl, ap (λ (x : Deposit). x.sent) (same_Some k d at), λ is. refl)
+marked_grows (suc zero) (k ∷ state) (suc i) d at = (d, at, refl, λ is. is)
+marked_grows (suc (suc n)) (k ∷ state) zero d at = (d, at, refl, λ is. is)
+marked_grows (suc (suc n)) (k ∷ state) (suc i) d at = marked_grows (suc n) state i d at
 
-held_last : (state : List Sent) (d : Sent) (n : ℕ) → n ≡ length state + 1 → held n (state ++ d ∷ []) ≡ Some d
-held_last state d n same = let e : n ≡ suc (length state) = omega (arith, same) in subst (λ (k : ℕ). held k (state ++ d ∷ []) ≡ Some d) (sym e) (get_last state d)
+changes_grow : (terms : Terms) (request : Asked) (state list : List Deposit) → Changes terms state request list
+    → Grows state list
+changes_grow terms (deposit caller project embargo bytes day) state list h =
+    subst (Grows state) (sym h.1) (append_grows state (unmarked (asked_deposit caller project embargo bytes) ∷ []))
+changes_grow terms (withdraw caller project number day) state list h =
+    subst (Grows state) (sym h.1) (marked_grows number state)
+changes_grow terms request state list h = absurd h
 
-changes_front : (terms : Terms) (request : Asked) (state list : List Sent) → Changes terms state request list → IsFront state list
-changes_front terms (deposit caller project embargo bytes day) state list h = (asked_deposit caller project embargo bytes ∷ [], h.1)
-changes_front terms (check caller project bytes day) state list h = absurd h
-changes_front terms (listing caller project day) state list h = absurd h
-changes_front terms (extract caller project number groups day) state list h = absurd h
+pub next_grows : (terms : Terms) (request : Asked) (state next : List Deposit) → IsNext terms state request next
+    → Grows state next
+next_grows terms request state next (inl h) = changes_grow terms request state next h
+next_grows terms request state next (inr h) = grows_itself state next h.1
 
-next_front : (terms : Terms) (request : Asked) (state next : List Sent) → IsNext terms state request next → IsFront state next
-next_front terms request state next (inl h) = changes_front terms request state next h
-next_front terms request state next (inr h) = front_itself state next h.1
-
-after_front : (terms : Terms) (request : Asked) (state next : List Sent) (a : Answer) → is_failed a ≡ false → IsAfter terms state request a next → IsFront state next
+after_grows : (terms : Terms) (request : Asked) (state next : List Deposit) (a : Answer) → is_failed a ≡ false
+    → IsAfter terms state request a next → Grows state next
 unfolding IsAfter
-after_front terms request state next (Receipt n e) lives h = next_front terms request state next h
-after_front terms request state next Clean lives h = next_front terms request state next h
-after_front terms request state next (Findings l) lives h = next_front terms request state next h
-after_front terms request state next (Listing l) lives h = next_front terms request state next h
-after_front terms request state next (Text t) lives h = next_front terms request state next h
-after_front terms request state next (Denied n) lives h = next_front terms request state next h
-after_front terms request state next Unknown lives h = next_front terms request state next h
-after_front terms request state next TooLarge lives h = next_front terms request state next h
-after_front terms request state next Full lives h = next_front terms request state next h
-after_front terms request state next NoMemory lives h = front_itself state next h
-after_front terms request state next StoreFailed lives h = absurd cc
+after_grows terms request state next NoMemory lives h = grows_itself state next h
+after_grows terms request state next StoreFailed lives h = absurd cc
+after_grows terms request state next a lives h = next_grows terms request state next h
 
 -- ---- a receipt
-
-stands_of : (d : Decision) (terms : Terms) (bytes : List ℕ) (P : Answer → Type 0) (n : ℕ) (e : ℤ) → OrDenied d (OrRefused terms bytes P) (Receipt n e) → P (Receipt n e)
-stands_of (Deny k) terms bytes P n e h = absurd cc
-stands_of (Permit k) terms bytes P n e h = refused (nat_lt LIMIT (length bytes)) h
-  where
-    found : (l : List Finding) → OrFound l P (Receipt n e) → P (Receipt n e)
-    found [] w = w
-    found (f ∷ l) w = absurd cc
-
-    refused : (t : Bool) → MatchBool t (Receipt n e ≡ TooLarge) ((l : List Finding) × AreFindings terms.dictionary bytes l × OrFound l P (Receipt n e)) → P (Receipt n e)
-    refused true w = absurd cc
-    refused false w = found w.0 w.2
-
-and_both : (a b c : Bool) → (a && (b && c)) ≡ true → (a ≡ true) × (b ≡ true) × (c ≡ true)
-and_both true true true e = (refl, refl, refl)
-and_both true true false e = absurd (true≢false (sym e))
-and_both true false c e = absurd (true≢false (sym e))
-and_both false b c e = absurd (true≢false (sym e))
 
 -- an equal deposit has this firm, this project and these bytes
 repeat_is : (firm project bytes : List ℕ) (d : Sent) → is_repeat firm project bytes d ≡ true → d ≡ record { firm = firm; project = project; embargo = d.embargo; bytes = bytes }
 repeat_is firm project bytes d e =
-    let all = and_both (bytes_eq d.firm firm) (bytes_eq d.project project) (bytes_eq d.bytes bytes) e in
+    let all = and_parts (bytes_eq d.firm firm) (bytes_eq d.project project && bytes_eq d.bytes bytes) e in
+    let rest = and_parts (bytes_eq d.project project) (bytes_eq d.bytes bytes) all.1 in
     ap (λ (f : List ℕ). record { firm = f; project = d.project; embargo = d.embargo; bytes = d.bytes }) ((bytes_eq-Decides d.firm firm).0 all.0)
-    ∙ ap (λ (p : List ℕ). record { firm = firm; project = p; embargo = d.embargo; bytes = d.bytes }) ((bytes_eq-Decides d.project project).0 all.1)
-    ∙ ap (λ (b : List ℕ). record { firm = firm; project = project; embargo = d.embargo; bytes = b }) ((bytes_eq-Decides d.bytes bytes).0 all.2)
+    ∙ ap (λ (p : List ℕ). record { firm = firm; project = p; embargo = d.embargo; bytes = d.bytes })
+    ((bytes_eq-Decides d.project project).0 rest.0)
+    ∙ ap (λ (b : List ℕ). record { firm = firm; project = project; embargo = d.embargo; bytes = b })
+    ((bytes_eq-Decides d.bytes bytes).0 rest.1)
 
 abbrev IsFirstAt : List ℕ → List ℕ → List ℕ → ℕ → List Sent → ℕ → ℤ → Type 0
 IsFirstAt firm project bytes n list k e = (i : ℕ) × (k ≡ n + i) × (slice_get list i ≡ Some (record { firm = firm; project = project; embargo = e; bytes = bytes }))
@@ -131,115 +112,160 @@ receipt_first terms embargo count None n e h other = absurd (full (nat_lt count 
     full true h = other h
     full false h = cc
 
-receipt_held : (terms : Terms) (caller : Caller) (project : List ℕ) (embargo : ℤ) (bytes : List ℕ) (day : ℤ) (state next : List Sent) (n : ℕ) (e : ℤ) → IsReply terms state (deposit caller project embargo bytes day) (Receipt n e)
-    → IsNext terms state (deposit caller project embargo bytes day) next → held n next ≡ Some (asked_deposit caller project e bytes)
+get_last : (state : List Deposit) (d : Deposit) → slice_get (sents (state ++ d ∷ [])) (length state) ≡ Some d.sent
+get_last [] d = refl
+get_last (k ∷ state) d = get_last state d
+
+receipt_held : (terms : Terms) (caller : Caller) (project : List ℕ) (embargo : ℤ) (bytes : List ℕ) (day : ℤ)
+    (state next : List Deposit) (n : ℕ) (e : ℤ)
+    → IsReply terms state (deposit caller project embargo bytes day) (Receipt n e)
+    → IsNext terms state (deposit caller project embargo bytes day) next
+    → held n (sents next) ≡ Some (asked_deposit caller project e bytes)
 receipt_held terms caller project embargo bytes day state next n e is (inl h) =
-    let fields = receipt_fields n (length state + 1) e embargo ((taken_received terms state caller project embargo bytes day (Receipt n e) is).0 h.0) in
-    ap (held n) h.1 ∙ held_last state (asked_deposit caller project embargo bytes) n fields.0
+    let received = (taken_received terms state caller project embargo bytes day (Receipt n e) is).0 h.0 in
+    let fields = receipt_fields n (length state + 1) e embargo received in
+    let number : n ≡ suc (length state) = omega (arith, fields.0) in
+    let new = unmarked (asked_deposit caller project embargo bytes) in
+    ap (λ (l : List Deposit). held n (sents l)) h.1 ∙ ap (λ (k : ℕ). held k (sents (state ++ new ∷ []))) number
+    ∙ get_last state new
     ∙ ap (λ (x : ℤ). Some (asked_deposit caller project x bytes)) (sym fields.1)
 receipt_held terms caller project embargo bytes day state next n e is (inr h) =
-    let first = first_equal 1 caller.firm project bytes state in
-    let stands = stands_of (decided terms caller project verbs.Deposit) terms bytes (λ r. r ≡ receipt_of terms embargo (length state) first) n e is in
-    let equal = receipt_first terms embargo (length state) first n e stands (λ new. h.0 _ ((taken_received terms state caller project embargo bytes day (Receipt n e) is).1 new, refl)) in
-    let at = first_at caller.firm project bytes 1 state n e equal in
+    let first = first_equal 1 caller.firm project bytes (sents state) in
+    let Stands = λ (r : Answer). r ≡ receipt_of terms embargo (length state) first in
+    let fine =
+    not_refused (decided terms caller project verbs.Deposit) terms bytes Stands (Receipt n e) is (λ k x. cc) (λ x. cc)
+    (λ l x. cc) in
+    let equal =
+    receipt_first terms embargo (length state) first n e fine.3
+    (λ new. h.0 _ ((taken_received terms state caller project embargo bytes day (Receipt n e) is).1 new, refl)) in
+    let at = first_at caller.firm project bytes 1 (sents state) n e equal in
     let number : n ≡ suc at.0 = omega (arith, at.1) in
-    ap (held n) h.1 ∙ subst (λ (k : ℕ). held k state ≡ Some (asked_deposit caller project e bytes)) (sym number) at.2
+    ap (λ (l : List Deposit). held n (sents l)) h.1 ∙ ap (λ (k : ℕ). held k (sents state)) number ∙ at.2
+
+-- ---- a withdrawal
+
+-- the mark of deposit n
+abbrev pub mark_at : ℕ → List Deposit → Option Bool
+mark_at n list = option_map (λ (e : Deposit). e.withdrawn) (held n list)
+
+marked_held : (n : ℕ) (state : List Deposit) (d : Deposit) → held n state ≡ Some d
+    → mark_at n (marked n state) ≡ Some true
+marked_held zero state d at = absurd cc
+marked_held (suc n) [] d at = absurd cc
+marked_held (suc zero) (k ∷ state) d at = refl
+marked_held (suc (suc n)) (k ∷ state) d at = marked_held (suc n) state d at
+
+pub withdrawn_held : (terms : Terms) (caller : Caller) (project : List ℕ) (number : ℕ) (day : ℤ)
+    (state next : List Deposit) (n : ℕ) → IsReply terms state (withdraw caller project number day) (Withdrawn n)
+    → IsNext terms state (withdraw caller project number day) next → mark_at n next ≡ Some true
+withdrawn_held terms caller project number day state next n is step =
+    let own = withdrawn_own terms state caller project number day n is in
+    let same : next ≡ marked number state = elim step [ inl h ↦ h.1 | inr h ↦ absurd (h.0 _ (own.1, refl)) ] in
+    ap (λ (l : List Deposit). mark_at n l) same ∙ ap (λ (k : ℕ). mark_at k (marked number state)) (sym own.0)
+    ∙ marked_held number state own.1.1.0 own.1.1.1
 
 -- ---- the answers to a list
 
-held_then : (state list : List Sent) (request : Asked) (a : Answer) → IsFront state list → IsHeldIn state request a → IsHeldIn list request a
-held_then state list (deposit caller project embargo bytes day) (Receipt n e) front h = held_front n state list (asked_deposit caller project e bytes) front h
-held_then state list (deposit caller project embargo bytes day) Clean front h = tt
-held_then state list (deposit caller project embargo bytes day) (Findings l) front h = tt
-held_then state list (deposit caller project embargo bytes day) (Listing l) front h = tt
-held_then state list (deposit caller project embargo bytes day) (Text t) front h = tt
-held_then state list (deposit caller project embargo bytes day) (Denied n) front h = tt
-held_then state list (deposit caller project embargo bytes day) Unknown front h = tt
-held_then state list (deposit caller project embargo bytes day) TooLarge front h = tt
-held_then state list (deposit caller project embargo bytes day) Full front h = tt
-held_then state list (deposit caller project embargo bytes day) NoMemory front h = tt
-held_then state list (deposit caller project embargo bytes day) StoreFailed front h = tt
-held_then state list (check caller project bytes day) a front h = tt
-held_then state list (listing caller project day) a front h = tt
-held_then state list (extract caller project number groups day) a front h = tt
+pub held_sent : (n : ℕ) (state : List Deposit) (d : Deposit) → held n state ≡ Some d
+    → held n (sents state) ≡ Some d.sent
+held_sent zero state d at = absurd cc
+held_sent (suc i) state d at = sent_at state i d at
 
-receipt_reply : (terms : Terms) (state : List Sent) (request : Asked) (n : ℕ) (e : ℤ) → IsAnswer terms state request (Receipt n e) → IsReply terms state request (Receipt n e)
-unfolding IsAnswer
-receipt_reply terms state request n e is = is
+pub sent_then : (n : ℕ) (state list : List Deposit) (d : Sent) → Grows state list → held n (sents state) ≡ Some d
+    → held n (sents list) ≡ Some d
+sent_then zero state list d grows at = absurd cc
+sent_then (suc i) state list d grows at =
+    let of = deposit_at state i d at in
+    let kept = grows i of.0 of.1 in
+    sent_at list i kept.0 kept.1 ∙ ap (λ (x : Sent). Some x) (kept.2 ∙ of.2)
 
-receipt_next : (terms : Terms) (state next : List Sent) (request : Asked) (n : ℕ) (e : ℤ) → IsAfter terms state request (Receipt n e) next → IsNext terms state request next
-unfolding IsAfter
-receipt_next terms state next request n e after = after
+pub mark_then : (n : ℕ) (state list : List Deposit) → Grows state list → mark_at n state ≡ Some true
+    → mark_at n list ≡ Some true
+mark_then zero state list grows is = absurd cc
+mark_then (suc i) state list grows is = by (slice_get state i) refl is
+  where
+    by : (o : Option Deposit) → slice_get state i ≡ o → option_map (λ (e : Deposit). e.withdrawn) o ≡ Some true
+        → option_map (λ (e : Deposit). e.withdrawn) (slice_get list i) ≡ Some true
+    by None at e = absurd cc
+    by (Some d) at e =
+        let kept = grows i d at in
+        ap (option_map (λ (x : Deposit). x.withdrawn)) kept.1
+        ∙ ap (λ (t : Bool). Some t) (kept.3 (same_Some d.withdrawn true e))
 
-held_next : (terms : Terms) (state next : List Sent) (request : Asked) (a : Answer) → IsAnswer terms state request a → IsAfter terms state request a next → IsHeldIn next request a
+held_then : (state list : List Deposit) (request : Asked) (a : Answer) → Grows state list → IsHeldIn state request a
+    → IsHeldIn list request a
+held_then state list (deposit caller project embargo bytes day) (Receipt n e) grows h =
+    sent_then n state list (asked_deposit caller project e bytes) grows h
+held_then state list (withdraw caller project number day) (Withdrawn n) grows h = mark_then n state list grows h
+held_then state list request a grows h = tt
+
+held_next : (terms : Terms) (state next : List Deposit) (request : Asked) (a : Answer) → IsAnswer terms state request a
+    → IsAfter terms state request a next → IsHeldIn next request a
+unfolding IsAnswer IsAfter
 held_next terms state next (deposit caller project embargo bytes day) (Receipt n e) is after =
-    let request = deposit caller project embargo bytes day in
-    receipt_held terms caller project embargo bytes day state next n e (receipt_reply terms state request n e is) (receipt_next terms state next request n e after)
-held_next terms state next (deposit caller project embargo bytes day) Clean is after = tt
-held_next terms state next (deposit caller project embargo bytes day) (Findings l) is after = tt
-held_next terms state next (deposit caller project embargo bytes day) (Listing l) is after = tt
-held_next terms state next (deposit caller project embargo bytes day) (Text t) is after = tt
-held_next terms state next (deposit caller project embargo bytes day) (Denied n) is after = tt
-held_next terms state next (deposit caller project embargo bytes day) Unknown is after = tt
-held_next terms state next (deposit caller project embargo bytes day) TooLarge is after = tt
-held_next terms state next (deposit caller project embargo bytes day) Full is after = tt
-held_next terms state next (deposit caller project embargo bytes day) NoMemory is after = tt
-held_next terms state next (deposit caller project embargo bytes day) StoreFailed is after = tt
-held_next terms state next (check caller project bytes day) a is after = tt
-held_next terms state next (listing caller project day) a is after = tt
-held_next terms state next (extract caller project number groups day) a is after = tt
+    receipt_held terms caller project embargo bytes day state next n e is after
+held_next terms state next (withdraw caller project number day) (Withdrawn n) is after =
+    withdrawn_held terms caller project number day state next n is after
+held_next terms state next request a is after = tt
 
-failed_held : (list : List Sent) (request : Asked) (a : Answer) → a ≡ StoreFailed → IsHeldIn list request a
-failed_held list (deposit caller project embargo bytes day) a e = subst (IsHeldIn list (deposit caller project embargo bytes day)) (sym e) tt
-failed_held list (check caller project bytes day) a e = tt
-failed_held list (listing caller project day) a e = tt
-failed_held list (extract caller project number groups day) a e = tt
+failed_held : (list : List Deposit) (request : Asked) (a : Answer) → a ≡ StoreFailed → IsHeldIn list request a
+failed_held list request a e = subst (IsHeldIn list request) (sym e) (none request)
+  where
+    none : (r : Asked) → IsHeldIn list r StoreFailed
+    none (deposit caller project embargo bytes day) = tt
+    none r = tt
 
-all_failed : (list : List Sent) (requests : List Asked) (answers : List Answer) → AreFailed requests answers → AllZip (IsHeldIn list) requests answers
+all_failed : (list : List Deposit) (requests : List Asked) (answers : List Answer) → AreFailed requests answers
+    → AllZip (IsHeldIn list) requests answers
 all_failed list [] [] h = tt
 all_failed list [] (a ∷ answers) h = absurd h
 all_failed list (r ∷ requests) [] h = absurd h
 all_failed list (r ∷ requests) (a ∷ answers) h = (failed_held list r a h.0, all_failed list requests answers h.1)
 
 is_store_failed : (a : Answer) → is_failed a ≡ true → a ≡ StoreFailed
-is_store_failed (Receipt n e) h = absurd cc
-is_store_failed Clean h = absurd cc
-is_store_failed (Findings l) h = absurd cc
-is_store_failed (Listing l) h = absurd cc
-is_store_failed (Text t) h = absurd cc
-is_store_failed (Denied n) h = absurd cc
-is_store_failed Unknown h = absurd cc
-is_store_failed TooLarge h = absurd cc
-is_store_failed Full h = absurd cc
-is_store_failed NoMemory h = absurd cc
 is_store_failed StoreFailed h = refl
+is_store_failed a h = absurd cc
 
--- what holds from this state on: the deposits with receipts are in each list that the last state is the front of
-abbrev Lasts : Terms → List Sent → List Asked → List Answer → List Sent → List Sent → Type 0
-Lasts terms state requests answers last list = IsFront state last × AllZip (IsHeldIn list) requests answers
+-- what holds from this state on: the deposits with receipts are in each list to which the last state grows
+abbrev Lasts : Terms → List Deposit → List Asked → List Answer → List Deposit → List Deposit → Type 0
+Lasts terms state requests answers last list = Grows state last × AllZip (IsHeldIn list) requests answers
 
-lasts_step : (terms : Terms) (state : List Sent) (r : Asked) (requests : List Asked) (a : Answer) (answers : List Answer) (last list : List Sent) (t : Bool) → is_failed a ≡ t → IsAnswer terms state r a → IsFront last list
-    → ((next : List Sent) → AreAnswers terms next requests answers last → Lasts terms next requests answers last list)
-    → MatchBool t ((last ≡ state) × AreFailed requests answers) ((next : List Sent) × IsAfter terms state r a next × AreAnswers terms next requests answers last) → Lasts terms state (r ∷ requests) (a ∷ answers) last list
-lasts_step terms state r requests a answers last list true fails is front rest w = (front_itself state last w.0, (failed_held list r a (is_store_failed a fails), all_failed list requests answers w.1))
-lasts_step terms state r requests a answers last list false lives is front rest w =
+lasts_step : (terms : Terms) (state : List Deposit) (r : Asked) (requests : List Asked) (a : Answer)
+    (answers : List Answer) (last list : List Deposit) (t : Bool) → is_failed a ≡ t → IsAnswer terms state r a
+    → Grows last list
+    → ((next : List Deposit) → AreAnswers terms next requests answers last
+    → Lasts terms next requests answers last list)
+    → MatchBool t ((last ≡ state) × AreFailed requests answers)
+    ((next : List Deposit) × IsAfter terms state r a next × AreAnswers terms next requests answers last)
+    → Lasts terms state (r ∷ requests) (a ∷ answers) last list
+lasts_step terms state r requests a answers last list true fails is there rest w =
+    let failed = failed_held list r a (is_store_failed a fails) in
+    (grows_itself state last w.0, (failed, all_failed list requests answers w.1))
+lasts_step terms state r requests a answers last list false lives is there rest w =
     let more = rest w.0 w.2 in
-    let grows = after_front terms r state w.0 a lives w.1 in
-    (front_then state w.0 last grows more.0, (held_then w.0 list r a (front_then w.0 last list more.0 front) (held_next terms state w.0 r a is w.1), more.1))
+    let grows = after_grows terms r state w.0 a lives w.1 in
+    let held = held_then w.0 list r a (grows_then w.0 last list more.0 there) (held_next terms state w.0 r a is w.1) in
+    (grows_then state w.0 last grows more.0, (held, more.1))
 
-lasts : (terms : Terms) (state : List Sent) (requests : List Asked) (answers : List Answer) (last list : List Sent) → AreAnswers terms state requests answers last → IsFront last list → Lasts terms state requests answers last list
-lasts terms state [] [] last list h front = (front_itself state last h, tt)
-lasts terms state [] (a ∷ answers) last list h front = absurd h
-lasts terms state (r ∷ requests) [] last list h front = absurd h
-lasts terms state (r ∷ requests) (a ∷ answers) last list h front =
-    lasts_step terms state r requests a answers last list (is_failed a) refl h.0 front (λ next k. lasts terms next requests answers last list k front) h.1
+lasts : (terms : Terms) (state : List Deposit) (requests : List Asked) (answers : List Answer)
+    (last list : List Deposit) → AreAnswers terms state requests answers last → Grows last list
+    → Lasts terms state requests answers last list
+lasts terms state [] [] last list h there = (grows_itself state last h, tt)
+lasts terms state [] (a ∷ answers) last list h there = absurd h
+lasts terms state (r ∷ requests) [] last list h there = absurd h
+lasts terms state (r ∷ requests) (a ∷ answers) last list h there =
+    lasts_step terms state r requests a answers last list (is_failed a) refl h.0 there
+    (λ next k. lasts terms next requests answers last list k there) h.1
 
-left_front : (terms : Terms) (requests : List Asked) (answers : List Answer) (state list : List Sent)
-    → (list ≡ state) ⊎ ((r : Asked) × (failing requests answers ≡ Some r) × Changes terms state r list) → IsFront state list
-left_front terms requests answers state list (inl h) = front_itself state list h
-left_front terms requests answers state list (inr h) = changes_front terms h.0 state list h.2
+left_grows : (terms : Terms) (requests : List Asked) (answers : List Answer) (state list : List Deposit)
+    → (list ≡ state) ⊎ ((r : Asked) × (failing requests answers ≡ Some r) × Changes terms state r list)
+    → Grows state list
+left_grows terms requests answers state list (inl h) = grows_itself state list h
+left_grows terms requests answers state list (inr h) = changes_grow terms h.0 state list h.2
 
 pub receipts_last : {K : Type 0} (keep : Ghosts K) (rules : List Rule) (old new : K) (requests : List Asked) (answers : List Answer) → Runs keep rules old new requests answers
-    → (list : List Sent) → keep.may_leave new list → AllZip (IsHeldIn list) requests answers
+    → (list : List Deposit) → keep.may_leave new list → AllZip (IsHeldIn list) requests answers
 receipts_last keep rules old new requests answers runs list may =
-    (lasts (terms_at keep rules old) (keep.deposits old) requests answers runs.last list runs.answered (left_front (terms_at keep rules old) requests answers runs.last list (runs.left list may))).1
+    let terms = terms_at keep rules old in
+    let grows = left_grows terms requests answers runs.last list (runs.left list may) in
+    (lasts terms (keep.deposits old) requests answers runs.last list runs.answered grows).1

@@ -9,7 +9,8 @@ use Rattle.reg_policy.specs.declared.rule.Rule.{Rule}
 use Rattle.reg_policy.specs.declared.callers.Caller.{Caller}
 use Rattle.reg_policy.specs.declared.subject.Decision.TheVariants.{Permit, Deny}
 use Rattle.reg_policy.specs.declared.subject.Verb.TheVariants as verbs
-use Rattle.reg_store.specs.Sent.{Sent, numbers_from}
+use Rattle.reg_store.specs.Sent.{numbers_from}
+use Rattle.reg_store.specs.Deposit.{Deposit, sents}
 use Rattle.reg_store.specs.Keep.{is_store}
 use Rattle.reg_store.specs.declared.keep.Keep.{Ghosts}
 use Rattle.reg_store.specs.declared.keep.KeepError.{KeepError}
@@ -30,68 +31,85 @@ with_line None more = more
 with_line (Some line) more = line ∷ more
 
 -- the lines of the deposits that have these numbers
-abbrev pub AreLines : Terms → Caller → ℤ → (ℕ → Option Sent) → List ℕ → List Listed → Type 0
+abbrev pub AreLines : Terms → Caller → ℤ → (ℕ → Option Deposit) → List ℕ → List Listed → Type 0
 AreLines terms caller day at [] lines = lines ≡ []
 AreLines terms caller day at (n ∷ numbers) lines =
-    (kept : Sent) × (line : Option Listed) × (more : List Listed) × (at n ≡ Some kept) × IsLineFor terms caller day n kept line × (lines ≡ with_line line more) × AreLines terms caller day at numbers more
+    (kept : Deposit) × (line : Option Listed) × (more : List Listed) ×
+    (at n ≡ Some kept) × IsLineFor terms caller day n kept line ×
+    (lines ≡ with_line line more) × AreLines terms caller day at numbers more
 
 -- the lines so far, where these numbers are left
-abbrev pub SoFar : Terms → Caller → ℤ → (ℕ → Option Sent) → List ℕ → List ℕ → List Listed → Type 0
+abbrev pub SoFar : Terms → Caller → ℤ → (ℕ → Option Deposit) → List ℕ → List ℕ → List Listed → Type 0
 SoFar terms caller day at all numbers lines = (rest : List Listed) → AreLines terms caller day at numbers rest → AreLines terms caller day at all (lines ++ rest)
 
-pub lines_begin : (terms : Terms) (caller : Caller) (day : ℤ) (at : ℕ → Option Sent) (all : List ℕ) → SoFar terms caller day at all all []
+pub lines_begin : (terms : Terms) (caller : Caller) (day : ℤ) (at : ℕ → Option Deposit) (all : List ℕ)
+    → SoFar terms caller day at all all []
 lines_begin terms caller day at all = λ rest h. h
 
 abbrev pub put_line : List Listed → Option Listed → List Listed
 put_line lines None = lines
 put_line lines (Some line) = lines ++ line ∷ []
 
-lines_more : (terms : Terms) (caller : Caller) (day : ℤ) (at : ℕ → Option Sent) (all : List ℕ) (n : ℕ) (numbers : List ℕ) (lines : List Listed) (kept : Sent) (line : Option Listed)
+lines_more : (terms : Terms) (caller : Caller) (day : ℤ) (at : ℕ → Option Deposit) (all : List ℕ) (n : ℕ)
+    (numbers : List ℕ) (lines : List Listed) (kept : Deposit) (line : Option Listed)
     → SoFar terms caller day at all (n ∷ numbers) lines → at n ≡ Some kept → IsLineFor terms caller day n kept line → SoFar terms caller day at all numbers (put_line lines line)
 lines_more terms caller day at all n numbers lines kept None so_far holds listed = λ rest h. so_far rest (kept, None, rest, holds, listed, refl, h)
 lines_more terms caller day at all n numbers lines kept (Some line) so_far holds listed = λ rest h.
     subst (AreLines terms caller day at all) (sym (append_assoc lines (line ∷ []) rest)) (so_far (line ∷ rest) (kept, Some line, rest, holds, listed, refl, h))
 
-pub lines_end : (terms : Terms) (caller : Caller) (day : ℤ) (at : ℕ → Option Sent) (all : List ℕ) (lines : List Listed) → SoFar terms caller day at all [] lines → AreLines terms caller day at all lines
+pub lines_end : (terms : Terms) (caller : Caller) (day : ℤ) (at : ℕ → Option Deposit) (all : List ℕ)
+    (lines : List Listed) → SoFar terms caller day at all [] lines → AreLines terms caller day at all lines
 lines_end terms caller day at all lines so_far = subst (AreLines terms caller day at all) (append-nil lines) (so_far [] refl)
 
 -- ---- the project's numbers
 
 -- where a list that is numbered from n stands
-abbrev Stands : (ℕ → Option Sent) → ℕ → List Sent → Type 0
-Stands at n state = (i k : ℕ) (d : Sent) → slice_get state i ≡ Some d → k ≡ n + i → at k ≡ Some d
+abbrev Stands : (ℕ → Option Deposit) → ℕ → List Deposit → Type 0
+Stands at n state = (i k : ℕ) (d : Deposit) → slice_get state i ≡ Some d → k ≡ n + i → at k ≡ Some d
 
-same_some : (o : Option Sent) (d e : Sent) → o ≡ Some d → o ≡ Some e → d ≡ e
+same_some : (o : Option Deposit) (d e : Deposit) → o ≡ Some d → o ≡ Some e → d ≡ e
 same_some o d e a b = cc
 
-listed_then : (terms : Terms) (caller : Caller) (project : List ℕ) (day : ℤ) (n : ℕ) (d : Sent) (state : List Sent) (lines more : List Listed) (line : Option Listed) → IsLineFor terms caller day n d line → lines ≡ with_line line more
+listed_then : (terms : Terms) (caller : Caller) (project : List ℕ) (day : ℤ) (n : ℕ) (d : Deposit)
+    (state : List Deposit) (lines more : List Listed) (line : Option Listed) → IsLineFor terms caller day n d line
+    → lines ≡ with_line line more
     → IsListing terms caller project day (n + 1) state more
-    → (IsSeen terms caller day d × ((l : List Listed) × (lines ≡ record { number = n; firm = d.firm; embargo = d.embargo } ∷ l) × IsListing terms caller project day (n + 1) state l))
+    → (IsSeen terms caller day d × ((l : List Listed) ×
+    (lines ≡ record { number = n; firm = d.sent.firm; embargo = d.sent.embargo } ∷ l) × IsListing terms caller project
+    day (n + 1) state l))
     ⊎ ((IsSeen terms caller day d → ⊥) × IsListing terms caller project day (n + 1) state lines)
 listed_then terms caller project day n d state lines more None listed is rest = inr (listed, subst (IsListing terms caller project day (n + 1) state) (sym is) rest)
 listed_then terms caller project day n d state lines more (Some line) listed is rest = inl (listed.0, (more, is ∙ ap (λ (l : Listed). l ∷ more) listed.1, rest))
 
-listing_step : (terms : Terms) (caller : Caller) (project : List ℕ) (day : ℤ) (at : ℕ → Option Sent) (n : ℕ) (d : Sent) (state : List Sent) (numbers : List ℕ) (lines : List Listed) (t : Bool) → at n ≡ Some d
+listing_step : (terms : Terms) (caller : Caller) (project : List ℕ) (day : ℤ) (at : ℕ → Option Deposit) (n : ℕ)
+    (d : Deposit) (state : List Deposit) (numbers : List ℕ) (lines : List Listed) (t : Bool) → at n ≡ Some d
     → ((l : List Listed) → AreLines terms caller day at numbers l → IsListing terms caller project day (n + 1) state l)
     → AreLines terms caller day at (cond t (n ∷ numbers) numbers) lines
-    → MatchBool t ((IsSeen terms caller day d × ((l : List Listed) × (lines ≡ record { number = n; firm = d.firm; embargo = d.embargo } ∷ l) × IsListing terms caller project day (n + 1) state l))
+    → MatchBool t ((IsSeen terms caller day d ×
+    ((l : List Listed) × (lines ≡ record { number = n; firm = d.sent.firm; embargo = d.sent.embargo } ∷ l) × IsListing
+    terms caller project day (n + 1) state l))
     ⊎ ((IsSeen terms caller day d → ⊥) × IsListing terms caller project day (n + 1) state lines)) (IsListing terms caller project day (n + 1) state lines)
 listing_step terms caller project day at n d state numbers lines true holds rest h =
     let same : h.0 ≡ d = same_some (at n) h.0 d h.3 holds in
-    listed_then terms caller project day n d state lines h.2 h.1 (subst (λ (k : Sent). IsLineFor terms caller day n k h.1) same h.4) h.5 (rest h.2 h.6)
+    listed_then terms caller project day n d state lines h.2 h.1
+    (subst (λ (k : Deposit). IsLineFor terms caller day n k h.1) same h.4) h.5 (rest h.2 h.6)
 listing_step terms caller project day at n d state numbers lines false holds rest h = rest lines h
 
-lines_listing : (terms : Terms) (caller : Caller) (project : List ℕ) (day : ℤ) (at : ℕ → Option Sent) (n : ℕ) (state : List Sent) → Stands at n state
-    → (lines : List Listed) → AreLines terms caller day at (numbers_from n project state) lines → IsListing terms caller project day n state lines
+lines_listing : (terms : Terms) (caller : Caller) (project : List ℕ) (day : ℤ) (at : ℕ → Option Deposit) (n : ℕ)
+    (state : List Deposit) → Stands at n state
+    → (lines : List Listed) → AreLines terms caller day at (numbers_from n project (sents state)) lines
+    → IsListing terms caller project day n state lines
 lines_listing terms caller project day at n [] stands lines h = h
 lines_listing terms caller project day at n (d ∷ state) stands lines h =
-    listing_step terms caller project day at n d state (numbers_from (n + 1) project state) lines (bytes_eq d.project project) (stands 0 n d refl (omega arith))
+    listing_step terms caller project day at n d state (numbers_from (n + 1) project (sents state)) lines
+    (bytes_eq d.sent.project project) (stands 0 n d refl (omega arith))
     (lines_listing terms caller project day at (n + 1) state (λ i k e is same. stands (suc i) k e is (omega (arith, same)))) h
 
-held_stands : (state : List Sent) → Stands (λ k. held k state) 1 state
+held_stands : (state : List Deposit) → Stands (λ k. held k state) 1 state
 held_stands state = λ i k d is same. let e : k ≡ suc i = omega (arith, same) in subst (λ (m : ℕ). held m state ≡ Some d) (sym e) is
 
-pub listing_of : (terms : Terms) (caller : Caller) (project : List ℕ) (day : ℤ) (state : List Sent) (lines : List Listed) → AreLines terms caller day (λ k. held k state) (numbers_from 1 project state) lines
+pub listing_of : (terms : Terms) (caller : Caller) (project : List ℕ) (day : ℤ) (state : List Deposit)
+    (lines : List Listed) → AreLines terms caller day (λ k. held k state) (numbers_from 1 project (sents state)) lines
     → IsListing terms caller project day 1 state lines
 listing_of terms caller project day state lines h = lines_listing terms caller project day (λ k. held k state) 1 state (held_stands state) lines h
 
@@ -104,11 +122,15 @@ within_step true n count numbers rest zero lt = (omega arith, omega arith)
 within_step true n count numbers rest (suc i) lt = let h = rest i (omega (arith, lt)) in (omega (arith, h.0), omega (arith, h.1))
 within_step false n count numbers rest i lt = let h = rest i lt in (omega (arith, h.0), omega (arith, h.1))
 
-numbers_within : (project : List ℕ) (n : ℕ) (state : List Sent) → IsWithin n (length state) (numbers_from n project state)
+numbers_within : (project : List ℕ) (n : ℕ) (state : List Deposit)
+    → IsWithin n (length state) (numbers_from n project (sents state))
 numbers_within project n [] = λ i lt. absurd (omega (arith, lt))
-numbers_within project n (d ∷ state) = within_step (bytes_eq d.project project) n (length state) (numbers_from (n + 1) project state) (numbers_within project (n + 1) state)
+numbers_within project n (d ∷ state) = within_step (bytes_eq d.sent.project project) n (length state)
+    (numbers_from (n + 1) project (sents state)) (numbers_within project (n + 1) state)
 
-pub number_within : (project : List ℕ) (state : List Sent) (numbers : List ℕ) (i : ℕ) → numbers ≡ numbers_from 1 project state → i < length numbers → (0 < get_or numbers i 0) × (get_or numbers i 0 ≤ length state)
+pub number_within : (project : List ℕ) (state : List Deposit) (numbers : List ℕ) (i : ℕ)
+    → numbers ≡ numbers_from 1 project (sents state) → i < length numbers
+    → (0 < get_or numbers i 0) × (get_or numbers i 0 ≤ length state)
 number_within project state numbers i same lt =
     let h = subst (IsWithin 1 (length state)) (sym same) (numbers_within project 1 state) i lt in
     (omega (arith, h.0), omega (arith, h.1))
@@ -121,7 +143,8 @@ drop_get (n ∷ numbers) zero lt = refl
 drop_get (n ∷ numbers) (suc i) lt = drop_get numbers i (omega (arith, lt))
 
 -- one more number
-pub number_more : (terms : Terms) (caller : Caller) (day : ℤ) (state : List Sent) (all : List ℕ) (i : ℕ) (lines : List Listed) (kept : Sent) (line : Option Listed) → i < length all
+pub number_more : (terms : Terms) (caller : Caller) (day : ℤ) (state : List Deposit) (all : List ℕ) (i : ℕ)
+    (lines : List Listed) (kept : Deposit) (line : Option Listed) → i < length all
     → SoFar terms caller day (λ k. held k state) all (drop i all) lines → held (get_or all i 0) state ≡ Some kept → IsLineFor terms caller day (get_or all i 0) kept line
     → SoFar terms caller day (λ k. held k state) all (drop (suc i) all) (put_line lines line)
 number_more terms caller day state all i lines kept line lt so_far holds listed =
@@ -129,8 +152,10 @@ number_more terms caller day state all i lines kept line lt so_far holds listed 
     (subst (λ (l : List ℕ). SoFar terms caller day (λ k. held k state) all l lines) (drop_get all i lt) so_far) holds listed
 
 -- one more number, whose deposit is seen or not
-pub number_step : (terms : Terms) (caller : Caller) (day : ℤ) (state : List Sent) (all : List ℕ) (i : ℕ) (lines : List Listed) (line : Option Listed) → i < length all
-    → (0 < get_or all i 0) × (get_or all i 0 ≤ length state) → ((d : Sent) → held (get_or all i 0) state ≡ Some d → ∥ IsLineFor terms caller day (get_or all i 0) d line ∥₁)
+pub number_step : (terms : Terms) (caller : Caller) (day : ℤ) (state : List Deposit) (all : List ℕ) (i : ℕ)
+    (lines : List Listed) (line : Option Listed) → i < length all
+    → (0 < get_or all i 0) × (get_or all i 0 ≤ length state)
+    → ((d : Deposit) → held (get_or all i 0) state ≡ Some d → ∥ IsLineFor terms caller day (get_or all i 0) d line ∥₁)
     → ∥ SoFar terms caller day (λ k. held k state) all (drop i all) lines ∥₁ → ∥ SoFar terms caller day (λ k. held k state) all (drop (i + 1) all) (put_line lines line) ∥₁
 number_step terms caller day state all i lines line lt within listed so_far =
     let d = held_at state (get_or all i 0) within.0 within.1 in
@@ -140,7 +165,8 @@ number_step terms caller day state all i lines line lt within listed so_far =
     subst (λ (k : ℕ). SoFar terms caller day (λ k. held k state) all (drop k all) (put_line lines line)) (sym next)
     (number_more terms caller day state all i lines d.0 line lt f d.2 is)))
 
-pub lines_whole : (terms : Terms) (caller : Caller) (project : List ℕ) (day : ℤ) (state : List Sent) (all : List ℕ) (i : ℕ) (lines : List Listed) → length all ≤ i → all ≡ numbers_from 1 project state
+pub lines_whole : (terms : Terms) (caller : Caller) (project : List ℕ) (day : ℤ) (state : List Deposit) (all : List ℕ)
+    (i : ℕ) (lines : List Listed) → length all ≤ i → all ≡ numbers_from 1 project (sents state)
     → ∥ SoFar terms caller day (λ k. held k state) all (drop i all) lines ∥₁ → ∥ IsListing terms caller project day 1 state lines ∥₁
 lines_whole terms caller project day state all i lines le same so_far =
     ∥∥₁_map so_far (λ (f : SoFar terms caller day (λ k. held k state) all (drop i all) lines).
@@ -154,10 +180,11 @@ terms_same keep rules old new failed reads =
 
 -- ---- the answers to a list
 
-abbrev IsListingAnswer : Terms → List Sent → Caller → List ℕ → ℤ → Answer → Type 0
+abbrev IsListingAnswer : Terms → List Deposit → Caller → List ℕ → ℤ → Answer → Type 0
 IsListingAnswer terms state caller project day r = (lines : List Listed) × IsListing terms caller project day 1 state lines × (r ≡ Listing lines)
 
-listing_asks : (terms : Terms) (state : List Sent) (caller : Caller) (project : List ℕ) (day : ℤ) (k : ℕ) → decided terms caller project verbs.List ≡ Permit k → AsksStore (IsReply terms state (listing caller project day))
+listing_asks : (terms : Terms) (state : List Deposit) (caller : Caller) (project : List ℕ) (day : ℤ) (k : ℕ)
+    → decided terms caller project verbs.List ≡ Permit k → AsksStore (IsReply terms state (listing caller project day))
 listing_asks terms state caller project day k permit =
     asks_of (IsListingAnswer terms state caller project day) (IsReply terms state (listing caller project day))
     (λ reply is. permit_stands (decided terms caller project verbs.List) k (IsListingAnswer terms state caller project day) reply permit is)

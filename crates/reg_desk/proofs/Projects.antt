@@ -15,7 +15,7 @@ use Rattle.ags_links.specs.Steps.{StepAt}
 use Rattle.ags_links.specs.Walks.{IsWalk}
 use Rattle.ags_links.proofs.Lemmas.{one_at, at_map, row_of_group, reach_itself, contains_cons}
 use Rattle.ags_check.specs.Findings.{CheckedFile, IsClean, file_of}
-use Rattle.reg_store.specs.Sent.{Sent}
+use Rattle.reg_store.specs.Deposit.{Deposit, sents}
 use Rattle.reg_store.specs.Fit.{IsFileOf, kept_rows}
 use Rattle.reg_store.specs.Project.{project_from, project_of, targets_of}
 use Rattle.reg_store.specs.declared.keep.Keep.{Ghosts}
@@ -185,18 +185,27 @@ project_reads file project clean is unreadable = let line = its_line file clean 
 -- ---- the file of a deposit
 
 -- what holds of the file of a deposit after a call that only read held of it before
-pub of_file_before : {K : Type 0} (keep : Ghosts K) (old new : K) (number : ℕ) (Holds : CheckedFile → Type 0) → OnlyReads keep old new false → keep.is_sound new → OfDeposit (keep.dictionary new) (keep.deposits new) number Holds → OfDeposit (keep.dictionary old) (keep.deposits old) number Holds
+pub of_file_before : {K : Type 0} (keep : Ghosts K) (old new : K) (number : ℕ) (Holds : CheckedFile → Type 0)
+    → OnlyReads keep old new false → keep.is_sound new
+    → OfDeposit (keep.dictionary new) (sents (keep.deposits new)) number Holds
+    → OfDeposit (keep.dictionary old) (sents (keep.deposits old)) number Holds
 of_file_before keep old new number Holds reads s holds = λ d file at is.
-    holds d file (ap (λ (l : List Sent). slice_get l (number - 1)) (reads.same s refl) ∙ at) (subst (λ (e : Entries). IsFileOf e d file) (sym reads.same_dictionary) is)
+    holds d file (ap (λ (l : List Deposit). slice_get (sents l) (number - 1)) (reads.same s refl) ∙ at)
+    (subst (λ (e : Entries). IsFileOf e d file) (sym reads.same_dictionary) is)
 
-pub of_file_after : {K : Type 0} (keep : Ghosts K) (old new : K) (number : ℕ) (Holds : CheckedFile → Type 0) → OnlyReads keep old new false → keep.is_sound new → OfDeposit (keep.dictionary old) (keep.deposits old) number Holds → OfDeposit (keep.dictionary new) (keep.deposits new) number Holds
+pub of_file_after : {K : Type 0} (keep : Ghosts K) (old new : K) (number : ℕ) (Holds : CheckedFile → Type 0)
+    → OnlyReads keep old new false → keep.is_sound new
+    → OfDeposit (keep.dictionary old) (sents (keep.deposits old)) number Holds
+    → OfDeposit (keep.dictionary new) (sents (keep.deposits new)) number Holds
 of_file_after keep old new number Holds reads s holds = λ d file at is.
-    holds d file (ap (λ (l : List Sent). slice_get l (number - 1)) (sym (reads.same s refl)) ∙ at) (subst (λ (e : Entries). IsFileOf e d file) reads.same_dictionary is)
+    holds d file (ap (λ (l : List Deposit). slice_get (sents l) (number - 1)) (sym (reads.same s refl)) ∙ at)
+    (subst (λ (e : Entries). IsFileOf e d file) reads.same_dictionary is)
 
 -- a number of the list stays one
 pub within_after : {K : Type 0} (keep : Ghosts K) (old new : K) (number : ℕ) → OnlyReads keep old new false → (keep.is_sound old → (0 < number) × (number ≤ length (keep.deposits old)))
     → keep.is_sound new → (0 < number) × (number ≤ length (keep.deposits new))
-within_after keep old new number reads within s = subst (λ (l : List Sent). (0 < number) × (number ≤ length l)) (sym (reads.same s refl)) (within (reads.sound s))
+within_after keep old new number reads within s = subst (λ (l : List Deposit). (0 < number) × (number ≤ length l))
+    (sym (reads.same s refl)) (within (reads.sound s))
 
 -- the row of PROJ decides alone
 pub sees_hidden : (look : Look) (file : CheckedFile) → IsOpen look file None → Sees look file false

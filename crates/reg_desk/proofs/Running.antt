@@ -7,7 +7,7 @@ use Rattle.ags_dict.specs.Entries.{Entries}
 use Rattle.std.proofs.Math.Logic.{∥∥₁_map, ∥∥₁_elim}
 use Rattle.std.specs.Prelude.{option_map}
 use Rattle.reg_policy.specs.declared.rule.Rule.{Rule}
-use Rattle.reg_store.specs.Sent.{Sent}
+use Rattle.reg_store.specs.Deposit.{Deposit}
 use Rattle.reg_store.specs.declared.keep.Keep.{Ghosts}
 use Rattle.reg_desk.specs.Asked.{Asked, asked}
 use Rattle.reg_desk.specs.declared.request.Request.{Request}
@@ -45,7 +45,7 @@ was_sound keep old new (r ∷ requests) (a ∷ answers) by sound =
 
 -- a keep that has not failed leaves its own list alone
 abbrev Settled : {K : Type 0} → Ghosts K → Type 0
-Settled {K} keep = (k : K) (list : List Sent) → keep.is_sound k → keep.has_failed k ≡ false → keep.may_leave k list → list ≡ keep.deposits k
+Settled {K} keep = (k : K) (list : List Deposit) → keep.is_sound k → keep.has_failed k ≡ false → keep.may_leave k list → list ≡ keep.deposits k
 
 -- a keep that has not failed leaves a register of some list
 abbrev Unbroken : {K : Type 0} → Ghosts K → Type 0

@@ -13,14 +13,14 @@ use Rattle.reg_policy.specs.declared.callers.Caller.{Caller}
 use Rattle.reg_policy.specs.declared.subject.Decision.{Decision}
 use Rattle.reg_policy.specs.declared.subject.Decision.TheVariants.{Permit, Deny}
 use Rattle.reg_policy.specs.declared.subject.Verb.TheVariants as verbs
-use Rattle.reg_store.specs.Sent.{Sent}
-use Rattle.reg_desk.specs.Asked.{Asked, deposit, check, listing, extract}
+use Rattle.reg_store.specs.Deposit.{Deposit, sents}
+use Rattle.reg_desk.specs.Asked.{Asked, deposit, check, listing, extract, withdraw}
 use Rattle.reg_desk.specs.declared.answer.Listed.{Listed}
 use Rattle.reg_desk.specs.declared.answer.Answer.{Answer}
 use Rattle.reg_desk.specs.declared.answer.Answer.TheVariants.{Clean, Findings, Listing, Text, Denied, Unknown, TooLarge}
 use Rattle.reg_desk.specs.Shown.{Look, IsDrawnAt}
 use Rattle.reg_desk.specs.Extract.{extract_contents, IsExtractText}
-use Rattle.reg_desk.specs.Machine.{Terms, decided, look_at, IsSeen, IsTextOf, OrDenied, OrFound, OrRefused, first_equal, receipt_of, listed_line, IsListing, held, IsDrawnFrom, Changes, IsNext, IsRun}
+use Rattle.reg_desk.specs.Machine.{Terms, decided, look_at, IsSeen, IsTextOf, OrDenied, OrFound, OrRefused, first_equal, receipt_of, listed_line, IsListing, held, IsDrawnFrom, withdrawal_of, Changes, IsNext, IsRun}
 use Rattle.reg_desk.specs.Laws.{ThereIs, SomeReply, SomeRun, NoLeak, with_bytes}
 use Rattle.reg_desk.proofs.SomeFindings.{either, some_findings}
 use Rattle.reg_desk.proofs.Walks.{drawn_shown}
@@ -55,21 +55,28 @@ where_seen true Seen One Other one other none = either Seen (λ x. elim x [
 ])
 where_seen false Seen One Other one other none = other none
 
-some_listing : (terms : Terms) (caller : Caller) (project : List ℕ) (day : ℤ) (n : ℕ) (state : List Sent) → ThereIs (IsListing terms caller project day n state)
+some_listing : (terms : Terms) (caller : Caller) (project : List ℕ) (day : ℤ) (n : ℕ) (state : List Deposit)
+    → ThereIs (IsListing terms caller project day n state)
 some_listing terms caller project day n [] none = none [] refl
 some_listing terms caller project day n (kept ∷ state) none =
     let rest = some_listing terms caller project day (n + 1) state in
-    where_seen (bytes_eq kept.project project) (IsSeen terms caller day kept)
-    (λ lines. (more : List Listed) × (lines ≡ listed_line n kept ∷ more) × IsListing terms caller project day (n + 1) state more)
+    where_seen (bytes_eq kept.sent.project project) (IsSeen terms caller day kept)
+    (λ lines.
+    (more : List Listed) × (lines ≡ listed_line n kept.sent ∷ more)
+    × IsListing terms caller project day (n + 1) state more)
     (IsListing terms caller project day (n + 1) state)
-    (λ seen absent. rest (λ more h. absent (listed_line n kept ∷ more) (more, refl, h))) rest none
+    (λ seen absent. rest (λ more h. absent (listed_line n kept.sent ∷ more) (more, refl, h))) rest none
 
-some_drawn : (terms : Terms) (caller : Caller) (project : List ℕ) (groups : List (List ℕ)) (day : ℤ) (of : Option Sent) → ThereIs (IsDrawnFrom terms caller project groups day of)
+some_drawn : (terms : Terms) (caller : Caller) (project : List ℕ) (groups : List (List ℕ)) (day : ℤ)
+    (of : Option Deposit) → ThereIs (IsDrawnFrom terms caller project groups day of)
 some_drawn terms caller project groups day None none = none Unknown refl
 some_drawn terms caller project groups day (Some kept) none =
-    where_seen (bytes_eq kept.project project) (IsSeen terms caller day kept)
-    (λ reply. (text : List ℕ) × IsTextOf terms caller day groups kept text × (reply ≡ Text text)) (λ reply. reply ≡ Unknown)
-    (λ seen absent. some_text (look_at terms caller day kept) seen.0 groups (λ text h. absent (Text text) (text, (seen.0, seen.1, h), refl)))
+    where_seen (bytes_eq kept.sent.project project) (IsSeen terms caller day kept)
+    (λ reply. (text : List ℕ) × IsTextOf terms caller day groups kept.sent text × (reply ≡ Text text))
+    (λ reply. reply ≡ Unknown)
+    (λ seen absent.
+    some_text (look_at terms caller day kept.sent) seen.1.0 groups
+    (λ text h. absent (Text text) (text, (seen.1.0, seen.1.1, h), refl)))
     (λ absent. absent Unknown refl) none
 
 or_denied : (d : Decision) (Stands : Answer → Type 0) → ThereIs Stands → ThereIs (OrDenied d Stands)
@@ -89,7 +96,7 @@ or_refused terms bytes Stands some = by (nat_lt LIMIT (length bytes))
 
 pub some_reply : SomeReply
 some_reply terms state (deposit caller project embargo bytes day) =
-    let receipt = receipt_of terms embargo (length state) (first_equal 1 caller.firm project bytes state) in
+    let receipt = receipt_of terms embargo (length state) (first_equal 1 caller.firm project bytes (sents state)) in
     or_denied (decided terms caller project verbs.Deposit) (OrRefused terms bytes (λ r. r ≡ receipt)) (or_refused terms bytes (λ r. r ≡ receipt) (λ none. none receipt refl))
 some_reply terms state (check caller project bytes day) =
     or_denied (decided terms caller project verbs.Check) (OrRefused terms bytes (λ r. r ≡ Clean)) (or_refused terms bytes (λ r. r ≡ Clean) (λ none. none Clean refl))
@@ -98,11 +105,14 @@ some_reply terms state (listing caller project day) =
     (λ none. some_listing terms caller project day 1 state (λ lines h. none (Listing lines) (lines, h, refl)))
 some_reply terms state (extract caller project number groups day) =
     or_denied (decided terms caller project verbs.Extract) (IsDrawnFrom terms caller project groups day (held number state)) (some_drawn terms caller project groups day (held number state))
+some_reply terms state (withdraw caller project number day) =
+    let reply = withdrawal_of caller project number (held number state) in
+    or_denied (decided terms caller project verbs.Withdraw) (λ r. r ≡ reply) (λ none. none reply refl)
 
 -- ---- a run
 
-some_next : (terms : Terms) (state : List Sent) (request : Asked) → ThereIs (IsNext terms state request)
-some_next terms state request none = either ((list : List Sent) × Changes terms state request list) (λ x. elim x [
+some_next : (terms : Terms) (state : List Deposit) (request : Asked) → ThereIs (IsNext terms state request)
+some_next terms state request none = either ((list : List Deposit) × Changes terms state request list) (λ x. elim x [
   | inl change ↦ none change.0 (inl change.1)
   | inr never ↦ none state (inr (λ list change. never (list, change), refl))
 ])
@@ -115,7 +125,8 @@ some_run terms state (request ∷ requests) none =
 
 pub no_leak : NoLeak
 no_leak terms before after kept bytes file other clean other_clean requests tells replies final run =
-    let same = λ (others : List Answer) (last : List Sent) (rest : IsRun terms (before ++ with_bytes kept bytes ∷ after) requests others last).
+    let same = λ (others : List Answer) (last : List Deposit)
+    (rest : IsRun terms (before ++ with_bytes kept bytes ∷ after) requests others last).
     same_replies terms before after kept bytes file other clean other_clean requests tells replies others final last run rest in (
       same,
       λ none. some_run terms (before ++ with_bytes kept bytes ∷ after) requests (λ other_run rest.

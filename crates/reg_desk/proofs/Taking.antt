@@ -1,5 +1,5 @@
 -- A deposit: taken once, with a receipt.
-use Rattle.std.proofs.Common.{◌≡◌, ◌≢◌, ℕ, ◌+◌, ◌-◌, ◌<◌, ◌≤◌, Bool, true, false, cond, Option, Some, None, Ok, Err, List, [], ◌∷◌, ◌++◌, refl, sym, ap, subst, ◌∙◌, inl, inr, ◌⊎◌, arith, length-append}
+use Rattle.std.proofs.Common.{◌≡◌, ◌≢◌, ℕ, ◌+◌, ◌-◌, ◌<◌, ◌≤◌, Bool, true, false, cond, Option, Some, None, Ok, Err, List, [], ◌∷◌, ◌++◌, refl, sym, ap, subst, ◌∙◌, inl, inr, arith, length-append}
 use Rattle.std.specs.Prelude.{ℤ, nat_lt, length, slice_get, Result}
 use Rattle.std.proofs.lemmas.Bool.{cases_Bool, ltb-true, lt-ltb}
 use Rattle.std.proofs.lemmas.Option.{slice_get_within}
@@ -11,7 +11,9 @@ use Rattle.reg_policy.specs.declared.callers.Caller.{Caller}
 use Rattle.reg_policy.specs.declared.subject.Decision.TheVariants.{Permit, Deny}
 use Rattle.reg_policy.specs.declared.subject.Verb.TheVariants as verbs
 use Rattle.reg_store.specs.Sent.{Sent, number_of}
-use Rattle.reg_store.specs.Keep.{is_store, Adds, IsHeadOf}
+use Rattle.reg_store.specs.Deposit.{Deposit, sents, unmarked}
+use Rattle.reg_store.proofs.Lemmas.{length_sents, deposit_at}
+use Rattle.reg_store.specs.Keep.{is_store, IsHeadOf}
 use Rattle.reg_store.specs.declared.keep.Keep.{Ghosts}
 use Rattle.reg_store.specs.declared.keep.KeepError.{KeepError}
 use Rattle.reg_store.specs.declared.keep.KeptHead.{KeptHead}
@@ -19,18 +21,19 @@ use Rattle.reg_store.specs.declared.keep.KeepError.TheVariants as errors
 use Rattle.reg_desk.specs.Asked.{deposit}
 use Rattle.reg_desk.specs.declared.answer.Answer.{Answer}
 use Rattle.reg_desk.specs.declared.answer.Answer.TheVariants.{Receipt, Denied, Full}
-use Rattle.reg_desk.specs.Machine.{Terms, decided, OrRefused, first_equal, receipt_of, IsReply, IsTaken, asked_deposit, Changes, IsNext}
+use Rattle.reg_desk.specs.Machine.{Terms, decided, OrRefused, first_equal, receipt_of, IsReply, IsTaken, asked_deposit, IsNext}
 use Rattle.reg_desk.specs.Serving.{AsksStore, NeedsMemory, IsRefusal, terms_at, OnlyReads, Serves, answer_of}
 use Rattle.reg_desk.proofs.Taken.{taken_received}
 use Rattle.reg_desk.proofs.Firsts.{first_some}
 use Rattle.reg_desk.proofs.Bodies.{refused_none, refusal_serves}
-use Rattle.reg_desk.proofs.Serves.{told_answer, told_after, memory_answer, memory_after, failed_answer, failed_after, one_owed, asks_of, replies_at_once, refused_serves, replies_serves, permitted_reply, denied_reply}
+use Rattle.reg_desk.proofs.Serves.{Makes, IsMaking, made_serves, unmade_serves, one_owed, asks_of, replies_at_once, refused_serves, replies_serves, permitted_reply, denied_reply}
 
 -- ---- the reply
 
 -- the receipt, or that the register is full
-abbrev IsReceipt : Terms → List Sent → Caller → List ℕ → ℤ → List ℕ → Answer → Type 0
-IsReceipt terms state caller project embargo bytes r = r ≡ receipt_of terms embargo (length state) (first_equal 1 caller.firm project bytes state)
+abbrev IsReceipt : Terms → List Deposit → Caller → List ℕ → ℤ → List ℕ → Answer → Type 0
+IsReceipt terms state caller project embargo bytes r = r ≡ receipt_of terms embargo (length state)
+    (first_equal 1 caller.firm project bytes (sents state))
 
 -- a body that is permitted, not too large and without findings
 pub record IsFine (terms : Terms) (caller : Caller) (project bytes : List ℕ) : Type 0 where
@@ -43,7 +46,8 @@ pub fine_of : (terms : Terms) (caller : Caller) (project bytes : List ℕ) (give
     → AreFindings given bytes [] → IsFine terms caller project bytes
 fine_of terms caller project bytes given n permit small same clean = record { number = n; permitted = permit; small = small; clean = subst (λ (e : Entries). AreFindings e bytes []) same clean }
 
-fine_reply : (terms : Terms) (state : List Sent) (caller : Caller) (project : List ℕ) (embargo : ℤ) (bytes : List ℕ) (day : ℤ) (answer : Answer) → IsFine terms caller project bytes
+fine_reply : (terms : Terms) (state : List Deposit) (caller : Caller) (project : List ℕ) (embargo : ℤ)
+    (bytes : List ℕ) (day : ℤ) (answer : Answer) → IsFine terms caller project bytes
     → IsReceipt terms state caller project embargo bytes answer → IsReply terms state (deposit caller project embargo bytes day) answer
 fine_reply terms state caller project embargo bytes day answer fine is =
     let Stands = IsReceipt terms state caller project embargo bytes in
@@ -57,11 +61,12 @@ receipt_asks terms embargo count None = full (nat_lt count terms.limit)
     full true = ((λ n e. cc, λ e. cc), λ found e. cc, λ e. cc)
     full false = ((λ n e. cc, λ e. cc), λ found e. cc, λ e. cc)
 
-fine_asks : (terms : Terms) (state : List Sent) (caller : Caller) (project : List ℕ) (embargo : ℤ) (bytes : List ℕ) (day : ℤ) → IsFine terms caller project bytes
+fine_asks : (terms : Terms) (state : List Deposit) (caller : Caller) (project : List ℕ) (embargo : ℤ) (bytes : List ℕ)
+    (day : ℤ) → IsFine terms caller project bytes
     → AsksStore (IsReply terms state (deposit caller project embargo bytes day))
 fine_asks terms state caller project embargo bytes day fine =
     let request = deposit caller project embargo bytes day in
-    let first = first_equal 1 caller.firm project bytes state in
+    let first = first_equal 1 caller.firm project bytes (sents state) in
     let receipt = receipt_of terms embargo (length state) first in
     asks_of (IsReceipt terms state caller project embargo bytes) (IsReply terms state request)
     (λ reply is. one_owed terms state request receipt reply is (fine_reply terms state caller project embargo bytes day receipt fine refl))
@@ -81,15 +86,18 @@ receipt_full terms embargo count first none full =
     ap (λ (t : Bool). cond t (Receipt (count + 1) embargo) Full) (sym (ltb_of count terms.limit full)) ∙ ap (receipt_of terms embargo count) (sym none)
 
 -- a reply that is not the receipt of a new deposit takes nothing
-untaken : (terms : Terms) (state : List Sent) (caller : Caller) (project : List ℕ) (embargo : ℤ) (bytes : List ℕ) (day : ℤ) (answer : Answer) → answer ≢ Receipt (length state + 1) embargo
+untaken : (terms : Terms) (state : List Deposit) (caller : Caller) (project : List ℕ) (embargo : ℤ) (bytes : List ℕ)
+    (day : ℤ) (answer : Answer) → answer ≢ Receipt (length state + 1) embargo
     → IsReply terms state (deposit caller project embargo bytes day) answer → IsNext terms state (deposit caller project embargo bytes day) state
 untaken terms state caller project embargo bytes day answer other is = inr (λ list change. other ((taken_received terms state caller project embargo bytes day answer is).0 change.0), refl)
 
 refusal_other : (terms : Terms) (bytes : List ℕ) (n : ℕ) (e : ℤ) (answer : Answer) → IsRefusal terms.dictionary bytes answer → answer ≢ Receipt n e
 refusal_other terms bytes n e answer refusal same = subst (IsRefusal terms.dictionary bytes) same refusal
 
-receipt_needs : (terms : Terms) (state : List Sent) (caller : Caller) (project : List ℕ) (embargo : ℤ) (bytes : List ℕ) → NeedsMemory (IsReceipt terms state caller project embargo bytes)
-receipt_needs terms state caller project embargo bytes = (receipt_asks terms embargo (length state) (first_equal 1 caller.firm project bytes state)).0
+receipt_needs : (terms : Terms) (state : List Deposit) (caller : Caller) (project : List ℕ) (embargo : ℤ)
+    (bytes : List ℕ) → NeedsMemory (IsReceipt terms state caller project embargo bytes)
+receipt_needs terms state caller project embargo bytes =
+    (receipt_asks terms embargo (length state) (first_equal 1 caller.firm project bytes (sents state))).0
 
 -- ---- the answers to a deposit
 
@@ -118,14 +126,19 @@ deposit_unread keep rules caller project embargo bytes day old new e fine reads 
 
 -- an equal deposit is held
 pub deposit_repeats : {K : Type 0} (keep : Ghosts K) (rules : List Rule) (caller : Caller) (project : List ℕ) (embargo : ℤ) (bytes : List ℕ) (day : ℤ) (old new : K) (n : ℕ) (e : ℤ)
-    → IsFine (terms_at keep rules old) caller project bytes → OnlyReads keep old new false → (keep.is_sound new → first_equal 1 caller.firm project bytes (keep.deposits old) ≡ Some (n, e))
+    → IsFine (terms_at keep rules old) caller project bytes → OnlyReads keep old new false
+    → (keep.is_sound new → first_equal 1 caller.firm project bytes (sents (keep.deposits old)) ≡ Some (n, e))
     → Serves keep rules (deposit caller project embargo bytes day) old new (Receipt n e)
 deposit_repeats keep rules caller project embargo bytes day old new n e fine reads first =
     let terms = terms_at keep rules old in
     let state = keep.deposits old in
     replies_serves keep rules (deposit caller project embargo bytes day) old new (Receipt n e) reads refl
     (λ s. ∣ fine_reply terms state caller project embargo bytes day (Receipt n e) fine (ap (receipt_of terms embargo (length state)) (sym (first s))) ∣₁)
-    (λ s. inr (λ list change. none_some (first_equal 1 caller.firm project bytes state) (n, e) change.0.3 (first s), refl)) (fine_asks terms state caller project embargo bytes day fine).0
+    (λ s. inr (
+      λ list change. none_some (first_equal 1 caller.firm project bytes (sents state)) (n, e) change.0.3
+          (first s),
+      refl,
+    )) (fine_asks terms state caller project embargo bytes day fine).0
   where
     none_some : (o : Option (ℕ × ℤ)) (p : ℕ × ℤ) → o ≡ None → o ≡ Some p → ⊥
     none_some None p a b = cc
@@ -134,50 +147,62 @@ deposit_repeats keep rules caller project embargo bytes day old new n e fine rea
 -- ---- what the keep finds
 
 -- its number is one of the list
-pub found_within : (firm project bytes : List ℕ) (state : List Sent) (n : ℕ) → number_of firm project bytes state ≡ Some n → (0 < n) × (n ≤ length state)
+pub found_within : (firm project bytes : List ℕ) (state : List Deposit) (n : ℕ)
+    → number_of firm project bytes (sents state) ≡ Some n → (0 < n) × (n ≤ length state)
 found_within firm project bytes state n found =
-    let first = first_some firm project bytes 1 state n found in
-    let within = slice_get_within state first.place first.found first.at in
-    (omega (arith, first.number), omega (arith, first.number, within))
+    let first = first_some firm project bytes 1 (sents state) n found in
+    let within = slice_get_within (sents state) first.place first.found first.at in
+    (omega (arith, first.number), omega (arith, first.number, within, length_sents state))
 
 -- the first equal deposit, by its number and the head that is kept of it
-pub first_found : (firm project bytes : List ℕ) (state : List Sent) (n : ℕ) (head : KeptHead) → number_of firm project bytes state ≡ Some n → ((d : Sent) → slice_get state (n - 1) ≡ Some d → IsHeadOf d head)
-    → first_equal 1 firm project bytes state ≡ Some (n, head.embargo)
+pub first_found : (firm project bytes : List ℕ) (state : List Deposit) (n : ℕ) (head : KeptHead)
+    → number_of firm project bytes (sents state) ≡ Some n
+    → ((d : Deposit) → slice_get state (n - 1) ≡ Some d → IsHeadOf d head)
+    → first_equal 1 firm project bytes (sents state) ≡ Some (n, head.embargo)
 first_found firm project bytes state n head found of_head =
-    let first = first_some firm project bytes 1 state n found in
+    let first = first_some firm project bytes 1 (sents state) n found in
     let place : first.place ≡ n - 1 = omega (arith, first.number) in
-    let is = of_head first.found (subst (λ (i : ℕ). slice_get state i ≡ Some first.found) place first.at) in
-    first.first ∙ ap (λ (e : ℤ). Some (n, e)) (sym is.embargo)
+    let d = deposit_at state (n - 1) first.found
+    (subst (λ (i : ℕ). slice_get (sents state) i ≡ Some first.found) place first.at) in
+    first.first ∙ ap (λ (e : ℤ). Some (n, e)) (sym ((of_head d.0 d.1).embargo ∙ ap (λ (s : Sent). s.embargo) d.2))
 
 -- the same where the bytes are these
-pub first_of : (firm project bytes found : List ℕ) (state : List Sent) (first : Option (ℕ × ℤ)) → found ≡ bytes → first ≡ first_equal 1 firm project found state → first_equal 1 firm project bytes state ≡ first
-first_of firm project bytes found state first same is = ap (λ (b : List ℕ). first_equal 1 firm project b state) (sym same) ∙ sym is
+pub first_of : (firm project bytes found : List ℕ) (list : List Sent) (first : Option (ℕ × ℤ)) → found ≡ bytes
+    → first ≡ first_equal 1 firm project found list → first_equal 1 firm project bytes list ≡ first
+first_of firm project bytes found list first same is = ap (λ (b : List ℕ). first_equal 1 firm project b list)
+    (sym same) ∙ sym is
 
 -- ---- a deposit that no equal one is held of
 
--- the call that appends, after calls that read
-abbrev pub Appends : {K : Type 0} → Ghosts K → Sent → K → K → Result ℕ KeepError → Type 0
-Appends keep d old new result = Adds keep.deposits keep.dictionary keep.limit keep.has_failed keep.may_leave keep.may_break keep.is_sound d old new result
-
 -- a body that is fine is taken where no equal one is held and there is room
 pub is_taken : {K : Type 0} (keep : Ghosts K) (rules : List Rule) (caller : Caller) (project bytes : List ℕ) (old mid : K) → IsFine (terms_at keep rules old) caller project bytes → OnlyReads keep old mid false
-    → (keep.is_sound mid → first_equal 1 caller.firm project bytes (keep.deposits old) ≡ None) → (keep.is_sound mid → length (keep.deposits mid) < keep.limit mid)
+    → (keep.is_sound mid → first_equal 1 caller.firm project bytes (sents (keep.deposits old)) ≡ None)
+    → (keep.is_sound mid → length (keep.deposits mid) < keep.limit mid)
     → keep.is_sound mid → IsTaken (terms_at keep rules old) (keep.deposits old) caller project bytes
 is_taken keep rules caller project bytes old mid fine reads unheld room s =
     ((fine.number, fine.permitted), fine.small, fine.clean, unheld s, omega (arith, room s, ap length (reads.same s refl), reads.same_limit))
 
-may_have_left : {K : Type 0} (keep : Ghosts K) (rules : List Rule) (caller : Caller) (project : List ℕ) (embargo : ℤ) (bytes : List ℕ) (day : ℤ) (old mid new : K) (result : Result ℕ KeepError)
-    → OnlyReads keep old mid false → (keep.is_sound mid → IsTaken (terms_at keep rules old) (keep.deposits old) caller project bytes)
-    → Appends keep (asked_deposit caller project embargo bytes) mid new result → keep.is_sound new → (list : List Sent) → keep.may_leave new list
-    → keep.may_leave old list ⊎ Changes (terms_at keep rules old) (keep.deposits old) (deposit caller project embargo bytes day) list
-may_have_left keep rules caller project embargo bytes day old mid new result reads taken appends s list may =
-    elim (appends.crash s list may) [
-      | inl was ↦ inl (reads.crash (appends.sound s) list was)
-      | inr is ↦ inr (taken (appends.sound s), is ∙ ap (λ (l : List Sent). l ++ asked_deposit caller project embargo bytes ∷ []) (reads.same (appends.sound s) refl))
-    ]
+-- calls that read, then the call that appends the deposit
+abbrev pub Appends : {K : Type 0} → Ghosts K → Sent → K → K → Result ℕ KeepError → Type 0
+Appends keep d old new result = Makes keep (keep.deposits old ++ unmarked d ∷ []) old new result
 
-no_failure : (t failed : Bool) → t ≡ failed → failed ≡ false → t ≡ true → false ≡ true
-no_failure t failed is lives e = sym lives ∙ sym is ∙ e
+appending : {K : Type 0} (keep : Ghosts K) (rules : List Rule) (caller : Caller) (project : List ℕ) (embargo : ℤ)
+    (bytes : List ℕ) (day : ℤ) (old mid new : K) (result : Result ℕ KeepError)
+    → IsFine (terms_at keep rules old) caller project bytes → OnlyReads keep old mid false
+    → (keep.is_sound mid → IsTaken (terms_at keep rules old) (keep.deposits old) caller project bytes)
+    → Appends keep (asked_deposit caller project embargo bytes) mid new result
+    → IsMaking keep rules (deposit caller project embargo bytes day) old mid new
+    (keep.deposits mid ++ unmarked (asked_deposit caller project embargo bytes) ∷ []) result
+appending keep rules caller project embargo bytes day old mid new result fine reads taken appends = record {
+  reads = reads;
+  makes = appends;
+  change = λ s. (
+    taken s,
+    ap (λ (l : List Deposit). l ++ unmarked (asked_deposit caller project embargo bytes) ∷ [])
+        (reads.same s refl),
+  );
+  asks = fine_asks (terms_at keep rules old) (keep.deposits old) caller project embargo bytes day fine;
+}
 
 pub deposit_added : {K : Type 0} (keep : Ghosts K) (rules : List Rule) (caller : Caller) (project : List ℕ) (embargo : ℤ) (bytes : List ℕ) (day : ℤ) (old mid new : K) (n : ℕ)
     → IsFine (terms_at keep rules old) caller project bytes → OnlyReads keep old mid false → (keep.is_sound mid → IsTaken (terms_at keep rules old) (keep.deposits old) caller project bytes)
@@ -186,38 +211,37 @@ pub deposit_added : {K : Type 0} (keep : Ghosts K) (rules : List Rule) (caller :
 deposit_added keep rules caller project embargo bytes day old mid new n fine reads taken appends number =
     let terms = terms_at keep rules old in
     let state = keep.deposits old in
-    let request = deposit caller project embargo bytes day in
-    let d = asked_deposit caller project embargo bytes in
-    let asks = fine_asks terms state caller project embargo bytes day fine in
-    let new_list : keep.is_sound new → keep.deposits new ≡ state ++ d ∷ [] = λ s. appends.added s ∙ ap (λ (l : List Sent). l ++ d ∷ []) (reads.same (appends.sound s) refl) in
-    let count : keep.is_sound new → n ≡ length state + 1 = λ s. omega (arith, number s, ap length (new_list s), length-append state (d ∷ [])) in
-    record {
-      sound = λ s. reads.sound (appends.sound s);
-      same_dictionary = appends.same_dictionary ∙ reads.same_dictionary;
-      same_limit = appends.same_limit ∙ reads.same_limit;
-      failure = no_failure (keep.has_failed new) false appends.failing refl;
-      cause = λ s. sym appends.failing;
-      answered = λ s.
-          ∣ (told_answer terms state request (Receipt n embargo) refl).0
-          (fine_reply terms state caller project embargo bytes day (Receipt n embargo) fine
-          (ap (λ (k : ℕ). Receipt k embargo) (count s) ∙ receipt_new terms embargo (length state) (first_equal 1 caller.firm project bytes state) (taken (appends.sound s)).3 (taken (appends.sound s)).4)) ∣₁;
-      kept = λ s. (told_after terms state (keep.deposits new) request (Receipt n embargo) refl).0 (inl (taken (appends.sound s), new_list s));
-      denied = λ m h. absurd (asks.0.0 m h);
-      too_large = λ h. absurd (asks.0.1 h);
-      crash = may_have_left keep rules caller project embargo bytes day old mid new (Ok n) reads taken appends;
-      whole = λ s may. reads.whole (appends.sound s) (appends.whole s may);
-    }
+    let d = unmarked (asked_deposit caller project embargo bytes) in
+    let count : keep.is_sound new → n ≡ length state + 1 = λ s.
+    omega (
+      arith,
+      number s,
+      ap length (appends.added s),
+      length-append (keep.deposits mid) (d ∷ []),
+      ap length
+          (reads.same (appends.sound s) refl),
+    ) in
+    made_serves keep rules (deposit caller project embargo bytes day) old mid new (keep.deposits mid ++ d ∷ []) n
+    (Receipt n embargo)
+    (appending keep rules caller project embargo bytes day old mid new (Ok n) fine reads taken appends) refl
+    (λ s.
+    fine_reply terms state caller project embargo bytes day (Receipt n embargo) fine
+    (ap (λ (k : ℕ). Receipt k embargo) (count s) ∙ receipt_new terms embargo (length state)
+    (first_equal 1 caller.firm project bytes (sents state)) (taken (appends.sound s)).3 (taken (appends.sound s)).4))
 
 -- there is no room
 pub deposit_full : {K : Type 0} (keep : Ghosts K) (rules : List Rule) (caller : Caller) (project : List ℕ) (embargo : ℤ) (bytes : List ℕ) (day : ℤ) (old mid : K)
-    → IsFine (terms_at keep rules old) caller project bytes → OnlyReads keep old mid false → (keep.is_sound mid → first_equal 1 caller.firm project bytes (keep.deposits old) ≡ None)
+    → IsFine (terms_at keep rules old) caller project bytes → OnlyReads keep old mid false
+    → (keep.is_sound mid → first_equal 1 caller.firm project bytes (sents (keep.deposits old)) ≡ None)
     → (keep.is_sound mid → keep.limit mid ≤ length (keep.deposits mid)) → Serves keep rules (deposit caller project embargo bytes day) old mid Full
 deposit_full keep rules caller project embargo bytes day old mid fine reads unheld full =
     let terms = terms_at keep rules old in
     let state = keep.deposits old in
     let no_room : keep.is_sound mid → terms.limit ≤ length state = λ s. omega (arith, full s, ap length (reads.same s refl), reads.same_limit) in
     replies_serves keep rules (deposit caller project embargo bytes day) old mid Full reads refl
-    (λ s. ∣ fine_reply terms state caller project embargo bytes day Full fine (receipt_full terms embargo (length state) (first_equal 1 caller.firm project bytes state) (unheld s) (no_room s)) ∣₁)
+    (λ s. ∣ fine_reply terms state caller project embargo bytes day Full fine
+    (receipt_full terms embargo (length state) (first_equal 1 caller.firm project bytes (sents state)) (unheld s)
+    (no_room s)) ∣₁)
     (λ s. inr (λ list change. omega (arith, change.0.4, no_room s), refl)) (fine_asks terms state caller project embargo bytes day fine).0
 
 -- the keep refuses to append
@@ -226,57 +250,14 @@ pub deposit_unadded : {K : Type 0} (keep : Ghosts K) (rules : List Rule) (caller
     → Appends keep (asked_deposit caller project embargo bytes) mid new (Err e)
     → (keep.is_sound new → e ≡ errors.Full → length (keep.deposits mid) ≡ keep.limit mid)
     → Serves keep rules (deposit caller project embargo bytes day) old new (answer_of e)
-deposit_unadded keep rules caller project embargo bytes day old mid new errors.Full fine reads taken appends full =
-    let terms = terms_at keep rules old in
-    let state = keep.deposits old in
-    let asks = fine_asks terms state caller project embargo bytes day fine in
-    let never : keep.is_sound new → ⊥ = λ s. omega (arith, full s refl, ap length (reads.same (appends.sound s) refl), reads.same_limit, (taken (appends.sound s)).4) in
-    record {
-      sound = λ s. reads.sound (appends.sound s);
-      same_dictionary = appends.same_dictionary ∙ reads.same_dictionary;
-      same_limit = appends.same_limit ∙ reads.same_limit;
-      failure = no_failure (keep.has_failed new) false appends.failing refl;
-      cause = λ s. sym appends.failing;
-      answered = λ s. absurd (never s);
-      kept = λ s. absurd (never s);
-      denied = λ m h. absurd (asks.0.0 m h);
-      too_large = λ h. absurd (asks.0.1 h);
-      crash = λ s list may. absurd (never s);
-      whole = λ s may. absurd (never s);
-    }
-deposit_unadded keep rules caller project embargo bytes day old mid new errors.NoMemory fine reads taken appends full =
-    let terms = terms_at keep rules old in
-    let state = keep.deposits old in
-    let request = deposit caller project embargo bytes day in
-    let asks = fine_asks terms state caller project embargo bytes day fine in
-    record {
-      sound = λ s. reads.sound (appends.sound s);
-      same_dictionary = appends.same_dictionary ∙ reads.same_dictionary;
-      same_limit = appends.same_limit ∙ reads.same_limit;
-      failure = no_failure (keep.has_failed new) false appends.failing refl;
-      cause = λ s. sym appends.failing;
-      answered = λ s. ∣ memory_answer terms state request asks.0 ∣₁;
-      kept = λ s. memory_after terms state (keep.deposits new) request (appends.refused s refl ∙ reads.same (appends.sound s) refl);
-      denied = λ m h. absurd (asks.0.0 m h);
-      too_large = λ h. absurd (asks.0.1 h);
-      crash = may_have_left keep rules caller project embargo bytes day old mid new (Err errors.NoMemory) reads taken appends;
-      whole = λ s may. reads.whole (appends.sound s) (appends.whole s may);
-    }
-deposit_unadded keep rules caller project embargo bytes day old mid new errors.Store fine reads taken appends full =
-    let terms = terms_at keep rules old in
-    let state = keep.deposits old in
-    let request = deposit caller project embargo bytes day in
-    let asks = fine_asks terms state caller project embargo bytes day fine in
-    record {
-      sound = λ s. reads.sound (appends.sound s);
-      same_dictionary = appends.same_dictionary ∙ reads.same_dictionary;
-      same_limit = appends.same_limit ∙ reads.same_limit;
-      failure = λ e. refl;
-      cause = λ s. sym appends.failing;
-      answered = λ s. ∣ failed_answer terms state request asks ∣₁;
-      kept = λ s. failed_after terms state (keep.deposits new) request;
-      denied = λ m h. absurd (asks.0.0 m h);
-      too_large = λ h. absurd (asks.0.1 h);
-      crash = may_have_left keep rules caller project embargo bytes day old mid new (Err errors.Store) reads taken appends;
-      whole = λ s may. reads.whole (appends.sound s) (appends.whole s may);
-    }
+deposit_unadded keep rules caller project embargo bytes day old mid new e fine reads taken appends full =
+    unmade_serves keep rules (deposit caller project embargo bytes day) old mid new
+    (keep.deposits mid ++ unmarked (asked_deposit caller project embargo bytes) ∷ []) e
+    (appending keep rules caller project embargo bytes day old mid new (Err e) fine reads taken appends)
+    (λ s is. omega (
+      arith,
+      full s is,
+      ap length (reads.same (appends.sound s) refl),
+      reads.same_limit,
+      (taken (appends.sound s)).4,
+    ))

@@ -1,10 +1,10 @@
 -- Answers that memory and store let the desk give are a run of the machine.
 use Rattle.std.proofs.Common.{◌≡◌, true, List, [], ◌∷◌, refl}
 use Rattle.std.specs.List.{AllByRecursion}
-use Rattle.reg_store.specs.Sent.{Sent}
+use Rattle.reg_store.specs.Deposit.{Deposit}
 use Rattle.reg_desk.specs.Asked.{Asked}
 use Rattle.reg_desk.specs.declared.answer.Answer.{Answer}
-use Rattle.reg_desk.specs.declared.answer.Answer.TheVariants.{Receipt, Clean, Findings, Listing, Text, Denied, Unknown, TooLarge, Full, NoMemory, StoreFailed}
+use Rattle.reg_desk.specs.declared.answer.Answer.TheVariants.{NoMemory, StoreFailed}
 use Rattle.reg_desk.specs.Machine.{Terms, IsRun}
 use Rattle.reg_desk.specs.Serving.{is_failed}
 use Rattle.reg_desk.specs.Running.{AreAnswers}
@@ -13,19 +13,12 @@ use Rattle.reg_desk.proofs.Bodies.{where_else}
 use Rattle.reg_desk.proofs.Serves.{is_told, told_lives, told_answer, told_after}
 
 told_is : (a : Answer) → IsTold a → is_told a ≡ true
-told_is (Receipt n e) told = refl
-told_is Clean told = refl
-told_is (Findings l) told = refl
-told_is (Listing l) told = refl
-told_is (Text t) told = refl
-told_is (Denied n) told = refl
-told_is Unknown told = refl
-told_is TooLarge told = refl
-told_is Full told = refl
 told_is NoMemory told = absurd told
 told_is StoreFailed told = absurd told
+told_is a told = refl
 
-pub answers_run : (terms : Terms) (state : List Sent) (requests : List Asked) (answers : List Answer) (last : List Sent)
+pub answers_run : (terms : Terms) (state : List Deposit) (requests : List Asked) (answers : List Answer)
+    (last : List Deposit)
     → AreAnswers terms state requests answers last → AllByRecursion IsTold answers → IsRun terms state requests answers last
 answers_run terms state [] [] last h told = (refl, h)
 answers_run terms state [] (a ∷ answers) last h told = absurd h

@@ -11,6 +11,7 @@ pub data Asked : Type 0 where
   check : (caller : Caller) (project : List ℕ) (bytes : List ℕ) (day : ℤ) → Asked
   listing : (caller : Caller) (project : List ℕ) (day : ℤ) → Asked
   extract : (caller : Caller) (project : List ℕ) (number : ℕ) (groups : List (List ℕ)) (day : ℤ) → Asked
+  withdraw : (caller : Caller) (project : List ℕ) (number : ℕ) (day : ℤ) → Asked
 
 -- the names of the groups that are asked
 abbrev pub names_in : List (Bor (List ℕ)) → List (List ℕ)
@@ -22,3 +23,4 @@ asked (requests.Deposit caller project embargo bytes day) = deposit caller.now p
 asked (requests.Check caller project bytes day) = check caller.now project.now bytes.now day
 asked (requests.List caller project day) = listing caller.now project.now day
 asked (requests.Extract caller project number groups day) = extract caller.now project.now number (names_in groups.now) day
+asked (requests.Withdraw caller project number day) = withdraw caller.now project.now number day

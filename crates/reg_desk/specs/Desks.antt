@@ -2,7 +2,7 @@
 use Rattle.std.specs.Prelude.{◌≡◌, ℕ, List, [], ◌∷◌, Some, true, false}
 use Rattle.ags_check.specs.Findings.{Findings as AreFindings}
 use Rattle.reg_policy.specs.declared.rule.Rule.{Rule}
-use Rattle.reg_store.specs.Sent.{Sent}
+use Rattle.reg_store.specs.Deposit.{Deposit}
 use Rattle.reg_store.specs.declared.keep.Keep.{Ghosts}
 use Rattle.reg_desk.specs.declared.answer.Answer.{Answer}
 use Rattle.reg_desk.specs.declared.answer.Answer.TheVariants.{StoreFailed, Text}
@@ -37,7 +37,8 @@ IsCleanText keep old _ = Unit {0}
 -- is these bytes
 abbrev pub IsSameText : {K : Type 0} → Ghosts K → List Rule → K → Asked → List ℕ → Type 0
 IsSameText keep rules old (extract caller project number [] day) text =
-    (kept : Sent) → held number (keep.deposits old) ≡ Some kept → WasExtracted (keep.dictionary old) kept.bytes → IsShownWhole (terms_at keep rules old) caller day kept → text ≡ kept.bytes
+    (kept : Deposit) → held number (keep.deposits old) ≡ Some kept → WasExtracted (keep.dictionary old) kept.sent.bytes
+    → IsShownWhole (terms_at keep rules old) caller day kept.sent → text ≡ kept.sent.bytes
 IsSameText keep rules old _ text = Unit {0}
 
 -- the same of an answer, where it is a text

@@ -10,6 +10,7 @@ mod body;
 mod deposit;
 mod drawing;
 mod listing;
+mod withdrawal;
 
 use crate::answer::Answer;
 use crate::request::Request;
@@ -17,6 +18,7 @@ use crate::serving::body::serve_check;
 use crate::serving::deposit::serve_deposit;
 use crate::serving::drawing::serve_extract;
 use crate::serving::listing::serve_list;
+use crate::serving::withdrawal::serve_withdraw;
 use reg_policy::{Caller, Decision, Name, Policy, Subject, Verb};
 use reg_store::{Keep, KeepError};
 use std::alloc::Global;
@@ -59,6 +61,12 @@ pub(crate) fn serve<K: Keep>(
             groups,
             day,
         } => serve_extract(alloc, keep, policy, caller, project, number, groups, day),
+        Request::Withdraw {
+            caller,
+            project,
+            number,
+            day: _,
+        } => serve_withdraw(keep, policy, caller, project, number),
     }
 }
 

@@ -11,12 +11,13 @@ mod memory;
 mod refusing;
 mod stops;
 mod wanted;
+mod withdrawing;
 
 use ags_dict::Dictionary;
 use ags_rows::READABLE;
 use ags_rows::vectors::MINI;
 use bodies::{LENGTHS, bytes_of};
-use examples::{EXAMPLES, MOST, UNTIL};
+use examples::{EXAMPLES, MOST, UNTIL, WITHDRAWALS};
 use laws::tells;
 use memory::is_refused_once;
 use refusing::Refusing;
@@ -28,6 +29,7 @@ use reg_tables::{CreateError, SqlKeep};
 use std::alloc::{AllocError, Global};
 use std::process::Abort;
 use wanted::is_wanted;
+use withdrawing::withdrawing;
 
 /// New lines in place of those from the first to the last.
 #[derive(Clone, Copy)]
@@ -62,6 +64,7 @@ pub enum Ask {
     Check(Body),
     List,
     Extract(u32, &'static [&'static [u8]]),
+    Withdraw(u32),
 }
 
 /// What is answered.
@@ -79,6 +82,8 @@ pub enum Want {
     Lists(&'static [Line]),
     /// The text of this body.
     Gives(Body),
+    /// The deposit of this number is withdrawn.
+    Withdrawn(u32),
 }
 
 /// A line of a listing: number, firm and embargo.
@@ -117,6 +122,8 @@ pub enum Over {
 pub enum Play {
     /// These steps are asked in turn.
     Steps(&'static [Step]),
+    /// The same, where the policy permits withdrawals to contractors.
+    Withdrawals(&'static [Step]),
     /// Three runs are asked, where memory may be refused once.
     Runs,
     /// Four requests are asked behind a deposit of this body.
@@ -176,6 +183,21 @@ fn extract_of<'a>(
     }
 }
 
+/// A withdrawal of a deposit.
+fn withdraw_of<'a>(
+    caller: &'a Caller,
+    project: &'a Name,
+    number: u32,
+    day: Day,
+) -> Request<'a> {
+    Request::Withdraw {
+        caller,
+        project,
+        number,
+        day,
+    }
+}
+
 /// The bytes that are sent with what is asked.
 fn bytes_sent(alloc: Global, ask: &Ask) -> Result<Vec<u8>, AllocError> {
     match ask {
@@ -200,6 +222,7 @@ fn request_of<'a>(
         Ask::Check(_) => Some(check_of(caller, project, bytes, day)),
         Ask::List => Some(list_of(caller, project, day)),
         Ask::Extract(number, groups) => Some(extract_of(caller, project, *number, groups, day)),
+        Ask::Withdraw(number) => Some(withdraw_of(caller, project, *number, day)),
     }
 }
 
@@ -267,7 +290,7 @@ fn answers<K: Keep>(
     play: Play,
 ) -> Result<bool, AllocError> {
     match play {
-        Play::Steps(steps) => hold(alloc, desk, callers, project, steps),
+        Play::Steps(steps) | Play::Withdrawals(steps) => hold(alloc, desk, callers, project, steps),
         Play::Runs => Ok(is_refused_once(alloc, desk, callers, project)),
         Play::Told(body) => tells(alloc, desk, callers, project, body),
     }
@@ -401,6 +424,14 @@ fn plays_over(
     }
 }
 
+/// The policy under which it is played; none where memory is refused.
+fn policy_for(alloc: Global, play: Play) -> Option<Policy> {
+    match play {
+        Play::Withdrawals(_) => withdrawing(alloc),
+        _ => Policy::read(alloc, POLICY).ok(),
+    }
+}
+
 /// The same where the policy is read before.
 fn plays_for(
     alloc: Global,
@@ -409,9 +440,9 @@ fn plays_for(
     project: &Name,
     play: Play,
 ) -> Result<bool, AllocError> {
-    match Policy::read(alloc, POLICY) {
-        Ok(policy) => plays_over(alloc, keep, policy, callers, project, play),
-        Err(_) => Err(AllocError),
+    match policy_for(alloc, play) {
+        Some(policy) => plays_over(alloc, keep, policy, callers, project, play),
+        None => Err(AllocError),
     }
 }
 
@@ -441,6 +472,11 @@ fn plays(alloc: Global, over: Over, limit: u32, play: Play) -> Result<bool, Allo
 fn examples_over(alloc: Global, rt: &impl Abort, over: Over) {
     for example in &EXAMPLES {
         let play = Play::Steps(example.steps);
+        let right = plays(alloc, over, example.limit, play).unwrap_or(false);
+        assert!(rt; right, "{}", example.name);
+    }
+    for example in &WITHDRAWALS {
+        let play = Play::Withdrawals(example.steps);
         let right = plays(alloc, over, example.limit, play).unwrap_or(false);
         assert!(rt; right, "{}", example.name);
     }

@@ -7,7 +7,7 @@ use Rattle.std.specs.Prelude.{filter}
 use Rattle.std.specs.Str.{str_eq_ignore_ascii_case}
 use Rattle.httparse.specs.Spans.{header_bytes, span_bytes}
 use Rattle.httparse.specs.declared.spans.HeaderSpan.{HeaderSpan}
-use Rattle.reg_http.specs.declared.fields.Values.{Values}
+use Rattle.reg_http.specs.declared.request.fields.Values.{Values}
 use Rattle.reg_http.specs.Fields.{AreValues, values_of}
 
 -- the values of two lists of fields

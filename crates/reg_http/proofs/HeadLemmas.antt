@@ -10,7 +10,7 @@ use Rattle.httparse.specs.declared.spans.RequestSpans.{RequestSpans}
 use Rattle.httparse.proofs.GrammarLemmas.{print_request-append}
 use Rattle.reg_http.specs.Heads.{HasNoFewRequest, HasNoHead, HoldsHead, ReadsHead}
 use Rattle.std.specs.Prelude.{IfSome}
-use Rattle.reg_http.specs.declared.head.HeadRead.TheVariants.{Bad, Whole}
+use Rattle.reg_http.specs.declared.request.head.HeadRead.TheVariants.{Bad, Whole}
 
 -- no bytes are no head
 pub none_at_first : HasNoFewRequest []

@@ -9,7 +9,7 @@ use Rattle.reg_http.specs.Rendering.{HasOneRendering, IsBody, answer_kind, answe
 use Rattle.reg_http.specs.Replies.{reply_text}
 use Rattle.reg_desk.specs.declared.answer.Listed.{Listed}
 use Rattle.reg_desk.specs.declared.answer.Answer.{Answer}
-use Rattle.reg_desk.specs.declared.answer.Answer.TheVariants.{Receipt, Clean, Findings, Listing, Text, Denied, Unknown, TooLarge, Full, NoMemory, StoreFailed}
+use Rattle.reg_desk.specs.declared.answer.Answer.TheVariants.{Receipt, Clean, Findings, Listing, Text, Denied, Unknown, Withdrawn, TooLarge, Full, NoMemory, StoreFailed}
 
 -- a listing has one list of items
 same_items : (ls : List Listed) (ds es : List Data) → AllZip IsListedData ls ds → AllZip IsListedData ls es → ds ≡ es
@@ -33,6 +33,7 @@ same_body (Listing ls) p q (d, (ds, all, i), j) (f, (es, each, k), l) =
     j ∙ ap compact_text (i ∙ ap listing_data (same_items ls ds es all each) ∙ sym k) ∙ sym l
 same_body (Text text) p q i j = i ∙ sym j
 same_body (Denied n) p q i j = i ∙ sym j
+same_body (Withdrawn n) p q i j = i ∙ sym j
 same_body Unknown p q i j = i ∙ sym j
 same_body TooLarge p q i j = i ∙ sym j
 same_body Full p q i j = i ∙ sym j

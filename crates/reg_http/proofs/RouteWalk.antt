@@ -13,7 +13,7 @@ use Rattle.matchit.specs.Params.{walk, wild_from, wild_stop, part_of, after_toke
 use Rattle.matchit.specs.declared.params.Params.{Params}
 use Rattle.matchit.proofs.LongestLemmas.{better-again, better-yes, better-no}
 use Rattle.reg_http.specs.Routes.{check_route, deposit_route, deposits_route, page_in, param, route_of, table, taken, taken_by}
-use Rattle.reg_http.specs.declared.route.Page.{Page}
+use Rattle.reg_http.specs.declared.request.route.Page.{Page}
 use Rattle.reg_http.proofs.SeekLemmas.{all_bytes, with_token, with_tokens, seek_none, seek_drop, seek_end, seek_plain, begins, seek_wild, seek_last, seek_here, param_hit, param_miss}
 
 abbrev Rows : Type 0

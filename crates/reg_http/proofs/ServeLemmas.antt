@@ -29,7 +29,7 @@ use Rattle.reg_desk.specs.declared.answer.Answer.{Answer}
 use Rattle.reg_http.specs.declared.serve.Served.{Served}
 use Rattle.reg_http.specs.declared.serve.IoFault.{IoFault}
 use Rattle.reg_http.specs.declared.serve.IoFault.TheVariants as fault
-use Rattle.reg_http.specs.declared.body.BodyFault.TheVariants as ended
+use Rattle.reg_http.specs.declared.request.body.BodyFault.TheVariants as ended
 
 -- nothing was written
 Appends-none : (u : Option (List ℕ)) → Appends u u []

@@ -11,9 +11,9 @@ use Rattle.reg_desk.specs.Asked as requests
 use Rattle.reg_http.specs.Fields.{Few, none, one, many}
 use Rattle.reg_http.specs.Numbers.{length_in}
 use Rattle.reg_http.specs.HeadParts.{HeadParts, values_in}
-use Rattle.reg_http.specs.Queries.{Sought, deposit, check, listing, extract, project_in, sought_in}
+use Rattle.reg_http.specs.Queries.{Sought, deposit, check, listing, extract, withdraw, project_in, sought_in}
 use Rattle.reg_http.specs.Routes.{FoundAt, page_in, has_body, kind_in}
-use Rattle.reg_http.specs.declared.route.Kind.{Kind}
+use Rattle.reg_http.specs.declared.request.route.Kind.{Kind}
 use Rattle.reg_http.specs.declared.refusal.Refusal.{Refusal}
 use Rattle.reg_http.specs.declared.refusal.Refusal.TheVariants.{NoCaller}
 
@@ -38,7 +38,9 @@ caller_in callers many = Err NoCaller
 -- the length of the body; of a request without a body no field is looked at
 abbrev pub body_length : Kind → HeadParts → Result ℕ Refusal
 body_length kind parts =
-    if has_body kind then length_in (values_in parts (codes "transfer-encoding")) (values_in parts (codes "content-length")) else Ok 0
+    if has_body kind
+    then length_in (values_in parts (codes "transfer-encoding")) (values_in parts (codes "content-length"))
+    else Ok 0
 
 -- a request without its body, and the length of that
 pub record Asking : Type 0 where
@@ -69,6 +71,7 @@ asked_by (deposit embargo) a body day = requests.deposit a.caller a.project emba
 asked_by check a body day = requests.check a.caller a.project body day
 asked_by listing a body day = requests.listing a.caller a.project day
 asked_by (extract number groups) a body day = requests.extract a.caller a.project number groups day
+asked_by (withdraw number) a body day = requests.withdraw a.caller a.project number day
 
 abbrev pub asked_of : Asking → List ℕ → ℤ → Asked
 asked_of a body day = asked_by a.sought a body day

@@ -38,6 +38,9 @@ findings_data fs = object (member (codes "findings") (array (items_of (map findi
 abbrev pub denied_data : ℕ → Data
 denied_data n = object (member (codes "denied") (number (unsigned n)) no_members)
 
+abbrev pub withdrawn_data : ℕ → Data
+withdrawn_data n = object (member (codes "withdrawn") (number (unsigned n)) no_members)
+
 abbrev pub clean_data : Data
 clean_data = object (member (codes "clean") (boolean true) no_members)
 

@@ -28,12 +28,15 @@ module _ {R W : Type 0} where
   AreFresh [] = ⊤
   AreFresh (c ∷ cs) = (IsFresh c.0 × IsFresh c.1) × AreFresh cs
 
-module _ {D R W : Type 0} (answers : D → Asked → Answer → D → Type 0) (remaining : R → Option (List ℕ)) (contents : W → Option (List ℕ))
-    (callers : List Credential) (day : ℤ) where
+module _ {D R W : Type 0} (answers : D → Asked → Answer → D → Type 0)
+    (remaining : R → Option (List ℕ)) (contents : W → Option (List ℕ)) (callers : List Credential) (day : ℤ) where
   -- one connection: reader and writer before and after, and the desk before and after
-  pub record ServesConnection (old new : Tally R × Tally W) (before after : D) (r : Result Served IoFault) : Type 0 where
-    pub served : IfSome (remaining (inner_of old.0)) (λ bytes. ServesOne answers callers day bytes before after (contents (inner_of old.1)) (contents (inner_of new.1)) r)
-    pub untold : (bytes : List ℕ) × ServesOne answers callers day bytes before after (contents (inner_of old.1)) (contents (inner_of new.1)) r
+  pub record ServesConnection (old new : Tally R × Tally W) (before after : D) (r : Result Served IoFault)
+      : Type 0 where
+    pub served : IfSome (remaining (inner_of old.0)) (λ bytes. ServesOne answers callers day bytes before after
+        (contents (inner_of old.1)) (contents (inner_of new.1)) r)
+    pub untold : (bytes : List ℕ) × ServesOne answers callers day bytes before after
+        (contents (inner_of old.1)) (contents (inner_of new.1)) r
     pub read_fault : has_failed new.0 ≡ is_read r
     pub write_fault : has_failed new.1 ≡ is_write r
     pub unread : IsTrue (is_read r) → (after ≡ before) × (new.1 ≡ old.1)
@@ -42,9 +45,11 @@ module _ {D R W : Type 0} (answers : D → Asked → Answer → D → Type 0) (r
     pub waits : IfSome (remaining (inner_of old.0)) (λ bytes. WaitsFor callers day bytes (calls_of new.0))
 
   -- each in turn, the next over the desk that the last left
-  abbrev pub ServesAll : List (Tally R × Tally W) → List (Result Served IoFault) → List (Tally R × Tally W) → D → D → Type 0
+  abbrev pub ServesAll : List (Tally R × Tally W) → List (Result Served IoFault) → List (Tally R × Tally W)
+      → D → D → Type 0
   ServesAll [] [] [] before after = after ≡ before
-  ServesAll (o ∷ os) (r ∷ rs) (n ∷ ns) before after = (between : D) × ServesConnection o n before between r × ServesAll os rs ns between after
+  ServesAll (o ∷ os) (r ∷ rs) (n ∷ ns) before after =
+      (between : D) × ServesConnection o n before between r × ServesAll os rs ns between after
   ServesAll [] (r ∷ rs) ns before after = ⊥
   ServesAll [] [] (n ∷ ns) before after = ⊥
   ServesAll (o ∷ os) [] ns before after = ⊥

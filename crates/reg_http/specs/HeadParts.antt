@@ -5,7 +5,7 @@ use Rattle.httparse.specs.Grammar.{RequestHead}
 use Rattle.httparse.specs.Spans.{name_and_value, header_bytes}
 use Rattle.reg_http.specs.Bodies.{question_mark}
 use Rattle.reg_http.specs.Fields.{values_of, Few, few}
-use Rattle.reg_http.specs.declared.parts.Parts.{Parts}
+use Rattle.reg_http.specs.declared.request.parts.Parts.{Parts}
 
 -- the fields are pairs of a name and a value, the value without spaces and tabs at both ends
 pub record HeadParts : Type 0 where
@@ -23,11 +23,21 @@ abbrev pub query_of : List ℕ → List ℕ
 query_of target = after_first (λ b. b == question_mark) target
 
 abbrev pub head_parts : RequestHead → HeadParts
-head_parts h = record { method = h.method; path = path_of h.target; query = query_of h.target; fields = map name_and_value h.fields }
+head_parts h = record {
+  method = h.method;
+  path = path_of h.target;
+  query = query_of h.target;
+  fields = map name_and_value h.fields;
+}
 
 -- the parts as the code holds them
 abbrev pub parts_seen : Parts → HeadParts
-parts_seen p = record { method = p.method.now; path = p.path.now; query = p.query.now; fields = map (header_bytes p.buf.now) p.fields.now }
+parts_seen p = record {
+  method = p.method.now;
+  path = p.path.now;
+  query = p.query.now;
+  fields = map (header_bytes p.buf.now) p.fields.now;
+}
 
 -- how many fields have the name, and the value of the one
 abbrev pub values_in : HeadParts → List ℕ → Few

@@ -8,8 +8,8 @@ use Rattle.httparse.specs.Spans.{IsRequestAt, IsRequestWithin}
 use Rattle.std.specs.Io.KnownBytes.{Consumes}
 use Rattle.reg_http.specs.Tallies.{inner_of}
 use Rattle.reg_http.specs.declared.tally.Tally.{Tally}
-use Rattle.reg_http.specs.declared.head.HeadRead.{HeadRead}
-use Rattle.reg_http.specs.declared.head.HeadRead.TheVariants.{Empty, Fault, Bad, Whole}
+use Rattle.reg_http.specs.declared.request.head.HeadRead.{HeadRead}
+use Rattle.reg_http.specs.declared.request.head.HeadRead.TheVariants.{Empty, Fault, Bad, Whole}
 
 -- the limits of a head: its bytes, empty lines before it and the empty line behind it included, and its fields
 abbrev pub longest_head : ℕ

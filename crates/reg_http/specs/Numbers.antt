@@ -17,7 +17,9 @@ is_number most text = is_within most text && list_all is_ascii_digit text
 -- a length of 1 to 10 digits, up to the limit of a deposit
 abbrev pub length_by : List ℕ → Result ℕ Refusal
 length_by value =
-    if is_number 10 value then (if nat_le (number_in value) LIMIT then Ok (number_in value) else Err TooLarge) else Err BadLength
+    if is_number 10 value
+    then (if nat_le (number_in value) LIMIT then Ok (number_in value) else Err TooLarge)
+    else Err BadLength
 
 -- the length by the fields Transfer-Encoding and Content-Length: no coding, and one length
 abbrev pub length_in : Few → Few → Result ℕ Refusal

@@ -1,5 +1,5 @@
 -- What the parameters of path and query ask.
-use Rattle.std.specs.Prelude.{ℕ, ℤ, Bool, true, false, List, [], ◌∷◌, Option, Some, None, Result, Ok, Err, codes, if◌then◌else◌}
+use Rattle.std.specs.Prelude.{ℕ, ℤ, List, [], ◌∷◌, Option, Some, None, Result, Ok, Err, codes, if◌then◌else◌}
 use Rattle.std.specs.List.{list_all}
 use Rattle.std.specs.Str.{bytes_eq}
 use Rattle.std.specs.Str.Lossy.{utf8_lossy}
@@ -12,8 +12,8 @@ use Rattle.reg_http.specs.Agree.{and_then}
 use Rattle.reg_http.specs.Numbers.{deposit_number}
 use Rattle.reg_http.specs.declared.refusal.Refusal.{Refusal}
 use Rattle.reg_http.specs.declared.refusal.Refusal.TheVariants.{BadParameter}
-use Rattle.reg_http.specs.declared.route.Kind.{Kind}
-use Rattle.reg_http.specs.declared.route.Kind.TheVariants as kinds
+use Rattle.reg_http.specs.declared.request.route.Kind.{Kind}
+use Rattle.reg_http.specs.declared.request.route.Kind.TheVariants as kinds
 
 -- what an encoded name or value is read as: `+` and percent escapes decoded
 abbrev pub decoded : List ℕ → List ℕ
@@ -29,17 +29,13 @@ value_of name [] = Ok None
 value_of name (pair ∷ []) = if bytes_eq (decoded pair.0) name then Ok (Some (decoded pair.1)) else Err BadParameter
 value_of name (pair ∷ other ∷ pairs) = Err BadParameter
 
--- no parameter is given
-abbrev pub no_pairs : List (List ℕ × List ℕ) → Bool
-no_pairs [] = true
-no_pairs (pair ∷ pairs) = false
-
 -- what is asked, without caller, project and body
 pub data Sought : Type 0 where
   deposit : (embargo : ℤ) → Sought
   check : Sought
   listing : Sought
   extract : (number : ℕ) (groups : List (List ℕ)) → Sought
+  withdraw : (number : ℕ) → Sought
 
 abbrev pub embargo_by : Option ℤ → Result Sought Refusal
 embargo_by None = Err BadParameter
@@ -58,19 +54,30 @@ groups_in (b ∷ text) = split comma (b ∷ text)
 -- the groups of an extract
 abbrev pub extract_in : ℕ → Option (List ℕ) → Result Sought Refusal
 extract_in number None = Ok (extract number [])
-extract_in number (Some text) = if list_all is_group_name (groups_in text) then Ok (extract number (groups_in text)) else Err BadParameter
+extract_in number (Some text) =
+    if list_all is_group_name (groups_in text) then Ok (extract number (groups_in text)) else Err BadParameter
 
 -- the extract that a number and the pairs of a query ask
 abbrev pub extract_sought : List ℕ → List (List ℕ × List ℕ) → Result Sought Refusal
 extract_sought number pairs =
     and_then (deposit_number number) (λ n. and_then (value_of (codes "groups") pairs) (extract_in n))
 
+-- what has no parameter
+abbrev pub bare : Sought → List (List ℕ × List ℕ) → Result Sought Refusal
+bare sought [] = Ok sought
+bare sought (pair ∷ pairs) = Err BadParameter
+
+-- the withdrawal that a number and the pairs of a query ask
+abbrev pub withdraw_sought : List ℕ → List (List ℕ × List ℕ) → Result Sought Refusal
+withdraw_sought number pairs = and_then (deposit_number number) (λ n. bare (withdraw n) pairs)
+
 -- what a request of this kind asks, by the number in its path, the pairs of its query and the day of serving
 abbrev pub sought_in : Kind → List ℕ → List (List ℕ × List ℕ) → ℤ → Result Sought Refusal
-sought_in kinds.Check number pairs day = if no_pairs pairs then Ok check else Err BadParameter
+sought_in kinds.Check number pairs day = bare check pairs
 sought_in kinds.Deposit number pairs day = and_then (value_of (codes "embargo") pairs) (embargo_in day)
-sought_in kinds.List number pairs day = if no_pairs pairs then Ok listing else Err BadParameter
+sought_in kinds.List number pairs day = bare listing pairs
 sought_in kinds.Extract number pairs day = extract_sought number pairs
+sought_in kinds.Withdraw number pairs day = withdraw_sought number pairs
 
 abbrev pub project_in : List ℕ → Result (List ℕ) Refusal
 project_in text = if is_name text then Ok text else Err BadParameter

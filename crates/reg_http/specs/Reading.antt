@@ -20,13 +20,16 @@ pub data Heard : Type 0 where
 pub data ReadAs (callers : List Credential) (day : ℤ) (bytes : List ℕ) : Heard → Type 0 where
   silent : bytes ≡ [] → ReadAs callers day bytes nothing
   bad_head : 0 < length bytes → HasNoHead bytes → ReadAs callers day bytes (refusal BadHead)
-  refused : (h : RequestHead) (rest : List ℕ) (r : Refusal) → IsHead bytes h rest → ask_of callers day (head_parts h) ≡ Err r
-      → ReadAs callers day bytes (refusal r)
-  short_body : (h : RequestHead) (rest : List ℕ) (a : Asking) → IsHead bytes h rest → ask_of callers day (head_parts h) ≡ Ok a
+  refused : (h : RequestHead) (rest : List ℕ) (r : Refusal) → IsHead bytes h rest
+      → ask_of callers day (head_parts h) ≡ Err r → ReadAs callers day bytes (refusal r)
+  short_body : (h : RequestHead) (rest : List ℕ) (a : Asking) → IsHead bytes h rest
+      → ask_of callers day (head_parts h) ≡ Ok a
       → length rest < a.length → ReadAs callers day bytes (refusal ShortBody)
-  whole : (h : RequestHead) (rest : List ℕ) (a : Asking) → IsHead bytes h rest → ask_of callers day (head_parts h) ≡ Ok a
+  whole : (h : RequestHead) (rest : List ℕ) (a : Asking) → IsHead bytes h rest
+      → ask_of callers day (head_parts h) ≡ Ok a
       → a.length ≤ length rest → ReadAs callers day bytes (request (asked_of a (take a.length rest) day))
 
 -- Bytes are read as at most one thing.
 abbrev pub HasOneReading : Type 0
-HasOneReading = (callers : List Credential) (day : ℤ) (bytes : List ℕ) (a b : Heard) → ReadAs callers day bytes a → ReadAs callers day bytes b → a ≡ b
+HasOneReading = (callers : List Credential) (day : ℤ) (bytes : List ℕ) (a b : Heard)
+    → ReadAs callers day bytes a → ReadAs callers day bytes b → a ≡ b

@@ -3,7 +3,7 @@ use Rattle.std.specs.Prelude.{◌≡◌, ℕ, List, Bool, true, false, codes}
 use Rattle.serde_json.specs.Data.{Data}
 use Rattle.serde_json.specs.Written.{compact_text}
 use Rattle.reg_http.specs.Replies.{reply_text, json_kind, text_kind, error_body}
-use Rattle.reg_http.specs.Bodies.{clean_data, denied_data, findings_data, IsReceiptData, IsListingData}
+use Rattle.reg_http.specs.Bodies.{clean_data, denied_data, findings_data, withdrawn_data, IsReceiptData, IsListingData}
 use Rattle.reg_http.specs.declared.refusal.Refusal.{Refusal}
 use Rattle.reg_http.specs.declared.refusal.Refusal.TheVariants.{BadHead, NoRoute, Method, NoCaller, LengthRequired, BadLength, TooLarge, BadParameter, ShortBody, OutOfMemory}
 use Rattle.reg_desk.specs.declared.answer.Answer.{Answer}
@@ -45,6 +45,7 @@ answer_status (answers.Receipt n embargo) = 200
 answer_status answers.Clean = 200
 answer_status (answers.Listing ls) = 200
 answer_status (answers.Text text) = 200
+answer_status (answers.Withdrawn n) = 200
 answer_status (answers.Denied n) = 403
 answer_status (answers.Findings fs) = 422
 answer_status answers.Unknown = 404
@@ -64,6 +65,7 @@ IsBody (answers.Receipt n embargo) body = (d : Data) × IsReceiptData n embargo 
 IsBody answers.Clean body = body ≡ compact_text clean_data
 IsBody (answers.Listing ls) body = (d : Data) × IsListingData ls d × (body ≡ compact_text d)
 IsBody (answers.Text text) body = body ≡ text
+IsBody (answers.Withdrawn n) body = body ≡ compact_text (withdrawn_data n)
 IsBody (answers.Denied n) body = body ≡ compact_text (denied_data n)
 IsBody (answers.Findings fs) body = body ≡ compact_text (findings_data fs)
 IsBody answers.Unknown body = body ≡ error_body (codes "unknown")
@@ -74,7 +76,8 @@ IsBody answers.StoreFailed body = body ≡ error_body (codes "store failed")
 
 -- The whole reply to an answer.
 abbrev pub IsRendered : Answer → List ℕ → Type 0
-IsRendered answer reply = (body : List ℕ) × IsBody answer body × (reply ≡ reply_text (answer_status answer) (answer_kind answer) body)
+IsRendered answer reply = (body : List ℕ) × IsBody answer body
+    × (reply ≡ reply_text (answer_status answer) (answer_kind answer) body)
 
 -- the reply is the same whatever was asked, and takes no memory
 abbrev pub is_fixed : Answer → Bool

@@ -8,9 +8,9 @@ use Rattle.matchit.specs.Params.{walk, named}
 use Rattle.matchit.specs.declared.params.Params.{Params}
 use Rattle.reg_http.specs.declared.refusal.Refusal.{Refusal}
 use Rattle.reg_http.specs.declared.refusal.Refusal.TheVariants.{NoRoute, Method}
-use Rattle.reg_http.specs.declared.route.Page.{Page}
-use Rattle.reg_http.specs.declared.route.Kind.{Kind}
-use Rattle.reg_http.specs.declared.route.Kind.TheVariants.{Check, Deposit, List as Listing, Extract}
+use Rattle.reg_http.specs.declared.request.route.Page.{Page}
+use Rattle.reg_http.specs.declared.request.route.Kind.{Kind}
+use Rattle.reg_http.specs.declared.request.route.Kind.TheVariants.{Check, Deposit, List as Listing, Extract, Withdraw}
 
 -- the pattern up to the project
 abbrev pub front : List ℕ
@@ -21,7 +21,7 @@ check_route = record {
   pattern = front ++ codes "/check";
   text = codes "/v1/projects/{project}/check";
   names = (14, 21) ∷ [];
-  value = record { post = Some Check; get = None };
+  value = record { post = Some Check; get = None; delete = None };
 }
 
 abbrev pub deposits_route : RouteOf Page
@@ -29,7 +29,7 @@ deposits_route = record {
   pattern = front ++ codes "/deposits";
   text = codes "/v1/projects/{project}/deposits";
   names = (14, 21) ∷ [];
-  value = record { post = Some Deposit; get = Some Listing };
+  value = record { post = Some Deposit; get = Some Listing; delete = None };
 }
 
 abbrev pub deposit_route : RouteOf Page
@@ -37,7 +37,7 @@ deposit_route = record {
   pattern = front ++ codes "/deposits/" ++ param_token ∷ [];
   text = codes "/v1/projects/{project}/deposits/{number}";
   names = (14, 21) ∷ (33, 39) ∷ [];
-  value = record { post = None; get = Some Extract };
+  value = record { post = None; get = Some Extract; delete = Some Withdraw };
 }
 
 abbrev pub with_pattern : RouteOf Page → List ℕ × RouteOf Page
@@ -53,6 +53,7 @@ has_body Check = true
 has_body Deposit = true
 has_body Listing = false
 has_body Extract = false
+has_body Withdraw = false
 
 -- the route that a path has
 abbrev pub route_of : List ℕ → Option (RouteOf Page)
@@ -78,7 +79,11 @@ pub record FoundAt : Type 0 where
 
 abbrev pub page_by : List ℕ → Option (RouteOf Page) → Result FoundAt Refusal
 page_by path None = Err NoRoute
-page_by path (Some r) = Ok (record { page = r.value; project = param (codes "project") r path; number = param (codes "number") r path })
+page_by path (Some r) = Ok (record {
+  page = r.value;
+  project = param (codes "project") r path;
+  number = param (codes "number") r path;
+})
 
 -- the page of a path
 abbrev pub page_in : List ℕ → Result FoundAt Refusal
@@ -86,7 +91,10 @@ page_in path = page_by path (route_of path)
 
 -- what a method asks of a page; methods are compared by their bytes
 abbrev pub method_of : Page → List ℕ → Option Kind
-method_of page method = if bytes_eq method (codes "POST") then page.post else (if bytes_eq method (codes "GET") then page.get else None)
+method_of page method =
+    if bytes_eq method (codes "POST") then page.post else (
+    if bytes_eq method (codes "GET") then page.get else (
+    if bytes_eq method (codes "DELETE") then page.delete else None))
 
 abbrev pub kind_by : Option Kind → Result Kind Refusal
 kind_by None = Err Method

@@ -54,7 +54,8 @@ ServesAsked answers a day all old new before after r =
     ⊎ ((length all < a.length) × (new ≡ old) × Written before after (rendered ShortBody) (status_of ShortBody) r)
     ⊎ ((new ≡ old) × Written before after (rendered OutOfMemory) (status_of OutOfMemory) r)
 
-module _ {D : Type 0} (answers : D → Asked → Answer → D → Type 0) (callers : List Credential) (day : ℤ) (bytes : List ℕ) where
+module _ {D : Type 0} (answers : D → Asked → Answer → D → Type 0)
+    (callers : List Credential) (day : ℤ) (bytes : List ℕ) where
   -- The ways of a connection: the desk before and after, the text to be written, and its status. Want of memory in the
   -- engine can come at a head before the desk is asked, or where the reply to its answer is built.
   pub data Exchange : D → D → List ℕ → ℕ → Type 0 where
@@ -62,9 +63,11 @@ module _ {D : Type 0} (answers : D → Asked → Answer → D → Type 0) (calle
     refused : {d : D} (r : Refusal) → ReadAs callers day bytes (refusal r) → Exchange d d (rendered r) (status_of r)
     answered : {d e : D} (asked : Asked) (answer : Answer) (text : List ℕ) → ReadAs callers day bytes (request asked)
         → answers d asked answer e → IsRendered answer text → Exchange d e text (answer_status answer)
-    no_memory : {d : D} (h : RequestHead) (rest : List ℕ) → IsHead bytes h rest → Exchange d d (rendered OutOfMemory) (status_of OutOfMemory)
+    no_memory : {d : D} (h : RequestHead) (rest : List ℕ) → IsHead bytes h rest
+        → Exchange d d (rendered OutOfMemory) (status_of OutOfMemory)
     unwritten : {d e : D} (asked : Asked) (answer : Answer) → ReadAs callers day bytes (request asked)
-        → answers d asked answer e → is_fixed answer ≡ false → Exchange d e (rendered OutOfMemory) (status_of OutOfMemory)
+        → answers d asked answer e → is_fixed answer ≡ false
+        → Exchange d e (rendered OutOfMemory) (status_of OutOfMemory)
 
   -- one of these ways, and its text written
   abbrev pub ServesOne : D → D → Option (List ℕ) → Option (List ℕ) → Result Served IoFault → Type 0
@@ -77,8 +80,9 @@ abbrev pub body_reads : Result Asking Refusal → ℕ
 body_reads (Ok a) = a.length + 1
 body_reads (Err r) = 0
 
--- How many reads are made: behind bytes that are no head, or behind a head that is refused, no more than a head may have bytes; of a request as
--- many more as its body has bytes, and one for the end.
+-- How many reads are made: behind bytes that are no head, or behind a head that is refused, no more than a head may
+-- have bytes; of a request as many more as its body has bytes, and one for the end.
 pub record WaitsFor (callers : List Credential) (day : ℤ) (bytes : List ℕ) (reads : ℕ) : Type 0 where
   pub headless : HasNoHead bytes → reads ≤ longest_head
-  pub headed : (h : RequestHead) (rest : List ℕ) → IsHead bytes h rest → reads ≤ longest_head + body_reads (ask_of callers day (head_parts h))
+  pub headed : (h : RequestHead) (rest : List ℕ) → IsHead bytes h rest
+      → reads ≤ longest_head + body_reads (ask_of callers day (head_parts h))

@@ -13,8 +13,8 @@ use Rattle.reg_http.specs.Heads.{IsHead}
 use Rattle.reg_http.specs.Serving.{ServesAsked, ServesOne, ServesRequest, Written}
 use Rattle.reg_http.specs.Tallies.{inner_of}
 use Rattle.reg_http.specs.Views.{asking_at}
-use Rattle.reg_http.specs.declared.ask.Ask.{Ask}
-use Rattle.reg_http.specs.declared.parts.Parts.{Parts}
+use Rattle.reg_http.specs.declared.request.ask.Ask.{Ask}
+use Rattle.reg_http.specs.declared.request.parts.Parts.{Parts}
 use Rattle.reg_http.specs.declared.tally.Tally.{Tally}
 use Rattle.reg_http.specs.declared.serve.Served.{Served}
 use Rattle.reg_http.specs.declared.serve.IoFault.{IoFault}

@@ -6,14 +6,14 @@ use Rattle.std.specs.declared.borrow.CowStr.{CowStr}
 use Rattle.std.specs.Cow.{cow_str_bytes}
 use Rattle.reg_policy.specs.declared.callers.Caller.{Caller}
 use Rattle.reg_http.specs.Asks.{Asking}
-use Rattle.reg_http.specs.Queries.{Sought, deposit, check, listing, extract, groups_in}
+use Rattle.reg_http.specs.Queries.{Sought, deposit, check, listing, extract, withdraw, groups_in}
 use Rattle.reg_http.specs.Routes.{FoundAt}
-use Rattle.reg_http.specs.declared.route.Found.{Found}
-use Rattle.reg_http.specs.declared.ask.Ask.{Ask}
-use Rattle.reg_http.specs.declared.query.Seeks.{Seeks}
-use Rattle.reg_http.specs.declared.query.Seeks.TheVariants as seeks
-use Rattle.reg_http.specs.declared.body.BodyFault.{BodyFault}
-use Rattle.reg_http.specs.declared.body.BodyFault.TheVariants as fault
+use Rattle.reg_http.specs.declared.request.route.Found.{Found}
+use Rattle.reg_http.specs.declared.request.ask.Ask.{Ask}
+use Rattle.reg_http.specs.declared.request.query.Seeks.{Seeks}
+use Rattle.reg_http.specs.declared.request.query.Seeks.TheVariants as seeks
+use Rattle.reg_http.specs.declared.request.body.BodyFault.{BodyFault}
+use Rattle.reg_http.specs.declared.request.body.BodyFault.TheVariants as fault
 
 abbrev pub itself : {A : Type 0} → A → A
 itself a = a
@@ -39,6 +39,7 @@ sought_at (seeks.Deposit embargo) = deposit embargo
 sought_at seeks.Check = check
 sought_at seeks.List = listing
 sought_at (seeks.Extract number groups) = extract number (groups_at groups)
+sought_at (seeks.Withdraw number) = withdraw number
 
 abbrev pub asking_at : Ask → Asking
 asking_at a = record { caller = a.caller.now; project = a.project; sought = sought_at a.seeks; length = a.length }

@@ -4,33 +4,20 @@
 //! the desk is asked, and its answer is written. A request that is refused never reaches the desk.
 #![tactic(auto)]
 
-mod answer;
-mod ask;
-mod body;
-mod fields;
-mod fill;
-mod head;
 pub mod laws;
 mod list;
-mod number;
-mod parts;
-mod query;
 mod refusal;
-mod render;
 mod reply;
 mod request;
-mod route;
-mod sending;
 mod serve;
 mod summary;
 mod tally;
 mod text;
-mod write;
 
-pub use answer::is_store_failed_reply;
 pub use list::serve_list;
-pub use number::number_of_deposit;
-pub use query::groups_listed;
+pub use reply::answer::is_store_failed_reply;
+pub use request::number::number_of_deposit;
+pub use request::query::groups_listed;
 pub use serve::{IoFault, Served, serve_one};
 pub use summary::{Summary, summary_of};
 pub use tally::Tally;

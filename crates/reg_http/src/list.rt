@@ -11,28 +11,6 @@ use reg_store::Keep;
 use std::alloc::{AllocError, Global};
 use std::io::{Read, Write};
 
-fn serve_pair<K: Keep, R: Read, W: Write>(
-    alloc: Global,
-    desk: &mut Desk<K>,
-    callers: &Callers,
-    day: Day,
-    connection: &mut (Tally<R>, Tally<W>),
-) -> Result<Served, IoFault>
-    requires reader_fresh { IsFresh connection.old.0 }
-    requires writer_fresh { IsFresh connection.old.1 }
-    ensures { ServesPair R.Read W.Write callers.now day
-        connection.old connection.new desk.old desk.new result }
-{
-    serve_one(
-        alloc,
-        desk,
-        callers,
-        day,
-        &mut connection.0,
-        &mut connection.1,
-    )
-}
-
 /// Serves each connection in turn, all of them fresh. At `Err` the desk and each connection are as they were.
 pub fn serve_list<K: Keep, R: Read, W: Write>(
     alloc: Global,
@@ -55,4 +33,26 @@ pub fn serve_list<K: Keep, R: Read, W: Write>(
         }
     }
     Ok(results)
+}
+
+fn serve_pair<K: Keep, R: Read, W: Write>(
+    alloc: Global,
+    desk: &mut Desk<K>,
+    callers: &Callers,
+    day: Day,
+    connection: &mut (Tally<R>, Tally<W>),
+) -> Result<Served, IoFault>
+    requires reader_fresh { IsFresh connection.old.0 }
+    requires writer_fresh { IsFresh connection.old.1 }
+    ensures { ServesPair R.Read W.Write callers.now day
+        connection.old connection.new desk.old desk.new result }
+{
+    serve_one(
+        alloc,
+        desk,
+        callers,
+        day,
+        &mut connection.0,
+        &mut connection.1,
+    )
 }

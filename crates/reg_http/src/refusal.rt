@@ -1,7 +1,6 @@
 //! Why the engine refuses a request, and the fixed replies that say so.
 ghost use Rattle.std.specs.Prelude.{◌≡◌};
 ghost use Rattle.reg_http.specs.Rendering.{rendered, status_of};
-ghost use Rattle.reg_http.specs.declared.refusal.Refusal.TheVariants as Refusal;
 
 use http::StatusCode;
 
@@ -30,6 +29,18 @@ pub(crate) enum Refusal {
     OutOfMemory,
 }
 
+/// A reply that is always the same, as one literal: its status, the length of its body, and what that says.
+macro_rules! error_reply {
+    ($status:literal, $length:literal, $words:literal) => {
+        concat!(
+            "HTTP/1.1 ", $status, "\r\nContent-Type: application/json\r\nContent-Length: ", $length,
+            "\r\nConnection: close\r\n\r\n{\"error\":\"", $words, "\"}"
+        )
+    };
+}
+
+pub(crate) use error_reply;
+
 impl Refusal {
     /// The status of its reply.
     pub(crate) fn status(self) -> StatusCode
@@ -52,76 +63,16 @@ impl Refusal {
         ensures { result.now ≡ rendered self }
     {
         match self {
-            Refusal::BadHead => bad_head_reply(),
-            Refusal::NoRoute => no_route_reply(),
-            Refusal::Method => method_reply(),
-            Refusal::NoCaller => no_caller_reply(),
-            Refusal::LengthRequired => length_required_reply(),
-            Refusal::BadLength => bad_length_reply(),
-            Refusal::TooLarge => too_large_reply(),
-            Refusal::BadParameter => bad_parameter_reply(),
-            Refusal::ShortBody => short_body_reply(),
-            Refusal::OutOfMemory => out_of_memory_reply(),
+            Refusal::BadHead => error_reply!("400 Bad Request", "20", "bad head"),
+            Refusal::NoRoute => error_reply!("404 Not Found", "20", "no route"),
+            Refusal::Method => error_reply!("405 Method Not Allowed", "18", "method"),
+            Refusal::NoCaller => error_reply!("401 Unauthorized", "21", "no caller"),
+            Refusal::LengthRequired => error_reply!("411 Length Required", "27", "length required"),
+            Refusal::BadLength => error_reply!("400 Bad Request", "22", "bad length"),
+            Refusal::TooLarge => error_reply!("413 Payload Too Large", "21", "too large"),
+            Refusal::BadParameter => error_reply!("400 Bad Request", "25", "bad parameter"),
+            Refusal::ShortBody => error_reply!("400 Bad Request", "22", "short body"),
+            Refusal::OutOfMemory => error_reply!("503 Service Unavailable", "25", "out of memory"),
         }
     }
-}
-
-fn bad_head_reply() -> &'static str
-    ensures { result.now ≡ rendered Refusal.BadHead }
-{
-    "HTTP/1.1 400 Bad Request\r\nContent-Type: application/json\r\nContent-Length: 20\r\nConnection: close\r\n\r\n{\"error\":\"bad head\"}"
-}
-
-fn no_route_reply() -> &'static str
-    ensures { result.now ≡ rendered Refusal.NoRoute }
-{
-    "HTTP/1.1 404 Not Found\r\nContent-Type: application/json\r\nContent-Length: 20\r\nConnection: close\r\n\r\n{\"error\":\"no route\"}"
-}
-
-fn method_reply() -> &'static str
-    ensures { result.now ≡ rendered Refusal.Method }
-{
-    "HTTP/1.1 405 Method Not Allowed\r\nContent-Type: application/json\r\nContent-Length: 18\r\nConnection: close\r\n\r\n{\"error\":\"method\"}"
-}
-
-fn no_caller_reply() -> &'static str
-    ensures { result.now ≡ rendered Refusal.NoCaller }
-{
-    "HTTP/1.1 401 Unauthorized\r\nContent-Type: application/json\r\nContent-Length: 21\r\nConnection: close\r\n\r\n{\"error\":\"no caller\"}"
-}
-
-fn length_required_reply() -> &'static str
-    ensures { result.now ≡ rendered Refusal.LengthRequired }
-{
-    "HTTP/1.1 411 Length Required\r\nContent-Type: application/json\r\nContent-Length: 27\r\nConnection: close\r\n\r\n{\"error\":\"length required\"}"
-}
-
-fn bad_length_reply() -> &'static str
-    ensures { result.now ≡ rendered Refusal.BadLength }
-{
-    "HTTP/1.1 400 Bad Request\r\nContent-Type: application/json\r\nContent-Length: 22\r\nConnection: close\r\n\r\n{\"error\":\"bad length\"}"
-}
-
-pub(crate) fn too_large_reply() -> &'static str
-    ensures { result.now ≡ rendered Refusal.TooLarge }
-{
-    "HTTP/1.1 413 Payload Too Large\r\nContent-Type: application/json\r\nContent-Length: 21\r\nConnection: close\r\n\r\n{\"error\":\"too large\"}"
-}
-
-fn bad_parameter_reply() -> &'static str
-    ensures { result.now ≡ rendered Refusal.BadParameter }
-{
-    "HTTP/1.1 400 Bad Request\r\nContent-Type: application/json\r\nContent-Length: 25\r\nConnection: close\r\n\r\n{\"error\":\"bad parameter\"}"
-}
-
-fn short_body_reply() -> &'static str
-    ensures { result.now ≡ rendered Refusal.ShortBody }
-{
-    "HTTP/1.1 400 Bad Request\r\nContent-Type: application/json\r\nContent-Length: 22\r\nConnection: close\r\n\r\n{\"error\":\"short body\"}"
-}
-
-pub(crate) fn out_of_memory_reply() -> &'static str
-    ensures { result.now ≡ rendered Refusal.OutOfMemory }
-{
-    "HTTP/1.1 503 Service Unavailable\r\nContent-Type: application/json\r\nContent-Length: 25\r\nConnection: close\r\n\r\n{\"error\":\"out of memory\"}"
 }

@@ -2,17 +2,43 @@
 ghost use Rattle.std.specs.Prelude.{◌≡◌, IfOk, OnOk, string_bytes};
 ghost use Rattle.reg_http.specs.Replies.{phrase_of, reply_front, reply_text, with_fields, with_status_line};
 
+pub(crate) mod answer;
+pub(crate) mod lists;
+pub(crate) mod values;
+pub(crate) mod write;
+
 use http::StatusCode;
 use std::alloc::{AllocError, Global};
 
-/// The phrase of a status.
-fn phrase_of(status: StatusCode) -> &'static str
-    ensures { result.now ≡ phrase_of status }
+/// A whole reply.
+pub(crate) fn whole_reply(
+    alloc: Global,
+    status: StatusCode,
+    kind: &str,
+    body: &[u8],
+) -> Result<Vec<u8>, AllocError>
+    ensures { IfOk result (λ reply. reply.items ≡ reply_text status kind.now body.now) }
 {
-    match status.canonical_reason() {
-        Some(phrase) => phrase,
-        None => "",
-    }
+    let front = reply_front(alloc, status, kind, body.len())?;
+    let mut reply = Vec::with_capacity(alloc, front.len() + body.len())?;
+    reply.extend_from_slice(front.as_bytes())?;
+    reply.extend_from_slice(body)?;
+    Ok(reply)
+}
+
+/// The reply up to its body.
+fn reply_front(
+    alloc: Global,
+    status: StatusCode,
+    kind: &str,
+    length: usize,
+) -> Result<String, AllocError>
+    ensures { IfOk result (λ text. string_bytes text ≡ reply_front status kind.now length) }
+{
+    let mut text = String::new(alloc);
+    push_status(&mut text, status)?;
+    push_fields(&mut text, kind, length)?;
+    Ok(text)
 }
 
 /// Appends the status line.
@@ -38,33 +64,12 @@ fn push_fields(text: &mut String, kind: &str, length: usize) -> Result<(), Alloc
     text.push_str("\r\nConnection: close\r\n\r\n")
 }
 
-/// The reply up to its body.
-fn reply_front(
-    alloc: Global,
-    status: StatusCode,
-    kind: &str,
-    length: usize,
-) -> Result<String, AllocError>
-    ensures { IfOk result (λ text. string_bytes text ≡ reply_front status kind.now length) }
+/// The phrase of a status.
+fn phrase_of(status: StatusCode) -> &'static str
+    ensures { result.now ≡ phrase_of status }
 {
-    let mut text = String::new(alloc);
-    push_status(&mut text, status)?;
-    push_fields(&mut text, kind, length)?;
-    Ok(text)
-}
-
-/// A whole reply.
-pub(crate) fn whole_reply(
-    alloc: Global,
-    status: StatusCode,
-    kind: &str,
-    body: &[u8],
-) -> Result<Vec<u8>, AllocError>
-    ensures { IfOk result (λ reply. reply.items ≡ reply_text status kind.now body.now) }
-{
-    let front = reply_front(alloc, status, kind, body.len())?;
-    let mut reply = Vec::with_capacity(alloc, front.len() + body.len())?;
-    reply.extend_from_slice(front.as_bytes())?;
-    reply.extend_from_slice(body)?;
-    Ok(reply)
+    match status.canonical_reason() {
+        Some(phrase) => phrase,
+        None => "",
+    }
 }

@@ -9,15 +9,15 @@ ghost use Rattle.reg_http.specs.Serving.{ServesAnswer, WaitsFor, body_reads, is_
 ghost use Rattle.reg_http.specs.Sides.{ServesAskedFrom, ServesAskedTo, ServesHead, ServesOneFrom, ServesOneTo, ServesRequestTo, ServesSomeHead, WrittenTo};
 ghost use Rattle.reg_http.specs.Tallies.{inner_of, calls_of, has_failed, IsFresh};
 
-use crate::answer::{built_reply, fixed_reply, status_of};
-use crate::ask::{Ask, head_parts, read_ask};
-use crate::body::{BodyFault, receive_body};
-use crate::head::{HeadRead, LONGEST_HEAD, MOST_FIELDS, receive_head};
-use crate::parts::Parts;
 use crate::refusal::Refusal;
+use crate::reply::answer::{built_reply, fixed_reply, status_of};
+use crate::reply::write::write_text;
+use crate::request::ask::{Ask, head_parts, read_ask};
+use crate::request::body::{BodyFault, receive_body};
+use crate::request::head::{HeadRead, LONGEST_HEAD, MOST_FIELDS, receive_head};
+use crate::request::parts::Parts;
 use crate::request::{groups_sought, request_of};
 use crate::tally::Tally;
-use crate::write::write_text;
 use ags_rows::LIMIT;
 use http::StatusCode;
 use httparse::spans::EMPTY_HEADER_SPAN;
@@ -27,185 +27,8 @@ use reg_store::Keep;
 use std::alloc::Global;
 use std::io::{Read, Write};
 
-/// A connection was served.
-#[derive(Clone, Copy, Debug, PartialEq, Eq)]
-pub struct Served {
-    /// The status of the reply, 0 where the connection gave no byte.
-    pub status: u16,
-}
-
-/// Which side of a connection failed.
-#[derive(Clone, Copy, Debug, PartialEq, Eq)]
-pub enum IoFault {
-    /// A read failed. Writer and desk are as they were.
-    Read,
-    /// A write failed. A first part of the reply was written, and the desk is as if the whole reply had been written.
-    Write,
-}
-
-/// Writes a reply.
-fn finish<W: Write>(
-    writer: &mut Tally<W>,
-    status: StatusCode,
-    text: &[u8],
-) -> Result<Served, IoFault>
-    requires { has_failed writer.old ≡ false }
-    ensures written { WrittenTo W.Write writer.old writer.new text.now status result }
-    ensures write_fault { has_failed writer.new ≡ is_write result }
-    ensures no_read { is_read result ≡ false }
-{
-    if write_text(writer, text) {
-        let status = status.as_u16();
-        Ok(Served { status })
-    } else {
-        Err(IoFault::Write)
-    }
-}
-
-/// Writes the reply to a refusal.
-fn refuse<W: Write>(writer: &mut Tally<W>, refusal: Refusal) -> Result<Served, IoFault>
-    requires { has_failed writer.old ≡ false }
-    ensures written { WrittenTo W.Write writer.old writer.new (rendered refusal) (status_of refusal) result }
-    ensures write_fault { has_failed writer.new ≡ is_write result }
-    ensures no_read { is_read result ≡ false }
-{
-    finish(writer, refusal.status(), refusal.reply().as_bytes())
-}
-
-/// Builds the reply to an answer and writes it.
-fn serve_built<W: Write>(
-    alloc: Global,
-    answer: &Answer,
-    writer: &mut Tally<W>,
-) -> Result<Served, IoFault>
-    requires sound { has_failed writer.old ≡ false }
-    requires built { is_fixed answer.now ≡ false }
-    ensures served { ServesAnswer answer.now
-        (W.contents (inner_of writer.old)) (W.contents (inner_of writer.new)) result }
-    ensures write_fault { has_failed writer.new ≡ is_write result }
-    ensures no_read { is_read result ≡ false }
-{
-    match built_reply(alloc, answer) {
-        Ok(text) => finish(writer, status_of(answer), &text),
-        Err(_) => refuse(writer, Refusal::OutOfMemory),
-    }
-}
-
-/// Writes the reply to an answer.
-fn serve_answer<W: Write>(
-    alloc: Global,
-    answer: &Answer,
-    writer: &mut Tally<W>,
-) -> Result<Served, IoFault>
-    requires { has_failed writer.old ≡ false }
-    ensures served { ServesAnswer answer.now
-        (W.contents (inner_of writer.old)) (W.contents (inner_of writer.new)) result }
-    ensures write_fault { has_failed writer.new ≡ is_write result }
-    ensures no_read { is_read result ≡ false }
-{
-    match fixed_reply(answer) {
-        Some(text) => finish(writer, status_of(answer), text.as_bytes()),
-        None => serve_built(alloc, answer, writer),
-    }
-}
-
-/// Asks the desk, and writes the reply to its answer.
-fn serve_request<K: Keep, W: Write>(
-    alloc: Global,
-    desk: &mut Desk<K>,
-    request: &Request<'_>,
-    writer: &mut Tally<W>,
-) -> Result<Served, IoFault>
-    requires { has_failed writer.old ≡ false }
-    ensures served { ServesRequestTo W.Write (asked request.entry.now)
-        desk.old desk.new writer.old writer.new result }
-    ensures write_fault { has_failed writer.new ≡ is_write result }
-    ensures no_read { is_read result ≡ false }
-{
-    let answer = desk.answer(alloc, request);
-    serve_answer(alloc, &answer, writer)
-}
-
-/// Reads the body of what is asked, of which the first bytes came early with the head, and serves the request.
-fn serve_asked<K: Keep, R: Read, W: Write>(
-    alloc: Global,
-    desk: &mut Desk<K>,
-    day: Day,
-    ask: &Ask<'_>,
-    early: &[u8],
-    reader: &mut Tally<R>,
-    writer: &mut Tally<W>,
-) -> Result<Served, IoFault>
-    requires reader_sound { has_failed reader.old ≡ false }
-    requires writer_sound { has_failed writer.old ≡ false }
-
-    // What is written and what the desk is then, by the bytes that came early and those that the reader still had.
-    ensures served { ServesAskedFrom R.Read W.Write ask.now day early.now reader.old
-        desk.old desk.new writer.old writer.new result }
-
-    // The same of some bytes, where the reader does not tell its own.
-    ensures untold { (all : List ℕ) × ServesAskedTo W.Write ask.now day all
-        desk.old desk.new writer.old writer.new result }
-
-    // Faults are those of the two sides, each exactly, and a failed read changes neither desk nor writer.
-    ensures read_fault { has_failed reader.new ≡ is_read result }
-    ensures write_fault { has_failed writer.new ≡ is_write result }
-    ensures unread { IsTrue (is_read result) → (desk.new ≡ desk.old) × (writer.new ≡ writer.old) }
-
-    // How many reads are made at most.
-    ensures calls { calls_of reader.new ≤ calls_of reader.old + ask.now.length + 1 }
-{
-    let body = match receive_body(alloc, reader, early, ask.length) {
-        Ok(body) => body,
-        Err(BodyFault::Read) => return Err(IoFault::Read),
-        Err(BodyFault::Short) => return refuse(writer, Refusal::ShortBody),
-        Err(BodyFault::Memory) => return refuse(writer, Refusal::OutOfMemory),
-    };
-    let Ok(groups) = groups_sought(alloc, &ask.seeks) else {
-        return refuse(writer, Refusal::OutOfMemory);
-    };
-    let request = request_of(ask, &body, &groups, day);
-    serve_request(alloc, desk, &request, writer)
-}
-
-/// Serves what a head asks that was read, of whose body the first bytes came early with it.
-fn serve_head<K: Keep, R: Read, W: Write>(
-    alloc: Global,
-    desk: &mut Desk<K>,
-    callers: &Callers,
-    day: Day,
-    parts: &Parts<'_>,
-    early: &[u8],
-    reader: &mut Tally<R>,
-    writer: &mut Tally<W>,
-) -> Result<Served, IoFault>
-    requires reader_sound { has_failed reader.old ≡ false }
-    requires writer_sound { has_failed writer.old ≡ false }
-
-    // At bytes that begin with a head of these parts.
-    ensures served { ServesHead R.Read W.Write callers.now day parts.now early.now reader.old
-        desk.old desk.new writer.old writer.new result }
-    ensures untold { ServesSomeHead W.Write callers.now day parts.now
-        desk.old desk.new writer.old writer.new result }
-
-    // Faults are those of the two sides, each exactly, and a failed read changes neither desk nor writer.
-    ensures read_fault { has_failed reader.new ≡ is_read result }
-    ensures write_fault { has_failed writer.new ≡ is_write result }
-    ensures unread { IsTrue (is_read result) → (desk.new ≡ desk.old) × (writer.new ≡ writer.old) }
-
-    // How many reads are made at most.
-    ensures calls { calls_of reader.new ≤ calls_of reader.old + LIMIT + 1 }
-    ensures waits { calls_of reader.new
-        ≤ calls_of reader.old + body_reads (ask_of callers.now day (parts_seen parts.now)) }
-{
-    match read_ask(alloc, callers, day, parts) {
-        Ok(ask) => serve_asked(alloc, desk, day, &ask, early, reader, writer),
-        Err(refusal) => refuse(writer, refusal),
-    }
-}
-
-/// Serves one connection: reads a request, asks the desk, and writes the reply. Reader and writer are fresh. Over a
-/// reader that tells its bytes, at most 8,192 reads are made where the head is refused: no more than a head may have bytes.
+/// Serves one connection: reads a request, asks the desk, and writes the reply. Reader and writer are fresh.
+/// Over a reader that tells its bytes, at most 8,192 reads are made where the head is refused.
 /// A reply is one write where the writer takes it: `connections_in_turn` tests it, and no clause says so.
 pub fn serve_one<K: Keep, R: Read, W: Write>(
     alloc: Global,
@@ -255,5 +78,182 @@ pub fn serve_one<K: Keep, R: Read, W: Write>(
                 writer,
             )
         }
+    }
+}
+
+/// A connection was served.
+#[derive(Clone, Copy, Debug, PartialEq, Eq)]
+pub struct Served {
+    /// The status of the reply, 0 where the connection gave no byte.
+    pub status: u16,
+}
+
+/// Which side of a connection failed.
+#[derive(Clone, Copy, Debug, PartialEq, Eq)]
+pub enum IoFault {
+    /// A read failed. Writer and desk are as they were.
+    Read,
+    /// A write failed. A first part of the reply was written, and the desk is as if the whole reply had been written.
+    Write,
+}
+
+/// Serves what a head asks that was read, of whose body the first bytes came early with it.
+fn serve_head<K: Keep, R: Read, W: Write>(
+    alloc: Global,
+    desk: &mut Desk<K>,
+    callers: &Callers,
+    day: Day,
+    parts: &Parts<'_>,
+    early: &[u8],
+    reader: &mut Tally<R>,
+    writer: &mut Tally<W>,
+) -> Result<Served, IoFault>
+    requires reader_sound { has_failed reader.old ≡ false }
+    requires writer_sound { has_failed writer.old ≡ false }
+
+    // At bytes that begin with a head of these parts.
+    ensures served { ServesHead R.Read W.Write callers.now day parts.now early.now reader.old
+        desk.old desk.new writer.old writer.new result }
+    ensures untold { ServesSomeHead W.Write callers.now day parts.now
+        desk.old desk.new writer.old writer.new result }
+
+    // Faults are those of the two sides, each exactly, and a failed read changes neither desk nor writer.
+    ensures read_fault { has_failed reader.new ≡ is_read result }
+    ensures write_fault { has_failed writer.new ≡ is_write result }
+    ensures unread { IsTrue (is_read result) → (desk.new ≡ desk.old) × (writer.new ≡ writer.old) }
+
+    // How many reads are made at most.
+    ensures calls { calls_of reader.new ≤ calls_of reader.old + LIMIT + 1 }
+    ensures waits { calls_of reader.new
+        ≤ calls_of reader.old + body_reads (ask_of callers.now day (parts_seen parts.now)) }
+{
+    match read_ask(alloc, callers, day, parts) {
+        Ok(ask) => serve_asked(alloc, desk, day, &ask, early, reader, writer),
+        Err(refusal) => refuse(writer, refusal),
+    }
+}
+
+/// Reads the body of what is asked, of which the first bytes came early with the head, and serves the request.
+fn serve_asked<K: Keep, R: Read, W: Write>(
+    alloc: Global,
+    desk: &mut Desk<K>,
+    day: Day,
+    ask: &Ask<'_>,
+    early: &[u8],
+    reader: &mut Tally<R>,
+    writer: &mut Tally<W>,
+) -> Result<Served, IoFault>
+    requires reader_sound { has_failed reader.old ≡ false }
+    requires writer_sound { has_failed writer.old ≡ false }
+
+    // What is written and what the desk is then, by the bytes that came early and those that the reader still had.
+    ensures served { ServesAskedFrom R.Read W.Write ask.now day early.now reader.old
+        desk.old desk.new writer.old writer.new result }
+
+    // The same of some bytes, where the reader does not tell its own.
+    ensures untold { (all : List ℕ) × ServesAskedTo W.Write ask.now day all
+        desk.old desk.new writer.old writer.new result }
+
+    // Faults are those of the two sides, each exactly, and a failed read changes neither desk nor writer.
+    ensures read_fault { has_failed reader.new ≡ is_read result }
+    ensures write_fault { has_failed writer.new ≡ is_write result }
+    ensures unread { IsTrue (is_read result) → (desk.new ≡ desk.old) × (writer.new ≡ writer.old) }
+
+    // How many reads are made at most.
+    ensures calls { calls_of reader.new ≤ calls_of reader.old + ask.now.length + 1 }
+{
+    let body = match receive_body(alloc, reader, early, ask.length) {
+        Ok(body) => body,
+        Err(BodyFault::Read) => return Err(IoFault::Read),
+        Err(BodyFault::Short) => return refuse(writer, Refusal::ShortBody),
+        Err(BodyFault::Memory) => return refuse(writer, Refusal::OutOfMemory),
+    };
+    let Ok(groups) = groups_sought(alloc, &ask.seeks) else {
+        return refuse(writer, Refusal::OutOfMemory);
+    };
+    let request = request_of(ask, &body, &groups, day);
+    serve_request(alloc, desk, &request, writer)
+}
+
+/// Asks the desk, and writes the reply to its answer.
+fn serve_request<K: Keep, W: Write>(
+    alloc: Global,
+    desk: &mut Desk<K>,
+    request: &Request<'_>,
+    writer: &mut Tally<W>,
+) -> Result<Served, IoFault>
+    requires { has_failed writer.old ≡ false }
+    ensures served { ServesRequestTo W.Write (asked request.entry.now)
+        desk.old desk.new writer.old writer.new result }
+    ensures write_fault { has_failed writer.new ≡ is_write result }
+    ensures no_read { is_read result ≡ false }
+{
+    let answer = desk.answer(alloc, request);
+    serve_answer(alloc, &answer, writer)
+}
+
+/// Writes the reply to an answer.
+fn serve_answer<W: Write>(
+    alloc: Global,
+    answer: &Answer,
+    writer: &mut Tally<W>,
+) -> Result<Served, IoFault>
+    requires { has_failed writer.old ≡ false }
+    ensures served { ServesAnswer answer.now
+        (W.contents (inner_of writer.old)) (W.contents (inner_of writer.new)) result }
+    ensures write_fault { has_failed writer.new ≡ is_write result }
+    ensures no_read { is_read result ≡ false }
+{
+    match fixed_reply(answer) {
+        Some(text) => finish(writer, status_of(answer), text.as_bytes()),
+        None => serve_built(alloc, answer, writer),
+    }
+}
+
+/// Builds the reply to an answer and writes it.
+fn serve_built<W: Write>(
+    alloc: Global,
+    answer: &Answer,
+    writer: &mut Tally<W>,
+) -> Result<Served, IoFault>
+    requires sound { has_failed writer.old ≡ false }
+    requires built { is_fixed answer.now ≡ false }
+    ensures served { ServesAnswer answer.now
+        (W.contents (inner_of writer.old)) (W.contents (inner_of writer.new)) result }
+    ensures write_fault { has_failed writer.new ≡ is_write result }
+    ensures no_read { is_read result ≡ false }
+{
+    match built_reply(alloc, answer) {
+        Ok(text) => finish(writer, status_of(answer), &text),
+        Err(_) => refuse(writer, Refusal::OutOfMemory),
+    }
+}
+
+/// Writes the reply to a refusal.
+fn refuse<W: Write>(writer: &mut Tally<W>, refusal: Refusal) -> Result<Served, IoFault>
+    requires { has_failed writer.old ≡ false }
+    ensures written { WrittenTo W.Write writer.old writer.new (rendered refusal) (status_of refusal) result }
+    ensures write_fault { has_failed writer.new ≡ is_write result }
+    ensures no_read { is_read result ≡ false }
+{
+    finish(writer, refusal.status(), refusal.reply().as_bytes())
+}
+
+/// Writes a reply.
+fn finish<W: Write>(
+    writer: &mut Tally<W>,
+    status: StatusCode,
+    text: &[u8],
+) -> Result<Served, IoFault>
+    requires { has_failed writer.old ≡ false }
+    ensures written { WrittenTo W.Write writer.old writer.new text.now status result }
+    ensures write_fault { has_failed writer.new ≡ is_write result }
+    ensures no_read { is_read result ≡ false }
+{
+    if write_text(writer, text) {
+        let status = status.as_u16();
+        Ok(Served { status })
+    } else {
+        Err(IoFault::Write)
     }
 }

@@ -20,9 +20,9 @@ use std::env::VarError;
 use std::io::{ErrorKind, Read, Write};
 use std::{env, io};
 
-/// An empty desk over memory that takes so many deposits, under this dictionary; none where memory is refused, or the dictionary
-/// is longer than what can be read.
-fn desk_under(alloc: Global, dictionary: &[u8], most: u32) -> Option<Desk<PlainKeep>>
+/// An empty desk over memory that takes so many deposits, under this policy and dictionary; none where memory is refused,
+/// or the dictionary is longer than what can be read.
+fn desk_under(alloc: Global, policy: &str, dictionary: &[u8], most: u32) -> Option<Desk<PlainKeep>>
     requires least { 0 < most }
     requires most { most ≤ 999999 }
 {
@@ -30,7 +30,7 @@ fn desk_under(alloc: Global, dictionary: &[u8], most: u32) -> Option<Desk<PlainK
         return None;
     }
     let dictionary = Dictionary::read(alloc, dictionary).ok()?;
-    let policy = Policy::read(alloc, POLICY).ok()?;
+    let policy = Policy::read(alloc, policy).ok()?;
     Some(Desk::new(PlainKeep::with_limit(alloc, dictionary, most), policy))
 }
 
@@ -132,7 +132,7 @@ fn is_played(
 
 /// The same at a desk under the small dictionary that takes one deposit; none where memory is refused before.
 fn plays_for(alloc: Global, callers: &Callers, day: Day, play: Play<'_>) -> Option<bool> {
-    match desk_under(alloc, MINI, 1) {
+    match desk_under(alloc, POLICY, MINI, 1) {
         Some(mut desk) => Some(is_played(alloc, &mut desk, callers, day, play)),
         None => None,
     }

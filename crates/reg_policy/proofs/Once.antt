@@ -14,7 +14,7 @@ use Rattle.reg_policy.specs.declared.rule.Effect.TheVariants.{Permit, Deny}
 use Rattle.reg_policy.specs.declared.rule.WantedEntry.{WantedEntry}
 use Rattle.reg_policy.specs.declared.rule.Rule.{Rule}
 use Rattle.reg_policy.specs.declared.subject.Verb.{Verb}
-use Rattle.reg_policy.specs.declared.subject.Verb.TheVariants.{Deposit, Check, List as ListDeposits, Extract, See}
+use Rattle.reg_policy.specs.declared.subject.Verb.TheVariants.{Deposit, Check, List as ListDeposits, Extract, Withdraw, See}
 
 -- each table says one thing at most
 abbrev pub SaysOnce : {A : Type 0} → (Members → A → Type 0) → Type 0
@@ -84,6 +84,7 @@ verb_once s a b p q = verbs a b (sym p ∙ q)
     verbs Check Check e = refl
     verbs ListDeposits ListDeposits e = refl
     verbs Extract Extract e = refl
+    verbs Withdraw Withdraw e = refl
     verbs See See e = refl
     verbs a b e = absurd (false≢true ((bytes_eq-Decides (verb_text a) (verb_text b)).1 e))
 

@@ -5,7 +5,7 @@ use Rattle.std.specs.List.{list_all}
 use Rattle.ags_text.specs.Bytes.{low_line}
 use Rattle.ags_text.specs.Names.{is_within}
 use Rattle.reg_policy.specs.declared.subject.Verb.{Verb}
-use Rattle.reg_policy.specs.declared.subject.Verb.TheVariants.{Deposit, Check, List as ListDeposits, Extract, See}
+use Rattle.reg_policy.specs.declared.subject.Verb.TheVariants.{Deposit, Check, List as ListDeposits, Extract, Withdraw, See}
 
 -- `-`
 abbrev pub hyphen : ℕ
@@ -39,4 +39,5 @@ verb_text Deposit = codes "deposit"
 verb_text Check = codes "check"
 verb_text ListDeposits = codes "list"
 verb_text Extract = codes "extract"
+verb_text Withdraw = codes "withdraw"
 verb_text See = codes "see"

@@ -132,6 +132,7 @@ fn verb_of(word: &str) -> Option<Verb>
         "check" => Some(Verb::Check),
         "list" => Some(Verb::List),
         "extract" => Some(Verb::Extract),
+        "withdraw" => Some(Verb::Withdraw),
         "see" => Some(Verb::See),
         _ => None,
     }

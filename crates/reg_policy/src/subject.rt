@@ -8,7 +8,7 @@ use std::marker::Model;
 /// What a caller wants to do. `See` is to see one row.
 #[derive(Clone, Copy, Debug, PartialEq, Eq)]
 #[rattlefmt::skip]
-pub enum Verb { Deposit, Check, List, Extract, See }
+pub enum Verb { Deposit, Check, List, Extract, Withdraw, See }
 
 /// What a policy knows of one row.
 #[derive(Clone, Copy)]

@@ -1,11 +1,11 @@
 -- A register in memory: what is known of a kept deposit and of its file.
-use Rattle.std.proofs.Common.{◌≡◌, ◌≢◌, ℕ, ◌+◌, ◌<◌, ◌≤◌, Bool, true, false, List, [], ◌∷◌, ◌++◌, length, map, drop, All, Option, Some, Ok, Err, Result, get_or, if◌then◌else◌, refl, sym, ap, subst, ◌∙◌, append_assoc, arith}
-use Rattle.std.specs.Prelude.{IfOk, option_map, slice_get}
+use Rattle.std.proofs.Common.{◌≡◌, ◌≢◌, ℕ, zero, suc, ◌+◌, ◌-◌, ◌<◌, ◌≤◌, Bool, true, false, List, [], ◌∷◌, ◌++◌, length, map, drop, All, Option, Some, Ok, Err, Result, get_or, if◌then◌else◌, refl, sym, ap, subst, ◌∙◌, append_assoc, arith}
+use Rattle.std.specs.Prelude.{IfOk, option_map, slice_get, slice_set}
 use Rattle.std.specs.Str.{bytes_eq}
 use Rattle.std.proofs.Math.Logic.{∥∥₁_map, ∥∥₁_elim}
 use Rattle.std.proofs.Math.ListN.{get_or-map}
 use Rattle.std.proofs.Props.{props}
-use Rattle.std.proofs.lemmas.List.{drop_more, map-append}
+use Rattle.std.proofs.lemmas.List.{drop_more, length-map, map-append}
 use Rattle.std.proofs.lemmas.List.Elements.{All-append}
 use Rattle.std.proofs.lemmas.Option.{get_or_from_slice_get, slice_get-map, slice_get_read}
 use Rattle.ags_rows.specs.declared.TheConstants.{LIMIT, READABLE}
@@ -19,8 +19,9 @@ use Rattle.reg_store.specs.declared.keep.Kept.{Kept}
 use Rattle.reg_store.specs.declared.keep.KeptRow.{KeptRow}
 use Rattle.reg_store.specs.declared.keep.ProjectRow.{ProjectRow}
 use Rattle.reg_store.specs.Project.{project_of, targets_of}
-use Rattle.reg_store.specs.Keep.{deposit_of}
+use Rattle.reg_store.specs.Keep.{deposit_of, sent_of}
 use Rattle.reg_store.specs.Sent.{Sent, numbers_from}
+use Rattle.reg_store.specs.Deposit.{Deposit, sents, mark, marked, sents_marked}
 use Rattle.reg_store.specs.Fit.{IsFit, IsFileOf, kept_rows}
 use Rattle.reg_store.specs.PlainLaws.{fit_of}
 
@@ -51,25 +52,52 @@ fit_is_clean dictionary d found fit h some = ∥∥₁_elim fit (Prim.hlevel pro
 one_fit : (dictionary : Entries) (d : Sent) → IsFit dictionary d → All (IsFit dictionary) (d ∷ [])
 one_fit dictionary d h = λ k x low. let first : k ≡ 0 = omega arith in rw first h
 
+-- what was sent, straight from what is kept
+kept_sents : (kept : List Kept) → sents (map deposit_of kept) ≡ map sent_of kept
+kept_sents [] = refl
+kept_sents (one ∷ more) = ap (λ (rest : List Sent). sent_of one ∷ rest) (kept_sents more)
+
 -- one deposit more
-pub fit_push : (dictionary : Entries) (old : List Kept) (kept : Kept) (ok : Bool) → IsFit dictionary (deposit_of kept) → ∥ All (IsFit dictionary) (map deposit_of old) ∥₁
-    → ∥ All (IsFit dictionary) (map deposit_of (if ok then old ++ kept ∷ [] else old)) ∥₁
+pub fit_push : (dictionary : Entries) (old : List Kept) (kept : Kept) (ok : Bool) → IsFit dictionary (sent_of kept) → ∥ All (IsFit dictionary) (sents (map deposit_of old)) ∥₁
+    → ∥ All (IsFit dictionary) (sents (map deposit_of (if ok then old ++ kept ∷ [] else old))) ∥₁
 fit_push dictionary old kept false one all = all
 fit_push dictionary old kept true one all =
-    ∥∥₁_map all (λ (h : All (IsFit dictionary) (map deposit_of old)). let r : All (IsFit dictionary) (map deposit_of (old ++ kept ∷ [])) = subst (All (IsFit dictionary)) (sym (map-append deposit_of old (kept ∷ [])))
-    (All-append (IsFit dictionary) (map deposit_of old) (deposit_of kept ∷ []) h (one_fit dictionary (deposit_of kept) one)) in r)
+    let list : map sent_of old ++ sent_of kept ∷ [] ≡ sents (map deposit_of (old ++ kept ∷ [])) = sym (kept_sents (old ++ kept ∷ []) ∙ map-append sent_of old (kept ∷ [])) in
+    ∥∥₁_map all (λ (h : All (IsFit dictionary) (sents (map deposit_of old))). subst (All (IsFit dictionary)) list
+    (All-append (IsFit dictionary) (map sent_of old) (sent_of kept ∷ []) (subst (All (IsFit dictionary)) (kept_sents old) h) (one_fit dictionary (sent_of kept) one)))
 
 -- the deposit at a place
-pub kept_is_fit : (dictionary : Entries) (kept : List Kept) (k : ℕ) (one : Kept) → ∥ All (IsFit dictionary) (map deposit_of kept) ∥₁ → k < length (map deposit_of kept) → one ≡ get_or kept k one → IsFit dictionary (deposit_of one)
+pub kept_is_fit : (dictionary : Entries) (kept : List Kept) (k : ℕ) (one : Kept) → ∥ All (IsFit dictionary) (sents (map deposit_of kept)) ∥₁ → k < length (map deposit_of kept) → one ≡ get_or kept k one → IsFit dictionary (sent_of one)
 kept_is_fit dictionary kept k one all low is =
-    subst (IsFit dictionary) (get_or-map deposit_of kept k one ∙ ap deposit_of (sym is)) (fit_of dictionary (map deposit_of kept) all k (deposit_of one) low)
+    subst (IsFit dictionary) (get_or-map sent_of kept k one ∙ ap sent_of (sym is))
+    (fit_of dictionary (map sent_of kept) (subst (λ (list : List Sent). ∥ All (IsFit dictionary) list ∥₁) (kept_sents kept) all) k (sent_of one) (omega (arith, low, length-map kept deposit_of, length-map kept sent_of)))
 
-pub kept_is_deposit : (kept : List Kept) (k : ℕ) (one : Kept) (d : Sent) → one ≡ get_or kept k one → slice_get (map deposit_of kept) k ≡ Some d → d ≡ deposit_of one
-kept_is_deposit kept k one d is there = sym (get_or_from_slice_get (map deposit_of kept) k d (deposit_of one) there) ∙ get_or-map deposit_of kept k one ∙ ap deposit_of (sym is)
+-- what is seen of it there
+pub kept_is : {X : Type 0} (view : Kept → X) (kept : List Kept) (k : ℕ) (one : Kept) (d : X) → one ≡ get_or kept k one → slice_get (map view kept) k ≡ Some d → d ≡ view one
+kept_is view kept k one d is there = sym (get_or_from_slice_get (map view kept) k d (view one) there) ∙ get_or-map view kept k one ∙ ap view (sym is)
+
+pub kept_is_sent : (kept : List Kept) (k : ℕ) (one : Kept) (d : Sent) → one ≡ get_or kept k one → slice_get (sents (map deposit_of kept)) k ≡ Some d → d ≡ sent_of one
+kept_is_sent kept k one d is there = kept_is sent_of kept k one d is (ap (λ (list : List Sent). slice_get list k) (sym (kept_sents kept)) ∙ there)
 
 -- the list has the deposit at its place
 pub kept_at : (kept : List Kept) (k : ℕ) (one : Kept) → k < length kept → one ≡ get_or kept k one → slice_get (map deposit_of kept) k ≡ Some (deposit_of one)
 kept_at kept k one low is = slice_get-map deposit_of kept k ∙ ap (option_map deposit_of) (slice_get_read kept (length kept) k one refl low is)
+
+marked_place : (kept : List Kept) (k : ℕ) (one new : Kept) → one ≡ get_or kept k one → deposit_of new ≡ mark (deposit_of one) → map deposit_of (slice_set kept k new) ≡ marked (suc k) (map deposit_of kept)
+marked_place [] k one new is said = refl
+marked_place (x ∷ kept) zero one new is said = ap (λ (d : Deposit). d ∷ map deposit_of kept) (said ∙ ap (λ (y : Kept). mark (deposit_of y)) is)
+marked_place (x ∷ kept) (suc k) one new is said = ap (λ (rest : List Deposit). deposit_of x ∷ rest) (marked_place kept k one new is said)
+
+-- one of them is marked
+pub kept_marked : (kept : List Kept) (n : ℕ) (one new : Kept) → 0 < n → one ≡ get_or kept (n - 1) one → deposit_of new ≡ mark (deposit_of one) → map deposit_of (slice_set kept (n - 1) new) ≡ marked n (map deposit_of kept)
+kept_marked kept n one new low is said =
+    let number : suc (n - 1) ≡ n = omega (arith, low) in
+    marked_place kept (n - 1) one new is said ∙ ap (λ (m : ℕ). marked m (map deposit_of kept)) number
+
+-- a mark leaves them fit
+pub marked_fit : (dictionary : Entries) (old new : List Kept) (n : ℕ) → map deposit_of new ≡ marked n (map deposit_of old) → ∥ All (IsFit dictionary) (sents (map deposit_of old)) ∥₁ → ∥ All (IsFit dictionary) (sents (map deposit_of new)) ∥₁
+marked_fit dictionary old new n is all =
+    subst (λ (list : List Sent). ∥ All (IsFit dictionary) list ∥₁) (sym (ap sents is ∙ sents_marked n (map deposit_of old))) all
 
 -- ---- the numbers of a project's deposits
 
@@ -80,10 +108,10 @@ joined false n old new rest all is before = rw is before
 
 -- one deposit more is looked at
 pub numbers_more : (project : List ℕ) (kept : List Kept) (i n : ℕ) (one : Kept) (old new all : List ℕ) → i < length kept → one ≡ get_or kept i one → new ≡ (if bytes_eq one.project project then old ++ n ∷ [] else old)
-    → old ++ numbers_from n project (map deposit_of (drop i kept)) ≡ all → new ++ numbers_from (n + 1) project (map deposit_of (drop (i + 1) kept)) ≡ all
+    → old ++ numbers_from n project (sents (map deposit_of (drop i kept))) ≡ all → new ++ numbers_from (n + 1) project (sents (map deposit_of (drop (i + 1) kept))) ≡ all
 numbers_more project kept i n one old new all low is told before =
     let here : drop i kept ≡ one ∷ drop (i + 1) kept = drop_more kept i one low ∙ ap (λ (x : Kept). x ∷ drop (i + 1) kept) (sym is) in
-    joined (bytes_eq one.project project) n old new (numbers_from (n + 1) project (map deposit_of (drop (i + 1) kept))) all told (subst (λ (l : List Kept). old ++ numbers_from n project (map deposit_of l) ≡ all) here before)
+    joined (bytes_eq one.project project) n old new (numbers_from (n + 1) project (sents (map deposit_of (drop (i + 1) kept)))) all told (subst (λ (l : List Kept). old ++ numbers_from n project (sents (map deposit_of l)) ≡ all) here before)
 
 -- ---- its file
 

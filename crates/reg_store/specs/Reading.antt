@@ -9,12 +9,13 @@ use Rattle.reg_store.specs.declared.keep.KeptRow.{KeptRow}
 use Rattle.reg_store.specs.declared.keep.ProjectRow.{ProjectRow}
 use Rattle.reg_store.specs.Keep.{IsHeadOf}
 use Rattle.reg_store.specs.Sent.{Sent}
+use Rattle.reg_store.specs.Deposit.{Deposit}
 use Rattle.reg_store.specs.Fit.{IsFileOf, kept_rows}
 use Rattle.reg_store.specs.Project.{project_of, targets_of}
 
 -- The head is that of deposit n of the list.
-abbrev pub IsHeadAt : List Sent → ℕ → KeptHead → Type 0
-IsHeadAt list n head = (d : Sent) → slice_get list (n - 1) ≡ Some d → IsHeadOf d head
+abbrev pub IsHeadAt : List Deposit → ℕ → KeptHead → Type 0
+IsHeadAt list n head = (d : Deposit) → slice_get list (n - 1) ≡ Some d → IsHeadOf d head
 
 -- This holds of the checked file of the deposit.
 abbrev pub OfFile : Entries → Sent → (CheckedFile → Type 0) → Type 0

@@ -1,8 +1,9 @@
 //! A keep in memory.
 
 ghost use Rattle.std.specs.Prelude.{◌≡◌, ◌<◌, ◌≤◌, [], IfOk, All, false, ⊤, length, map, refl};
-ghost use Rattle.reg_store.specs.Keep.{deposit_of, IsHeadOf};
+ghost use Rattle.reg_store.specs.Keep.{deposit_of, sent_of, IsHeadOf};
 ghost use Rattle.reg_store.specs.Sent.{number_of, numbers_from};
+ghost use Rattle.reg_store.specs.Deposit.{sents};
 ghost use Rattle.reg_store.specs.Fit.{IsFit, IsFileOf};
 ghost use Rattle.reg_store.specs.Reading.{HasGraph, HasKeptRows, HasProjectRow, HasTargets, OfFile};
 ghost use Rattle.reg_store.specs.PlainLaws.{few_of, fit_of};
@@ -25,7 +26,7 @@ pub struct PlainKeep {
     alloc: Global,
     ghost within: { length kept.items ≤ limit },
     ghost few: { limit ≤ 999999 },
-    ghost fit: { ∥ All (IsFit dictionary) (map deposit_of kept.items) ∥₁ },
+    ghost fit: { ∥ All (IsFit dictionary) (sents (map deposit_of kept.items)) ∥₁ },
 }
 
 // Written out, so that no crate that lets one go proves again how its parts are dropped.
@@ -76,15 +77,22 @@ fn kept_of(
     project: &Name,
     embargo: Day,
     bytes: &[u8],
+    withdrawn: bool,
 ) -> Result<Kept, AllocError>
-    ensures { IfOk result (λ kept.
-        kept ≡ record { firm = firm.now; project = project.now; embargo = embargo; bytes = bytes.now }) }
+    ensures { IfOk result (λ kept. kept ≡ record {
+      firm = firm.now;
+      project = project.now;
+      embargo = embargo;
+      bytes = bytes.now;
+      withdrawn = withdrawn;
+    }) }
 {
     Ok(Kept {
         firm: firm.clone()?,
         project: project.clone()?,
         embargo,
         bytes: copy(alloc, bytes)?,
+        withdrawn,
     })
 }
 
@@ -96,6 +104,7 @@ fn copied_head(kept: &Kept) -> Result<KeptHead, AllocError>
         firm: kept.firm.clone()?,
         project: kept.project.clone()?,
         embargo: kept.embargo,
+        withdrawn: kept.withdrawn,
     })
 }
 
@@ -113,7 +122,7 @@ pub fn copy_graph(alloc: Global, graph: &Graph) -> Result<Graph, AllocError>
 /// The number of the first equal deposit, from 1.
 fn find_in(kept: &[Kept], firm: &Name, project: &Name, bytes: &[u8]) -> Option<u32>
     requires { length kept.now ≤ 999999 }
-    ensures { result ≡ number_of firm.now project.now bytes.now (map deposit_of kept.now) }
+    ensures { result ≡ number_of firm.now project.now bytes.now (sents (map deposit_of kept.now)) }
 {
     let mut number: u32 = 0;
     for one in kept {
@@ -128,7 +137,7 @@ fn find_in(kept: &[Kept], firm: &Name, project: &Name, bytes: &[u8]) -> Option<u
 /// The numbers of a project's deposits, rising.
 fn numbers_in(alloc: Global, kept: &[Kept], project: &Name) -> Result<Vec<u32>, AllocError>
     requires { length kept.now ≤ 999999 }
-    ensures { IfOk result (λ ns. ns.items ≡ numbers_from 1 project.now (map deposit_of kept.now)) }
+    ensures { IfOk result (λ ns. ns.items ≡ numbers_from 1 project.now (sents (map deposit_of kept.now))) }
 {
     let mut numbers = Vec::new(alloc);
     let mut number: u32 = 0;
@@ -147,8 +156,8 @@ fn recheck<'k>(
     dictionary: &Dictionary,
     kept: &'k Kept,
 ) -> Result<Checked<'k>, AllocError>
-    requires { IsFit dictionary.now (deposit_of kept.now) }
-    ensures { IfOk result (IsFileOf dictionary.now (deposit_of kept.now)) }
+    requires { IsFit dictionary.now (sent_of kept.now) }
+    ensures { IfOk result (IsFileOf dictionary.now (sent_of kept.now)) }
 {
     match check(alloc, dictionary, kept.bytes.as_slice()) {
         Ok(checked) => Ok(checked),
@@ -163,8 +172,8 @@ fn checked_rows(
     dictionary: &Dictionary,
     kept: &Kept,
 ) -> Result<Vec<KeptRow>, AllocError>
-    requires { IsFit dictionary.now (deposit_of kept.now) }
-    ensures { IfOk result (λ rows. OfFile dictionary.now (deposit_of kept.now) (HasKeptRows rows)) }
+    requires { IsFit dictionary.now (sent_of kept.now) }
+    ensures { IfOk result (λ rows. OfFile dictionary.now (sent_of kept.now) (HasKeptRows rows)) }
 {
     let checked = recheck(alloc, dictionary, kept)?;
     kept_rows(alloc, checked.scan().groups())
@@ -172,8 +181,8 @@ fn checked_rows(
 
 /// The steps between the DATA rows of a deposit's file.
 fn checked_steps(alloc: Global, dictionary: &Dictionary, kept: &Kept) -> Result<Graph, AllocError>
-    requires { IsFit dictionary.now (deposit_of kept.now) }
-    ensures { IfOk result (λ graph. OfFile dictionary.now (deposit_of kept.now) (HasGraph graph)) }
+    requires { IsFit dictionary.now (sent_of kept.now) }
+    ensures { IfOk result (λ graph. OfFile dictionary.now (sent_of kept.now) (HasGraph graph)) }
 {
     let checked = recheck(alloc, dictionary, kept)?;
     copy_graph(alloc, checked.graph())
@@ -185,8 +194,8 @@ fn checked_project(
     dictionary: &Dictionary,
     kept: &Kept,
 ) -> Result<Option<ProjectRow>, AllocError>
-    requires { IsFit dictionary.now (deposit_of kept.now) }
-    ensures { IfOk result (λ found. OfFile dictionary.now (deposit_of kept.now) (HasProjectRow found)) }
+    requires { IsFit dictionary.now (sent_of kept.now) }
+    ensures { IfOk result (λ found. OfFile dictionary.now (sent_of kept.now) (HasProjectRow found)) }
 {
     let rows = checked_rows(alloc, dictionary, kept)?;
     project_in(alloc, &rows)
@@ -199,8 +208,8 @@ fn checked_targets(
     kept: &Kept,
     row: u32,
 ) -> Result<Vec<u32>, AllocError>
-    requires { IsFit dictionary.now (deposit_of kept.now) }
-    ensures { IfOk result (λ targets. OfFile dictionary.now (deposit_of kept.now) (HasTargets row targets)) }
+    requires { IsFit dictionary.now (sent_of kept.now) }
+    ensures { IfOk result (λ targets. OfFile dictionary.now (sent_of kept.now) (HasTargets row targets)) }
 {
     let checked = recheck(alloc, dictionary, kept)?;
     targets_in(alloc, checked.graph().steps(), row)
@@ -243,11 +252,17 @@ impl Keep for PlainKeep {
         if self.kept.len() >= self.limit as usize {
             return Err(KeepError::Full);
         }
-        let kept = kept_of(self.alloc, firm, project, embargo, checked.bytes())?;
+        let kept = kept_of(self.alloc, firm, project, embargo, checked.bytes(), false)?;
         match self.kept.push(kept) {
             Ok(()) => Ok(self.kept.len() as u32),
             Err(_) => Err(KeepError::NoMemory),
         }
+    }
+
+    fn withdraw(&mut self, n: u32) -> Result<(), KeepError> {
+        let kept = &mut self.kept[n as usize - 1];
+        kept.withdrawn = true;
+        Ok(())
     }
 
     fn deposit(&mut self, n: u32) -> Result<Kept, KeepError> {
@@ -258,6 +273,7 @@ impl Keep for PlainKeep {
             &kept.project,
             kept.embargo,
             kept.bytes.as_slice(),
+            kept.withdrawn,
         )?;
         Ok(copied)
     }
@@ -317,7 +333,7 @@ impl Keep for PlainKeep {
 
     ghost remains = { λ k _ _ none. none (deposits_of k) refl };
 
-    ghost fit = { λ k _ _. fit_of k.dictionary (deposits_of k) k.fit };
+    ghost fit = { λ k _ _. fit_of k.dictionary (sents (deposits_of k)) k.fit };
 
     ghost few = { λ k _ _. few_of k.kept.items k.limit k.within k.few };
 }

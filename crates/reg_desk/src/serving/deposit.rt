@@ -1,6 +1,7 @@
 //! A deposit: taken once, with a receipt.
 
 ghost use Rattle.std.specs.Prelude.{◌≡◌, ◌≢◌, ◌≤◌, None, Err, IfOk, IfSome, false, length};
+ghost use Rattle.reg_store.specs.Deposit.{sents};
 ghost use Rattle.reg_store.specs.Keep.{fails};
 ghost use Rattle.reg_desk.specs.Asked.{deposit as asks_deposit};
 ghost use Rattle.reg_desk.specs.Machine.{first_equal};
@@ -15,7 +16,8 @@ use reg_policy::{Caller, Day, Decision, Name, Policy, Verb};
 use reg_store::{Keep, KeepError};
 use std::alloc::Global;
 
-/// The number and the embargo of the deposit that is held already: the first that is equal in firm, project and bytes.
+/// The number and the embargo of the deposit that is held already, withdrawn or not: the first that is equal in firm, project and
+/// bytes.
 #[tactic(auto, using(crate::proofs::Firsts::none_held))]
 fn held_already<K: Keep>(
     keep: &mut K,
@@ -26,7 +28,7 @@ fn held_already<K: Keep>(
     requires { K.has_failed keep.old ≡ false }
     ensures reads { OnlyReads K.Keep keep.old keep.new (fails result) }
     ensures held { K.is_sound keep.new → IfOk result (λ held.
-        held ≡ first_equal 1 firm.now project.now bytes.now (K.deposits keep.old)) }
+        held ≡ first_equal 1 firm.now project.now bytes.now (sents (K.deposits keep.old))) }
     ensures refused { result ≢ Err KeepError.Full }
 {
     match keep.find(firm, project, bytes)? {

@@ -54,7 +54,7 @@ fn draw_held<K: Keep>(
     extract(alloc, look, groups, &rows, &graph)
 }
 
-/// The text of the extract of a deposit of the project, if its row of PROJ is shown.
+/// The text of the extract of a deposit of the project, if it is not withdrawn and its row of PROJ is shown.
 fn draw<K: Keep>(
     alloc: Global,
     keep: &mut K,
@@ -77,7 +77,7 @@ fn draw<K: Keep>(
         return Ok(None);
     }
     let head = keep.head(number)?;
-    if !is_same(&head.project, project) {
+    if head.withdrawn || !is_same(&head.project, project) {
         return Ok(None);
     }
     let look = Look::at(policy, caller, &head, day);

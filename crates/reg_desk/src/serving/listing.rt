@@ -2,7 +2,7 @@
 
 ghost use Rattle.std.specs.Prelude.{◌≡◌, ◌≢◌, ◌<◌, ◌≤◌, false, length, Some, Err, IfOk};
 ghost use Rattle.reg_store.specs.Keep.{fails};
-ghost use Rattle.reg_store.specs.Sent.{Sent};
+ghost use Rattle.reg_store.specs.Deposit.{Deposit};
 ghost use Rattle.reg_desk.specs.Asked.{listing as asks_listing};
 ghost use Rattle.reg_desk.specs.Machine.{IsListing, held};
 ghost use Rattle.reg_desk.specs.Serving.{IsLineFor, OfHeld, OnlyReads, Serves, terms_at};
@@ -85,7 +85,7 @@ fn sees_project<K: Keep>(
     seen_among_all(alloc, keep, look, number)
 }
 
-/// The deposit's line in a listing, if its row of PROJ is shown.
+/// The deposit's line in a listing, if it is not withdrawn and its row of PROJ is shown.
 fn listed<K: Keep>(
     alloc: Global,
     keep: &mut K,
@@ -98,11 +98,14 @@ fn listed<K: Keep>(
     requires number { K.is_sound keep.old → (0 < number) × (number ≤ length (K.deposits keep.old)) }
     ensures reads { OnlyReads K.Keep keep.old keep.new (fails result) }
     ensures seen { K.is_sound keep.new → IfOk result (λ line.
-        (d : Sent) → held number (K.deposits keep.old) ≡ Some d
+        (d : Deposit) → held number (K.deposits keep.old) ≡ Some d
         → ∥ IsLineFor (terms_at K.Keep policy.now keep.old) caller.now day number d line ∥₁) }
     ensures refused { result ≢ Err KeepError.Full }
 {
     let head = keep.head(number)?;
+    if head.withdrawn {
+        return Ok(None);
+    }
     let look = Look::at(policy, caller, &head, day);
     if !sees_project(alloc, keep, &look, number)? {
         return Ok(None);
@@ -114,7 +117,7 @@ fn listed<K: Keep>(
     }))
 }
 
-/// The lines of the project's deposits whose row of PROJ is shown.
+/// The lines of the project's deposits that are not withdrawn and whose row of PROJ is shown.
 fn lines_of<K: Keep>(
     alloc: Global,
     keep: &mut K,

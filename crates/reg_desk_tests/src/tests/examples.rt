@@ -21,7 +21,7 @@ pub const SECOND: Want = Want::Receipt(2, UNTIL);
 pub const LISTED: Want = Want::Lists(&[Line(1, "Delta", UNTIL)]);
 
 /// The examples.
-pub static EXAMPLES: [Example; 9] = [
+pub static EXAMPLES: [Example; 10] = [
     Example {
         name: "a deposit that the policy denies",
         limit: MOST,
@@ -207,6 +207,67 @@ pub static EXAMPLES: [Example; 9] = [
                     Line(5, "Delta", UNTIL),
                 ]),
             ),
+        ],
+    },
+    Example {
+        name: "a withdrawal of which the policy says nothing",
+        limit: MOST,
+        steps: &[
+            Step("t-delta", SENT, Ask::Deposit(A, UNTIL), FIRST),
+            Step("t-delta", SENT, Ask::Withdraw(1), Want::Denied(0)),
+            Step("t-delta", SENT, Ask::List, LISTED),
+        ],
+    },
+];
+
+/// The second deposit where the first is withdrawn.
+const UNWITHDRAWN: Want = Want::Lists(&[Line(2, "Foxtrot", UNTIL)]);
+
+/// The examples under a policy that permits withdrawals to contractors.
+pub static WITHDRAWALS: [Example; 2] = [
+    Example {
+        name: "a withdrawal",
+        limit: MOST,
+        steps: &[
+            Step("t-delta", SENT, Ask::Deposit(A, UNTIL), FIRST),
+            Step("t-foxtrot", SENT, Ask::Deposit(A, UNTIL), SECOND),
+            Step("t-echo", SENT, Ask::Withdraw(1), Want::Denied(0)),
+            Step(
+                "t-foxtrot",
+                SENT,
+                Ask::Withdraw(1),
+                Want::Says("unknown"),
+            ),
+            Step("t-delta", SENT, Ask::Withdraw(9), Want::Says("unknown")),
+            Step("t-delta", SENT, Ask::Withdraw(0), Want::Says("unknown")),
+            Step("t-delta", SENT, Ask::Extract(1, &[]), Want::Gives(A)),
+            Step("t-delta", SENT, Ask::Withdraw(1), Want::Withdrawn(1)),
+            Step("t-delta", SENT, Ask::Withdraw(1), Want::Withdrawn(1)),
+            Step(
+                "t-delta",
+                UNTIL,
+                Ask::Extract(1, &[]),
+                Want::Says("unknown"),
+            ),
+            Step("t-delta", UNTIL, Ask::List, UNWITHDRAWN),
+            Step("t-delta", UNTIL, Ask::Deposit(A, "2030-01-01"), FIRST),
+            Step("t-delta", UNTIL, Ask::List, UNWITHDRAWN),
+            Step("t-echo", UNTIL, Ask::Extract(2, &[]), Want::Gives(A)),
+        ],
+    },
+    Example {
+        name: "a withdrawal from a register of one deposit",
+        limit: 1,
+        steps: &[
+            Step("t-delta", SENT, Ask::Deposit(A, UNTIL), FIRST),
+            Step("t-delta", SENT, Ask::Withdraw(1), Want::Withdrawn(1)),
+            Step(
+                "t-delta",
+                SENT,
+                Ask::Deposit(A_OTHER, UNTIL),
+                Want::Says("full"),
+            ),
+            Step("t-delta", SENT, Ask::Deposit(A, UNTIL), FIRST),
         ],
     },
 ];

@@ -6,13 +6,15 @@ use super::bodies::B_SHOWN;
 use super::examples::{FIRST, LISTED, MOST};
 use super::refusing::Refusing;
 use super::wanted::count_wanted;
+use super::withdrawing::withdrawing;
 use super::{
     Over, Want, check_of, deposit_of, examples_over, extract_of, list_of, memory_of, two_of,
+    withdraw_of,
 };
 use ags_rows::vectors::{FILE_A, FILE_B};
 use reg_desk::{Answer, Desk, Request};
-use reg_policy::vectors::{CALLERS, POLICY};
-use reg_policy::{Caller, Callers, Day, Name, Policy};
+use reg_policy::vectors::CALLERS;
+use reg_policy::{Caller, Callers, Day, Name};
 use reg_store::Keep;
 use std::alloc::Global;
 use std::io;
@@ -24,12 +26,12 @@ fn examples_without_bodies(rt: HostRuntime) {
 }
 
 /// The requests of a run.
-fn seven_of<'a>(
+fn eight_of<'a>(
     delta: &'a Caller,
     echo: &'a Caller,
     project: &'a Name,
     day: Day,
-) -> [Request<'a>; 7] {
+) -> [Request<'a>; 8] {
     [
         deposit_of(delta, project, day, FILE_B, day),
         list_of(echo, project, day),
@@ -38,11 +40,12 @@ fn seven_of<'a>(
         check_of(echo, project, FILE_A, day),
         list_of(echo, project, day),
         extract_of(echo, project, 1, &[], day),
+        withdraw_of(delta, project, 1, day),
     ]
 }
 
 /// What they are answered where the store does not fail.
-static WHOLE: [Want; 7] = [
+static WHOLE: [Want; 8] = [
     FIRST,
     LISTED,
     Want::Gives(B_SHOWN),
@@ -50,10 +53,11 @@ static WHOLE: [Want; 7] = [
     Want::Says("clean"),
     LISTED,
     Want::Gives(B_SHOWN),
+    Want::Withdrawn(1),
 ];
 
 /// What they are answered once it has failed.
-static FAILED: [Want; 7] = [Want::Says("store failed"); 7];
+static FAILED: [Want; 8] = [Want::Says("store failed"); 8];
 
 /// How many answers come before the first that the store failed; none where one of them is not that of a whole run, or one from
 /// there on is another.
@@ -88,10 +92,8 @@ fn stop_at<K: Keep>(alloc: Global, desk: &mut Desk<K>, requests: &[Request]) -> 
 fn stop_over<K: Keep + Drop>(alloc: Global, keep: K, requests: &[Request]) -> Option<usize>
     requires { K.has_failed keep ≡ false }
 {
-    match Policy::read(alloc, POLICY) {
-        Ok(policy) => stop_at(alloc, &mut Desk::new(keep, policy), requests),
-        Err(_) => None,
-    }
+    let policy = withdrawing(alloc)?;
+    stop_at(alloc, &mut Desk::new(keep, policy), requests)
 }
 
 /// The same over a keep that answers so many calls.
@@ -102,40 +104,40 @@ fn stop_of(alloc: Global, requests: &[Request], calls: u32) -> Option<usize> {
     }
 }
 
-/// Behind how many answers the store fails over the keeps that answer 0 to 63 calls (7 where it does not), and how often it fails;
+/// Behind how many answers the store fails over the keeps that answer 0 to 63 calls (8 where it does not), and how often it fails;
 /// none where a run is not as it should be.
-fn stops_of(alloc: Global, requests: &[Request]) -> Option<([bool; 8], u32)> {
-    let mut stops = [false; 8];
+fn stops_of(alloc: Global, requests: &[Request]) -> Option<([bool; 9], u32)> {
+    let mut stops = [false; 9];
     let mut failed = 0u32;
     for calls in 0..64 {
         let before = stop_of(alloc, requests, calls)?;
         let stop = stops.get_mut(before)?;
         *stop = true;
-        failed = failed.saturating_add(u32::from(before < 7));
+        failed = failed.saturating_add(u32::from(before < 8));
     }
     Some((stops, failed))
 }
 
-/// The same of seven requests by Delta and Echo.
-fn seven_stops(alloc: Global, callers: &Callers, project: &Name) -> Option<([bool; 8], u32)> {
+/// The same of eight requests by Delta and Echo.
+fn eight_stops(alloc: Global, callers: &Callers, project: &Name) -> Option<([bool; 9], u32)> {
     match two_of(callers, b"t-delta", b"t-echo") {
-        Some((delta, echo, day)) => stops_of(alloc, &seven_of(delta, echo, project, day)),
+        Some((delta, echo, day)) => stops_of(alloc, &eight_of(delta, echo, project, day)),
         None => None,
     }
 }
 
 /// The same where callers and project are read.
-fn stops(alloc: Global) -> Option<([bool; 8], u32)> {
+fn stops(alloc: Global) -> Option<([bool; 9], u32)> {
     let callers = Callers::read(alloc, CALLERS).ok()?;
     let project = Name::read(alloc, "N1").ok()?;
-    seven_stops(alloc, &callers, &project)
+    eight_stops(alloc, &callers, &project)
 }
 
 /// The store fails at each of its calls in turn: within each request but the check, and behind those that may fail first
 /// three more are asked.
 #[test]
 fn runs_that_fail(rt: HostRuntime) -> io::Result<()> {
-    let (stops, failed) = stops(rt.alloc()).unwrap_or(([false; 8], 0));
-    assert!(rt; stops == [true, true, true, true, false, true, true, true]);
+    let (stops, failed) = stops(rt.alloc()).unwrap_or(([false; 9], 0));
+    assert!(rt; stops == [true, true, true, true, false, true, true, true, true]);
     println!(rt; "{failed} calls of the keep failed")
 }

@@ -75,6 +75,10 @@ impl Keep for Junked {
         Err(KeepError::NoMemory)
     }
 
+    fn withdraw(&mut self, _n: u32) -> Result<(), KeepError> {
+        Err(KeepError::NoMemory)
+    }
+
     fn deposit(&mut self, _n: u32) -> Result<Kept, KeepError> {
         Err(KeepError::NoMemory)
     }

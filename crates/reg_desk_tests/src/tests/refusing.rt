@@ -82,6 +82,13 @@ impl Keep for Refusing {
         self.keep.add(firm, project, embargo, checked)
     }
 
+    fn withdraw(&mut self, n: u32) -> Result<(), KeepError> {
+        if self.fails() {
+            return Err(KeepError::Store);
+        }
+        self.keep.withdraw(n)
+    }
+
     fn deposit(&mut self, _n: u32) -> Result<Kept, KeepError> {
         self.failed = true;
         Err(KeepError::Store)

@@ -1,14 +1,16 @@
-//! Stops of the disk, through a desk: a register is made and two deposits are sent, over disks of which one refuses every call from
-//! some call on. What was not synced is lost then, the register is opened again, and both deposits are sent again.
+//! Stops of the disk, through a desk: a register is made, two deposits are sent and the first is withdrawn, over disks of which one
+//! refuses every call from some call on. What was not synced is lost then, the register is opened again, and both deposits are sent
+//! again.
 
 ghost use Rattle.std.specs.Prelude.{◌≡◌, false, IsTrue};
 
 use super::bodies::{A, B};
 use super::examples::{FIRST, SECOND, UNTIL};
+use super::withdrawing::withdrawing;
 use super::{Ask, Line, Step, Want, hold, holds};
 use ags_rows::vectors::MINI;
 use reg_desk::Desk;
-use reg_policy::vectors::{CALLERS, POLICY};
+use reg_policy::vectors::CALLERS;
 use reg_policy::{Callers, Name, Policy};
 use reg_store::Keep;
 use reg_tables::{AdoptError, CreateError, SqlKeep};
@@ -33,6 +35,8 @@ enum Stage {
     First,
     /// The second deposit was sent.
     Second,
+    /// The first deposit was withdrawn.
+    Withdrawal,
     /// The register was being closed.
     Closing,
     /// Nothing stopped.
@@ -61,8 +65,10 @@ const FIRST_SENT: Step = Step("t-delta", UNTIL, Ask::Deposit(A, UNTIL), FIRST);
 
 const SECOND_SENT: Step = Step("t-delta", UNTIL, Ask::Deposit(B, UNTIL), SECOND);
 
+const WITHDRAWN: Step = Step("t-delta", UNTIL, Ask::Withdraw(1), Want::Withdrawn(1));
+
 /// What is asked once the store has failed.
-static FAILED: [Step; 3] = [
+static FAILED: [Step; 4] = [
     Step("t-delta", UNTIL, Ask::Check(A), Want::Says("store failed")),
     Step("t-delta", UNTIL, Ask::List, Want::Says("store failed")),
     Step(
@@ -71,23 +77,36 @@ static FAILED: [Step; 3] = [
         Ask::Extract(1, &[]),
         Want::Says("store failed"),
     ),
-];
-
-/// Both deposits are sent again and listed.
-static AGAIN: [Step; 3] = [
-    FIRST_SENT,
-    SECOND_SENT,
     Step(
         "t-delta",
         UNTIL,
-        Ask::List,
-        Want::Lists(&[Line(1, "Delta", UNTIL), Line(2, "Delta", UNTIL)]),
+        Ask::Withdraw(1),
+        Want::Says("store failed"),
     ),
 ];
 
-/// Sends both deposits: the stage in which the store failed, or that of closing. None where there is another answer, and where the store
-/// failed and one of three further requests is answered otherwise.
-fn send_both<K: Keep>(
+/// Both deposits are sent again.
+static AGAIN: [Step; 2] = [FIRST_SENT, SECOND_SENT];
+
+/// Both are listed.
+const BOTH: Step = Step(
+    "t-delta",
+    UNTIL,
+    Ask::List,
+    Want::Lists(&[Line(1, "Delta", UNTIL), Line(2, "Delta", UNTIL)]),
+);
+
+/// The second alone is listed.
+const UNWITHDRAWN: Step = Step(
+    "t-delta",
+    UNTIL,
+    Ask::List,
+    Want::Lists(&[Line(2, "Delta", UNTIL)]),
+);
+
+/// Sends both deposits and withdraws the first: the stage in which the store failed, or that of closing. None where there is another
+/// answer, and where the store failed and one of four further requests is answered otherwise.
+fn fill<K: Keep>(
     alloc: Global,
     desk: &mut Desk<K>,
     callers: &Callers,
@@ -97,6 +116,8 @@ fn send_both<K: Keep>(
         Stage::First
     } else if !holds(alloc, desk, callers, project, &SECOND_SENT)? {
         Stage::Second
+    } else if !holds(alloc, desk, callers, project, &WITHDRAWN)? {
+        Stage::Withdrawal
     } else {
         return Ok(Some(Stage::Closing));
     };
@@ -110,8 +131,25 @@ fn may_hold(stage: Stage, count: u32) -> bool {
         Stage::Making => count == 0,
         Stage::First => count <= 1,
         Stage::Second => 1 <= count && count <= 2,
-        Stage::Closing | Stage::Ended => count == 2,
+        Stage::Withdrawal | Stage::Closing | Stage::Ended => count == 2,
     }
+}
+
+/// Whether the listing is what it may be after a stop: both deposits, or without the one that was withdrawn.
+fn may_list<K: Keep>(
+    alloc: Global,
+    desk: &mut Desk<K>,
+    callers: &Callers,
+    project: &Name,
+    stage: Stage,
+) -> Result<bool, AllocError> {
+    let both = holds(alloc, desk, callers, project, &BOTH)?;
+    let unwithdrawn = holds(alloc, desk, callers, project, &UNWITHDRAWN)?;
+    Ok(match stage {
+        Stage::Making | Stage::First | Stage::Second => both,
+        Stage::Withdrawal => both || unwithdrawn,
+        Stage::Closing | Stage::Ended => unwithdrawn,
+    })
 }
 
 /// The stage of a stop, where the register holds what it may after it, and takes both deposits that are sent again under their numbers.
@@ -124,7 +162,8 @@ fn look_at<K: Keep>(
 ) -> Result<Option<Stage>, AllocError> {
     let may = may_hold(stage, desk.keep().count());
     let held = hold(alloc, desk, callers, project, &AGAIN)?;
-    let whole = may && held && desk.keep().count() == 2;
+    let listed = may_list(alloc, desk, callers, project, stage)?;
+    let whole = may && held && listed && desk.keep().count() == 2;
     Ok(if whole { Some(stage) } else { None })
 }
 
@@ -142,7 +181,7 @@ fn stage_by<K: Keep>(alloc: Global, desk: &mut Desk<K>, visit: Visit) -> Option<
     let callers = Callers::read(alloc, CALLERS).ok()?;
     let project = Name::read(alloc, "N1").ok()?;
     let stage = match visit {
-        Visit::Fill => send_both(alloc, desk, &callers, &project),
+        Visit::Fill => fill(alloc, desk, &callers, &project),
         Visit::LookAt(stage) => look_at(alloc, desk, &callers, &project, stage),
     };
     stage.ok()?
@@ -165,12 +204,12 @@ fn visited_tables<S: Alter + Drop>(
 ) -> (Option<Stage>, Connection<S>)
     requires { keep.has_failed ≡ false }
 {
-    match Policy::read(alloc, POLICY) {
-        Ok(policy) => {
+    match withdrawing(alloc) {
+        Some(policy) => {
             let (stage, keep) = visited(alloc, keep, policy, visit);
             (stage, keep.into_connection())
         }
-        Err(_) => (None, keep.into_connection()),
+        None => (None, keep.into_connection()),
     }
 }
 
@@ -319,6 +358,7 @@ fn letter(stage: Option<Stage>) -> char {
         Some(Stage::Making) => 'M',
         Some(Stage::First) => 'F',
         Some(Stage::Second) => 'S',
+        Some(Stage::Withdrawal) => 'W',
         Some(Stage::Closing) => 'C',
         Some(Stage::Ended) => '.',
         None => 'x',
@@ -339,7 +379,7 @@ fn letters(alloc: Global, side: Side) -> Result<String, AllocError> {
 }
 
 /// Some runs stop in each stage, at least so many, before one ends.
-const LEAST: [&str; 5] = ["MMMMM", "FF", "SS", "C", "."];
+const LEAST: [&str; 6] = ["MMMMM", "FF", "SS", "W", "C", "."];
 
 /// Whether some runs stop in each stage, and one ends.
 fn has_all(letters: &str) -> bool {

@@ -98,6 +98,14 @@ fn gives(alloc: Global, answer: &Answer, body: &Body) -> Result<bool, AllocError
     }
 }
 
+/// Whether the deposit of this number is withdrawn.
+fn is_withdrawn(answer: &Answer, number: u32) -> bool {
+    match answer {
+        Answer::Withdrawn(withdrawn) => *withdrawn == number,
+        _ => false,
+    }
+}
+
 /// Whether the answer is what is wanted.
 pub(super) fn is_wanted(alloc: Global, answer: &Answer, want: &Want) -> Result<bool, AllocError> {
     match want {
@@ -107,6 +115,7 @@ pub(super) fn is_wanted(alloc: Global, answer: &Answer, want: &Want) -> Result<b
         Want::Finding(code, line) => Ok(is_finding(answer, code, *line)),
         Want::Lists(lines) => Ok(is_listing(answer, lines)),
         Want::Gives(body) => gives(alloc, answer, body),
+        Want::Withdrawn(number) => Ok(is_withdrawn(answer, *number)),
     }
 }
 

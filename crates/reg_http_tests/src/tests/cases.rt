@@ -26,7 +26,9 @@ pub(crate) static AT_A_DESK: &str = r#"
 2024-05-01 | t-delta | GET /v1/projects//deposits HTTP/1.1 | - | 404 Not Found | 20 | {"error":"no route"}
 2024-05-01 | t-delta | GET /v1/projects/N1/deposits/ HTTP/1.1 | - | 404 Not Found | 20 | {"error":"no route"}
 2024-05-01 | t-delta | GET /v1/projects/N1/deposits/1/2 HTTP/1.1 | - | 404 Not Found | 20 | {"error":"no route"}
-2024-05-01 | t-delta | DELETE /v1/projects/N1/deposits/1 HTTP/1.1 | - | 405 Method Not Allowed | 18 | {"error":"method"}
+2024-05-01 | t-delta | DELETE /v1/projects/N1/deposits HTTP/1.1 | - | 405 Method Not Allowed | 18 | {"error":"method"}
+2024-05-01 | t-delta | DELETE /v1/projects/N1/check HTTP/1.1 | - | 405 Method Not Allowed | 18 | {"error":"method"}
+2024-05-01 | t-delta | POST /v1/projects/N1/deposits/1 HTTP/1.1 | - | 405 Method Not Allowed | 18 | {"error":"method"}
 2024-05-01 | t-delta | HEAD /v1/projects/N1/deposits HTTP/1.1 | - | 405 Method Not Allowed | 18 | {"error":"method"}
 2024-05-01 | t-delta | get /v1/projects/N1/deposits HTTP/1.1 | - | 405 Method Not Allowed | 18 | {"error":"method"}
 # callers
@@ -75,7 +77,39 @@ pub(crate) static AT_A_DESK: &str = r#"
 2024-05-01 | t-delta | GET /v1/projects/N1/deposits/1?groups=LOCA,PROJ HTTP/1.1 | - | 200 OK | 543 | A
 2024-05-31 | t-echo | GET /v1/projects/N1/deposits/1 HTTP/1.1 | - | 404 Not Found | 19 | {"error":"unknown"}
 2024-06-01 | t-echo | GET /v1/projects/N1/deposits/1 HTTP/1.1 | - | 200 OK | 543 | A
+2024-05-01 | t-delta | DELETE /v1/projects/N1/deposits/1 HTTP/1.1 | - | 403 Forbidden | 12 | {"denied":0}
 2024-05-01 | t-delta | GET /v1/projects/N1/deposits HTTP/1.1 | - | 200 OK | 118 | {"deposits":[{"embargo":"2024-06-01","firm":"Delta","number":1},{"embargo":"2024-05-01","firm":"Foxtrot","number":2}]}
+"#;
+
+/// The rule that permits contractors to withdraw, up to the number of the next one.
+pub(crate) static WITHDRAWALS: &str = r#"number = 45
+effect = "permit"
+verb = "withdraw"
+role = "contractor"
+
+[[rule]]
+"#;
+
+/// The rule of the policy that it stands before.
+pub(crate) static RULE_BEHIND: &str = "number = 50";
+
+/// At a desk whose policy has that rule.
+pub(crate) static AT_A_WITHDRAWING_DESK: &str = r#"
+2024-05-01 | t-delta | POST /v1/projects/N1/deposits?embargo=2024-06-01 HTTP/1.1; Content-Length: 543 | A | 200 OK | 35 | {"embargo":"2024-06-01","number":1}
+2024-05-01 | t-foxtrot | POST /v1/projects/N1/deposits?embargo=2024-06-01 HTTP/1.1; Content-Length: 543 | A | 200 OK | 35 | {"embargo":"2024-06-01","number":2}
+2024-05-01 | - | DELETE /v1/projects/N1/deposits/1 HTTP/1.1 | - | 401 Unauthorized | 21 | {"error":"no caller"}
+2024-05-01 | t-delta | DELETE /v1/projects/N1/deposits/1?x HTTP/1.1 | - | 400 Bad Request | 25 | {"error":"bad parameter"}
+2024-05-01 | t-delta | DELETE /v1/projects/N1/deposits/01 HTTP/1.1 | - | 400 Bad Request | 25 | {"error":"bad parameter"}
+2024-05-01 | t-echo | DELETE /v1/projects/N1/deposits/1 HTTP/1.1 | - | 403 Forbidden | 12 | {"denied":0}
+2024-05-01 | t-foxtrot | DELETE /v1/projects/N1/deposits/1 HTTP/1.1 | - | 404 Not Found | 19 | {"error":"unknown"}
+2024-05-01 | t-delta | DELETE /v1/projects/N2/deposits/1 HTTP/1.1 | - | 404 Not Found | 19 | {"error":"unknown"}
+2024-05-01 | t-delta | DELETE /v1/projects/N1/deposits/9 HTTP/1.1 | - | 404 Not Found | 19 | {"error":"unknown"}
+2024-05-01 | t-delta | GET /v1/projects/N1/deposits/1 HTTP/1.1 | - | 200 OK | 543 | A
+2024-05-01 | t-delta | DELETE /v1/projects/N1/deposits/1 HTTP/1.1; Content-Length: x; Transfer-Encoding: y | A | 200 OK | 15 | {"withdrawn":1}
+2024-05-01 | t-delta | DELETE /v1/projects/N1/deposits/1? HTTP/1.1 | - | 200 OK | 15 | {"withdrawn":1}
+2024-06-01 | t-delta | GET /v1/projects/N1/deposits/1 HTTP/1.1 | - | 404 Not Found | 19 | {"error":"unknown"}
+2024-06-01 | t-delta | GET /v1/projects/N1/deposits HTTP/1.1 | - | 200 OK | 67 | {"deposits":[{"embargo":"2024-06-01","firm":"Foxtrot","number":2}]}
+2024-06-01 | t-delta | POST /v1/projects/N1/deposits HTTP/1.1; Content-Length: 543 | A | 200 OK | 35 | {"embargo":"2024-06-01","number":1}
 "#;
 
 /// At a desk that takes one deposit.

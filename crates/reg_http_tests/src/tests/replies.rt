@@ -2,11 +2,13 @@
 ghost use Rattle.std.specs.Prelude.{◌<◌, ◌≤◌};
 
 use super::cases::{
-    AT_A_DESK, AT_A_FULL_DESK, AT_A_WIDE_DESK, Altered, BODIES, HEADS, LONG_HEADS, WIDE_HEADING,
+    AT_A_DESK, AT_A_FULL_DESK, AT_A_WIDE_DESK, AT_A_WITHDRAWING_DESK, Altered, BODIES, HEADS,
+    LONG_HEADS, RULE_BEHIND, WIDE_HEADING, WITHDRAWALS,
 };
 use super::{Play, answers, desk_under, known_callers, plays};
 use ags_rows::vectors::{FILE_A, MINI};
 use reg_desk::Desk;
+use reg_policy::vectors::POLICY;
 use reg_policy::{Callers, Day};
 use reg_store::PlainKeep;
 use std::alloc::{AllocError, Global};
@@ -194,11 +196,12 @@ fn are_right(
     Ok(())
 }
 
-/// The same at a desk that takes so many deposits, under this dictionary.
+/// The same at a desk that takes so many deposits, under this policy and dictionary.
 fn are_right_at(
     alloc: Global,
     rt: &impl Abort,
     callers: &Callers,
+    policy: &str,
     dictionary: &[u8],
     most: u32,
     cases: &str,
@@ -206,7 +209,7 @@ fn are_right_at(
     requires least { 0 < most }
     requires most { most ≤ 999999 }
 {
-    match desk_under(alloc, dictionary, most) {
+    match desk_under(alloc, policy, dictionary, most) {
         Some(mut desk) => are_right(alloc, rt, &mut desk, callers, cases),
         None => Err(AllocError),
     }
@@ -222,13 +225,41 @@ fn are_right_under(
 ) -> Result<(), AllocError> {
     let mut wide = Vec::from_slice(alloc, MINI)?;
     wide.extend_from_slice(line)?;
-    are_right_at(alloc, rt, callers, &wide, 1, cases)
+    are_right_at(alloc, rt, callers, POLICY, &wide, 1, cases)
+}
+
+/// The same under the policy with one rule more, before the one of this text.
+fn are_right_by(
+    alloc: Global,
+    rt: &impl Abort,
+    callers: &Callers,
+    rule: &str,
+    behind: &str,
+    cases: &str,
+) -> Result<(), AllocError> {
+    let Some((front, back)) = POLICY.split_once(behind) else {
+        return Err(AllocError);
+    };
+    let mut policy = String::new(alloc);
+    policy.push_str(front)?;
+    policy.push_str(rule)?;
+    policy.push_str(behind)?;
+    policy.push_str(back)?;
+    are_right_at(alloc, rt, callers, &policy, MINI, 999_999, cases)
 }
 
 /// The tables of requests.
 fn tables_are_right(alloc: Global, rt: &impl Abort, callers: &Callers) -> Result<(), AllocError> {
-    are_right_at(alloc, rt, callers, MINI, 999_999, AT_A_DESK)?;
-    are_right_at(alloc, rt, callers, MINI, 1, AT_A_FULL_DESK)?;
+    are_right_at(alloc, rt, callers, POLICY, MINI, 999_999, AT_A_DESK)?;
+    are_right_at(alloc, rt, callers, POLICY, MINI, 1, AT_A_FULL_DESK)?;
+    are_right_by(
+        alloc,
+        rt,
+        callers,
+        WITHDRAWALS,
+        RULE_BEHIND,
+        AT_A_WITHDRAWING_DESK,
+    )?;
     are_right_under(alloc, rt, callers, WIDE_HEADING, AT_A_WIDE_DESK)
 }
 

@@ -39,6 +39,9 @@ const STARS: &[&str] = &[
     "firm = \"*\"\nrole = \"*\"\nproject = \"*\"\nverb = \"*\"\ngroup = \"*\"\nowner = \"*\"\nembargo = \"*\"\n",
 ];
 
+/// The one rule is of withdrawals.
+const WITHDRAWALS: &[&str] = &[RULE, "verb = \"withdraw\"\n"];
+
 /// Policies whose one rule asks for a fact of a row.
 const OF_GROUP: &[&str] = &[RULE, "group = \"LOCA\"\n"];
 
@@ -50,7 +53,7 @@ const OF_ENTRY: &[&str] = &[RULE, "heading = \"LOCA_ID\"\nvalue = \"\"\n"];
 
 const POLICY: &[&str] = &[vectors::POLICY];
 
-const REQUESTS: [Request; 25] = [
+const REQUESTS: [Request; 28] = [
     Request {
         policy: POLICY,
         firm: "Gamma",
@@ -113,6 +116,27 @@ const REQUESTS: [Request; 25] = [
         role: "consultant",
         verb: Verb::Deposit,
         want: Decision::Permit(1),
+    },
+    Request {
+        policy: POLICY,
+        firm: "Delta",
+        role: "contractor",
+        verb: Verb::Withdraw,
+        want: Decision::Deny(0),
+    },
+    Request {
+        policy: WITHDRAWALS,
+        firm: "Delta",
+        role: "contractor",
+        verb: Verb::Withdraw,
+        want: Decision::Permit(1),
+    },
+    Request {
+        policy: WITHDRAWALS,
+        firm: "Delta",
+        role: "contractor",
+        verb: Verb::Extract,
+        want: Decision::Deny(0),
     },
     Request {
         policy: OF_GROUP,

@@ -16,6 +16,9 @@ serve_list-requires g c = c.requires
 pub serve_extract-requires : goal.serve_extract-requires
 serve_extract-requires g c = c.requires
 
+pub serve_withdraw-requires : goal.serve_withdraw-requires
+serve_withdraw-requires g c = c.requires
+
 pub returns-in-Deposit-clause-serves : goal.returns-in-Deposit-clause-serves
 returns-in-Deposit-clause-serves g c =
     subst (λ (r : Request). Serves g.K.Keep c.args.policy.now (asked r) c.args.keep.now c.serve_deposit.new.keep c.serve_deposit.result) (sym c.in-Deposit.is) (c.serve_deposit.ensures c.in-Deposit.day)
@@ -32,6 +35,10 @@ pub returns-in-Extract-clause-serves : goal.returns-in-Extract-clause-serves
 returns-in-Extract-clause-serves g c =
     subst (λ (r : Request). Serves g.K.Keep c.args.policy.now (asked r) c.args.keep.now c.serve_extract.new.keep c.serve_extract.result) (sym c.in-Extract.is) c.serve_extract.ensures.serves
 
+pub returns-in-Withdraw-clause-serves : goal.returns-in-Withdraw-clause-serves
+returns-in-Withdraw-clause-serves g c =
+    subst (λ (r : Request). Serves g.K.Keep c.args.policy.now (asked r) c.args.keep.now c.serve_withdraw.new.keep c.serve_withdraw.result) (sym c.in-Withdraw.is) (c.serve_withdraw.ensures c.in-Withdraw.day)
+
 pub returns-in-Deposit-clause-rows : goal.returns-in-Deposit-clause-rows
 returns-in-Deposit-clause-rows g c = subst (λ (r : Request). ShowsRows (asked r) c.serve_deposit.result) (sym c.in-Deposit.is) tt
 
@@ -43,3 +50,6 @@ returns-in-List-clause-rows g c = subst (λ (r : Request). ShowsRows (asked r) c
 
 pub returns-in-Extract-clause-rows : goal.returns-in-Extract-clause-rows
 returns-in-Extract-clause-rows g c = subst (λ (r : Request). ShowsRows (asked r) c.serve_extract.result) (sym c.in-Extract.is) c.serve_extract.ensures.rows
+
+pub returns-in-Withdraw-clause-rows : goal.returns-in-Withdraw-clause-rows
+returns-in-Withdraw-clause-rows g c = subst (λ (r : Request). ShowsRows (asked r) c.serve_withdraw.result) (sym c.in-Withdraw.is) tt

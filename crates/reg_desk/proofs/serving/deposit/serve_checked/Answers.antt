@@ -1,5 +1,6 @@
 use Rattle.std.proofs.Common.{◌∙◌, sym, ap, subst, List, ℕ, Err, refl, arith}
 use Rattle.reg_store.specs.Sent.{number_of}
+use Rattle.reg_store.specs.Deposit.{Deposit, sents}
 use Rattle.reg_desk.specs.Asked.{deposit}
 use Rattle.reg_desk.specs.Machine.{first_equal}
 use Rattle.reg_desk.specs.Serving.{Serves, terms_at}
@@ -29,7 +30,7 @@ returns-in-Ok-Some g c = λ rules number day permit.
     let held = rw c.in-Ok-Some.field-0-is at c.in-Ok-Some.ensures.held in
     subst (Serves K rules (deposit c.args.caller.now c.args.project.now c.args.embargo bytes day) keep c.held_already.new.keep) (sym c.receipt.ensures.held)
     (deposit_repeats K rules c.args.caller.now c.args.project.now c.args.embargo bytes day keep c.held_already.new.keep c.in-Ok-Some.number c.in-Ok-Some.until fine c.in-Ok-Some.ensures.reads
-    (λ s. first_of c.args.caller.now.firm c.args.project.now bytes c.bytes.result.now (K.deposits keep) _ c.bytes.ensures.bytes (held s)))
+    (λ s. first_of c.args.caller.now.firm c.args.project.now bytes c.bytes.result.now (sents (K.deposits keep)) _ c.bytes.ensures.bytes (held s)))
 
 pub add-requires-clause-working : goal.add-requires-clause-working
 add-requires-clause-working g c = still_works g.K.Keep c.args.keep.now c.held_already.new.keep c.in-Ok-None.ensures.reads
@@ -42,9 +43,9 @@ add-requires-clause-short g c = c.requires.short
 
 pub add-requires-clause-fresh : goal.add-requires-clause-fresh
 add-requires-clause-fresh g c = λ s.
-    let state = g.K.Keep.deposits c.args.keep.now in
+    let state = sents (g.K.Keep.deposits c.args.keep.now) in
     let held = rw c.in-Ok-None.field-0-is at c.in-Ok-None.ensures.held in
-    ap (number_of c.args.caller.now.firm c.args.project.now c.args.checked.now.bytes) (c.in-Ok-None.ensures.reads.same s refl)
+    ap (λ (l : List Deposit). number_of c.args.caller.now.firm c.args.project.now c.args.checked.now.bytes (sents l)) (c.in-Ok-None.ensures.reads.same s refl)
     ∙ ap (λ (b : List ℕ). number_of c.args.caller.now.firm c.args.project.now b state) (sym c.bytes.ensures.bytes)
     ∙ none_number c.args.caller.now.firm c.args.project.now c.bytes.result.now 1 state (sym {b = first_equal 1 c.args.caller.now.firm c.args.project.now c.bytes.result.now state} (held s))
 
@@ -59,7 +60,7 @@ returns-then-count-limit g c = λ rules number day permit.
     deposit_full K rules c.args.caller.now c.args.project.now c.args.embargo bytes day keep mid
     (fine_of (terms_at K rules keep) c.args.caller.now c.args.project.now bytes c.args.checked.now.given number permit c.requires.short c.requires.dictionary c.bytes.ensures.clean.file.findings)
     c.in-Ok-None.ensures.reads
-    (λ s. first_of c.args.caller.now.firm c.args.project.now bytes c.bytes.result.now (K.deposits keep) _ c.bytes.ensures.bytes (held s))
+    (λ s. first_of c.args.caller.now.firm c.args.project.now bytes c.bytes.result.now (sents (K.deposits keep)) _ c.bytes.ensures.bytes (held s))
     (λ s. omega (arith, c.count.ensures s works, c.limit.ensures))
 
 pub returns-in-Err-add : goal.returns-in-Err-add
@@ -73,7 +74,7 @@ returns-in-Err-add g c = λ rules number day permit.
     (deposit_unadded K rules c.args.caller.now c.args.project.now c.args.embargo bytes day keep c.held_already.new.keep c.add.new.self c.in-Err-add.error fine
     c.in-Ok-None.ensures.reads
     (is_taken K rules c.args.caller.now c.args.project.now bytes keep c.held_already.new.keep fine c.in-Ok-None.ensures.reads
-    (λ s. first_of c.args.caller.now.firm c.args.project.now bytes c.bytes.result.now (K.deposits keep) _ c.bytes.ensures.bytes (held s))
+    (λ s. first_of c.args.caller.now.firm c.args.project.now bytes c.bytes.result.now (sents (K.deposits keep)) _ c.bytes.ensures.bytes (held s))
     (λ s. omega (arith, c.count.ensures s (still_works K keep c.held_already.new.keep c.in-Ok-None.ensures.reads), c.limit.ensures)))
     c.in-Err-add.ensures.leaves (λ s e. c.in-Err-add.ensures.full s (ap (λ x. Err x) e)))
 
@@ -88,6 +89,6 @@ returns-in-Ok g c = λ rules number day permit.
     (deposit_added K rules c.args.caller.now c.args.project.now c.args.embargo bytes day keep c.held_already.new.keep c.add.new.self c.in-Ok.number fine
     c.in-Ok-None.ensures.reads
     (is_taken K rules c.args.caller.now c.args.project.now bytes keep c.held_already.new.keep fine c.in-Ok-None.ensures.reads
-    (λ s. first_of c.args.caller.now.firm c.args.project.now bytes c.bytes.result.now (K.deposits keep) _ c.bytes.ensures.bytes (held s))
+    (λ s. first_of c.args.caller.now.firm c.args.project.now bytes c.bytes.result.now (sents (K.deposits keep)) _ c.bytes.ensures.bytes (held s))
     (λ s. omega (arith, c.count.ensures s (still_works K keep c.held_already.new.keep c.in-Ok-None.ensures.reads), c.limit.ensures)))
     c.in-Ok.ensures.leaves c.in-Ok.ensures.number)

@@ -11,7 +11,7 @@ use Rattle.reg_desk.proofs.Serves.{reads_once, reads_more, still_works}
 use Rattle.reg_desk.proofs.Drawing.{headed, head_drawn, other_drawn, unheld_drawn}
 use Rattle.reg_desk.proofs.Projects.{of_file_before, within_after}
 use Rattle.reg_desk.proofs.serving.drawing.draw.Goals as goal
-use Rattle.reg_desk.proofs.serving.drawing.draw.Goals.{then-number-eq0-via-then-number-eq0, then-number-eq0-via-else-number-eq0+then-number-count}
+use Rattle.reg_desk.proofs.serving.drawing.draw.Goals.{then-number-eq0-via-then-number-eq0, then-number-eq0-via-else-number-eq0+then-number-count, then-head-via-then-head, then-head-via-else-head+then-not-is_same}
 
 pub returns-then-number-eq0-clause-drawn : goal.returns-then-number-eq0-clause-drawn
 returns-then-number-eq0-clause-drawn g c = λ s.
@@ -21,13 +21,16 @@ returns-then-number-eq0-clause-drawn g c = λ s.
       | then-number-eq0-via-else-number-eq0+then-number-count w ↦ inr (omega (arith, w.if-number-count.true, w.count.ensures s c.requires))
     ]) ∣₁
 
-pub returns-then-not-is_same-clause-drawn : goal.returns-then-not-is_same-clause-drawn
-returns-then-not-is_same-clause-drawn g c = λ s.
+pub returns-then-head-clause-drawn : goal.returns-then-head-clause-drawn
+returns-then-head-clause-drawn g c = λ s.
     let first = reads_once g.K.Keep c.args.keep.now c.head.new.self _ c.in_ok-head.ensures.leaves in
     let h = headed g.K.Keep c.args.keep.now c.head.new.self c.args.number c.in_ok-head.head (λ s0. (omega (arith, c.if-number-eq0.false), omega (arith, c.if-number-count.false, c.count.ensures s0 c.requires)))
     (λ s0. g.met.K.Keep.fit c.args.keep.now s0 c.requires) first c.in_ok-head.ensures.read s in
     ∣ other_drawn (terms_at g.K.Keep c.args.policy.now c.args.keep.now) (g.K.Keep.deposits c.args.keep.now) c.args.caller.now c.args.project.now c.args.number (names_in c.args.groups.now) c.args.day h.kept c.in_ok-head.head h.holds h.of_head
-    (sym c.is_same.ensures ∙ c.if-not-is_same.true) ∣₁
+    (elim c.then-head.branch [
+      | then-head-via-then-head w ↦ inl w.if-head.true
+      | then-head-via-else-head+then-not-is_same w ↦ inr (sym w.is_same.ensures ∙ w.if-not-is_same.true)
+    ]) ∣₁
 
 pub draw_held-requires-clause-working : goal.draw_held-requires-clause-working
 draw_held-requires-clause-working g c = still_works g.K.Keep c.args.keep.now c.head.new.self (reads_once g.K.Keep c.args.keep.now c.head.new.self _ c.in_ok-head.ensures.leaves)
@@ -52,6 +55,6 @@ returns-clause-drawn g c = λ s.
     let groups = names_in c.args.groups.now in
     IfOk-weaker c.draw_held.result _ _ (λ (text : Option (Vec ℕ Global)) drawn.
     head_drawn (terms_at K c.args.policy.now keep) (K.deposits keep) c.args.caller.now c.args.project.now c.args.number groups c.args.day c.in_ok-head.head (option_map (λ (t : Vec ℕ Global). t.items) text) h
-    (sym c.is_same.ensures ∙ c.if-not-is_same.false)
+    c.if-head.false (sym c.is_same.ensures ∙ c.if-not-is_same.false)
     (of_file_before K keep c.head.new.self c.args.number (λ file. IsExtractOf (look_on c.args.policy.now c.args.caller.now c.in_ok-head.head c.args.day) (file_of file) groups (option_map (λ (t : Vec ℕ Global). t.items) text)) first s1
     (λ d file at is. subst (λ (look : Look). IsExtractOf look (file_of file) groups (option_map (λ (t : Vec ℕ Global). t.items) text)) c.at-look.ensures (drawn d file at is)))) (c.draw_held.ensures.drawn s)

@@ -1,6 +1,7 @@
 use Rattle.std.proofs.Common.{◌≡◌, ◌∙◌, sym, ap, subst, refl, ◌+◌, ◌<◌, ◌≤◌, List, length, drop, get_or, false, Vec, Global, Some}
 use Rattle.std.proofs.lemmas.Result.{err_from_is_err_and}
-use Rattle.reg_store.specs.Sent.{Sent, numbers_from}
+use Rattle.reg_store.specs.Sent.{numbers_from}
+use Rattle.reg_store.specs.Deposit.{Deposit, sents}
 use Rattle.reg_store.specs.Keep.{fails, is_store}
 use Rattle.reg_desk.specs.declared.answer.Listed.{Listed}
 use Rattle.reg_desk.specs.Machine.{IsListing, Terms, held}
@@ -20,7 +21,7 @@ loop-number-init g c =
     let leaves = c.in_ok-numbers.ensures.leaves in
     record {
       reads = reads_itself K mid (still_works K c.args.keep.now mid (reads_once K c.args.keep.now mid false leaves));
-      numbers = λ s. c.deref-number-items.ensures.value ∙ c.in_ok-numbers.ensures.numbers s ∙ ap (numbers_from 1 c.args.project.now) (sym (leaves.same s refl));
+      numbers = λ s. c.deref-number-items.ensures.value ∙ c.in_ok-numbers.ensures.numbers s ∙ ap (λ (l : List Deposit). numbers_from 1 c.args.project.now (sents l)) (sym (leaves.same s refl));
       so_far = λ s.
           subst (λ (l : List Listed). ∥ SoFar terms c.args.caller.now c.args.day (λ k. held k state) items items l ∥₁) (sym c.new-lines.ensures.items)
           ∣ lines_begin terms c.args.caller.now c.args.day (λ k. held k state) items ∣₁;
@@ -34,7 +35,7 @@ listed-requires-clause-number g c = λ s.
     let items = c.deref-number-items.result.now in
     let n = get_or items c.loop-number.number-index 0 in
     let was = c.loop-number.invariant in
-    subst (λ (l : List Sent). (0 < n) × (n ≤ length l)) (sym (was.reads.same s refl))
+    subst (λ (l : List Deposit). (0 < n) × (n ≤ length l)) (sym (was.reads.same s refl))
     (number_within c.args.project.now (g.K.Keep.deposits c.numbers.new.self) items c.loop-number.number-index (was.numbers s) c.loop-number-test.true)
 
 pub returns-in_err-line-clause-reads : goal.returns-in_err-line-clause-reads
@@ -62,7 +63,7 @@ loop-number-preserved g c =
       numbers = λ s. was.numbers (c.in_ok-line.ensures.reads.sound s);
       so_far = λ s.
           let s1 = c.in_ok-line.ensures.reads.sound s in
-          let seen : (d : Sent) → held n state ≡ Some d → ∥ IsLineFor terms c.args.caller.now c.args.day n d c.in_ok-line.field-0 ∥₁ = λ d holds.
+          let seen : (d : Deposit) → held n state ≡ Some d → ∥ IsLineFor terms c.args.caller.now c.args.day n d c.in_ok-line.field-0 ∥₁ = λ d holds.
           subst (λ (r : Terms). ∥ IsLineFor r c.args.caller.now c.args.day n d c.in_ok-line.field-0 ∥₁) (terms_same K c.args.policy.now mid c.loop-number.keep false was.reads)
           (c.in_ok-line.ensures.seen s d (ap (held n) (was.reads.same s1 refl) ∙ holds)) in
           let same : put_line c.loop-number.lines.items c.in_ok-line.field-0 ≡ c.match-branch-3.lines.items =
@@ -88,5 +89,5 @@ returns-clause-listed g c = λ s.
     let first = reads_once K keep mid false c.in_ok-numbers.ensures.leaves in
     let lines = c.loop-number.lines.items in
     subst (λ (r : Terms). ∥ IsListing r c.args.caller.now c.args.project.now c.args.day 1 (K.deposits keep) lines ∥₁) (terms_same K c.args.policy.now keep mid false first)
-    (subst (λ (l : List Sent). ∥ IsListing (terms_at K c.args.policy.now mid) c.args.caller.now c.args.project.now c.args.day 1 l lines ∥₁) (first.same (was.reads.sound s) refl)
+    (subst (λ (l : List Deposit). ∥ IsListing (terms_at K c.args.policy.now mid) c.args.caller.now c.args.project.now c.args.day 1 l lines ∥₁) (first.same (was.reads.sound s) refl)
     (lines_whole (terms_at K c.args.policy.now mid) c.args.caller.now c.args.project.now c.args.day (K.deposits mid) c.deref-number-items.result.now c.loop-number.number-index lines c.loop-number-test.false (was.numbers s) (was.so_far s)))

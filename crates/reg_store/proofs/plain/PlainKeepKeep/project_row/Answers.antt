@@ -2,7 +2,7 @@ use Rattle.std.proofs.Common.{◌-◌, ◌<◌, length, map, subst, arith}
 use Rattle.reg_store.specs.Keep.{deposit_of}
 use Rattle.reg_store.specs.Sent.{Sent}
 use Rattle.reg_store.specs.Fit.{IsFileOf}
-use Rattle.reg_store.proofs.PlainLemmas.{kept_is_deposit, kept_is_fit}
+use Rattle.reg_store.proofs.PlainLemmas.{kept_is_sent, kept_is_fit}
 use Rattle.reg_store.proofs.plain.PlainKeepKeep.project_row.Goals as goal
 
 pub checked_project-requires : goal.checked_project-requires
@@ -15,4 +15,4 @@ checked_project-requires c =
 pub returns-clause-read : goal.returns-clause-read
 returns-clause-read c = λ sound d file there its.
     let keep = c.args.self.now in
-    c.in_ok-found.ensures file (subst (λ (one : Sent). IsFileOf keep.dictionary one file) (kept_is_deposit keep.kept.items (c.args.n - 1) c.index.result.now d c.index.ensures there) its)
+    c.in_ok-found.ensures file (subst (λ (one : Sent). IsFileOf keep.dictionary one file) (kept_is_sent keep.kept.items (c.args.n - 1) c.index.result.now d c.index.ensures there) its)

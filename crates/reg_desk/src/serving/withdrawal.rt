@@ -1,0 +1,64 @@
+//! A withdrawal: a firm's own deposit is marked, and stays kept.
+
+ghost use Rattle.std.specs.Prelude.{◌≡◌, ◌≢◌, false, Err, IfOk};
+ghost use Rattle.reg_store.specs.Keep.{fails};
+ghost use Rattle.reg_desk.specs.Asked.{withdraw as asks_withdraw};
+ghost use Rattle.reg_desk.specs.Machine.{held};
+ghost use Rattle.reg_desk.specs.Serving.{OnlyReads, ServesOnAnyDay, mark_of};
+
+use crate::answer::Answer;
+use crate::serving::{decide_request, is_same, refused};
+use reg_policy::{Caller, Decision, Name, Policy, Verb};
+use reg_store::{Keep, KeepError};
+
+/// Whether the deposit is withdrawn, if it is the project's and the caller's firm sent it.
+fn own_mark<K: Keep>(
+    keep: &mut K,
+    caller: &Caller,
+    project: &Name,
+    number: u32,
+) -> Result<Option<bool>, KeepError>
+    requires { K.has_failed keep.old ≡ false }
+    ensures reads { OnlyReads K.Keep keep.old keep.new (fails result) }
+    ensures own { K.is_sound keep.new → IfOk result (λ mark.
+        mark ≡ mark_of caller.now project.now (held number (K.deposits keep.old))) }
+    ensures refused { result ≢ Err KeepError.Full }
+{
+    if number == 0 || number > keep.count() {
+        return Ok(None);
+    }
+    let head = keep.head(number)?;
+    if is_same(&head.project, project) && is_same(&head.firm, &caller.firm) {
+        Ok(Some(head.withdrawn))
+    } else {
+        Ok(None)
+    }
+}
+
+/// What a withdrawal is answered.
+#[tactic(none)]
+pub(super) fn serve_withdraw<K: Keep>(
+    keep: &mut K,
+    policy: &Policy,
+    caller: &Caller,
+    project: &Name,
+    number: u32,
+) -> Answer
+    requires { K.has_failed keep.old ≡ false }
+    ensures { ServesOnAnyDay K.Keep policy.now
+        (asks_withdraw caller.now project.now number) keep.old keep.new result }
+{
+    match decide_request(policy, caller, project, Verb::Withdraw) {
+        Decision::Deny(rule) => return Answer::Denied(rule),
+        Decision::Permit(_rule) => {}
+    }
+    match own_mark(keep, caller, project, number) {
+        Err(error) => refused(error),
+        Ok(None) => Answer::Unknown,
+        Ok(Some(true)) => Answer::Withdrawn(number),
+        Ok(Some(false)) => match keep.withdraw(number) {
+            Err(error) => refused(error),
+            Ok(()) => Answer::Withdrawn(number),
+        },
+    }
+}

@@ -1,0 +1,11 @@
+use Rattle.std.proofs.Common.{refl}
+use Rattle.matchit.proofs.OnLiterals.{matchit_on_literals}
+use Rattle.reg_http.proofs.request.route.router.Goals as goal
+
+pub returns : goal.returns
+unfolding matchit_on_literals
+returns c =
+    let a = c.in_ok-insert.ensures in
+    let b = c.in_ok-insert-2.ensures in
+    let d = c.in_ok-insert-3.ensures in
+    rw (d.1, b.1, a.1, c.new-routes.ensures) refl

@@ -1,0 +1,69 @@
+//! The body of a request.
+ghost use Rattle.std.specs.Prelude.{◌≡◌, ◌≤◌, ◌<◌, ◌+◌, ◌++◌, ◌||◌, false, IfSome, is_none, take, Some};
+ghost use Rattle.reg_http.specs.Tallies.{inner_of, calls_of, has_failed, one_call_more};
+ghost use Rattle.std.specs.Io.KnownBytes.{Consumes, IsAtEnd};
+ghost use Rattle.reg_http.specs.Views.{FitsBody, ReadsBody, is_read_fault};
+
+use crate::request::fill::read_more;
+use crate::tally::Tally;
+use std::alloc::Global;
+use std::io::Read;
+
+/// The body of this length: what came with the head, and then what the reader gives. No byte beyond it is read.
+/// Its memory grows with what comes, not with the length that is announced.
+pub(crate) fn receive_body<R: Read>(
+    alloc: Global,
+    reader: &mut Tally<R>,
+    early: &[u8],
+    length: usize,
+) -> Result<Vec<u8>, BodyFault>
+    requires { has_failed reader.old ≡ false }
+    ensures body { IfSome (R.remaining (inner_of reader.old)) (λ left. ReadsBody (early.now ++ left) length result) }
+    ensures fits { FitsBody length result }
+    ensures fault { has_failed reader.new ≡ is_read_fault result }
+    ensures calls { calls_of reader.new ≤ calls_of reader.old + length + 1 }
+{
+    let kept = early.len().min(length);
+    let Ok(mut body) = Vec::from_slice(alloc, &early[..kept]) else {
+        return Err(BodyFault::Memory);
+    };
+    let mut chunk = [0u8; 4096];
+    'reads: while body.len() < length {
+        let room = (length - body.len()).min(4096);
+        let Some(count) = read_chunk(reader, &mut chunk, room) else {
+            return Err(BodyFault::Read);
+        };
+        if count == 0 {
+            return Err(BodyFault::Short);
+        }
+        if body.extend_from_slice(&chunk[..count]).is_err() {
+            return Err(BodyFault::Memory);
+        }
+    }
+    Ok(body)
+}
+
+/// Why there is no body.
+#[derive(Clone, Copy, Debug, PartialEq, Eq)]
+pub(crate) enum BodyFault {
+    /// A read failed.
+    Read,
+    /// The bytes ended early.
+    Short,
+    /// Memory was refused.
+    Memory,
+}
+
+/// Reads once into the first `room` bytes of the chunk.
+fn read_chunk<R: Read>(reader: &mut Tally<R>, chunk: &mut [u8; 4096], room: usize) -> Option<usize>
+    requires some { 0 < room }
+    requires within { room ≤ 4096 }
+    ensures few { IfSome result (λ n. n ≤ room) }
+    ensures taken { IfSome result (λ n.
+        Consumes (R.remaining (inner_of reader.old)) (R.remaining (inner_of reader.new)) (take n chunk.new)) }
+    ensures at_end { result ≡ Some 0 → IsAtEnd (R.remaining (inner_of reader.new)) }
+    ensures calls { calls_of reader.new ≡ one_call_more (calls_of reader.old) }
+    ensures failed { has_failed reader.new ≡ (has_failed reader.old || is_none result) }
+{
+    read_more(reader, &mut chunk[..room], 0)
+}

@@ -1,0 +1,69 @@
+-- Deposits and their marks, place by place.
+use Rattle.std.proofs.Common.{◌≡◌, ◌≢◌, ℕ, zero, suc, ◌+◌, ◌-◌, ◌<◌, List, [], ◌∷◌, ◌++◌, Bool, true, false, length, map, Option, Some, None, slice_get, refl, sym, ap, ◌∙◌, arith}
+use Rattle.std.specs.Prelude.{option_map}
+use Rattle.std.proofs.lemmas.List.{length-map, map-append}
+use Rattle.std.proofs.lemmas.Option.{slice_get-map}
+use Rattle.reg_store.specs.Sent.{Sent}
+use Rattle.reg_store.specs.Deposit.{Deposit, sents, mark, marked}
+
+-- ---- what was sent
+
+pub length_sents : (list : List Deposit) → length (sents list) ≡ length list
+length_sents list = length-map list (λ d. d.sent)
+
+pub sents_append : (xs ys : List Deposit) → sents (xs ++ ys) ≡ sents xs ++ sents ys
+sents_append xs ys = map-append (λ d. d.sent) xs ys
+
+-- what was sent of a deposit stands at its place
+pub sent_at : (list : List Deposit) (k : ℕ) (d : Deposit) → slice_get list k ≡ Some d → slice_get (sents list) k ≡ Some d.sent
+sent_at list k d at = slice_get-map (λ (x : Deposit). x.sent) list k ∙ ap (option_map (λ (x : Deposit). x.sent)) at
+
+some_sent : (o : Option Deposit) (sent : Sent) → option_map (λ (x : Deposit). x.sent) o ≡ Some sent → (d : Deposit) × (o ≡ Some d) × (d.sent ≡ sent)
+some_sent None sent h = absurd cc
+some_sent (Some d) sent h = (d, refl, cc)
+
+-- what was sent at a place is that of the deposit there
+pub deposit_at : (list : List Deposit) (k : ℕ) (sent : Sent) → slice_get (sents list) k ≡ Some sent → (d : Deposit) × (slice_get list k ≡ Some d) × (d.sent ≡ sent)
+deposit_at list k sent at = some_sent (slice_get list k) sent (sym (slice_get-map (λ (x : Deposit). x.sent) list k) ∙ at)
+
+-- ---- marks
+
+pub length_marked : (n : ℕ) (list : List Deposit) → length (marked n list) ≡ length list
+length_marked n [] = refl
+length_marked zero (d ∷ more) = refl
+length_marked (suc zero) (d ∷ more) = refl
+length_marked (suc (suc n)) (d ∷ more) = ap suc (length_marked (suc n) more)
+
+marked_place : (list : List Deposit) (k : ℕ) (d : Deposit) → slice_get list k ≡ Some d → slice_get (marked (suc k) list) k ≡ Some (mark d)
+marked_place [] k d at = absurd cc
+marked_place (x ∷ more) zero d at = let same : x ≡ d = cc in ap (λ (y : Deposit). Some (mark y)) same
+marked_place (x ∷ more) (suc k) d at = marked_place more k d at
+
+-- the deposit with its mark
+pub marked_here : (list : List Deposit) (n : ℕ) (d : Deposit) → 0 < n → slice_get list (n - 1) ≡ Some d → slice_get (marked n list) (n - 1) ≡ Some (mark d)
+marked_here list n d low at =
+    let number : suc (n - 1) ≡ n = omega (arith, low) in
+    ap (λ (m : ℕ). slice_get (marked m list) (n - 1)) (sym number) ∙ marked_place list (n - 1) d at
+
+-- each other deposit is as before
+pub marked_other : (list : List Deposit) (n k : ℕ) → n ≢ suc k → slice_get (marked n list) k ≡ slice_get list k
+marked_other [] n k other = refl
+marked_other (x ∷ more) zero k other = refl
+marked_other (x ∷ more) (suc zero) zero other = absurd (other refl)
+marked_other (x ∷ more) (suc zero) (suc k) other = refl
+marked_other (x ∷ more) (suc (suc n)) zero other = refl
+marked_other (x ∷ more) (suc (suc n)) (suc k) other = marked_other more (suc n) k (λ same. other (ap suc same))
+
+mark_again : (d : Deposit) → d.withdrawn ≡ true → mark d ≡ d
+mark_again d h = let make : Bool → Deposit = λ b. record { sent = d.sent; withdrawn = b } in ap make (sym h)
+
+again_place : (list : List Deposit) (k : ℕ) (d : Deposit) → slice_get list k ≡ Some d → d.withdrawn ≡ true → marked (suc k) list ≡ list
+again_place [] k d at h = refl
+again_place (x ∷ more) zero d at h = let same : x ≡ d = cc in ap (λ (y : Deposit). y ∷ more) (mark_again x (ap (λ (y : Deposit). y.withdrawn) same ∙ h))
+again_place (x ∷ more) (suc k) d at h = ap (λ (rest : List Deposit). x ∷ rest) (again_place more k d at h)
+
+-- a list that has the mark already is left as it is
+pub marked_again : (list : List Deposit) (n : ℕ) (d : Deposit) → 0 < n → slice_get list (n - 1) ≡ Some d → d.withdrawn ≡ true → marked n list ≡ list
+marked_again list n d low at h =
+    let number : suc (n - 1) ≡ n = omega (arith, low) in
+    ap (λ (m : ℕ). marked m list) (sym number) ∙ again_place list (n - 1) d at h
