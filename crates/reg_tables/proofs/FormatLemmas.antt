@@ -40,7 +40,7 @@ autocommit_idle is true h on = absurd (let clash : true ≡ false = sym on ∙ h
 
 -- ---- what the query shows
 
-abbrev AsksMeta : Schema → Type 0
+abbrev pub AsksMeta : Schema → Type 0
 AsksMeta schema = (command_of (understood schema select_meta) ≡ plainly all_meta (codes "name" ∷ codes "num" ∷ codes "body" ∷ [])) × IsPlain (understood schema select_meta) × (reads_listing schema select_meta ≡ false)
 
 abbrev with_more : List Table → List Index → List View → Schema
@@ -50,7 +50,7 @@ asked : (more : List Table) (indexes : List Index) (views : List View) → AsksM
 unfolding understood everything
 asked more indexes views = (refl, (refl, refl), refl)
 
-asks_meta : (schema : Schema) → StartsWithMeta schema → AsksMeta schema
+pub asks_meta : (schema : Schema) → StartsWithMeta schema → AsksMeta schema
 asks_meta schema first = subst AsksMeta same (asked first.0 schema.indexes schema.views)
   where
     same : with_more first.0 schema.indexes schema.views ≡ schema

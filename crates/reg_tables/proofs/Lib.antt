@@ -16,3 +16,4 @@ pub mod SchemaLemmas
 pub mod CompareLemmas
 pub mod MarksLemmas
 pub mod RecallLemmas
+pub mod MigrateLemmas

@@ -36,3 +36,4 @@ pub mod Whole
 pub mod Adoption
 pub mod Making
 pub mod Opened
+pub mod Migrates

@@ -1,7 +1,5 @@
 -- The tables that the test of a schema expects, as a schema has them.
-use Rattle.std.specs.Prelude.{◌≡◌, ℕ, true, false, List, [], ◌∷◌, map, Option, Some, None, codes}
-use Rattle.sqlite.specs.Collation.TheVariants.{Binary}
-use Rattle.sqlite.specs.declared.types.Value.TheVariants.{Null}
+use Rattle.std.specs.Prelude.{◌≡◌, ℕ, true, false, List, [], ◌∷◌, map, Option, Some, None}
 use Rattle.sqlite.specs.Table.{Table}
 use Rattle.sqlite.specs.Schema.{Schema}
 use Rattle.sqlite.specs.Kind.TheVariants.{Integer}
@@ -54,10 +52,18 @@ pub record HasKey (t : Table) (key : ExpectedKey) : Type 0 where
   pub orders : t.orders ≡ orders_of key
 
 abbrev pub table_of : ExpectedTable → Table
-table_of t = simple t.name.now t.tree (map column_of t.columns.now) (row_number_of t.key) (places_of t.key) (uniques_of t.key) (orders_of t.key) (references_of t.deposit)
+table_of t = simple t.name.now t.tree (map column_of t.columns.now) (row_number_of t.key) (places_of t.key)
+    (uniques_of t.key) (orders_of t.key) (references_of t.deposit)
 
 abbrev pub index_of : ExpectedIndex → Index
-index_of i = record { name = i.name.now; tree = i.tree; table = i.table; columns = i.columns.now; order = i.order; is_unique = true }
+index_of i = record {
+  name = i.name.now;
+  tree = i.tree;
+  table = i.table;
+  columns = i.columns.now;
+  order = i.order;
+  is_unique = true;
+}
 
 -- the schema of these tables, in which each key of columns has an index
 abbrev pub schema_with : List ExpectedTable → Schema

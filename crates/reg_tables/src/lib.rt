@@ -13,9 +13,11 @@ mod heads;
 mod lines;
 mod marks;
 mod memory;
+mod migrating;
 mod opening;
 mod project;
 mod queries;
+mod raising;
 mod readers;
 mod reading;
 mod recall;
@@ -29,5 +31,6 @@ mod values;
 mod versions;
 
 pub use adopting::AdoptError;
+pub use migrating::MigrateError;
 pub use opening::CreateError;
 pub use sql::SqlKeep;

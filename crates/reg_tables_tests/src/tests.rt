@@ -4,7 +4,9 @@ ghost use Rattle.std.specs.Prelude.{◌≡◌, ◌<◌, ◌≤◌, false, length
 
 mod calls;
 mod files;
+mod migrating;
 mod refusals;
+mod stops;
 
 use crate::tests::files::{File, bytes_of};
 use ags_check::{Checked, check};

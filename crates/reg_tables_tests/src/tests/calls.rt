@@ -338,7 +338,7 @@ fn in_memory(alloc: Global, limit: u32, cases: &[Case]) -> Result<&'static str, 
 }
 
 /// The calls over a keep.
-struct Compare<'a>(&'a [Case]);
+pub(crate) struct Compare<'a>(pub(crate) &'a [Case]);
 
 impl<'a> Ask for Compare<'a> {
     type Answer = Result<&'static str, KeepError>;

@@ -1,4 +1,4 @@
-use Rattle.std.proofs.Common.{rules, ◌≡◌, refl, sym}
+use Rattle.std.proofs.Common.{rules, sym}
 use Rattle.sqlite.specs.Held.{state}
 use Rattle.reg_tables.specs.Tables.{format_tables}
 use Rattle.reg_tables.proofs.FormatLemmas.{autocommit_idle, refused_unstarted}

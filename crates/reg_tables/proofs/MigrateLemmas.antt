@@ -1,0 +1,289 @@
+-- The statements that make a register of format 1 one of format 2.
+use Rattle.std.proofs.Common.{◌≡◌, ◌≢◌, ◌==◌, ◌⊎◌, inl, inr, ℕ, zero, suc, ◌+◌, pos, Bool, true, false, List, [], ◌∷◌, map, length, slice_get, All, Option, Some, None, Result, Ok, Err, IfOk, IfErr, OnOk, IsTrue, replicate, refl, sym, ap, subst, subst₂, ◌∙◌, arith}
+use Rattle.std.proofs.Math.Logic.{∥∥₁_elim, ∥∥₁_map}
+use Rattle.std.proofs.Props.{props}
+use Rattle.std.proofs.lemmas.List.{length-map}
+use Rattle.std.specs.List.{AllByRecursion, flat_map, filter_map}
+use Rattle.std.specs.List.Sorted.{IsPermutation}
+use Rattle.std.proofs.lemmas.List.Sorted.{All-permutation, IsPermutation-refl, IsPermutation-sym, IsPermutation-trans}
+use Rattle.sqlite.specs.Recovery.{Image}
+use Rattle.sqlite.specs.Start.{FindsIn}
+use Rattle.sqlite.specs.declared.types.Value.TheVariants.{Int}
+use Rattle.sqlite.specs.Order.{Row, column}
+use Rattle.sqlite.specs.Command.TheVariants.{Update}
+use Rattle.sqlite.specs.Rowids.TheVariants.{Given}
+use Rattle.sqlite.specs.Edit.{edit_of}
+use Rattle.sqlite.specs.Effect.{Database, IsDatabase}
+use Rattle.sqlite.specs.Does.{Tally, Does}
+use Rattle.sqlite.specs.Rows.{Written}
+use Rattle.sqlite.specs.Tree.{Trees}
+use Rattle.sqlite.specs.Listing.{understood}
+use Rattle.sqlite.specs.declared.error.Error.{Error}
+use Rattle.sqlite.specs.State.{State, HasCleanDisk, Survives, mode_of, Executes, Opens, Shown, FailsToQuery, FailsToShow, IsNotRun, IsRolledBack, IsTooLate, IsUnchanged, KeepsCommit}
+use Rattle.sqlite.specs.Clock.{timed}
+use Rattle.sqlite.proofs.StateLemmas.{survives_then, survives_weaker}
+use Rattle.sqlite.proofs.Callers.{one_step, runs_as, statement_of}
+use Rattle.sqlite_rules.specs.Action.{deed_for, pairs, work_by, works}
+use Rattle.sqlite_rules.specs.Calls.{ids_of}
+use Rattle.sqlite_rules.specs.Edit.{taken_by}
+use Rattle.sqlite_schema.specs.Rules.{parent_key}
+use Rattle.sqlite_schema.specs.declared.command.Returning.{Returning}
+use Rattle.sqlite_schema.specs.declared.schema.Keys.TheVariants.{Enforced}
+use Rattle.ags_dict.specs.Entries.{Entries}
+use Rattle.reg_store.specs.Deposit.{Deposit, sents, unmarked}
+use Rattle.reg_store.specs.Sent.{Sent}
+use Rattle.reg_store.specs.declared.keep.KeptHead.{KeptHead}
+use Rattle.reg_store.specs.declared.keep.KeepError.{KeepError}
+use Rattle.reg_store.specs.declared.keep.KeepError.TheVariants as keep
+use Rattle.reg_store.specs.Keep.{is_store}
+use Rattle.reg_tables.specs.declared.adopting.AdoptError.TheVariants.{Store}
+use Rattle.reg_tables.specs.Adoption.{adopt_error}
+use Rattle.reg_tables.specs.Quiet.{IsStill, clean_before}
+use Rattle.reg_tables.specs.declared.format.Format.TheVariants.{First, Second}
+use Rattle.reg_tables.specs.Creates.{makes_withdrawals}
+use Rattle.reg_tables.specs.Inserts.{same_value, went}
+use Rattle.reg_tables.specs.Inside.{Inside, Ran}
+use Rattle.reg_tables.specs.Marks.{none_withdrawn, sents_unmarked}
+use Rattle.reg_tables.specs.Meaning.{format_raised, raise_is, raise_plain}
+use Rattle.reg_tables.specs.KeepLaws.{ChangesOf}
+use Rattle.reg_tables.specs.declared.memory.Memory.{Memory}
+use Rattle.reg_tables.specs.declared.repeats.Digests.{Digests}
+use Rattle.reg_tables.specs.Digests.{AreBelow, AreDigested, HoldsDigests}
+use Rattle.reg_tables.specs.Formats.{StartsWithMeta}
+use Rattle.reg_tables.specs.Heads.{AreHeads, HoldsHeads, head_of}
+use Rattle.reg_tables.specs.Memory.{Agrees, Recalls}
+use Rattle.reg_tables.specs.Migrates.{AddsWithdrawals, FindsFirst, HoldsFirst, IsMigrated, MigratedOf, Migrates, RecallsFirst}
+use Rattle.reg_tables.specs.Register.{deposit_rows, deposits_in, file_lines, file_steps, HoldsSent, IsRegister, IsRegisterOf, marks_of, meta_columns, sents_in, tables}
+use Rattle.reg_tables.specs.RegisterLaws.{sents_back}
+use Rattle.reg_tables.specs.Rows.{columns_3, columns_5, dictionary_row, mark_column, rows_under}
+use Rattle.reg_tables.specs.Tables.{first_schema, meta, register_schema}
+use Rattle.reg_tables.specs.Turns.{read_back, unmarked_register}
+use Rattle.reg_tables.specs.Texts.{create_withdrawals, raise_format, select_meta}
+use Rattle.reg_tables.proofs.FormatLemmas.{asks_meta}
+use Rattle.reg_tables.proofs.OpenLemmas.{found_tables}
+use Rattle.reg_tables.proofs.QueryLemmas.{shown_same}
+use Rattle.reg_tables.proofs.RepeatsLemmas.{digested_held}
+
+-- ---- what the update of meta leaves alone
+
+-- no foreign key refers to meta
+none_acted : (olds news : List Row) → works register_schema Enforced 0 0 olds news ≡ []
+none_acted olds news = go (length news == 0)
+  where
+    go : (b : Bool) → flat_map (λ child. filter_map (λ ref. work_by 0 0 (pairs olds news) child ref (deed_for Enforced b ref) (parent_key register_schema.tables ref)) child.references) register_schema.tables ≡ []
+    go true = refl
+    go false = refl
+
+record ChangesMeta (old new : Database) : Type 0 where
+  schema : new.schema ≡ register_schema
+  sound : IsDatabase new
+  others : AllByRecursion (λ t. t.tree ≢ 0 → new.trees t.tree ≡ old.trees t.tree) register_schema.tables
+
+changes_meta : (old new : State) (count : ℕ) → old.now.schema ≡ register_schema → Executes raise_format [] old new (Ok count) → ChangesMeta old.now new.now
+changes_meta old new count has h =
+    let db = old.now.trees in
+    let command = Update 0 (record { lets = []; body = format_raised }) in
+    let w = runs_as raise_format [] old new register_schema has command raise_is raise_plain count h in
+    let text = statement_of raise_format (understood register_schema raise_format) in
+    let done = went (subst (λ s. Does old.step_limit (mode_of old) [] (record old.now { schema = s }) text None command (Ok (w.tally, new.now))) has w.changed) in
+    let now = ap (λ (p : Tally × Database). p.1) (same_value (went (went done.2).2).2) in
+    let given = went done.1 in
+    let written = went given.2 in
+    let same : new.now.trees ≡ written.0 = ap (λ (d : Database). d.trees) now ∙ ap (λ (it : Written). it.trees) (same_value written.2) in
+    let edit = edit_of db meta (ids_of given.0) Given 1 given.0 in
+    let step = one_step register_schema Enforced db written.0 edit (none_acted (taken_by db edit) edit.news) written.1 in
+    record {
+      schema = ap (λ (d : Database). d.schema) now;
+      sound = w.sound;
+      others = subst (λ (t : Trees). AllByRecursion (λ k. k.tree ≢ 0 → t k.tree ≡ db k.tree) register_schema.tables) (sym same) step.tables;
+    }
+
+pub changes_tables : (a b c : State) → a.now.schema ≡ first_schema → Ran create_withdrawals [] a b → Ran raise_format [] b c → Inside AddsWithdrawals a c
+changes_tables a b c has one two =
+    let made = makes_withdrawals a b one.count has one.ran in
+    let raised = changes_meta b c two.count made.schema two.ran in
+    record {
+      change = record {
+        schema = raised.schema;
+        sound = raised.sound;
+        deposits = raised.others.1.0 (λ e. absurd (let no : 2 ≡ 0 = e in omega arith)) ∙ made.others.1.0;
+        lines = raised.others.1.1.0 (λ e. absurd (let no : 4 ≡ 0 = e in omega arith)) ∙ made.others.1.1.0;
+        steps = raised.others.1.1.1.0 (λ e. absurd (let no : 6 ≡ 0 = e in omega arith)) ∙ made.others.1.1.1.0;
+        marks = raised.others.1.1.1.1.0 (λ e. absurd (let no : 8 ≡ 0 = e in omega arith)) ∙ made.empty;
+      };
+      goes_on = two.goes_on;
+      is_open = two.is_open;
+      committed = two.committed ∙ one.committed;
+    }
+
+-- ---- the new register
+
+-- the dictionary's row is the one with the number 0
+abbrev IsIts : List ℕ → Row → Type 0
+IsIts text row = column row 1 ≡ Int (pos 0) → row ≡ dictionary_row text
+
+each_its : (text : List ℕ) → All (IsIts text) (meta_columns 1 text)
+each_its text zero d low = λ _. refl
+each_its text (suc zero) d low = λ e. absurd (let no : ◌≡◌ {A = ℕ} 1 0 = cc in omega arith)
+each_its text (suc (suc i)) d low = absurd (omega arith)
+
+-- so the rows of meta say the dictionary's bytes
+same_text : (a b : List ℕ) → IsPermutation (meta_columns 1 a) (meta_columns 1 b) → b ≡ a
+same_text a b are = let e : dictionary_row b ≡ dictionary_row a = All-permutation (IsIts a) (meta_columns 1 a) (meta_columns 1 b) are (each_its a) 0 (dictionary_row b) (omega arith) refl in cc
+
+raises : (old new : Database) (text : List ℕ) → IsPermutation (meta_columns 1 text) (map columns_3 (old.trees 0)) → IsPermutation (meta_columns 2 text) (map columns_3 (new.trees 0)) → AddsWithdrawals old new → Migrates old new
+raises old new text before after put dictionary list was = record {
+  holds = subst (HoldsSent Second new dictionary) (sym (sents_unmarked list)) holds;
+  marks = subst₂ IsPermutation (sym (none_withdrawn 1 list)) (sym (ap (map mark_column) put.marks)) (IsPermutation-refl []);
+}
+  where
+    same : text ≡ was.text
+    same = same_text was.text text (IsPermutation-trans _ _ _ was.meta (IsPermutation-sym _ _ before))
+
+    holds : HoldsSent Second new dictionary list
+    holds = record {
+      schema = put.schema;
+      sound = put.sound;
+      text = was.text;
+      short = was.short;
+      reads = was.reads;
+      meta = subst (λ (t : List ℕ). IsPermutation (meta_columns 2 t) (map columns_3 (new.trees 0))) same after;
+      deposits = subst (λ (rows : List Row). IsPermutation (deposit_rows 1 list) (map columns_5 rows)) (sym put.deposits) was.deposits;
+      files = was.files;
+      each = was.each;
+      named = was.named;
+      apart = was.apart;
+      few = was.few;
+      lines = λ k. subst (λ (rows : List Row). IsPermutation (file_lines (slice_get was.files k)) (rows_under (k + 1) (map columns_5 rows))) (sym put.lines) (was.lines k);
+      steps = λ k. subst (λ (rows : List Row). IsPermutation (file_steps (slice_get was.files k)) (rows_under (k + 1) (map columns_3 rows))) (sym put.steps) (was.steps k);
+    }
+
+-- meta is read, the tables are changed, and meta is read again
+pub raised_inside : (a b c e : State) (text : List ℕ) (before after : List Row) → Inside (λ old new. new ≡ old) a b → Inside AddsWithdrawals b c → Inside (λ old new. new ≡ old) c e
+    → IsPermutation before (map columns_3 (a.now.trees 0)) → IsPermutation after (map columns_3 (c.now.trees 0)) → before ≡ meta_columns 1 text → after ≡ meta_columns 2 text
+    → Inside (λ old new. Migrates old new × IsDatabase new) a e
+raised_inside a b c e text before after one two three seen shown was is = record {
+  change = subst₂ (λ (x y : Database). Migrates x y × IsDatabase y) one.change (sym three.change) (raises b.now c.now text first (subst (λ rows. IsPermutation rows (map columns_3 (c.now.trees 0))) is shown) two.change, two.change.sound);
+  goes_on = three.goes_on;
+  is_open = three.is_open;
+  committed = three.committed ∙ two.committed ∙ one.committed;
+}
+  where
+    first : IsPermutation (meta_columns 1 text) (map columns_3 (b.now.trees 0))
+    first = subst₂ (λ (rows : List Row) (db : Database). IsPermutation rows (map columns_3 (db.trees 0))) was (sym one.change) seen
+
+-- ---- what was found before, and what is there then
+
+-- a register is one under the schema of a register
+as_tables : (db : Database) (dictionary : Entries) (list : List Deposit) → IsRegister db dictionary list → IsRegister (tables db.trees) dictionary list
+as_tables db dictionary list is =
+    let same : db ≡ tables db.trees = λ i. record { schema = is.holds.schema i; trees = db.trees } in subst (λ (d : Database). IsRegister d dictionary list) same is
+
+sent_is : (db : Database) (dictionary : Entries) (count : ℕ) (p : HoldsFirst db dictionary count) → sents_in db.trees ≡ p.0
+sent_is db dictionary count p = sents_back db.trees p.0 p.1.deposits
+
+none_marked : (list : List Sent) → marks_of (map unmarked list) ≡ replicate (length list) false
+none_marked [] = refl
+none_marked (d ∷ list) = ap (λ marks. false ∷ marks) (none_marked list)
+
+pub recalled_first : (db : Database) (dictionary : Entries) (count : ℕ) (heads : List KeptHead) (marks : List Bool) (digests : Digests) (memory : Memory) → ∥ HoldsFirst db dictionary count ∥₁ → HoldsHeads db count heads → HoldsDigests db (count + 1) digests
+    → AreBelow digests (count + 1) → length heads ≡ count → marks ≡ replicate count false → length memory.known.items ≡ length heads
+    → ((list : List Deposit) → AreHeads heads (sents list) → marks ≡ marks_of list → AreDigested digests (sents list) → AreBelow digests (length list + 1) → Agrees memory dictionary list)
+    → RecallsFirst db dictionary memory
+recalled_first db dictionary count heads marks digests memory some are digested below long none same agrees = record {
+  sent = subst (λ n. ∥ HoldsFirst db dictionary n ∥₁) (sym long ∙ sym same) some;
+  agrees = agrees (map unmarked list)
+      (∥∥₁_elim some (Prim.hlevel props) (λ (p : HoldsFirst db dictionary count). are p.0 p.1.deposits p.2 ∙ ap (map head_of) (sym (its p))))
+      (none ∙ ap (λ n. replicate n false) (sym count_is) ∙ sym (none_marked list))
+      (λ k d at. ∥∥₁_elim some (Prim.hlevel props) (λ (p : HoldsFirst db dictionary count).
+      subst (AreDigested digests) (sym (its p)) (digested_held db digests p.0 p.1.deposits (subst (λ n. HoldsDigests db (n + 1) digests) (sym p.2) digested)) k d at))
+      (subst (λ n. AreBelow digests (n + 1)) (sym (length-map list unmarked ∙ count_is)) below);
+}
+  where
+    list : List Sent
+    list = sents_in db.trees
+
+    its : (p : HoldsFirst db dictionary count) → sents (map unmarked list) ≡ p.0
+    its p = sents_unmarked list ∙ sent_is db dictionary count p
+
+    count_is : length list ≡ count
+    count_is = ∥∥₁_elim some (Prim.hlevel props) (λ (p : HoldsFirst db dictionary count). ap length (sent_is db dictionary count p) ∙ p.2)
+
+pub recalled_then : (old new : Database) (dictionary : Entries) (memory : Memory) → RecallsFirst old dictionary memory → Migrates old new → Recalls new dictionary memory
+recalled_then old new dictionary memory found migrates = record {
+  register = ∥∥₁_map found.sent (λ (p : HoldsFirst old dictionary (length memory.known.items)).
+      (let all : (list : List Deposit) × IsRegister new dictionary list × (length list ≡ length memory.known.items) = (map unmarked p.0, migrates dictionary p.0 p.1, length-map p.0 unmarked ∙ p.2) in all));
+  agrees = subst (Agrees memory dictionary) same found.agrees;
+}
+  where
+    same : map unmarked (sents_in old.trees) ≡ deposits_in new.trees
+    same = ∥∥₁_elim found.sent (Prim.hlevel props) (λ (p : HoldsFirst old dictionary (length memory.known.items)).
+        ap (map unmarked) (sent_is old dictionary (length memory.known.items) p) ∙ sym (read_back new (map unmarked p.0) (migrates dictionary p.0 p.1)))
+
+pub migrated_list : (old : Database) (new : State) (dictionary : Entries) (memory : Memory) → RecallsFirst old dictionary memory → Migrates old new.now → new.committed ≡ new.now → ∥ IsRegisterOf First old dictionary (deposits_in new.committed.trees) ∥₁
+migrated_list old new dictionary memory found migrates settled = ∥∥₁_map found.sent (λ (p : HoldsFirst old dictionary (length memory.known.items)).
+    (let list = map unmarked p.0 in
+    let read : deposits_in new.committed.trees ≡ list = ap (λ (db : Database). deposits_in db.trees) settled ∙ read_back new.now list (migrates dictionary p.0 p.1) in
+    let is : IsRegisterOf First old dictionary (deposits_in new.committed.trees) = subst (IsRegisterOf First old dictionary) (sym read) (unmarked_register old dictionary p.0 p.1) in is))
+
+pub migrated_left : (old mid : State) (dictionary : Entries) (memory : Memory) (trees : Trees) → mid.now ≡ old.now → RecallsFirst old.now dictionary memory → ChangesOf Migrates mid trees → IsMigrated old trees
+migrated_left old mid dictionary memory trees same found put = ∥∥₁_map found.sent (λ (p : HoldsFirst old.now dictionary (length memory.known.items)).
+    (let list = map unmarked p.0 in
+    let there = put.1 dictionary p.0 (subst (λ (db : Database). HoldsSent First db dictionary p.0) (sym same) p.1) in
+    let all : MigratedOf old trees = (dictionary, list, unmarked_register old.now dictionary p.0 p.1, subst (λ t. IsRegister (tables t) dictionary list) (sym put.3) (as_tables put.0 dictionary list there)) in all))
+
+-- what a crash leaves after the register was examined, and its tables were changed
+pub migrates_then : (start mid new : State) (dictionary : Entries) (memory : Memory) → IsStill start mid false → (HasCleanDisk mid → RecallsFirst start.now dictionary memory) → Survives mid new (ChangesOf Migrates mid)
+    → Survives start new (IsMigrated start)
+migrates_then start mid new dictionary memory quiet found crash =
+    survives_then start mid new _ _ (IsMigrated start) (λ _ db none. absurd none)
+    (λ clean db put. (let early = clean_before mid new crash clean in migrated_left start mid dictionary memory db (quiet.same early refl).0 (found early) put)) quiet.survives crash
+
+-- and what it leaves where that was refused
+pub refused_then : (start mid new : State) (dictionary : Entries) (memory : Memory) (e : KeepError) → (e ≡ keep.Full → ⊥) → IsStill start mid false → (HasCleanDisk mid → RecallsFirst start.now dictionary memory)
+    → Survives mid new (ChangesOf Migrates mid) → (is_store e ≡ false → Survives mid new (λ _. ⊥)) → Survives start new (λ trees. (adopt_error e ≡ Store) × IsMigrated start trees)
+refused_then start mid new dictionary memory keep.Full never quiet found crash none = absurd (never refl)
+refused_then start mid new dictionary memory keep.Store never quiet found crash none =
+    survives_weaker start new _ _ (λ _ _ left. (refl, left)) (migrates_then start mid new dictionary memory quiet found crash)
+refused_then start mid new dictionary memory keep.NoMemory never quiet found crash none =
+    survives_then start mid new _ _ (λ trees. (adopt_error keep.NoMemory ≡ Store) × IsMigrated start trees) (λ _ db no. absurd no) (λ _ db no. absurd no) quiet.survives (none refl)
+
+pub found_first : {image : Image} {dictionary : Entries} {list : List Deposit} (s : State) → Opens s → FindsIn image s → ∥ IsRegisterOf First s.now dictionary list ∥₁ → ∥ FindsFirst image dictionary list ∥₁
+found_first {image} {dictionary} {list} s opened found register =
+    ∥∥₁_map register (λ (is : IsRegisterOf First s.now dictionary list). record { db = s.now; found = found_tables {image = image} s opened found; register = is })
+
+-- ---- a query inside a transaction commits nothing
+
+-- meta is read, and nothing changes
+pub read_inside : {X : Type 0} (items : X → List Row) (old new : State) (r : Result X Error) → StartsWithMeta old.now.schema → IsTrue old.in_transaction → IfOk r (λ x. Shown select_meta [] old new (items x))
+    → OnOk r (Inside (λ old new. new ≡ old) old new)
+read_inside items old new (Err e) first inside h = tt
+read_inside items old new (Ok x) first inside h =
+    let it = (shown_same select_meta old new [] (items x) (asks_meta old.now.schema first).1 h).0 in record { change = it.now_is; goes_on = subst IsTrue (sym it.mode) inside; is_open = it.is_open; committed = it.committed_is }
+
+kept : (old new : State) → IsUnchanged old new → KeepsCommit old new
+kept old new h = record { was_open = λ o. h.0.was_open; committed = λ o. h.0.committed_is }
+
+back : (old new : State) → IsRolledBack old new → KeepsCommit old new
+back old new h = record { was_open = h.was_open; committed = λ o. (h.undone o).1 }
+
+not_run : (sql : List ℕ) (params : Row) (old new : State) (e : Error) → IsNotRun old new sql params e → KeepsCommit old new
+unfolding IsNotRun
+not_run sql params old new e (inl h) = kept old new h.1
+not_run sql params old new e (inr h) = back old new h.3
+
+fails_inside : (sql : List ℕ) (params : Row) (old new : State) (e : Error) → FailsToQuery sql params old new e ⊎ IsTooLate sql params old new e → KeepsCommit old new
+unfolding FailsToQuery
+fails_inside sql params old new e (inr h) = kept old new h.5
+fails_inside sql params old new e (inl (inl h)) = not_run sql params old new e h
+fails_inside sql params old new e (inl (inr h)) = shows h.0.returning h.2
+  where
+    shows : (r : Option Returning) → FailsToShow old new sql h.0 (timed params h.0.formats h.1.now) e r → KeepsCommit old new
+    shows None f = kept old new f.3
+    shows (Some what) (inl f) = kept old new f.1
+    shows (Some what) (inr f) = back old new f.3
+
+pub read_keeps : {X : Type 0} (items : X → List Row) (old new : State) (r : Result X Error) → StartsWithMeta old.now.schema → IfOk r (λ x. Shown select_meta [] old new (items x))
+    → IfErr r (λ e. FailsToQuery select_meta [] old new e ⊎ IsTooLate select_meta [] old new e) → KeepsCommit old new
+read_keeps items old new (Ok x) first h f = kept old new (shown_same select_meta old new [] (items x) (asks_meta old.now.schema first).1 h)
+read_keeps items old new (Err e) first h f = fails_inside select_meta [] old new e f
