@@ -14,7 +14,7 @@ use Rattle.reg_policy.specs.declared.subject.Decision.TheVariants.{Permit, Deny}
 use Rattle.reg_policy.specs.declared.subject.Verb.TheVariants as verbs
 use Rattle.reg_store.specs.Sent.{Sent}
 use Rattle.reg_store.specs.Deposit.{Deposit, sents}
-use Rattle.reg_store.proofs.DepositLemmas.{sent_at}
+use Rattle.reg_store.proofs.Lemmas.{sent_at}
 use Rattle.reg_store.specs.Fit.{IsFit, IsFileOf}
 use Rattle.reg_store.specs.Keep.{IsHeadOf, OfDeposit, is_store, fails}
 use Rattle.reg_store.specs.declared.keep.Keep.{Ghosts}

@@ -12,7 +12,7 @@ use Rattle.reg_policy.specs.declared.callers.Caller.{Caller}
 use Rattle.reg_policy.specs.declared.subject.Verb.TheVariants as verbs
 use Rattle.reg_store.specs.Sent.{Sent, is_repeat}
 use Rattle.reg_store.specs.Deposit.{Deposit, sents, unmarked, mark, marked}
-use Rattle.reg_store.proofs.DepositLemmas.{sent_at, deposit_at}
+use Rattle.reg_store.proofs.Lemmas.{sent_at, deposit_at}
 use Rattle.reg_store.specs.declared.keep.Keep.{Ghosts}
 use Rattle.reg_desk.specs.Asked.{Asked, deposit, withdraw}
 use Rattle.reg_desk.specs.declared.answer.Answer.{Answer}

@@ -14,7 +14,7 @@ use Rattle.reg_policy.specs.declared.subject.Decision.TheVariants.{Permit, Deny}
 use Rattle.reg_policy.specs.declared.subject.Verb.TheVariants as verbs
 use Rattle.reg_store.specs.Sent.{Sent, is_repeat}
 use Rattle.reg_store.specs.Deposit.{Deposit, sents}
-use Rattle.reg_store.proofs.DepositLemmas.{length_sents}
+use Rattle.reg_store.proofs.Lemmas.{length_sents}
 use Rattle.reg_desk.specs.Asked.{deposit, withdraw}
 use Rattle.reg_desk.specs.declared.answer.Answer.{Answer}
 use Rattle.reg_desk.specs.declared.answer.Answer.TheVariants.{Receipt, Findings, Denied, Unknown, TooLarge, Full, Withdrawn}

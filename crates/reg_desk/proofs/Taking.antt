@@ -12,7 +12,7 @@ use Rattle.reg_policy.specs.declared.subject.Decision.TheVariants.{Permit, Deny}
 use Rattle.reg_policy.specs.declared.subject.Verb.TheVariants as verbs
 use Rattle.reg_store.specs.Sent.{Sent, number_of}
 use Rattle.reg_store.specs.Deposit.{Deposit, sents, unmarked}
-use Rattle.reg_store.proofs.DepositLemmas.{length_sents, deposit_at}
+use Rattle.reg_store.proofs.Lemmas.{length_sents, deposit_at}
 use Rattle.reg_store.specs.Keep.{is_store, IsHeadOf}
 use Rattle.reg_store.specs.declared.keep.Keep.{Ghosts}
 use Rattle.reg_store.specs.declared.keep.KeepError.{KeepError}

@@ -9,7 +9,7 @@ use Rattle.reg_policy.specs.declared.callers.Caller.{Caller}
 use Rattle.reg_policy.specs.declared.subject.Decision.TheVariants.{Permit, Deny}
 use Rattle.reg_policy.specs.declared.subject.Verb.TheVariants as verbs
 use Rattle.reg_store.specs.Deposit.{Deposit, marked}
-use Rattle.reg_store.proofs.DepositLemmas.{marked_again}
+use Rattle.reg_store.proofs.Lemmas.{marked_again}
 use Rattle.reg_store.specs.Keep.{IsHeadOf, is_store}
 use Rattle.reg_store.specs.declared.keep.Keep.{Ghosts}
 use Rattle.reg_store.specs.declared.keep.KeepError.{KeepError}

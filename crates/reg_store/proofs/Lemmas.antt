@@ -1,0 +1,4 @@
+-- What proofs of the crates above cite of this one, beside its contracts and definitions. Each is proved here: nothing in it
+-- has to be believed.
+-- What was sent of each deposit of a list, and a list with one more deposit marked.
+pub use Rattle.reg_store.proofs.DepositLemmas.{length_sents, sent_at, deposit_at, marked_again}
