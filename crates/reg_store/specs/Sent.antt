@@ -1,9 +1,9 @@
--- A deposit, the first that is equal to it, and the deposits of a project.
-use Rattle.std.specs.Prelude.{◌≡◌, ℕ, ℤ, ◌+◌, ◌&&◌, Bool, List, [], ◌∷◌, Option, if◌then◌else◌}
+-- What was sent, the first that is equal to it, and the deposits of a project.
+use Rattle.std.specs.Prelude.{ℕ, ℤ, ◌+◌, ◌&&◌, Bool, List, [], ◌∷◌, Option, if◌then◌else◌}
 use Rattle.std.specs.Str.{bytes_eq}
 use Rattle.std.specs.List.{position_from}
 
--- What is kept of a deposit: the firm that sent it, its project, the first day (from 1970-01-01) on which it is no longer under embargo, and its bytes.
+-- What was sent of a deposit: the firm that sent it, its project, the first day (from 1970-01-01) on which it is no longer under embargo, and its bytes.
 pub record Sent : Type 0 where
   pub firm : List ℕ
   pub project : List ℕ
