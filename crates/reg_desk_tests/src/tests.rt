@@ -184,12 +184,7 @@ fn extract_of<'a>(
 }
 
 /// A withdrawal of a deposit.
-fn withdraw_of<'a>(
-    caller: &'a Caller,
-    project: &'a Name,
-    number: u32,
-    day: Day,
-) -> Request<'a> {
+fn withdraw_of<'a>(caller: &'a Caller, project: &'a Name, number: u32, day: Day) -> Request<'a> {
     Request::Withdraw {
         caller,
         project,

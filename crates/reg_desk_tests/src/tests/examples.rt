@@ -232,12 +232,7 @@ pub static WITHDRAWALS: [Example; 2] = [
             Step("t-delta", SENT, Ask::Deposit(A, UNTIL), FIRST),
             Step("t-foxtrot", SENT, Ask::Deposit(A, UNTIL), SECOND),
             Step("t-echo", SENT, Ask::Withdraw(1), Want::Denied(0)),
-            Step(
-                "t-foxtrot",
-                SENT,
-                Ask::Withdraw(1),
-                Want::Says("unknown"),
-            ),
+            Step("t-foxtrot", SENT, Ask::Withdraw(1), Want::Says("unknown")),
             Step("t-delta", SENT, Ask::Withdraw(9), Want::Says("unknown")),
             Step("t-delta", SENT, Ask::Withdraw(0), Want::Says("unknown")),
             Step("t-delta", SENT, Ask::Extract(1, &[]), Want::Gives(A)),
