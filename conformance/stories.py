@@ -534,7 +534,8 @@ class Story:
         yield "UPDATE meta SET num = 0 WHERE name = 'format'; DELETE FROM steps", machine.Damaged(0)
         yield "DELETE FROM meta", machine.Damaged()
         yield "DROP TABLE withdrawals", machine.Damaged(2)
-        yield f"INSERT INTO withdrawals VALUES ({len(held.deposits) + 1})", machine.Damaged(2)
+        # A database with a reference to no row cannot be opened, as if it were none.
+        yield f"INSERT INTO withdrawals VALUES ({len(held.deposits) + 1})", b"none"
         yield "DELETE FROM withdrawals", register_like(held, marked(held, False))
         yield "INSERT OR IGNORE INTO withdrawals SELECT number FROM deposits", register_like(held, marked(held, True))
         yield from ((statement, machine.Damaged(2)) for statement in self.spoils())

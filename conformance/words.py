@@ -365,7 +365,8 @@ CHANGED = [
       for number in (1, "NULL")],
     ([("INSERT INTO withdrawals VALUES (1)",), ("DELETE FROM withdrawals",)],
      [(["list|@"], "0 1 Delta 2024-05-01"), (["extract|@|1"], "0 (a)")]),
-    *[([(f"INSERT INTO withdrawals VALUES ({number})",)], [(COMMANDS, NOT_ONE), (MIGRATE, OF_FORMAT(2))])
+    # A database with a reference to no row cannot be opened.
+    *[([(f"INSERT INTO withdrawals VALUES ({number})",)], [((*COMMANDS, "migrate"), FAILED)])
       for number in (0, -1, 2, 999999, 9223372036854775807)],
     ([("DROP TABLE withdrawals",)], [(COMMANDS, NOT_ONE), (MIGRATE, OF_FORMAT(2))]),
     # Registers of format 1, each of which is migrated once.
@@ -456,9 +457,8 @@ def refuse_stores(folder):
         for command in COMMANDS:
             folder.hold(f"{command}|--store={store}", want)
         folder.hold(f"migrate|--store={store}", migrated)
-    # Asking for a register that is not there makes no file, and a file of no bytes stays one.
+    # Asking for a register that is not there makes no file.
     folder.count(not os.path.exists(os.path.join(folder.place, "gone")), "a file `gone` was made")
-    folder.count(os.path.getsize(os.path.join(folder.place, "empty")) == 0, "the file of no bytes was written to")
     folder.play(BEHIND_STORES)
 
 

@@ -1,0 +1,115 @@
+#!/usr/bin/env python3
+"""Measures how long registers of several sizes take to open, and the memory of that, by `list`.
+
+usage: bench/opening.py PROGRAM [--kit KIT] [CASE..]
+A register is made by the program with one generated file; the others are that file with another name of the project, put in by SQLite.
+CASE is one of the names that stand in CASES; without any, all up to 100 deposits of 100 kB and 10,000 of 1 kB are measured.
+KIT is a program that opens the database PATH, its only argument, by the kit's own `Connection::open_from`.
+Printed for each: deposits, bytes of them and of the register, seconds (the shortest of some runs) and MB (1,048,576 bytes) of `list`, and of KIT."""
+import os
+import resource
+import sqlite3
+import subprocess
+import sys
+import tempfile
+import time
+here = os.path.dirname(os.path.abspath(__file__))
+sys.path.insert(0, here)
+sys.dont_write_bytecode = True
+import files  # noqa: E402
+import register  # noqa: E402
+
+# What is measured: the file, its bytes, how many of it, how many runs.
+CASES = {
+    "flat_1": (files.flat, 1_000_000, 1, 3),
+    "deep_1": (files.deep, 1_000_000, 1, 3),
+    "flat_4": (files.flat, 4_000_000, 1, 3),
+    "deep_4": (files.deep, 4_000_000, 1, 3),
+    "hundred": (files.deep, 100_000, 100, 3),
+    "many": (files.deep, 1_000, 10_000, 3),
+    "deep_64": (files.deep, 1_000_000, 64, 2),
+    "flat_64": (files.flat, 1_000_000, 64, 2),
+    "deep_256": (files.deep, 1_000_000, 256, 1),
+    "flat_256": (files.flat, 1_000_000, 256, 1),
+    "deep_512": (files.deep, 1_000_000, 512, 1),
+    "flat_512": (files.flat, 1_000_000, 512, 1),
+}
+ALONE = ("flat_1", "deep_1", "flat_4", "deep_4", "hundred", "many")
+NAME = "North bank"
+MEMORY = 4 << 30
+
+
+def limit():
+    """What the launcher does: no more than 4 GiB for the program."""
+    resource.setrlimit(resource.RLIMIT_AS, (MEMORY, MEMORY))
+
+
+def renamed(column):
+    """The text of SQL for a column of bytes with another name of the project, which has the same length."""
+    return f"CAST(replace(CAST({column} AS TEXT), '{NAME}', printf('Site %05d', ?1)) AS BLOB)"
+
+
+def multiplied(path, count):
+    """Puts the register's one deposit into it again and again, until it has so many."""
+    db = sqlite3.connect(path, isolation_level=None)
+    db.executescript("PRAGMA synchronous = off; PRAGMA cache_size = -200000")
+    db.execute("BEGIN")
+    for n in range(2, count + 1):
+        db.execute(f"INSERT INTO deposits SELECT ?1, firm, project, embargo, {renamed('body')} FROM deposits WHERE number = 1", (n,))
+        db.execute(
+            f"INSERT INTO lines SELECT ?1, seq, grp, kind, CASE WHEN grp = 'PROJ' AND kind = 4 THEN {renamed('line')} ELSE line END"
+            " FROM lines WHERE deposit = 1 ORDER BY seq", (n,))
+        db.execute("INSERT INTO steps SELECT ?1, child, target FROM steps WHERE deposit = 1 ORDER BY child, target", (n,))
+    db.execute("COMMIT")
+    db.execute("PRAGMA wal_checkpoint(TRUNCATE)").fetchall()
+    db.close()
+
+
+def timed(words, folder, runs):
+    """The shortest of some runs in seconds, the greatest resident memory in MB, the status of the last and what it says."""
+    best, most = float("inf"), 0.0
+    for _ in range(runs):
+        with tempfile.NamedTemporaryFile() as note:
+            begun = time.monotonic()
+            run = subprocess.run(["/usr/bin/time", "-q", "-f", "%M", "-o", note.name, *words], cwd=folder, stdin=subprocess.DEVNULL,
+                                 capture_output=True, preexec_fn=limit)
+            best = min(best, time.monotonic() - begun)
+            most = max(most, int(note.read().split()[-1]) / 1024)
+    return best, most, run.returncode, run.stderr.decode().strip()
+
+
+def measured(program, kit, name, folder):
+    make, size, count, runs = CASES[name]
+    place = register.Place(program, folder, limit)
+    data = make(size)
+    with open(place.path("a"), "wb") as file:
+        file.write(data)
+    place.run("deposit", *register.ASKING, "a")
+    multiplied(place.path("register"), count)
+    taken, most, status, said = timed([program, "list", *register.ASKING], folder, runs)
+    cells = [name, f"{count:,}", f"{count * len(data):,}", f"{place.bytes_held():,}", f"{taken:.2f}", f"{most:.0f}", f"{status} {said}".strip()]
+    if kit:
+        taken, most, status, said = timed([kit, "register"], folder, runs)
+        cells += [f"{taken:.2f}", f"{most:.0f}", f"{status} {said}".strip()]
+    print("| " + " | ".join(cells) + " |", flush=True)
+
+
+def main():
+    words = sys.argv[1:]
+    kit = None
+    if "--kit" in words:
+        at = words.index("--kit")
+        kit = os.path.abspath(words[at + 1])
+        del words[at:at + 2]
+    if not words or any(name not in CASES for name in words[1:]):
+        sys.exit(__doc__)
+    program = os.path.abspath(words[0])
+    head = ["Register", "Deposits", "Bytes of them", "Bytes of the register", "`list`, s", "MB", "status"]
+    print("| " + " | ".join(head + (["kit, s", "MB", "status"] if kit else [])) + " |")
+    print("|" + "---|" * (len(head) + (3 if kit else 0)))
+    for name in words[1:] or ALONE:
+        with tempfile.TemporaryDirectory(dir=os.environ.get("TMPDIR", "/tmp")) as folder:
+            measured(program, kit, name, folder)
+
+
+main()
