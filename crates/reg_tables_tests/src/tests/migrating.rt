@@ -16,7 +16,7 @@ use std::test::Fail;
 const TO_FORMAT_1: &str = "DROP TABLE withdrawals; UPDATE meta SET num = 1 WHERE name = 'format'";
 
 /// A deposit is sent.
-static SENT: [Case; 1] = [Case {
+pub(crate) static SENT: [Case; 1] = [Case {
     call: Call::Take("Delta", "N1", File::A),
     want: "1",
 }];
