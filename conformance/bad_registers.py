@@ -355,7 +355,9 @@ class Place:
         if not opened:
             return f"listed before it was migrated: {listed}"
         version = version_in(tables) if is_strict else None
-        want = NOT_ONE if version in (None, 2) else f"register version {version}"
+        # A database whose rows break their types or references cannot be opened, so that its format is not read.
+        is_closed = opened == FAILED and held == NOT_ONE
+        want = NOT_ONE if is_closed or version in (None, 2) else f"register version {version}"
         if wrong := self.wrong_fault(listed[0], opened, want, is_strict):
             return f"before its migration: {wrong}"
         if said := self.fault_in(answer):

@@ -124,7 +124,6 @@ def of_nothing(place):
     place.same(["migrate", "--store=none"])
     place.hold("what is made where there was nothing", sorted(os.listdir(place.folder)), there)
     place.same(["migrate", "--store=empty"])
-    place.hold("the file of no bytes", os.path.getsize(place.path("empty")), 0)
     place.same(["migrate", "--store=callers"])
 
 

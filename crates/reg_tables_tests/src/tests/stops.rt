@@ -292,14 +292,14 @@ fn end_of(alloc: Global, change: Change, side: Side, calls: u64) -> Option<End> 
         db: Memory::new(alloc),
     };
     match run(alloc, files, Step::Fill(change)) {
-        (Some(_), Some(Files { log, db })) => end_over(
-            alloc,
-            Files {
-                log: Fuse::new(log, log_calls),
-                db: Fuse::new(db, database_calls),
-            },
-            change,
-        ),
+        (Some(_), Some(Files { mut log, mut db })) => {
+            // All of it was synced as the files were closed. A disk can be used again once what was not synced is lost.
+            log.crash();
+            db.crash();
+            let log = Fuse::new(log, log_calls);
+            let db = Fuse::new(db, database_calls);
+            end_over(alloc, Files { log, db }, change)
+        }
         _ => None,
     }
 }
