@@ -5,7 +5,6 @@ usage: bench/office.py PROGRAM [SECONDS]
 Prints two tables. The first has, for registers of 0, 100 and 10,000 deposits of 1 kB, the resident memory of `serve` that listens (VmRSS and, of what it shares
 with others, its part: Pss), the greatest since its start (VmHWM), the seconds of that start, and how many would fit into 24 GB by Pss. The second has the
 requests that CLIENTS processes got answered in SECONDS (10), one after the other over connections that they keep: listings and extracts of 1 kB."""
-import collections
 import http.client
 import multiprocessing
 import os
@@ -69,11 +68,20 @@ def idle(program, folder):
         print(f"| {count} | {resident} | {part} | {greatest} | {taken:.2f} | {ALL // (part * 1024)} |", flush=True)
 
 
+class Connection(http.client.HTTPConnection):
+    """A connection to the site by TLS. It is made anew where nginx ended it, as it does after a thousand requests."""
+
+    def __init__(self, port, certificate):
+        super().__init__(servers.NAME)
+        self.port, self.certificate = port, certificate
+
+    def connect(self):
+        self.sock = servers.Site.connect(self)
+
+
 def asked(site_port, certificate, projects, target, seconds, counts, at):
     """Asks for this target of one project after the other until the time is over, and counts what was answered."""
-    connect = collections.namedtuple("Connect", "port certificate")(site_port, certificate)
-    connection = http.client.HTTPConnection(servers.NAME)
-    connection.sock = servers.Site.connect(connect)
+    connection = Connection(site_port, certificate)
     count, until = 0, time.monotonic() + seconds
     while time.monotonic() < until:
         connection.request("GET", f"/v1/projects/{projects[(at * 37 + count) % len(projects)]}/deposits{target}", headers={"Authorization": "Bearer t-delta"})

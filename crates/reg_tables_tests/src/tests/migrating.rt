@@ -59,27 +59,28 @@ pub(crate) fn made_first<S: Alter + Drop>(
     Ok(connection)
 }
 
-/// The connection that comes with `Version` of this number.
+/// The connection that comes with `Version` of this number. Want of memory is handed on.
 fn version<S: Alter + Drop>(
     alloc: Global,
     answered: Result<SqlKeep<S>, (AdoptError, Connection<S>)>,
     number: i64,
-) -> Option<Connection<S>>
+) -> Result<Option<Connection<S>>, KeepError>
     requires { IfOk answered (λ keep. keep.has_failed ≡ false) }
 {
     match answered {
         Ok(keep) => {
             let _ = ask_tables(alloc, keep, Compare(&[]));
-            None
+            Ok(None)
         }
         Err((AdoptError::Version(other), connection)) => {
             if other == number {
-                Some(connection)
+                Ok(Some(connection))
             } else {
-                None
+                Ok(None)
             }
         }
-        Err((_, _connection)) => None,
+        Err((AdoptError::NoMemory, _connection)) => Err(KeepError::NoMemory),
+        Err((_, _connection)) => Ok(None),
     }
 }
 
@@ -105,7 +106,7 @@ fn held<S: Alter + Drop>(alloc: Global, keep: SqlKeep<S>) -> Result<&'static str
     requires { keep.has_failed ≡ false }
 {
     let (first, connection) = ask_tables(alloc, keep, Compare(&HELD));
-    match version(alloc, SqlKeep::migrate_in(alloc, connection), 2) {
+    match version(alloc, SqlKeep::migrate_in(alloc, connection), 2)? {
         Some(_connection) => first,
         None => Ok("version 2"),
     }
@@ -127,7 +128,7 @@ impl AskMade for Migrate {
             return Err(KeepError::NoMemory);
         };
         let connection = made_first(alloc, keep)?;
-        match version(alloc, SqlKeep::adopt(alloc, connection), 1) {
+        match version(alloc, SqlKeep::adopt(alloc, connection), 1)? {
             Some(connection) => migrated(alloc, connection),
             None => Ok("version 1"),
         }
