@@ -12,6 +12,7 @@ import re
 import subprocess
 import sys
 import tempfile
+import threading
 import time
 sys.dont_write_bytecode = True
 sys.path.insert(0, os.path.join(os.path.dirname(os.path.abspath(__file__)), "..", "conformance"))
@@ -27,7 +28,10 @@ GREATEST = "1000000"
 
 
 def served(place, *more):
-    return servers.Server(place, GREATEST, *more)
+    """A register that is served. What it prints for each connection is read, or it would wait once the pipe is full."""
+    server = servers.Server(place, GREATEST, *more)
+    threading.Thread(target=server.process.stdout.read, daemon=True).start()
+    return server
 
 
 def filled(program, folder, count):
@@ -46,7 +50,7 @@ def filled(program, folder, count):
 
 def end(server):
     server.process.kill()
-    server.process.communicate()
+    server.process.wait()
 
 
 def memory(process):
