@@ -120,7 +120,7 @@ fn check_rows(alloc: Global, dictionary: &Dictionary, scan: &Scan) -> Result<Gra
 }
 
 /// The steps between the rows, if the groups break nothing of the last two phases, or all findings of the first of them that has any.
-fn check_groups(
+fn check_group_phases(
     alloc: Global,
     given: &Dictionary,
     extended: &Dictionary,
@@ -152,6 +152,6 @@ pub fn check<'a>(
     // the groups are lent, so that few places hold what is proved of them
     let scan = read(alloc, bytes)?;
     let extended = dictionary.extend(&scan)?;
-    let graph = check_groups(alloc, dictionary, &extended, &scan)?;
+    let graph = check_group_phases(alloc, dictionary, &extended, &scan)?;
     Ok(Checked::of(dictionary, bytes, scan, extended, graph))
 }

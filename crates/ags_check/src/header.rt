@@ -25,7 +25,7 @@ use ags_rows::{Code, FindingList, Group, NotedFindings, Places};
 use std::alloc::{AllocError, Global};
 
 /// What the HEADING row of a group breaks: these are its headings, where the dictionary knows the group.
-fn note_headings(
+fn note_header_headings(
     given: &Dictionary,
     extended: &Dictionary,
     code: Code,
@@ -60,7 +60,7 @@ fn note_heading_row(
         findings.old findings.new) }
 {
     let row = Places::of_cells(alloc, group.headings.as_slice())?;
-    note_headings(given, extended, code, group, &row, findings)
+    note_header_headings(given, extended, code, group, &row, findings)
 }
 
 /// The same, where the dictionary has an entry for the group.
@@ -155,7 +155,7 @@ fn note_file(
 }
 
 /// The same, of these groups.
-fn note_groups(
+fn note_header_groups(
     alloc: Global,
     given: &Dictionary,
     extended: &Dictionary,
@@ -178,6 +178,6 @@ pub(crate) fn header_findings(
     ensures { IfOk result (AreExactly (StandsInDictionary given.now extended.now groups.now)) }
 {
     let mut findings = NotedFindings::new(alloc);
-    note_groups(alloc, given, extended, groups, &mut findings)?;
+    note_header_groups(alloc, given, extended, groups, &mut findings)?;
     Ok(findings.in_order())
 }

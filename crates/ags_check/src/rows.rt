@@ -115,7 +115,7 @@ fn note_group_entries<'a>(
 }
 
 /// What the UNIT, TYPE and DATA rows of all groups break, where the file lists this.
-fn note_groups<'a>(
+fn note_row_groups<'a>(
     alloc: Global,
     dictionary: &'a Dictionary,
     index: &Index,
@@ -152,7 +152,7 @@ fn note_all_entries<'a>(
     ensures { OnOk result (Adds (StandsInEntries dictionary.now groups.now) findings.old findings.new) }
 {
     let listed = CodeLists::of(alloc, groups)?;
-    note_groups(alloc, dictionary, index, &listed, groups, findings)
+    note_row_groups(alloc, dictionary, index, &listed, groups, findings)
 }
 
 /// The findings of the fifth phase, in order, each once.

@@ -103,7 +103,7 @@ pub(crate) fn all_rows(lookup: &Lookup) -> &[u32]
 }
 
 /// The rows of a span.
-pub(crate) fn rows_of(lookup: &Lookup, span: Span) -> &[u32]
+pub(crate) fn rows_of_span(lookup: &Lookup, span: Span) -> &[u32]
     requires { IsWithin lookup.now span }
     ensures { result.now ≡ rows_between lookup.now span.first span.end }
 {
@@ -114,7 +114,7 @@ pub(crate) fn rows_of(lookup: &Lookup, span: Span) -> &[u32]
 pub(crate) fn rows_with<'l>(lookup: &'l Lookup, text: &[u8]) -> &'l [u32]
     ensures { result.now ≡ found lookup.now text.now }
 {
-    rows_of(lookup, span_of(lookup, 0, text))
+    rows_of_span(lookup, span_of(lookup, 0, text))
 }
 
 /// For each row that has a text the first row that has it, at the row's place among so many.

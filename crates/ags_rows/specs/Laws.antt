@@ -103,9 +103,9 @@ RowsWithinBytes =
     × ((bytes : List ℕ) (groups : List Group) → LooseGroups bytes groups
     → length (row_texts (contents_of groups)) ≤ length bytes)
 
--- The longest file that is deposited has 4,194,304 bytes.
+-- How many bytes the longest file that is deposited has: the one place of the definitions that has the number.
 abbrev pub LongestDeposit : Type 0
-LongestDeposit = LIMIT ≡ 4194304
+LongestDeposit = LIMIT ≡ 16777216
 
 -- The longest text that is read has 67,108,864 bytes.
 abbrev pub LongestText : Type 0

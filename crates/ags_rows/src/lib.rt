@@ -25,8 +25,8 @@ pub use scanning::{RowsError, Scan};
 pub use spelling::cells;
 pub use writing::{quote, write_group, write_line, write_row};
 
-/// The greatest length of a deposited file.
-pub const LIMIT: usize = 4_194_304;
+/// The greatest length of a deposited file, in bytes: 16 MiB.
+pub const LIMIT: usize = 16_777_216;
 
 /// The greatest length of a text that is read.
 pub const READABLE: usize = 67_108_864;

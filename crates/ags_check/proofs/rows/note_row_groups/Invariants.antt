@@ -3,7 +3,7 @@ use Rattle.ags_rows.specs.Collecting.{Adds, AmongBefore, OneOf}
 use Rattle.ags_rows.specs.Contents.{contents_of}
 use Rattle.ags_links.specs.DataRows.{rows_before}
 use Rattle.ags_check.specs.RowRules.{entry_rules_of}
-use Rattle.ags_check.proofs.rows.note_groups.Given as goal
+use Rattle.ags_check.proofs.rows.note_row_groups.Given as goal
 
 abbrev pub invariant-loop-group : goal.invariant-loop-group
 invariant-loop-group l = record {

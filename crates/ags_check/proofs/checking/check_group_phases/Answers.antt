@@ -1,6 +1,6 @@
 use Rattle.std.proofs.Common.{◌≡◌, Err, ap, inl, inr}
 use Rattle.ags_check.specs.declared.checking.CheckError.TheVariants as CheckError
-use Rattle.ags_check.proofs.checking.check_groups.Goals as goal
+use Rattle.ags_check.proofs.checking.check_group_phases.Goals as goal
 
 pub returns-in-Err-clause-findings : goal.returns-in-Err-clause-findings
 returns-in-Err-clause-findings c = λ found is.

@@ -3,7 +3,7 @@ use Rattle.std.specs.Prelude.{OnOk}
 use Rattle.ags_rows.specs.declared.rows.Group.{Group}
 use Rattle.ags_rows.specs.Collecting.{Adds}
 use Rattle.ags_check.specs.Header.{StandsInDictionary}
-use Rattle.ags_check.proofs.header.note_groups.Goals as goal
+use Rattle.ags_check.proofs.header.note_header_groups.Goals as goal
 
 pub returns : goal.returns
 returns c =

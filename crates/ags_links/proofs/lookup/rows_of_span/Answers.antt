@@ -2,7 +2,7 @@ use Rattle.std.proofs.Common.{◌∙◌, ◌-◌, take, drop, sym, ap}
 use Rattle.std.proofs.lemmas.List.{take-map, drop-map}
 use Rattle.ags_links.specs.Lookups.{rows_between}
 use Rattle.ags_links.proofs.ByText.{Pair, rows_are}
-use Rattle.ags_links.proofs.lookup.rows_of.Goals as goal
+use Rattle.ags_links.proofs.lookup.rows_of_span.Goals as goal
 
 pub returns : goal.returns
 returns c =

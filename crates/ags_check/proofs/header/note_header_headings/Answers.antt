@@ -8,7 +8,7 @@ use Rattle.ags_check.specs.Placing.{AtHeading}
 use Rattle.ags_check.proofs.Naming.{texts}
 use Rattle.ags_check.proofs.HeaderRules.{OnlyIn, unknown_rule, misplaced_rule, lacking_rule, misnamed_rule}
 use Rattle.std.proofs.lemmas.Result.{on_ok_weaker}
-use Rattle.ags_check.proofs.header.note_headings.Goals as goal
+use Rattle.ags_check.proofs.header.note_header_headings.Goals as goal
 
 pub returns : goal.returns
 returns c =
