@@ -1,6 +1,5 @@
 -- A file without findings has none when it is read loosely.
 use Rattle.std.proofs.Common.{ℕ, List, [], inr}
-use Rattle.ags_rows.specs.declared.finding.Finding.{Finding}
 use Rattle.ags_rows.specs.declared.rows.Group.{Group}
 use Rattle.ags_rows.specs.Stands.{StandsInLines}
 use Rattle.ags_rows.specs.Findings.{FileParts, FirstFound, phases, loose_phases, RowFindings, LooseFindings, FileGroups, LooseGroups}

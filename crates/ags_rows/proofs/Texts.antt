@@ -1,5 +1,5 @@
 -- Texts that are written a part at a time, for those who write a file group by group and row by row.
-use Rattle.std.proofs.Common.{◌≡◌, ℕ, List, [], ◌∷◌, ◌++◌, ◌+◌, ◌<◌, ◌≤◌, length, get_or, take, map, refl, sym, ap, ◌∙◌, append_assoc}
+use Rattle.std.proofs.Common.{◌≡◌, ℕ, List, [], ◌∷◌, ◌++◌, ◌+◌, ◌<◌, ◌≤◌, length, get_or, take, map, sym, ap, ◌∙◌, append_assoc}
 use Rattle.std.proofs.lemmas.Grind.{flat_map-append}
 use Rattle.std.proofs.lemmas.List.{append-nil, map-append, take_all, take_more}
 use Rattle.ags_rows.specs.declared.rows.Descriptor.TheVariants as kinds
@@ -10,7 +10,7 @@ use Rattle.ags_rows.specs.Spelling.{quoted}
 use Rattle.ags_rows.specs.Rows.{descriptor_text}
 use Rattle.ags_rows.specs.Lines.{TextLine, ending_bytes, line_bytes}
 use Rattle.ags_rows.specs.Contents.{Contents, fields_of}
-use Rattle.ags_rows.specs.Writing.{written_row, contents_from, group_lines, empty_line, written_lines, text_of, written_file}
+use Rattle.ags_rows.specs.Writing.{written_row, contents_from, group_lines, text_of}
 
 -- the text of lines, and of more lines
 pub text_append : (front back : List TextLine) → text_of (front ++ back) ≡ text_of front ++ text_of back
@@ -25,10 +25,6 @@ text_push front line = text_append front (line ∷ []) ∙ ap (λ (text : List �
 -- the group with these DATA rows
 abbrev pub with_rows : Contents → List (List (List ℕ)) → Contents
 with_rows group rows = contents_from group.name group.headings group.units group.types rows
-
--- a group is its header rows, and then its DATA rows
-pub group_parts : (group : Contents) (rows : List (List (List ℕ))) → group_lines (with_rows group rows) ≡ group_lines (with_rows group []) ++ map (written_row kinds.Data) rows
-group_parts group rows = refl
 
 -- one DATA row more
 pub group_push : (group : Contents) (rows : List (List (List ℕ))) (cells : List (List ℕ))
@@ -83,20 +79,3 @@ pub group_done : (old out : List ℕ) (group : Contents) (rows : List Row) (i : 
     → out ≡ old ++ text_of (group_lines (with_rows group (map fields_of (take i rows)))) → out ≡ old ++ text_of (group_lines (with_rows group (map fields_of rows)))
 group_done old out group rows i le e = e ∙ ap (λ (some : List Row). old ++ text_of (group_lines (with_rows group (map fields_of some)))) (take_all i rows le)
 
--- the first group is written as it is
-pub file_one : (group : Contents) → written_file (group ∷ []) ≡ text_of (group_lines group)
-file_one group = refl
-
--- before each other group there is an empty line
-pub lines_push : (first : Contents) (groups : List Contents) (group : Contents) → written_lines (first ∷ groups ++ group ∷ []) ≡ written_lines (first ∷ groups) ++ empty_line ∷ group_lines group
-lines_push first [] group = refl
-lines_push first (next ∷ groups) group =
-    ap (λ (lines : List TextLine). group_lines first ++ empty_line ∷ lines) (lines_push next groups group)
-    ∙ sym (append_assoc (group_lines first) (empty_line ∷ written_lines (next ∷ groups)) (empty_line ∷ group_lines group))
-
-pub file_push : (first : Contents) (groups : List Contents) (group : Contents)
-    → written_file (first ∷ groups ++ group ∷ []) ≡ (written_file (first ∷ groups) ++ line_bytes empty_line) ++ text_of (group_lines group)
-file_push first groups group =
-    ap text_of (lines_push first groups group)
-    ∙ text_append (written_lines (first ∷ groups)) (empty_line ∷ group_lines group)
-    ∙ sym (append_assoc (written_file (first ∷ groups)) (line_bytes empty_line) (text_of (group_lines group)))

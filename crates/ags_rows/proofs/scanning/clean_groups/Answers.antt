@@ -1,10 +1,6 @@
-use Rattle.std.proofs.Common.{List, [], subst, ◌≡◌, Err, ap}
 use Rattle.ags_rows.specs.declared.scanning.RowsError.TheVariants as RowsError
 use Rattle.ags_rows.specs.declared.TheConstants.{READABLE}
-use Rattle.ags_rows.specs.declared.rows.Group.{Group}
 use Rattle.ags_rows.specs.Groups.{Groups}
-use Rattle.ags_rows.specs.Stands.{StandsInGroups}
-use Rattle.ags_rows.specs.Findings.{AreExactly}
 use Rattle.ags_rows.proofs.FewRows.{counted_within}
 use Rattle.ags_rows.proofs.scanning.clean_groups.Goals as goal
 

@@ -1,9 +1,8 @@
-use Rattle.std.proofs.Common.{◌≡◌, Err, ap}
 use Rattle.std.proofs.lemmas.Result.{IfOk-weaker}
 use Rattle.ags_rows.specs.declared.scanning.RowsError.TheVariants as RowsError
 use Rattle.ags_rows.specs.declared.TheConstants.{READABLE}
 use Rattle.ags_rows.specs.Stands.{StandsInLinesLoosely}
-use Rattle.ags_rows.proofs.FirstPhase.{few_rows, found_first, found_later, groups_later}
+use Rattle.ags_rows.proofs.FirstPhase.{few_rows, found_later, groups_later}
 use Rattle.ags_rows.proofs.scanning.Scan.read_loose.Goals as goal
 
 pub read_groups-requires : goal.read_groups-requires
