@@ -78,4 +78,3 @@ group_begun old one two three four group e1 e2 e3 e4 =
 pub group_done : (old out : List ℕ) (group : Contents) (rows : List Row) (i : ℕ) → length rows ≤ i
     → out ≡ old ++ text_of (group_lines (with_rows group (map fields_of (take i rows)))) → out ≡ old ++ text_of (group_lines (with_rows group (map fields_of rows)))
 group_done old out group rows i le e = e ∙ ap (λ (some : List Row). old ++ text_of (group_lines (with_rows group (map fields_of some)))) (take_all i rows le)
-
