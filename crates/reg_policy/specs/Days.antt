@@ -46,7 +46,8 @@ number_in digits = fold (λ n c. 10 * n + (c - zero_digit)) 0 digits
 -- the calendar has the date
 abbrev pub is_date : ℕ → ℕ → ℕ → Bool
 is_date year month day =
-    nat_lt year 10000 && nat_le 1 month && nat_le month 12 && nat_le 1 day && nat_le day (days_in_month (pos year) month)
+    nat_lt year 10000 && nat_le 1 month && nat_le month 12 && nat_le 1 day
+    && nat_le day (days_in_month (pos year) month)
 
 -- the day number of a date, where it has one
 abbrev pub day_number_of : ℕ → ℕ → ℕ → Option ℤ

@@ -111,7 +111,8 @@ is_met same (Some set) asked = same set asked
 -- at some place the row has the heading, and exactly the value
 abbrev pub has_entry : WantedEntry → Facts → Bool
 has_entry entry row =
-    list_any (λ (heading, cell). bytes_eq heading entry.heading && bytes_eq cell entry.value) (zip row.headings row.cells)
+    list_any (λ (heading, cell). bytes_eq heading entry.heading && bytes_eq cell entry.value)
+    (zip row.headings row.cells)
 
 -- A request without a row is met only by a rule that sets nothing of a row.
 abbrev pub is_row_met : Rule → Option Facts → Bool
