@@ -11,8 +11,26 @@ use Rattle.std.specs.List.{list_any, zip}
 use Rattle.std.specs.Str.{bytes_eq}
 use denote.Enum.Bare.{same_true, sameb, true_same}
 use Rattle.reg_policy.specs.contracts.subject.Verb.{the_type as the_verbs}
-use Rattle.reg_policy.specs.Decision.{Question, Facts, IsFirstMatch, HasEntry, IsInPeriod, Matches, Meets, MeetsEntry, MeetsRow, NotAfter, NotBefore,
-    decision_of, effect_of, has_entry, is_met, is_row_met, is_in_period, matches}
+use Rattle.reg_policy.specs.Decision.{
+  Question,
+  Facts,
+  IsFirstMatch,
+  HasEntry,
+  IsInPeriod,
+  Matches,
+  Meets,
+  MeetsEntry,
+  MeetsRow,
+  NotAfter,
+  NotBefore,
+  decision_of,
+  effect_of,
+  has_entry,
+  is_met,
+  is_row_met,
+  is_in_period,
+  matches,
+}
 use Rattle.reg_policy.specs.declared.period.Period.{Period}
 use Rattle.reg_policy.specs.declared.rule.WantedEntry.{WantedEntry}
 use Rattle.reg_policy.specs.declared.rule.Rule.{Rule}

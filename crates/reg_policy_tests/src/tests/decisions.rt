@@ -259,7 +259,8 @@ const ANY_DAY: &str = "2024-05-01";
 
 /// Whether a request on a day is decided as wanted.
 fn is_decided(alloc: Global, policy: &Policy, request: &Request, day: &str) -> bool {
-    let (Ok(asker), Some(day)) = (asker_of(alloc, request.firm, request.role), Day::read(day)) else {
+    let (Ok(asker), Some(day)) = (asker_of(alloc, request.firm, request.role), Day::read(day))
+    else {
         return false;
     };
     let subject = Subject::of_request(&asker.caller, &asker.project, request.verb, day);
@@ -484,7 +485,10 @@ fn is_extract_decided(alloc: Global, keys: &str, day: &str, want: Decision) -> b
 #[test]
 fn extracts_decided_on_days(rt: HostRuntime) {
     for (keys, day, want) in &EXTRACTS_ON_DAYS {
-        assert!(rt; is_extract_decided(rt.alloc(), keys, day, *want), "{keys}{day}");
+        assert!(rt;
+            is_extract_decided(rt.alloc(), keys, day, *want),
+            "{keys}{day}"
+        );
     }
 }
 

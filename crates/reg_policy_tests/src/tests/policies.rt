@@ -204,8 +204,14 @@ const BAD_DAYS: [(&str, PolicyError); 18] = [
     ("until = true\n", PolicyError::BadValue),
     ("from = [\"2024-06-01\"]\n", PolicyError::BadValue),
     ("from.day = \"2024-06-01\"\n", PolicyError::BadValue),
-    ("from = \"2024-06-01\"\nuntil = \"2024-05-31\"\n", PolicyError::BadValue),
-    ("until = \"2024-05-31\"\nfrom = \"2024-06-01\"\n", PolicyError::BadValue),
+    (
+        "from = \"2024-06-01\"\nuntil = \"2024-05-31\"\n",
+        PolicyError::BadValue,
+    ),
+    (
+        "until = \"2024-05-31\"\nfrom = \"2024-06-01\"\n",
+        PolicyError::BadValue,
+    ),
     ("from = \"2024-06-01\"\nuntil = 3\n", PolicyError::BadValue),
     ("From = \"2024-06-01\"\n", PolicyError::UnknownKey),
     ("from = \"*\"\ncolour = 1\n", PolicyError::UnknownKey),
