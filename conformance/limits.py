@@ -307,7 +307,7 @@ def thousand(place):
     """A thousand connections one after the other."""
     rules, by = machine.read_policy(machine.WITHDRAWING), machine.read_callers(machine.CALLERS)
     register = machine.Register()
-    register.deposit(rules, by["t-delta"], "N1", DAY, filled(machine.FILE_A, LIMIT))
+    register.deposit(rules, by["t-delta"], "N1", DAY, filled(machine.FILE_A, LIMIT), DAY)
     post = head(b"/v1/projects/N1/deposits", [b"Content-Length: 1048"], b"POST") + machine.FILE_B
     asked = [LISTING, head(b"/v1/projects/N1/deposits/1", []), post, head(b"/v1/projects/N1/deposits/2?groups=LOCA", []), post[:700], b"GET", b"", head(b"/v1/x", []), head(b"/v1/projects/N1/check", [b"Content-Length: 2"], b"POST") + b"x\n", padded(8193)]
     asked.append(head(b"/v1/projects/N1/deposits/2", [], b"DELETE"))
