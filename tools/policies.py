@@ -1,7 +1,7 @@
 """What a policy says and what it shows, told before anything is served: the refusals and warnings of `bin/policy check`, and the rows of `bin/policy see`.
 
 The language of rules is that of docs/COMMANDS.md. Decisions are those of the reference model (conformance/machine.py); rows and their steps are looked up by key
-here, so that a file of 4 MB is told in seconds."""
+here, so that a long file is told in seconds."""
 import collections
 import difflib
 import os
