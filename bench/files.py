@@ -81,10 +81,15 @@ def own_dict(rows):
     return group("DICT", ["DICT_TYPE", "DICT_GRP", "DICT_HDNG", "DICT_STAT", "DICT_PGRP"], [""] * 5, ["X"] * 5, rows)
 
 
-def steps(size):
-    """A group of the file's own DICT whose parent has none of its keys: every row of the one is a parent of every row of the other."""
+def of_every_hole(count):
+    """A group of the file's own DICT whose parent, LOCA, has none of its keys: every row of LOCA is a parent of every row of it."""
     own = own_dict([["GROUP", "ABCD", "", "", "LOCA"], ["HEADING", "ABCD", "ABCD_ID", "KEY", ""]])
-    return largest(size, lambda count: FRONT + holes(count) + group("ABCD", ["ABCD_ID"], [""], ["ID"], ([f"{n}"] for n in range(count))) + own)
+    return group("ABCD", ["ABCD_ID"], [""], ["ID"], ([f"{n}"] for n in range(count))) + own
+
+
+def steps(size):
+    """As many rows of LOCA as of a group of which each is a parent."""
+    return largest(size, lambda count: FRONT + holes(count) + of_every_hole(count))
 
 
 def own_dictionary(name, parent, headings, status):

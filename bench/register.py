@@ -73,6 +73,31 @@ def ask(port, requests):
     return time.monotonic() - begun, reply
 
 
+def by_words(place, data):
+    """Seconds, MB and output of the deposit of a file, of a listing of another project, which opens the register, of a listing, and of an extract."""
+    with open(place.path("file"), "wb") as file:
+        file.write(data)
+    other = ["N2" if word == "N1" else word for word in ASKING]
+    return [place.run(*words) for words in (["deposit", *ASKING, "file"], ["list", *other], ["list", *ASKING], ["extract", *ASKING, "1"])]
+
+
+def checked_there(place, data):
+    """Status, seconds, bytes of the reply and greatest resident memory in MB of a check over the socket."""
+    port, first, count = bodies.free_port(), b"", 0
+    with tempfile.NamedTemporaryFile() as note:
+        words = ["/usr/bin/time", "-q", "-f", "%M", "-o", note.name, place.program, "serve", *WORDS, "--port", str(port), "--connections", "1"]
+        serving = subprocess.Popen(words, cwd=place.folder, stdout=subprocess.PIPE, preexec_fn=place.limit)
+        serving.stdout.readline()
+        begun = time.monotonic()
+        with socket.create_connection(("127.0.0.1", port)) as connection:
+            connection.sendall(post(data).replace(b"/deposits", b"/check", 1))
+            while piece := connection.recv(1 << 20):
+                first, count = first or piece, count + len(piece)
+        taken = time.monotonic() - begun
+        serving.communicate()
+        return first[9:12].decode() or "fault", taken, count, int(note.read().split()[-1]) / 1024
+
+
 def built_plainly(folder):
     """The server in plain Rust, or None where there is no rustc."""
     if not shutil.which("rustc"):
@@ -197,12 +222,8 @@ def measure(program, size, limit):
     for make in (files.flat, files.deep, files.ring):
         place = Place(program, folder, limit)
         data = make(size)
-        with open(place.path("file"), "wb") as file:
-            file.write(data)
-        deposited, to_deposit, _ = place.run("deposit", *ASKING, "file")
+        (deposited, to_deposit, _), _, (listed, to_list, _), (drawn, to_draw, text) = by_words(place, data)
         held = place.bytes_held()
-        listed, to_list, _ = place.run("list", *ASKING)
-        drawn, to_draw, text = place.run("extract", *ASKING, "1")
         written, read, beside = by_sqlite(place)
         posted, got = socket_times(Place(program, folder, limit), data)
         note = "" if len(text) > size // 2 else " (not whole)"

@@ -21,6 +21,8 @@ import reference
 
 STATES = ["FINAL", "PRELIM", "HELD"]
 DAYS = ["2024-05-31", "2024-06-01", "2024-06-02"]
+# days of rules: those that requests have, and one beside them
+RULE_DAYS = [*DAYS, "2024-06-03"]
 FIRMS = ["Delta", "Foxtrot", "Echo"]
 
 
@@ -81,8 +83,14 @@ def clean_body(chance):
             return text
 
 
+def rule_days(chance):
+    """The lines of a rule that set its first day, its last one, or both."""
+    first, last = sorted(chance.choices(RULE_DAYS, k=2))
+    return "".join(chance.choice([[f'from = "{first}"\n'], [f'until = "{last}"\n'], [f'from = "{first}"\n', f'until = "{last}"\n']]))
+
+
 def policy(chance):
-    """The text of a policy that mostly lets requests through and hides some rows."""
+    """The text of a policy that mostly lets requests through and hides some rows, by rules some of which have days."""
     rules = ['verb = "deposit"\nrole = "contractor"', 'verb = "check"', 'verb = "list"', 'verb = "extract"']
     if chance.random() < 0.6:
         rules.append('verb = "withdraw"' + chance.choice(["", '\nrole = "contractor"']))
@@ -98,7 +106,8 @@ def policy(chance):
     for sight in chance.sample(sights, chance.randrange(4)):
         out.append(('verb = "see"\n' + sight, "permit" if sight == 'owner = "own"' else "deny"))
     out.append(('verb = "see"', "permit" if chance.random() < 0.9 else "deny"))
-    return "".join(f'[[rule]]\nnumber = {10 * n}\neffect = "{effect}"\n{keys}\n\n' for n, (keys, effect) in enumerate(out, 1))
+    days = [rule_days(chance) if chance.random() < 0.2 else "" for _ in out]
+    return "".join(f'[[rule]]\nnumber = {10 * n}\neffect = "{effect}"\n{keys}\n{more}\n' for n, ((keys, effect), more) in enumerate(zip(out, days), 1))
 
 
 def caller_of(firm):

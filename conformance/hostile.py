@@ -38,9 +38,9 @@ DAYS = ["2024-05-31", "2024-06-01", "2024-06-02"]
 TOKENS = re.compile(rb'"[^"\r\n]*"|[A-Za-z0-9_.%-]+')
 ODD_BYTES = b'\x00\x01\t\n\r "\'\\,:;=[]{}#/?&%+-_|0aA~\x7f\x80\xbf\xc3\xff'
 
-TOML_WORDS = rb"""rule caller number effect firm role project verb group owner embargo heading value token "permit" "deny" "*" "see" "list" "extract" "check"
+TOML_WORDS = rb"""rule caller number effect firm role project verb group owner embargo heading value from until token "permit" "deny" "*" "see" "list" "extract" "check"
 "deposit" "withdraw" "own" "other" "past" "running" "Delta" "Echo" "LOCA" "SAMP" "LOCA_STAT" "PRELIM" "S1" "N1"
-"contractor" "consultant" "t-delta" "t-echo" '' ''' [[rule]] [rule]
+"contractor" "consultant" "2024-05-31" "2024-06-01" "2024-06-02" "2024-02-30" "9999-12-31" "t-delta" "t-echo" '' ''' [[rule]] [rule]
 [[caller]] [rule.x] [[rule.x]] [[ ]] [ ] { } {} = , . # 1 0 -1 9999 10000 0x10 0o17 0b1 1_0 +7 007 1e3 1.5 inf nan true false 2024-06-01 2024-06-01T10:00:00Z 10:00:00
 9223372036854775807 9223372036854775808 "\u0041" "\U00110000" "\ud800" "\x41" "\e" "\q" \" rule.x "rule" 'number' """.split() + [b'"""', b'"a\tb"', b"\r\n", b"\n", b"\xef\xbb\xbf", b'"' + b"x" * 33 + b'"', b" = "]
 AGS_WORDS = [*compare.WORDS, *rb"""GROUP HEADING UNIT TYPE DATA PROJ TRAN ABBR DICT FILE LNMC "KEY+REQUIRED" "REQUIRED" "OTHER" "DICT_TYPE" "DICT_GRP" "DICT_HDNG" "DICT_STAT" "DICT_PGRP" "PROJ_ID"
@@ -48,8 +48,8 @@ AGS_WORDS = [*compare.WORDS, *rb"""GROUP HEADING UNIT TYPE DATA PROJ TRAN ABBR D
 "2024-02-30" "24:00" "1.5E+3" "-0.00" "+" "|" "PROJ|P7" "-" "F1" "a""b" """.split(), b" , ", b"\r\n\r\n", b"\n", b"\r", b"\xef\xbb\xbf", b'"",""', b'"DATA","BH1"']
 HEAD_WORDS = rb"""GET POST PUT HEAD DELETE HTTP/1.1 HTTP/1.0 HTTP/1.2 HTTP/2 HTTP/1.1x /v1/projects/N1/check /v1/projects/N1/deposits /v1/projects/N1/deposits/1 /v1/projects//deposits
 /v1/projects/N1/deposits/ ?groups=LOCA ?groups= ?groups ?embargo=2024-06-01 ?embargo= & ? % %2C %67 %zz %00 %ff # * // Host: Authorization: authorization: AUTHORIZATION: Bearer bearer Basic
-t-delta t-echo t-gamma Content-Length: content-length: Transfer-Encoding: chunked 0 00 007 543 4194304 4194305 9999999999 99999999999 18446744073709551616 -1 +1 1e3 0x1f N1 N2 -_
-Expect: 100-continue X: :""".split() + [b"\r\n", b"\n", b"\r", b"\r\n\r\n", b"\n\n", b" ", b"\t", b"\r\n ", b"\r\nX: " + b"y" * 200, b"\r\nAuthorization: Bearer t-delta", b"\r\nContent-Length: 0"]
+t-delta t-echo t-gamma Content-Length: content-length: Transfer-Encoding: chunked 0 00 007 543 9999999999 99999999999 18446744073709551616 -1 +1 1e3 0x1f N1 N2 -_
+Expect: 100-continue X: :""".split() + [b"\r\n", b"\n", b"\r", b"\r\n\r\n", b"\n\n", b" ", b"\t", b"\r\n ", b"\r\nX: " + b"y" * 200, b"\r\nAuthorization: Bearer t-delta", b"\r\nContent-Length: 0", *(b"%d" % (machine.LIMIT + n) for n in (0, 1))]
 POLICIES = [
     'rule = [{number = 1, effect = "permit"}, {number = 2, effect = "deny", verb = "see", group = "LOCA"}]\n', "rule = []\n",
     "[[rule]]\nnumber = 0x1F\neffect = 'permit'\n[[\"rule\"]]\nnumber = 1_000\n'effect' = \"\"\"deny\"\"\"\n",

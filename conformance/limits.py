@@ -79,10 +79,10 @@ def lengths(place):
     place.with_file("a dictionary at the limit", filled(place.mini, LIMIT), ["check", "--dictionary=given", "a"], CLEAN)
     place.with_file("a dictionary one above it", filled(place.mini, LIMIT + 1), ["check", "--dictionary=given", "a"], refused("dictionary"))
     place.with_file("`init` with a dictionary one above it", filled(place.mini, LIMIT + 1), ["init", "--store=none", "--dictionary=given"], refused("dictionary"))
-    entries = b"".join(machine.line_of(b"DATA", [b"HEADING", b"LOCA", b"LOCA_%d" % n, b"OTHER", b""]) for n in range(10000, 88000))
-    place.with_file("a dictionary of 78,000 headings of one group", place.mini + entries, ["check", "--dictionary=given", "a"], CLEAN)
-    groups = b"".join(machine.line_of(b"DATA", [b"GROUP", b"%d" % n, b"", b"", b"LOCA"]) for n in range(10000, 99000))
-    place.with_file("a dictionary of 89,000 groups", place.mini + groups, ["check", "--dictionary=given", "a"], CLEAN)
+    for name, entry in (("headings of one group", [b"HEADING", b"LOCA", b"LOCA_%d", b"OTHER", b""]), ("groups", [b"GROUP", b"%d", b"", b"", b"LOCA"])):
+        line = machine.line_of(b"DATA", entry)
+        count = (LIMIT - len(place.mini)) // len(line % 100000)
+        place.with_file(f"a dictionary of {count:,} {name}", place.mini + b"".join(line % n for n in range(100000, 100000 + count)), ["check", "--dictionary=given", "a"], CLEAN)
     place.with_file("a deposit one above the limit", filled(a, LIMIT + 1), ["deposit", "--token=t-delta", *ASKING, "given"], (b"too large\n", b"", 4))
     place.with_file("the same, which the policy denies", filled(a, LIMIT + 1), ["deposit", "--token=t-echo", *ASKING, "given"], (b"denied 0\n", b"", 2))
     place.with_file("a deposit at the limit", filled(a, LIMIT), ["deposit", "--token=t-delta", *ASKING, "given"], (f"receipt 1 {DAY}\n".encode(), b"", 0))
@@ -121,8 +121,8 @@ def policies(place):
         ("a policy at the limit", filled(machine.POLICY.encode() + b"#", LIMIT), listed), ("a policy one above it", filled(machine.POLICY.encode() + b"#", LIMIT + 1), refused("policy")),
         ("9,999 rules", rules(range(1, 10000)), listed), ("10,000 rules", rules(range(1, 10001)), refused("policy")), ("10,000 rules, the last of them twice", rules([*range(1, 10000), 9999]), refused("policy")),
         ("9,998 long rules that match nothing, and one", rules(range(1, 9999), never) + rules([9999]), listed), ("9,999 inline rules", b"rule = [" + b", ".join(b'{number = %d, effect = "permit"}' % n for n in range(1, 10000)) + b"]\n", listed),
-        ("95,000 rules with one number", rules([1] * 95000), refused("policy")), ("no rules", b"", (b"denied 0\n", b"", 2)), ("460,000 empty rules", b"[[rule]]\n" * 460000, refused("policy")),
-        ("a value of 4 MB", rules([1], 'heading = "LOCA_ID"\nvalue = "' + "x" * (LIMIT - 100) + '"\n'), (b"denied 0\n", b"", 2)), ("a number of a million digits", b"[[rule]]\nnumber = " + b"1" * 1000000 + b"\n", refused("policy")),
+        ("rules with one number without end", rules([1] * (LIMIT // len(rules([1])))), refused("policy")), ("no rules", b"", (b"denied 0\n", b"", 2)), ("empty rules without end", b"[[rule]]\n" * (LIMIT // 9), refused("policy")),
+        ("a value without end", rules([1], 'heading = "LOCA_ID"\nvalue = "' + "x" * (LIMIT - 100) + '"\n'), (b"denied 0\n", b"", 2)), ("a number of a million digits", b"[[rule]]\nnumber = " + b"1" * 1000000 + b"\n", refused("policy")),
         ("100,000 keys of one table", b"".join(b"k%d = 1\n" % n for n in range(100000)), refused("policy")), ("numbers 1 and 9999", rules([1, 9999]), listed), ("number 0", rules([0]), refused("policy")),
         ("a name of 32", rules([1]) + b'firm = "' + b"x" * 32 + b'"\n', (b"denied 0\n", b"", 2)), ("a name of 33", rules([1]) + b'firm = "' + b"x" * 33 + b'"\n', refused("policy")),
         ("a group of 4", rules([1]) + b'verb = "list"\ngroup = "ABCD"\n', (b"denied 0\n", b"", 2)), ("a group of 5", rules([1]) + b'group = "ABCDE"\n', refused("policy")),
@@ -134,7 +134,7 @@ def policies(place):
 def nested(place):
     """Texts whose values, keys or headers stand within each other: whatever the depth, a policy of that form is refused."""
     asking = ["list", "--store=register", "--callers=callers", "--project=N1", "--day=" + DAY, "--token=t-delta", "--policy=given"]
-    for depth in (79, 80, 81, 1000, 10000, 100000, 600000):
+    for depth in (79, 80, 81, 1000, 10000, 100000, LIMIT // 7):
         forms = [("arrays", b"rule = " + b"[" * depth + b"]" * depth), ("arrays without an end", b"rule = " + b"[" * depth), ("inline tables", b"rule = " + b"{a=" * depth + b"1" + b"}" * depth), ("inline tables in arrays", b"rule = " + b"[{a=" * depth + b"1" + b"}]" * depth),
                  ("a dotted key", b"rule" + b".a" * depth + b" = 1"), ("a header", b"[rule" + b".a" * depth + b"]"), ("a header of an array", b"[[rule" + b".a" * depth + b"]]"), ("dotted keys in inline tables", b"rule = " + b"{a.a.a=" * depth + b"1" + b"}" * depth),
                  ("a value of a rule", b'[[rule]]\nnumber = 1\neffect = "permit"\nfirm = ' + b"[" * depth + b"]" * depth), ("headers, each longer", b"".join(b"[rule" + b".a" * n + b"]\n" for n in range(1, min(depth, 1000)))),
@@ -151,13 +151,13 @@ def callers(place):
 
     def many(tokens):
         return b"caller = [" + b",".join(b'{token="%s",firm="F",role="r"}' % token for token in tokens) + b"]\n"
-    numbered = [b"t%d" % n for n in range(100000)]
+    numbered = [b"t%d" % n for n in range(400000)]
     for name, data, token, want in [
-        ("100,000 callers, the first", many(numbered), "t0", listed), ("100,000 callers, the last", many(numbered), "t99999", listed), ("100,000 callers, none", many(numbered), "t100000", refused("token")),
-        ("100,000 callers, the last as the first", many([*numbered[:-1], b"t0"]), "t0", refused("callers")), ("100,000 callers, all the same", many([b"t"] * 100000), "t", refused("callers")),
-        ("100,000 callers from the last to the first", many(numbered[::-1]), "t7", listed), ("80,000 tables of callers", b"".join(b'[[caller]]\ntoken="t%d"\nfirm="F"\nrole="r"\n' % n for n in range(80000)), "t79999", listed),
+        ("400,000 callers, the first", many(numbered), "t0", listed), ("400,000 callers, the last", many(numbered), "t399999", listed), ("400,000 callers, none", many(numbered), "t400000", refused("token")),
+        ("400,000 callers, the last as the first", many([*numbered[:-1], b"t0"]), "t0", refused("callers")), ("400,000 callers, all the same", many([b"t"] * 400000), "t", refused("callers")),
+        ("400,000 callers from the last to the first", many(numbered[::-1]), "t7", listed), ("320,000 tables of callers", b"".join(b'[[caller]]\ntoken="t%d"\nfirm="F"\nrole="r"\n' % n for n in range(320000)), "t319999", listed),
         ("callers at the limit", filled(machine.CALLERS.encode() + b"#", LIMIT), "t-delta", listed), ("callers one above it", filled(machine.CALLERS.encode() + b"#", LIMIT + 1), "t-delta", refused("callers")),
-        ("a token of 64", many([b"~" * 64]), "~" * 64, listed), ("a token of 65", many([b"~" * 65]), "~" * 65, refused("callers")), ("tokens that share 60 characters", many([b"x" * 55 + b"%05d" % n for n in range(45000)]), "x" * 55 + "44999", listed),
+        ("a token of 64", many([b"~" * 64]), "~" * 64, listed), ("a token of 65", many([b"~" * 65]), "~" * 65, refused("callers")), ("tokens that share 60 characters", many([b"x" * 55 + b"%06d" % n for n in range(175000)]), "x" * 55 + "174999", listed),
     ]:
         place.with_file(name, data, [*asking, "--token=" + token], want)
 
@@ -208,11 +208,11 @@ def heads(place):
     yield "32 fields", head(b"/v1/projects/N1/deposits", numbered[:31]), 200, listing
     yield "33 fields", head(b"/v1/projects/N1/deposits", numbered[:32]), *bad
     yield "a head of 1 MB", padded(1 << 20), *bad
-    yield "4 MB without a line end", b"x" * LIMIT, *bad
-    yield "4 MB of line ends", b"\r\n" * (LIMIT // 2), *bad
+    yield "no line end for as long as a body may be", b"x" * LIMIT, *bad
+    yield "line ends for as long", b"\r\n" * (LIMIT // 2), *bad
     yield "8,100 bytes of line ends before a head", b"\r\n" * 4050 + LISTING, 200, listing
     yield "zeros", bytes(LIMIT), *bad
-    yield "a field of 4 MB", head(b"/v1/projects/N1/deposits", [b"X: " + b"y" * LIMIT]), *bad
+    yield "a field as long as a body may be", head(b"/v1/projects/N1/deposits", [b"X: " + b"y" * LIMIT]), *bad
     yield "1,500 groups", head(b"/v1/projects/N1/deposits/1?groups=" + b",".join([b"LOCA"] * 1500), []), 200, machine.reply(("text", machine.FILE_A))[1]
     yield "2,500 empty pairs", head(b"/v1/projects/N1/deposits?" + b"&" * 2500, []), 200, listing
     yield "2,500 percent signs", head(b"/v1/projects/N1/deposits?" + b"%41" * 2500, []), *refusal(400, "bad parameter")
@@ -222,19 +222,21 @@ def heads(place):
         yield f"a check of {length} bytes", head(check, [b"Content-Length: %d" % length], b"POST") + filled(machine.FILE_A, length), *want
         yield f"a deposit of {length} bytes", head(b"/v1/projects/N1/deposits", [b"Content-Length: %d" % length], b"POST") + filled(machine.FILE_A, length), want[0], \
             machine.reply(("receipt", 1, DAY))[1] if want[0] == 200 else want[1]
-    yield "a check with 4,194,304 findings", head(check, [b"Content-Length: %d" % LIMIT], b"POST") + b"x\n" * (LIMIT // 2), *many_findings(LIMIT // 2)
-    yield "a length of 4,194,305 and no body", head(check, [b"Content-Length: 4194305"], b"POST"), *refusal(413, "too large")
+    # bench/run asks for four times as many, a reply that this script has no room for
+    yield f"a check with {LIMIT // 4:,} findings", head(check, [b"Content-Length: %d" % (LIMIT // 4)], b"POST") + b"x\n" * (LIMIT // 8), *many_findings(LIMIT // 8)
+    yield "the greatest length and no body", head(check, [b"Content-Length: %d" % LIMIT], b"POST"), *refusal(400, "short body")
+    yield "a length one above it and no body", head(check, [b"Content-Length: %d" % (LIMIT + 1)], b"POST"), *refusal(413, "too large")
     yield "a length of 9,999,999,999", head(check, [b"Content-Length: 9999999999"], b"POST"), *refusal(413, "too large")
     yield "a length of eleven digits", head(check, [b"Content-Length: 00000000001"], b"POST"), *refusal(400, "bad length")
     yield "a body one byte short", head(check, [b"Content-Length: %d" % LIMIT], b"POST") + filled(machine.FILE_A, LIMIT - 1), *refusal(400, "short body")
     for name, number, fields, more, want in [
-        ("4 MB behind it", b"999999", [b"Content-Length: %d" % LIMIT], b"x" * LIMIT, refusal(404, "unknown")),
+        ("the most bytes behind it", b"999999", [b"Content-Length: %d" % LIMIT], b"x" * LIMIT, refusal(404, "unknown")),
         ("a length of 9,999,999,999", b"999999", [b"Content-Length: 9999999999"], b"", refusal(404, "unknown")),
         ("a number of seven digits", b"1000000", [], b"", refusal(400, "bad parameter")),
         ("2,500 percent signs", b"1?" + b"%41" * 2500, [], b"", refusal(400, "bad parameter")),
     ]:
         yield f"a withdrawal with {name}", head(b"/v1/projects/N1/deposits/" + number, fields, b"DELETE") + more, *want
-    yield "a body with 4 MB behind it", head(check, [b"Content-Length: 543"], b"POST") + filled(machine.FILE_A, LIMIT), *clean
+    yield "a body with the most bytes behind it", head(check, [b"Content-Length: 543"], b"POST") + filled(machine.FILE_A, LIMIT), *clean
 
 
 def served(place):
@@ -307,7 +309,7 @@ def thousand(place):
     """A thousand connections one after the other."""
     rules, by = machine.read_policy(machine.WITHDRAWING), machine.read_callers(machine.CALLERS)
     register = machine.Register()
-    register.deposit(rules, by["t-delta"], "N1", DAY, filled(machine.FILE_A, LIMIT))
+    register.deposit(rules, by["t-delta"], "N1", DAY, filled(machine.FILE_A, LIMIT), DAY)
     post = head(b"/v1/projects/N1/deposits", [b"Content-Length: 1048"], b"POST") + machine.FILE_B
     asked = [LISTING, head(b"/v1/projects/N1/deposits/1", []), post, head(b"/v1/projects/N1/deposits/2?groups=LOCA", []), post[:700], b"GET", b"", head(b"/v1/x", []), head(b"/v1/projects/N1/check", [b"Content-Length: 2"], b"POST") + b"x\n", padded(8193)]
     asked.append(head(b"/v1/projects/N1/deposits/2", [], b"DELETE"))

@@ -19,7 +19,7 @@ except ImportError:  # a Python before 3.11: what reads no policy and no callers
 import urllib.parse
 import reference
 
-LIMIT = 4194304
+LIMIT = 16_777_216  # bytes of a file, a policy, callers, a dictionary, and a body over HTTP; the scripts here take it from this place
 MOST = 999999
 LAST_DAY = "9999-12-31"
 FORMAT = 2  # of a register that is made; one of format 1 has no marks
@@ -37,7 +37,7 @@ def is_name(text):
 
 def day_of(text):
     """The day that a text `yyyy-mm-dd` names, from 1970-01-01 on, as that text, or None. Days compare as their texts."""
-    if not re.fullmatch(r"[0-9]{4}-[0-9]{2}-[0-9]{2}", text) or text < "1970-01-01":
+    if not isinstance(text, str) or not re.fullmatch(r"[0-9]{4}-[0-9]{2}-[0-9]{2}", text) or text < "1970-01-01":
         return None
     try:
         datetime.date.fromisoformat(text)
@@ -86,11 +86,12 @@ RULE_VALUES = {
     "verb": is_one_of(*VERBS),
     "owner": is_one_of("own", "other"), "embargo": is_one_of("past", "running"),
 }
+DAY_KEYS = ("from", "until")
 
 
 def read_policy(text):
     """The rules of a policy, each with the keys that it sets."""
-    items = tables_under(document(text), "rule", {"number", "effect", "heading", "value", *RULE_VALUES})
+    items = tables_under(document(text), "rule", {"number", "effect", "heading", "value", *DAY_KEYS, *RULE_VALUES})
     rules = []
     for item in items:
         number = item.get("number")
@@ -99,6 +100,9 @@ def read_policy(text):
         for key, is_value in RULE_VALUES.items():
             if key in item and item[key] != "*" and not is_value(item[key]):
                 raise Refused("BadValue")
+        days = [item[key] for key in DAY_KEYS if key in item]
+        if not all(map(day_of, days)) or days != sorted(days):
+            raise Refused("BadValue")
         if ("heading" in item) != ("value" in item):
             raise Refused("BadValue")
         if "heading" in item and not (isinstance(item["heading"], str) and re.fullmatch(r"[A-Z0-9_]{1,9}", item["heading"]) and isinstance(item["value"], str)):
@@ -109,8 +113,10 @@ def read_policy(text):
     return rules
 
 
-def matches(rule, caller, project, verb, row):
-    """Whether a rule matches; row is None for a request, else what is known of a row."""
+def matches(rule, caller, project, verb, day, row):
+    """Whether a rule matches on the day of the request; row is None for a request, else what is known of a row."""
+    if day < rule.get("from", day) or day > rule.get("until", day):
+        return False
     asked = {"firm": caller["firm"], "role": caller["role"], "project": project, "verb": verb}
     if any(key in rule and rule[key] != value for key, value in asked.items()):
         return False
@@ -129,10 +135,10 @@ def matches(rule, caller, project, verb, row):
     return True
 
 
-def decide(rules, caller, project, verb, row=None):
+def decide(rules, caller, project, verb, day, row=None):
     """("permit", n) or ("deny", n) of the first rule that matches; ("deny", 0) where none does."""
     for rule in rules:
-        if matches(rule, caller, project, verb, row):
+        if matches(rule, caller, project, verb, day, row):
             return rule["effect"], rule["number"]
     return "deny", 0
 
@@ -220,7 +226,7 @@ def is_permitted(rules, caller, deposit, day, g, row):
     if g.name in reference.DEFINITIONS:
         return True
     facts = {"group": g.name, "own": deposit["firm"] == caller["firm"], "past": day >= deposit["embargo"], "headings": g.headings, "cells": row.items}
-    return decide(rules, caller, deposit["project"], "see", facts)[0] == "permit"
+    return decide(rules, caller, deposit["project"], "see", day, facts)[0] == "permit"
 
 
 def shown_rows(rules, caller, deposit, day, file):
@@ -277,8 +283,8 @@ class Register:
         found = reference.findings(data, 5, self.standard)
         return ("findings", found) if found else None
 
-    def deposit(self, rules, caller, project, embargo, data):
-        effect, number = decide(rules, caller, project, "deposit")
+    def deposit(self, rules, caller, project, embargo, data, day):
+        effect, number = decide(rules, caller, project, "deposit", day)
         if effect == "deny":
             return "denied", number
         refused = self.checked(data)
@@ -292,14 +298,14 @@ class Register:
         self.deposits.append(unmarked(caller["firm"], project, embargo, data))
         return "receipt", len(self.deposits), embargo
 
-    def check(self, rules, caller, project, data):
-        effect, number = decide(rules, caller, project, "check")
+    def check(self, rules, caller, project, data, day):
+        effect, number = decide(rules, caller, project, "check", day)
         if effect == "deny":
             return "denied", number
         return self.checked(data) or ("clean",)
 
     def list(self, rules, caller, project, day):
-        effect, number = decide(rules, caller, project, "list")
+        effect, number = decide(rules, caller, project, "list", day)
         if effect == "deny":
             return "denied", number
         of_project = [(n, held) for n, held in enumerate(self.deposits, 1) if held["project"] == project]
@@ -307,7 +313,7 @@ class Register:
                            if not held["withdrawn"] and self.is_seen(rules, caller, held, day)]
 
     def extract(self, rules, caller, project, number, groups, day):
-        effect, rule = decide(rules, caller, project, "extract")
+        effect, rule = decide(rules, caller, project, "extract", day)
         if effect == "deny":
             return "denied", rule
         if not 1 <= number <= len(self.deposits) or self.deposits[number - 1]["project"] != project:
@@ -318,8 +324,8 @@ class Register:
         file = self.file_of(held["bytes"])
         return "text", extract_text(file, shown_rows(rules, caller, held, day, file), groups)
 
-    def withdraw(self, rules, caller, project, number):
-        effect, rule = decide(rules, caller, project, "withdraw")
+    def withdraw(self, rules, caller, project, number, day):
+        effect, rule = decide(rules, caller, project, "withdraw", day)
         if effect == "deny":
             return "denied", rule
         if not 1 <= number <= len(self.deposits):
@@ -462,13 +468,13 @@ def serve(register, rules, callers, day, data):
         return error(400, "short body")
     caller, body = callers[token], rest[:length]
     if kind == "check":
-        return reply(register.check(rules, caller, project, body))
+        return reply(register.check(rules, caller, project, body, day))
     if kind == "deposit":
-        return reply(register.deposit(rules, caller, project, value or day, body))
+        return reply(register.deposit(rules, caller, project, value or day, body, day))
     if kind == "list":
         return reply(register.list(rules, caller, project, day))
     if kind == "withdraw":
-        return reply(register.withdraw(rules, caller, project, number_in(number.decode())))
+        return reply(register.withdraw(rules, caller, project, number_in(number.decode()), day))
     return reply(register.extract(rules, caller, project, number_in(number.decode()), groups, day))
 
 
@@ -670,11 +676,11 @@ class Computer:
         body = self.read(places[0]) if command == "deposit" else None
         register, caller, project = self.store(options["store"]), callers[options["token"]], options["project"]
         if command == "deposit":
-            return printed(register.deposit(rules, caller, project, embargo, body))
+            return printed(register.deposit(rules, caller, project, embargo, body, day))
         if command == "list":
             return printed(register.list(rules, caller, project, day))
         if command == "withdraw":
-            return printed(register.withdraw(rules, caller, project, number))
+            return printed(register.withdraw(rules, caller, project, number, day))
         return printed(register.extract(rules, caller, project, number, groups, day))
 
     def check(self, data, places):
@@ -688,6 +694,9 @@ class Computer:
 
 
 # ---- worked examples
+
+SENT = "2024-05-01"  # the day on which their deposits are sent
+
 
 def spelled(text):
     return "".join(line + "\r\n" for line in text.strip("\n").split("\n")).encode()
@@ -887,23 +896,23 @@ def examples():
     yield "lengths of the files", (len(FILE_A), len(FILE_B)), (543, 1048)
 
     register = Register()
-    yield "deposit by Gamma", register.deposit(rules, gamma, "N1", june, FILE_A), ("denied", 5)
-    yield "deposit by Echo", register.deposit(rules, echo, "N1", june, FILE_A), ("denied", 0)
-    yield "deposit of A", register.deposit(rules, delta, "N1", june, FILE_A), ("receipt", 1, june)
-    yield "the same again", register.deposit(rules, delta, "N1", "2030-01-01", FILE_A), ("receipt", 1, june)
-    yield "by Foxtrot", register.deposit(rules, foxtrot, "N1", june, FILE_A), ("receipt", 2, june)
-    yield "the greatest body", register.deposit(rules, delta, "N1", june, FILE_A + b" " * 4193761), ("receipt", 3, june)
-    yield "one space more", register.deposit(rules, delta, "N1", june, FILE_A + b" " * 4193762), ("too large",)
+    yield "deposit by Gamma", register.deposit(rules, gamma, "N1", june, FILE_A, SENT), ("denied", 5)
+    yield "deposit by Echo", register.deposit(rules, echo, "N1", june, FILE_A, SENT), ("denied", 0)
+    yield "deposit of A", register.deposit(rules, delta, "N1", june, FILE_A, SENT), ("receipt", 1, june)
+    yield "the same again", register.deposit(rules, delta, "N1", "2030-01-01", FILE_A, SENT), ("receipt", 1, june)
+    yield "by Foxtrot", register.deposit(rules, foxtrot, "N1", june, FILE_A, SENT), ("receipt", 2, june)
+    for spaces, want in ((4193762, ("receipt", 3, june)), (16776673, ("receipt", 4, june)), (16776674, ("too large",))):
+        yield f"A and {spaces} spaces", register.deposit(rules, delta, "N1", june, FILE_A + b" " * spaces, SENT), want
     yield "extract of A", register.extract(rules, echo, "N1", 1, [], june), ("text", FILE_A)
     yield "the day before", register.extract(rules, echo, "N1", 1, [], may), ("unknown",)
     yield "its listing", register.list(rules, echo, "N1", may), ("listing", [])
 
     small = Register(most=1)
     other = FILE_A.replace(b"BH1", b"BH2")
-    yield "with room for one", [small.deposit(rules, delta, "N1", june, x)[0] for x in (FILE_A, other, FILE_A)], ["receipt", "full", "receipt"]
+    yield "with room for one", [small.deposit(rules, delta, "N1", june, x, SENT)[0] for x in (FILE_A, other, FILE_A)], ["receipt", "full", "receipt"]
 
     register = Register()
-    register.deposit(rules, delta, "N1", june, FILE_B)
+    register.deposit(rules, delta, "N1", june, FILE_B, SENT)
     hidden = without(FILE_B, 33, 40, 47)
     for_loca = b"".join(lines(FILE_B)[:32])
     yield "lengths of the extracts", (len(hidden), len(for_loca)), (956, 626)
@@ -911,11 +920,11 @@ def examples():
     yield "extract of B by Delta", register.extract(rules, delta, "N1", 1, [], june), ("text", FILE_B)
     yield "with LNMC alone", register.extract(rules, echo, "N1", 1, [b"LNMC"], june), ("text", hidden)
     yield "with LOCA alone", register.extract(rules, echo, "N1", 1, [b"LOCA"], june), ("text", for_loca)
-    yield "the extract deposited", register.deposit(rules, delta, "N1", june, hidden), ("receipt", 2, june)
+    yield "the extract deposited", register.deposit(rules, delta, "N1", june, hidden, SENT), ("receipt", 2, june)
     yield "its extract", register.extract(rules, delta, "N1", 2, [], june), ("text", hidden)
 
     register = Register()
-    register.deposit(rules, delta, "N1", june, c)
+    register.deposit(rules, delta, "N1", june, c, SENT)
     yield "extract of C by Echo", register.extract(rules, echo, "N1", 1, [], june), ("text", without(c, 39, 41, 42, 48))
     yield "extract of C by Delta", register.extract(rules, delta, "N1", 1, [], june), ("text", c)
 
@@ -923,22 +932,23 @@ def examples():
     hidden, shown, itself = (with_cell(b"PROJ_LINK", b"RL", cell, LINKING) for cell in (b"LOCA|BH2", b"LOCA|BH1", b"PROJ|P7"))
     last = b"".join(lines(FILE_A)[6:]) + b"\r\n" + b"".join(lines(FILE_A)[:5])
     bodies = [hidden, shown, with_cell(b"FILE_FSET", b"X", b"FS1", FILES), last, itself]
-    yield "what the row of PROJ reaches", [register.deposit(rules, delta, "N1", june, body)[:2] for body in bodies], [("receipt", n) for n in range(1, 6)]
+    yield "what the row of PROJ reaches", [register.deposit(rules, delta, "N1", june, body, SENT)[:2] for body in bodies], [("receipt", n) for n in range(1, 6)]
     for name, caller, day, want in [("by Echo", echo, june, [2, 3, 4, 5]), ("by Echo the day before", echo, may, []), ("by Delta", delta, may, [1, 2, 3, 4, 5])]:
         yield f"its listing {name}", register.list(rules, caller, "N1", day), ("listing", [(n, "Delta", june) for n in want])
 
     spaced = b"\xef\xbb\xbf" + FILE_A.replace(b'"DATA","P7","North bank"', b'"DATA" , "P7","North ""bank"""')[:-2]
     register = Register()
-    register.deposit(rules, delta, "N1", june, spaced)
+    register.deposit(rules, delta, "N1", june, spaced, SENT)
     yield "one spelling", register.extract(rules, delta, "N1", 1, [], june), ("text", FILE_A.replace(b"North bank", b'North ""bank""'))
 
     register = Register()
-    run = [register.check(rules, echo, "N1", FILE_A)[0], register.check(rules, echo, "N1", b"")[0], register.deposit(rules, delta, "N1", june, FILE_A)[0],
+    run = [register.check(rules, echo, "N1", FILE_A, june)[0], register.check(rules, echo, "N1", b"", june)[0], register.deposit(rules, delta, "N1", june, FILE_A, june)[0],
            register.list(rules, echo, "N1", june)[0], register.extract(rules, echo, "N2", 1, [], june)[0], register.list(rules, echo, "N2", june)[1],
            len(register.extract(rules, echo, "N1", 1, [b"NONE"], june)[1])]
     yield "a run", run, ["clean", "findings", "receipt", "listing", "unknown", [], 466]
 
     yield from withdrawals(rules, by)
+    yield from rule_days(by["t-delta"], echo)
 
     q = POLICY
     for name, text, want in [
@@ -947,13 +957,14 @@ def examples():
         ("one table", "[rule]\ncolour = 1\n", "BadValue"), ("a number", "rule = 3", "BadValue"), ("inline", 'rule = [{number = 1, effect = "permit"}]', "read"),
         ("the verb withdraw", '[[rule]]\nnumber = 1\neffect = "deny"\nverb = "withdraw"\n', "read"),
         ("another verb", '[[rule]]\nnumber = 1\neffect = "deny"\nverb = "withdrawn"\n', "BadValue"),
+        *((f"days: {more}", ruled(40, *more), want) for more, want in DAYS_READ),
     ]:
         yield f"policy: {name}", refusal(read_policy, text), want
     twice = CALLERS.replace("t-gamma", "t-delta")
     yield "a token twice", refusal(read_callers, twice), "DuplicateToken"
     yield "A as a dictionary", refusal(read_dictionary, FILE_A), "NoDict"
 
-    def ask(register, data, day="2024-05-01"):
+    def ask(register, data, day=SENT):
         status, text = serve(register, rules, by, day, data)
         return status, text.split(b"\r\n\r\n", 1)[-1].decode()
 
@@ -961,12 +972,14 @@ def examples():
     post = "POST /v1/projects/N1/deposits?embargo=2024-06-01 HTTP/1.1"
     check, listing = "POST /v1/projects/N1/check HTTP/1.1", "GET /v1/projects/N1/deposits{} HTTP/1.1"
     one = "GET /v1/projects/N1/deposits/{} HTTP/1.1"
-    size = "Content-Length: {}"
+    size, longer = "Content-Length: {}", FILE_A + b" " * 4193762
     for name, data, want in [
         ("nothing", b"", (0, "")), ("no route", head("GET /v1/x HTTP/1.1"), (404, '{"error":"no route"}')),
         ("method", head("PUT /v1/projects/N1/check HTTP/1.1"), (405, '{"error":"method"}')),
         ("no length", head(check, "t-echo"), (411, '{"error":"length required"}')),
-        ("too large", head(check, "t-echo", size.format(4194305)), (413, '{"error":"too large"}')),
+        ("too large", head(check, "t-echo", size.format(LIMIT + 1)), (413, '{"error":"too large"}')),
+        ("a long body that is not sent", head(check, "t-echo", size.format(len(longer))), (400, '{"error":"short body"}')),
+        ("a long body", head(check, "t-echo", size.format(len(longer))) + longer, (200, '{"clean":true}')),
         ("short body", head(check, "t-echo", size.format(543)) + FILE_A[:542], (400, '{"error":"short body"}')),
         ("clean", head(check, "t-echo", size.format(543)) + FILE_A, (200, '{"clean":true}')),
         ("ten digits", head(check, "t-echo", size.format("0000000543")) + FILE_A + b"more", (200, '{"clean":true}')),
@@ -996,29 +1009,65 @@ def examples():
                                   b'{"embargo":"2024-06-01","number":1}')
 
 
+def ruled(number, *more, policy=POLICY):
+    """The policy with these lines more in a rule."""
+    begin = f"number = {number}\n"
+    return policy.replace(begin, begin + "".join(f"{line}\n" for line in more))
+
+
+JUNE = 'from = "2024-06-01"', 'until = "2024-06-30"'
+DAYS_READ = [
+    (JUNE, "read"), (JUNE[:1], "read"), (JUNE[1:], "read"), (('from = "2024-06-01"', 'until = "2024-06-01"'), "read"),
+    (('from = "2024-06-01"', 'until = "2024-05-31"'), "BadValue"), *(((f"{key} = {value}",), "BadValue") for key in DAY_KEYS for value in (
+        '"*"', "2024-06-01", '"2024-6-1"', '"2023-02-29"', '"1969-12-31"', '"10000-01-01"', '""', "19875", '["2024-06-01"]')),
+    (('From = "2024-06-01"',), "UnknownKey"),
+]
+
+
+def rule_days(delta, echo):
+    """Rules that match on some days alone, of each verb."""
+    a, b = FILE_A, FILE_B
+    for number, more, data, asked in [
+        (40, JUNE, a, {"2024-05-31": ("denied", 0), "2024-06-01": ("text", a), "2024-06-30": ("text", a), "2024-07-01": ("denied", 0)}),
+        (80, ['from = "2024-06-02"'], a, {"2024-06-01": ("unknown",), "2024-06-02": ("text", a)}),
+        (80, ['from = "2024-06-02"'], b, {"2024-06-01": ("unknown",), "2024-06-02": ("text", without(b, 33, 40, 47))}),
+    ]:
+        rules, register = read_policy(ruled(number, *more)), Register()
+        register.deposit(rules, delta, "N1", "2024-06-01", data, SENT)
+        for day, want in asked.items():
+            yield f"rule {number} with {more} on {day}", register.extract(rules, echo, "N1", 1, [], day), want
+    asks = [("check", lambda rules, day: Register().check(rules, echo, "N1", a, day), 20, ("clean",)),
+            ("deposit", lambda rules, day: Register().deposit(rules, delta, "N1", day, a, day), 10, ("receipt", 1, "2024-06-30")),
+            ("list", lambda rules, day: Register().list(rules, echo, "N1", day), 30, ("listing", [])),
+            ("withdraw", lambda rules, day: Register().withdraw(rules, delta, "N1", 1, day), 45, ("unknown",))]
+    for name, ask, number, want in asks:
+        rules = read_policy(ruled(number, *JUNE, policy=WITHDRAWING))
+        yield f"{name} under such days", [ask(rules, day) for day in ("2024-06-30", "2024-07-01")], [want, ("denied", 0)]
+
+
 def withdrawals(q, by):
     """Two firms have sent A, and one of them withdraws its deposit; q is the policy under which nobody may."""
     delta, foxtrot, echo = (by["t-" + firm] for firm in ("delta", "foxtrot", "echo"))
     rules, register, june = read_policy(WITHDRAWING), Register(), "2024-06-01"
     for number, firm in enumerate((delta, foxtrot), 1):
-        yield f"deposit {number}", register.deposit(rules, firm, "N1", june, FILE_A), ("receipt", number, june)
+        yield f"deposit {number}", register.deposit(rules, firm, "N1", june, FILE_A, SENT), ("receipt", number, june)
     for name, caller, project, number, want in [
         ("by Echo", echo, "N1", 1, ("denied", 0)), ("by Foxtrot", foxtrot, "N1", 1, ("unknown",)),
         ("of number 9", delta, "N1", 9, ("unknown",)), ("of another project", delta, "N2", 1, ("unknown",)),
         ("by Delta", delta, "N1", 1, ("withdrawn", 1)), ("again", delta, "N1", 1, ("withdrawn", 1)),
     ]:
-        yield f"a withdrawal {name}", register.withdraw(rules, caller, project, number), want
+        yield f"a withdrawal {name}", register.withdraw(rules, caller, project, number, SENT), want
     yield "the marks", [held["withdrawn"] for held in register.deposits], [True, False]
     yield "an extract of it", register.extract(rules, delta, "N1", 1, [], june), ("unknown",)
     yield "the listing after it", register.list(rules, delta, "N1", june), ("listing", [(2, "Foxtrot", june)])
-    yield "the same file again", register.deposit(rules, delta, "N1", "2030-01-01", FILE_A), ("receipt", 1, june)
+    yield "the same file again", register.deposit(rules, delta, "N1", "2030-01-01", FILE_A, SENT), ("receipt", 1, june)
     yield "the listing after that", register.list(rules, delta, "N1", june), ("listing", [(2, "Foxtrot", june)])
     yield "an extract of the other", register.extract(rules, echo, "N1", 2, [], june), ("text", FILE_A)
-    yield "under a policy without such a rule", register.withdraw(q, delta, "N1", 1), ("denied", 0)
+    yield "under a policy without such a rule", register.withdraw(q, delta, "N1", 1, SENT), ("denied", 0)
     small = Register(most=1)
-    small.deposit(rules, delta, "N1", june, FILE_A)
-    small.withdraw(rules, delta, "N1", 1)
-    got = [small.deposit(rules, delta, "N1", june, data) for data in (FILE_B, FILE_A)]
+    small.deposit(rules, delta, "N1", june, FILE_A, SENT)
+    small.withdraw(rules, delta, "N1", 1, SENT)
+    got = [small.deposit(rules, delta, "N1", june, data, SENT) for data in (FILE_B, FILE_A)]
     yield "a withdrawn one takes room", got, [("full",), ("receipt", 1, june)]
 
 

@@ -64,7 +64,7 @@ class Place:
             with open(os.path.join(ROOT, path), "rb") as file:
                 self.put(f"d{number}", file.read())
             rules, data = machine.read_policy(machine.POLICY), self.computer.files[f"d{number}"]
-            register.deposit(rules, callers[token], project, embargo, data)
+            register.deposit(rules, callers[token], project, embargo, data, machine.SENT)
         self.before = register.deposits
         self.anew()
 

@@ -101,7 +101,7 @@ def cell(register, rules, caller, row, column):
     number, day = int(row["Deposit"]), row.get("Day", DAY)
     project = register.deposits[number - 1]["project"]
     if column in ("deposit", "check", "withdraw"):
-        effect, rule = machine.decide(rules, caller, project, column)
+        effect, rule = machine.decide(rules, caller, project, column, day)
         return "yes" if effect == "permit" else f"denied {rule}"
     if column == "list":
         kind, told = register.list(rules, caller, project, day)
@@ -127,7 +127,7 @@ def model_cases():
             got = {column: cell(register, rules, people[row["Caller"]], row, column) for column in answered}
             yield f"{pattern.name}: {row}", {column: row[column] for column in answered}, got
     failing = sum(pattern.fails for pattern in patterns)
-    yield "patterns, and forms that fail", (len(patterns), failing), (10, 2)
+    yield "patterns, and forms that fail", (len(patterns), failing), (13, 2)
 
 
 def program_cases(program, folder):
@@ -193,11 +193,11 @@ def deposited(rules, delta, harbour):
     """An embargo that is past is seen at once, and a mistake is there for good."""
     register, permits, data = machine.Register(), machine.read_policy(ALL), read("samples/office/statuses.ags", "rb")
     past = "1970-01-01"
-    yield "an embargo that is past", register.deposit(permits, delta, "N1", past, data), ("receipt", 1, past)
+    yield "an embargo that is past", register.deposit(permits, delta, "N1", past, data, DAY), ("receipt", 1, past)
     yield "it is seen at once", register.list(rules, harbour, "N1", "2024-05-01"), ("listing", [(1, "Delta", past)])
-    yield "the same bytes", register.deposit(permits, delta, "N1", DAY, data), ("receipt", 1, past)
+    yield "the same bytes", register.deposit(permits, delta, "N1", DAY, data, DAY), ("receipt", 1, past)
     other = data.replace(b"Prelim", b"PRELIM")
-    yield "other bytes", register.deposit(permits, delta, "N1", past, other), ("receipt", 2, past)
+    yield "other bytes", register.deposit(permits, delta, "N1", past, other, DAY), ("receipt", 2, past)
     yield "both are listed", [one[0] for one in register.list(rules, harbour, "N1", DAY)[1]], [1, 2]
 
 

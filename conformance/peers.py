@@ -136,7 +136,7 @@ def honest(place):
     """Requests over a register that holds file a by Delta, each with its status and the bytes of its reply, by the machine."""
     rules, callers = machine.read_policy(machine.POLICY), machine.read_callers(machine.CALLERS)
     register = machine.Register()
-    register.deposit(rules, callers["t-delta"], "N1", DAY, machine.FILE_A)
+    register.deposit(rules, callers["t-delta"], "N1", DAY, machine.FILE_A, DAY)
     asked = [LISTING, post(b"check", machine.FILE_B), post(b"deposits", machine.FILE_A), head(b"/v1/projects/N1/deposits/1", FIELDS), head(b"/v1/projects/N1/deposits/2", FIELDS),
              post(b"check", b"x\n" * 1000), head(b"/v1/x", FIELDS), head(b"/v1/projects/N1/deposits", FIELDS, token=b"nobody"), post(b"deposits", machine.FILE_A, b"t-gamma")]
     return [(data, *machine.serve(register, rules, callers, DAY, data)) for data in asked]
@@ -325,7 +325,7 @@ def log(place):
     os.umask(0o022)
     rules, callers = machine.read_policy(machine.POLICY), machine.read_callers(machine.CALLERS)
     register = machine.Register()
-    register.deposit(rules, callers["t-delta"], "N1", DAY, machine.FILE_A)
+    register.deposit(rules, callers["t-delta"], "N1", DAY, machine.FILE_A, DAY)
     given, seen = of_each_status(), set()
     server, begun = Server(place, len(given), "--log=log", limit=full_disk), today()
     for n, data in enumerate(given):

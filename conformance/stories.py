@@ -63,6 +63,8 @@ def any_policy(chance):
         for key, words in keys.items():
             if chance.random() < 0.22:
                 out += f'{key} = "{chance.choice(words)}"\n'
+        if chance.random() < 0.3:
+            out += bodies.rule_days(chance)
         if chance.random() < 0.15:
             heading, value = chance.choice([("LOCA_STAT", "PRELIM"), ("SAMP_REF", "S1"), ("FILE_FSET", ""), ("LOCA_ID", "BH2"), ("NONE", "x"), ("LNMC_MC", 'x, "y"')])
             out += f"heading = {toml_text(heading)}\nvalue = {toml_text(value)}\n"
@@ -75,12 +77,23 @@ def policy(chance):
     return ("# who may do what\n" if chance.random() < 0.1 else "") + text
 
 
+def refused_days(chance):
+    """The lines of a rule with a day that may not be there, or with a last day before the first."""
+    day = toml_text(chance.choice(DAYS))
+    values = ['"*"', chance.choice(["2024-06-01", "2024-06-01T10:00:00Z"]), chance.choice(["20240601", "true", f"[{day}]", f"{{day = {day}}}"]), toml_text(chance.choice(BAD_DAYS))]
+    if chance.random() < 0.2:
+        return 'from = "2024-06-02"\nuntil = "2024-06-01"\n'
+    lines = [f"{key} = {value}\n" for key, value in zip(chance.sample(machine.DAY_KEYS, 2), (chance.choice(values), day))]
+    return "".join(lines[:chance.randrange(1, 3)])
+
+
 def refused_policy(chance):
     text = policy(chance) or machine.POLICY
     return chance.choice([
         lambda: text.replace("number = ", "number = 9", 1) + '[[rule]]\nnumber = 1\neffect = "deny"\n', lambda: text.replace('"permit"', '"allow"', 1), lambda: text + "colour = 1\n",
         lambda: text + "[[rule]]\nnumber = 9999\n", lambda: text + "[[rule", lambda: "rule = 3\n", lambda: "[rule]\nnumber = 1\n", lambda: text + '[[rule]]\nnumber = 10000\neffect = "deny"\n',
         lambda: text + '[[rule]]\nnumber = 9998\neffect = "deny"\nverb = "delete"\n',
+        *[lambda: text + '[[rule]]\nnumber = 9998\neffect = "deny"\n' + refused_days(chance)] * 3,
         lambda: text + '[[rule]]\nnumber = 9998\neffect = "deny"\nheading = "LOCA_ID"\n',
         lambda: text + '[[rule]]\nnumber = 9998\neffect = "deny"\ngroup = "loca"\n', lambda: text + "\x00", lambda: text + '[[caller]]\ntoken = "t"\n'])().encode()
 
@@ -199,7 +212,7 @@ def twisted(chance, method, target, fields):
         fields.insert(at, fields[at])
     elif kind == 5:
         fields.append(chance.choice([b"Transfer-Encoding: chunked", b"transfer-encoding:", b"Content-Length: 0", b"content-length: x", b"AUTHORIZATION: Bearer t-echo", b"Authorization : Bearer t-echo", b" folded: x", b"X: \x01", b"X", b": x",
-                                     b"X\xc3: y", b"X: \x7f", b"Content-Length: 4194305"]))
+                                     b"X\xc3: y", b"X: \x7f", b"Content-Length: %d" % (machine.LIMIT + 1)]))
     elif kind == 6:
         fields = [field.replace(b"Bearer ", chance.choice([b"bearer ", b"Bearer  ", b"Bearer\t", b"Basic ", b"", b"Bearer"])) for field in fields]
     elif kind == 7:

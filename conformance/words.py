@@ -31,10 +31,13 @@ def longer(text):
 
 FILES = {"mini": MINI, "q": POLICY, "c": CALLERS, "a": machine.FILE_A, "b": machine.FILE_B, "--day": machine.FILE_A, "empty": b"", "junk": b"this is no database", "bytes": b"\xff\xfe", "open": b"[[rule",
          "long": longer(machine.FILE_A), "longest": longer(MINI), "long_q": longer(POLICY), "long_c": longer(CALLERS),
-         "w": machine.WITHDRAWING.encode()}  # the policy under which contractors may withdraw
+         "w": machine.WITHDRAWING.encode(),  # the policy under which contractors may withdraw
+         # policies by which extracts are drawn in June alone, by which rows are seen from a day on, and one whose rule ends before it begins
+         "june": machine.ruled(40, *machine.JUNE).encode(), "seen": machine.ruled(80, 'from = "2024-06-02"').encode(),
+         "ended": machine.ruled(40, machine.JUNE[0], 'until = "2024-05-31"').encode()}
 
-# What is printed, by the name that a line has for it: file a, the first 466 bytes of it, and a listing of two deposits.
-PRINTED = {machine.FILE_A: b"(a)\n", machine.FILE_A[:466]: b"(a to 466)\n",
+# What is printed, by the name that a line has for it: file a, the first 466 bytes of it, what others see of file b, and a listing of two deposits.
+PRINTED = {machine.FILE_A: b"(a)\n", machine.FILE_A[:466]: b"(a to 466)\n", machine.without(machine.FILE_B, 33, 40, 47): b"(of b)\n",
            b"1 Delta 2024-06-01\n2 Foxtrot 2024-06-01\n": b"(both)\n"}
 
 # A register from its making to an extract.
@@ -98,6 +101,21 @@ withdraw|@|--policy=w|--token=t-foxtrot|2 => 0 withdrawn 2
 withdraw|@|--policy=w|3 => 0 withdrawn 3
 list|@|--day=2030-01-01 => 0
 migrate|--store=s => 4 ! register version 2
+"""
+
+# Rules that match on some days alone.
+RULE_DAYS = """
+init|--store|s|--dictionary|mini => 0 created
+deposit|@|--embargo|2024-06-01|a => 0 receipt 1 2024-06-01
+extract|@|--policy=june|--token=t-echo|--day=2024-05-31|1 => 2 denied 0
+extract|@|--policy=june|--token=t-echo|--day=2024-06-01|1 => 0 (a)
+extract|@|--policy=june|--token=t-echo|--day=2024-06-30|1 => 0 (a)
+extract|@|--policy=june|--token=t-echo|--day=2024-07-01|1 => 2 denied 0
+extract|@|--policy=ended|--token=t-echo|--day=2024-06-01|1 => 4 ! policy refused
+deposit|@|--embargo=2024-06-01|b => 0 receipt 2 2024-06-01
+extract|@|--policy=seen|--token=t-echo|--day=2024-06-01|2 => 3 unknown
+extract|@|--policy=seen|--token=t-echo|--day=2024-06-02|2 => 0 (of b)
+list|@|--policy=seen|--token=t-echo|--day=2024-06-01 => 0
 """
 
 WORDS_REFUSED = """
@@ -290,7 +308,7 @@ init|--store=s|--dictionary=longest => 4 ! dictionary refused
 init|--store=s|--dictionary=mini => 4 ! store not empty
 """
 
-SCENES = (REGISTER, WITHDRAWAL, WORDS_REFUSED, IN_ANY_ORDER, OF_WORDS_AND_POLICIES, OF_CALLERS_AND_TOKENS, OF_REQUESTS,
+SCENES = (REGISTER, WITHDRAWAL, RULE_DAYS, WORDS_REFUSED, IN_ANY_ORDER, OF_WORDS_AND_POLICIES, OF_CALLERS_AND_TOKENS, OF_REQUESTS,
           OF_DICTIONARIES_AND_FILES)
 
 # What `serve` says of a port that is taken (PORT): the port comes last.

@@ -1,8 +1,9 @@
 """What a policy says and what it shows, told before anything is served: the refusals and warnings of `bin/policy check`, and the rows of `bin/policy see`.
 
 The language of rules is that of docs/COMMANDS.md. Decisions are those of the reference model (conformance/machine.py); rows and their steps are looked up by key
-here, so that a file of 4 MB is told in seconds."""
+here, so that a long file is told in seconds."""
 import collections
+import datetime
 import difflib
 import os
 import re
@@ -15,14 +16,17 @@ import reference  # noqa: E402
 
 ROW_KEYS = ("group", "owner", "embargo", "heading", "value")
 REQUEST_VERBS = tuple(verb for verb in machine.VERBS if verb != "see")
+FIRST_DAY, LAST_DAY = "1970-01-01", "9999-12-31"
 SHORT_TOKEN = 16
 ORDER = ("Syntax", "UnknownKey", "BadValue", "Order", "DuplicateToken")
 TEXTS = {"Syntax": "the text is no TOML", "UnknownKey": "a key that may not be there", "BadValue": "a value that may not be there", "Order": "numbers do not rise",
          "DuplicateToken": "a token that is there twice"}
 NAME = "1 to 32 letters, digits, - or _"
+DAY = f'a day of the calendar in quotes, "yyyy-mm-dd" from {FIRST_DAY} to {LAST_DAY}'
 POLICY_VALUES = {"number": "a whole number from 1 to 9999", "effect": "permit or deny", "firm": f"{NAME}, or *", "role": f"{NAME}, or *", "project": f"{NAME}, or *",
                  "verb": ", ".join(machine.VERBS) + ", or *", "group": "1 to 4 capital letters or digits, or *", "owner": "own, other or *", "embargo": "past, running or *",
-                 "heading": "1 to 9 capital letters, digits or _, with a value beside it", "value": "a text, with a heading beside it"}
+                 "heading": "1 to 9 capital letters, digits or _, with a value beside it", "value": "a text, with a heading beside it",
+                 "from": DAY, "until": f"{DAY}, not before the rule's from"}
 CALLER_VALUES = {"token": "1 to 64 characters from ! to ~", "firm": NAME, "role": NAME}
 
 
@@ -74,6 +78,9 @@ def is_rule_value(item, key):
         return isinstance(value, str) and re.fullmatch(r"[A-Z0-9_]{1,9}", value) is not None and "value" in item
     if key == "value":
         return isinstance(value, str) and "heading" in item
+    if key in machine.DAY_KEYS:
+        day, first = machine.day_of(value), machine.day_of(item.get("from"))
+        return day is not None and (first is None or first <= day)
     return value == "*" or machine.RULE_VALUES[key](value)
 
 
@@ -138,9 +145,22 @@ def asks_of_rows(rule):
     return any(key in rule for key in ROW_KEYS)
 
 
+def days_of(rule):
+    """The first and the last day on which a rule may match."""
+    return rule.get("from", FIRST_DAY), rule.get("until", LAST_DAY)
+
+
+def turning_days(rule, rules):
+    """The first day of a rule, and each later one of its days on which another rule begins or has ended."""
+    first, last = days_of(rule)
+    after = [datetime.date.fromisoformat(other["until"]) + datetime.timedelta(1) for other in rules if other.get("until", LAST_DAY) < LAST_DAY]
+    turns = {other["from"] for other in rules if "from" in other} | {day.isoformat() for day in after}
+    return sorted({first, *(day for day in turns if first < day <= last)})
+
+
 def keys_set(rule):
-    """What a rule sets; one that sets something of a row is of verb see."""
-    keys = {key: value for key, value in rule.items() if key not in ("number", "effect")}
+    """What a rule sets beside its days; one that sets something of a row is of verb see."""
+    keys = {key: value for key, value in rule.items() if key not in ("number", "effect", *machine.DAY_KEYS)}
     return {"verb": "see", **keys} if asks_of_rows(rule) else keys
 
 
@@ -164,8 +184,12 @@ def never_matches(rule, words):
 
 def is_behind(rule, earlier):
     """The first earlier rule that decides all that this one could, or None."""
-    own = keys_set(rule)
-    return next((other for other in earlier if all(own.get(key) == value for key, value in keys_set(other).items())), None)
+    own, (first, last) = keys_set(rule), days_of(rule)
+
+    def decides(other):
+        begin, end = days_of(other)
+        return begin <= first and last <= end and all(own.get(key) == value for key, value in keys_set(other).items())
+    return next(filter(decides, earlier), None)
 
 
 def misspelt(rule, key, rules, callers):
@@ -180,13 +204,14 @@ def misspelt(rule, key, rules, callers):
 
 
 def still_served(rule, rules, callers):
-    """Of a denial of deposits alone: a caller whom it is for and who still lists, draws or withdraws."""
+    """Of a denial of deposits alone: a caller whom it is for and who still lists, draws or withdraws on some of its days."""
     if rule["effect"] != "deny" or rule.get("verb") != "deposit" or "firm" not in rule:
         return None
     for caller in callers.values():
         if caller["firm"] == rule["firm"]:
             project, verbs = rule.get("project", ""), ("list", "extract", "withdraw")
-            may = " and ".join(verb for verb in verbs if machine.decide(rules, caller, project, verb)[0] == "permit")
+            days = turning_days(rule, rules)
+            may = " and ".join(verb for verb in verbs if any(machine.decide(rules, caller, project, verb, day)[0] == "permit" for day in days))
             if may:
                 return (f"denies deposits alone: {caller['firm']} may still {may}."
                         " A denial without verb ends every access")
@@ -292,7 +317,7 @@ def decisions(rules, caller, deposit, day, steps):
             yield None
             continue
         facts = {"group": g.name, "own": deposit["firm"] == caller["firm"], "past": day >= deposit["embargo"], "headings": g.headings, "cells": row.items}
-        effect, number = machine.decide(rules, caller, deposit["project"], "see", facts)
+        effect, number = machine.decide(rules, caller, deposit["project"], "see", day, facts)
         yield None if effect == "permit" else number
 
 

@@ -13,13 +13,14 @@ import sys
 from typing import NamedTuple
 
 sys.path.insert(0, os.path.join(os.path.dirname(os.path.realpath(__file__)), "..", "..", "conformance"))
+import machine  # noqa: E402
 import reference  # noqa: E402
 
 CODES = reference.CODES
 DESCRIPTORS = reference.DESCRIPTORS
 DEFINITIONS = reference.DEFINITIONS
 FOLLOWS = reference.FOLLOWS
-LIMIT = 4_194_304
+LIMIT = machine.LIMIT
 # The types of any text, and those whose entries have to be listed somewhere: reference.fits takes any entry of them.
 TEXTS, LISTED = (b"X", b"ID", b"XN", b"U", b""), (b"PA", b"PT", b"PU", b"RL")
 PHASES = {1: "lines", 2: "order of rows", 3: "groups by themselves", 4: "groups against the dictionary", 5: "DATA rows"}
