@@ -1,7 +1,7 @@
 #!/usr/bin/env python3
-"""Tests of docs/reach on a small house of two crates: what is reached, in which order, and that a name that is found nowhere is an error with its file and line.
+"""Tests of tools/reach on a small house of two crates: what is reached, in which order, and that a name that is found nowhere is an error with its file and line.
 
-usage: docs/reach_test.py     The last line is 'N passed, M failed'."""
+usage: tools/reach_test.py     The last line is 'N passed, M failed'."""
 import importlib.machinery
 import importlib.util
 import os
