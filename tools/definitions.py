@@ -26,7 +26,7 @@ class Token:
 
 
 class Item:
-    """A definition: where it stands, its comment, its lines, and the statements whose names it needs. Of a lemma, which is one that
+    """A definition: its place, its comment, its lines, and the statements whose names it needs. Of a lemma, which is one that
     nothing unfolds, only the statement is kept: its body is its proof."""
 
     def __init__(self, kind, name, source, first):
@@ -48,7 +48,7 @@ class Item:
         return lines + [line for _, more in (model or []) + self.faces() for line in more]
 
     def faces(self):
-        """What a type is by a trait that contracts speak of: its ghost members, as `deposits` of a keep. Its proofs of the trait's laws are left out."""
+        """What a type is by a trait that contracts speak of: its ghost members, as `deposits` of a `Keep`. Its proofs of the trait's laws are left out."""
         if self.kind not in ("struct", "enum"):
             return []
         return [face for trait, name, face in self.source.faces.get(self.name, []) if name in self.source.house.members.get(trait, ())]
@@ -632,7 +632,7 @@ class Namer:
         return {re.split(r"[:\s]", part.strip())[0].removeprefix("'") for part in inner.split(",")}
 
     def impl_head(self, number):
-        """The head of the block that a line stands in."""
+        """The head of the block that a line is in."""
         for place in range(number, 0, -1):
             line = self.source.lines[place - 1]
             if re.match(r"^(impl|(pub(\(crate\))? )?trait)\b", line):

@@ -122,7 +122,7 @@ def variants():
 
 
 def one_line():
-    """The variants of a type may stand on one line: each leads to the type, and what it has not is an error."""
+    """The variants of a type may be on one line: each leads to the type, and what it has not is an error."""
     with tempfile.TemporaryDirectory() as folder:
         colour = {"crates/low/src/colour.rt": "/// A colour.\n#[rattlefmt::skip]\npub enum Colour { Red, Green }\n"}
         base = "crates/low/specs/Base.antt"
@@ -175,7 +175,7 @@ def laws():
 
 
 def renamed():
-    """What an import has renamed is told above the definition that uses it: a name, and the variants of a type."""
+    """What an import has renamed is said above the definition that uses it: a name, and the variants of a type."""
     with tempfile.TemporaryDirectory() as folder:
         house = house_with(folder, {})
         items = [house.specs["top", "Facts"].items["HasSize"], house.specs["low", "Base"].items["number"]]

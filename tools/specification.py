@@ -279,7 +279,7 @@ class Page:
         return ["```text", *text[1:], "```"]
 
     def definition(self, item):
-        """A definition's lines, with its sentence behind the first or, where there is no room, above it."""
+        """A definition's lines, with its sentence beside the first or, where there is no room, above it."""
         margin = re.match(r" *", item.lines[0])[0]
         sentence = self.said.get(item) or sentence_of(item)
         if not sentence:
