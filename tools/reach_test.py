@@ -1,6 +1,6 @@
 #!/usr/bin/env python3
-"""Tests of tools/reach on a small house of two crates: what is reached, in which order, that a name that is found nowhere is an error with its file and
-line, and the page that is made of an input.
+"""Tests of tools/reach on a small house of two crates: what is reached, in which order, that a name that is found
+nowhere is an error with its file and line, and the page that is made of an input.
 
 usage: tools/reach_test.py     The last line is 'N passed, M failed'."""
 import os
@@ -98,14 +98,18 @@ def error_of(path, old, new):
 
 
 CASES = [
-    ("what is reached, each before what it needs", names_reached({}), (["law", "HasSize", "Colour", "size", "Shape", "◌⊕◌", "one"], ["ℕ", "◌+◌", "◌≡◌"])),
-    ("a name of a body", error_of("crates/low/specs/Base.antt", "a + b + one", "a + b + two"), "crates/low/specs/Base.antt:19: two is found nowhere"),
-    ("a name that an import has not", error_of("crates/top/specs/Facts.antt", "Words.{Shape as Form, size}", "Words.{Shape as Form, length as size}"),
+    ("what is reached, each before what it needs", names_reached({}),
+     (["law", "HasSize", "Colour", "size", "Shape", "◌⊕◌", "one"], ["ℕ", "◌+◌", "◌≡◌"])),
+    ("a name of a body", error_of("crates/low/specs/Base.antt", "a + b + one", "a + b + two"),
+     "crates/low/specs/Base.antt:19: two is found nowhere"),
+    ("a name that an import has not", error_of("crates/top/specs/Facts.antt", "Form, size}", "Form, length as size}"),
      "crates/top/specs/Facts.antt:2: Rattle.low.specs.Words.length is not found"),
-    ("a module that there is not", error_of("crates/low/specs/Words.antt", "use Rattle.low.specs.Base.{◌⊕◌}", "use Rattle.low.specs.Bases.{◌⊕◌}"),
+    ("a module that there is not", error_of("crates/low/specs/Words.antt", "Base.{◌⊕◌}", "Bases.{◌⊕◌}"),
      "crates/low/specs/Words.antt:3: Rattle.low.specs.Bases.◌⊕◌ is not found"),
-    ("a name of a contract", error_of("crates/top/src/lib.rt", "→ HasSize form result", "→ HasLength form result"), "crates/top/src/lib.rt:10: HasLength is found nowhere"),
-    ("a field's type", error_of("crates/top/specs/Facts.antt", "size form ≡ n", "size form ≡ m"), "crates/top/specs/Facts.antt:6: m is found nowhere"),
+    ("a name of a contract", error_of("crates/top/src/lib.rt", "→ HasSize form result", "→ HasLength form result"),
+     "crates/top/src/lib.rt:10: HasLength is found nowhere"),
+    ("a field's type", error_of("crates/top/specs/Facts.antt", "size form ≡ n", "size form ≡ m"),
+     "crates/top/specs/Facts.antt:6: m is found nowhere"),
 ]
 
 
@@ -238,7 +242,8 @@ abbrev ◌⊕◌ : ℕ → ℕ → ℕ  -- The sum and one.
 | `law` | 3 | 8 | 0 | 0 |
 | `size` | 2 | 4 | 1 | 2 |
 | `all` | 6 | 15 | 1 | 2 |"""
-SIZED = {"crates/low/specs/Words.antt": FILES["crates/low/specs/Words.antt"].replace("abbrev pub size", "-- the size of a shape\nabbrev pub size")}
+WORDS = "crates/low/specs/Words.antt"
+SIZED = {WORDS: FILES[WORDS].replace("abbrev pub size", "-- the size of a shape\nabbrev pub size")}
 
 
 def page_of(text, changes=SIZED):
@@ -251,18 +256,27 @@ def page_of(text, changes=SIZED):
 LONG = "  f xs = " + " × ".join(f"(Holds_of_{number} xs)" for number in range(9))
 
 
+VARIANTS = "Rattle.low.specs.declared.colour.Colour.TheVariants"
 CASES += [
     ("a page", page_of(INPUT), (PAGE, [])),
-    ("a definition without a sentence", page_of("@show low size", {})[1], ["crates/low/specs/Words.antt:5: size has no sentence"]),
-    ("a sentence of what is not printed", page_of("@say low size The size.")[1], ["docs/specification.in.md: size has a sentence and is not printed"]),
-    ("what is cited and not there", page_of("@cite low/specs/Base.antt:two A number")[1], ["docs/specification.in.md: low/specs/Base.antt:two is not all found"]),
-    ("what is cited and not reached", page_of("@cite low/specs/Base.antt:one A number")[1], ["docs/specification.in.md: one is cited and not reached"]),
-    ("too many lines", page_of("@headline top law 9")[1], ["docs/SPECIFICATION.md: the headline has 14 lines of definitions, 9 may be"]),
+    ("a definition without a sentence", page_of("@show low size", {})[1],
+     ["crates/low/specs/Words.antt:5: size has no sentence"]),
+    ("a sentence of what is not printed", page_of("@say low size The size.")[1],
+     ["docs/specification.in.md: size has a sentence and is not printed"]),
+    ("what is cited and not there", page_of("@cite low/specs/Base.antt:two A number")[1],
+     ["docs/specification.in.md: low/specs/Base.antt:two is not all found"]),
+    ("what is cited and not reached", page_of("@cite low/specs/Base.antt:one A number")[1],
+     ["docs/specification.in.md: one is cited and not reached"]),
+    ("too many lines", page_of("@headline top law 9")[1],
+     ["docs/SPECIFICATION.md: the headline has 14 lines of definitions, 9 may be"]),
     ("a long line", [len(line) for line in wrapped(LONG)], [114, 59]),
-    ("names that an import has renamed", renamed(), [["-- Form means Shape of low"], ["-- colours means the variants of Colour of low"]]),
-    ("a law over two lines", laws(), (["HasSize", "Shape", "size"], [line for line in TRAIT.split("\n")[2:-1] if line])),
-    ("a variant that there is not", variants(), "crates/low/specs/Base.antt:11: Rattle.low.specs.declared.colour.Colour.TheVariants.Blue is not found"),
-    ("variants on one line", one_line(), (["Colour", "one"], "crates/low/specs/Base.antt:11: Rattle.low.specs.declared.colour.Colour.TheVariants.Gree is not found")),
+    ("names that an import has renamed", renamed(),
+     [["-- Form means Shape of low"], ["-- colours means the variants of Colour of low"]]),
+    ("a law over two lines", laws(),
+     (["HasSize", "Shape", "size"], [line for line in TRAIT.split("\n")[2:-1] if line])),
+    ("a variant that there is not", variants(), f"crates/low/specs/Base.antt:11: {VARIANTS}.Blue is not found"),
+    ("variants on one line", one_line(),
+     (["Colour", "one"], f"crates/low/specs/Base.antt:11: {VARIANTS}.Gree is not found")),
     ("what is made of a type", of_contracts(), ["tag_of", "the_type", "ℕ", "◌+◌", "◌≡◌"]),
     ("a proof", proofs(), ["number"]),
 ]
