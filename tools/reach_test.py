@@ -259,8 +259,10 @@ LONG = "  f xs = " + " × ".join(f"(Holds_of_{number} xs)" for number in range(9
 VARIANTS = "Rattle.low.specs.declared.colour.Colour.TheVariants"
 CASES += [
     ("a page", page_of(INPUT), (PAGE, [])),
-    ("a definition without a sentence", page_of("@show low size", {})[1],
-     ["crates/low/specs/Words.antt:5: size has no sentence"]),
+    ("a definition without a sentence", page_of("@say low ◌⊕◌ The sum.\n@reach low size", {})[1],
+     ["crates/low/specs/Words.antt:5: size has no sentence", "crates/low/specs/Base.antt:14: Shape has no sentence"]),
+    ("a definition without what it needs", page_of("@show low ◌⊕◌\n@say low ◌⊕◌ The sum.")[1],
+     ["docs/SPECIFICATION.md: ◌⊕◌ needs one, which is not there"]),
     ("a sentence of what is not printed", page_of("@say low size The size.")[1],
      ["docs/specification.in.md: size has a sentence and is not printed"]),
     ("what is cited and not there", page_of("@cite low/specs/Base.antt:two A number")[1],

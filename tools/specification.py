@@ -353,6 +353,9 @@ class Page:
                       f"{int(limit):,}. It cites {len(cited)} with {lines_of(cited):,} lines.", "")
 
     def finish(self):
+        for item in self.shown:
+            missing = [other.name for other in self.house.needs(item)[0] if other not in self.shown]
+            self.faults += [f"{OUTPUT}: {item.name} needs {name}, which is not there" for name in missing]
         for item in [*self.said, *self.marks]:
             if item not in self.shown or item in self.cited:
                 self.faults.append(f"{INPUT}: {item.name} has a sentence and is not printed")
