@@ -8,18 +8,19 @@ mod failing;
 mod junk;
 mod laws;
 mod memory;
+mod policies;
 mod refusing;
 mod stops;
 mod wanted;
-mod withdrawing;
 
 use ags_dict::Dictionary;
 use ags_rows::READABLE;
 use ags_rows::vectors::MINI;
 use bodies::{LENGTHS, bytes_of};
-use examples::{EXAMPLES, MOST, UNTIL, WITHDRAWALS};
+use examples::{CHANGED, EXAMPLES, MOST, UNTIL};
 use laws::tells;
 use memory::is_refused_once;
+use policies::{Added, WITHDRAWALS, policy_with};
 use refusing::Refusing;
 use reg_desk::{Desk, Request};
 use reg_policy::vectors::{CALLERS, POLICY};
@@ -29,7 +30,6 @@ use reg_tables::{CreateError, SqlKeep};
 use std::alloc::{AllocError, Global};
 use std::process::Abort;
 use wanted::is_wanted;
-use withdrawing::withdrawing;
 
 /// New lines in place of those from the first to the last.
 #[derive(Clone, Copy)]
@@ -56,7 +56,7 @@ pub struct Body {
     pub spaces: usize,
 }
 
-/// What is asked. Every request is for project N1.
+/// What is asked, for project N1 where no other is named.
 #[derive(Clone, Copy)]
 pub enum Ask {
     /// The body, and its embargo.
@@ -65,6 +65,8 @@ pub enum Ask {
     List,
     Extract(u32, &'static [&'static [u8]]),
     Withdraw(u32),
+    /// The same for the project of this name.
+    WithdrawFrom(&'static str, u32),
 }
 
 /// What is answered.
@@ -122,9 +124,9 @@ pub enum Over {
 pub enum Play {
     /// These steps are asked in turn.
     Steps(&'static [Step]),
-    /// The same, where the policy permits withdrawals to contractors.
-    Withdrawals(&'static [Step]),
-    /// Three runs are asked, where memory may be refused once.
+    /// The same under the policy with lines more.
+    Under(Added, &'static [Step]),
+    /// Three runs are asked, where withdrawals are permitted and memory may be refused once.
     Runs,
     /// Four requests are asked behind a deposit of this body.
     Told(&'static Body),
@@ -217,7 +219,9 @@ fn request_of<'a>(
         Ask::Check(_) => Some(check_of(caller, project, bytes, day)),
         Ask::List => Some(list_of(caller, project, day)),
         Ask::Extract(number, groups) => Some(extract_of(caller, project, *number, groups, day)),
-        Ask::Withdraw(number) => Some(withdraw_of(caller, project, *number, day)),
+        Ask::Withdraw(number) | Ask::WithdrawFrom(_, number) => {
+            Some(withdraw_of(caller, project, *number, day))
+        }
     }
 }
 
@@ -244,8 +248,8 @@ fn two_of<'a>(
     }
 }
 
-/// Whether a step is answered as it should be.
-fn holds<K: Keep>(
+/// Whether a step for this project is answered as it should be.
+fn holds_for<K: Keep>(
     alloc: Global,
     desk: &mut Desk<K>,
     callers: &Callers,
@@ -256,6 +260,23 @@ fn holds<K: Keep>(
     match request_at(callers, project, step, &bytes) {
         Some(request) => is_wanted(alloc, &desk.answer(alloc, &request), &step.3),
         None => Ok(false),
+    }
+}
+
+/// The same for the project that the step names, if it names one.
+fn holds<K: Keep>(
+    alloc: Global,
+    desk: &mut Desk<K>,
+    callers: &Callers,
+    project: &Name,
+    step: &Step,
+) -> Result<bool, AllocError> {
+    match step.2 {
+        Ask::WithdrawFrom(name, _) => match Name::read(alloc, name) {
+            Ok(other) => holds_for(alloc, desk, callers, &other, step),
+            Err(_) => Err(AllocError),
+        },
+        _ => holds_for(alloc, desk, callers, project, step),
     }
 }
 
@@ -285,7 +306,7 @@ fn answers<K: Keep>(
     play: Play,
 ) -> Result<bool, AllocError> {
     match play {
-        Play::Steps(steps) | Play::Withdrawals(steps) => hold(alloc, desk, callers, project, steps),
+        Play::Steps(steps) | Play::Under(_, steps) => hold(alloc, desk, callers, project, steps),
         Play::Runs => Ok(is_refused_once(alloc, desk, callers, project)),
         Play::Told(body) => tells(alloc, desk, callers, project, body),
     }
@@ -422,7 +443,8 @@ fn plays_over(
 /// The policy under which it is played; none where memory is refused.
 fn policy_for(alloc: Global, play: Play) -> Option<Policy> {
     match play {
-        Play::Withdrawals(_) => withdrawing(alloc),
+        Play::Under(added, _) => policy_with(alloc, &added),
+        Play::Runs => policy_with(alloc, &WITHDRAWALS),
         _ => Policy::read(alloc, POLICY).ok(),
     }
 }
@@ -470,8 +492,8 @@ fn examples_over(alloc: Global, rt: &impl Abort, over: Over) {
         let right = plays(alloc, over, example.limit, play).unwrap_or(false);
         assert!(rt; right, "{}", example.name);
     }
-    for example in &WITHDRAWALS {
-        let play = Play::Withdrawals(example.steps);
+    for (added, example) in &CHANGED {
+        let play = Play::Under(*added, example.steps);
         let right = plays(alloc, over, example.limit, play).unwrap_or(false);
         assert!(rt; right, "{}", example.name);
     }
