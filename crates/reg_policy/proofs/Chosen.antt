@@ -1,6 +1,7 @@
 -- The test of each relation of a rule, and the decision of a list of rules.
-use Rattle.std.proofs.Common.{◌≡◌, ◌⊎◌, ℕ, zero, suc, ◌+◌, ◌<◌, List, [], ◌∷◌, length, drop, get_or, Bool, true, false, cond, ◌&&◌, is_none, Option, Some, None, Decides, refl, sym, ap, ◌∙◌, inl, inr}
-use Rattle.std.proofs.lemmas.Bool.{false≢true, cases_Bool}
+use Rattle.std.proofs.Common.{◌≡◌, ◌⊎◌, ℕ, zero, suc, ◌+◌, ◌<◌, List, [], ◌∷◌, length, drop, get_or, Bool, true, false, cond, ◌&&◌, is_none, Option, Some, None, ℤ, ◌≤ℤ◌, int_le, Decides, refl, sym, ap, ◌∙◌, inl, inr, arith, negsuc, pos}
+use Rattle.std.proofs.lemmas.Bool.{false≢true, cases_Bool, leb-true, le-leb}
+use Rattle.std.proofs.lemmas.Int.{ints}
 use Rattle.std.proofs.lemmas.Bool.Decides.{Decides-and, Decides-like, Decides-or, not_from_Decides}
 use Rattle.std.proofs.lemmas.List.{at_drop_more}
 use Rattle.std.proofs.lemmas.List.Elements.{All-cons, All-nil}
@@ -10,7 +11,9 @@ use Rattle.std.specs.List.{list_any, zip}
 use Rattle.std.specs.Str.{bytes_eq}
 use denote.Enum.Bare.{same_true, sameb, true_same}
 use Rattle.reg_policy.specs.contracts.subject.Verb.{the_type as the_verbs}
-use Rattle.reg_policy.specs.Decision.{Question, Facts, IsFirstMatch, HasEntry, Matches, Meets, MeetsEntry, MeetsRow, decision_of, effect_of, has_entry, is_met, is_row_met, matches}
+use Rattle.reg_policy.specs.Decision.{Question, Facts, IsFirstMatch, HasEntry, IsWithin, Matches, Meets, MeetsEntry, MeetsRow, NotAfter, NotBefore,
+    decision_of, effect_of, has_entry, is_met, is_row_met, is_within, matches}
+use Rattle.reg_policy.specs.declared.period.Period.{Period}
 use Rattle.reg_policy.specs.declared.rule.WantedEntry.{WantedEntry}
 use Rattle.reg_policy.specs.declared.rule.Rule.{Rule}
 use Rattle.reg_policy.specs.declared.subject.Decision.{Decision}
@@ -64,11 +67,28 @@ is_row_met-Decides r None = four-Decides _ _ _ _ (is_none-Decides r.group) (is_n
 is_row_met-Decides r (Some f) = four-Decides _ _ _ _ (is_met-Decides bytes_eq bytes_eq-Decides r.group f.group) (is_met-Decides beq beq-Decides r.own f.own)
     (is_met-Decides beq beq-Decides r.past f.past) (is_entry_met-Decides r.entry f)
 
+int_le-Decides : (a b : ℤ) → Decides (int_le a b) (a ≤ℤ b)
+int_le-Decides (pos a) (pos b) = (λ e. omega (arith, ints, leb-true a b e), λ h. le-leb a b (omega (arith, ints, h)))
+int_le-Decides (pos a) (negsuc b) = (λ e. absurd (false≢true e), λ h. absurd (omega (arith, ints, h)))
+int_le-Decides (negsuc a) (pos b) = (λ e. omega (arith, ints), λ h. refl)
+int_le-Decides (negsuc a) (negsuc b) = (λ e. omega (arith, ints, leb-true b a e), λ h. le-leb b a (omega (arith, ints, h)))
+
+not_before-Decides : (o : Option ℤ) (n : ℤ) → Decides (is_met int_le o n) (NotBefore o n)
+not_before-Decides None n = (λ _. tt, λ _. refl)
+not_before-Decides (Some first) n = int_le-Decides first n
+
+not_after-Decides : (o : Option ℤ) (n : ℤ) → Decides (is_met (λ last day. int_le day last) o n) (NotAfter o n)
+not_after-Decides None n = (λ _. tt, λ _. refl)
+not_after-Decides (Some last) n = int_le-Decides n last
+
+is_within-Decides : (p : Period) (n : ℤ) → Decides (is_within p n) (IsWithin p n)
+is_within-Decides p n = Decides-and _ _ (not_before-Decides p.from n) (not_after-Decides p.until n)
+
 pub matches-Decides : (r : Rule) (s : Question) → Decides (matches r s) (Matches r s)
 matches-Decides r s =
-    Decides-like _ (λ h. (h.0.0, h.0.1, h.0.2, h.0.3, h.1)) (λ h. ((h.0, h.1, h.2, h.3), h.4))
-    (Decides-and _ _ (four-Decides _ _ _ _ (is_met-Decides bytes_eq bytes_eq-Decides r.firm s.firm) (is_met-Decides bytes_eq bytes_eq-Decides r.role s.role)
-    (is_met-Decides bytes_eq bytes_eq-Decides r.project s.project) (is_met-Decides (sameb the_verbs) verb-Decides r.verb s.verb)) (is_row_met-Decides r s.row))
+    Decides-like _ (λ h. (h.0.0.0, h.0.0.1, h.0.0.2, h.0.0.3, h.0.1, h.1)) (λ h. (((h.0, h.1, h.2, h.3), h.4), h.5))
+    (Decides-and _ _ (Decides-and _ _ (four-Decides _ _ _ _ (is_met-Decides bytes_eq bytes_eq-Decides r.firm s.firm) (is_met-Decides bytes_eq bytes_eq-Decides r.role s.role)
+    (is_met-Decides bytes_eq bytes_eq-Decides r.project s.project) (is_met-Decides (sameb the_verbs) verb-Decides r.verb s.verb)) (is_row_met-Decides r s.row)) (is_within-Decides r.period s.day))
 
 -- one turn of the search for the first rule that matches
 pub decision_turn : (rules : List Rule) (s : Question) (i : ℕ) (r : Rule) (b : Bool) → i < length rules → r ≡ get_or rules i r → b ≡ matches r s

@@ -1,10 +1,11 @@
 -- What the accessors of a value say of the keys of a table.
-use Rattle.std.proofs.Common.{◌≡◌, ℕ, List, Bool, true, false, cond, codes, Option, Some, None, Ok, Err, Bor, refl, sym, ap, ◌∙◌, subst, inr}
+use Rattle.std.proofs.Common.{◌≡◌, ℕ, List, Bool, true, false, cond, codes, Option, Some, None, Ok, Err, Bor, IsTrue, ℤ, refl, sym, ap, ◌∙◌, subst, inr}
 use Rattle.std.proofs.lemmas.Bool.{false≢true}
 use Rattle.std.proofs.lemmas.Slice.Eq.{bytes_eq-Decides}
 use Rattle.std.specs.Str.{bytes_eq}
 use Rattle.toml.specs.Data.{Data, string, integer, float, boolean, datetime, array, table, as_str}
-use Rattle.reg_policy.specs.Rules.{IsSettingOf}
+use Rattle.reg_policy.specs.Days.{Writes, is_day_number}
+use Rattle.reg_policy.specs.Rules.{IsDayAt, IsSettingOf}
 use Rattle.reg_policy.specs.Readers.{GivesText, GivesWord}
 use Rattle.reg_policy.specs.declared.document.ReadError.TheVariants.{BadValue}
 
@@ -52,3 +53,17 @@ word_some W (Some (boolean b)) t a h w = cc
 word_some W (Some (datetime dt)) t a h w = cc
 word_some W (Some (array ds)) t a h w = cc
 word_some W (Some (table ms)) t a h w = cc
+
+-- a text that writes a day
+pub day_some : (o : Option Data) (t : Bor (List ℕ)) (day : ℤ) → GivesText o (Ok (Some t)) → Writes t.now day × IsTrue (is_day_number day)
+    → IsDayAt o (Some day)
+day_some None t day h w = cc
+day_some (Some (string s)) t day h w =
+    let same : t.now ≡ s = cc in
+    subst (λ z. Writes z day × IsTrue (is_day_number day)) same w
+day_some (Some (integer z)) t day h w = cc
+day_some (Some (float x)) t day h w = cc
+day_some (Some (boolean b)) t day h w = cc
+day_some (Some (datetime dt)) t day h w = cc
+day_some (Some (array ds)) t day h w = cc
+day_some (Some (table ms)) t day h w = cc

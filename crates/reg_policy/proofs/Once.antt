@@ -1,5 +1,5 @@
 -- A document has one list of rules, and one of callers.
-use Rattle.std.proofs.Common.{◌≡◌, ◌≢◌, ℕ, List, [], ◌∷◌, Bool, true, false, Option, Some, None, codes, pos, refl, sym, ap, ◌∙◌, inl, inr}
+use Rattle.std.proofs.Common.{◌≡◌, ◌≢◌, ℕ, List, [], ◌∷◌, Bool, true, false, Option, Some, None, codes, ℤ, pos, refl, sym, ap, ◌∙◌, inl, inr}
 use Rattle.std.proofs.lemmas.Bool.{false≢true}
 use Rattle.std.proofs.lemmas.Slice.Eq.{bytes_eq-Decides}
 use Rattle.toml.specs.Data.{Data, string, integer, float, boolean, datetime, array, table, Items, no_items, item, Members, get_member}
@@ -7,11 +7,13 @@ use Rattle.ags_text.specs.Names.{is_group_name}
 use Rattle.reg_policy.specs.Callers.{IsCaller, IsText}
 use Rattle.reg_policy.specs.Documents.{Each, InTable, IsListOf, TablesSay}
 use Rattle.reg_policy.specs.Names.{is_name, is_token, verb_text}
-use Rattle.reg_policy.specs.Rules.{IsEffect, IsEither, IsEntry, IsNumber, IsRule, IsVerb, IsWord, IsSettingOf, effect_text}
+use Rattle.reg_policy.specs.Rules.{IsDayAt, IsPeriodIn, IsEffect, IsEither, IsEntry, IsNumber, IsRule, IsVerb, IsWord, IsSettingOf, effect_text}
 use Rattle.reg_policy.specs.declared.callers.Credential.{Credential}
 use Rattle.reg_policy.specs.declared.rule.Effect.{Effect}
 use Rattle.reg_policy.specs.declared.rule.Effect.TheVariants.{Permit, Deny}
+use Rattle.reg_policy.specs.declared.period.Period.{Period}
 use Rattle.reg_policy.specs.declared.rule.WantedEntry.{WantedEntry}
+use Rattle.reg_policy.proofs.Days.{day_of-Writes}
 use Rattle.reg_policy.specs.declared.rule.Rule.{Rule}
 use Rattle.reg_policy.specs.declared.subject.Verb.{Verb}
 use Rattle.reg_policy.specs.declared.subject.Verb.TheVariants.{Deposit, Check, List as ListDeposits, Extract, Withdraw, See}
@@ -125,6 +127,20 @@ entry_once (Some (string h)) (Some (string v)) (Some a) (Some b) p q = ap Some (
 entry_once (Some (string h)) (Some (string v)) (Some a) None p q = absurd q
 entry_once h v a b p q = absurd p
 
+day_once : (d : Option Data) (a b : Option ℤ) → IsDayAt d a → IsDayAt d b → a ≡ b
+day_once None a b p q = p ∙ sym q
+day_once (Some (string s)) (Some a) (Some b) p q = sym ((day_of-Writes s a).1 p) ∙ (day_of-Writes s b).1 q
+day_once (Some (string s)) (Some a) None p q = absurd q
+day_once d a b p q = absurd p
+
+period_once : (t : Members) (a b : Period) → IsPeriodIn t a → IsPeriodIn t b → a ≡ b
+period_once t a b p q =
+    let from = day_once (get_member (codes "from") t) a.from b.from p.from q.from in
+    let until = day_once (get_member (codes "until") t) a.until b.until p.until q.until in
+    let make : Option ℤ → Option ℤ → Period = λ from until. record { from = from; until = until } in
+    let same : make a.from a.until ≡ make b.from b.until = rw (from, until) in
+    same
+
 pub rule_once : SaysOnce IsRule
 rule_once t a b p q =
     let number = number_once (get_member (codes "number") t) a.number b.number p.number q.number in
@@ -137,8 +153,9 @@ rule_once t a b p q =
     let own = set_once (IsEither (codes "own") (codes "other")) (either_once (codes "own") (codes "other") own_other) (get_member (codes "owner") t) a.own b.own p.own q.own in
     let past = set_once (IsEither (codes "past") (codes "running")) (either_once (codes "past") (codes "running") past_running) (get_member (codes "embargo") t) a.past b.past p.past q.past in
     let entry = entry_once (get_member (codes "heading") t) (get_member (codes "value") t) a.entry b.entry p.entry q.entry in
-    let make : ℕ → Effect → Option (List ℕ) → Option (List ℕ) → Option (List ℕ) → Option Verb → Option (List ℕ) → Option Bool → Option Bool → Option WantedEntry → Rule =
-    λ number effect firm role project verb group own past entry. record {
+    let period = period_once t a.period b.period p.period q.period in
+    let make : ℕ → Effect → Option (List ℕ) → Option (List ℕ) → Option (List ℕ) → Option Verb → Option (List ℕ) → Option Bool → Option Bool → Option WantedEntry → Period → Rule =
+    λ number effect firm role project verb group own past entry period. record {
       number = number;
       effect = effect;
       firm = firm;
@@ -149,9 +166,11 @@ rule_once t a b p q =
       own = own;
       past = past;
       entry = entry;
+      period = period;
     } in
-    let same : make a.number a.effect a.firm a.role a.project a.verb a.group a.own a.past a.entry ≡ make b.number b.effect b.firm b.role b.project b.verb b.group b.own b.past b.entry =
-    rw (number, effect, firm, role, project, verb, group, own, past, entry) in
+    let same : make a.number a.effect a.firm a.role a.project a.verb a.group a.own a.past a.entry a.period
+    ≡ make b.number b.effect b.firm b.role b.project b.verb b.group b.own b.past b.entry b.period =
+    rw (number, effect, firm, role, project, verb, group, own, past, entry, period) in
     same
 
 text_once : (passes : List ℕ → Bool) (d : Option Data) (a b : List ℕ) → IsText passes d a → IsText passes d b → a ≡ b

@@ -1,9 +1,12 @@
 -- The rules that a policy's document has.
-use Rattle.std.specs.Prelude.{◌≡◌, ◌≢◌, ◌⊎◌, ℕ, ◌<◌, ◌≤◌, List, [], ◌∷◌, codes, Bool, true, false, Option, Some, None, Result, Ok, Err, pos, IsTrue}
+use Rattle.std.specs.Prelude.{◌≡◌, ◌≢◌, ◌⊎◌, ℕ, ◌<◌, ◌≤◌, List, [], ◌∷◌, codes, Bool, true, false, Option, Some, None, Result, Ok, Err, ℤ, pos, IsTrue}
 use Rattle.toml.specs.Data.{Data, string, integer, Members, get_member}
 use Rattle.ags_text.specs.Names.{is_group_name, is_heading_name}
+use Rattle.reg_policy.specs.Days.{Writes, is_day_number}
+use Rattle.reg_policy.specs.Decision.{NotAfter}
 use Rattle.reg_policy.specs.Documents.{IsListOf, IsRefused}
 use Rattle.reg_policy.specs.Names.{is_name, verb_text}
+use Rattle.reg_policy.specs.declared.period.Period.{Period}
 use Rattle.reg_policy.specs.declared.rule.WantedEntry.{WantedEntry}
 use Rattle.reg_policy.specs.declared.rule.Rule.{Rule}
 use Rattle.reg_policy.specs.declared.rule.Effect.{Effect}
@@ -20,7 +23,7 @@ rule_key = codes "rule"
 
 abbrev pub rule_keys : List (List ℕ)
 rule_keys = codes "number" ∷ codes "effect" ∷ codes "firm" ∷ codes "role" ∷ codes "project" ∷ codes "verb"
-    ∷ codes "group" ∷ codes "owner" ∷ codes "embargo" ∷ codes "heading" ∷ codes "value" ∷ []
+    ∷ codes "group" ∷ codes "owner" ∷ codes "embargo" ∷ codes "heading" ∷ codes "value" ∷ codes "from" ∷ codes "until" ∷ []
 
 -- What a key sets that may be `*`: nothing where it is absent or `*`, else what its word means by Means.
 abbrev pub IsSettingOf : {A : Type 0} → (List ℕ → A → Type 0) → Option Data → Option A → Type 0
@@ -61,6 +64,22 @@ IsEntry heading value set = ⊥
 abbrev pub IsEntryIn : Members → Option WantedEntry → Type 0
 IsEntryIn table set = IsEntry (get_member (codes "heading") table) (get_member (codes "value") table) set
 
+-- the day that a key sets: none where the key is absent, else the one that its text writes
+abbrev pub IsDayAt : Option Data → Option ℤ → Type 0
+IsDayAt None set = set ≡ None
+IsDayAt (Some (string s)) (Some day) = Writes s day × IsTrue (is_day_number day)
+IsDayAt value set = ⊥
+
+-- the last day is not before the first, where both are set
+abbrev pub IsInOrder : Period → Type 0
+IsInOrder period = (first : ℤ) → period.from ≡ Some first → NotAfter period.until first
+
+-- a table's keys `from` and `until`
+pub record IsPeriodIn (table : Members) (period : Period) : Type 0 where
+  pub from : IsDayAt (get_member (codes "from") table) period.from
+  pub until : IsDayAt (get_member (codes "until") table) period.until
+  pub in_order : IsInOrder period
+
 -- The rule that a table has, key by key.
 pub record IsRule (table : Members) (r : Rule) : Type 0 where
   pub number : IsNumber (get_member (codes "number") table) r.number
@@ -73,6 +92,7 @@ pub record IsRule (table : Members) (r : Rule) : Type 0 where
   pub own : IsSettingOf (IsEither (codes "own") (codes "other")) (get_member (codes "owner") table) r.own
   pub past : IsSettingOf (IsEither (codes "past") (codes "running")) (get_member (codes "embargo") table) r.past
   pub entry : IsEntryIn table r.entry
+  pub period : IsPeriodIn table r.period
 
 -- the numbers rise strictly, the first above n
 abbrev pub IsRisingFrom : ℕ → List Rule → Type 0

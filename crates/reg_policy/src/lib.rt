@@ -8,6 +8,7 @@ mod day;
 mod document;
 pub mod laws;
 mod name;
+mod period;
 mod policy;
 mod rule;
 mod rules;

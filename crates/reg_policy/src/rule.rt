@@ -2,6 +2,7 @@
 ghost use Rattle.std.specs.Prelude.{◌≡◌, ◌↔◌, IsTrue, option_map};
 ghost use Rattle.reg_policy.specs.Decision.{HasEntry, Matches, Meets, MeetsEntry, MeetsRow, effect_of, facts_of, matches};
 
+use crate::period::Period;
 use crate::{Decision, Name, RowFacts, Subject, Verb};
 use ags_text::{Bytes, Cell};
 
@@ -31,6 +32,7 @@ pub(crate) struct Rule {
     /// Whether the embargo is over.
     pub(crate) past: Option<bool>,
     pub(crate) entry: Option<WantedEntry>,
+    pub(crate) period: Period,
 }
 
 impl Rule {
@@ -50,6 +52,7 @@ impl Rule {
             && meets_name(&self.role, &subject.caller.role)
             && meets_name(&self.project, subject.project)
             && self.meets_row(&subject.row)
+            && self.period.holds(subject.day)
     }
 
     /// What the rule decides where it matches.

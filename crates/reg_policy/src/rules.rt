@@ -5,12 +5,13 @@ ghost use Rattle.toml.specs.View.{table_view};
 ghost use Rattle.ags_text.specs.Names.{is_group_name};
 ghost use Rattle.reg_policy.specs.Names.{is_name, verb_text};
 ghost use Rattle.reg_policy.specs.Readers.{Gives, GivesWord};
-ghost use Rattle.reg_policy.specs.Rules.{IsEffect, IsEither, IsEntryIn, IsNumber, IsRule, IsVerb, IsWord, IsSettingOf, rule_key, rule_keys};
+ghost use Rattle.reg_policy.specs.Rules.{IsDayAt, IsPeriodIn, IsEffect, IsEither, IsEntryIn, IsNumber, IsRule, IsVerb, IsWord, IsSettingOf, rule_key, rule_keys};
 ghost use Rattle.reg_policy.specs.declared.subject.Verb.{Verb as VerbValue};
 
 use crate::document::{FromTable, ReadError, copied, string_at};
+use crate::period::Period;
 use crate::rule::{Effect, Rule, WantedEntry};
-use crate::{Name, NameError, Verb};
+use crate::{Day, Name, NameError, Verb};
 use ags_text::{Bytes, is_group_name, is_heading_name};
 use std::alloc::Global;
 use toml::Table;
@@ -29,7 +30,7 @@ impl FromTable for Rule {
     fn table_keys() -> &'static [&'static str] {
         &[
             "number", "effect", "firm", "role", "project", "verb", "group", "owner", "embargo",
-            "heading", "value",
+            "heading", "value", "from", "until",
         ]
     }
 
@@ -52,6 +53,7 @@ fn rule_of(alloc: Global, table: &Table) -> Result<Rule, ReadError>
         project: name_at(alloc, table, "project")?,
         group: group_at(alloc, table)?,
         entry: entry_at(alloc, table)?,
+        period: period_at(table)?,
     })
 }
 
@@ -178,5 +180,31 @@ fn entry_at(alloc: Global, table: &Table) -> Result<Option<WantedEntry>, ReadErr
             Ok(Some(WantedEntry { heading, value }))
         }
         _ => Err(ReadError::BadValue),
+    }
+}
+
+/// `from` and `until`, of which the second is no earlier day than the first.
+fn period_at(table: &Table) -> Result<Period, ReadError>
+    ensures { Gives (IsPeriodIn (table_view table.now)) result }
+{
+    let from = day_at(table, "from")?;
+    let until = day_at(table, "until")?;
+    let period = Period { from, until };
+    if !period.is_in_order() {
+        return Err(ReadError::BadValue);
+    }
+    Ok(period)
+}
+
+/// The day at a key, if there is one.
+fn day_at(table: &Table, key: &str) -> Result<Option<Day>, ReadError>
+    ensures { Gives (IsDayAt (get_member key.now (table_view table.now))) result }
+{
+    let Some(text) = string_at(table, key)? else {
+        return Ok(None);
+    };
+    match Day::read(text) {
+        Some(day) => Ok(Some(day)),
+        None => Err(ReadError::BadValue),
     }
 }

@@ -1,7 +1,7 @@
 //! What a policy is asked about, and what it answers.
 ghost use Rattle.std.specs.Prelude.{◌≡◌};
 
-use crate::{Caller, Name};
+use crate::{Caller, Day, Name};
 use ags_text::Cell;
 use std::marker::Model;
 
@@ -24,13 +24,14 @@ pub struct RowFacts<'a> {
     pub cells: &'a [Cell<'a>],
 }
 
-/// Who asks for what: a request, or to see one row.
+/// Who asks for what, and on which day: a request, or to see one row.
 #[derive(Drop)]
 pub struct Subject<'a> {
     pub(crate) caller: &'a Caller,
     pub(crate) project: &'a Name,
     pub(crate) verb: Verb,
     pub(crate) row: Option<RowFacts<'a>>,
+    pub(crate) day: Day,
 }
 
 impl<'a> Model for Subject<'a> {
@@ -45,6 +46,7 @@ impl<'a> Model for Subject<'a> {
       project = s.project.now;
       verb = s.verb;
       row = option_map facts_of s.row;
+      day = s.day;
     } };
 }
 
@@ -52,26 +54,28 @@ impl<'a> Subject<'a> {
     ghost use Rattle.reg_policy.specs.Decision.{facts_of, request_question, row_question};
 
     /// A caller's request in a project. It meets no rule that sets something of a row.
-    pub fn of_request(caller: &'a Caller, project: &'a Name, verb: Verb) -> Subject<'a>
-        ensures { result ≡ request_question caller.now project.now verb }
+    pub fn of_request(caller: &'a Caller, project: &'a Name, verb: Verb, day: Day) -> Subject<'a>
+        ensures { result ≡ request_question caller.now project.now verb day }
     {
         Subject {
             caller,
             project,
             verb,
             row: None,
+            day,
         }
     }
 
     /// That a caller wants to see a row of a project: the verb is `See`.
-    pub fn of_row(caller: &'a Caller, project: &'a Name, row: RowFacts<'a>) -> Subject<'a>
-        ensures { result ≡ row_question caller.now project.now (facts_of row.entry) }
+    pub fn of_row(caller: &'a Caller, project: &'a Name, row: RowFacts<'a>, day: Day) -> Subject<'a>
+        ensures { result ≡ row_question caller.now project.now (facts_of row.entry) day }
     {
         Subject {
             caller,
             project,
             verb: Verb::See,
             row: Some(row),
+            day,
         }
     }
 }

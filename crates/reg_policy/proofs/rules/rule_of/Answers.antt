@@ -53,6 +53,11 @@ returns-in_err-entry_at c =
     handed_on _ (IsRule (table_view c.args.table.now)) c.in_err-entry_at.field-0.0 _ _ c.from_residual-in_err-entry_at.ensures.1 (λ f same. same) c.in_err-entry_at.ensures
     (λ bad r is. bad r.entry is.entry)
 
+pub returns-in_err-period_at : goal.returns-in_err-period_at
+returns-in_err-period_at c =
+    handed_on _ (IsRule (table_view c.args.table.now)) c.in_err-period_at.field-0.0 _ _ c.from_residual-in_err-period_at.ensures.1 (λ f same. same) c.in_err-period_at.ensures
+    (λ bad r is. bad r.period is.period)
+
 pub returns : goal.returns
 returns c = record {
   number = c.in_ok-number_at.ensures;
@@ -65,4 +70,5 @@ returns c = record {
   project = c.in_ok-name_at-3.ensures;
   group = c.in_ok-group_at.ensures;
   entry = c.in_ok-entry_at.ensures;
+  period = c.in_ok-period_at.ensures;
 }
