@@ -11,8 +11,26 @@ use Rattle.std.specs.List.{list_any, zip}
 use Rattle.std.specs.Str.{bytes_eq}
 use denote.Enum.Bare.{same_true, sameb, true_same}
 use Rattle.reg_policy.specs.contracts.subject.Verb.{the_type as the_verbs}
-use Rattle.reg_policy.specs.Decision.{Question, Facts, IsFirstMatch, HasEntry, IsWithin, Matches, Meets, MeetsEntry, MeetsRow, NotAfter, NotBefore,
-    decision_of, effect_of, has_entry, is_met, is_row_met, is_within, matches}
+use Rattle.reg_policy.specs.Decision.{
+  Question,
+  Facts,
+  IsFirstMatch,
+  HasEntry,
+  IsInPeriod,
+  Matches,
+  Meets,
+  MeetsEntry,
+  MeetsRow,
+  NotAfter,
+  NotBefore,
+  decision_of,
+  effect_of,
+  has_entry,
+  is_met,
+  is_row_met,
+  is_in_period,
+  matches,
+}
 use Rattle.reg_policy.specs.declared.period.Period.{Period}
 use Rattle.reg_policy.specs.declared.rule.WantedEntry.{WantedEntry}
 use Rattle.reg_policy.specs.declared.rule.Rule.{Rule}
@@ -81,14 +99,14 @@ not_after-Decides : (o : Option ℤ) (n : ℤ) → Decides (is_met (λ last day.
 not_after-Decides None n = (λ _. tt, λ _. refl)
 not_after-Decides (Some last) n = int_le-Decides n last
 
-is_within-Decides : (p : Period) (n : ℤ) → Decides (is_within p n) (IsWithin p n)
-is_within-Decides p n = Decides-and _ _ (not_before-Decides p.from n) (not_after-Decides p.until n)
+is_in_period-Decides : (p : Period) (n : ℤ) → Decides (is_in_period p n) (IsInPeriod p n)
+is_in_period-Decides p n = Decides-and _ _ (not_before-Decides p.from n) (not_after-Decides p.until n)
 
 pub matches-Decides : (r : Rule) (s : Question) → Decides (matches r s) (Matches r s)
 matches-Decides r s =
     Decides-like _ (λ h. (h.0.0.0, h.0.0.1, h.0.0.2, h.0.0.3, h.0.1, h.1)) (λ h. (((h.0, h.1, h.2, h.3), h.4), h.5))
     (Decides-and _ _ (Decides-and _ _ (four-Decides _ _ _ _ (is_met-Decides bytes_eq bytes_eq-Decides r.firm s.firm) (is_met-Decides bytes_eq bytes_eq-Decides r.role s.role)
-    (is_met-Decides bytes_eq bytes_eq-Decides r.project s.project) (is_met-Decides (sameb the_verbs) verb-Decides r.verb s.verb)) (is_row_met-Decides r s.row)) (is_within-Decides r.period s.day))
+    (is_met-Decides bytes_eq bytes_eq-Decides r.project s.project) (is_met-Decides (sameb the_verbs) verb-Decides r.verb s.verb)) (is_row_met-Decides r s.row)) (is_in_period-Decides r.period s.day))
 
 -- one turn of the search for the first rule that matches
 pub decision_turn : (rules : List Rule) (s : Question) (i : ℕ) (r : Rule) (b : Bool) → i < length rules → r ≡ get_or rules i r → b ≡ matches r s

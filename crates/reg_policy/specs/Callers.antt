@@ -65,6 +65,7 @@ ReadsCallers text (Err UnknownKey) = IsRefused caller_key caller_keys IsCaller t
 -- of these keys alone, but the array is no list of callers: a value that its key may not have, or a key that is missing
 ReadsCallers text (Err BadValue) = IsRefused caller_key caller_keys IsCaller text ReadErrors.BadValue
 -- a document of callers, but a token stands twice
-ReadsCallers text (Err DuplicateToken) = (callers : List Credential) × HasCallers text callers × (are_unique callers ≡ false)
+ReadsCallers text (Err DuplicateToken) =
+    (callers : List Credential) × HasCallers text callers × (are_unique callers ≡ false)
 -- memory was refused, which says nothing of the text
 ReadsCallers text (Err NoMemory) = Unit {0}

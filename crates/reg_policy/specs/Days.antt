@@ -45,12 +45,15 @@ number_in digits = fold (λ n c. 10 * n + (c - zero_digit)) 0 digits
 
 -- the calendar has the date
 abbrev pub is_date : ℕ → ℕ → ℕ → Bool
-is_date year month day = nat_lt year 10000 && nat_le 1 month && nat_le month 12 && nat_le 1 day && nat_le day (days_in_month (pos year) month)
+is_date year month day =
+    nat_lt year 10000 && nat_le 1 month && nat_le month 12 && nat_le 1 day
+    && nat_le day (days_in_month (pos year) month)
 
 -- the day number of a date, where it has one
 abbrev pub day_number_of : ℕ → ℕ → ℕ → Option ℤ
 day_number_of year month day =
-    if is_date year month day && is_day_number (days_from_civil (pos year) month day) then Some (days_from_civil (pos year) month day) else None
+    let number = days_from_civil (pos year) month day in
+    if is_date year month day && is_day_number number then Some number else None
 
 -- The day of a text: it is the text that the date which it writes would have.
 abbrev pub day_of : List ℕ → Option ℤ

@@ -36,7 +36,8 @@ pub record Question : Type 0 where
 
 -- what a program knows of a row
 abbrev pub facts_of : RowFacts → Facts
-facts_of row = record { group = row.group.now; own = row.own; past = row.past; headings = row.headings.now; cells = row.cells.now }
+facts_of row =
+    record { group = row.group.now; own = row.own; past = row.past; headings = row.headings.now; cells = row.cells.now }
 
 -- a caller's request: it has no row
 abbrev pub request_question : Caller → List ℕ → Verb → ℤ → Question
@@ -55,7 +56,8 @@ Meets (Some set) asked = set ≡ asked
 
 -- at some place the row has the heading, and exactly the value
 abbrev pub HasEntry : WantedEntry → List (List ℕ) → List (List ℕ) → Type 0
-HasEntry entry headings cells = (place : ℕ) × (slice_get headings place ≡ Some entry.heading) × (slice_get cells place ≡ Some entry.value)
+HasEntry entry headings cells =
+    (place : ℕ) × (slice_get headings place ≡ Some entry.heading) × (slice_get cells place ≡ Some entry.value)
 
 abbrev pub MeetsEntry : Option WantedEntry → List (List ℕ) → List (List ℕ) → Type 0
 MeetsEntry None headings cells = Unit {0}
@@ -64,7 +66,8 @@ MeetsEntry (Some entry) headings cells = HasEntry entry headings cells
 -- A request without a row is met only by a rule that sets nothing of a row.
 abbrev pub MeetsRow : Rule → Option Facts → Type 0
 MeetsRow r None = (r.group ≡ None) × (r.own ≡ None) × (r.past ≡ None) × (r.entry ≡ None)
-MeetsRow r (Some row) = Meets r.group row.group × Meets r.own row.own × Meets r.past row.past × MeetsEntry r.entry row.headings row.cells
+MeetsRow r (Some row) =
+    Meets r.group row.group × Meets r.own row.own × Meets r.past row.past × MeetsEntry r.entry row.headings row.cells
 
 -- the day is not before the first, where one is set
 abbrev pub NotBefore : Option ℤ → ℤ → Type 0
@@ -77,14 +80,14 @@ NotAfter None day = Unit {0}
 NotAfter (Some last) day = day ≤ℤ last
 
 -- The day is not before the period's first day and not after its last.
-abbrev pub IsWithin : Period → ℤ → Type 0
-IsWithin period day = NotBefore period.from day × NotAfter period.until day
+abbrev pub IsInPeriod : Period → ℤ → Type 0
+IsInPeriod period day = NotBefore period.from day × NotAfter period.until day
 
 -- The rule matches what is asked: all that it sets is so.
 abbrev pub Matches : Rule → Question → Type 0
 Matches r asked =
     Meets r.firm asked.firm × Meets r.role asked.role × Meets r.project asked.project × Meets r.verb asked.verb
-    × MeetsRow r asked.row × IsWithin r.period asked.day
+    × MeetsRow r asked.row × IsInPeriod r.period asked.day
 
 -- the decision that a rule states
 abbrev pub effect_of : Effect → ℕ → Decision
@@ -107,22 +110,26 @@ is_met same (Some set) asked = same set asked
 
 -- at some place the row has the heading, and exactly the value
 abbrev pub has_entry : WantedEntry → Facts → Bool
-has_entry entry row = list_any (λ (heading, cell). bytes_eq heading entry.heading && bytes_eq cell entry.value) (zip row.headings row.cells)
+has_entry entry row =
+    list_any (λ (heading, cell). bytes_eq heading entry.heading && bytes_eq cell entry.value)
+    (zip row.headings row.cells)
 
 -- A request without a row is met only by a rule that sets nothing of a row.
 abbrev pub is_row_met : Rule → Option Facts → Bool
 is_row_met r None = is_none r.group && is_none r.own && is_none r.past && is_none r.entry
-is_row_met r (Some row) = is_met bytes_eq r.group row.group && is_met beq r.own row.own && is_met beq r.past row.past && is_met has_entry r.entry row
+is_row_met r (Some row) =
+    is_met bytes_eq r.group row.group && is_met beq r.own row.own && is_met beq r.past row.past
+    && is_met has_entry r.entry row
 
 -- the day is not before the period's first day and not after its last
-abbrev pub is_within : Period → ℤ → Bool
-is_within period day = is_met int_le period.from day && is_met (λ last n. int_le n last) period.until day
+abbrev pub is_in_period : Period → ℤ → Bool
+is_in_period period day = is_met int_le period.from day && is_met (λ last n. int_le n last) period.until day
 
 -- The rule matches what is asked: all that it sets is so. `sameb the_verbs` tells whether two verbs are one.
 abbrev pub matches : Rule → Question → Bool
 matches r asked =
     is_met bytes_eq r.firm asked.firm && is_met bytes_eq r.role asked.role && is_met bytes_eq r.project asked.project
-    && is_met (sameb the_verbs) r.verb asked.verb && is_row_met r asked.row && is_within r.period asked.day
+    && is_met (sameb the_verbs) r.verb asked.verb && is_row_met r asked.row && is_in_period r.period asked.day
 
 -- The decision: the effect and number of the first rule that matches, or the denial 0.
 abbrev pub decision_of : List Rule → Question → Decision

@@ -32,7 +32,8 @@ have_known_keys keys value = true
 
 -- The document has no other key than that of the array, and the array's tables none than these.
 abbrev pub is_known : List ℕ → List (List ℕ) → Members → Bool
-is_known array_key table_keys document = all_keys (λ k. bytes_eq k array_key) document && have_known_keys table_keys (get_member array_key document)
+is_known array_key table_keys document =
+    all_keys (λ k. bytes_eq k array_key) document && have_known_keys table_keys (get_member array_key document)
 
 -- the item is a table, and says this, where Says tells what a table says
 abbrev pub InTable : {A : Type 0} → (Members → A → Type 0) → Data → A → Type 0
@@ -53,16 +54,21 @@ TablesSay Says (Some d) all = ⊥
 
 -- the text is a TOML document of known keys
 abbrev pub IsDocument : List ℕ → List (List ℕ) → List ℕ → Members → Type 0
-IsDocument array_key table_keys text document = (parse_document text ≡ Some document) × (is_known array_key table_keys document ≡ true)
+IsDocument array_key table_keys text document =
+    (parse_document text ≡ Some document) × (is_known array_key table_keys document ≡ true)
 
 -- The text is a document that lists all these.
 abbrev pub IsListOf : {A : Type 0} → List ℕ → List (List ℕ) → (Members → A → Type 0) → List ℕ → List A → Type 0
-IsListOf array_key table_keys Says text all = (document : Members) × IsDocument array_key table_keys text document × TablesSay Says (get_member array_key document) all
+IsListOf array_key table_keys Says text all =
+    (document : Members) × IsDocument array_key table_keys text document
+    × TablesSay Says (get_member array_key document) all
 
 -- The text is refused: it is no TOML; or a key is unknown; or what the array has is nothing that it may say.
 abbrev pub IsRefused : {A : Type 0} → List ℕ → List (List ℕ) → (Members → A → Type 0) → List ℕ → ReadError → Type 0
 IsRefused array_key table_keys Says text Syntax = parse_document text ≡ None
-IsRefused array_key table_keys Says text UnknownKey = (document : Members) × (parse_document text ≡ Some document) × (is_known array_key table_keys document ≡ false)
+IsRefused array_key table_keys Says text UnknownKey =
+    (document : Members) × (parse_document text ≡ Some document) × (is_known array_key table_keys document ≡ false)
 IsRefused {A} array_key table_keys Says text BadValue =
-    (document : Members) × IsDocument array_key table_keys text document × ((all : List A) → ¬ (TablesSay Says (get_member array_key document) all))
+    (document : Members) × IsDocument array_key table_keys text document
+    × ((all : List A) → ¬ (TablesSay Says (get_member array_key document) all))
 IsRefused array_key table_keys Says text NoMemory = Unit {0}

@@ -29,12 +29,14 @@ GivesList P (Err e) = Gives P (Err e)
 abbrev pub Opens : List ℕ → List (List ℕ) → List ℕ → Result (BTreeMap (String Global) Value) ReadError → Type 0
 Opens array_key table_keys text (Ok t) = IsDocument array_key table_keys text (table_view t)
 Opens array_key table_keys text (Err Syntax) = parse_document text ≡ None
-Opens array_key table_keys text (Err UnknownKey) = (document : Members) × (parse_document text ≡ Some document) × (is_known array_key table_keys document ≡ false)
+Opens array_key table_keys text (Err UnknownKey) =
+    (document : Members) × (parse_document text ≡ Some document) × (is_known array_key table_keys document ≡ false)
 Opens array_key table_keys text (Err NoMemory) = Unit {0}
 Opens array_key table_keys text (Err e) = ⊥
 
 -- a reader of a whole list
-abbrev pub ReadsList : {A : Type 0} → List ℕ → List (List ℕ) → (Members → A → Type 0) → List ℕ → Result (Vec A Global) ReadError → Type 0
+abbrev pub ReadsList :
+    {A : Type 0} → List ℕ → List (List ℕ) → (Members → A → Type 0) → List ℕ → Result (Vec A Global) ReadError → Type 0
 ReadsList array_key table_keys Says text (Ok v) = IsListOf array_key table_keys Says text v.items
 ReadsList array_key table_keys Says text (Err e) = IsRefused array_key table_keys Says text e
 
@@ -47,7 +49,8 @@ GivesText (Some d) r = r ≡ Err BadValue
 -- the same, where `*` is none
 abbrev pub GivesWord : Option Data → Result (Option (Bor (List ℕ))) ReadError → Type 0
 GivesWord None r = r ≡ Ok None
-GivesWord (Some (string s)) r = IfOk r (λ o. option_map (λ x. x.now) o ≡ (if bytes_eq s (codes "*") then None else Some s)) × IsOk r
+GivesWord (Some (string s)) r =
+    IfOk r (λ o. option_map (λ x. x.now) o ≡ (if bytes_eq s (codes "*") then None else Some s)) × IsOk r
 GivesWord (Some d) r = r ≡ Err BadValue
 
 -- a copy of a text, or want of memory

@@ -23,12 +23,14 @@ rule_key = codes "rule"
 
 abbrev pub rule_keys : List (List ℕ)
 rule_keys = codes "number" ∷ codes "effect" ∷ codes "firm" ∷ codes "role" ∷ codes "project" ∷ codes "verb"
-    ∷ codes "group" ∷ codes "owner" ∷ codes "embargo" ∷ codes "heading" ∷ codes "value" ∷ codes "from" ∷ codes "until" ∷ []
+    ∷ codes "group" ∷ codes "owner" ∷ codes "embargo" ∷ codes "heading" ∷ codes "value"
+    ∷ codes "from" ∷ codes "until" ∷ []
 
 -- What a key sets that may be `*`: nothing where it is absent or `*`, else what its word means by Means.
 abbrev pub IsSettingOf : {A : Type 0} → (List ℕ → A → Type 0) → Option Data → Option A → Type 0
 IsSettingOf Means None set = set ≡ None
-IsSettingOf {A} Means (Some (string s)) set = ((s ≡ codes "*") × (set ≡ None)) ⊎ ((s ≢ codes "*") × (a : A) × Means s a × (set ≡ Some a))
+IsSettingOf {A} Means (Some (string s)) set =
+    ((s ≡ codes "*") × (set ≡ None)) ⊎ ((s ≢ codes "*") × (a : A) × Means s a × (set ≡ Some a))
 IsSettingOf Means (Some d) set = ⊥
 
 -- a word that passes is itself
@@ -57,7 +59,8 @@ IsEffect value effect = value ≡ Some (string (effect_text effect))
 -- a heading (Rule 19a) and any text: both or neither
 abbrev pub IsEntry : Option Data → Option Data → Option WantedEntry → Type 0
 IsEntry None None set = set ≡ None
-IsEntry (Some (string heading)) (Some (string value)) (Some entry) = IsTrue (is_heading_name heading) × (entry.heading ≡ heading) × (entry.value ≡ value)
+IsEntry (Some (string heading)) (Some (string value)) (Some entry) =
+    IsTrue (is_heading_name heading) × (entry.heading ≡ heading) × (entry.value ≡ value)
 IsEntry heading value set = ⊥
 
 -- the same, of a table's keys `heading` and `value`
@@ -118,7 +121,8 @@ ReadsPolicy text (Ok rules) = HasRules text rules × IsRisingFrom 0 rules
 ReadsPolicy text (Err Syntax) = IsRefused rule_key rule_keys IsRule text ReadErrors.Syntax
 -- a document with a key other than these
 ReadsPolicy text (Err UnknownKey) = IsRefused rule_key rule_keys IsRule text ReadErrors.UnknownKey
--- of these keys alone, but the array is no list of rules: a value that its key may not have, a key that is missing, or a heading without a value
+-- of these keys alone, but the array is no list of rules: a value that its key may not have, a key that is missing,
+-- a heading without a value, or a last day before the first
 ReadsPolicy text (Err BadValue) = IsRefused rule_key rule_keys IsRule text ReadErrors.BadValue
 -- a document of rules, but a number is not above that of the rule before
 ReadsPolicy text (Err Order) = (rules : List Rule) × HasRules text rules × ¬ (IsRisingFrom 0 rules)

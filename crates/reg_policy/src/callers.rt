@@ -93,12 +93,13 @@ impl Callers {
         Ok(Callers { credentials })
     }
 
-    /// The caller who has the token. The time that this takes does not depend on where a token differs; no clause says so.
+    /// The caller who has the token. The time that this takes does not depend on where a token differs.
+    /// No clause says so.
     pub fn find(&self, token: &[u8]) -> Option<&Caller>
         ensures { option_map (λ c. c.now) result ≡ caller_of token.now self.now }
     {
         for credential in &self.credentials {
-            if is_same(token, credential.token.as_slice()) {
+            if is_same_token(token, credential.token.as_slice()) {
                 return Some(&credential.caller);
             }
         }
@@ -106,8 +107,8 @@ impl Callers {
     }
 }
 
-/// Whether two texts are the same. Each byte of theirs is compared, so the time depends on their lengths alone.
-fn is_same(a: &[u8], b: &[u8]) -> bool
+/// Whether two tokens are the same. Each byte of theirs is compared, so the time depends on their lengths alone.
+fn is_same_token(a: &[u8], b: &[u8]) -> bool
     ensures { result ≡ bytes_eq a.now b.now }
 {
     if a.len() != b.len() {

@@ -70,10 +70,10 @@ impl Day {
         ensures in_range { IsTrue (is_day_number self) }
     {
         let (year, month, day) = date_of(self.number);
-        let [y1, y2] = digits_of((year / 100) as u8);
-        let [y3, y4] = digits_of((year % 100) as u8);
-        let [m1, m2] = digits_of(month);
-        let [d1, d2] = digits_of(day);
+        let [y1, y2] = digit_pair((year / 100) as u8);
+        let [y3, y4] = digit_pair((year % 100) as u8);
+        let [m1, m2] = digit_pair(month);
+        let [d1, d2] = digit_pair(day);
         [y1, y2, y3, y4, b'-', m1, m2, b'-', d1, d2]
     }
 }
@@ -94,10 +94,10 @@ fn read_parts(text: &[u8]) -> Option<(u16, u8, u8)>
         return None;
     };
     let (Some(century), Some(year), Some(month), Some(day)) = (
-        number_of(*y1, *y2),
-        number_of(*y3, *y4),
-        number_of(*m1, *m2),
-        number_of(*d1, *d2),
+        number_of_digits(*y1, *y2),
+        number_of_digits(*y3, *y4),
+        number_of_digits(*m1, *m2),
+        number_of_digits(*d1, *d2),
     ) else {
         return None;
     };
@@ -119,7 +119,7 @@ fn day_number(year: u16, month: u8, day: u8) -> Option<i32>
 }
 
 /// The number that two digits write.
-fn number_of(tens: u8, ones: u8) -> Option<u8>
+fn number_of_digits(tens: u8, ones: u8) -> Option<u8>
     ensures some { IfSome result (λ n. (n < 100) × (two_digits n ≡ tens ∷ ones ∷ [])) }
     ensures none { IsNone result → (n : ℕ) → n < 100 → two_digits n ≢ tens ∷ ones ∷ [] }
 {
@@ -131,7 +131,7 @@ fn number_of(tens: u8, ones: u8) -> Option<u8>
 }
 
 /// The two digits of a number.
-fn digits_of(number: u8) -> [u8; 2]
+fn digit_pair(number: u8) -> [u8; 2]
     requires { number < 100 }
     ensures { result ≡ two_digits number }
 {

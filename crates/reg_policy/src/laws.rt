@@ -9,8 +9,8 @@ ghost use Rattle.reg_policy.specs.declared.rule.Rule.{Rule};
 
 use crate::Policy;
 
-/// Whatever is asked, the decision is that of the first rule that matches: the rules are some that do not match, one that
-/// does, and others. Where none matches, it is the denial 0.
+/// Whatever is asked, the decision is that of the first rule that matches: the rules are some that do not match,
+/// one that does, and others. Where none matches, it is the denial 0.
 pub fn first_match_decides(policy: &Policy)
     ensures { (asked : Question) → IsFirstMatch policy.now asked (decision_of policy.now asked) }
 {}

@@ -1,6 +1,6 @@
 //! The days on which a rule holds.
 ghost use Rattle.std.specs.Prelude.{◌↔◌, IsTrue};
-ghost use Rattle.reg_policy.specs.Decision.{IsWithin, NotAfter, NotBefore};
+ghost use Rattle.reg_policy.specs.Decision.{IsInPeriod, NotAfter, NotBefore};
 ghost use Rattle.reg_policy.specs.Rules.{IsInOrder};
 
 use crate::Day;
@@ -13,7 +13,7 @@ pub(crate) struct Period { pub(crate) from: Option<Day>, pub(crate) until: Optio
 impl Period {
     /// Whether the day is one of them.
     pub(crate) fn holds(&self, day: Day) -> bool
-        ensures { IsTrue result ↔ IsWithin self.now day }
+        ensures { IsTrue result ↔ IsInPeriod self.now day }
     {
         is_not_before(self.from, day) && is_not_after(self.until, day)
     }

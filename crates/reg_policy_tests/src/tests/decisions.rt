@@ -2,7 +2,9 @@
 use super::policies::{RULE, policy_of};
 use ags_rows::cells;
 use ags_text::Cell;
-use reg_policy::{Caller, Decision, Name, NameError, Policy, RowFacts, Subject, Verb, vectors};
+use reg_policy::{
+    Caller, Day, Decision, Name, NameError, Policy, RowFacts, Subject, Verb, vectors,
+};
 use std::alloc::Global;
 
 /// One who asks in a project.
@@ -252,21 +254,23 @@ const REQUESTS: [Request; 28] = [
     },
 ];
 
-/// What a policy decides of a request.
-fn asked(alloc: Global, policy: &Policy, request: &Request) -> Option<Decision> {
-    match asker_of(alloc, request.firm, request.role) {
-        Ok(asker) => {
-            let subject = Subject::of_request(&asker.caller, &asker.project, request.verb);
-            Some(policy.decide(&subject))
-        }
-        Err(_) => None,
-    }
+/// A day of which no policy above says anything.
+const ANY_DAY: &str = "2024-05-01";
+
+/// Whether a request on a day is decided as wanted.
+fn is_decided(alloc: Global, policy: &Policy, request: &Request, day: &str) -> bool {
+    let (Ok(asker), Some(day)) = (asker_of(alloc, request.firm, request.role), Day::read(day))
+    else {
+        return false;
+    };
+    let subject = Subject::of_request(&asker.caller, &asker.project, request.verb, day);
+    policy.decide(&subject) == request.want
 }
 
 /// Whether a request is decided as wanted.
-fn is_decided(alloc: Global, request: &Request) -> bool {
+fn is_request_decided(alloc: Global, request: &Request) -> bool {
     match policy_of(alloc, request.policy) {
-        Ok(policy) => asked(alloc, &policy, request) == Some(request.want),
+        Ok(policy) => is_decided(alloc, &policy, request, ANY_DAY),
         Err(_) => false,
     }
 }
@@ -274,7 +278,7 @@ fn is_decided(alloc: Global, request: &Request) -> bool {
 #[test]
 fn requests_decided(rt: HostRuntime) {
     for request in &REQUESTS {
-        assert!(rt; is_decided(rt.alloc(), request), "{}", request.firm);
+        assert!(rt; is_request_decided(rt.alloc(), request), "{}", request.firm);
     }
 }
 
@@ -382,14 +386,14 @@ fn fields(alloc: Global, line: &'static [u8]) -> Option<Vec<Cell<'static>>> {
     }
 }
 
-/// What a policy decides of a row that Echo wants to see.
-fn seen(alloc: Global, policy: &Policy, row: RowFacts<'_>) -> Option<Decision> {
-    match asker_of(alloc, "Echo", "consultant") {
-        Ok(echo) => {
-            let subject = Subject::of_row(&echo.caller, &echo.project, row);
+/// What a policy decides of a row that Echo wants to see on a day.
+fn seen(alloc: Global, policy: &Policy, row: RowFacts<'_>, day: &str) -> Option<Decision> {
+    match (asker_of(alloc, "Echo", "consultant"), Day::read(day)) {
+        (Ok(echo), Some(day)) => {
+            let subject = Subject::of_row(&echo.caller, &echo.project, row, day);
             Some(policy.decide(&subject))
         }
-        Err(_) => None,
+        _ => None,
     }
 }
 
@@ -403,7 +407,7 @@ fn is_seen(alloc: Global, sight: &Sight, headings: &[Cell<'_>], cells: &[Cell<'_
         cells,
     };
     match policy_of(alloc, sight.policy) {
-        Ok(policy) => seen(alloc, &policy, row) == Some(sight.want),
+        Ok(policy) => seen(alloc, &policy, row, ANY_DAY) == Some(sight.want),
         Err(_) => false,
     }
 }
@@ -428,5 +432,92 @@ fn is_row_decided(alloc: Global, sight: &Sight) -> bool {
 fn rows_decided(rt: HostRuntime) {
     for sight in &SIGHTS {
         assert!(rt; is_row_decided(rt.alloc(), sight));
+    }
+}
+
+/// The line of policy Q after which its rule 40 gets more keys.
+const EXTRACTS: &str = "verb = \"extract\"\n";
+
+/// A month, a day from which on, a day until which, and one day alone.
+const JUNE: &str = "from = \"2024-06-01\"\nuntil = \"2024-06-30\"\n";
+
+const FROM_JUNE: &str = "from = \"2024-06-01\"\n";
+
+const UNTIL_JULY: &str = "until = \"2024-06-30\"\n";
+
+const ONE_DAY: &str = "from = \"2024-06-01\"\nuntil = \"2024-06-01\"\n";
+
+/// Further keys of rule 40, a day, and what is decided of an extract.
+const EXTRACTS_ON_DAYS: [(&str, &str, Decision); 13] = [
+    (JUNE, "2024-05-31", Decision::Deny(0)),
+    (JUNE, "2024-06-01", Decision::Permit(40)),
+    (JUNE, "2024-06-30", Decision::Permit(40)),
+    (JUNE, "2024-07-01", Decision::Deny(0)),
+    (FROM_JUNE, "2024-05-31", Decision::Deny(0)),
+    (FROM_JUNE, "2024-06-01", Decision::Permit(40)),
+    (FROM_JUNE, "9999-12-31", Decision::Permit(40)),
+    (UNTIL_JULY, "1970-01-01", Decision::Permit(40)),
+    (UNTIL_JULY, "2024-06-30", Decision::Permit(40)),
+    (UNTIL_JULY, "2024-07-01", Decision::Deny(0)),
+    (ONE_DAY, "2024-05-31", Decision::Deny(0)),
+    (ONE_DAY, "2024-06-01", Decision::Permit(40)),
+    (ONE_DAY, "2024-06-02", Decision::Deny(0)),
+];
+
+/// Whether Echo's extract on a day is decided as wanted.
+fn is_extract_decided(alloc: Global, keys: &str, day: &str, want: Decision) -> bool {
+    let request = Request {
+        policy: POLICY,
+        firm: "Echo",
+        role: "consultant",
+        verb: Verb::Extract,
+        want,
+    };
+    let Some((above, below)) = vectors::POLICY.split_once(EXTRACTS) else {
+        return false;
+    };
+    match policy_of(alloc, &[above, EXTRACTS, keys, below]) {
+        Ok(policy) => is_decided(alloc, &policy, &request, day),
+        Err(_) => false,
+    }
+}
+
+#[test]
+fn extracts_decided_on_days(rt: HostRuntime) {
+    for (keys, day, want) in &EXTRACTS_ON_DAYS {
+        assert!(rt;
+            is_extract_decided(rt.alloc(), keys, day, *want),
+            "{keys}{day}"
+        );
+    }
+}
+
+/// A day, and what is decided of a row where the one rule of seeing has June.
+const ROWS_ON_DAYS: [(&str, Decision); 4] = [
+    ("2024-05-31", Decision::Deny(0)),
+    ("2024-06-01", Decision::Permit(1)),
+    ("2024-06-30", Decision::Permit(1)),
+    ("2024-07-01", Decision::Deny(0)),
+];
+
+/// Whether a row is decided as wanted on a day.
+fn is_row_decided_on(alloc: Global, day: &str, want: Decision) -> bool {
+    let row = RowFacts {
+        group: b"LOCA",
+        own: false,
+        past: true,
+        headings: &[],
+        cells: &[],
+    };
+    match policy_of(alloc, &[RULE, "verb = \"see\"\n", JUNE]) {
+        Ok(policy) => seen(alloc, &policy, row, day) == Some(want),
+        Err(_) => false,
+    }
+}
+
+#[test]
+fn rows_decided_on_days(rt: HostRuntime) {
+    for (day, want) in &ROWS_ON_DAYS {
+        assert!(rt; is_row_decided_on(rt.alloc(), day, *want), "{day}");
     }
 }

@@ -13,7 +13,7 @@ struct Spelt {
     want: Option<PolicyError>,
 }
 
-const POLICIES: [Spelt; 31] = [
+const POLICIES: [Spelt; 30] = [
     Spelt {
         head: "",
         text: "[[rule",
@@ -97,11 +97,6 @@ const POLICIES: [Spelt; 31] = [
     Spelt {
         head: RULE,
         text: "colour = 1\n",
-        want: Some(PolicyError::UnknownKey),
-    },
-    Spelt {
-        head: RULE,
-        text: "from = \"2024-06-02\"\n",
         want: Some(PolicyError::UnknownKey),
     },
     Spelt {
@@ -191,5 +186,45 @@ fn is_policy(alloc: Global, case: &Spelt) -> bool {
 fn policies_read_or_refused(rt: HostRuntime) {
     for case in &POLICIES {
         assert!(rt; is_policy(rt.alloc(), case), "{}", case.text);
+    }
+}
+
+/// Days that a rule may not have, and one beside an unknown key.
+const BAD_DAYS: [(&str, PolicyError); 18] = [
+    ("from = \"*\"\n", PolicyError::BadValue),
+    ("until = \"*\"\n", PolicyError::BadValue),
+    ("from = 2024-06-01\n", PolicyError::BadValue),
+    ("until = 2024-06-01\n", PolicyError::BadValue),
+    ("from = \"2024-6-1\"\n", PolicyError::BadValue),
+    ("from = \"2023-02-29\"\n", PolicyError::BadValue),
+    ("until = \"2023-02-29\"\n", PolicyError::BadValue),
+    ("from = \"1969-12-31\"\n", PolicyError::BadValue),
+    ("from = \"\"\n", PolicyError::BadValue),
+    ("from = 19875\n", PolicyError::BadValue),
+    ("until = true\n", PolicyError::BadValue),
+    ("from = [\"2024-06-01\"]\n", PolicyError::BadValue),
+    ("from.day = \"2024-06-01\"\n", PolicyError::BadValue),
+    (
+        "from = \"2024-06-01\"\nuntil = \"2024-05-31\"\n",
+        PolicyError::BadValue,
+    ),
+    (
+        "until = \"2024-05-31\"\nfrom = \"2024-06-01\"\n",
+        PolicyError::BadValue,
+    ),
+    ("from = \"2024-06-01\"\nuntil = 3\n", PolicyError::BadValue),
+    ("From = \"2024-06-01\"\n", PolicyError::UnknownKey),
+    ("from = \"*\"\ncolour = 1\n", PolicyError::UnknownKey),
+];
+
+#[test]
+fn days_refused(rt: HostRuntime) {
+    for (keys, want) in &BAD_DAYS {
+        let case = Spelt {
+            head: RULE,
+            text: keys,
+            want: Some(*want),
+        };
+        assert!(rt; is_policy(rt.alloc(), &case), "{keys}");
     }
 }
