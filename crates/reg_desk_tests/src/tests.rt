@@ -10,6 +10,7 @@ mod laws;
 mod memory;
 mod policies;
 mod refusing;
+mod requests;
 mod stops;
 mod wanted;
 
@@ -17,14 +18,15 @@ use ags_dict::Dictionary;
 use ags_rows::READABLE;
 use ags_rows::vectors::MINI;
 use bodies::{LENGTHS, bytes_of};
-use examples::{CHANGED, EXAMPLES, MOST, UNTIL};
+use examples::{CHANGED, EXAMPLES, LONG, MOST};
 use laws::tells;
 use memory::is_refused_once;
 use policies::{Added, WITHDRAWALS, policy_with};
 use refusing::Refusing;
-use reg_desk::{Desk, Request};
+use requests::{bytes_sent, request_at};
+use reg_desk::Desk;
 use reg_policy::vectors::{CALLERS, POLICY};
-use reg_policy::{Caller, Callers, Day, Name, Policy};
+use reg_policy::{Callers, Name, Policy};
 use reg_store::{Keep, PlainKeep};
 use reg_tables::{CreateError, SqlKeep};
 use std::alloc::{AllocError, Global};
@@ -130,122 +132,6 @@ pub enum Play {
     Runs,
     /// Four requests are asked behind a deposit of this body.
     Told(&'static Body),
-}
-
-/// A deposit to a project.
-fn deposit_of<'a>(
-    caller: &'a Caller,
-    project: &'a Name,
-    embargo: Day,
-    bytes: &'a [u8],
-    day: Day,
-) -> Request<'a> {
-    Request::Deposit {
-        caller,
-        project,
-        embargo,
-        bytes,
-        day,
-    }
-}
-
-/// A check of a body.
-fn check_of<'a>(caller: &'a Caller, project: &'a Name, bytes: &'a [u8], day: Day) -> Request<'a> {
-    Request::Check {
-        caller,
-        project,
-        bytes,
-        day,
-    }
-}
-
-/// A list of a project's deposits.
-fn list_of<'a>(caller: &'a Caller, project: &'a Name, day: Day) -> Request<'a> {
-    Request::List {
-        caller,
-        project,
-        day,
-    }
-}
-
-/// An extract of groups of a deposit.
-fn extract_of<'a>(
-    caller: &'a Caller,
-    project: &'a Name,
-    number: u32,
-    groups: &'a [&'a [u8]],
-    day: Day,
-) -> Request<'a> {
-    Request::Extract {
-        caller,
-        project,
-        number,
-        groups,
-        day,
-    }
-}
-
-/// A withdrawal of a deposit.
-fn withdraw_of<'a>(caller: &'a Caller, project: &'a Name, number: u32, day: Day) -> Request<'a> {
-    Request::Withdraw {
-        caller,
-        project,
-        number,
-        day,
-    }
-}
-
-/// The bytes that are sent with what is asked.
-fn bytes_sent(alloc: Global, ask: &Ask) -> Result<Vec<u8>, AllocError> {
-    match ask {
-        Ask::Deposit(body, _) => bytes_of(alloc, body),
-        Ask::Check(body) => bytes_of(alloc, body),
-        _ => Ok(Vec::new(alloc)),
-    }
-}
-
-/// What is asked, with these bytes; none where its embargo is no day.
-fn request_of<'a>(
-    caller: &'a Caller,
-    project: &'a Name,
-    day: Day,
-    ask: &Ask,
-    bytes: &'a [u8],
-) -> Option<Request<'a>> {
-    match ask {
-        Ask::Deposit(_, until) => {
-            Some(deposit_of(caller, project, Day::read(until)?, bytes, day))
-        }
-        Ask::Check(_) => Some(check_of(caller, project, bytes, day)),
-        Ask::List => Some(list_of(caller, project, day)),
-        Ask::Extract(number, groups) => Some(extract_of(caller, project, *number, groups, day)),
-        Ask::Withdraw(number) | Ask::WithdrawFrom(_, number) => {
-            Some(withdraw_of(caller, project, *number, day))
-        }
-    }
-}
-
-/// The request of a step, with these bytes; none where its token is nobody's, or one of its days is none.
-fn request_at<'a>(
-    callers: &'a Callers,
-    project: &'a Name,
-    step: &Step,
-    bytes: &'a [u8],
-) -> Option<Request<'a>> {
-    let caller = callers.find(step.0.as_bytes())?;
-    request_of(caller, project, Day::read(step.1)?, &step.2, bytes)
-}
-
-/// Two callers by their tokens, and 2024-06-01; none where one of them is nobody's.
-fn two_of<'a>(
-    callers: &'a Callers,
-    first: &[u8],
-    second: &[u8],
-) -> Option<(&'a Caller, &'a Caller, Day)> {
-    match (callers.find(first), callers.find(second), Day::read(UNTIL)) {
-        (Some(first), Some(second), Some(day)) => Some((first, second, day)),
-        _ => None,
-    }
 }
 
 /// Whether a step for this project is answered as it should be.
@@ -505,6 +391,17 @@ fn bodies_are_as_long_as_they_should_be(rt: HostRuntime) {
     for Length(name, body, length) in &LENGTHS {
         assert!(rt; length_of(alloc, body).unwrap_or(0) == *length, "{name}");
     }
+}
+
+/// Long bodies take longer, so each keep has a test of them.
+#[test]
+fn long_bodies_in_memory(rt: HostRuntime) {
+    assert!(rt; plays(rt.alloc(), Over::Memory, MOST, Play::Steps(&LONG)).unwrap_or(false));
+}
+
+#[test]
+fn long_bodies_in_tables(rt: HostRuntime) {
+    assert!(rt; plays(rt.alloc(), Over::Tables, MOST, Play::Steps(&LONG)).unwrap_or(false));
 }
 
 #[test]

@@ -6,11 +6,9 @@ use super::bodies::B_SHOWN;
 use super::examples::{FIRST, LISTED, MOST};
 use super::policies::{WITHDRAWALS, policy_with};
 use super::refusing::Refusing;
+use super::requests::{check_of, deposit_of, extract_of, list_of, two_of, withdraw_of};
 use super::wanted::count_wanted;
-use super::{
-    Over, Want, check_of, deposit_of, examples_over, extract_of, list_of, memory_of, two_of,
-    withdraw_of,
-};
+use super::{Over, Want, examples_over, memory_of};
 use ags_rows::vectors::{FILE_A, FILE_B};
 use reg_desk::{Answer, Desk, Request};
 use reg_policy::vectors::CALLERS;

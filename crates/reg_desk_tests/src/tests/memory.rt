@@ -4,8 +4,9 @@
 ghost use Rattle.std.specs.Prelude.{◌≡◌};
 
 use super::examples::{MOST, UNTIL};
+use super::requests::{deposit_of, extract_of, list_of, two_of, withdraw_of};
 use super::wanted::{is_listing, is_receipt, is_withdrawn, name_of};
-use super::{Line, Over, Play, deposit_of, extract_of, list_of, plays, two_of, withdraw_of};
+use super::{Line, Over, Play, plays};
 use ags_check::{CheckError, check};
 use ags_dict::{DictError, Dictionary};
 use ags_links::{Graph, reached, shown};
@@ -121,7 +122,7 @@ fn hides_under(
     project: &Name,
     headings: &[Cell],
 ) -> Result<bool, AllocError> {
-    let Some(fields) = cells(alloc, b"\"BH2\",\"PRELIM\"")? else {
+    let (Some(fields), Some(day)) = (cells(alloc, b"\"BH2\",\"PRELIM\"")?, Day::read(UNTIL)) else {
         return Ok(false);
     };
     let facts = RowFacts {
@@ -131,7 +132,7 @@ fn hides_under(
         headings,
         cells: fields.as_slice(),
     };
-    Ok(policy.decide(&Subject::of_row(caller, project, facts)) == Decision::Deny(70))
+    Ok(policy.decide(&Subject::of_row(caller, project, facts, day)) == Decision::Deny(70))
 }
 
 /// The same under the headings of a location.
@@ -356,7 +357,10 @@ fn asks<K: Keep>(
     let held = desk.keep().count();
     match desk.run(alloc, requests) {
         Ok(answers) => after(before, &answers),
-        Err(_) => faulty(before, u32::from(desk.keep().count() != held).saturating_add(1)),
+        Err(_) => faulty(
+            before,
+            u32::from(desk.keep().count() != held).saturating_add(1),
+        ),
     }
 }
 
