@@ -25,7 +25,12 @@ pub fn deposit_of<'a>(
 }
 
 /// A check of a body.
-pub fn check_of<'a>(caller: &'a Caller, project: &'a Name, bytes: &'a [u8], day: Day) -> Request<'a> {
+pub fn check_of<'a>(
+    caller: &'a Caller,
+    project: &'a Name,
+    bytes: &'a [u8],
+    day: Day,
+) -> Request<'a> {
     Request::Check {
         caller,
         project,
@@ -61,7 +66,12 @@ pub fn extract_of<'a>(
 }
 
 /// A withdrawal of a deposit.
-pub fn withdraw_of<'a>(caller: &'a Caller, project: &'a Name, number: u32, day: Day) -> Request<'a> {
+pub fn withdraw_of<'a>(
+    caller: &'a Caller,
+    project: &'a Name,
+    number: u32,
+    day: Day,
+) -> Request<'a> {
     Request::Withdraw {
         caller,
         project,
