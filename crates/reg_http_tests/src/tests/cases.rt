@@ -12,11 +12,12 @@ pub(crate) static AT_A_DESK: &str = r#"
 2024-05-01 | - | POST /v1/projects/N1/check HTTP/1.1 | - | 401 Unauthorized | 21 | {"error":"no caller"}
 2024-05-01 | t-echo | POST /v1/projects/N1/check HTTP/1.1 | - | 411 Length Required | 27 | {"error":"length required"}
 2024-05-01 | t-echo | POST /v1/projects/N1/check HTTP/1.1; Transfer-Encoding: chunked; Content-Length: 1; Content-Length: 1 | - | 411 Length Required | 27 | {"error":"length required"}
-2024-05-01 | t-echo | POST /v1/projects/N1/check HTTP/1.1; Content-Length: 4194305; Content-Length: 4194305 | - | 400 Bad Request | 22 | {"error":"bad length"}
+2024-05-01 | t-echo | POST /v1/projects/N1/check HTTP/1.1; Content-Length: 16777217; Content-Length: 16777217 | - | 400 Bad Request | 22 | {"error":"bad length"}
 2024-05-01 | t-echo | POST /v1/projects/N1/check?a=b HTTP/1.1; Content-Length: x | - | 400 Bad Request | 22 | {"error":"bad length"}
-2024-05-01 | t-echo | POST /v1/projects/N1/check HTTP/1.1; Content-Length: 4194305 | - | 413 Payload Too Large | 21 | {"error":"too large"}
-2024-05-01 | t-echo | POST /v1/projects/N1/check?a=b HTTP/1.1; Content-Length: 4194305 | - | 413 Payload Too Large | 21 | {"error":"too large"}
-2024-05-01 | t-gamma | POST /v1/projects/N1/deposits HTTP/1.1; Content-Length: 4194305 | - | 413 Payload Too Large | 21 | {"error":"too large"}
+2024-05-01 | t-echo | POST /v1/projects/N1/check HTTP/1.1; Content-Length: 16777217 | - | 413 Payload Too Large | 21 | {"error":"too large"}
+2024-05-01 | t-echo | POST /v1/projects/N1/check?a=b HTTP/1.1; Content-Length: 16777217 | - | 413 Payload Too Large | 21 | {"error":"too large"}
+2024-05-01 | t-gamma | POST /v1/projects/N1/deposits HTTP/1.1; Content-Length: 16777217 | - | 413 Payload Too Large | 21 | {"error":"too large"}
+2024-05-01 | t-echo | POST /v1/projects/N1/check HTTP/1.1; Content-Length: 4194305 | - | 400 Bad Request | 22 | {"error":"short body"}
 2024-05-01 | t-echo | POST /v1/projects/N1/check?a=b HTTP/1.1; Content-Length: 543 | A cut | 400 Bad Request | 25 | {"error":"bad parameter"}
 2024-05-01 | t-echo | POST /v1/projects/N1/check HTTP/1.1; Content-Length: 543 | A cut | 400 Bad Request | 22 | {"error":"short body"}
 2024-05-01 | t-gamma | POST /v1/projects/N1/deposits HTTP/1.1; Content-Length: 543 | A cut | 400 Bad Request | 22 | {"error":"short body"}
