@@ -18,9 +18,9 @@ use crate::watched::Watched;
 use ags_check::{CheckError, check};
 use ags_dict::laws::{mini_is_dictionary, one_dictionary};
 use ags_dict::{DictError, Dictionary};
-use ags_rows::{FindingList, LIMIT};
 use ags_rows::laws::one_list_of_findings;
 use ags_rows::vectors::MINI;
+use ags_rows::{FindingList, LIMIT};
 use std::alloc::{AllocError, Global};
 use std::io::{Read, Write};
 

@@ -49,6 +49,7 @@ fn push_fields(text: &mut String, kind: &str, length: usize) -> Result<(), Alloc
 }
 
 /// The phrase of a status.
+#[tactic(auto, unfolding(crate::specs::Replies::phrase_of))]
 fn phrase_of(status: StatusCode) -> &'static str
     ensures { result.now ≡ phrase_of status }
 {

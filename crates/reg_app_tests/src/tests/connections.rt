@@ -47,8 +47,10 @@ struct Case {
     logged: &'static [u8],
 }
 
-const DEPOSIT: &[u8] =
-    b"POST /v1/projects/N1/deposits?embargo=2024-06-01 HTTP/1.1\r\nAuthorization: Bearer t-delta\r\nContent-Length: 543\r\n\r\n";
+const DEPOSIT: &[u8] = b"POST /v1/projects/N1/deposits?embargo=2024-06-01 HTTP/1.1\r\n\
+Authorization: Bearer t-delta\r\n\
+Content-Length: 543\r\n\
+\r\n";
 
 /// The same without an embargo, so with that of the day, by two firms.
 const DELTA: &[u8] =

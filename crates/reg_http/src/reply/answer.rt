@@ -7,8 +7,8 @@ ghost use Rattle.reg_http.specs.Replies.{json_kind, reply_text};
 
 use crate::refusal::{Refusal, error_reply};
 use crate::reply::lists::{findings_text, listing_text};
-use crate::reply::values::{clean_value, denied_value, receipt_value, value_text, withdrawn_value};
 use crate::reply::reply_front;
+use crate::reply::values::{clean_value, denied_value, receipt_value, value_text, withdrawn_value};
 use ags_rows::FindingList;
 use http::StatusCode;
 use reg_desk::{Answer, Listed};
@@ -31,18 +31,21 @@ pub(crate) fn fixed_reply(answer: &Answer) -> Option<&'static str>
     }
 }
 
+#[tactic(auto, unfolding(crate::proofs::Numerals::digits, crate::specs::Replies::phrase_of))]
 fn unknown_reply() -> &'static str
     ensures { IsRendered Answer.Unknown result.now }
 {
     error_reply!("404 Not Found", "19", "unknown")
 }
 
+#[tactic(auto, unfolding(crate::proofs::Numerals::digits, crate::specs::Replies::phrase_of))]
 fn full_reply() -> &'static str
     ensures { IsRendered Answer.Full result.now }
 {
     error_reply!("507 Insufficient Storage", "16", "full")
 }
 
+#[tactic(auto, unfolding(crate::proofs::Numerals::digits, crate::specs::Replies::phrase_of))]
 fn store_failed_reply() -> &'static str
     ensures { IsRendered Answer.StoreFailed result.now }
 {
@@ -104,7 +107,12 @@ fn denied_reply(alloc: Global, number: u32) -> Result<Vec<u8>, AllocError>
 fn text_reply(alloc: Global, text: &[u8]) -> Result<Vec<u8>, AllocError>
     ensures { IfOk result (λ reply. IsRendered (Answer.Text text.now) reply.items) }
 {
-    let front = reply_front(alloc, StatusCode::OK, "text/plain; charset=us-ascii", text.len())?;
+    let front = reply_front(
+        alloc,
+        StatusCode::OK,
+        "text/plain; charset=us-ascii",
+        text.len(),
+    )?;
     let mut reply = Vec::with_capacity(alloc, front.len() + text.len())?;
     reply.extend_from_slice(front.as_bytes())?;
     reply.extend_from_slice(text)?;
@@ -138,7 +146,7 @@ fn value_reply(alloc: Global, status: StatusCode, value: &Value) -> Result<Vec<u
 }
 
 /// The status of an answer's reply.
-pub(crate) fn status_of(answer: &Answer) -> StatusCode
+pub(crate) fn answer_status(answer: &Answer) -> StatusCode
     ensures { result ≡ answer_status answer.now }
 {
     match answer {

@@ -31,7 +31,9 @@ fn findings_room(findings: &FindingList) -> usize {
     let mut room = AROUND_BYTES;
     for place in 0..findings.len() {
         let subject_bytes = findings.at(place).subject.len();
-        room = room.saturating_add(FINDING_BYTES).saturating_add(subject_bytes);
+        room = room
+            .saturating_add(FINDING_BYTES)
+            .saturating_add(subject_bytes);
     }
     room
 }
@@ -91,7 +93,10 @@ fn printed_byte(byte: u8) -> u8
 pub(crate) fn listing_text(alloc: Global, listing: &[Listed]) -> Result<Vec<u8>, AllocError>
     ensures { IfOk result (λ text. (d : Data) × IsListingData listing.now d × (text.items ≡ compact_text d)) }
 {
-    let room = listing.len().saturating_mul(LISTED_BYTES).saturating_add(AROUND_BYTES);
+    let room = listing
+        .len()
+        .saturating_mul(LISTED_BYTES)
+        .saturating_add(AROUND_BYTES);
     let mut out = Vec::with_capacity(alloc, room)?;
     out.extend_from_slice(b"{\"deposits\":[")?;
     for place in 0..listing.len() {

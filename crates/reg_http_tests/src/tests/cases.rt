@@ -1,9 +1,9 @@
-//! Requests and their replies, as texts and as bytes. A function that names a constant carries it to each of its points, so tables
-//! are statics.
+//! Requests and their replies, as texts and as bytes. A function that names a constant carries it to each of its
+//! points, so tables are statics.
 
-/// At an empty desk, in turn. Each line is a case: day, token (`-`: no field), the lines of the head, the body (`A` is the
-/// file, `A cut` all but its last byte, `A more` has two bytes behind it, `A bell`, `A delete` and `A quote` have other bytes in
-/// a group name), the status, the length, and the body of the reply.
+/// At an empty desk, in turn. Each line is a case: day, token (`-`: no field), the lines of the head, the body (`A` is
+/// the file, `A cut` all but its last byte, `A more` has two bytes behind it, `A bell`, `A delete` and `A quote` have
+/// other bytes in a group name), the status, the length, and the body of the reply.
 pub(crate) static AT_A_DESK: &str = r#"
 # each refusal before the next
 2024-05-01 | - | GET /v1/x HTTP/1.1 | - | 404 Not Found | 20 | {"error":"no route"}
@@ -152,8 +152,8 @@ pub(crate) static HEADS: [(&[u8], [&str; 3]); 9] = [
     ),
 ];
 
-/// Heads of 32 or 33 fields, and of 8,192 or 8,193 bytes: how long the last field is, how many of one letter stand before it, and the
-/// reply.
+/// Heads of 32 or 33 fields, and of 8,192 or 8,193 bytes: how long the last field is, how many of one letter stand
+/// before it, and the reply.
 pub(crate) static LONG_HEADS: [(usize, usize, [&str; 3]); 3] = [
     (7979, 31, NO_ROUTE),
     (7980, 31, BAD_HEAD),
@@ -169,8 +169,8 @@ pub(crate) struct Altered {
     pub(crate) begin: usize,
 }
 
-/// The file, the file without its last byte, the file with two bytes behind it, the file with `lo`, a bell and `ca`, or `lo`, a byte 7f and
-/// `ca`, or `l`, a quote, a byte 01 and a backslash, for the name in its line 26, and nothing.
+/// The file, the file without its last byte, the file with two bytes behind it, the file with `lo`, a bell and `ca`, or
+/// `lo`, a byte 7f and `ca`, or `l`, a quote, a byte 01 and a backslash, for the name in its line 26, and nothing.
 pub(crate) static BODIES: [Altered; 7] = [
     Altered {
         name: "A",
