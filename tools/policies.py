@@ -207,10 +207,10 @@ def still_served(rule, rules, callers):
     """Of a denial of deposits alone: a caller whom it is for and who still lists, draws or withdraws on some of its days."""
     if rule["effect"] != "deny" or rule.get("verb") != "deposit" or "firm" not in rule:
         return None
+    days = turning_days(rule, rules)
     for caller in callers.values():
         if caller["firm"] == rule["firm"]:
             project, verbs = rule.get("project", ""), ("list", "extract", "withdraw")
-            days = turning_days(rule, rules)
             may = " and ".join(verb for verb in verbs if any(machine.decide(rules, caller, project, verb, day)[0] == "permit" for day in days))
             if may:
                 return (f"denies deposits alone: {caller['firm']} may still {may}."

@@ -4,7 +4,7 @@ ghost use Rattle.std.specs.Prelude.{◌≡◌, ◌≤◌, false, length};
 ghost use Rattle.reg_cli.specs.Checking.{ChecksInput};
 ghost use Rattle.reg_cli.specs.Streams.{HaveNotFailed, has_failed};
 
-use crate::serving::{Serving, serve, serve_desk};
+use crate::serving::{Serving, serve_register, serve_desk};
 use crate::stores::{create_store, make_private, migrate_store, not_made, open_store};
 use reg_cli::{
     Action, Asker, Fault, Refusal, Session, Watched, Words, ask_deposit, ask_extract, ask_list,
@@ -70,7 +70,7 @@ fn run_command<'w, F: Start, W: Write, E: Write>(
         Words::Migrate { store } => migrate(rt, alloc, start, store, out),
         Words::Check { dictionary, file } => check_file(rt, alloc, dictionary, file, out, err),
         Words::Ask(asker, action) => ask_register(rt, alloc, start, &asker, &action, today, out),
-        Words::Serve(service) => serve(rt, alloc, start, &service, today, out),
+        Words::Serve(service) => serve_register(rt, alloc, start, &service, today, out),
     }
 }
 
@@ -139,7 +139,7 @@ fn ask_register<'w, F: Start, W: Write>(
 
 /// What is done with a register once it is open.
 #[derive(Drop)]
-pub(crate) enum Task<'t> {
+pub(crate) enum StoreTask<'t> {
     Deposit {
         session: &'t Session<'t>,
         embargo: Day,
@@ -170,20 +170,20 @@ fn task_of<'t, 'w: 't>(
     alloc: Global,
     session: &'t Session<'t>,
     action: &Action<'w>,
-) -> Result<Task<'t>, Refusal<'w>> {
+) -> Result<StoreTask<'t>, Refusal<'w>> {
     match action {
-        Action::Deposit { embargo, file } => Ok(Task::Deposit {
+        Action::Deposit { embargo, file } => Ok(StoreTask::Deposit {
             session,
             embargo: day_or(*embargo, Some(session.day))?,
             bytes: read_path(rt, alloc, file)?,
         }),
-        Action::Extract { groups, number } => Ok(Task::Extract {
+        Action::Extract { groups, number } => Ok(StoreTask::Extract {
             session,
-            groups: groups_of(alloc, *groups)?,
+            groups: groups_given(alloc, *groups)?,
             number: number_given(number)?,
         }),
-        Action::List => Ok(Task::List { session }),
-        Action::Withdraw { number } => Ok(Task::Withdraw {
+        Action::List => Ok(StoreTask::List { session }),
+        Action::Withdraw { number } => Ok(StoreTask::Withdraw {
             session,
             number: number_given(number)?,
         }),
@@ -191,7 +191,7 @@ fn task_of<'t, 'w: 't>(
 }
 
 /// The groups that a text lists; none for all.
-fn groups_of<'w>(alloc: Global, text: Option<&'w str>) -> Result<Vec<&'w [u8]>, Fault> {
+fn groups_given<'w>(alloc: Global, text: Option<&'w str>) -> Result<Vec<&'w [u8]>, Fault> {
     let text = text.unwrap_or("");
     match groups_listed(alloc, text.as_bytes())? {
         Some(groups) => Ok(groups),
@@ -213,7 +213,7 @@ pub(crate) fn use_store<'w, F: Start, W: Write>(
     start: F,
     store: &'w str,
     policy: Policy,
-    task: &Task<'_>,
+    task: &StoreTask<'_>,
     out: &mut Watched<W>,
 ) -> Result<u8, Refusal<'w>> {
     let keep = open_store(rt, alloc, start, store)?;
@@ -228,7 +228,7 @@ fn use_tables<'w, S: Alter, W: Write>(
     alloc: Global,
     keep: SqlKeep<S>,
     policy: Policy,
-    task: &Task<'_>,
+    task: &StoreTask<'_>,
     out: &mut Watched<W>,
 ) -> (Result<u8, Refusal<'w>>, SqlKeep<S>)
     requires { keep.has_failed ≡ false }
@@ -242,7 +242,7 @@ fn use_keep<'w, K: Keep, W: Write>(
     alloc: Global,
     keep: K,
     policy: Policy,
-    task: &Task<'_>,
+    task: &StoreTask<'_>,
     out: &mut Watched<W>,
 ) -> (Result<u8, Refusal<'w>>, K)
     requires { K.has_failed keep ≡ false }
@@ -257,23 +257,23 @@ fn do_task<'w, K: Keep, W: Write>(
     rt: &HostRuntime,
     alloc: Global,
     desk: &mut Desk<K>,
-    task: &Task<'_>,
+    task: &StoreTask<'_>,
     out: &mut Watched<W>,
 ) -> Result<u8, Refusal<'w>> {
     match task {
-        Task::Deposit {
+        StoreTask::Deposit {
             session,
             embargo,
             bytes,
         } => ask_deposit(alloc, desk, session, *embargo, bytes, out),
-        Task::Extract {
+        StoreTask::Extract {
             session,
             number,
             groups,
         } => ask_extract(alloc, desk, session, *number, groups, out),
-        Task::List { session } => ask_list(alloc, desk, session, out),
-        Task::Withdraw { session, number } => ask_withdraw(alloc, desk, session, *number, out),
-        Task::Serve { serving, port, log } => serve_desk(
+        StoreTask::List { session } => ask_list(alloc, desk, session, out),
+        StoreTask::Withdraw { session, number } => ask_withdraw(alloc, desk, session, *number, out),
+        StoreTask::Serve { serving, port, log } => serve_desk(
             rt, alloc, desk, serving, *port, *log, out,
         ),
     }

@@ -3,7 +3,7 @@
 use crate::front::{Front, MOST_HELD};
 use crate::moment::Moment;
 use crate::serving::Serving;
-use crate::timed::{Received, Sent, end_of};
+use crate::timed::{Received, SentBytes, end_of};
 use ags_rows::LIMIT;
 use reg_desk::Desk;
 use reg_http::{Tally, serve_one};
@@ -27,7 +27,7 @@ pub(crate) fn serve_next<K: Keep, C: Clock>(
     if let Ok((stream, _)) = accepted {
         let _served = serve_stream(alloc, clock, &stream, desk, serving, &mut outcome);
         if outcome.status.is_some() {
-            let _ended = finish(clock, &stream);
+            let _ended = drain_peer(clock, &stream);
         }
     }
     outcome
@@ -79,7 +79,7 @@ fn serve_stream<K: Keep, C: Clock>(
     let start = Instant::now(clock)?;
     let end = end_of(clock, serving.patience)?;
     let mut received = Received::until(end, clock, stream);
-    let mut sent = Sent::within(serving.patience, clock, stream);
+    let mut sent = SentBytes::within(serving.patience, clock, stream);
     let served = serve_one(
         alloc,
         desk,
@@ -98,7 +98,7 @@ fn serve_stream<K: Keep, C: Clock>(
 
 /// Ends a connection that has its reply: nothing more is written, and what the peer still sends is read and dropped, so
 /// that it has the reply before it finds the connection closed.
-fn finish<C: Clock>(clock: &C, stream: &TcpStream) -> io::Result<()> {
+fn drain_peer<C: Clock>(clock: &C, stream: &TcpStream) -> io::Result<()> {
     stream.shutdown(Shutdown::Write)?;
     let end = end_of(clock, Duration::from_secs(DRAINING))?;
     let rest = Received::until(end, clock, stream);

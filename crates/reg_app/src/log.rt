@@ -35,7 +35,7 @@ impl<W: Write + Drop> Log<W> {
         self.line.clear();
         push_moment(&mut self.line, outcome.moment)?;
         push_summary(&mut self.line, summary_of(callers, outcome.front.bytes()))?;
-        push_status(&mut self.line, outcome.status)?;
+        push_outcome(&mut self.line, outcome.status)?;
         push_number(&mut self.line, outcome.front.count())?;
         push_number(&mut self.line, outcome.sent)?;
         push_number(&mut self.line, outcome.millis)?;
@@ -75,7 +75,7 @@ fn push_caller(line: &mut Vec<u8>, caller: Option<&Caller>) -> Result<(), AllocE
 }
 
 /// Appends a status, or that the connection failed.
-fn push_status(line: &mut Vec<u8>, status: Option<u16>) -> Result<(), AllocError> {
+fn push_outcome(line: &mut Vec<u8>, status: Option<u16>) -> Result<(), AllocError> {
     match status {
         Some(status) => push_number(line, u64::from(status)),
         None => line.extend_from_slice(b" fault"),

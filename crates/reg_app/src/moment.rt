@@ -27,14 +27,14 @@ impl Moment {
 
     /// Its text, `hh:mm:ss`, without the day.
     pub(crate) fn time_text(self) -> [u8; 8] {
-        let [h1, h2] = digits_of(self.second / 3_600);
-        let [m1, m2] = digits_of(self.second / 60 % 60);
-        let [s1, s2] = digits_of(self.second % 60);
+        let [h1, h2] = last_two_digits(self.second / 3_600);
+        let [m1, m2] = last_two_digits(self.second / 60 % 60);
+        let [s1, s2] = last_two_digits(self.second % 60);
         [h1, h2, b':', m1, m2, b':', s1, s2]
     }
 }
 
 /// The last two digits of a number.
-fn digits_of(number: u64) -> [u8; 2] {
+fn last_two_digits(number: u64) -> [u8; 2] {
     [b'0' + (number / 10 % 10) as u8, b'0' + (number % 10) as u8]
 }

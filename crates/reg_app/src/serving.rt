@@ -1,6 +1,6 @@
 //! A register that is served over connections.
 
-use crate::commands::{Task, use_store};
+use crate::commands::{StoreTask, use_store};
 use crate::connection::serve_next;
 use crate::log::Log;
 use itoa::Buffer;
@@ -64,7 +64,7 @@ fn print_line<W: Write>(out: &mut Watched<W>, status: Option<u16>) -> Result<(),
 }
 
 /// Opens the register, listens, and serves.
-pub(crate) fn serve<'w, F: Start, W: Write>(
+pub(crate) fn serve_register<'w, F: Start, W: Write>(
     rt: &HostRuntime,
     alloc: Global,
     start: F,
@@ -82,7 +82,7 @@ pub(crate) fn serve<'w, F: Start, W: Write>(
     };
     let file = open_log(rt, service.log)?;
     let log = file.as_ref();
-    let task = Task::Serve {
+    let task = StoreTask::Serve {
         serving: &serving,
         port: service.port,
         log,

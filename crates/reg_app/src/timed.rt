@@ -65,7 +65,7 @@ impl<C: Clock> Read for Received<'_, C> {
 
 /// What is sent to a peer, within a time that begins with the first byte.
 #[derive(Drop)]
-pub(crate) struct Sent<'s, C> {
+pub(crate) struct SentBytes<'s, C> {
     clock: &'s C,
     stream: &'s TcpStream,
     time: Duration,
@@ -74,9 +74,9 @@ pub(crate) struct Sent<'s, C> {
     is_store_failed: bool,
 }
 
-impl<'s, C: Clock> Sent<'s, C> {
+impl<'s, C: Clock> SentBytes<'s, C> {
     pub(crate) fn within(time: Duration, clock: &'s C, stream: &'s TcpStream) -> Self {
-        Sent {
+        SentBytes {
             clock,
             stream,
             time,
@@ -108,7 +108,7 @@ impl<'s, C: Clock> Sent<'s, C> {
     }
 }
 
-impl<C: Clock> Write for Sent<'_, C> {
+impl<C: Clock> Write for SentBytes<'_, C> {
     fn write(&mut self, buf: &[u8]) -> io::Result<usize> {
         let end = self.end(buf)?;
         let left = left_to(self.clock, end)?;

@@ -2,6 +2,7 @@
 use Rattle.std.proofs.Common.{ap, length, ◌≡◌, ◌≤◌, ◌∷◌, ◌↔◌, ◌||◌, ℕ, Bool, true, false, IsTrue, inl, inr, ◌⊎◌, [], List, Option, None, Some, Ok, Err, IfSome, refl, sym, subst, ◌∙◌, arith, rules}
 use Rattle.reg_cli.specs.declared.fault.Fault.{Fault}
 use Rattle.reg_cli.specs.declared.fault.Fault.TheVariants.{TooLarge, NoMemory, Stream}
+use Rattle.ags_rows.specs.declared.TheConstants.{LIMIT}
 use Rattle.ags_rows.specs.declared.finding.Finding.{Finding}
 use Rattle.reg_cli.specs.declared.report.Report.{Report}
 use Rattle.reg_cli.specs.Answers.{Answers, reported, too_large, no_memory, answered, not_read, not_printed, not_said, AnswersOn, ReportsOn}
@@ -9,7 +10,7 @@ use Rattle.reg_cli.specs.Faults.{Tells, fault_text, fault_status, is_stream}
 use Rattle.reg_cli.specs.Report.{report_of}
 use Rattle.std.specs.Prelude.{Vec}
 use Rattle.std.specs.Global.{Global}
-use Rattle.reg_cli.specs.Reading.{ReadsFile, longest_file}
+use Rattle.reg_cli.specs.Reading.{ReadsFile}
 use Rattle.ags_dict.specs.Entries.{Entries}
 use Rattle.ags_check.specs.Findings.{Findings}
 use Rattle.reg_cli.proofs.Taking.{appends_none}
@@ -139,8 +140,8 @@ fault_fails err err_after false out_failed before after fault ended ei eo eb (in
 
 -- a report on what was found in all bytes of the stream
 pub reports : (entries : Entries) (known : Option (List ℕ)) (bytes : Vec ℕ Global) (read : List ℕ) (found : List Finding) (report : Report)
-    → IfSome known (λ all. ReadsFile all (Ok bytes)) → length bytes.items ≤ longest_file → read ≡ bytes.items → Findings entries read found
+    → IfSome known (λ all. ReadsFile all (Ok bytes)) → length bytes.items ≤ LIMIT → read ≡ bytes.items → Findings entries read found
     → report ≡ report_of found → IfSome known (λ all. ReportsOn entries all (Ok report))
 reports entries None bytes read found report is few lent right made = tt
 reports entries (Some all) bytes read found report is few lent right made =
-    (subst (λ b. length b ≤ longest_file) is few, (found, subst (λ b. Findings entries b found) (lent ∙ is) right, made))
+    (subst (λ b. length b ≤ LIMIT) is few, (found, subst (λ b. Findings entries b found) (lent ∙ is) right, made))

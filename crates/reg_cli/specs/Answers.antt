@@ -6,21 +6,21 @@ use Rattle.std.specs.declared.io.Read.{Ghosts as ReadGhosts}
 use Rattle.std.specs.declared.io.Write.{Ghosts as WriteGhosts}
 use Rattle.ags_dict.specs.Entries.{Entries}
 use Rattle.ags_check.specs.Findings.{Findings}
+use Rattle.ags_rows.specs.declared.TheConstants.{LIMIT}
 use Rattle.ags_rows.specs.declared.finding.Finding.{Finding}
 use Rattle.reg_cli.specs.declared.fault.Fault.{Fault}
 use Rattle.reg_cli.specs.declared.fault.Fault.TheVariants.{TooLarge, NoMemory, Stream}
 use Rattle.reg_cli.specs.declared.report.Report.{Report}
 use Rattle.reg_cli.specs.declared.watched.Watched.{Watched}
 use Rattle.reg_cli.specs.Faults.{fault_text, fault_status}
-use Rattle.reg_cli.specs.Reading.{longest_file}
 use Rattle.reg_cli.specs.Report.{report_of}
 use Rattle.reg_cli.specs.Streams.{has_failed, inner_of}
 
 -- what is printed of a file, what is said of a fault, and the status
 pub data Answers (entries : Entries) (bytes : List ℕ) : List ℕ → List ℕ → ℕ → Type 0 where
-  reported : (found : List Finding) → length bytes ≤ longest_file → Findings entries bytes found
+  reported : (found : List Finding) → length bytes ≤ LIMIT → Findings entries bytes found
       → Answers entries bytes (report_of found).text [] (report_of found).status
-  too_large : longest_file < length bytes → Answers entries bytes [] (fault_text TooLarge) (fault_status TooLarge)
+  too_large : LIMIT < length bytes → Answers entries bytes [] (fault_text TooLarge) (fault_status TooLarge)
   no_memory : Answers entries bytes [] (fault_text NoMemory) (fault_status NoMemory)
 
 -- Whether the reader and the two writers have failed, what the writers have taken, and the status: no stream failed and
@@ -66,8 +66,8 @@ module _ {R W E : Type 0} (reader : ReadGhosts R) (writer : WriteGhosts W) (erro
 -- the report on the file's findings, or why there is none
 abbrev pub ReportsOn : Entries → List ℕ → Result Report Fault → Type 0
 ReportsOn entries bytes (Ok report) =
-    (length bytes ≤ longest_file) × ((found : List Finding) × Findings entries bytes found × (report ≡ report_of found))
-ReportsOn entries bytes (Err TooLarge) = longest_file < length bytes
+    (length bytes ≤ LIMIT) × ((found : List Finding) × Findings entries bytes found × (report ≡ report_of found))
+ReportsOn entries bytes (Err TooLarge) = LIMIT < length bytes
 ReportsOn entries bytes (Err NoMemory) = ⊤
 ReportsOn entries bytes (Err Stream) = ⊤
 ReportsOn entries bytes (Err fault) = ⊥

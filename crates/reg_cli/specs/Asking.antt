@@ -7,7 +7,7 @@ use Rattle.reg_desk.specs.Desks.{AnsweredBy}
 use Rattle.reg_desk.specs.declared.answer.Answer.{Answer}
 use Rattle.reg_desk.specs.declared.desk.Desk.{Desk}
 use Rattle.reg_cli.specs.Faults.{TellsTo}
-use Rattle.reg_cli.specs.Printing.{IsPrinted, status_of}
+use Rattle.reg_cli.specs.Printing.{IsPrinted, exit_status}
 use Rattle.reg_cli.specs.Streams.{has_failed, inner_of}
 use Rattle.reg_cli.specs.declared.fault.Fault.TheVariants.{NoMemory}
 use Rattle.reg_cli.specs.declared.refusal.Refusal.{Refusal}
@@ -18,7 +18,7 @@ module _ {W : Type 0} (writer : WriteGhosts W) where
   -- the answer was printed, or the writer failed, and the run ends with its status; or there was no memory for its text
   abbrev pub PrintsAnswer : Answer → Watched W → Watched W → Result ℕ Refusal → Type 0
   PrintsAnswer answer old new (Ok ended) =
-      (text : List ℕ) × IsPrinted answer text × TellsTo writer old new text (status_of answer) ended
+      (text : List ℕ) × IsPrinted answer text × TellsTo writer old new text (exit_status answer) ended
   PrintsAnswer answer old new (Err refusal) =
       (refusal ≡ Plain NoMemory)
       × (writer.contents (inner_of new) ≡ writer.contents (inner_of old)) × (has_failed new ≡ has_failed old)

@@ -3,12 +3,13 @@ use Rattle.std.specs.Prelude.{◌≡◌, ◌↔◌, ◌+◌, ◌||◌, ℕ, List
 use Rattle.std.specs.Global.{Global}
 use Rattle.std.specs.declared.io.Read.{Ghosts as ReadGhosts}
 use Rattle.std.specs.declared.io.Write.{Ghosts as WriteGhosts}
+use Rattle.ags_rows.specs.declared.TheConstants.{LIMIT}
 use Rattle.ags_dict.specs.Entries.{Entries}
 use Rattle.ags_dict.specs.Mini.{mini_entries}
 use Rattle.ags_dict.specs.Reading.{IsDictionary}
 use Rattle.reg_cli.specs.Answers.{AnswersOnBytes, AnswersOnInput}
 use Rattle.reg_cli.specs.Faults.{fault_status}
-use Rattle.reg_cli.specs.Reading.{TakesAtMost, longest_file}
+use Rattle.reg_cli.specs.Reading.{TakesAtMost}
 use Rattle.reg_cli.specs.Streams.{has_failed, inner_of}
 use Rattle.reg_cli.specs.declared.fault.Fault.TheVariants.{Stream}
 use Rattle.reg_cli.specs.declared.refusal.Refusal.{Refusal}
@@ -16,13 +17,13 @@ use Rattle.reg_cli.specs.declared.watched.Watched.{Watched}
 
 module _ {R W E : Type 0} (reader : ReadGhosts R) (writer : WriteGhosts W) (errors : WriteGhosts E) where
   -- A run that checks what a watched reader carries, under the entries of a dictionary. Its status is that of a stream
-  -- that failed exactly where one failed, it takes no byte beyond the one after the longest file, and where the reader
+  -- that failed exactly where one failed, it takes no byte beyond the one after LIMIT, and where the reader
   -- tells its bytes, the outcome is the one of these.
   pub record ChecksStream (entries : Entries) (input input_after : Watched R) (out out_after : Watched W)
       (err err_after : Watched E) (status : ℕ) : Type 0 where
     pub failed : (status ≡ fault_status Stream)
         ↔ IsTrue (has_failed input_after || (has_failed out_after || has_failed err_after))
-    pub taken : TakesAtMost (longest_file + 1) (reader.remaining (inner_of input)) (reader.remaining (inner_of input_after))
+    pub taken : TakesAtMost (LIMIT + 1) (reader.remaining (inner_of input)) (reader.remaining (inner_of input_after))
     pub answers : AnswersOnInput reader writer errors entries input input_after out out_after err err_after status
 
   -- the same under the dictionary that is built in

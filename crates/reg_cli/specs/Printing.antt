@@ -43,20 +43,20 @@ IsPrinted answers.NoMemory text = text ≡ codes "out of memory\n"
 IsPrinted answers.StoreFailed text = text ≡ codes "store failed\n"
 
 -- the status of the run
-abbrev pub status_of : Answer → ℕ
-status_of (answers.Receipt number embargo) = 0
-status_of answers.Clean = 0
-status_of (answers.Findings found) = (report_of found).status
-status_of (answers.Listing listing) = 0
-status_of (answers.Text extract) = 0
-status_of (answers.Withdrawn number) = 0
-status_of (answers.Denied rule) = 2
-status_of answers.Unknown = 3
-status_of answers.TooLarge = 4
-status_of answers.Full = 5
-status_of answers.NoMemory = 5
-status_of answers.StoreFailed = 5
+abbrev pub exit_status : Answer → ℕ
+exit_status (answers.Receipt number embargo) = 0
+exit_status answers.Clean = 0
+exit_status (answers.Findings found) = (report_of found).status
+exit_status (answers.Listing listing) = 0
+exit_status (answers.Text extract) = 0
+exit_status (answers.Withdrawn number) = 0
+exit_status (answers.Denied rule) = 2
+exit_status answers.Unknown = 3
+exit_status answers.TooLarge = 4
+exit_status answers.Full = 5
+exit_status answers.NoMemory = 5
+exit_status answers.StoreFailed = 5
 
 -- the report on an answer
 abbrev pub ReportsAnswer : Answer → Report → Type 0
-ReportsAnswer answer report = IsPrinted answer report.text × (report.status ≡ status_of answer)
+ReportsAnswer answer report = IsPrinted answer report.text × (report.status ≡ exit_status answer)

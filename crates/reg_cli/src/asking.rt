@@ -77,7 +77,8 @@ pub fn ask_extract<'w, K: Keep, W: Write>(
     ask_desk(alloc, desk, &request, out)
 }
 
-/// Asks the desk to withdraw the deposit of a number, from 1 on, as the one who asks. It is refused as `ask_deposit` is.
+/// Asks the desk to withdraw the deposit of a number, from 1 on, as the one who asks. It is refused as `ask_deposit`
+/// is.
 pub fn ask_withdraw<'w, K: Keep, W: Write>(
     alloc: Global,
     desk: &mut Desk<K>,

@@ -6,7 +6,7 @@ ghost use Rattle.ags_check.specs.Findings.{Findings};
 ghost use Rattle.reg_cli.specs.Answers.{ReportsOn};
 ghost use Rattle.reg_cli.specs.Checking.{ChecksInput, ChecksStream, ChecksUnder};
 ghost use Rattle.reg_cli.specs.Faults.{is_stream_fault};
-ghost use Rattle.reg_cli.specs.Reading.{TakesAtMost, longest_file};
+ghost use Rattle.reg_cli.specs.Reading.{TakesAtMost};
 ghost use Rattle.reg_cli.specs.Streams.{HaveNotFailed, has_failed};
 
 use crate::fault::Fault;
@@ -18,9 +18,9 @@ use crate::watched::Watched;
 use ags_check::{CheckError, check};
 use ags_dict::laws::{mini_is_dictionary, one_dictionary};
 use ags_dict::{DictError, Dictionary};
-use ags_rows::FindingList;
 use ags_rows::laws::one_list_of_findings;
 use ags_rows::vectors::MINI;
+use ags_rows::{FindingList, LIMIT};
 use std::alloc::{AllocError, Global};
 use std::io::{Read, Write};
 
@@ -80,7 +80,7 @@ fn report_on<R: Read>(
     dictionary: &Dictionary,
     input: &mut Watched<R>,
 ) -> Result<Report, Fault>
-    ensures taken { TakesAtMost (longest_file + 1) (R.remaining input.old.inner) (R.remaining input.new.inner) }
+    ensures taken { TakesAtMost (LIMIT + 1) (R.remaining input.old.inner) (R.remaining input.new.inner) }
     ensures status { IfOk result (λ report. report.status ≤ 1) }
     ensures noted { input.new.failed ≡ (input.old.failed || is_stream_fault result) }
     ensures answers { IfSome (R.remaining input.old.inner) (λ bytes. ReportsOn dictionary.now bytes result) }
@@ -96,7 +96,7 @@ fn findings_of(
     dictionary: &Dictionary,
     bytes: &[u8],
 ) -> Result<FindingList, AllocError>
-    requires { length bytes.now ≤ longest_file }
+    requires { length bytes.now ≤ LIMIT }
     ensures { IfOk result (λ found. Findings dictionary.now bytes.now found) }
 {
     match check(alloc, dictionary, bytes) {

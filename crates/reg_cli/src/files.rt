@@ -46,7 +46,7 @@ fn read_callers<'w>(
 fn policy_in(alloc: Global, bytes: &[u8]) -> Result<Policy, Fault>
     ensures { IfOk result (λ policy. HasRules bytes.now policy) }
 {
-    let Some(text) = text_of(bytes) else {
+    let Some(text) = utf8_text(bytes) else {
         return Err(Fault::PolicyRefused);
     };
     match Policy::read(alloc, text) {
@@ -60,7 +60,7 @@ fn policy_in(alloc: Global, bytes: &[u8]) -> Result<Policy, Fault>
 fn callers_in(alloc: Global, bytes: &[u8]) -> Result<Callers, Fault>
     ensures { IfOk result (λ callers. HasCallers bytes.now callers) }
 {
-    let Some(text) = text_of(bytes) else {
+    let Some(text) = utf8_text(bytes) else {
         return Err(Fault::CallersRefused);
     };
     match Callers::read(alloc, text) {
@@ -71,7 +71,7 @@ fn callers_in(alloc: Global, bytes: &[u8]) -> Result<Callers, Fault>
 }
 
 /// The text that bytes are, if they are UTF-8 and not longer than LIMIT.
-fn text_of(bytes: &[u8]) -> Option<&str>
+fn utf8_text(bytes: &[u8]) -> Option<&str>
     ensures { IfSome result (λ text. text.now ≡ bytes.now) }
 {
     if bytes.len() > LIMIT {

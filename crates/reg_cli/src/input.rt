@@ -2,7 +2,7 @@
 
 ghost use Rattle.std.specs.Prelude.{◌≡◌, ◌||◌, ◌+◌, ◌<◌, ◌≤◌, IfOk, IfErr, IfSome, length};
 ghost use Rattle.reg_cli.specs.Faults.{is_stream_fault};
-ghost use Rattle.reg_cli.specs.Reading.{AppendedIfOk, IsOfReading, ReadsFile, TakesAtMost, longest_file};
+ghost use Rattle.reg_cli.specs.Reading.{AppendedIfOk, IsOfReading, ReadsFile, TakesAtMost};
 
 use crate::fault::Fault;
 use crate::watched::Watched;
@@ -16,8 +16,8 @@ const PIECE: usize = 65_536;
 
 /// All bytes of the stream. No byte beyond the one after LIMIT is asked for.
 pub(crate) fn read_file<R: Read>(alloc: Global, input: &mut Watched<R>) -> Result<Vec<u8>, Fault>
-    ensures taken { TakesAtMost (longest_file + 1) (R.remaining input.old.inner) (R.remaining input.new.inner) }
-    ensures short { IfOk result (λ bytes. length bytes.items ≤ longest_file) }
+    ensures taken { TakesAtMost (LIMIT + 1) (R.remaining input.old.inner) (R.remaining input.new.inner) }
+    ensures short { IfOk result (λ bytes. length bytes.items ≤ LIMIT) }
     ensures noted { input.new.failed ≡ (input.old.failed || is_stream_fault result) }
     ensures file { IfSome (R.remaining input.old.inner) (λ all. ReadsFile all result) }
 {

@@ -82,7 +82,7 @@ fn listing_report(alloc: Global, listing: &[Listed]) -> Result<Report, AllocErro
 {
     let mut text = Vec::new(alloc);
     for listed in listing {
-        let line = listed_line(alloc, listed)?;
+        let line = printed_line(alloc, listed)?;
         text.extend_from_slice(line.as_slice())?;
     }
     Ok(Report {
@@ -92,7 +92,7 @@ fn listing_report(alloc: Global, listing: &[Listed]) -> Result<Report, AllocErro
 }
 
 /// The line of a deposit.
-fn listed_line(alloc: Global, listed: &Listed) -> Result<Vec<u8>, AllocError>
+fn printed_line(alloc: Global, listed: &Listed) -> Result<Vec<u8>, AllocError>
     ensures { IfOk result (λ line. IsListedLine listed.now line.items) }
 {
     let day = listed.embargo.text();

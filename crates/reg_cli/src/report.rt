@@ -50,13 +50,13 @@ fn report_lines(alloc: Global, findings: &FindingList) -> Result<Vec<u8>, AllocE
 {
     let mut text = Vec::new(alloc);
     for place in 0..findings.len() {
-        push_line(&mut text, findings.at(place))?;
+        push_report_line(&mut text, findings.at(place))?;
     }
     Ok(text)
 }
 
 /// Appends the line that reports a finding.
-fn push_line(text: &mut Vec<u8>, finding: FindingRef<'_>) -> Result<(), AllocError>
+fn push_report_line(text: &mut Vec<u8>, finding: FindingRef<'_>) -> Result<(), AllocError>
     ensures { OnOk result (text.new.items ≡ text.old.items ++ report_line (finding_of finding.entry)) }
 {
     text.extend_from_slice(finding.code.text())?;

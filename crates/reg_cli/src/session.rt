@@ -26,7 +26,7 @@ pub fn session_of<'c>(
     let Some(caller) = callers.find(asker.token.as_bytes()) else {
         return Err(Fault::TokenRefused);
     };
-    let project = project_of(alloc, asker.project)?;
+    let project = project_given(alloc, asker.project)?;
     let day = day_or(asker.day, today)?;
     Ok(Session {
         caller,
@@ -44,7 +44,7 @@ pub struct Session<'c> {
 }
 
 /// The project of a name.
-fn project_of(alloc: Global, text: &str) -> Result<Name, Fault>
+fn project_given(alloc: Global, text: &str) -> Result<Name, Fault>
     ensures { IfOk result (λ project. project ≡ text.now) }
 {
     match Name::read(alloc, text) {

@@ -17,7 +17,7 @@ pub fn read_words<'w, S: AsStr>(alloc: Global, words: &'w [S]) -> Result<Words<'
         return Err(Fault::WordsRefused);
     };
     let given = given_by(alloc, form, words)?;
-    words_of(&form.task, &given).ok_or(Fault::WordsRefused)
+    task_words(&form.task, &given).ok_or(Fault::WordsRefused)
 }
 
 /// A command with the texts that its words give.
@@ -242,7 +242,7 @@ fn flag<'w>(alloc: Global, name: &'w str) -> Arg<'w> {
 }
 
 /// What a command's own words give.
-fn words_of<'w>(task: &Task, given: &ArgMatches<'w>) -> Option<Words<'w>> {
+fn task_words<'w>(task: &Task, given: &ArgMatches<'w>) -> Option<Words<'w>> {
     match task {
         Task::Init => init_words(given),
         Task::Migrate => migrate_words(given),

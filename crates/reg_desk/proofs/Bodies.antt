@@ -117,28 +117,28 @@ clean_needs : NeedsMemory IsCleanAnswer
 clean_needs = (λ n e. cc, λ e. cc)
 
 pub check_denied : {K : Type 0} (keep : Ghosts K) (rules : List Rule) (caller : Caller) (project bytes : List ℕ) (day : ℤ) (old : K) (m : ℕ) → keep.has_failed old ≡ false
-    → decided (terms_at keep rules old) caller project verbs.Check ≡ Deny m → Serves keep rules (check caller project bytes day) old old (Denied m)
+    → decided (terms_at keep rules old) caller project verbs.Check day ≡ Deny m → Serves keep rules (check caller project bytes day) old old (Denied m)
 check_denied keep rules caller project bytes day old m works deny =
     let terms = terms_at keep rules old in
     replies_at_once keep rules (check caller project bytes day) old (Denied m) works refl
-    (denied_reply (decided terms caller project verbs.Check) m (OrRefused terms bytes IsCleanAnswer) deny) (inr (λ list change. change, refl))
+    (denied_reply (decided terms caller project verbs.Check day) m (OrRefused terms bytes IsCleanAnswer) deny) (inr (λ list change. change, refl))
 
 check_refused : {K : Type 0} (keep : Ghosts K) (rules : List Rule) (caller : Caller) (project bytes : List ℕ) (day : ℤ) (old : K) (answer : Answer) (k : ℕ) → keep.has_failed old ≡ false
-    → decided (terms_at keep rules old) caller project verbs.Check ≡ Permit k → IsRefusal (keep.dictionary old) bytes answer → Serves keep rules (check caller project bytes day) old old answer
+    → decided (terms_at keep rules old) caller project verbs.Check day ≡ Permit k → IsRefusal (keep.dictionary old) bytes answer → Serves keep rules (check caller project bytes day) old old answer
 check_refused keep rules caller project bytes day old answer k works permit refusal =
-    refusal_serves keep rules (check caller project bytes day) old answer (decided (terms_at keep rules old) caller project verbs.Check) k bytes IsCleanAnswer works permit refusal clean_needs
+    refusal_serves keep rules (check caller project bytes day) old answer (decided (terms_at keep rules old) caller project verbs.Check day) k bytes IsCleanAnswer works permit refusal clean_needs
     (λ r h. h) (λ r h. h) (λ r h is. inr (λ list change. change, refl))
 
 check_clean : {K : Type 0} (keep : Ghosts K) (rules : List Rule) (caller : Caller) (project bytes : List ℕ) (day : ℤ) (old : K) (k : ℕ) → keep.has_failed old ≡ false
-    → decided (terms_at keep rules old) caller project verbs.Check ≡ Permit k → length bytes ≤ LIMIT → AreFindings (keep.dictionary old) bytes [] → Serves keep rules (check caller project bytes day) old old Clean
+    → decided (terms_at keep rules old) caller project verbs.Check day ≡ Permit k → length bytes ≤ LIMIT → AreFindings (keep.dictionary old) bytes [] → Serves keep rules (check caller project bytes day) old old Clean
 check_clean keep rules caller project bytes day old k works permit le are =
     let terms = terms_at keep rules old in
     replies_at_once keep rules (check caller project bytes day) old Clean works refl
-    (permitted_reply (decided terms caller project verbs.Check) k (OrRefused terms bytes IsCleanAnswer) Clean permit (refused_none terms bytes IsCleanAnswer Clean le are refl)) (inr (λ list change. change, refl))
+    (permitted_reply (decided terms caller project verbs.Check day) k (OrRefused terms bytes IsCleanAnswer) Clean permit (refused_none terms bytes IsCleanAnswer Clean le are refl)) (inr (λ list change. change, refl))
 
 -- the body is refused, or it has no finding
 pub check_answered : {K : Type 0} (keep : Ghosts K) (rules : List Rule) (caller : Caller) (project bytes : List ℕ) (day : ℤ) (old : K) (given : Entries) (answer : Answer) (k : ℕ) → keep.has_failed old ≡ false
-    → decided (terms_at keep rules old) caller project verbs.Check ≡ Permit k → given ≡ keep.dictionary old → IsRefusal given bytes answer ⊎ ((answer ≡ Clean) × (length bytes ≤ LIMIT) × AreFindings given bytes [])
+    → decided (terms_at keep rules old) caller project verbs.Check day ≡ Permit k → given ≡ keep.dictionary old → IsRefusal given bytes answer ⊎ ((answer ≡ Clean) × (length bytes ≤ LIMIT) × AreFindings given bytes [])
     → Serves keep rules (check caller project bytes day) old old answer
 check_answered keep rules caller project bytes day old given answer k works permit same (inl refusal) =
     check_refused keep rules caller project bytes day old answer k works permit (subst (λ (e : Entries). IsRefusal e bytes answer) same refusal)

@@ -217,22 +217,22 @@ one_asks = (
 )
 
 extract_asks : (terms : Terms) (state : List Deposit) (caller : Caller) (project : List ℕ) (number : ℕ)
-    (groups : List (List ℕ)) (day : ℤ) (k : ℕ) → decided terms caller project verbs.Extract ≡ Permit k
+    (groups : List (List ℕ)) (day : ℤ) (k : ℕ) → decided terms caller project verbs.Extract day ≡ Permit k
     → AsksStore (IsReply terms state (extract caller project number groups day))
 extract_asks terms state caller project number groups day k permit =
     let Drawn = IsDrawnFrom terms caller project groups day (held number state) in
     asks_of IsOne (IsReply terms state (extract caller project number groups day))
-    (λ reply is. drawn_one terms caller project groups day (held number state) reply (permit_stands (decided terms caller project verbs.Extract) k Drawn reply permit is)) one_asks
+    (λ reply is. drawn_one terms caller project groups day (held number state) reply (permit_stands (decided terms caller project verbs.Extract day) k Drawn reply permit is)) one_asks
 
 pub extract_denied : {K : Type 0} (keep : Ghosts K) (rules : List Rule) (caller : Caller) (project : List ℕ) (number : ℕ) (groups : List (List ℕ)) (day : ℤ) (old : K) (m : ℕ) → keep.has_failed old ≡ false
-    → decided (terms_at keep rules old) caller project verbs.Extract ≡ Deny m → Serves keep rules (extract caller project number groups day) old old (Denied m)
+    → decided (terms_at keep rules old) caller project verbs.Extract day ≡ Deny m → Serves keep rules (extract caller project number groups day) old old (Denied m)
 extract_denied keep rules caller project number groups day old m works deny =
     let terms = terms_at keep rules old in
     replies_at_once keep rules (extract caller project number groups day) old (Denied m) works refl
-    (denied_reply (decided terms caller project verbs.Extract) m (IsDrawnFrom terms caller project groups day (held number (keep.deposits old))) deny) (inr (λ list change. change, refl))
+    (denied_reply (decided terms caller project verbs.Extract day) m (IsDrawnFrom terms caller project groups day (held number (keep.deposits old))) deny) (inr (λ list change. change, refl))
 
 pub extract_unread : {K : Type 0} (keep : Ghosts K) (rules : List Rule) (caller : Caller) (project : List ℕ) (number : ℕ) (groups : List (List ℕ)) (day : ℤ) (old new : K) (k : ℕ) (e : KeepError)
-    → decided (terms_at keep rules old) caller project verbs.Extract ≡ Permit k → OnlyReads keep old new (is_store e) → e ≢ errors.Full → Serves keep rules (extract caller project number groups day) old new (answer_of e)
+    → decided (terms_at keep rules old) caller project verbs.Extract day ≡ Permit k → OnlyReads keep old new (is_store e) → e ≢ errors.Full → Serves keep rules (extract caller project number groups day) old new (answer_of e)
 extract_unread keep rules caller project number groups day old new k e permit reads named =
     let terms = terms_at keep rules old in
     let state = keep.deposits old in
@@ -240,14 +240,14 @@ extract_unread keep rules caller project number groups day old new k e permit re
     refused_serves keep rules (extract caller project number groups day) old new e reads named asks.0 (λ s. asks)
 
 pub extract_replies : {K : Type 0} (keep : Ghosts K) (rules : List Rule) (caller : Caller) (project : List ℕ) (number : ℕ) (groups : List (List ℕ)) (day : ℤ) (old new : K) (k : ℕ) (answer : Answer)
-    → decided (terms_at keep rules old) caller project verbs.Extract ≡ Permit k → OnlyReads keep old new false → is_told answer ≡ true
+    → decided (terms_at keep rules old) caller project verbs.Extract day ≡ Permit k → OnlyReads keep old new false → is_told answer ≡ true
     → (keep.is_sound new → ∥ IsDrawnFrom (terms_at keep rules old) caller project groups day (held number (keep.deposits old)) answer ∥₁)
     → Serves keep rules (extract caller project number groups day) old new answer
 extract_replies keep rules caller project number groups day old new k answer permit reads told drawn =
     let terms = terms_at keep rules old in
     let state = keep.deposits old in
     replies_serves keep rules (extract caller project number groups day) old new answer reads told
-    (λ s. ∥∥₁_map (drawn s) (permitted_reply (decided terms caller project verbs.Extract) k (IsDrawnFrom terms caller project groups day (held number state)) answer permit))
+    (λ s. ∥∥₁_map (drawn s) (permitted_reply (decided terms caller project verbs.Extract day) k (IsDrawnFrom terms caller project groups day (held number state)) answer permit))
     (λ s. inr (λ list change. change, refl)) (extract_asks terms state caller project number groups day k permit).0
 
 -- ---- what is seen

@@ -51,23 +51,23 @@ text_clean terms state (deposit caller project embargo bytes day) text h =
     let first = first_equal 1 caller.firm project bytes (sents state) in
     let Stands = λ (r : Answer). r ≡ receipt_of terms embargo (length state) first in
     let fine =
-    not_refused (decided terms caller project verbs.Deposit) terms bytes Stands (Text text) h (λ n e. cc) (λ e. cc)
+    not_refused (decided terms caller project verbs.Deposit day) terms bytes Stands (Text text) h (λ n e. cc) (λ e. cc)
     (λ l e. cc) in
     absurd (receipt_no_text terms embargo (length state) first text fine.3)
 text_clean terms state (check caller project bytes day) text h =
     let fine =
-    not_refused (decided terms caller project verbs.Check) terms bytes (λ r. r ≡ Clean) (Text text) h (λ n e. cc)
+    not_refused (decided terms caller project verbs.Check day) terms bytes (λ r. r ≡ Clean) (Text text) h (λ n e. cc)
     (λ e. cc) (λ l e. cc) in
     absurd (let e = fine.3 in cc)
 text_clean terms state (listing caller project day) text h =
     let lists = λ (r : Answer).
     (lines : List Listed) × IsListing terms caller project day 1 state lines × (r ≡ Listing lines) in
-    let found = (not_denied (decided terms caller project verbs.List) lists (Text text) h (λ n e. cc)).2 in
+    let found = (not_denied (decided terms caller project verbs.List day) lists (Text text) h (λ n e. cc)).2 in
     absurd (let e = found.2 in cc)
 text_clean terms state (extract caller project number groups day) text h = texts_clean terms state caller project number groups day text h
 text_clean terms state (withdraw caller project number day) text h =
     let reply = λ (r : Answer). r ≡ withdrawal_of caller project number (held number state) in
-    let found = (not_denied (decided terms caller project verbs.Withdraw) reply (Text text) h (λ n e. cc)).2 in
+    let found = (not_denied (decided terms caller project verbs.Withdraw day) reply (Text text) h (λ n e. cc)).2 in
     absurd (withdrawal_no_text caller project number (held number state) text found)
 
 pub clean_text : {K : Type 0} (keep : Ghosts K) (rules : List Rule) (request : Asked) (old new : K) (answer : Answer) → Serves keep rules request old new answer → keep.is_sound new → IsCleanText keep old answer

@@ -133,7 +133,7 @@ receipt_held terms caller project embargo bytes day state next n e is (inr h) =
     let first = first_equal 1 caller.firm project bytes (sents state) in
     let Stands = λ (r : Answer). r ≡ receipt_of terms embargo (length state) first in
     let fine =
-    not_refused (decided terms caller project verbs.Deposit) terms bytes Stands (Receipt n e) is (λ k x. cc) (λ x. cc)
+    not_refused (decided terms caller project verbs.Deposit day) terms bytes Stands (Receipt n e) is (λ k x. cc) (λ x. cc)
     (λ l x. cc) in
     let equal =
     receipt_first terms embargo (length state) first n e fine.3

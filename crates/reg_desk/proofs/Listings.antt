@@ -184,21 +184,21 @@ abbrev IsListingAnswer : Terms → List Deposit → Caller → List ℕ → ℤ 
 IsListingAnswer terms state caller project day r = (lines : List Listed) × IsListing terms caller project day 1 state lines × (r ≡ Listing lines)
 
 listing_asks : (terms : Terms) (state : List Deposit) (caller : Caller) (project : List ℕ) (day : ℤ) (k : ℕ)
-    → decided terms caller project verbs.List ≡ Permit k → AsksStore (IsReply terms state (listing caller project day))
+    → decided terms caller project verbs.List day ≡ Permit k → AsksStore (IsReply terms state (listing caller project day))
 listing_asks terms state caller project day k permit =
     asks_of (IsListingAnswer terms state caller project day) (IsReply terms state (listing caller project day))
-    (λ reply is. permit_stands (decided terms caller project verbs.List) k (IsListingAnswer terms state caller project day) reply permit is)
+    (λ reply is. permit_stands (decided terms caller project verbs.List day) k (IsListingAnswer terms state caller project day) reply permit is)
     ((λ n h. let e = h.2 in cc, λ h. let e = h.2 in cc), λ found h. let e = h.2 in cc, λ h. let e = h.2 in cc)
 
 pub listing_denied : {K : Type 0} (keep : Ghosts K) (rules : List Rule) (caller : Caller) (project : List ℕ) (day : ℤ) (old : K) (m : ℕ) → keep.has_failed old ≡ false
-    → decided (terms_at keep rules old) caller project verbs.List ≡ Deny m → Serves keep rules (listing caller project day) old old (Denied m)
+    → decided (terms_at keep rules old) caller project verbs.List day ≡ Deny m → Serves keep rules (listing caller project day) old old (Denied m)
 listing_denied keep rules caller project day old m works deny =
     let terms = terms_at keep rules old in
     replies_at_once keep rules (listing caller project day) old (Denied m) works refl
-    (denied_reply (decided terms caller project verbs.List) m (IsListingAnswer terms (keep.deposits old) caller project day) deny) (inr (λ list change. change, refl))
+    (denied_reply (decided terms caller project verbs.List day) m (IsListingAnswer terms (keep.deposits old) caller project day) deny) (inr (λ list change. change, refl))
 
 pub listing_unread : {K : Type 0} (keep : Ghosts K) (rules : List Rule) (caller : Caller) (project : List ℕ) (day : ℤ) (old new : K) (k : ℕ) (e : KeepError)
-    → decided (terms_at keep rules old) caller project verbs.List ≡ Permit k → OnlyReads keep old new (is_store e) → e ≢ errors.Full → Serves keep rules (listing caller project day) old new (answer_of e)
+    → decided (terms_at keep rules old) caller project verbs.List day ≡ Permit k → OnlyReads keep old new (is_store e) → e ≢ errors.Full → Serves keep rules (listing caller project day) old new (answer_of e)
 listing_unread keep rules caller project day old new k e permit reads named =
     let terms = terms_at keep rules old in
     let state = keep.deposits old in
@@ -206,7 +206,7 @@ listing_unread keep rules caller project day old new k e permit reads named =
     refused_serves keep rules (listing caller project day) old new e reads named asks.0 (λ s. asks)
 
 pub listing_replies : {K : Type 0} (keep : Ghosts K) (rules : List Rule) (caller : Caller) (project : List ℕ) (day : ℤ) (old new : K) (k : ℕ) (lines : List Listed)
-    → decided (terms_at keep rules old) caller project verbs.List ≡ Permit k → OnlyReads keep old new false
+    → decided (terms_at keep rules old) caller project verbs.List day ≡ Permit k → OnlyReads keep old new false
     → (keep.is_sound new → ∥ IsListing (terms_at keep rules old) caller project day 1 (keep.deposits old) lines ∥₁)
     → Serves keep rules (listing caller project day) old new (Listing lines)
 listing_replies keep rules caller project day old new k lines permit reads is =
@@ -214,5 +214,5 @@ listing_replies keep rules caller project day old new k lines permit reads is =
     let state = keep.deposits old in
     replies_serves keep rules (listing caller project day) old new (Listing lines) reads refl
     (λ s. ∥∥₁_map (is s) (λ (h : IsListing terms caller project day 1 state lines).
-    permitted_reply (decided terms caller project verbs.List) k (IsListingAnswer terms state caller project day) (Listing lines) permit (lines, h, refl)))
+    permitted_reply (decided terms caller project verbs.List day) k (IsListingAnswer terms state caller project day) (Listing lines) permit (lines, h, refl)))
     (λ s. inr (λ list change. change, refl)) (listing_asks terms state caller project day k permit).0

@@ -97,17 +97,17 @@ or_refused terms bytes Stands some = by (nat_lt LIMIT (length bytes))
 pub some_reply : SomeReply
 some_reply terms state (deposit caller project embargo bytes day) =
     let receipt = receipt_of terms embargo (length state) (first_equal 1 caller.firm project bytes (sents state)) in
-    or_denied (decided terms caller project verbs.Deposit) (OrRefused terms bytes (λ r. r ≡ receipt)) (or_refused terms bytes (λ r. r ≡ receipt) (λ none. none receipt refl))
+    or_denied (decided terms caller project verbs.Deposit day) (OrRefused terms bytes (λ r. r ≡ receipt)) (or_refused terms bytes (λ r. r ≡ receipt) (λ none. none receipt refl))
 some_reply terms state (check caller project bytes day) =
-    or_denied (decided terms caller project verbs.Check) (OrRefused terms bytes (λ r. r ≡ Clean)) (or_refused terms bytes (λ r. r ≡ Clean) (λ none. none Clean refl))
+    or_denied (decided terms caller project verbs.Check day) (OrRefused terms bytes (λ r. r ≡ Clean)) (or_refused terms bytes (λ r. r ≡ Clean) (λ none. none Clean refl))
 some_reply terms state (listing caller project day) =
-    or_denied (decided terms caller project verbs.List) (λ r. (lines : List Listed) × IsListing terms caller project day 1 state lines × (r ≡ Listing lines))
+    or_denied (decided terms caller project verbs.List day) (λ r. (lines : List Listed) × IsListing terms caller project day 1 state lines × (r ≡ Listing lines))
     (λ none. some_listing terms caller project day 1 state (λ lines h. none (Listing lines) (lines, h, refl)))
 some_reply terms state (extract caller project number groups day) =
-    or_denied (decided terms caller project verbs.Extract) (IsDrawnFrom terms caller project groups day (held number state)) (some_drawn terms caller project groups day (held number state))
+    or_denied (decided terms caller project verbs.Extract day) (IsDrawnFrom terms caller project groups day (held number state)) (some_drawn terms caller project groups day (held number state))
 some_reply terms state (withdraw caller project number day) =
     let reply = withdrawal_of caller project number (held number state) in
-    or_denied (decided terms caller project verbs.Withdraw) (λ r. r ≡ reply) (λ none. none reply refl)
+    or_denied (decided terms caller project verbs.Withdraw day) (λ r. r ≡ reply) (λ none. none reply refl)
 
 -- ---- a run
 

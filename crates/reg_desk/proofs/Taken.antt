@@ -36,7 +36,7 @@ clean_stands terms bytes P r small clean h =
 
 received : (terms : Terms) (state : List Deposit) (caller : Caller) (project : List ℕ) (embargo : ℤ) (bytes : List ℕ)
     (day : ℤ) (reply : Answer) → IsReply terms state (deposit caller project embargo bytes day) reply
-    → IsTaken terms state caller project bytes → reply ≡ Receipt (length state + 1) embargo
+    → IsTaken terms state caller project bytes day → reply ≡ Receipt (length state + 1) embargo
 received terms state caller project embargo bytes day reply h t =
     let stands = IsReceipt terms state caller project embargo bytes in
     let permitted = subst (λ (d : Decision). OrDenied d (OrRefused terms bytes stands) reply) t.0.1 h in
@@ -94,11 +94,11 @@ new_number terms embargo count None low h = (refl, ltb-true count terms.limit (r
 taken : (terms : Terms) (state : List Deposit) (caller : Caller) (project : List ℕ) (embargo : ℤ) (bytes : List ℕ)
     (day : ℤ) (reply : Answer)
     → IsReply terms state (deposit caller project embargo bytes day) reply → reply ≡ Receipt (length state + 1) embargo
-    → IsTaken terms state caller project bytes
+    → IsTaken terms state caller project bytes day
 taken terms state caller project embargo bytes day reply h is =
     let stands = IsReceipt terms state caller project embargo bytes in
     let fine =
-    not_refused (decided terms caller project verbs.Deposit) terms bytes stands reply h (λ n e. cc) (λ e. cc)
+    not_refused (decided terms caller project verbs.Deposit day) terms bytes stands reply h (λ n e. cc) (λ e. cc)
     (λ l e. cc) in
     let first = first_equal 1 caller.firm project bytes (sents state) in
     let held_low : (k : ℕ) (e : ℤ) → first ≡ Some (k, e) → k < 1 + length state =
@@ -133,10 +133,10 @@ replied_own caller project number n (Some kept) is = by (is_own caller project k
 -- a deposit that is replied to be withdrawn is withdrawn, under the number that was asked
 pub withdrawn_own : (terms : Terms) (state : List Deposit) (caller : Caller) (project : List ℕ) (number : ℕ) (day : ℤ)
     (n : ℕ) → IsReply terms state (withdraw caller project number day) (Withdrawn n)
-    → (number ≡ n) × IsWithdrawn terms state caller project number
+    → (number ≡ n) × IsWithdrawn terms state caller project number day
 withdrawn_own terms state caller project number day n h =
     let Stands = λ (r : Answer). r ≡ withdrawal_of caller project number (held number state) in
-    let permit = not_denied (decided terms caller project verbs.Withdraw) Stands (Withdrawn n) h (λ k e. cc) in
+    let permit = not_denied (decided terms caller project verbs.Withdraw day) Stands (Withdrawn n) h (λ k e. cc) in
     let own = replied_own caller project number n (held number state) (sym permit.2) in
     (own.0, ((permit.0, permit.1), own.1))
 

@@ -36,22 +36,22 @@ IsReceipt terms state caller project embargo bytes r = r ≡ receipt_of terms em
     (first_equal 1 caller.firm project bytes (sents state))
 
 -- a body that is permitted, not too large and without findings
-pub record IsFine (terms : Terms) (caller : Caller) (project bytes : List ℕ) : Type 0 where
+pub record IsFine (terms : Terms) (caller : Caller) (project bytes : List ℕ) (day : ℤ) : Type 0 where
   pub number : ℕ
-  pub permitted : decided terms caller project verbs.Deposit ≡ Permit number
+  pub permitted : decided terms caller project verbs.Deposit day ≡ Permit number
   pub small : length bytes ≤ LIMIT
   pub clean : AreFindings terms.dictionary bytes []
 
-pub fine_of : (terms : Terms) (caller : Caller) (project bytes : List ℕ) (given : Entries) (n : ℕ) → decided terms caller project verbs.Deposit ≡ Permit n → length bytes ≤ LIMIT → given ≡ terms.dictionary
-    → AreFindings given bytes [] → IsFine terms caller project bytes
-fine_of terms caller project bytes given n permit small same clean = record { number = n; permitted = permit; small = small; clean = subst (λ (e : Entries). AreFindings e bytes []) same clean }
+pub fine_of : (terms : Terms) (caller : Caller) (project bytes : List ℕ) (day : ℤ) (given : Entries) (n : ℕ) → decided terms caller project verbs.Deposit day ≡ Permit n → length bytes ≤ LIMIT → given ≡ terms.dictionary
+    → AreFindings given bytes [] → IsFine terms caller project bytes day
+fine_of terms caller project bytes day given n permit small same clean = record { number = n; permitted = permit; small = small; clean = subst (λ (e : Entries). AreFindings e bytes []) same clean }
 
 fine_reply : (terms : Terms) (state : List Deposit) (caller : Caller) (project : List ℕ) (embargo : ℤ)
-    (bytes : List ℕ) (day : ℤ) (answer : Answer) → IsFine terms caller project bytes
+    (bytes : List ℕ) (day : ℤ) (answer : Answer) → IsFine terms caller project bytes day
     → IsReceipt terms state caller project embargo bytes answer → IsReply terms state (deposit caller project embargo bytes day) answer
 fine_reply terms state caller project embargo bytes day answer fine is =
     let Stands = IsReceipt terms state caller project embargo bytes in
-    permitted_reply (decided terms caller project verbs.Deposit) fine.number (OrRefused terms bytes Stands) answer fine.permitted (refused_none terms bytes Stands answer fine.small fine.clean is)
+    permitted_reply (decided terms caller project verbs.Deposit day) fine.number (OrRefused terms bytes Stands) answer fine.permitted (refused_none terms bytes Stands answer fine.small fine.clean is)
 
 receipt_asks : (terms : Terms) (embargo : ℤ) (count : ℕ) (first : Option (ℕ × ℤ)) → AsksStore (λ r. r ≡ receipt_of terms embargo count first)
 receipt_asks terms embargo count (Some held) = ((λ n e. cc, λ e. cc), λ found e. cc, λ e. cc)
@@ -62,7 +62,7 @@ receipt_asks terms embargo count None = full (nat_lt count terms.limit)
     full false = ((λ n e. cc, λ e. cc), λ found e. cc, λ e. cc)
 
 fine_asks : (terms : Terms) (state : List Deposit) (caller : Caller) (project : List ℕ) (embargo : ℤ) (bytes : List ℕ)
-    (day : ℤ) → IsFine terms caller project bytes
+    (day : ℤ) → IsFine terms caller project bytes day
     → AsksStore (IsReply terms state (deposit caller project embargo bytes day))
 fine_asks terms state caller project embargo bytes day fine =
     let request = deposit caller project embargo bytes day in
@@ -102,31 +102,31 @@ receipt_needs terms state caller project embargo bytes =
 -- ---- the answers to a deposit
 
 pub deposit_denied : {K : Type 0} (keep : Ghosts K) (rules : List Rule) (caller : Caller) (project : List ℕ) (embargo : ℤ) (bytes : List ℕ) (day : ℤ) (old : K) (m : ℕ) → keep.has_failed old ≡ false
-    → decided (terms_at keep rules old) caller project verbs.Deposit ≡ Deny m → Serves keep rules (deposit caller project embargo bytes day) old old (Denied m)
+    → decided (terms_at keep rules old) caller project verbs.Deposit day ≡ Deny m → Serves keep rules (deposit caller project embargo bytes day) old old (Denied m)
 deposit_denied keep rules caller project embargo bytes day old m works deny =
     let terms = terms_at keep rules old in
-    let is = denied_reply (decided terms caller project verbs.Deposit) m (OrRefused terms bytes (IsReceipt terms (keep.deposits old) caller project embargo bytes)) deny in
+    let is = denied_reply (decided terms caller project verbs.Deposit day) m (OrRefused terms bytes (IsReceipt terms (keep.deposits old) caller project embargo bytes)) deny in
     replies_at_once keep rules (deposit caller project embargo bytes day) old (Denied m) works refl is
     (untaken terms (keep.deposits old) caller project embargo bytes day (Denied m) (λ e. absurd cc) is)
 
 pub deposit_refused : {K : Type 0} (keep : Ghosts K) (rules : List Rule) (caller : Caller) (project : List ℕ) (embargo : ℤ) (bytes : List ℕ) (day : ℤ) (old : K) (answer : Answer) (k : ℕ) → keep.has_failed old ≡ false
-    → decided (terms_at keep rules old) caller project verbs.Deposit ≡ Permit k → IsRefusal (keep.dictionary old) bytes answer → Serves keep rules (deposit caller project embargo bytes day) old old answer
+    → decided (terms_at keep rules old) caller project verbs.Deposit day ≡ Permit k → IsRefusal (keep.dictionary old) bytes answer → Serves keep rules (deposit caller project embargo bytes day) old old answer
 deposit_refused keep rules caller project embargo bytes day old answer k works permit refusal =
     let terms = terms_at keep rules old in
     let state = keep.deposits old in
-    refusal_serves keep rules (deposit caller project embargo bytes day) old answer (decided terms caller project verbs.Deposit) k bytes (IsReceipt terms state caller project embargo bytes) works permit refusal
+    refusal_serves keep rules (deposit caller project embargo bytes day) old answer (decided terms caller project verbs.Deposit day) k bytes (IsReceipt terms state caller project embargo bytes) works permit refusal
     (receipt_needs terms state caller project embargo bytes) (λ r h. h) (λ r h. h)
     (λ r h is. untaken terms state caller project embargo bytes day r (refusal_other terms bytes (length state + 1) embargo r h) is)
 
 pub deposit_unread : {K : Type 0} (keep : Ghosts K) (rules : List Rule) (caller : Caller) (project : List ℕ) (embargo : ℤ) (bytes : List ℕ) (day : ℤ) (old new : K) (e : KeepError)
-    → IsFine (terms_at keep rules old) caller project bytes → OnlyReads keep old new (is_store e) → e ≢ errors.Full → Serves keep rules (deposit caller project embargo bytes day) old new (answer_of e)
+    → IsFine (terms_at keep rules old) caller project bytes day → OnlyReads keep old new (is_store e) → e ≢ errors.Full → Serves keep rules (deposit caller project embargo bytes day) old new (answer_of e)
 deposit_unread keep rules caller project embargo bytes day old new e fine reads named =
     let asks = fine_asks (terms_at keep rules old) (keep.deposits old) caller project embargo bytes day fine in
     refused_serves keep rules (deposit caller project embargo bytes day) old new e reads named asks.0 (λ s. asks)
 
 -- an equal deposit is held
 pub deposit_repeats : {K : Type 0} (keep : Ghosts K) (rules : List Rule) (caller : Caller) (project : List ℕ) (embargo : ℤ) (bytes : List ℕ) (day : ℤ) (old new : K) (n : ℕ) (e : ℤ)
-    → IsFine (terms_at keep rules old) caller project bytes → OnlyReads keep old new false
+    → IsFine (terms_at keep rules old) caller project bytes day → OnlyReads keep old new false
     → (keep.is_sound new → first_equal 1 caller.firm project bytes (sents (keep.deposits old)) ≡ Some (n, e))
     → Serves keep rules (deposit caller project embargo bytes day) old new (Receipt n e)
 deposit_repeats keep rules caller project embargo bytes day old new n e fine reads first =
@@ -175,11 +175,12 @@ first_of firm project bytes found list first same is = ap (λ (b : List ℕ). fi
 -- ---- a deposit that no equal one is held of
 
 -- a body that is fine is taken where no equal one is held and there is room
-pub is_taken : {K : Type 0} (keep : Ghosts K) (rules : List Rule) (caller : Caller) (project bytes : List ℕ) (old mid : K) → IsFine (terms_at keep rules old) caller project bytes → OnlyReads keep old mid false
+pub is_taken : {K : Type 0} (keep : Ghosts K) (rules : List Rule) (caller : Caller) (project bytes : List ℕ) (day : ℤ) (old mid : K)
+    → IsFine (terms_at keep rules old) caller project bytes day → OnlyReads keep old mid false
     → (keep.is_sound mid → first_equal 1 caller.firm project bytes (sents (keep.deposits old)) ≡ None)
     → (keep.is_sound mid → length (keep.deposits mid) < keep.limit mid)
-    → keep.is_sound mid → IsTaken (terms_at keep rules old) (keep.deposits old) caller project bytes
-is_taken keep rules caller project bytes old mid fine reads unheld room s =
+    → keep.is_sound mid → IsTaken (terms_at keep rules old) (keep.deposits old) caller project bytes day
+is_taken keep rules caller project bytes day old mid fine reads unheld room s =
     ((fine.number, fine.permitted), fine.small, fine.clean, unheld s, omega (arith, room s, ap length (reads.same s refl), reads.same_limit))
 
 -- calls that read, then the call that appends the deposit
@@ -188,8 +189,8 @@ Appends keep d old new result = Makes keep (keep.deposits old ++ unmarked d ∷ 
 
 appending : {K : Type 0} (keep : Ghosts K) (rules : List Rule) (caller : Caller) (project : List ℕ) (embargo : ℤ)
     (bytes : List ℕ) (day : ℤ) (old mid new : K) (result : Result ℕ KeepError)
-    → IsFine (terms_at keep rules old) caller project bytes → OnlyReads keep old mid false
-    → (keep.is_sound mid → IsTaken (terms_at keep rules old) (keep.deposits old) caller project bytes)
+    → IsFine (terms_at keep rules old) caller project bytes day → OnlyReads keep old mid false
+    → (keep.is_sound mid → IsTaken (terms_at keep rules old) (keep.deposits old) caller project bytes day)
     → Appends keep (asked_deposit caller project embargo bytes) mid new result
     → IsMaking keep rules (deposit caller project embargo bytes day) old mid new
     (keep.deposits mid ++ unmarked (asked_deposit caller project embargo bytes) ∷ []) result
@@ -205,7 +206,7 @@ appending keep rules caller project embargo bytes day old mid new result fine re
 }
 
 pub deposit_added : {K : Type 0} (keep : Ghosts K) (rules : List Rule) (caller : Caller) (project : List ℕ) (embargo : ℤ) (bytes : List ℕ) (day : ℤ) (old mid new : K) (n : ℕ)
-    → IsFine (terms_at keep rules old) caller project bytes → OnlyReads keep old mid false → (keep.is_sound mid → IsTaken (terms_at keep rules old) (keep.deposits old) caller project bytes)
+    → IsFine (terms_at keep rules old) caller project bytes day → OnlyReads keep old mid false → (keep.is_sound mid → IsTaken (terms_at keep rules old) (keep.deposits old) caller project bytes day)
     → Appends keep (asked_deposit caller project embargo bytes) mid new (Ok n) → (keep.is_sound new → n ≡ length (keep.deposits new))
     → Serves keep rules (deposit caller project embargo bytes day) old new (Receipt n embargo)
 deposit_added keep rules caller project embargo bytes day old mid new n fine reads taken appends number =
@@ -231,7 +232,7 @@ deposit_added keep rules caller project embargo bytes day old mid new n fine rea
 
 -- there is no room
 pub deposit_full : {K : Type 0} (keep : Ghosts K) (rules : List Rule) (caller : Caller) (project : List ℕ) (embargo : ℤ) (bytes : List ℕ) (day : ℤ) (old mid : K)
-    → IsFine (terms_at keep rules old) caller project bytes → OnlyReads keep old mid false
+    → IsFine (terms_at keep rules old) caller project bytes day → OnlyReads keep old mid false
     → (keep.is_sound mid → first_equal 1 caller.firm project bytes (sents (keep.deposits old)) ≡ None)
     → (keep.is_sound mid → keep.limit mid ≤ length (keep.deposits mid)) → Serves keep rules (deposit caller project embargo bytes day) old mid Full
 deposit_full keep rules caller project embargo bytes day old mid fine reads unheld full =
@@ -246,7 +247,7 @@ deposit_full keep rules caller project embargo bytes day old mid fine reads unhe
 
 -- the keep refuses to append
 pub deposit_unadded : {K : Type 0} (keep : Ghosts K) (rules : List Rule) (caller : Caller) (project : List ℕ) (embargo : ℤ) (bytes : List ℕ) (day : ℤ) (old mid new : K) (e : KeepError)
-    → IsFine (terms_at keep rules old) caller project bytes → OnlyReads keep old mid false → (keep.is_sound mid → IsTaken (terms_at keep rules old) (keep.deposits old) caller project bytes)
+    → IsFine (terms_at keep rules old) caller project bytes day → OnlyReads keep old mid false → (keep.is_sound mid → IsTaken (terms_at keep rules old) (keep.deposits old) caller project bytes day)
     → Appends keep (asked_deposit caller project embargo bytes) mid new (Err e)
     → (keep.is_sound new → e ≡ errors.Full → length (keep.deposits mid) ≡ keep.limit mid)
     → Serves keep rules (deposit caller project embargo bytes day) old new (answer_of e)

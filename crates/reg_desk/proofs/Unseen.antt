@@ -62,7 +62,7 @@ unlisted : (terms : Terms) (state : List Deposit) (number : ℕ) → mark_at num
 unlisted terms state number marked caller project day lines h =
     let lists = λ (r : Answer).
     (found : List Listed) × IsListing terms caller project day 1 state found × (r ≡ Listing found) in
-    let found = (not_denied (decided terms caller project verbs.List) lists (Listing lines) h (λ n e. cc)).2 in
+    let found = (not_denied (decided terms caller project verbs.List day) lists (Listing lines) h (λ n e. cc)).2 in
     let same : lines ≡ found.0 = cc in
     others_listed terms caller project day number 1 state
     (λ i d at is e.

@@ -101,12 +101,12 @@ abbrev IsWithdrawal : List Deposit → Caller → List ℕ → ℕ → Answer �
 IsWithdrawal state caller project number r = r ≡ withdrawal_of caller project number (held number state)
 
 withdraw_asks : (terms : Terms) (state : List Deposit) (caller : Caller) (project : List ℕ) (number : ℕ) (day : ℤ)
-    (k : ℕ) → decided terms caller project verbs.Withdraw ≡ Permit k
+    (k : ℕ) → decided terms caller project verbs.Withdraw day ≡ Permit k
     → AsksStore (IsReply terms state (withdraw caller project number day))
 withdraw_asks terms state caller project number day k permit =
     let Stands = IsWithdrawal state caller project number in
     asks_of Stands (IsReply terms state (withdraw caller project number day))
-    (λ reply is. permit_stands (decided terms caller project verbs.Withdraw) k Stands reply permit is)
+    (λ reply is. permit_stands (decided terms caller project verbs.Withdraw day) k Stands reply permit is)
     (withdrawal_asks caller project number (held number state))
 
 -- ---- the next state
@@ -118,28 +118,28 @@ still_marked caller project number state own =
     sym (marked_again state number own.kept (held_within state number own.kept own.holds).0
     (held_place state number own.kept own.holds) own.mark)
 
-is_withdrawn : (terms : Terms) (state : List Deposit) (caller : Caller) (project : List ℕ) (number k : ℕ)
-    (withdrawn : Bool) → decided terms caller project verbs.Withdraw ≡ Permit k
-    → IsOwned caller project (held number state) withdrawn → IsWithdrawn terms state caller project number
-is_withdrawn terms state caller project number k withdrawn permit owned =
+is_withdrawn : (terms : Terms) (state : List Deposit) (caller : Caller) (project : List ℕ) (number : ℕ) (day : ℤ)
+    (k : ℕ) (withdrawn : Bool) → decided terms caller project verbs.Withdraw day ≡ Permit k
+    → IsOwned caller project (held number state) withdrawn → IsWithdrawn terms state caller project number day
+is_withdrawn terms state caller project number day k withdrawn permit owned =
     ((k, permit), (owned.kept, owned.holds, owned.own))
 
 -- ---- the answers to a withdrawal
 
 pub withdraw_denied : {K : Type 0} (keep : Ghosts K) (rules : List Rule) (caller : Caller) (project : List ℕ)
     (number : ℕ) (day : ℤ) (old : K) (m : ℕ) → keep.has_failed old ≡ false
-    → decided (terms_at keep rules old) caller project verbs.Withdraw ≡ Deny m
+    → decided (terms_at keep rules old) caller project verbs.Withdraw day ≡ Deny m
     → Serves keep rules (withdraw caller project number day) old old (Denied m)
 withdraw_denied keep rules caller project number day old m works deny =
     let terms = terms_at keep rules old in
     let state = keep.deposits old in
     replies_at_once keep rules (withdraw caller project number day) old (Denied m) works refl
-    (denied_reply (decided terms caller project verbs.Withdraw) m (IsWithdrawal state caller project number) deny)
+    (denied_reply (decided terms caller project verbs.Withdraw day) m (IsWithdrawal state caller project number) deny)
     (inr (λ list change. let never = sym deny ∙ change.0.0.1 in cc, refl))
 
 pub withdraw_unread : {K : Type 0} (keep : Ghosts K) (rules : List Rule) (caller : Caller) (project : List ℕ)
     (number : ℕ) (day : ℤ) (old new : K) (k : ℕ) (e : KeepError)
-    → decided (terms_at keep rules old) caller project verbs.Withdraw ≡ Permit k → OnlyReads keep old new (is_store e)
+    → decided (terms_at keep rules old) caller project verbs.Withdraw day ≡ Permit k → OnlyReads keep old new (is_store e)
     → e ≢ errors.Full → Serves keep rules (withdraw caller project number day) old new (answer_of e)
 withdraw_unread keep rules caller project number day old new k e permit reads named =
     let asks = withdraw_asks (terms_at keep rules old) (keep.deposits old) caller project number day k permit in
@@ -147,14 +147,14 @@ withdraw_unread keep rules caller project number day old new k e permit reads na
 
 pub withdraw_unknown : {K : Type 0} (keep : Ghosts K) (rules : List Rule) (caller : Caller) (project : List ℕ)
     (number : ℕ) (day : ℤ) (old new : K) (k : ℕ)
-    → decided (terms_at keep rules old) caller project verbs.Withdraw ≡ Permit k → OnlyReads keep old new false
+    → decided (terms_at keep rules old) caller project verbs.Withdraw day ≡ Permit k → OnlyReads keep old new false
     → (keep.is_sound new → None ≡ mark_of caller project (held number (keep.deposits old)))
     → Serves keep rules (withdraw caller project number day) old new Unknown
 withdraw_unknown keep rules caller project number day old new k permit reads is =
     let terms = terms_at keep rules old in
     let state = keep.deposits old in
     replies_serves keep rules (withdraw caller project number day) old new Unknown reads refl
-    (λ s. ∣ permitted_reply (decided terms caller project verbs.Withdraw) k
+    (λ s. ∣ permitted_reply (decided terms caller project verbs.Withdraw day) k
     (IsWithdrawal state caller project number) Unknown permit
     (unowned_reply caller project number (held number state) (is s)).0 ∣₁)
     (λ s. inr (
@@ -165,18 +165,18 @@ withdraw_unknown keep rules caller project number day old new k permit reads is 
     (withdraw_asks terms state caller project number day k permit).0
 
 own_answer : (terms : Terms) (state : List Deposit) (caller : Caller) (project : List ℕ) (number : ℕ) (day : ℤ)
-    (k : ℕ) (withdrawn : Bool) → decided terms caller project verbs.Withdraw ≡ Permit k
+    (k : ℕ) (withdrawn : Bool) → decided terms caller project verbs.Withdraw day ≡ Permit k
     → IsOwned caller project (held number state) withdrawn
     → IsReply terms state (withdraw caller project number day) (Withdrawn number)
 own_answer terms state caller project number day k withdrawn permit owned =
-    permitted_reply (decided terms caller project verbs.Withdraw) k (IsWithdrawal state caller project number)
+    permitted_reply (decided terms caller project verbs.Withdraw day) k (IsWithdrawal state caller project number)
     (Withdrawn number) permit
     (sym (own_reply caller project number (held number state) owned.kept owned.holds owned.own))
 
 -- it is marked already
 pub withdraw_again : {K : Type 0} (keep : Ghosts K) (rules : List Rule) (caller : Caller) (project : List ℕ)
     (number : ℕ) (day : ℤ) (old new : K) (k : ℕ)
-    → decided (terms_at keep rules old) caller project verbs.Withdraw ≡ Permit k → OnlyReads keep old new false
+    → decided (terms_at keep rules old) caller project verbs.Withdraw day ≡ Permit k → OnlyReads keep old new false
     → (keep.is_sound new → Some true ≡ mark_of caller project (held number (keep.deposits old)))
     → Serves keep rules (withdraw caller project number day) old new (Withdrawn number)
 withdraw_again keep rules caller project number day old new k permit reads is =
@@ -188,14 +188,14 @@ withdraw_again keep rules caller project number day old new k permit reads is =
     (λ s. ∣ own_answer terms state caller project number day k true permit (own s) ∣₁)
     (λ s.
     inl (
-      is_withdrawn terms state caller project number k true permit (own s),
+      is_withdrawn terms state caller project number day k true permit (own s),
       still_marked caller project number state (own s),
     ))
     (withdraw_asks terms state caller project number day k permit).0
 
 marking : {K X : Type 0} (keep : Ghosts K) (rules : List Rule) (caller : Caller) (project : List ℕ) (number : ℕ)
     (day : ℤ) (old mid new : K) (k : ℕ) (result : Result X KeepError)
-    → decided (terms_at keep rules old) caller project verbs.Withdraw ≡ Permit k → OnlyReads keep old mid false
+    → decided (terms_at keep rules old) caller project verbs.Withdraw day ≡ Permit k → OnlyReads keep old mid false
     → (keep.is_sound mid → Some false ≡ mark_of caller project (held number (keep.deposits old)))
     → Makes keep (marked number (keep.deposits mid)) mid new result
     → IsMaking keep rules (withdraw caller project number day) old mid new (marked number (keep.deposits mid)) result
@@ -206,7 +206,7 @@ marking keep rules caller project number day old mid new k result permit reads i
       reads = reads;
       makes = marks;
       change = λ s. (
-        is_withdrawn terms state caller project number k false permit
+        is_withdrawn terms state caller project number day k false permit
             (owned caller project (held number state) false (is s)),
         ap (marked number) (reads.same s refl),
       );
@@ -216,7 +216,7 @@ marking keep rules caller project number day old mid new k result permit reads i
 -- it is not marked yet, and the keep marks it
 pub withdraw_marks : {K X : Type 0} (keep : Ghosts K) (rules : List Rule) (caller : Caller) (project : List ℕ)
     (number : ℕ) (day : ℤ) (old mid new : K) (k : ℕ) (x : X)
-    → decided (terms_at keep rules old) caller project verbs.Withdraw ≡ Permit k → OnlyReads keep old mid false
+    → decided (terms_at keep rules old) caller project verbs.Withdraw day ≡ Permit k → OnlyReads keep old mid false
     → (keep.is_sound mid → Some false ≡ mark_of caller project (held number (keep.deposits old)))
     → Makes keep (marked number (keep.deposits mid)) mid new (Ok x)
     → Serves keep rules (withdraw caller project number day) old new (Withdrawn number)
@@ -232,7 +232,7 @@ withdraw_marks keep rules caller project number day old mid new k x permit reads
 -- the keep refuses to mark it
 pub withdraw_unmarked : {K X : Type 0} (keep : Ghosts K) (rules : List Rule) (caller : Caller) (project : List ℕ)
     (number : ℕ) (day : ℤ) (old mid new : K) (k : ℕ) (e : KeepError)
-    → decided (terms_at keep rules old) caller project verbs.Withdraw ≡ Permit k → OnlyReads keep old mid false
+    → decided (terms_at keep rules old) caller project verbs.Withdraw day ≡ Permit k → OnlyReads keep old mid false
     → (keep.is_sound mid → Some false ≡ mark_of caller project (held number (keep.deposits old)))
     → Makes {X = X} keep (marked number (keep.deposits mid)) mid new (Err e) → e ≢ errors.Full
     → Serves keep rules (withdraw caller project number day) old new (answer_of e)

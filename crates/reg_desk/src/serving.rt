@@ -19,7 +19,7 @@ use crate::serving::deposit::serve_deposit;
 use crate::serving::drawing::serve_extract;
 use crate::serving::listing::serve_list;
 use crate::serving::withdrawal::serve_withdraw;
-use reg_policy::{Caller, Decision, Name, Policy, Subject, Verb};
+use reg_policy::{Caller, Day, Decision, Name, Policy, Subject, Verb};
 use reg_store::{Keep, KeepError};
 use std::alloc::Global;
 
@@ -41,14 +41,14 @@ pub(crate) fn serve<K: Keep>(
             project,
             embargo,
             bytes,
-            day: _,
-        } => serve_deposit(alloc, keep, policy, caller, project, embargo, bytes),
+            day,
+        } => serve_deposit(alloc, keep, policy, caller, project, embargo, bytes, day),
         Request::Check {
             caller,
             project,
             bytes,
-            day: _,
-        } => serve_check(alloc, keep, policy, caller, project, bytes),
+            day,
+        } => serve_check(alloc, keep, policy, caller, project, bytes, day),
         Request::List {
             caller,
             project,
@@ -65,8 +65,8 @@ pub(crate) fn serve<K: Keep>(
             caller,
             project,
             number,
-            day: _,
-        } => serve_withdraw(keep, policy, caller, project, number),
+            day,
+        } => serve_withdraw(keep, policy, caller, project, number, day),
     }
 }
 
@@ -76,10 +76,11 @@ fn decide_request<'x>(
     caller: &'x Caller,
     project: &'x Name,
     verb: Verb,
+    day: Day,
 ) -> Decision
-    ensures { result ≡ decision_of policy.now (request_question caller.now project.now verb) }
+    ensures { result ≡ decision_of policy.now (request_question caller.now project.now verb day) }
 {
-    policy.decide(&Subject::of_request(caller, project, verb))
+    policy.decide(&Subject::of_request(caller, project, verb, day))
 }
 
 /// The answer where the keep refuses.

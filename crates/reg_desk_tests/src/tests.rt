@@ -8,28 +8,30 @@ mod failing;
 mod junk;
 mod laws;
 mod memory;
+mod policies;
 mod refusing;
+mod requests;
 mod stops;
 mod wanted;
-mod withdrawing;
 
 use ags_dict::Dictionary;
 use ags_rows::READABLE;
 use ags_rows::vectors::MINI;
 use bodies::{LENGTHS, bytes_of};
-use examples::{EXAMPLES, MOST, UNTIL, WITHDRAWALS};
+use examples::{CHANGED, EXAMPLES, LONG, MOST};
 use laws::tells;
 use memory::is_refused_once;
+use policies::{Added, WITHDRAWALS, policy_with};
 use refusing::Refusing;
-use reg_desk::{Desk, Request};
+use reg_desk::Desk;
 use reg_policy::vectors::{CALLERS, POLICY};
-use reg_policy::{Caller, Callers, Day, Name, Policy};
+use reg_policy::{Callers, Name, Policy};
 use reg_store::{Keep, PlainKeep};
 use reg_tables::{CreateError, SqlKeep};
+use requests::{bytes_sent, request_at};
 use std::alloc::{AllocError, Global};
 use std::process::Abort;
 use wanted::is_wanted;
-use withdrawing::withdrawing;
 
 /// New lines in place of those from the first to the last.
 #[derive(Clone, Copy)]
@@ -56,7 +58,7 @@ pub struct Body {
     pub spaces: usize,
 }
 
-/// What is asked. Every request is for project N1.
+/// What is asked, for project N1 where no other is named.
 #[derive(Clone, Copy)]
 pub enum Ask {
     /// The body, and its embargo.
@@ -65,6 +67,8 @@ pub enum Ask {
     List,
     Extract(u32, &'static [&'static [u8]]),
     Withdraw(u32),
+    /// The same for the project of this name.
+    WithdrawFrom(&'static str, u32),
 }
 
 /// What is answered.
@@ -122,130 +126,16 @@ pub enum Over {
 pub enum Play {
     /// These steps are asked in turn.
     Steps(&'static [Step]),
-    /// The same, where the policy permits withdrawals to contractors.
-    Withdrawals(&'static [Step]),
-    /// Three runs are asked, where memory may be refused once.
+    /// The same under the policy with lines more.
+    Under(Added, &'static [Step]),
+    /// Three runs are asked, where withdrawals are permitted and memory may be refused once.
     Runs,
     /// Four requests are asked behind a deposit of this body.
     Told(&'static Body),
 }
 
-/// A deposit to a project.
-fn deposit_of<'a>(
-    caller: &'a Caller,
-    project: &'a Name,
-    embargo: Day,
-    bytes: &'a [u8],
-    day: Day,
-) -> Request<'a> {
-    Request::Deposit {
-        caller,
-        project,
-        embargo,
-        bytes,
-        day,
-    }
-}
-
-/// A check of a body.
-fn check_of<'a>(caller: &'a Caller, project: &'a Name, bytes: &'a [u8], day: Day) -> Request<'a> {
-    Request::Check {
-        caller,
-        project,
-        bytes,
-        day,
-    }
-}
-
-/// A list of a project's deposits.
-fn list_of<'a>(caller: &'a Caller, project: &'a Name, day: Day) -> Request<'a> {
-    Request::List {
-        caller,
-        project,
-        day,
-    }
-}
-
-/// An extract of groups of a deposit.
-fn extract_of<'a>(
-    caller: &'a Caller,
-    project: &'a Name,
-    number: u32,
-    groups: &'a [&'a [u8]],
-    day: Day,
-) -> Request<'a> {
-    Request::Extract {
-        caller,
-        project,
-        number,
-        groups,
-        day,
-    }
-}
-
-/// A withdrawal of a deposit.
-fn withdraw_of<'a>(caller: &'a Caller, project: &'a Name, number: u32, day: Day) -> Request<'a> {
-    Request::Withdraw {
-        caller,
-        project,
-        number,
-        day,
-    }
-}
-
-/// The bytes that are sent with what is asked.
-fn bytes_sent(alloc: Global, ask: &Ask) -> Result<Vec<u8>, AllocError> {
-    match ask {
-        Ask::Deposit(body, _) => bytes_of(alloc, body),
-        Ask::Check(body) => bytes_of(alloc, body),
-        _ => Ok(Vec::new(alloc)),
-    }
-}
-
-/// What is asked, with these bytes; none where its embargo is no day.
-fn request_of<'a>(
-    caller: &'a Caller,
-    project: &'a Name,
-    day: Day,
-    ask: &Ask,
-    bytes: &'a [u8],
-) -> Option<Request<'a>> {
-    match ask {
-        Ask::Deposit(_, until) => {
-            Some(deposit_of(caller, project, Day::read(until)?, bytes, day))
-        }
-        Ask::Check(_) => Some(check_of(caller, project, bytes, day)),
-        Ask::List => Some(list_of(caller, project, day)),
-        Ask::Extract(number, groups) => Some(extract_of(caller, project, *number, groups, day)),
-        Ask::Withdraw(number) => Some(withdraw_of(caller, project, *number, day)),
-    }
-}
-
-/// The request of a step, with these bytes; none where its token is nobody's, or one of its days is none.
-fn request_at<'a>(
-    callers: &'a Callers,
-    project: &'a Name,
-    step: &Step,
-    bytes: &'a [u8],
-) -> Option<Request<'a>> {
-    let caller = callers.find(step.0.as_bytes())?;
-    request_of(caller, project, Day::read(step.1)?, &step.2, bytes)
-}
-
-/// Two callers by their tokens, and 2024-06-01; none where one of them is nobody's.
-fn two_of<'a>(
-    callers: &'a Callers,
-    first: &[u8],
-    second: &[u8],
-) -> Option<(&'a Caller, &'a Caller, Day)> {
-    match (callers.find(first), callers.find(second), Day::read(UNTIL)) {
-        (Some(first), Some(second), Some(day)) => Some((first, second, day)),
-        _ => None,
-    }
-}
-
-/// Whether a step is answered as it should be.
-fn holds<K: Keep>(
+/// Whether a step for this project is answered as it should be.
+fn holds_for<K: Keep>(
     alloc: Global,
     desk: &mut Desk<K>,
     callers: &Callers,
@@ -256,6 +146,23 @@ fn holds<K: Keep>(
     match request_at(callers, project, step, &bytes) {
         Some(request) => is_wanted(alloc, &desk.answer(alloc, &request), &step.3),
         None => Ok(false),
+    }
+}
+
+/// The same for the project that the step names, if it names one.
+fn holds<K: Keep>(
+    alloc: Global,
+    desk: &mut Desk<K>,
+    callers: &Callers,
+    project: &Name,
+    step: &Step,
+) -> Result<bool, AllocError> {
+    match step.2 {
+        Ask::WithdrawFrom(name, _) => match Name::read(alloc, name) {
+            Ok(other) => holds_for(alloc, desk, callers, &other, step),
+            Err(_) => Err(AllocError),
+        },
+        _ => holds_for(alloc, desk, callers, project, step),
     }
 }
 
@@ -285,7 +192,7 @@ fn answers<K: Keep>(
     play: Play,
 ) -> Result<bool, AllocError> {
     match play {
-        Play::Steps(steps) | Play::Withdrawals(steps) => hold(alloc, desk, callers, project, steps),
+        Play::Steps(steps) | Play::Under(_, steps) => hold(alloc, desk, callers, project, steps),
         Play::Runs => Ok(is_refused_once(alloc, desk, callers, project)),
         Play::Told(body) => tells(alloc, desk, callers, project, body),
     }
@@ -422,7 +329,8 @@ fn plays_over(
 /// The policy under which it is played; none where memory is refused.
 fn policy_for(alloc: Global, play: Play) -> Option<Policy> {
     match play {
-        Play::Withdrawals(_) => withdrawing(alloc),
+        Play::Under(added, _) => policy_with(alloc, &added),
+        Play::Runs => policy_with(alloc, &WITHDRAWALS),
         _ => Policy::read(alloc, POLICY).ok(),
     }
 }
@@ -470,8 +378,8 @@ fn examples_over(alloc: Global, rt: &impl Abort, over: Over) {
         let right = plays(alloc, over, example.limit, play).unwrap_or(false);
         assert!(rt; right, "{}", example.name);
     }
-    for example in &WITHDRAWALS {
-        let play = Play::Withdrawals(example.steps);
+    for (added, example) in &CHANGED {
+        let play = Play::Under(*added, example.steps);
         let right = plays(alloc, over, example.limit, play).unwrap_or(false);
         assert!(rt; right, "{}", example.name);
     }
@@ -483,6 +391,17 @@ fn bodies_are_as_long_as_they_should_be(rt: HostRuntime) {
     for Length(name, body, length) in &LENGTHS {
         assert!(rt; length_of(alloc, body).unwrap_or(0) == *length, "{name}");
     }
+}
+
+/// Long bodies take longer, so each keep has a test of them.
+#[test]
+fn long_bodies_in_memory(rt: HostRuntime) {
+    assert!(rt; plays(rt.alloc(), Over::Memory, MOST, Play::Steps(&LONG)).unwrap_or(false));
+}
+
+#[test]
+fn long_bodies_in_tables(rt: HostRuntime) {
+    assert!(rt; plays(rt.alloc(), Over::Tables, MOST, Play::Steps(&LONG)).unwrap_or(false));
 }
 
 #[test]

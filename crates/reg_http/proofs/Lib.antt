@@ -13,3 +13,4 @@ pub mod ServeLemmas
 pub mod ListLemmas
 pub mod ReplyLaws
 pub mod ReadingLaws
+pub mod Numerals

@@ -1,5 +1,6 @@
 -- What a clause reads of a `Tally`.
-use Rattle.std.specs.Prelude.{◌≡◌, ℕ, ◌+◌, ◌-◌, ◌^◌, min, Bool, true, false, ◌&&◌, ◌==◌, not, List, length, Result, Ok, Err}
+use Rattle.std.specs.Prelude.{◌≡◌, ℕ, ◌+◌, ◌-◌, ◌^◌, min, Bool, true, false, ◌&&◌, ◌==◌, not, List, length, Result, Ok}
+use Rattle.std.specs.Prelude.{Err}
 use Rattle.reg_http.specs.declared.tally.Tally.{Tally}
 
 -- what the tally wraps

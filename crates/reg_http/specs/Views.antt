@@ -1,5 +1,6 @@
 -- What the code reads of a request, as the definitions have it.
-use Rattle.std.specs.Prelude.{◌≡◌, ℕ, ◌≤◌, ◌<◌, List, [], length, take, Option, Some, None, Result, Ok, Err, Bool, true, false, ⊤, Vec}
+use Rattle.std.specs.Prelude.{◌≡◌, ℕ, ◌≤◌, ◌<◌, List, [], length, take, Option, Some, None, Result, Ok, Err, Bool, true}
+use Rattle.std.specs.Prelude.{false, ⊤, Vec}
 use Rattle.std.specs.Borrow.{Bor}
 use Rattle.std.specs.declared.alloc.Global.{Global}
 use Rattle.std.specs.declared.borrow.CowStr.{CowStr}
@@ -25,9 +26,9 @@ abbrev pub found_page : Found → FoundAt
 found_page f = record { page = f.page; project = f.project.now; number = f.number.now }
 
 -- a text that may have been given
-abbrev pub text_at : {Z : Type 0} → Option (CowStr Z) → Option (List ℕ)
-text_at None = None
-text_at (Some text) = Some (cow_str_bytes text)
+abbrev pub given_text : {Z : Type 0} → Option (CowStr Z) → Option (List ℕ)
+given_text None = None
+given_text (Some text) = Some (cow_str_bytes text)
 
 -- the groups that such a text lists
 abbrev pub groups_at : {Z : Type 0} → Option (CowStr Z) → List (List ℕ)

@@ -59,6 +59,7 @@ impl Refusal {
     }
 
     /// Its whole reply, which takes no memory.
+    #[tactic(auto, unfolding(crate::proofs::Numerals::digits, crate::specs::Replies::phrase_of))]
     pub(crate) fn reply(self) -> &'static str
         ensures { result.now ≡ rendered self }
     {

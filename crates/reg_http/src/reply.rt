@@ -1,6 +1,6 @@
-//! The text of a reply.
+//! The text of a reply up to its body.
 ghost use Rattle.std.specs.Prelude.{◌≡◌, IfOk, OnOk, string_bytes};
-ghost use Rattle.reg_http.specs.Replies.{phrase_of, reply_front, reply_text, with_fields, with_status_line};
+ghost use Rattle.reg_http.specs.Replies.{phrase_of, reply_front, with_fields, with_status_line};
 
 pub(crate) mod answer;
 pub(crate) mod lists;
@@ -10,24 +10,8 @@ pub(crate) mod write;
 use http::StatusCode;
 use std::alloc::{AllocError, Global};
 
-/// A whole reply.
-pub(crate) fn whole_reply(
-    alloc: Global,
-    status: StatusCode,
-    kind: &str,
-    body: &[u8],
-) -> Result<Vec<u8>, AllocError>
-    ensures { IfOk result (λ reply. reply.items ≡ reply_text status kind.now body.now) }
-{
-    let front = reply_front(alloc, status, kind, body.len())?;
-    let mut reply = Vec::with_capacity(alloc, front.len() + body.len())?;
-    reply.extend_from_slice(front.as_bytes())?;
-    reply.extend_from_slice(body)?;
-    Ok(reply)
-}
-
 /// The reply up to its body.
-fn reply_front(
+pub(crate) fn reply_front(
     alloc: Global,
     status: StatusCode,
     kind: &str,
@@ -65,6 +49,7 @@ fn push_fields(text: &mut String, kind: &str, length: usize) -> Result<(), Alloc
 }
 
 /// The phrase of a status.
+#[tactic(auto, unfolding(crate::specs::Replies::phrase_of))]
 fn phrase_of(status: StatusCode) -> &'static str
     ensures { result.now ≡ phrase_of status }
 {

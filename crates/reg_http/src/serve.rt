@@ -6,11 +6,12 @@ ghost use Rattle.reg_http.specs.HeadParts.{parts_seen};
 ghost use Rattle.reg_desk.specs.Asked.{asked};
 ghost use Rattle.reg_http.specs.Rendering.{is_fixed, rendered, status_of};
 ghost use Rattle.reg_http.specs.Serving.{ServesAnswer, WaitsFor, body_reads, is_read, is_write};
-ghost use Rattle.reg_http.specs.Sides.{ServesAskedFrom, ServesAskedTo, ServesHead, ServesOneFrom, ServesOneTo, ServesRequestTo, ServesSomeHead, WrittenTo};
+ghost use Rattle.reg_http.specs.Sides.{ServesAskedFrom, ServesAskedTo, ServesHead, ServesOneFrom, ServesOneTo};
+ghost use Rattle.reg_http.specs.Sides.{ServesRequestTo, ServesSomeHead, WrittenTo};
 ghost use Rattle.reg_http.specs.Tallies.{inner_of, calls_of, has_failed, IsFresh};
 
 use crate::refusal::Refusal;
-use crate::reply::answer::{built_reply, fixed_reply, status_of};
+use crate::reply::answer::{answer_status, built_reply, fixed_reply};
 use crate::reply::write::write_text;
 use crate::request::ask::{Ask, head_parts, read_ask};
 use crate::request::body::{BodyFault, receive_body};
@@ -205,7 +206,7 @@ fn serve_answer<W: Write>(
     ensures no_read { is_read result ≡ false }
 {
     match fixed_reply(answer) {
-        Some(text) => finish(writer, status_of(answer), text.as_bytes()),
+        Some(text) => finish(writer, answer_status(answer), text.as_bytes()),
         None => serve_built(alloc, answer, writer),
     }
 }
@@ -224,7 +225,7 @@ fn serve_built<W: Write>(
     ensures no_read { is_read result ≡ false }
 {
     match built_reply(alloc, answer) {
-        Ok(text) => finish(writer, status_of(answer), &text),
+        Ok(text) => finish(writer, answer_status(answer), &text),
         Err(_) => refuse(writer, Refusal::OutOfMemory),
     }
 }

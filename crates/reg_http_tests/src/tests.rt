@@ -20,8 +20,8 @@ use std::env::VarError;
 use std::io::{ErrorKind, Read, Write};
 use std::{env, io};
 
-/// An empty desk over memory that takes so many deposits, under this policy and dictionary; none where memory is refused,
-/// or the dictionary is longer than what can be read.
+/// An empty desk over memory that takes so many deposits, under this policy and dictionary; none where memory is
+/// refused, or the dictionary is longer than what can be read.
 fn desk_under(alloc: Global, policy: &str, dictionary: &[u8], most: u32) -> Option<Desk<PlainKeep>>
     requires least { 0 < most }
     requires most { most ≤ 999999 }
@@ -183,7 +183,8 @@ Connection: close\r\n\
 \r\n\
 {\"error\":\"out of memory\"}";
 
-/// Whether memory was wanting for a deposit, from the status and what was written; none where it is neither that nor the receipt.
+/// Whether memory was wanting for a deposit, from the status and what was written; none where it is neither that nor
+/// the receipt.
 fn was_wanting(served: &Result<Served, IoFault>, written: &[u8]) -> Option<bool> {
     if has_status(served, 503) && written == OUT_OF_MEMORY {
         Some(true)
@@ -230,7 +231,8 @@ fn deposits_thrice(
     Some(refused)
 }
 
-/// Whether no more answers than growths that were refused are 503: none with memory. Some growths the code can do without.
+/// Whether no more answers than growths that were refused are 503: none with memory. Some growths the code can do
+/// without.
 fn are_at_most(counted: Option<u32>, refused: u32) -> bool {
     match counted {
         Some(count) => count <= refused,
@@ -238,7 +240,8 @@ fn are_at_most(counted: Option<u32>, refused: u32) -> bool {
     }
 }
 
-/// How many growths are refused: one where `conformance/refused_tests` refuses it, else none. None where it is refused here.
+/// How many growths are refused: one where `conformance/refused_tests` refuses it, else none. None where it is refused
+/// here.
 fn growths_refused(rt: &HostRuntime) -> Option<u32> {
     match env::var(rt, "REFUSED") {
         Ok(number) if number.as_str() != "0" => Some(1),
@@ -247,8 +250,8 @@ fn growths_refused(rt: &HostRuntime) -> Option<u32> {
     }
 }
 
-/// With memory, and where `conformance/refused_tests` refuses one growth: of three equal deposits one at most is then answered 503, and
-/// each other as ever. Where memory is refused before, nothing is asked.
+/// With memory, and where `conformance/refused_tests` refuses one growth: of three equal deposits one at most is then
+/// answered 503, and each other as ever. Where memory is refused before, nothing is asked.
 #[test]
 fn memory_is_refused_once(rt: HostRuntime) {
     if let Some(refused) = growths_refused(&rt) {
@@ -300,8 +303,8 @@ fn count_wanting(results: &[Result<Served, IoFault>]) -> Option<u32> {
     Some(wanting)
 }
 
-/// How often memory was wanting while two equal deposits were served in a list; none where an answer is neither as ever nor want of memory,
-/// or where the list was refused whole and something is held that was not.
+/// How often memory was wanting while two equal deposits were served in a list; none where an answer is neither as ever
+/// nor want of memory, or where the list was refused whole and something is held that was not.
 fn list_wanting(
     alloc: Global,
     desk: &mut Desk<PlainKeep>,
@@ -338,8 +341,9 @@ fn lists_twice(
     Some(first.saturating_add(second))
 }
 
-/// With memory, and where `conformance/refused_tests` refuses one growth: two equal deposits are served in a list, twice. Memory is then
-/// wanting once, for the list whole or for one of the four answers, and each other answer is as ever.
+/// With memory, and where `conformance/refused_tests` refuses one growth: two equal deposits are served in a list,
+/// twice. Memory is then wanting once, for the list whole or for one of the four answers, and each other answer is as
+/// ever.
 #[test]
 fn memory_is_refused_once_in_a_list(rt: HostRuntime) {
     if let Some(refused) = growths_refused(&rt) {

@@ -183,7 +183,7 @@ fn entry_at(alloc: Global, table: &Table) -> Result<Option<WantedEntry>, ReadErr
     }
 }
 
-/// `from` and `until`, of which the second is no earlier day than the first.
+/// `from` and `until`, of which the second day is not before the first.
 fn period_at(table: &Table) -> Result<Period, ReadError>
     ensures { Gives (IsPeriodIn (table_view table.now)) result }
 {

@@ -2,7 +2,7 @@
 
 use super::run_over;
 use ags_rows::vectors::FILE_A;
-use ags_rows::{Code, NotedFindings};
+use ags_rows::{Code, LIMIT, NotedFindings};
 use reg_cli::{Report, findings_report};
 use std::alloc::{AllocError, Global};
 use std::io;
@@ -36,8 +36,8 @@ struct Input {
     status: u8,
 }
 
-/// The length from which each byte up to the 4,194,305th is asked for.
-const LONG: u64 = 4_194_304;
+/// The length of the longest file that is checked. From there on the byte behind it is asked for too.
+const LONGEST: u64 = LIMIT as u64;
 
 const INPUTS: [Input; 10] = [
     Input {
@@ -91,28 +91,28 @@ const INPUTS: [Input; 10] = [
     },
     Input {
         text: FILE_A,
-        length: LONG,
+        length: LONGEST,
         printed: b"clean\n",
         said: b"",
         status: 0,
     },
     Input {
         text: FILE_A,
-        length: 4_194_305,
+        length: LONGEST + 1,
         printed: b"",
         said: b"groundreg: too large\n",
         status: 4,
     },
     Input {
         text: FILE_A,
-        length: 9_000_000,
+        length: 2 * LONGEST,
         printed: b"",
         said: b"groundreg: too large\n",
         status: 4,
     },
 ];
 
-/// Whether this is what a run answers to a file, of which it asks for no byte beyond the 4,194,305th.
+/// Whether this is what a run answers to a file, of which it asks for no byte beyond the one after LIMIT.
 fn answers_so(alloc: Global, file: &Input) -> bool {
     let mut input = Asked {
         inner: file.text.chain(io::repeat(b' ')).take(file.length),
@@ -126,7 +126,7 @@ fn answers_so(alloc: Global, file: &Input) -> bool {
         & !noted
         & (printed.as_slice() == file.printed)
         & (said.as_slice() == file.said)
-        & ((file.length < LONG) | (input.furthest == 4_194_305))
+        & ((file.length < LONGEST) | (input.furthest == LIMIT + 1))
 }
 
 #[test]
@@ -139,7 +139,7 @@ fn files_are_answered(rt: HostRuntime) {
 /// The report of two findings.
 fn report_of_two(alloc: Global) -> Result<Report, AllocError> {
     let mut findings = NotedFindings::new(alloc);
-    findings.note(4_194_304, Code::P2, b"")?;
+    findings.note(8_388_608, Code::P2, b"")?;
     findings.note(27, Code::Rule19a, b"a\t~\x7F \x00\x1F\x80\xFF")?;
     findings_report(alloc, &findings.in_order())
 }
@@ -147,7 +147,7 @@ fn report_of_two(alloc: Global) -> Result<Report, AllocError> {
 #[test]
 fn control_bytes_are_question_marks(rt: HostRuntime) -> Result<(), Fail> {
     let report = report_of_two(rt.alloc())?;
-    assert!(rt; report.text.as_slice() == b"19a 27 a?~? ????\nP2 4194304 -\n".as_slice());
+    assert!(rt; report.text.as_slice() == b"19a 27 a?~? ????\nP2 8388608 -\n".as_slice());
     assert!(rt; report.status == 1);
     Ok(())
 }

@@ -47,8 +47,10 @@ struct Case {
     logged: &'static [u8],
 }
 
-const DEPOSIT: &[u8] =
-    b"POST /v1/projects/N1/deposits?embargo=2024-06-01 HTTP/1.1\r\nAuthorization: Bearer t-delta\r\nContent-Length: 543\r\n\r\n";
+const DEPOSIT: &[u8] = b"POST /v1/projects/N1/deposits?embargo=2024-06-01 HTTP/1.1\r\n\
+Authorization: Bearer t-delta\r\n\
+Content-Length: 543\r\n\
+\r\n";
 
 /// The same without an embargo, so with that of the day, by two firms.
 const DELTA: &[u8] =
@@ -66,7 +68,7 @@ const EXTRACT: &[u8] =
 
 /// The beginning of a deposit that is too long, by a caller whom the policy denies it.
 const TOO_LONG: &[u8] =
-    b"POST /v1/projects/N1/deposits HTTP/1.1\r\nAuthorization: Bearer t-gamma\r\nContent-Length: 4194305\r\n\r\n";
+    b"POST /v1/projects/N1/deposits HTTP/1.1\r\nAuthorization: Bearer t-gamma\r\nContent-Length: 16777217\r\n\r\n";
 
 const RECEIPT: &[u8] = b"HTTP/1.1 200 OK\r\n\
 Content-Type: application/json\r\n\
@@ -139,7 +141,7 @@ static CASES: [Case; 4] = [
         printed: b"200\n404\n413\n0\n",
         logged: b"2024-05-01T10:20:30Z Delta contractor POST /v1/projects/N1/deposits 200 656 125 0\n\
 2024-05-02T10:20:30Z Delta contractor GET /v1/projects/N1/deposits/999 404 76 116 0\n\
-2024-05-03T10:20:30Z Gamma contractor POST /v1/projects/N1/deposits 413 98 126 0\n\
+2024-05-03T10:20:30Z Gamma contractor POST /v1/projects/N1/deposits 413 99 126 0\n\
 2024-05-04T10:20:30Z - - - - 0 0 0 0\n",
     },
     // Each is served on the day of its own, and a log has no token. A peer that stops is cut.

@@ -3,14 +3,14 @@
 ghost use Rattle.std.specs.Prelude.{◌≡◌, ◌⊎◌, List, false};
 ghost use Rattle.ags_rows.specs.declared.finding.Finding.{Finding};
 ghost use Rattle.reg_desk.specs.Asked.{check as asks_check};
-ghost use Rattle.reg_desk.specs.Serving.{IsCleanCheck, IsRefusal, ServesOnAnyDay};
+ghost use Rattle.reg_desk.specs.Serving.{IsCleanCheck, IsRefusal, Serves};
 
 use crate::answer::Answer;
 use crate::serving::decide_request;
 use ags_check::{CheckError, check};
 use ags_dict::Dictionary;
 use ags_rows::LIMIT;
-use reg_policy::{Caller, Decision, Name, Policy, Verb};
+use reg_policy::{Caller, Day, Decision, Name, Policy, Verb};
 use reg_store::Keep;
 use std::alloc::Global;
 
@@ -47,12 +47,13 @@ pub(super) fn serve_check<K: Keep>(
     caller: &Caller,
     project: &Name,
     bytes: &[u8],
+    day: Day,
 ) -> Answer
     requires { K.has_failed keep.old ≡ false }
-    ensures { ServesOnAnyDay K.Keep policy.now
-        (asks_check caller.now project.now bytes.now) keep.old keep.new result }
+    ensures { Serves K.Keep policy.now
+        (asks_check caller.now project.now bytes.now day) keep.old keep.new result }
 {
-    match decide_request(policy, caller, project, Verb::Check) {
+    match decide_request(policy, caller, project, Verb::Check, day) {
         Decision::Deny(rule) => Answer::Denied(rule),
         Decision::Permit(_rule) => check_body(alloc, keep.dictionary(), bytes),
     }

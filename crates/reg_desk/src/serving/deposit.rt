@@ -5,7 +5,7 @@ ghost use Rattle.reg_store.specs.Deposit.{sents};
 ghost use Rattle.reg_store.specs.Keep.{fails};
 ghost use Rattle.reg_desk.specs.Asked.{deposit as asks_deposit};
 ghost use Rattle.reg_desk.specs.Machine.{first_equal};
-ghost use Rattle.reg_desk.specs.Serving.{OnlyReads, ServesOnAnyDay, ServesPermittedDeposit};
+ghost use Rattle.reg_desk.specs.Serving.{OnlyReads, Serves, ServesPermittedDeposit};
 
 use crate::answer::Answer;
 use crate::serving::body::refusal_of;
@@ -114,12 +114,13 @@ pub(super) fn serve_deposit<K: Keep>(
     project: &Name,
     embargo: Day,
     bytes: &[u8],
+    day: Day,
 ) -> Answer
     requires { K.has_failed keep.old ≡ false }
-    ensures { ServesOnAnyDay K.Keep policy.now
-        (asks_deposit caller.now project.now embargo bytes.now) keep.old keep.new result }
+    ensures { Serves K.Keep policy.now
+        (asks_deposit caller.now project.now embargo bytes.now day) keep.old keep.new result }
 {
-    match decide_request(policy, caller, project, Verb::Deposit) {
+    match decide_request(policy, caller, project, Verb::Deposit, day) {
         Decision::Deny(rule) => Answer::Denied(rule),
         Decision::Permit(_rule) => serve_permitted(alloc, keep, caller, project, embargo, bytes),
     }

@@ -101,7 +101,7 @@ pub(super) fn serve_extract<K: Keep>(
         (asks_extract caller.now project.now number (names_in groups.now) day) keep.old keep.new result }
     ensures rows { IsAnswerOfRows result }
 {
-    match decide_request(policy, caller, project, Verb::Extract) {
+    match decide_request(policy, caller, project, Verb::Extract, day) {
         Decision::Deny(rule) => return Answer::Denied(rule),
         Decision::Permit(_rule) => {}
     }

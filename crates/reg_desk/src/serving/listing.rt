@@ -157,7 +157,7 @@ pub(super) fn serve_list<K: Keep>(
     requires { K.has_failed keep.old ≡ false }
     ensures { Serves K.Keep policy.now (asks_listing caller.now project.now day) keep.old keep.new result }
 {
-    match decide_request(policy, caller, project, Verb::List) {
+    match decide_request(policy, caller, project, Verb::List, day) {
         Decision::Deny(rule) => return Answer::Denied(rule),
         Decision::Permit(_rule) => {}
     }

@@ -4,11 +4,11 @@ ghost use Rattle.std.specs.Prelude.{◌≡◌, ◌≢◌, false, Err, IfOk};
 ghost use Rattle.reg_store.specs.Keep.{fails};
 ghost use Rattle.reg_desk.specs.Asked.{withdraw as asks_withdraw};
 ghost use Rattle.reg_desk.specs.Machine.{held};
-ghost use Rattle.reg_desk.specs.Serving.{OnlyReads, ServesOnAnyDay, mark_of};
+ghost use Rattle.reg_desk.specs.Serving.{OnlyReads, Serves, mark_of};
 
 use crate::answer::Answer;
 use crate::serving::{decide_request, is_same, refused};
-use reg_policy::{Caller, Decision, Name, Policy, Verb};
+use reg_policy::{Caller, Day, Decision, Name, Policy, Verb};
 use reg_store::{Keep, KeepError};
 
 /// Whether the deposit is withdrawn, if it is the project's and the caller's firm sent it.
@@ -43,12 +43,13 @@ pub(super) fn serve_withdraw<K: Keep>(
     caller: &Caller,
     project: &Name,
     number: u32,
+    day: Day,
 ) -> Answer
     requires { K.has_failed keep.old ≡ false }
-    ensures { ServesOnAnyDay K.Keep policy.now
-        (asks_withdraw caller.now project.now number) keep.old keep.new result }
+    ensures { Serves K.Keep policy.now
+        (asks_withdraw caller.now project.now number day) keep.old keep.new result }
 {
-    match decide_request(policy, caller, project, Verb::Withdraw) {
+    match decide_request(policy, caller, project, Verb::Withdraw, day) {
         Decision::Deny(rule) => return Answer::Denied(rule),
         Decision::Permit(_rule) => {}
     }

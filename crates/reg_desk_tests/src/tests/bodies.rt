@@ -1,6 +1,7 @@
 //! The bodies that are sent: the files of the worked examples, each with its changes.
 
 use super::{Body, Edit, File, Length};
+use ags_rows::LIMIT;
 use ags_rows::vectors::{FILE_A, FILE_B, FILE_C};
 use std::alloc::{AllocError, Global};
 
@@ -36,12 +37,20 @@ pub const A_UNENDED: Body = Body {
     spaces: 0,
 };
 
+/// It before spaces, 4,194,305 bytes.
+pub const A_LONG: Body = Body {
+    front: b"",
+    file: File::A,
+    edits: &[],
+    spaces: 4_193_762,
+};
+
 /// It before spaces, as long as a body may be.
 pub const A_LONGEST: Body = Body {
     front: b"",
     file: File::A,
     edits: &[],
-    spaces: 4_193_761,
+    spaces: LIMIT - 543,
 };
 
 /// One space more.
@@ -49,7 +58,7 @@ pub const A_TOO_LONG: Body = Body {
     front: b"",
     file: File::A,
     edits: &[],
-    spaces: 4_193_762,
+    spaces: LIMIT - 542,
 };
 
 /// It behind a byte order mark, with spaces and quotes in line 5, and without its last line end.
@@ -306,10 +315,11 @@ pub const C_SHOWN: Body = Body {
 };
 
 /// Bodies whose lengths are told.
-pub static LENGTHS: [Length; 5] = [
+pub static LENGTHS: [Length; 6] = [
     Length("the first file", A, 543),
-    Length("as long as may be", A_LONGEST, 4_194_304),
-    Length("one space more", A_TOO_LONG, 4_194_305),
+    Length("before 4,193,762 spaces", A_LONG, 4_194_305),
+    Length("as long as may be", A_LONGEST, LIMIT),
+    Length("one space more", A_TOO_LONG, LIMIT + 1),
     Length("what is shown of the second file", B_SHOWN, 956),
     Length("its first borehole", B_BOREHOLE, 626),
 ];

@@ -1,9 +1,10 @@
 //! Requests to a register, and their answers. A deposit is sent on 2024-05-01 under an embargo until 2024-06-01 where nothing else is said.
 
 use super::bodies::{
-    A, A_LONGEST, A_OTHER, A_PLAIN, A_PROJECT_LAST, A_SPACED, A_TOO_LONG, A_UNENDED, B, B_BOREHOLE,
-    B_FILED, B_LINKED, B_LINKED_HIDDEN, B_LINKED_TO_ITSELF, B_SHOWN, C, C_SHOWN,
+    A, A_LONG, A_LONGEST, A_OTHER, A_PLAIN, A_PROJECT_LAST, A_SPACED, A_TOO_LONG, A_UNENDED, B,
+    B_BOREHOLE, B_FILED, B_LINKED, B_LINKED_HIDDEN, B_LINKED_TO_ITSELF, B_SHOWN, C, C_SHOWN,
 };
+use super::policies::{Added, FROM_SECOND_JUNE, IN_JUNE, WITHDRAWALS};
 use super::{Ask, Example, Line, Step, Want};
 
 /// As many deposits as a register may hold.
@@ -49,19 +50,6 @@ pub static EXAMPLES: [Example; 10] = [
                 Ask::Deposit(A_UNENDED, UNTIL),
                 Want::Finding("2b", 29),
             ),
-            Step(
-                "t-delta",
-                SENT,
-                Ask::Check(A_TOO_LONG),
-                Want::Says("too large"),
-            ),
-            Step(
-                "t-delta",
-                SENT,
-                Ask::Deposit(A_TOO_LONG, UNTIL),
-                Want::Says("too large"),
-            ),
-            Step("t-delta", SENT, Ask::Deposit(A_LONGEST, UNTIL), FIRST),
         ],
     },
     Example {
@@ -220,49 +208,125 @@ pub static EXAMPLES: [Example; 10] = [
     },
 ];
 
+/// Long bodies, and one that is too long.
+pub static LONG: [Step; 4] = [
+    Step("t-delta", SENT, Ask::Deposit(A_LONG, UNTIL), FIRST),
+    Step("t-delta", SENT, Ask::Deposit(A_LONGEST, UNTIL), SECOND),
+    Step(
+        "t-delta",
+        SENT,
+        Ask::Check(A_TOO_LONG),
+        Want::Says("too large"),
+    ),
+    Step(
+        "t-delta",
+        SENT,
+        Ask::Deposit(A_TOO_LONG, UNTIL),
+        Want::Says("too large"),
+    ),
+];
+
 /// The second deposit where the first is withdrawn.
 const UNWITHDRAWN: Want = Want::Lists(&[Line(2, "Foxtrot", UNTIL)]);
 
-/// The examples under a policy that permits withdrawals to contractors.
-pub static WITHDRAWALS: [Example; 2] = [
-    Example {
-        name: "a withdrawal",
-        limit: MOST,
-        steps: &[
-            Step("t-delta", SENT, Ask::Deposit(A, UNTIL), FIRST),
-            Step("t-foxtrot", SENT, Ask::Deposit(A, UNTIL), SECOND),
-            Step("t-echo", SENT, Ask::Withdraw(1), Want::Denied(0)),
-            Step("t-foxtrot", SENT, Ask::Withdraw(1), Want::Says("unknown")),
-            Step("t-delta", SENT, Ask::Withdraw(9), Want::Says("unknown")),
-            Step("t-delta", SENT, Ask::Withdraw(0), Want::Says("unknown")),
-            Step("t-delta", SENT, Ask::Extract(1, &[]), Want::Gives(A)),
-            Step("t-delta", SENT, Ask::Withdraw(1), Want::Withdrawn(1)),
-            Step("t-delta", SENT, Ask::Withdraw(1), Want::Withdrawn(1)),
-            Step(
-                "t-delta",
-                UNTIL,
-                Ask::Extract(1, &[]),
-                Want::Says("unknown"),
-            ),
-            Step("t-delta", UNTIL, Ask::List, UNWITHDRAWN),
-            Step("t-delta", UNTIL, Ask::Deposit(A, "2030-01-01"), FIRST),
-            Step("t-delta", UNTIL, Ask::List, UNWITHDRAWN),
-            Step("t-echo", UNTIL, Ask::Extract(2, &[]), Want::Gives(A)),
-        ],
-    },
-    Example {
-        name: "a withdrawal from a register of one deposit",
-        limit: 1,
-        steps: &[
-            Step("t-delta", SENT, Ask::Deposit(A, UNTIL), FIRST),
-            Step("t-delta", SENT, Ask::Withdraw(1), Want::Withdrawn(1)),
-            Step(
-                "t-delta",
-                SENT,
-                Ask::Deposit(A_OTHER, UNTIL),
-                Want::Says("full"),
-            ),
-            Step("t-delta", SENT, Ask::Deposit(A, UNTIL), FIRST),
-        ],
-    },
+/// The examples under a policy with lines more.
+pub static CHANGED: [(Added, Example); 4] = [
+    (
+        WITHDRAWALS,
+        Example {
+            name: "a withdrawal",
+            limit: MOST,
+            steps: &[
+                Step("t-delta", SENT, Ask::Deposit(A, UNTIL), FIRST),
+                Step("t-foxtrot", SENT, Ask::Deposit(A, UNTIL), SECOND),
+                Step("t-echo", SENT, Ask::Withdraw(1), Want::Denied(0)),
+                Step("t-foxtrot", SENT, Ask::Withdraw(1), Want::Says("unknown")),
+                Step(
+                    "t-delta",
+                    SENT,
+                    Ask::WithdrawFrom("N2", 1),
+                    Want::Says("unknown"),
+                ),
+                Step("t-delta", SENT, Ask::Withdraw(9), Want::Says("unknown")),
+                Step("t-delta", SENT, Ask::Withdraw(0), Want::Says("unknown")),
+                Step("t-delta", SENT, Ask::Extract(1, &[]), Want::Gives(A)),
+                Step("t-delta", SENT, Ask::Withdraw(1), Want::Withdrawn(1)),
+                Step("t-delta", SENT, Ask::Withdraw(1), Want::Withdrawn(1)),
+                Step(
+                    "t-delta",
+                    UNTIL,
+                    Ask::Extract(1, &[]),
+                    Want::Says("unknown"),
+                ),
+                Step("t-delta", UNTIL, Ask::List, UNWITHDRAWN),
+                Step("t-delta", UNTIL, Ask::Deposit(A, "2030-01-01"), FIRST),
+                Step("t-delta", UNTIL, Ask::List, UNWITHDRAWN),
+                Step("t-echo", UNTIL, Ask::Extract(2, &[]), Want::Gives(A)),
+            ],
+        },
+    ),
+    (
+        WITHDRAWALS,
+        Example {
+            name: "a withdrawal from a register of one deposit",
+            limit: 1,
+            steps: &[
+                Step("t-delta", SENT, Ask::Deposit(A, UNTIL), FIRST),
+                Step("t-delta", SENT, Ask::Withdraw(1), Want::Withdrawn(1)),
+                Step(
+                    "t-delta",
+                    SENT,
+                    Ask::Deposit(A_OTHER, UNTIL),
+                    Want::Says("full"),
+                ),
+                Step("t-delta", SENT, Ask::Deposit(A, UNTIL), FIRST),
+            ],
+        },
+    ),
+    (
+        IN_JUNE,
+        Example {
+            name: "the days of a rule on requests",
+            limit: MOST,
+            steps: &[
+                Step("t-delta", SENT, Ask::Deposit(A, UNTIL), FIRST),
+                Step(
+                    "t-echo",
+                    "2024-05-31",
+                    Ask::Extract(1, &[]),
+                    Want::Denied(0),
+                ),
+                Step("t-echo", "2024-06-01", Ask::Extract(1, &[]), Want::Gives(A)),
+                Step("t-echo", "2024-06-30", Ask::Extract(1, &[]), Want::Gives(A)),
+                Step(
+                    "t-echo",
+                    "2024-07-01",
+                    Ask::Extract(1, &[]),
+                    Want::Denied(0),
+                ),
+            ],
+        },
+    ),
+    (
+        FROM_SECOND_JUNE,
+        Example {
+            name: "the day of a rule on rows",
+            limit: MOST,
+            steps: &[
+                Step("t-delta", SENT, Ask::Deposit(B, UNTIL), FIRST),
+                Step(
+                    "t-echo",
+                    "2024-06-01",
+                    Ask::Extract(1, &[]),
+                    Want::Says("unknown"),
+                ),
+                Step(
+                    "t-echo",
+                    "2024-06-02",
+                    Ask::Extract(1, &[]),
+                    Want::Gives(B_SHOWN),
+                ),
+            ],
+        },
+    ),
 ];

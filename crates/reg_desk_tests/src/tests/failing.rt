@@ -4,13 +4,11 @@ ghost use Rattle.std.specs.Prelude.{◌≡◌, false};
 
 use super::bodies::B_SHOWN;
 use super::examples::{FIRST, LISTED, MOST};
+use super::policies::{WITHDRAWALS, policy_with};
 use super::refusing::Refusing;
+use super::requests::{check_of, deposit_of, extract_of, list_of, two_of, withdraw_of};
 use super::wanted::count_wanted;
-use super::withdrawing::withdrawing;
-use super::{
-    Over, Want, check_of, deposit_of, examples_over, extract_of, list_of, memory_of, two_of,
-    withdraw_of,
-};
+use super::{Over, Want, examples_over, memory_of};
 use ags_rows::vectors::{FILE_A, FILE_B};
 use reg_desk::{Answer, Desk, Request};
 use reg_policy::vectors::CALLERS;
@@ -92,7 +90,7 @@ fn stop_at<K: Keep>(alloc: Global, desk: &mut Desk<K>, requests: &[Request]) -> 
 fn stop_over<K: Keep + Drop>(alloc: Global, keep: K, requests: &[Request]) -> Option<usize>
     requires { K.has_failed keep ≡ false }
 {
-    let policy = withdrawing(alloc)?;
+    let policy = policy_with(alloc, &WITHDRAWALS)?;
     stop_at(alloc, &mut Desk::new(keep, policy), requests)
 }
 

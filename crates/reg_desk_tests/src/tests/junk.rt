@@ -4,7 +4,8 @@ ghost use Rattle.std.specs.Prelude.{◌≡◌, ◌<◌, ◌≤◌, false, length
 ghost use Rattle.reg_store.specs.Plain.{deposits_of};
 
 use super::examples::MOST;
-use super::{deposit_of, extract_of, memory_of, two_of};
+use super::memory_of;
+use super::requests::{deposit_of, extract_of, two_of};
 use ags_check::Checked;
 use ags_dict::Dictionary;
 use ags_links::Graph;

@@ -2,10 +2,9 @@
 
 use super::bodies::{A, B, B_SHOWN, B_TESTED, B_WETTER};
 use super::examples::{FIRST, LISTED, MOST, SECOND, UNTIL};
+use super::requests::{deposit_of, extract_of, list_of, two_of};
 use super::wanted::count_wanted;
-use super::{
-    Ask, Body, Over, Play, Step, Want, deposit_of, extract_of, holds, list_of, plays, two_of,
-};
+use super::{Ask, Body, Over, Play, Step, Want, holds, plays};
 use ags_rows::vectors::FILE_A;
 use reg_desk::{Desk, Request};
 use reg_policy::{Caller, Callers, Day, Name};

@@ -4,8 +4,9 @@
 ghost use Rattle.std.specs.Prelude.{◌≡◌};
 
 use super::examples::{MOST, UNTIL};
-use super::wanted::{is_listing, is_receipt, name_of};
-use super::{Line, Over, Play, deposit_of, extract_of, list_of, plays, two_of};
+use super::requests::{deposit_of, extract_of, list_of, two_of, withdraw_of};
+use super::wanted::{is_listing, is_receipt, is_withdrawn, name_of};
+use super::{Line, Over, Play, plays};
 use ags_check::{CheckError, check};
 use ags_dict::{DictError, Dictionary};
 use ags_links::{Graph, reached, shown};
@@ -121,7 +122,7 @@ fn hides_under(
     project: &Name,
     headings: &[Cell],
 ) -> Result<bool, AllocError> {
-    let Some(fields) = cells(alloc, b"\"BH2\",\"PRELIM\"")? else {
+    let (Some(fields), Some(day)) = (cells(alloc, b"\"BH2\",\"PRELIM\"")?, Day::read(UNTIL)) else {
         return Ok(false);
     };
     let facts = RowFacts {
@@ -131,7 +132,7 @@ fn hides_under(
         headings,
         cells: fields.as_slice(),
     };
-    Ok(policy.decide(&Subject::of_row(caller, project, facts)) == Decision::Deny(70))
+    Ok(policy.decide(&Subject::of_row(caller, project, facts, day)) == Decision::Deny(70))
 }
 
 /// The same under the headings of a location.
@@ -269,6 +270,15 @@ fn is_listed(answer: &Answer, held: bool) -> bool {
     is_listing(answer, if held { &ONE } else { &[] })
 }
 
+/// Whether it is the withdrawal of that, where it is held, and else that the deposit is unknown.
+fn is_mark(answer: &Answer, held: bool) -> bool {
+    if held {
+        is_withdrawn(answer, 1)
+    } else {
+        name_of(answer) == "unknown"
+    }
+}
+
 /// 0 where an answer is the machine's, 1 where it is want of memory, and else 2.
 fn fault_of(answer: &Answer, right: bool) -> u32 {
     if right {
@@ -280,52 +290,101 @@ fn fault_of(answer: &Answer, right: bool) -> u32 {
     }
 }
 
-/// The sum of these for the answers to a deposit, a list and an extract.
-fn faults_of(deposit: &Answer, listing: &Answer, extract: &Answer, held: bool) -> u32 {
-    let taken = fault_of(deposit, is_receipt(deposit, 1, UNTIL));
-    let held = held || taken == 0;
-    taken
-        .saturating_add(fault_of(listing, is_listed(listing, held)))
-        .saturating_add(fault_of(extract, is_extract(extract, held)))
+/// Whether the first file's deposit is held by the answers so far, whether it is withdrawn, and the sum of those numbers.
+#[derive(Clone, Copy)]
+struct Account {
+    held: bool,
+    withdrawn: bool,
+    faults: u32,
 }
 
-/// The same of a run.
-fn faults(answers: &[Answer], held: bool) -> u32 {
-    match answers {
-        [deposit, listing, extract] => faults_of(deposit, listing, extract, held),
-        _ => 2,
+/// That where nothing is answered.
+const NOTHING: Account = Account {
+    held: false,
+    withdrawn: false,
+    faults: 0,
+};
+
+/// It with so much more.
+fn faulty(before: Account, faults: u32) -> Account {
+    Account {
+        held: before.held,
+        withdrawn: before.withdrawn,
+        faults: before.faults.saturating_add(faults),
     }
 }
 
-/// The same of a run that is asked. Where it is refused memory itself, nothing was asked.
-fn asks<K: Keep>(alloc: Global, desk: &mut Desk<K>, requests: &[Request]) -> u32 {
+/// It after the answers to a deposit, a list, an extract and a withdrawal.
+fn after_four(
+    before: Account,
+    deposit: &Answer,
+    listing: &Answer,
+    extract: &Answer,
+    withdrawal: &Answer,
+) -> Account {
+    let taken = fault_of(deposit, is_receipt(deposit, 1, UNTIL));
+    let held = before.held || taken == 0;
+    let shown = held && !before.withdrawn;
+    let marked = fault_of(withdrawal, is_mark(withdrawal, held));
+    let faults = taken
+        .saturating_add(fault_of(listing, is_listed(listing, shown)))
+        .saturating_add(fault_of(extract, is_extract(extract, shown)))
+        .saturating_add(marked);
+    Account {
+        held,
+        withdrawn: before.withdrawn || (held && marked == 0),
+        faults: before.faults.saturating_add(faults),
+    }
+}
+
+/// The same after a run.
+fn after(before: Account, answers: &[Answer]) -> Account {
+    match answers {
+        [deposit, listing, extract, withdrawal] => {
+            after_four(before, deposit, listing, extract, withdrawal)
+        }
+        _ => faulty(before, 2),
+    }
+}
+
+/// The same after a run that is asked. Where it is refused memory itself, nothing was asked.
+fn asks<K: Keep>(
+    alloc: Global,
+    desk: &mut Desk<K>,
+    requests: &[Request],
+    before: Account,
+) -> Account {
     let held = desk.keep().count();
     match desk.run(alloc, requests) {
-        Ok(answers) => faults(&answers, held == 1),
-        Err(_) => u32::from(desk.keep().count() != held).saturating_add(1),
+        Ok(answers) => after(before, &answers),
+        Err(_) => faulty(
+            before,
+            u32::from(desk.keep().count() != held).saturating_add(1),
+        ),
     }
 }
 
-/// The same of three such runs.
+/// The sum of those numbers after three such runs.
 fn asks_thrice<K: Keep>(alloc: Global, desk: &mut Desk<K>, requests: &[Request]) -> u32 {
-    let mut faults = 0u32;
+    let mut account = NOTHING;
     for _ in 0..3 {
-        faults = faults.saturating_add(asks(alloc, desk, requests));
+        account = asks(alloc, desk, requests, account);
     }
-    faults
+    account.faults
 }
 
-/// The requests of a run: Delta deposits the first file, and Echo lists and draws it.
-fn three_of<'a>(
+/// The requests of a run: Delta deposits the first file, Echo lists and draws it, and Delta withdraws it.
+fn four_of<'a>(
     delta: &'a Caller,
     echo: &'a Caller,
     project: &'a Name,
     day: Day,
-) -> [Request<'a>; 3] {
+) -> [Request<'a>; 4] {
     [
         deposit_of(delta, project, day, FILE_A, day),
         list_of(echo, project, day),
         extract_of(echo, project, 1, &[], day),
+        withdraw_of(delta, project, 1, day),
     ]
 }
 
@@ -338,7 +397,7 @@ pub fn is_refused_once<K: Keep>(
 ) -> bool {
     match two_of(callers, b"t-delta", b"t-echo") {
         Some((delta, echo, day)) => {
-            asks_thrice(alloc, desk, &three_of(delta, echo, project, day)) <= 1
+            asks_thrice(alloc, desk, &four_of(delta, echo, project, day)) <= 1
         }
         None => false,
     }

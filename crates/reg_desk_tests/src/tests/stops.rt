@@ -1,14 +1,17 @@
-//! Stops of the disk, through a desk: a register is made, two deposits are sent and the first is withdrawn, over disks of
-//! which one refuses every call from some call on. What was not synced is lost then, the register is opened again, and
-//! both deposits are sent again.
+//! Stops of the disk, through a desk: a register is made, two deposits are sent and the first is withdrawn, or a register
+//! of format 1 is migrated, over disks of which one refuses every call from some call on. What was not synced is lost then,
+//! the register is opened again, and a desk is asked over it.
 
 ghost use Rattle.std.specs.Prelude.{◌≡◌, false, IsTrue};
 
+mod migration;
+
 use super::bodies::{A, B};
 use super::examples::{FIRST, SECOND, UNTIL};
-use super::withdrawing::withdrawing;
+use super::policies::{WITHDRAWALS, policy_with};
 use super::{Ask, Line, Step, Want, hold, holds};
 use ags_rows::vectors::MINI;
+use migration::{looked_at_migrated, made_first, migrated};
 use reg_desk::Desk;
 use reg_policy::vectors::CALLERS;
 use reg_policy::{Callers, Name, Policy};
@@ -29,7 +32,7 @@ enum Side {
 /// Where a run stopped.
 #[derive(Clone, Copy)]
 enum Stage {
-    /// The register was being made.
+    /// The register was being made, or migrated.
     Making,
     /// The first deposit was sent.
     First,
@@ -43,7 +46,7 @@ enum Stage {
     Ended,
 }
 
-/// More calls of one file than a whole run makes.
+/// More calls of one file than a whole task makes.
 const MANY: u64 = 2_000;
 
 /// Few pages stay in memory: with `Options::new` a test would take too long. Where the database file stops, the log is copied into it often.
@@ -167,13 +170,43 @@ fn look_at<K: Keep>(
     Ok(if whole { Some(stage) } else { None })
 }
 
-/// What is done with a register.
+/// The stage, where these steps are answered as they should be.
+fn play<K: Keep>(
+    alloc: Global,
+    desk: &mut Desk<K>,
+    callers: &Callers,
+    project: &Name,
+    steps: &[Step],
+    stage: Stage,
+) -> Result<Option<Stage>, AllocError> {
+    let right = hold(alloc, desk, callers, project, steps)?;
+    Ok(if right { Some(stage) } else { None })
+}
+
+/// What a desk does with a register.
 #[derive(Clone, Copy)]
 enum Visit {
     /// It is new, and filled.
     Fill,
     /// It is what a stop in this stage left, and is looked at.
     LookAt(Stage),
+    /// These steps are asked, and this is the stage where all are answered as they should be.
+    Play(&'static [Step], Stage),
+}
+
+/// What is done with files.
+#[derive(Clone, Copy)]
+enum Task {
+    /// A register is made and filled.
+    Fill,
+    /// A register of format 1 is made and filled.
+    FillFirst,
+    /// It is migrated.
+    Migrate,
+    /// What a stop in this stage left is looked at.
+    LookAt(Stage),
+    /// The same of a stop of the migration.
+    LookAtMigrated(Stage),
 }
 
 /// The stage of a visit by a desk.
@@ -183,6 +216,7 @@ fn stage_by<K: Keep>(alloc: Global, desk: &mut Desk<K>, visit: Visit) -> Option<
     let stage = match visit {
         Visit::Fill => fill(alloc, desk, &callers, &project),
         Visit::LookAt(stage) => look_at(alloc, desk, &callers, &project, stage),
+        Visit::Play(steps, stage) => play(alloc, desk, &callers, &project, steps, stage),
     };
     stage.ok()?
 }
@@ -204,7 +238,7 @@ fn visited_tables<S: Alter + Drop>(
 ) -> (Option<Stage>, Connection<S>)
     requires { keep.has_failed ≡ false }
 {
-    match withdrawing(alloc) {
+    match policy_with(alloc, &WITHDRAWALS) {
         Some(policy) => {
             let (stage, keep) = visited(alloc, keep, policy, visit);
             (stage, keep.into_connection())
@@ -272,54 +306,57 @@ fn looked_at<S: Alter + Drop>(
     }
 }
 
-/// Does a step over any store.
-fn stepped<S: Alter + Drop>(
+/// Does a task over any store.
+fn done<S: Alter + Drop>(
     alloc: Global,
     connection: Connection<S>,
-    visit: Visit,
+    task: Task,
 ) -> (Option<Stage>, Connection<S>) {
-    match visit {
-        Visit::Fill => made(alloc, connection),
-        Visit::LookAt(stage) => looked_at(alloc, stage, connection),
+    match task {
+        Task::Fill => made(alloc, connection),
+        Task::FillFirst => made_first(alloc, connection),
+        Task::Migrate => migrated(alloc, connection),
+        Task::LookAt(stage) => looked_at(alloc, stage, connection),
+        Task::LookAtMigrated(stage) => looked_at_migrated(alloc, stage, connection),
     }
 }
 
-/// Does a step over files, which are shown to be a store here alone, since that is long.
-fn stepped_on_files<D: Disk + Drop>(
+/// Does a task over files, which are shown to be a store here alone, since that is long.
+fn done_on_files<D: Disk + Drop>(
     alloc: Global,
     connection: Connection<FileStore<D>>,
-    visit: Visit,
+    task: Task,
 ) -> (Option<Stage>, Connection<FileStore<D>>) {
-    stepped(alloc, connection, visit)
+    done(alloc, connection, task)
 }
 
-/// A register is made and filled, from the opening of the files to their closing.
-fn run<D: Disk + Drop>(alloc: Global, side: Side, files: Files<D>) -> (Option<Stage>, Files<D>)
+/// Does a task from the opening of the files to their closing.
+fn run<D: Disk + Drop>(
+    alloc: Global,
+    side: Side,
+    files: Files<D>,
+    task: Task,
+) -> (Option<Stage>, Files<D>)
     requires log { IsTrue (D.Disk.is_usable files.log) }
     requires db { IsTrue (D.Disk.is_usable files.db) }
 {
     match Connection::open_files(alloc, files, options(side)) {
         Ok(connection) => {
-            let (stage, connection) = stepped_on_files(alloc, connection, Visit::Fill);
+            let (stage, connection) = done_on_files(alloc, connection, task);
             closed(stage, connection)
         }
         Err((_, left)) => (Some(Stage::Making), left.into_files()),
     }
 }
 
-/// The stage in which a run stopped, where the files hold what they may once the machine has lost what was not synced.
-fn left<D: Crash + Drop>(
-    alloc: Global,
-    side: Side,
-    stage: Stage,
-    files: Files<D>,
-) -> Option<Stage> {
+/// The stage of this task, where the files hold what they may once the machine has lost what was not synced.
+fn left<D: Crash + Drop>(alloc: Global, side: Side, files: Files<D>, task: Task) -> Option<Stage> {
     let Files { mut log, mut db } = files;
     log.crash();
     db.crash();
     match Connection::open_files(alloc, Files { log, db }, options(side)) {
         Ok(connection) => {
-            let (found, connection) = stepped_on_files(alloc, connection, Visit::LookAt(stage));
+            let (found, connection) = done_on_files(alloc, connection, task);
             // A connection that is let go takes the prover longer than one that is closed.
             let _ = closed(None, connection);
             found
@@ -328,28 +365,58 @@ fn left<D: Crash + Drop>(
     }
 }
 
-/// The stage in which a run over new files stops, where it leaves what it may.
-fn stage_over<D: Crash + Drop>(alloc: Global, side: Side, files: Files<D>) -> Option<Stage>
+/// How a stop of this task in this stage is looked at.
+fn look_after(task: Task, stage: Stage) -> Task {
+    match task {
+        Task::Migrate => Task::LookAtMigrated(stage),
+        _ => Task::LookAt(stage),
+    }
+}
+
+/// The stage in which a task over these files stops, where it leaves what it may.
+fn stage_over<D: Crash + Drop>(
+    alloc: Global,
+    side: Side,
+    files: Files<D>,
+    task: Task,
+) -> Option<Stage>
     requires log { IsTrue (D.Disk.is_usable files.log) }
     requires db { IsTrue (D.Disk.is_usable files.db) }
 {
-    match run(alloc, side, files) {
-        (Some(stage), files) => left(alloc, side, stage, files),
+    match run(alloc, side, files, task) {
+        (Some(stage), files) => left(alloc, side, files, look_after(task, stage)),
         (None, _) => None,
     }
 }
 
-/// The same over files in memory, of which one refuses each call after so many. Here alone a disk is named.
-fn stage_of(alloc: Global, side: Side, calls: u64) -> Option<Stage> {
+/// The files in memory over which a task begins: new ones, or those of a register of format 1 that is to be migrated.
+fn files_before(alloc: Global, side: Side, task: Task) -> Option<Files<Memory>> {
+    let files = Files {
+        log: Memory::new(alloc),
+        db: Memory::new(alloc),
+    };
+    if !matches!(task, Task::Migrate) {
+        return Some(files);
+    }
+    match run(alloc, side, files, Task::FillFirst) {
+        (Some(Stage::Ended), files) => Some(files),
+        _ => None,
+    }
+}
+
+/// The stage in which a task stops over such files, of which one refuses each call after so many. Here alone a disk is named.
+fn stage_of(alloc: Global, side: Side, task: Task, calls: u64) -> Option<Stage> {
     let (log_calls, database_calls) = match side {
         Side::Log => (calls, u64::MAX),
         Side::Database => (u64::MAX, calls),
     };
-    let files = Files {
-        log: Fuse::new(Memory::new(alloc), log_calls),
-        db: Fuse::new(Memory::new(alloc), database_calls),
-    };
-    stage_over(alloc, side, files)
+    let Files { mut log, mut db } = files_before(alloc, side, task)?;
+    // All was synced as the files were closed. A disk can be used again once what was not synced is lost.
+    log.crash();
+    db.crash();
+    let log = Fuse::new(log, log_calls);
+    let db = Fuse::new(db, database_calls);
+    stage_over(alloc, side, Files { log, db }, task)
 }
 
 /// The letter of a stage, and `x` where a run left what it may not.
@@ -365,11 +432,11 @@ fn letter(stage: Option<Stage>) -> char {
     }
 }
 
-/// The letters of runs with ever more calls of a file, up to the first run that ended or left what it may not.
-fn letters(alloc: Global, side: Side) -> Result<String, AllocError> {
+/// The letters of a task with ever more calls of a file, up to the first that ended or left what it may not.
+fn letters(alloc: Global, side: Side, task: Task) -> Result<String, AllocError> {
     let mut letters = String::new(alloc);
     for calls in 0..MANY {
-        let letter = letter(stage_of(alloc, side, calls));
+        let letter = letter(stage_of(alloc, side, task, calls));
         letters.push(letter)?;
         if letter == '.' || letter == 'x' {
             return Ok(letters);
@@ -378,12 +445,17 @@ fn letters(alloc: Global, side: Side) -> Result<String, AllocError> {
     Ok(letters)
 }
 
-/// Some runs stop in each stage, at least so many, before one ends.
-const LEAST: [&str; 6] = ["MMMMM", "FF", "SS", "W", "C", "."];
+/// In each stage of a task some runs stop, at least so many, before one ends.
+fn least(task: Task) -> &'static [&'static str] {
+    match task {
+        Task::Migrate => &["MMMMM", "."],
+        _ => &["MMMMM", "FF", "SS", "W", "C", "."],
+    }
+}
 
 /// Whether some runs stop in each stage, and one ends.
-fn has_all(letters: &str) -> bool {
-    for some in &LEAST {
+fn has_all(letters: &str, task: Task) -> bool {
+    for some in least(task) {
         if !letters.contains(*some) {
             return false;
         }
@@ -397,9 +469,9 @@ fn stops(letters: &str) -> usize {
 }
 
 /// How many runs stopped. It fails with their letters where none stopped in some stage, or none ended.
-fn stops_at(alloc: Global, side: Side) -> Result<usize, Fail> {
-    let letters = letters(alloc, side)?;
-    if has_all(letters.as_str()) {
+fn stops_at(alloc: Global, side: Side, task: Task) -> Result<usize, Fail> {
+    let letters = letters(alloc, side, task)?;
+    if has_all(letters.as_str(), task) {
         Ok(stops(letters.as_str()))
     } else {
         Err(Fail::new(letters))
@@ -408,9 +480,18 @@ fn stops_at(alloc: Global, side: Side) -> Result<usize, Fail> {
 
 #[test]
 fn stops_of_a_store(rt: HostRuntime) -> Result<(), Fail> {
-    let of_log = stops_at(rt.alloc(), Side::Log)?;
+    let of_log = stops_at(rt.alloc(), Side::Log, Task::Fill)?;
     println!(rt; "{of_log} stops of the log")?;
-    let of_database = stops_at(rt.alloc(), Side::Database)?;
+    let of_database = stops_at(rt.alloc(), Side::Database, Task::Fill)?;
     println!(rt; "{of_database} stops of the database file")?;
+    Ok(())
+}
+
+#[test]
+fn stops_of_a_migration(rt: HostRuntime) -> Result<(), Fail> {
+    let of_log = stops_at(rt.alloc(), Side::Log, Task::Migrate)?;
+    println!(rt; "{of_log} stops of the log in a migration")?;
+    let of_database = stops_at(rt.alloc(), Side::Database, Task::Migrate)?;
+    println!(rt; "{of_database} stops of the database file in a migration")?;
     Ok(())
 }

@@ -99,7 +99,7 @@ fn gives(alloc: Global, answer: &Answer, body: &Body) -> Result<bool, AllocError
 }
 
 /// Whether the deposit of this number is withdrawn.
-fn is_withdrawn(answer: &Answer, number: u32) -> bool {
+pub(super) fn is_withdrawn(answer: &Answer, number: u32) -> bool {
     match answer {
         Answer::Withdrawn(withdrawn) => *withdrawn == number,
         _ => false,

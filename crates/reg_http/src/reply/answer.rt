@@ -7,8 +7,8 @@ ghost use Rattle.reg_http.specs.Replies.{json_kind, reply_text};
 
 use crate::refusal::{Refusal, error_reply};
 use crate::reply::lists::{findings_text, listing_text};
+use crate::reply::reply_front;
 use crate::reply::values::{clean_value, denied_value, receipt_value, value_text, withdrawn_value};
-use crate::reply::whole_reply;
 use ags_rows::FindingList;
 use http::StatusCode;
 use reg_desk::{Answer, Listed};
@@ -31,18 +31,21 @@ pub(crate) fn fixed_reply(answer: &Answer) -> Option<&'static str>
     }
 }
 
+#[tactic(auto, unfolding(crate::proofs::Numerals::digits, crate::specs::Replies::phrase_of))]
 fn unknown_reply() -> &'static str
     ensures { IsRendered Answer.Unknown result.now }
 {
     error_reply!("404 Not Found", "19", "unknown")
 }
 
+#[tactic(auto, unfolding(crate::proofs::Numerals::digits, crate::specs::Replies::phrase_of))]
 fn full_reply() -> &'static str
     ensures { IsRendered Answer.Full result.now }
 {
     error_reply!("507 Insufficient Storage", "16", "full")
 }
 
+#[tactic(auto, unfolding(crate::proofs::Numerals::digits, crate::specs::Replies::phrase_of))]
 fn store_failed_reply() -> &'static str
     ensures { IsRendered Answer.StoreFailed result.now }
 {
@@ -84,14 +87,14 @@ fn findings_reply(alloc: Global, findings: &FindingList) -> Result<Vec<u8>, Allo
     ensures { IfOk result (λ reply. IsRendered (Answer.Findings findings.now) reply.items) }
 {
     let body = findings_text(alloc, findings)?;
-    json_reply(alloc, StatusCode::UNPROCESSABLE_ENTITY, &body)
+    json_reply(alloc, StatusCode::UNPROCESSABLE_ENTITY, body)
 }
 
 fn listing_reply(alloc: Global, listing: &[Listed]) -> Result<Vec<u8>, AllocError>
     ensures { IfOk result (λ reply. IsRendered (Answer.Listing listing.now) reply.items) }
 {
     let body = listing_text(alloc, listing)?;
-    json_reply(alloc, StatusCode::OK, &body)
+    json_reply(alloc, StatusCode::OK, body)
 }
 
 fn denied_reply(alloc: Global, number: u32) -> Result<Vec<u8>, AllocError>
@@ -104,7 +107,16 @@ fn denied_reply(alloc: Global, number: u32) -> Result<Vec<u8>, AllocError>
 fn text_reply(alloc: Global, text: &[u8]) -> Result<Vec<u8>, AllocError>
     ensures { IfOk result (λ reply. IsRendered (Answer.Text text.now) reply.items) }
 {
-    whole_reply(alloc, StatusCode::OK, "text/plain; charset=us-ascii", text)
+    let front = reply_front(
+        alloc,
+        StatusCode::OK,
+        "text/plain; charset=us-ascii",
+        text.len(),
+    )?;
+    let mut reply = Vec::with_capacity(alloc, front.len() + text.len())?;
+    reply.extend_from_slice(front.as_bytes())?;
+    reply.extend_from_slice(text)?;
+    Ok(reply)
 }
 
 fn withdrawn_reply(alloc: Global, number: u32) -> Result<Vec<u8>, AllocError>
@@ -114,11 +126,14 @@ fn withdrawn_reply(alloc: Global, number: u32) -> Result<Vec<u8>, AllocError>
     value_reply(alloc, StatusCode::OK, &value)
 }
 
-/// The reply with a JSON body.
-fn json_reply(alloc: Global, status: StatusCode, body: &[u8]) -> Result<Vec<u8>, AllocError>
-    ensures { IfOk result (λ reply. reply.items ≡ reply_text status json_kind body.now) }
+/// The reply with a JSON body, made where the body is.
+fn json_reply(alloc: Global, status: StatusCode, mut body: Vec<u8>) -> Result<Vec<u8>, AllocError>
+    ensures { IfOk result (λ reply. reply.items ≡ reply_text status json_kind body.items) }
 {
-    whole_reply(alloc, status, "application/json", body)
+    let front = reply_front(alloc, status, "application/json", body.len())?;
+    body.extend_from_slice(front.as_bytes())?;
+    body.rotate_right(front.len());
+    Ok(body)
 }
 
 /// The reply whose JSON body is this value.
@@ -127,11 +142,11 @@ fn value_reply(alloc: Global, status: StatusCode, value: &Value) -> Result<Vec<u
     ensures { IfOk result (λ reply. reply.items ≡ reply_text status json_kind (compact_text (view value.now))) }
 {
     let body = value_text(alloc, value)?;
-    json_reply(alloc, status, &body)
+    json_reply(alloc, status, body)
 }
 
 /// The status of an answer's reply.
-pub(crate) fn status_of(answer: &Answer) -> StatusCode
+pub(crate) fn answer_status(answer: &Answer) -> StatusCode
     ensures { result ≡ answer_status answer.now }
 {
     match answer {

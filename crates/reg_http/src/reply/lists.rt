@@ -12,11 +12,11 @@ use ags_rows::{FindingList, FindingRef};
 use reg_desk::Listed;
 use std::alloc::{AllocError, Global};
 
-/// The body that lists findings.
+/// The body that lists findings. It is made where the whole reply has room.
 pub(crate) fn findings_text(alloc: Global, findings: &FindingList) -> Result<Vec<u8>, AllocError>
     ensures { IfOk result (λ text. text.items ≡ compact_text (findings_data findings.now)) }
 {
-    let mut out = Vec::with_capacity(alloc, findings.len().saturating_mul(FINDING_BYTES))?;
+    let mut out = Vec::with_capacity(alloc, findings_room(findings))?;
     out.extend_from_slice(b"{\"findings\":[")?;
     for place in 0..findings.len() {
         write_comma(&mut out, place)?;
@@ -26,7 +26,22 @@ pub(crate) fn findings_text(alloc: Global, findings: &FindingList) -> Result<Vec
     Ok(out)
 }
 
-/// The bytes that a finding without a subject takes at most, with the comma before it.
+/// The bytes of the reply at most, unless bytes of subjects are escaped.
+fn findings_room(findings: &FindingList) -> usize {
+    let mut room = AROUND_BYTES;
+    for place in 0..findings.len() {
+        let subject_bytes = findings.at(place).subject.len();
+        room = room
+            .saturating_add(FINDING_BYTES)
+            .saturating_add(subject_bytes);
+    }
+    room
+}
+
+/// The bytes that a reply has at most before and behind the lines of its list.
+const AROUND_BYTES: usize = 141;
+
+/// The bytes that a finding without its subject takes at most, with the comma before it.
 const FINDING_BYTES: usize = 46;
 
 /// Writes a finding of a list.
@@ -74,11 +89,15 @@ fn printed_byte(byte: u8) -> u8
     }
 }
 
-/// The body of a listing.
+/// The body of a listing. It is made where the whole reply has room.
 pub(crate) fn listing_text(alloc: Global, listing: &[Listed]) -> Result<Vec<u8>, AllocError>
     ensures { IfOk result (λ text. (d : Data) × IsListingData listing.now d × (text.items ≡ compact_text d)) }
 {
-    let mut out = Vec::with_capacity(alloc, listing.len().saturating_mul(LISTED_BYTES))?;
+    let room = listing
+        .len()
+        .saturating_mul(LISTED_BYTES)
+        .saturating_add(AROUND_BYTES);
+    let mut out = Vec::with_capacity(alloc, room)?;
     out.extend_from_slice(b"{\"deposits\":[")?;
     for place in 0..listing.len() {
         write_comma(&mut out, place)?;

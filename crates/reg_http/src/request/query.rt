@@ -1,5 +1,6 @@
 //! The parameters of a request.
-ghost use Rattle.std.specs.Prelude.{◌≡◌, ◌<◌, [], ◌∷◌, Ok, IfOk, IfErr, IfSome, IfNone, OnOk, OnSome, codes, length, true, false};
+ghost use Rattle.std.specs.Prelude.{◌≡◌, ◌<◌, [], ◌∷◌, Ok, IfOk, IfErr, IfSome, IfNone, OnOk, OnSome, codes, length};
+ghost use Rattle.std.specs.Prelude.{true, false};
 ghost use Rattle.std.specs.List.{list_all};
 ghost use Rattle.std.specs.Cow.{cow_str_bytes};
 ghost use Rattle.form_urlencoded.specs.Form.{raw_pairs, split};
@@ -8,8 +9,9 @@ ghost use Rattle.ags_text.specs.Names.{is_group_name};
 ghost use Rattle.reg_http.specs.Agree.{Agrees, and_then, is_want_of_memory};
 ghost use Rattle.reg_desk.specs.Asked.{names_in};
 ghost use Rattle.reg_http.specs.Numbers.{deposit_number};
-ghost use Rattle.reg_http.specs.Queries.{embargo_in, extract_in, extract_sought, groups_in, bare, project_in, sought_in, decoded, value_in, value_of, withdraw_sought};
-ghost use Rattle.reg_http.specs.Views.{itself, sought_at, text_at};
+ghost use Rattle.reg_http.specs.Queries.{embargo_in, extract_in, extract_sought, groups_in, bare, project_in};
+ghost use Rattle.reg_http.specs.Queries.{sought_in, decoded, value_in, value_of, withdraw_sought};
+ghost use Rattle.reg_http.specs.Views.{given_text, itself, sought_at};
 
 use crate::refusal::Refusal;
 use crate::request::number::deposit_number;
@@ -59,7 +61,7 @@ fn seeks_deposit<'b>(alloc: Global, query: &'b [u8], day: Day) -> Result<Seeks<'
 }
 
 fn seeks_embargo<'b>(day: Day, text: Option<CowStr<'b>>) -> Result<Seeks<'b>, Refusal>
-    ensures { Agrees sought_at (embargo_in day (text_at text.entry)) result }
+    ensures { Agrees sought_at (embargo_in day (given_text text.entry)) result }
 {
     match text {
         None => Ok(Seeks::Deposit(day)),
@@ -82,10 +84,10 @@ fn seeks_groups<'b>(
     number: u32,
     text: Option<CowStr<'b>>,
 ) -> Result<Seeks<'b>, Refusal>
-    ensures { Agrees sought_at (extract_in number (text_at text.entry)) result }
+    ensures { Agrees sought_at (extract_in number (given_text text.entry)) result }
 {
     if let Some(text) = &text {
-        check_groups(alloc, text.as_bytes())?;
+        refuse_other_names(alloc, text.as_bytes())?;
     }
     Ok(Seeks::Extract(number, text))
 }
@@ -109,7 +111,7 @@ fn bare<'b>(query: &[u8], seeks: Seeks<'b>) -> Result<Seeks<'b>, Refusal>
 /// The value of the parameter of this name, if it is given.
 /// Any other parameter is refused, and a second one of this name.
 fn value_of<'b>(alloc: Global, query: &'b [u8], name: &str) -> Result<Option<CowStr<'b>>, Refusal>
-    ensures { Agrees text_at (value_of name.now (raw_pairs query.now)) result }
+    ensures { Agrees given_text (value_of name.now (raw_pairs query.now)) result }
 {
     let mut pairs = raw_pairs(query);
     let Some((key, value)) = pairs.next() else {
@@ -148,7 +150,7 @@ fn decoded<'b>(alloc: Global, encoded: &'b [u8]) -> Result<CowStr<'b>, Refusal>
 }
 
 /// Refuses a text that lists what is no group.
-fn check_groups(alloc: Global, text: &[u8]) -> Result<(), Refusal>
+fn refuse_other_names(alloc: Global, text: &[u8]) -> Result<(), Refusal>
     ensures fine { OnOk result (list_all is_group_name (groups_in text.now) ≡ true) }
     ensures refused { IfErr result (λ refusal. is_want_of_memory refusal ≡ false → refusal ≡ Refusal.BadParameter) }
     ensures cause { IfErr result (λ refusal. is_want_of_memory refusal ≡ false

@@ -1,9 +1,9 @@
-//! Requests and their replies, as texts and as bytes. A function that names a constant carries it to each of its points, so tables
-//! are statics.
+//! Requests and their replies, as texts and as bytes. A function that names a constant carries it to each of its
+//! points, so tables are statics.
 
-/// At an empty desk, in turn. Each line is a case: day, token (`-`: no field), the lines of the head, the body (`A` is the
-/// file, `A cut` all but its last byte, `A more` has two bytes behind it, `A bell`, `A delete` and `A quote` have other bytes in
-/// a group name), the status, the length, and the body of the reply.
+/// At an empty desk, in turn. Each line is a case: day, token (`-`: no field), the lines of the head, the body (`A` is
+/// the file, `A cut` all but its last byte, `A more` has two bytes behind it, `A bell`, `A delete` and `A quote` have
+/// other bytes in a group name), the status, the length, and the body of the reply.
 pub(crate) static AT_A_DESK: &str = r#"
 # each refusal before the next
 2024-05-01 | - | GET /v1/x HTTP/1.1 | - | 404 Not Found | 20 | {"error":"no route"}
@@ -12,11 +12,12 @@ pub(crate) static AT_A_DESK: &str = r#"
 2024-05-01 | - | POST /v1/projects/N1/check HTTP/1.1 | - | 401 Unauthorized | 21 | {"error":"no caller"}
 2024-05-01 | t-echo | POST /v1/projects/N1/check HTTP/1.1 | - | 411 Length Required | 27 | {"error":"length required"}
 2024-05-01 | t-echo | POST /v1/projects/N1/check HTTP/1.1; Transfer-Encoding: chunked; Content-Length: 1; Content-Length: 1 | - | 411 Length Required | 27 | {"error":"length required"}
-2024-05-01 | t-echo | POST /v1/projects/N1/check HTTP/1.1; Content-Length: 4194305; Content-Length: 4194305 | - | 400 Bad Request | 22 | {"error":"bad length"}
+2024-05-01 | t-echo | POST /v1/projects/N1/check HTTP/1.1; Content-Length: 16777217; Content-Length: 16777217 | - | 400 Bad Request | 22 | {"error":"bad length"}
 2024-05-01 | t-echo | POST /v1/projects/N1/check?a=b HTTP/1.1; Content-Length: x | - | 400 Bad Request | 22 | {"error":"bad length"}
-2024-05-01 | t-echo | POST /v1/projects/N1/check HTTP/1.1; Content-Length: 4194305 | - | 413 Payload Too Large | 21 | {"error":"too large"}
-2024-05-01 | t-echo | POST /v1/projects/N1/check?a=b HTTP/1.1; Content-Length: 4194305 | - | 413 Payload Too Large | 21 | {"error":"too large"}
-2024-05-01 | t-gamma | POST /v1/projects/N1/deposits HTTP/1.1; Content-Length: 4194305 | - | 413 Payload Too Large | 21 | {"error":"too large"}
+2024-05-01 | t-echo | POST /v1/projects/N1/check HTTP/1.1; Content-Length: 16777217 | - | 413 Payload Too Large | 21 | {"error":"too large"}
+2024-05-01 | t-echo | POST /v1/projects/N1/check?a=b HTTP/1.1; Content-Length: 16777217 | - | 413 Payload Too Large | 21 | {"error":"too large"}
+2024-05-01 | t-gamma | POST /v1/projects/N1/deposits HTTP/1.1; Content-Length: 16777217 | - | 413 Payload Too Large | 21 | {"error":"too large"}
+2024-05-01 | t-echo | POST /v1/projects/N1/check HTTP/1.1; Content-Length: 4194305 | - | 400 Bad Request | 22 | {"error":"short body"}
 2024-05-01 | t-echo | POST /v1/projects/N1/check?a=b HTTP/1.1; Content-Length: 543 | A cut | 400 Bad Request | 25 | {"error":"bad parameter"}
 2024-05-01 | t-echo | POST /v1/projects/N1/check HTTP/1.1; Content-Length: 543 | A cut | 400 Bad Request | 22 | {"error":"short body"}
 2024-05-01 | t-gamma | POST /v1/projects/N1/deposits HTTP/1.1; Content-Length: 543 | A cut | 400 Bad Request | 22 | {"error":"short body"}
@@ -151,8 +152,8 @@ pub(crate) static HEADS: [(&[u8], [&str; 3]); 9] = [
     ),
 ];
 
-/// Heads of 32 or 33 fields, and of 8,192 or 8,193 bytes: how long the last field is, how many of one letter stand before it, and the
-/// reply.
+/// Heads of 32 or 33 fields, and of 8,192 or 8,193 bytes: how long the last field is, how many of one letter stand
+/// before it, and the reply.
 pub(crate) static LONG_HEADS: [(usize, usize, [&str; 3]); 3] = [
     (7979, 31, NO_ROUTE),
     (7980, 31, BAD_HEAD),
@@ -168,8 +169,8 @@ pub(crate) struct Altered {
     pub(crate) begin: usize,
 }
 
-/// The file, the file without its last byte, the file with two bytes behind it, the file with `lo`, a bell and `ca`, or `lo`, a byte 7f and
-/// `ca`, or `l`, a quote, a byte 01 and a backslash, for the name in its line 26, and nothing.
+/// The file, the file without its last byte, the file with two bytes behind it, the file with `lo`, a bell and `ca`, or
+/// `lo`, a byte 7f and `ca`, or `l`, a quote, a byte 01 and a backslash, for the name in its line 26, and nothing.
 pub(crate) static BODIES: [Altered; 7] = [
     Altered {
         name: "A",

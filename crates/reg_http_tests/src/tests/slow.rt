@@ -75,8 +75,8 @@ fn is_write_fault(served: &Result<Served, IoFault>) -> bool {
     }
 }
 
-/// Whether a deposit ends as it should over a reader that answers as many calls as bytes, or fewer: then nothing is written and nothing
-/// is held.
+/// Whether a deposit ends as it should over a reader that answers as many calls as bytes, or fewer: then nothing is
+/// written and nothing is held.
 fn is_read(served: &Result<Served, IoFault>, written: &[u8], held: u32, whole: bool) -> bool {
     if whole {
         has_status(served, 200) && held == 1
@@ -85,7 +85,8 @@ fn is_read(served: &Result<Served, IoFault>, written: &[u8], held: u32, whole: b
     }
 }
 
-/// Whether that is so over a reader that fails at the call after so many others. The reader is asked once more than it answers at most.
+/// Whether that is so over a reader that fails at the call after so many others. The reader is asked once more than it
+/// answers at most.
 fn reads(
     alloc: Global,
     desk: &mut Desk<PlainKeep>,
@@ -148,7 +149,8 @@ fn is_front(taken: &[u8], calls: usize) -> bool {
     }
 }
 
-/// Whether a deposit ends as it should over a writer that fails at the call after so many others, or takes the whole receipt.
+/// Whether a deposit ends as it should over a writer that fails at the call after so many others, or takes the whole
+/// receipt.
 fn is_written(served: &Result<Served, IoFault>, calls: usize) -> bool {
     if calls < RECEIPT.len() {
         is_write_fault(served)

@@ -11,7 +11,7 @@ loop-place-preserved c =
     let findings = c.args.findings.now in
     let place = c.loop-place.place in
     let found = finding_of c.at.result in
-    c.in_ok-push_line.ensures
+    c.in_ok-push_report_line.ensures
     ∙ ap (λ (l : List ℕ). l ++ report_line found) c.loop-place.invariant
     ∙ ap (λ (l : List ℕ). flat_map report_line (take place findings) ++ l) (sym (append-nil (report_line found)))
     ∙ sym (flat_map-append report_line (take place findings) (found ∷ []))

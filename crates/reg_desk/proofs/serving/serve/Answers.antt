@@ -21,11 +21,11 @@ serve_withdraw-requires g c = c.requires
 
 pub returns-in-Deposit-clause-serves : goal.returns-in-Deposit-clause-serves
 returns-in-Deposit-clause-serves g c =
-    subst (λ (r : Request). Serves g.K.Keep c.args.policy.now (asked r) c.args.keep.now c.serve_deposit.new.keep c.serve_deposit.result) (sym c.in-Deposit.is) (c.serve_deposit.ensures c.in-Deposit.day)
+    subst (λ (r : Request). Serves g.K.Keep c.args.policy.now (asked r) c.args.keep.now c.serve_deposit.new.keep c.serve_deposit.result) (sym c.in-Deposit.is) c.serve_deposit.ensures
 
 pub returns-in-Check-clause-serves : goal.returns-in-Check-clause-serves
 returns-in-Check-clause-serves g c =
-    subst (λ (r : Request). Serves g.K.Keep c.args.policy.now (asked r) c.args.keep.now c.serve_check.new.keep c.serve_check.result) (sym c.in-Check.is) (c.serve_check.ensures c.in-Check.day)
+    subst (λ (r : Request). Serves g.K.Keep c.args.policy.now (asked r) c.args.keep.now c.serve_check.new.keep c.serve_check.result) (sym c.in-Check.is) c.serve_check.ensures
 
 pub returns-in-List-clause-serves : goal.returns-in-List-clause-serves
 returns-in-List-clause-serves g c =
@@ -39,7 +39,7 @@ pub returns-in-Withdraw-clause-serves : goal.returns-in-Withdraw-clause-serves
 returns-in-Withdraw-clause-serves g c =
     subst (λ (r : Request).
     Serves g.K.Keep c.args.policy.now (asked r) c.args.keep.now c.serve_withdraw.new.keep c.serve_withdraw.result)
-    (sym c.in-Withdraw.is) (c.serve_withdraw.ensures c.in-Withdraw.day)
+    (sym c.in-Withdraw.is) c.serve_withdraw.ensures
 
 pub returns-in-Deposit-clause-rows : goal.returns-in-Deposit-clause-rows
 returns-in-Deposit-clause-rows g c = subst (λ (r : Request). ShowsRows (asked r) c.serve_deposit.result) (sym c.in-Deposit.is) tt

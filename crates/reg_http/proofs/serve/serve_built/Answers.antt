@@ -3,7 +3,7 @@ use Rattle.reg_http.proofs.ServeLemmas.{serve_reply}
 use Rattle.reg_http.proofs.serve.serve_built.Goals as goal
 
 pub returns-in-Ok-clause-served : goal.returns-in-Ok-clause-served
-returns-in-Ok-clause-served g c = serve_reply _ _ _ _ _ _ _ c.in-Ok.ensures c.deref.ensures.value c.status_of.ensures c.finish.ensures.written
+returns-in-Ok-clause-served g c = serve_reply _ _ _ _ _ _ _ c.in-Ok.ensures c.deref.ensures.value c.answer_status.ensures c.finish.ensures.written
 
 pub returns-in-Ok-clause-write_fault : goal.returns-in-Ok-clause-write_fault
 returns-in-Ok-clause-write_fault g c = c.finish.ensures.write_fault

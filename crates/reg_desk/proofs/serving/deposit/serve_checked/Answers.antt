@@ -17,7 +17,7 @@ returns-in-Err g c = λ rules number day permit.
     let K = g.K.Keep in
     let keep = c.args.keep.now in
     let bytes = c.args.checked.now.bytes in
-    let fine = fine_of (terms_at K rules keep) c.args.caller.now c.args.project.now bytes c.args.checked.now.given number permit c.requires.short c.requires.dictionary c.bytes.ensures.clean.file.findings in
+    let fine = fine_of (terms_at K rules keep) c.args.caller.now c.args.project.now bytes day c.args.checked.now.given number permit c.requires.short c.requires.dictionary c.bytes.ensures.clean.file.findings in
     subst (Serves K rules (deposit c.args.caller.now c.args.project.now c.args.embargo bytes day) keep c.held_already.new.keep) (sym c.refused.ensures)
     (deposit_unread K rules c.args.caller.now c.args.project.now c.args.embargo bytes day keep c.held_already.new.keep c.in-Err.error fine c.in-Err.ensures.reads (λ e. c.in-Err.ensures.refused (ap (λ x. Err x) e)))
 
@@ -26,7 +26,7 @@ returns-in-Ok-Some g c = λ rules number day permit.
     let K = g.K.Keep in
     let keep = c.args.keep.now in
     let bytes = c.args.checked.now.bytes in
-    let fine = fine_of (terms_at K rules keep) c.args.caller.now c.args.project.now bytes c.args.checked.now.given number permit c.requires.short c.requires.dictionary c.bytes.ensures.clean.file.findings in
+    let fine = fine_of (terms_at K rules keep) c.args.caller.now c.args.project.now bytes day c.args.checked.now.given number permit c.requires.short c.requires.dictionary c.bytes.ensures.clean.file.findings in
     let held = rw c.in-Ok-Some.field-0-is at c.in-Ok-Some.ensures.held in
     subst (Serves K rules (deposit c.args.caller.now c.args.project.now c.args.embargo bytes day) keep c.held_already.new.keep) (sym c.receipt.ensures.held)
     (deposit_repeats K rules c.args.caller.now c.args.project.now c.args.embargo bytes day keep c.held_already.new.keep c.in-Ok-Some.number c.in-Ok-Some.until fine c.in-Ok-Some.ensures.reads
@@ -60,7 +60,7 @@ returns-then-count-limit g c = λ rules number day permit.
     let held = rw c.in-Ok-None.field-0-is at c.in-Ok-None.ensures.held in
     let works = still_works K keep mid c.in-Ok-None.ensures.reads in
     deposit_full K rules c.args.caller.now c.args.project.now c.args.embargo bytes day keep mid
-    (fine_of (terms_at K rules keep) c.args.caller.now c.args.project.now bytes c.args.checked.now.given number permit c.requires.short c.requires.dictionary c.bytes.ensures.clean.file.findings)
+    (fine_of (terms_at K rules keep) c.args.caller.now c.args.project.now bytes day c.args.checked.now.given number permit c.requires.short c.requires.dictionary c.bytes.ensures.clean.file.findings)
     c.in-Ok-None.ensures.reads
     (λ s. first_of c.args.caller.now.firm c.args.project.now bytes c.bytes.result.now
     (sents (K.deposits keep)) _ c.bytes.ensures.bytes (held s))
@@ -71,12 +71,12 @@ returns-in-Err-add g c = λ rules number day permit.
     let K = g.K.Keep in
     let keep = c.args.keep.now in
     let bytes = c.args.checked.now.bytes in
-    let fine = fine_of (terms_at K rules keep) c.args.caller.now c.args.project.now bytes c.args.checked.now.given number permit c.requires.short c.requires.dictionary c.bytes.ensures.clean.file.findings in
+    let fine = fine_of (terms_at K rules keep) c.args.caller.now c.args.project.now bytes day c.args.checked.now.given number permit c.requires.short c.requires.dictionary c.bytes.ensures.clean.file.findings in
     let held = rw c.in-Ok-None.field-0-is at c.in-Ok-None.ensures.held in
     subst (Serves K rules (deposit c.args.caller.now c.args.project.now c.args.embargo bytes day) keep c.add.new.self) (sym c.refused-in-Err-add.ensures)
     (deposit_unadded K rules c.args.caller.now c.args.project.now c.args.embargo bytes day keep c.held_already.new.keep c.add.new.self c.in-Err-add.error fine
     c.in-Ok-None.ensures.reads
-    (is_taken K rules c.args.caller.now c.args.project.now bytes keep c.held_already.new.keep fine c.in-Ok-None.ensures.reads
+    (is_taken K rules c.args.caller.now c.args.project.now bytes day keep c.held_already.new.keep fine c.in-Ok-None.ensures.reads
     (λ s. first_of c.args.caller.now.firm c.args.project.now bytes c.bytes.result.now
     (sents (K.deposits keep)) _ c.bytes.ensures.bytes (held s))
     (λ s. omega (arith, c.count.ensures s (still_works K keep c.held_already.new.keep c.in-Ok-None.ensures.reads), c.limit.ensures)))
@@ -87,12 +87,12 @@ returns-in-Ok g c = λ rules number day permit.
     let K = g.K.Keep in
     let keep = c.args.keep.now in
     let bytes = c.args.checked.now.bytes in
-    let fine = fine_of (terms_at K rules keep) c.args.caller.now c.args.project.now bytes c.args.checked.now.given number permit c.requires.short c.requires.dictionary c.bytes.ensures.clean.file.findings in
+    let fine = fine_of (terms_at K rules keep) c.args.caller.now c.args.project.now bytes day c.args.checked.now.given number permit c.requires.short c.requires.dictionary c.bytes.ensures.clean.file.findings in
     let held = rw c.in-Ok-None.field-0-is at c.in-Ok-None.ensures.held in
     subst (Serves K rules (deposit c.args.caller.now c.args.project.now c.args.embargo bytes day) keep c.add.new.self) (sym (c.receipt-in-Ok.ensures.new refl))
     (deposit_added K rules c.args.caller.now c.args.project.now c.args.embargo bytes day keep c.held_already.new.keep c.add.new.self c.in-Ok.number fine
     c.in-Ok-None.ensures.reads
-    (is_taken K rules c.args.caller.now c.args.project.now bytes keep c.held_already.new.keep fine c.in-Ok-None.ensures.reads
+    (is_taken K rules c.args.caller.now c.args.project.now bytes day keep c.held_already.new.keep fine c.in-Ok-None.ensures.reads
     (λ s. first_of c.args.caller.now.firm c.args.project.now bytes c.bytes.result.now
     (sents (K.deposits keep)) _ c.bytes.ensures.bytes (held s))
     (λ s. omega (arith, c.count.ensures s (still_works K keep c.held_already.new.keep c.in-Ok-None.ensures.reads), c.limit.ensures)))

@@ -6,8 +6,8 @@ use Rattle.reg_desk.proofs.Withdrawing.{withdraw_denied, withdraw_unread, withdr
 use Rattle.reg_desk.proofs.serving.withdrawal.serve_withdraw.Goals as goal
 
 pub returns-in-Deny : goal.returns-in-Deny
-returns-in-Deny g c = λ day.
-    withdraw_denied g.K.Keep c.args.policy.now c.args.caller.now c.args.project.now c.args.number day c.args.keep.now
+returns-in-Deny g c =
+    withdraw_denied g.K.Keep c.args.policy.now c.args.caller.now c.args.project.now c.args.number c.args.day c.args.keep.now
     c.in-Deny.rule c.requires
     (sym c.decide_request.ensures ∙ c.in-Deny.is)
 
@@ -15,25 +15,25 @@ pub own_mark-requires : goal.own_mark-requires
 own_mark-requires g c = c.requires
 
 pub returns-in-Err : goal.returns-in-Err
-returns-in-Err g c = λ day.
+returns-in-Err g c =
     subst (Serves g.K.Keep c.args.policy.now
-    (withdraw c.args.caller.now c.args.project.now c.args.number day) c.args.keep.now c.own_mark.new.keep) (sym
+    (withdraw c.args.caller.now c.args.project.now c.args.number c.args.day) c.args.keep.now c.own_mark.new.keep) (sym
     c.refused.ensures)
-    (withdraw_unread g.K.Keep c.args.policy.now c.args.caller.now c.args.project.now c.args.number day c.args.keep.now
+    (withdraw_unread g.K.Keep c.args.policy.now c.args.caller.now c.args.project.now c.args.number c.args.day c.args.keep.now
     c.own_mark.new.keep _ c.in-Err.error
     (sym c.decide_request.ensures ∙ c.in-Permit.is) c.in-Err.ensures.reads
     (λ e. c.in-Err.ensures.refused (ap (λ x. Err x) e)))
 
 pub returns-in-Ok-None : goal.returns-in-Ok-None
-returns-in-Ok-None g c = λ day.
+returns-in-Ok-None g c =
     let own = rw c.in-Ok-None.field-0-is at c.in-Ok-None.ensures.own in
-    withdraw_unknown g.K.Keep c.args.policy.now c.args.caller.now c.args.project.now c.args.number day c.args.keep.now
+    withdraw_unknown g.K.Keep c.args.policy.now c.args.caller.now c.args.project.now c.args.number c.args.day c.args.keep.now
     c.own_mark.new.keep _ (sym c.decide_request.ensures ∙ c.in-Permit.is) c.in-Ok-None.ensures.reads own
 
 pub returns-in-Ok-Some-true : goal.returns-in-Ok-Some-true
-returns-in-Ok-Some-true g c = λ day.
+returns-in-Ok-Some-true g c =
     let own = rw c.in-Ok-Some-true.field-0-is at c.in-Ok-Some-true.ensures.own in
-    withdraw_again g.K.Keep c.args.policy.now c.args.caller.now c.args.project.now c.args.number day c.args.keep.now
+    withdraw_again g.K.Keep c.args.policy.now c.args.caller.now c.args.project.now c.args.number c.args.day c.args.keep.now
     c.own_mark.new.keep _ (sym c.decide_request.ensures ∙ c.in-Permit.is) c.in-Ok-Some-true.ensures.reads
     (λ s. ap (λ (w : Bool). Some w) (sym c.in-Ok-Some-true.field-0-0-test) ∙ own s)
 
@@ -55,21 +55,21 @@ withdraw-requires-clause-unmarked g c =
     (λ s. ap (λ (w : Bool). Some w) (sym c.in-Ok-Some-false.field-0-0-test) ∙ own s)
 
 pub returns-in-Err-withdraw : goal.returns-in-Err-withdraw
-returns-in-Err-withdraw g c = λ day.
+returns-in-Err-withdraw g c =
     let own = rw c.in-Ok-Some-false.field-0-is at c.in-Ok-Some-false.ensures.own in
     subst (Serves g.K.Keep c.args.policy.now
-    (withdraw c.args.caller.now c.args.project.now c.args.number day) c.args.keep.now c.withdraw.new.self) (sym
+    (withdraw c.args.caller.now c.args.project.now c.args.number c.args.day) c.args.keep.now c.withdraw.new.self) (sym
     c.refused-in-Err-withdraw.ensures)
-    (withdraw_unmarked g.K.Keep c.args.policy.now c.args.caller.now c.args.project.now c.args.number day
+    (withdraw_unmarked g.K.Keep c.args.policy.now c.args.caller.now c.args.project.now c.args.number c.args.day
     c.args.keep.now c.own_mark.new.keep c.withdraw.new.self _ c.in-Err-withdraw.error
     (sym c.decide_request.ensures ∙ c.in-Permit.is)
     c.in-Ok-Some-false.ensures.reads (λ s. ap (λ (w : Bool). Some w) (sym c.in-Ok-Some-false.field-0-0-test) ∙ own s)
     c.in-Err-withdraw.ensures.leaves c.in-Err-withdraw.ensures.refused)
 
 pub returns-in-Ok : goal.returns-in-Ok
-returns-in-Ok g c = λ day.
+returns-in-Ok g c =
     let own = rw c.in-Ok-Some-false.field-0-is at c.in-Ok-Some-false.ensures.own in
-    withdraw_marks g.K.Keep c.args.policy.now c.args.caller.now c.args.project.now c.args.number day c.args.keep.now
+    withdraw_marks g.K.Keep c.args.policy.now c.args.caller.now c.args.project.now c.args.number c.args.day c.args.keep.now
     c.own_mark.new.keep c.withdraw.new.self _ c.in-Ok.field-0 (sym c.decide_request.ensures ∙ c.in-Permit.is)
     c.in-Ok-Some-false.ensures.reads (λ s. ap (λ (w : Bool). Some w) (sym c.in-Ok-Some-false.field-0-0-test) ∙ own s)
     c.in-Ok.ensures.leaves

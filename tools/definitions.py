@@ -1,12 +1,15 @@
-"""Reads the definitions of the crates: specs/*.antt, and of src/*.rt the types, traits, constants and contracts that these name.
+"""Reads the definitions of the crates: specs/*.antt, and of src/*.rt the types, traits, constants and contracts that
+these name.
 
-Every name is resolved by the imports of its own file. A name that is not found is an error with its file and line: see `Unresolved`."""
+Every name is resolved by the imports of its own file. A name that is not found is an error with its file and line: see
+`Unresolved`."""
 import os
 import re
 
 # Words of the language itself, which no file imports.
 BUILT_IN = set("""
-Type Unit tt absurd ⊥ ¬ × → = : | ↦ λ · ∥ ∥₁ ∣ ∣₁ record where let in elim as if then else _ refl sym subst ap cong rw simp search cc omega grind
+Type Unit tt absurd ⊥ ¬ × → = : | ↦ λ · ∥ ∥₁ ∣ ∣₁ record where let in elim as if then else _
+refl sym subst ap cong rw simp search cc omega grind
 hlevel assumption first_of ← arith IsTrue IsProp IsSet Prim Level ℓ . open do pub
 """.split())
 
@@ -26,8 +29,8 @@ class Token:
 
 
 class Item:
-    """A definition: where it stands, its comment, its lines, and the statements whose names it needs. Of a lemma, which is one that
-    nothing unfolds, only the statement is kept: its body is its proof."""
+    """A definition: its place, its comment, its lines, and the statements whose names it needs. Of a lemma, which is
+    one that nothing unfolds, only the statement is kept: its body is its proof."""
 
     def __init__(self, kind, name, source, first):
         self.kind, self.name, self.source, self.first = kind, name, source, first
@@ -40,7 +43,8 @@ class Item:
         return self.first + len(self.lines) - 1
 
     def shown(self):
-        """The lines that a reader needs: of a type with a model its value and what always holds of it, of a trait its ghost members."""
+        """The lines that a reader needs: of a type with a model its value and what always holds of it, of a trait its
+        ghost members."""
         if self.kind == "trait":
             return trait_lines(self.lines)
         model = self.source.models.get(self.name) if self.kind == "struct" else None
@@ -48,10 +52,12 @@ class Item:
         return lines + [line for _, more in (model or []) + self.faces() for line in more]
 
     def faces(self):
-        """What a type is by a trait that contracts speak of: its ghost members, as `deposits` of a keep. Its proofs of the trait's laws are left out."""
+        """What a type is by a trait that contracts speak of: its ghost members, as `deposits` of a `Keep`. Its proofs
+        of the trait's laws are left out."""
         if self.kind not in ("struct", "enum"):
             return []
-        return [face for trait, name, face in self.source.faces.get(self.name, []) if name in self.source.house.members.get(trait, ())]
+        members = self.source.house.members
+        return [face for trait, name, face in self.source.faces.get(self.name, []) if name in members.get(trait, ())]
 
     def code_lines(self):
         """How many of the lines shown are neither a comment nor empty."""
@@ -66,7 +72,8 @@ def is_comment(line):
 
 
 def ghost_members(lines):
-    """The ghost members `ghost name: { .. }` among the lines of a type or a trait: of each the place of its first line, and its lines."""
+    """The ghost members `ghost name: { .. }` among the lines of a type or a trait: of each the place of its first line,
+    and its lines."""
     place = 0
     while place < len(lines):
         last = place
@@ -100,7 +107,7 @@ def tokens_of(lines, first):
 
 
 def imports_of(text):
-    """What `PATH`, `PATH as alias`, `PATH.{a, b as c}` bring in: pairs of the name here and the path with the name there."""
+    """What `PATH`, `PATH as alias`, `PATH.{a, b as c}` bring in: the name here, and the path with the name there."""
     brace = text.find("{")
     if brace < 0:
         path, _, alias = text.partition(" as ")
@@ -325,13 +332,16 @@ class RustReader:
             if found := re.match(r"^impl(?:<.*?>)? (?:([\w:]+)(?:<[^{]*?>)? for )?([\w:]+)", line):
                 owner = found[2].rsplit("::", 1)[-1]
                 if found[1] == "Model":
-                    self.models[owner] = [face for name, face in self.ghost_lines(number) if name in ("Value", "invariant")]
+                    ghosts = self.ghost_lines(number)
+                    self.models[owner] = [face for name, face in ghosts if name in ("Value", "invariant")]
                 elif found[1]:
-                    self.source.faces.setdefault(owner, []).extend((found[1], name, face) for name, face in self.ghost_lines(number))
+                    faces = [(found[1], name, face) for name, face in self.ghost_lines(number)]
+                    self.source.faces.setdefault(owner, []).extend(faces)
             elif found := re.match(r"^(pub )?(?:pub\(crate\) )?trait (\w+)", line):
                 owner = found[2]
                 if found[1]:
-                    self.source.house.members[owner] = set(re.findall(r"ghost (\w+): \{ Self →", "\n".join(lines[number - 1:self.block_end(number)])))
+                    text = "\n".join(lines[number - 1:self.block_end(number)])
+                    self.source.house.members[owner] = set(re.findall(r"ghost (\w+): \{ Self →", text))
             elif line == "}":
                 owner = None
             if found := re.match(r"^( *)(?:pub(?:\(crate\))? )?fn (\w+)", line):
@@ -343,7 +353,7 @@ class RustReader:
         depth = 0
         for end in range(number, len(lines) + 1):
             line = re.sub(r'"(?:[^"\\]|\\.)*"', "", lines[end - 1])
-            depth += line.count("{") + line.count("(") + line.count("[") - line.count("}") - line.count(")") - line.count("]")
+            depth += sum(map(line.count, "{([")) - sum(map(line.count, "})]"))
             if depth == 0 and re.search(r"[;}]\s*$", line):
                 return end
         raise self.source.error(number, "this item has no end")
@@ -379,7 +389,8 @@ class RustReader:
         lines = self.source.lines
         indent = len(lines[number - 1]) - len(lines[number - 1].lstrip())
         end = number
-        while not re.match(r"^ {%d}(\{|\})" % indent, lines[end - 1]) and not re.search(r"[^}] \{$|;$|\{\}$", lines[end - 1]):
+        closed = re.compile(r"^ {%d}[{}]|[^}] \{$|;$|\{\}$" % indent)
+        while not closed.search(lines[end - 1]):
             end += 1
         last = lines[end - 1].strip()
         item.lines = lines[number - 1:end - 1] if last.startswith("{") else lines[number - 1:end]
@@ -432,11 +443,13 @@ class House:
 
     def type_in(self, crate, name):
         """The type of this name that a crate declares."""
-        found = [source.items[name] for (owner, _), source in self.rust.items() if owner == crate and name in source.items]
+        sources = [source for (owner, _), source in self.rust.items() if owner == crate]
+        found = [source.items[name] for source in sources if name in source.items]
         return found[0] if found else None
 
     def find(self, source, line, path, name):
-        """What an import names: a definition of the house, or None for one of the kit, which also makes the modules `specs.contracts` of each crate."""
+        """What an import names: a definition of the house, or None for one of the kit, which also makes the modules
+        `specs.contracts` of each crate."""
         words = path.split(".")
         if words[0] == "denote" or words[2:4] == ["specs", "contracts"]:
             return None
@@ -469,14 +482,15 @@ class House:
             return module.items.get(name) if module else None
         module = self.rust.get((words[1], ".".join(rest[:-1])))
         item = module.items.get(rest[-1]) if module else None
-        if item and words[-1] == "TheVariants" and not any(re.search(rf"(^\s+|[{{,] ){name}\b", line) for line in item.lines if not is_comment(line)):
-            return None
+        if item and words[-1] == "TheVariants":
+            variant = re.compile(rf"(^\s+|[{{,] ){name}\b")
+            return item if any(variant.search(line) for line in item.lines if not is_comment(line)) else None
         return item
 
     # ---- what a definition needs
 
     def needs(self, item):
-        """The definitions that an item names, in the order in which it names them; and the names that the kit gives it."""
+        """The definitions that an item names, in the order in which it names them; and what the kit gives it."""
         if item.needs is None:
             namer = Namer(self, item)
             item.needs, item.renamed = namer.run(), namer.renamed
@@ -632,7 +646,7 @@ class Namer:
         return {re.split(r"[:\s]", part.strip())[0].removeprefix("'") for part in inner.split(",")}
 
     def impl_head(self, number):
-        """The head of the block that a line stands in."""
+        """The head of the block that a line is in."""
         for place in range(number, 0, -1):
             line = self.source.lines[place - 1]
             if re.match(r"^(impl|(pub(\(crate\))? )?trait)\b", line):
@@ -680,7 +694,7 @@ class Namer:
             self.ghost_text(lines, self.item.first + place)
 
     def type_lines(self, lines, first):
-        """The fields of a type that contracts see as it is declared; what always holds of them; the types of its fields."""
+        """The fields of a type that contracts see as it is declared; what always holds of them; the types of these."""
         self.bound |= self.generics(lines[:1])
         self.bound |= {m[1] for line in lines if (m := re.match(r"\s+(?:pub(?:\(crate\))? )?(\w+):", line))}
         ghosts = dict(ghost_members(lines))

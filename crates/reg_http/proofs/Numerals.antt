@@ -1,0 +1,2 @@
+-- The digits of numbers, for tactics.
+pub use Rattle.std.specs.Fmt.{digits}

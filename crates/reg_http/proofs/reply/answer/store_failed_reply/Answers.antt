@@ -1,8 +1,0 @@
-use Rattle.std.proofs.Common.{rules, refl}
-use Rattle.std.specs.Fmt.{digits}
-use Rattle.reg_http.specs.Replies.{phrase_of}
-use Rattle.reg_http.proofs.reply.answer.store_failed_reply.Goals as goal
-
-pub returns : goal.returns
-unfolding digits phrase_of
-returns c = (_, refl, search rules)
