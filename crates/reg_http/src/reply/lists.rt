@@ -12,7 +12,7 @@ use ags_rows::{FindingList, FindingRef};
 use reg_desk::Listed;
 use std::alloc::{AllocError, Global};
 
-/// The body that lists findings. It is made where the whole reply has room.
+/// The body that lists findings. Its memory has room for the whole reply.
 pub(crate) fn findings_text(alloc: Global, findings: &FindingList) -> Result<Vec<u8>, AllocError>
     ensures { IfOk result (λ text. text.items ≡ compact_text (findings_data findings.now)) }
 {
@@ -89,7 +89,7 @@ fn printed_byte(byte: u8) -> u8
     }
 }
 
-/// The body of a listing. It is made where the whole reply has room.
+/// The body of a listing. Its memory has room for the whole reply.
 pub(crate) fn listing_text(alloc: Global, listing: &[Listed]) -> Result<Vec<u8>, AllocError>
     ensures { IfOk result (λ text. (d : Data) × IsListingData listing.now d × (text.items ≡ compact_text d)) }
 {
