@@ -11,20 +11,23 @@ use Rattle.std.proofs.lemmas.List.Sorted.{IsPermutation-refl, IsPermutation-tran
 use Rattle.sqlite.specs.Order.{Row}
 use Rattle.sqlite.specs.Table.{Table}
 use Rattle.sqlite.specs.Tree.{Trees}
-use Rattle.sqlite.specs.Effect.{IsDatabase}
+use Rattle.sqlite.specs.Effect.{Database, IsDatabase}
 use Rattle.std.proofs.Math.ListN.{set}
 use Rattle.std.proofs.lemmas.Grind.{flat_map-append}
 use Rattle.sqlite.specs.Values.{bound}
 use Rattle.sqlite_value.specs.declared.value.ValueRef.{ValueRef}
 use Rattle.sqlite.specs.declared.error.Error.{Error}
-use Rattle.sqlite.specs.State.{State, KeepsCommit, IsUnchanged, IsRolledBack, ExecutesInside}
+use Rattle.sqlite.specs.State.{State, HasCleanDisk, Survives, KeepsCommit, IsUnchanged, IsRolledBack, ExecutesInside}
+use Rattle.sqlite.proofs.StateLemmas.{survives_then}
 use Rattle.ags_dict.specs.Entries.{Entries}
 use Rattle.reg_store.specs.declared.keep.KeptRow.{KeptRow}
 use Rattle.reg_tables.specs.Tables.{register_schema}
 use Rattle.reg_store.specs.Sent.{Sent}
 use Rattle.reg_tables.specs.Rows.{columns_5, columns_3, given_deposit, joined, line_row, line_rows, step_row, step_rows, IsMore}
 use Rattle.reg_tables.specs.Inserts.{Adds, AddsDeposit, AddsLines, AddsSteps, AddsFile}
+use Rattle.reg_tables.specs.Commits.{Makes}
 use Rattle.reg_tables.specs.Inside.{Inside}
+use Rattle.reg_tables.specs.KeepLaws.{ChangesOf}
 use Rattle.reg_tables.specs.Register.{KeepsRegister}
 
 pub more_none : (old : List Row) → IsMore old [] old
@@ -125,7 +128,7 @@ steps_rest n at m steps a b c past one two =
 
 -- the deposit, then its lines, then its steps
 pub file_then : (n : ℕ) (d : Sent) (rows : List KeptRow) (graph : List (ℕ × ℕ)) (a b c e : State) → Inside (AddsDeposit n d) a b → Inside (AddsLines (line_rows n 0 rows)) b c → Inside (AddsSteps (step_rows n graph)) c e
-    → Inside (AddsFile n d rows graph) a e
+    → Inside (Makes (AddsFile n d rows graph)) a e
 file_then n d rows graph a b c e one two three =
     let meta : e.now.trees 0 ≡ a.now.trees 0 = three.change.others.0 (apart 0 6 refl) ∙ two.change.others.0 (apart 0 4 refl) ∙ one.change.others.0 (apart 0 2 refl) in
     let deposits : e.now.trees 2 ≡ b.now.trees 2 = three.change.others.1.0 (apart 2 6 refl) ∙ two.change.others.1.0 (apart 2 4 refl) in
@@ -134,12 +137,15 @@ file_then n d rows graph a b c e one two three =
     let before : c.now.trees 6 ≡ a.now.trees 6 = two.change.others.1.1.1.0 (apart 6 4 refl) ∙ one.change.others.1.1.1.0 (apart 6 2 refl) in
     record {
       change = record {
-        schema = three.change.schema;
-        meta = meta;
-        deposits = subst (λ (new : List Row). IsMore (map columns_5 (a.now.trees 2)) (given_deposit n d ∷ []) (map columns_5 new)) (sym deposits) one.change.rows;
-        lines = subst₂ (λ (old new : List Row). IsMore (map columns_5 old) (line_rows n 0 rows) (map columns_5 new)) first (sym last) two.change.rows;
-        steps = subst (λ (old : List Row). IsMore (map columns_3 old) (step_rows n graph) (map columns_3 (e.now.trees 6))) before three.change.rows;
-        marks = three.change.others.1.1.1.1.0 (apart 8 6 refl) ∙ two.change.others.1.1.1.1.0 (apart 8 4 refl) ∙ one.change.others.1.1.1.1.0 (apart 8 2 refl);
+        change = record {
+          schema = three.change.schema;
+          meta = meta;
+          deposits = subst (λ (new : List Row). IsMore (map columns_5 (a.now.trees 2)) (given_deposit n d ∷ []) (map columns_5 new)) (sym deposits) one.change.rows;
+          lines = subst₂ (λ (old new : List Row). IsMore (map columns_5 old) (line_rows n 0 rows) (map columns_5 new)) first (sym last) two.change.rows;
+          steps = subst (λ (old : List Row). IsMore (map columns_3 old) (step_rows n graph) (map columns_3 (e.now.trees 6))) before three.change.rows;
+          marks = three.change.others.1.1.1.1.0 (apart 8 6 refl) ∙ two.change.others.1.1.1.1.0 (apart 8 4 refl) ∙ one.change.others.1.1.1.1.0 (apart 8 2 refl);
+        };
+        sound = three.change.sound;
       };
       goes_on = three.goes_on;
       is_open = three.is_open;
@@ -173,6 +179,13 @@ undone_by old mid new kept back o =
 
 pub open_before : (old mid new : State) → KeepsCommit old mid → IsRolledBack mid new → IsTrue new.is_open → IsTrue old.is_open
 open_before old mid new kept back o = kept.was_open (back.was_open o)
+
+-- what a crash leaves of a change that is committed
+pub change_left : (Change : Database → Database → Type 0) (old last new : State) → Survives old last (λ _. ⊥) → (HasCleanDisk last → Makes Change old.now last.now) → Survives last new (λ trees. trees ≡ last.now.trees)
+    → Survives old new (ChangesOf Change old)
+change_left Change old last new inside made commits =
+    survives_then old last new _ _ (ChangesOf Change old) (λ _ db none. absurd none)
+    (λ clean db is. (let put = made (omega (arith, commits.clean, clean)) in (last.now, put.change, put.sound, is))) inside commits
 
 -- ---- the values of several rows
 

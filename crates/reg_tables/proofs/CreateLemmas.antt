@@ -1,19 +1,22 @@
 -- The statements of a new register, one after the other.
-use Rattle.std.proofs.Common.{◌≡◌, ℕ, List, [], ◌∷◌, length, IsTrue, inl, ◌∙◌, ap, sym, subst}
+use Rattle.std.proofs.Common.{◌≡◌, ℕ, List, [], ◌∷◌, ◌≤◌, length, IsTrue, ◌∙◌, ap, sym, subst}
 use Rattle.sqlite.specs.declared.types.Value.TheVariants.{Blob as Bytes}
 use Rattle.sqlite.specs.Effect.{Database}
 use Rattle.ags_dict.specs.Entries.{Entries}
 use Rattle.ags_dict.specs.Reading.{IsDictionary}
-use Rattle.reg_tables.specs.Register.{deposits_in, IsRegister, KeepsRegister}
+use Rattle.reg_tables.specs.Register.{deposits_in, IsRegister, KeepsRegister, tables}
 use Rattle.reg_tables.specs.Turns.{read_back}
-use Rattle.sqlite.specs.Tree.{Trees}
-use Rattle.sqlite.specs.State.{State, HasCleanDisk, Survives}
-use Rattle.reg_tables.specs.Quiet.{IsAsBefore}
+use Rattle.sqlite.specs.State.{State, Survives}
+use Rattle.sqlite.proofs.StateLemmas.{survives_weaker}
+use Rattle.ags_rows.specs.declared.TheConstants.{READABLE}
 use Rattle.reg_tables.specs.Tables.{first_schema, no_schema}
 use Rattle.reg_tables.specs.Texts.{create_meta, create_deposits, create_lines, create_steps, create_withdrawals, fill_meta}
 use Rattle.reg_tables.specs.Inserts.{fills_meta}
+use Rattle.reg_tables.specs.Commits.{Makes}
 use Rattle.reg_tables.specs.Inside.{Inside, Ran}
-use Rattle.reg_tables.specs.Creates.{HasFirst, HasFour, IsEmptyRegister, IsNewRegister, MakesWithdrawals, makes_meta, makes_deposits, makes_lines, makes_steps, makes_withdrawals, all_five, first_two, last_two, filled}
+use Rattle.reg_tables.specs.KeepLaws.{ChangesOf}
+use Rattle.reg_tables.specs.Making.{AreDictionary}
+use Rattle.reg_tables.specs.Creates.{HasFirst, HasFour, IsEmptyRegister, IsNewRegister, MakesWithdrawals, makes_meta, makes_deposits, makes_lines, makes_steps, makes_withdrawals, all_five, first_two, last_two, filled, new_left, SurvivesMaking}
 use Rattle.reg_tables.proofs.ExamineLemmas.{one_dictionary}
 
 pub first_ran : (a b c : State) → a.now.schema ≡ no_schema → Ran create_meta [] a b → Ran create_deposits [] b c → Inside (λ _ db. HasFirst db) a c
@@ -29,11 +32,12 @@ second_ran a b c has one two =
 pub third_ran : (a b : State) → a.now.schema ≡ first_schema → Ran create_withdrawals [] a b → Inside MakesWithdrawals a b
 third_ran a b has one = record { change = makes_withdrawals a b one.count has one.ran; goes_on = one.goes_on; is_open = one.is_open; committed = one.committed }
 
-pub all_ran : (text : List ℕ) (a b c e f : State) → Inside (λ _ db. HasFirst db) a b → Inside (λ _ db. HasFour db) b c → Inside MakesWithdrawals c e → Ran fill_meta (Bytes text ∷ []) e f → Inside (λ _ db. IsNewRegister text db) a f
+pub all_ran : (text : List ℕ) (a b c e f : State) → Inside (λ _ db. HasFirst db) a b → Inside (λ _ db. HasFour db) b c → Inside MakesWithdrawals c e → Ran fill_meta (Bytes text ∷ []) e f → Inside (Makes (λ _ db. IsNewRegister text db)) a f
 all_ran text a b c e f one two three four =
     let five = all_five c.now e.now two.change three.change in
+    let made = filled text e.now f.now five (fills_meta e f text four.count five.schema four.ran) in
     record {
-      change = filled text e.now f.now five (fills_meta e f text four.count five.schema four.ran);
+      change = record { change = made; sound = made.sound };
       goes_on = four.goes_on;
       is_open = four.is_open;
       committed = four.committed ∙ three.committed ∙ two.committed ∙ one.committed;
@@ -54,16 +58,7 @@ new_keeps text dictionary s it is_open settled reads =
       counted = ap length (sym none);
     } in ∣ kept ∣₁
 
--- Where a call failed and the connection is open and as before, a crash leaves what it left before.
-pub undone_crash : {P : Trees → Type 0} (old new : State) → ((db : Trees) → IsTrue new.is_open → new.may_leave db → db ≡ new.committed.trees) → (IsTrue old.is_open → old.may_leave old.committed.trees)
-    → (HasCleanDisk new → IsTrue new.is_open) → (HasCleanDisk new → IsTrue new.is_open → IsAsBefore old new) → Survives old new P → Survives old new (λ _. ⊥)
-undone_crash old new settled stays is_open before s = record {
-  clean = s.clean;
-  shield = s.shield;
-  counts = s.counts;
-  limit = s.limit;
-  closes = s.closes;
-  crash = λ clean db may.
-      (let was = before clean (is_open clean) in
-      inl (subst old.may_leave (sym (settled db (is_open clean) may ∙ ap (λ (d : Database). d.trees) was.2)) (stays was.0)));
-}
+-- what a crash within the making may leave
+pub making_left : (text : List ℕ) (old new : State) → length text ≤ READABLE → AreDictionary text → old.now.schema ≡ no_schema → Survives old new (ChangesOf (λ _ db. IsNewRegister text db) old) → SurvivesMaking text old new
+making_left text old new short reads none =
+    survives_weaker old new _ _ (λ _ trees made. (none, subst (λ t. IsEmptyRegister text (tables t)) (sym made.3) (new_left text reads.0 made.0 short reads.1 made.1)))

@@ -64,9 +64,6 @@ pub record Matched (rows : List Row) (count at next : ℕ) (marks : List Bool) :
   pub so_far : rows ≡ mark_rows 1 marks ++ drop next rows
   pub left : (others : List Bool) → length others ≡ count → rows ≡ mark_rows 1 others → drop next rows ≡ mark_rows (1 + at) (drop at others)
 
-pub matched_none : (rows : List Row) (count : ℕ) → Matched rows count 0 0 []
-matched_none rows count = record { long = refl; low = omega arith; so_far = refl; left = λ others long same. same }
-
 -- what is left, by the next deposit
 left_at : (rows : List Row) (count at next : ℕ) (marks : List Bool) → Matched rows count at next marks → at < count → (others : List Bool) → length others ≡ count → rows ≡ mark_rows 1 others
     → (mark : Bool) × (drop next rows ≡ mark_rows (1 + at) (mark ∷ drop (at + 1) others))
@@ -109,27 +106,4 @@ matched_no rows count at next marks was low none =
           next_no (1 + at) it.0 (drop (at + 1) others) (drop next rows) (λ first. none (first_of_drop rows next (mark_row (at + 1)) (first ∙ ap (λ n. Some (mark_row n)) e))) it.1 ∙ ap (λ n. mark_rows n (drop (at + 1) others)) f);
     }
 
-pub matched_all : (rows : List Row) (count next : ℕ) (marks : List Bool) → Matched rows count count next marks → next ≡ length rows → rows ≡ mark_rows 1 marks
-matched_all rows count next marks was end = was.so_far ∙ ap (λ (rest : List Row). mark_rows 1 marks ++ rest) (drop_all next rows (omega (arith, end))) ∙ append-nil (mark_rows 1 marks)
-
-pub matched_not : (rows : List Row) (count next : ℕ) (marks : List Bool) → Matched rows count count next marks → next ≢ length rows → (others : List Bool) → length others ≡ count → rows ≡ mark_rows 1 others → ⊥
-matched_not rows count next marks was more others long same =
-    let ended : drop count others ≡ [] = drop_all count others (omega (arith, long)) in
-    let none : drop next rows ≡ [] = was.left others long same ∙ ap (mark_rows (1 + count)) ended in
-    let row = slice_get_in rows next (beyond next (length rows) was.low more) in
-    absurd (let clash = sym (drop_here rows next row.0 row.1) ∙ none in cc)
-  where
-    beyond : (a b : ℕ) → a ≤ b → a ≢ b → a < b
-    beyond a b low differ = elim (cases_lt a b) [
-      | inl below ↦ below
-      | inr up ↦ absurd (differ (omega (arith, low)))
-    ]
-
 -- ---- so the table has its marks
-
--- the rows that were read are the marks of so many deposits, or none are
-pub marks_held : (db : Database) (count : ℕ) (rows : List Row) (marks : List Bool) → AreMarksInOrder db rows → length marks ≡ count → rows ≡ mark_rows 1 marks → HoldsMarks count db marks
-marks_held db count rows marks are long same = (long, subst (λ all. IsPermutation all (mark_table Second db.trees)) same are.0)
-
-pub marks_not_held : (db : Database) (count : ℕ) (rows : List Row) → AreMarksInOrder db rows → ((marks : List Bool) → length marks ≡ count → rows ≡ mark_rows 1 marks → ⊥) → (marks : List Bool) → HoldsMarks count db marks → ⊥
-marks_not_held db count rows are none marks held = none marks held.0 (are.1 marks held.1)

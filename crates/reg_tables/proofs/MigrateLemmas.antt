@@ -36,6 +36,7 @@ use Rattle.reg_store.specs.declared.keep.KeptHead.{KeptHead}
 use Rattle.reg_store.specs.declared.keep.KeepError.{KeepError}
 use Rattle.reg_store.specs.declared.keep.KeepError.TheVariants as keep
 use Rattle.reg_store.specs.Keep.{is_store}
+use Rattle.reg_tables.specs.Commits.{Makes}
 use Rattle.reg_tables.specs.declared.adopting.AdoptError.TheVariants.{Store}
 use Rattle.reg_tables.specs.Adoption.{adopt_error}
 use Rattle.reg_tables.specs.Quiet.{IsStill, clean_before}
@@ -161,9 +162,9 @@ raises old new text before after put dictionary list was = record {
 -- meta is read, the tables are changed, and meta is read again
 pub raised_inside : (a b c e : State) (text : List ℕ) (before after : List Row) → Inside (λ old new. new ≡ old) a b → Inside AddsWithdrawals b c → Inside (λ old new. new ≡ old) c e
     → IsPermutation before (map columns_3 (a.now.trees 0)) → IsPermutation after (map columns_3 (c.now.trees 0)) → before ≡ meta_columns 1 text → after ≡ meta_columns 2 text
-    → Inside (λ old new. Migrates old new × IsDatabase new) a e
+    → Inside (Makes Migrates) a e
 raised_inside a b c e text before after one two three seen shown was is = record {
-  change = subst₂ (λ (x y : Database). Migrates x y × IsDatabase y) one.change (sym three.change) (raises b.now c.now text first (subst (λ rows. IsPermutation rows (map columns_3 (c.now.trees 0))) is shown) two.change, two.change.sound);
+  change = subst₂ (Makes Migrates) one.change (sym three.change) (record { change = raises b.now c.now text first (subst (λ rows. IsPermutation rows (map columns_3 (c.now.trees 0))) is shown) two.change; sound = two.change.sound });
   goes_on = three.goes_on;
   is_open = three.is_open;
   committed = three.committed ∙ two.committed ∙ one.committed;

@@ -16,7 +16,13 @@ use Rattle.sqlite.proofs.Callers.{IsPlain, never_commits, unchanged_then}
 use Rattle.reg_tables.specs.Tables.{HasTables}
 use Rattle.reg_tables.specs.Meaning.{IsPlainText}
 use Rattle.reg_tables.specs.Found.{OnlyReads}
-use Rattle.reg_tables.specs.Quiet.{IsAsBefore, IsStill, clean_before}
+use Rattle.reg_store.specs.declared.keep.KeepError.{KeepError}
+use Rattle.reg_store.specs.declared.keep.KeepError.TheVariants as keep
+use Rattle.reg_store.specs.Keep.{is_store}
+use Rattle.reg_tables.specs.declared.adopting.AdoptError.{AdoptError}
+use Rattle.reg_tables.specs.declared.adopting.AdoptError.TheVariants.{NoMemory, Store}
+use Rattle.reg_tables.specs.Adoption.{adopt_error, is_store_failure}
+use Rattle.reg_tables.specs.Quiet.{IsAsBefore, IsStill, clean_before, quiet_read}
 
 pub plain_at : (sql : List ℕ) (s : State) → IsPlainText sql → HasTables s.now.schema → IsPlain (understood s.now.schema sql)
 plain_at sql s plain has = plain s.now.schema has
@@ -98,20 +104,6 @@ ok_quiet old new idle is_open stays survives = record {
   survives = survives;
 }
 
--- the connection is known to be open after it: nothing changed
-pub open_quiet : (old mid new : State) → new.in_transaction ≡ false → (HasCleanDisk mid → IsTrue mid.is_open → IsAsBefore old mid) → Survives old mid (λ _. ⊥) → (HasCleanDisk new → IsUnchanged mid new) → Survives mid new (λ _. ⊥) → IsStill old new false
-open_quiet old mid new idle stays survives unchanged probed = record {
-  idle = idle;
-  is_open = λ clean _. both_open (unchanged clean).0.is_open (stays (clean_before mid new probed clean) (unchanged clean).0.was_open).0;
-  same = λ clean _. (let at = (unchanged clean).0 in let was = stays (clean_before mid new probed clean) at.was_open in (at.now_is ∙ was.1, at.committed_is ∙ was.2));
-  still = λ clean _. (let at = (unchanged clean).0 in let was = stays (clean_before mid new probed clean) at.was_open in (was.0, at.now_is ∙ was.1, at.committed_is ∙ was.2));
-  survives = survives_then old mid new _ _ (λ _. ⊥) (λ _ db none. none) (λ _ db none. none) survives probed;
-}
-
--- the store failed
-pub failed_quiet : (old new : State) → new.in_transaction ≡ false → (HasCleanDisk new → IsTrue new.is_open → IsAsBefore old new) → Survives old new (λ _. ⊥) → IsStill old new true
-failed_quiet old new idle stays survives = record { idle = idle; is_open = λ clean e. absurd cc; same = λ clean e. absurd cc; still = stays; survives = survives }
-
 -- a text that is only prepared leaves it too
 pub probed : {X : Type 0} (P : X → Type 0) (sql : List ℕ) (old new : State) (r : Result X Error) → IfOk r (λ x. P x × IsUnchanged old new) → IfErr r (λ e. (params : Row) → IsNotRun old new sql params e)
     → (IsTrue old.is_open → old.committed ≡ old.now) → IsTrue new.is_open → IsAsBefore old new
@@ -162,7 +154,28 @@ undone_still old new was_open undone settled one clean is_open =
 -- what is known of a connection on which a change was undone, and which is then asked whether it is open
 pub ruleset undone_laws = (settled_undone, still_then, undone_still)
 
-pub failed_then : (old mid new : State) → new.in_transaction ≡ false → (HasCleanDisk mid → IsTrue mid.is_open → IsAsBefore old mid) → Survives old mid (λ _. ⊥)
-    → (HasCleanDisk new → IsTrue new.is_open → IsAsBefore mid new) → Survives mid new (λ _. ⊥) → IsStill old new true
-failed_then old mid new mode stays one probe two =
-    failed_quiet old new mode (still_then old mid new stays probe two) (survives_then old mid new _ _ (λ _. ⊥) (λ _ db none. none) (λ _ db none. none) one two)
+-- a call failed, and where its answer is no failure of the store, nothing changed since
+pub refused_quiet : (old mid new : State) (failed : Bool) → new.in_transaction ≡ false → (HasCleanDisk mid → IsTrue mid.is_open → IsAsBefore old mid) → Survives old mid (λ _. ⊥)
+    → (HasCleanDisk new → failed ≡ false → IsUnchanged mid new) → (HasCleanDisk new → IsTrue new.is_open → IsAsBefore mid new) → Survives mid new (λ _. ⊥) → IsStill old new failed
+refused_quiet old mid new failed mode stays one unchanged probe two = record {
+  idle = mode;
+  is_open = λ clean well. both_open (unchanged clean well).0.is_open (was clean well).0;
+  same = λ clean well. (let at = (unchanged clean well).0 in let it = was clean well in (at.now_is ∙ it.1, at.committed_is ∙ it.2));
+  still = still_then old mid new stays probe two;
+  survives = survives_then old mid new _ _ (λ _. ⊥) (λ _ db none. none) (λ _ db none. none) one two;
+}
+  where
+    was : HasCleanDisk new → failed ≡ false → IsAsBefore old mid
+    was clean well = stays (clean_before mid new two clean) (unchanged clean well).0.was_open
+
+-- what is said of both answers to a fault is said of its answer
+pub fault_is : (P : AdoptError → Type 0) (e : KeepError) (a : AdoptError) → a ≡ adopt_error e → P Store → P NoMemory → P a
+fault_is P keep.Full a is store memory = subst P (sym is) store
+fault_is P keep.Store a is store memory = subst P (sym is) store
+fault_is P keep.NoMemory a is store memory = subst P (sym is) memory
+
+-- the answer is a failure of the store where the keep failed
+pub fault_quiet : (old new : State) (e : KeepError) (a : AdoptError) → a ≡ adopt_error e → IsStill old new (is_store e) → IsStill old new (is_store_failure a)
+fault_quiet old new keep.Full a is quiet = subst (λ (x : AdoptError). IsStill old new (is_store_failure x)) (sym is) (quiet_read old new true quiet)
+fault_quiet old new keep.Store a is quiet = subst (λ (x : AdoptError). IsStill old new (is_store_failure x)) (sym is) quiet
+fault_quiet old new keep.NoMemory a is quiet = subst (λ (x : AdoptError). IsStill old new (is_store_failure x)) (sym is) quiet

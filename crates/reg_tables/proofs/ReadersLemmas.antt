@@ -31,11 +31,6 @@ pub width_5 : (r : Row) → length r ≡ 5 → r ≡ column r 0 ∷ column r 1 �
 width_5 [] h = absurd (omega (arith, h))
 width_5 (a ∷ r) h = ap (λ more. a ∷ more) (width_4 r (omega (arith, h)))
 
-pub one_only : (rows : List Row) (row : Row) → length rows ≡ 1 → get_or rows 0 row ≡ row → rows ≡ row ∷ []
-one_only [] row h is = absurd (omega (arith, h))
-one_only (a ∷ []) row h is = ap (λ r. r ∷ []) is
-one_only (a ∷ b ∷ rows) row h is = absurd (omega (arith, h))
-
 pub places-push : (at : ℕ) (rows : List KeptRow) (row : KeptRow) → placed_rows at (rows ++ row ∷ []) ≡ placed_rows at rows ++ placed_row (at + length rows) row ∷ []
 places-push at [] row = let e : at + 0 ≡ at = omega arith in rw e refl
 places-push at (x ∷ rows) row =

@@ -44,11 +44,3 @@ steps_held old new n steps has shown = subst (λ all. IsPermutation all (rows_un
 pub data_read : (old new : State) (n count : ℕ) → HasTables old.now.schema → (rows : List Row) × Shown select_lines (Int (pos n) ∷ []) old new rows × (count ≡ length (filter is_shown_data rows)) → HasRows n (line_table old.now.trees) count
 data_read old new n count has shown groups are =
     shown.2 ∙ ap (λ all. length (filter is_shown_data all)) (reads_lines old new n (kept_rows groups) shown.0 has are shown.1) ∙ counted_shown 0 (kept_rows groups) ∙ counted groups
-
-pub rows_from : (n : ℕ) (table : List Row) (count : ℕ) (r : Result StepGraph KeepError) → HasRows n table count → IfOk r (λ graph. graph.rows ≡ count) → IfOk r (λ graph. HasRows n table graph.rows)
-rows_from n table count (Ok graph) found is = subst (HasRows n table) (sym is) found
-rows_from n table count (Err e) found is = tt
-
-pub steps_from : (n : ℕ) (table : List Row) (steps : List (ℕ × ℕ)) (r : Result StepGraph KeepError) → HasSteps n table steps → IfOk r (λ graph. graph.steps ≡ steps) → IfOk r (λ graph. HasSteps n table graph.steps)
-steps_from n table steps (Ok graph) found is = subst (HasSteps n table) (sym is) found
-steps_from n table steps (Err e) found is = tt

@@ -152,18 +152,6 @@ digested_same old new list other same is are k d at = ap (is_among (k + 1)) (sam
 pub below_same : (old new : Digests) (n : ℕ) → ((digest : List ℕ) → numbers_under new digest ≡ numbers_under old digest) → AreBelow old n → AreBelow new n
 below_same old new n same below digest m h = below digest m (sym (ap (is_among m) (same digest)) ∙ h)
 
--- what has room is noted
-pub noted_adds : (old mid new : Digests) (digest numbers : List ℕ) (n : ℕ) → ((other : List ℕ) → numbers_under mid other ≡ numbers_under old other) → numbers ≡ numbers_under old digest ++ n ∷ []
-    → ((other : List ℕ) → numbers_under new other ≡ cond (bytes_eq digest other) numbers (numbers_under mid other)) → AddsNumber old new digest n
-noted_adds old mid new digest numbers n same more noted other = noted other ∙ go (bytes_eq digest other)
-  where
-    go : (b : Bool) → cond b numbers (numbers_under mid other) ≡ cond b (numbers_under old digest ++ n ∷ []) (numbers_under old other)
-    go true = more
-    go false = same other
-
-pub none_digested : (digests : Digests) (list : List Sent) → list ≡ [] → AreDigested digests list
-none_digested digests list empty k d at = absurd (let none = subst (λ all. slice_get all k ≡ Some d) empty at in cc)
-
 -- what stands under digests is that of the list, where the tables hold it
 pub digested_held : (db : Database) (digests : Digests) (list : List Sent) → IsPermutation (deposit_rows 1 list) (deposit_table db.trees) → HoldsDigests db (length list + 1) digests → AreDigested digests list
 digested_held db digests list there held k d at =

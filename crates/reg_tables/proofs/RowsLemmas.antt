@@ -62,7 +62,3 @@ pub number_at : (m count k : ℕ) → k < count → get_or (number_rows m count)
 number_at m zero k low = absurd (omega (arith, low))
 number_at m (suc count) zero low = let e : m ≡ m + 0 = omega arith in ap (λ (n : ℕ). Int (pos n) ∷ []) e
 number_at m (suc count) (suc k) low = let e : (m + 1) + k ≡ m + suc k = omega arith in number_at (m + 1) count k (omega (arith, low)) ∙ ap (λ (n : ℕ). Int (pos n) ∷ []) e
-
--- a row has one number of the format
-pub one_format : (m n : ℤ) (row : Row) → IsFormatRow m row → IsFormatRow n row → m ≡ n
-one_format m n row a b = let same = sym a.1 ∙ b.1 in cc

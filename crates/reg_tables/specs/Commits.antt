@@ -1,10 +1,15 @@
 -- What a call that changes the tables in a transaction of its own does, and what it leaves.
 use Rattle.std.specs.Prelude.{◌≡◌, false, IsTrue, Result, OnOk, OnErr}
-use Rattle.sqlite.specs.Effect.{Database}
+use Rattle.sqlite.specs.Effect.{Database, IsDatabase}
 use Rattle.sqlite.specs.State.{State, HasCleanDisk}
 use Rattle.reg_store.specs.declared.keep.KeepError.{KeepError}
 use Rattle.reg_store.specs.Keep.{fails}
 use Rattle.reg_tables.specs.Quiet.{IsUndone}
+
+-- The change is made, and what it makes is a database.
+pub record Makes (Change : Database → Database → Type 0) (old new : Database) : Type 0 where
+  pub change : Change old new
+  pub sound : IsDatabase new
 
 -- On a clean disk, the change is made if the call was no error.
 abbrev pub Changes : {A E : Type 0} → Result A E → (Database → Database → Type 0) → State → State → Type 0

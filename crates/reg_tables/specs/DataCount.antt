@@ -27,10 +27,6 @@ data_only : (name : List ℕ) (rows : List (List (List ℕ))) → length (filter
 data_only name [] = refl
 data_only name (row ∷ rows) = ap suc (data_only name rows)
 
-data_long : (group : Contents) (rows : List (List (List ℕ))) → length (map (λ fields. fields) rows) ≡ length rows
-data_long group [] = refl
-data_long group (row ∷ rows) = ap suc (data_long group rows)
-
 rows_long : {A B : Type 0} (f : A → B) (rows : List A) → length (map f rows) ≡ length rows
 rows_long f [] = refl
 rows_long f (row ∷ rows) = ap suc (rows_long f rows)

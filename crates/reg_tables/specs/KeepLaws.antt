@@ -164,10 +164,6 @@ pub put_turns : {old : State} {dictionary : Entries} {count : ℕ} (d : Sent) (f
     → Turns old dictionary count (AddsFile (count + 1) d (kept_rows file.groups) file.graph.steps) (deposits_in old.committed.trees ++ unmarked d ∷ [])
 put_turns {old} {dictionary} {count} d file low ready k db put sound = register_push dictionary old.now db (deposits_in old.committed.trees) d file count k.register k.counted low put sound ready
 
--- a mark more
-abbrev pub MarksOf : State → ℕ → Trees → Type 0
-MarksOf old n = ChangesOf (AddsMark n) old
-
 -- deposit n of the list has no mark
 abbrev pub IsUnmarked : ℕ → List Deposit → Type 0
 IsUnmarked n list = (d : Deposit) → slice_get list (n - 1) ≡ Some d → d.withdrawn ≡ false

@@ -18,14 +18,6 @@ use Rattle.reg_tables.specs.RegisterLaws.{sents_back}
 
 -- ---- what was sent stays
 
-pub sents_with_marks : (n : ℕ) (marks : List Row) (list : List Sent) → sents (with_marks n marks list) ≡ list
-sents_with_marks n marks [] = refl
-sents_with_marks n marks (d ∷ list) = ap (λ more. d ∷ more) (sents_with_marks (n + 1) marks list)
-
-pub sents_of : (trees : Trees) → sents (deposits_in trees) ≡ sents_in trees
-unfolding deposits_in
-sents_of trees = sents_with_marks 1 (mark_table Second trees) (sents_in trees)
-
 -- what was sent of a deposit stands at its place
 pub sent_at : (list : List Deposit) (k : ℕ) (d : Deposit) → slice_get list k ≡ Some d → slice_get (sents list) k ≡ Some d.sent
 sent_at list k d at = slice_get-map (λ (x : Deposit). x.sent) list k ∙ ap (option_map (λ (x : Deposit). x.sent)) at

@@ -1,7 +1,6 @@
 //! A checked file as a deposit of the tables.
 
-ghost use Rattle.std.specs.Prelude.{◌≡◌, ◌≢◌, pos, false, IsTrue, IfErr, OnOk};
-ghost use Rattle.sqlite.specs.Effect.{IsDatabase};
+ghost use Rattle.std.specs.Prelude.{◌≡◌, ◌≢◌, pos, false, IsTrue, IfErr};
 ghost use Rattle.sqlite.specs.State.{HasCleanDisk};
 ghost use Rattle.sqlite.specs.Held.{state};
 ghost use Rattle.reg_policy.specs.Days.{is_day_number};
@@ -13,8 +12,9 @@ ghost use Rattle.reg_tables.specs.Tables.{register_schema};
 ghost use Rattle.reg_tables.specs.Quiet.{IsIdle};
 ghost use Rattle.reg_tables.specs.Rows.{deposit_from};
 
+use crate::change::change_tables;
 use crate::lines::few_rows;
-use crate::statements::{Filed, add_file};
+use crate::statements::Filed;
 use ags_check::Checked;
 use reg_policy::{Day, Name};
 use reg_store::KeepError;
@@ -47,7 +47,6 @@ pub(crate) fn add_checked<S: Alter>(
     ensures put { AddsChecked result number firm.now project.now embargo checked.now
         (state S.Store conn.old) (state S.Store conn.new) }
     ensures settled { CommitsAll result (state S.Store conn.new) }
-    ensures sound { HasCleanDisk (state S.Store conn.new) → OnOk result (IsDatabase (state S.Store conn.new).now) }
 
     // Which refusal never comes, and what is undone at one that is not `Store`.
     ensures refused { IfErr result (λ e. e ≢ KeepError.Full) }
@@ -61,15 +60,20 @@ pub(crate) fn add_checked<S: Alter>(
     ensures crash { SurvivesAdding number firm.now project.now embargo checked.now
         (state S.Store conn.old) (state S.Store conn.new) }
 {
+    let firm_text = firm.text();
+    let project_text = project.text();
+    let day = stored_day(embargo);
+    let Ok(rows) = few_rows(alloc, checked.scan().groups()) else {
+        return Err(KeepError::NoMemory);
+    };
     let filed = Filed {
         number,
-        firm: firm.text(),
-        project: project.text(),
-        embargo: stored_day(embargo),
+        firm: firm_text,
+        project: project_text,
+        embargo: day,
         body: checked.bytes(),
+        rows: &rows,
+        steps: checked.graph().steps(),
     };
-    match few_rows(alloc, checked.scan().groups()) {
-        Ok(rows) => add_file(conn, filed, &rows, checked.graph().steps()),
-        Err(_) => Err(KeepError::NoMemory),
-    }
+    change_tables(conn, &filed)
 }

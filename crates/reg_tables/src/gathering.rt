@@ -10,7 +10,7 @@ ghost use Rattle.reg_tables.specs.Quiet.{IsIdle, IsStill, StaysIfOpen};
 ghost use Rattle.reg_tables.specs.Found.{TakesEachShown, TakesShown};
 ghost use Rattle.reg_store.specs.Keep.{fails};
 
-use crate::queries::is_refused;
+use crate::queries::refusal;
 use reg_store::KeepError;
 use sqlite::types::ValueRef;
 use sqlite::{Alter, Connection, Error, Row};
@@ -64,7 +64,6 @@ fn take_each<S: Alter, G: Gather>(
 }
 
 /// Takes each row that a query of the register shows. Want of memory is answered only where the connection is known to be open.
-#[tactic(auto, using(crate::proofs::QueryLemmas::failed_quiet, crate::proofs::QueryLemmas::failed_then))]
 pub(crate) fn take_shown<S: Alter, G: Gather>(
     conn: &mut Connection<S>,
     sql: &str,
@@ -81,12 +80,6 @@ pub(crate) fn take_shown<S: Alter, G: Gather>(
 {
     match take_each(conn, sql, params, into) {
         Ok(taken) => taken,
-        Err(error) => {
-            if is_refused(conn, &error) {
-                Err(KeepError::NoMemory)
-            } else {
-                Err(KeepError::Store)
-            }
-        }
+        Err(error) => Err(refusal(conn, &error)),
     }
 }

@@ -3,6 +3,7 @@
 
 mod adding;
 mod adopting;
+mod change;
 mod compare;
 mod creating;
 mod examining;

@@ -1,22 +1,20 @@
 //! The marks of withdrawn deposits: the rows of the table `withdrawals`.
 
 ghost use Rattle.std.specs.Prelude.{◌≡◌, ◌≢◌, ◌↔◌, List, Bool, None, Some, Ok, length, slice_get, false, IsTrue, IfOk, IfErr, IfSome, OnOk};
-ghost use Rattle.sqlite.specs.State.{HasCleanDisk, Survives};
+ghost use Rattle.sqlite.specs.State.{HasCleanDisk};
 ghost use Rattle.sqlite.specs.Held.{state};
 ghost use Rattle.reg_store.specs.Keep.{fails};
 ghost use Rattle.reg_tables.specs.Adoption.{FindsMarks, gives_up};
-ghost use Rattle.reg_tables.specs.Commits.{Changes, CommitsAll, UndoesIfOpen, UndoesUnlessFailed};
 ghost use Rattle.reg_tables.specs.Found.{AreMarksInOrder};
 ghost use Rattle.reg_tables.specs.Inserts.{AddsMark};
-ghost use Rattle.reg_tables.specs.Inside.{ChangesInside, CommitsNothing, HasSchema, HasTransaction, state_in};
-ghost use Rattle.reg_tables.specs.KeepLaws.{MarksOf};
 ghost use Rattle.reg_tables.specs.Quiet.{FindsThat, IsIdle, IsStill};
 ghost use Rattle.reg_tables.specs.Register.{mark_rows};
 ghost use Rattle.reg_tables.specs.Rows.{mark_row};
 ghost use Rattle.reg_tables.specs.Tables.{register_schema};
 
 use crate::adopting::AdoptError;
-use crate::queries::{is_refused, query};
+use crate::change::Change;
+use crate::queries::query;
 use crate::running::run;
 use crate::values::is_row;
 use reg_store::KeepError;
@@ -24,73 +22,23 @@ use sqlite::types::ToSql;
 use sqlite::{Alter, Connection, Error, Row, Transaction, params};
 use std::alloc::{AllocError, Global};
 
-/// Adds the mark of a deposit. Nothing is committed.
-fn insert_mark<S: Alter>(tx: &mut Transaction<'_, S>, number: u32) -> Result<(), Error>
-    requires inside { HasTransaction (state_in S.Store tx.old) }
-    requires schema { HasSchema (state_in S.Store tx.old) register_schema }
-    ensures same_reference { tx.new.conn.ghost_name ≡ tx.old.conn.ghost_name }
-    ensures put { ChangesInside result (AddsMark number) (state_in S.Store tx.old) (state_in S.Store tx.new) }
-    ensures kept { CommitsNothing (state_in S.Store tx.old) (state_in S.Store tx.new) }
-    ensures survives { Survives (state_in S.Store tx.old) (state_in S.Store tx.new) (λ _. ⊥) }
-{
-    run(tx, "INSERT INTO withdrawals VALUES (?1)", params![number])
+/// The mark of a deposit.
+#[derive(Drop)]
+pub(crate) struct NewMark {
+    pub number: u32,
 }
 
-/// Adds the mark of a deposit in a transaction of its own.
-#[tactic(auto, using(crate::proofs::AddsLemmas::undone_by))]
-fn store_mark<S: Alter>(conn: &mut Connection<S>, number: u32) -> Result<(), Error>
-    requires mode { conn.old.in_transaction ≡ false }
-    requires schema { HasCleanDisk (state S.Store conn.old) → (state S.Store conn.old).now.schema ≡ register_schema }
+impl Change for NewMark {
+    ghost from = { λ _. register_schema };
 
-    // The connection and the mark at success.
-    ensures open { HasCleanDisk (state S.Store conn.new) → OnOk result (IsTrue (state S.Store conn.new).is_open) }
-    ensures put { Changes result (AddsMark number) (state S.Store conn.old) (state S.Store conn.new) }
-    ensures settled { CommitsAll result (state S.Store conn.new) }
+    ghost makes = { λ it. AddsMark it.number };
 
-    // What is undone at an error that leaves the connection open.
-    ensures undone { UndoesIfOpen result (state S.Store conn.old) (state S.Store conn.new) }
-
-    // The transaction in either case, and what a crash may leave.
-    ensures mode { conn.new.in_transaction ≡ false }
-    ensures crash { Survives (state S.Store conn.old) (state S.Store conn.new)
-        (MarksOf (state S.Store conn.old) number) }
-{
-    let mut tx = conn.transaction();
-    insert_mark(&mut tx, number)?;
-    tx.commit()?;
-    Ok(())
-}
-
-/// Adds the mark of a deposit. Want of memory is answered only where nothing changed.
-#[tactic(auto, using(crate::proofs::QueryLemmas::settled_undone))]
-pub(crate) fn add_mark<S: Alter>(conn: &mut Connection<S>, number: u32) -> Result<(), KeepError>
-    requires mode { conn.old.in_transaction ≡ false }
-    requires schema { HasCleanDisk (state S.Store conn.old) → (state S.Store conn.old).now.schema ≡ register_schema }
-
-    // The mark at success, as it is added and committed.
-    ensures put { Changes result (AddsMark number) (state S.Store conn.old) (state S.Store conn.new) }
-    ensures settled { CommitsAll result (state S.Store conn.new) }
-
-    // Which refusal never comes, and what is undone at one that is not `Store`.
-    ensures refused { IfErr result (λ e. e ≢ KeepError.Full) }
-    ensures undone { UndoesUnlessFailed result (state S.Store conn.old) (state S.Store conn.new) }
-
-    // Transaction and connection in either case, and what a crash may leave.
-    ensures mode { conn.new.in_transaction ≡ false }
-    ensures open { HasCleanDisk (state S.Store conn.new) → fails result ≡ false
-        → IsTrue (state S.Store conn.new).is_open }
-    ensures crash { Survives (state S.Store conn.old) (state S.Store conn.new)
-        (MarksOf (state S.Store conn.old) number) }
-{
-    match store_mark(conn, number) {
-        Ok(()) => Ok(()),
-        Err(error) => {
-            if is_refused(conn, &error) {
-                Err(KeepError::NoMemory)
-            } else {
-                Err(KeepError::Store)
-            }
-        }
+    fn make<S: Alter>(&self, tx: &mut Transaction<'_, S>) -> Result<(), Error> {
+        run(
+            tx,
+            "INSERT INTO withdrawals VALUES (?1)",
+            params![self.number],
+        )
     }
 }
 

@@ -15,11 +15,12 @@ ghost use Rattle.reg_tables.specs.Tables.{first_schema};
 ghost use Rattle.reg_tables.specs.declared.format.Format.TheVariants.{First};
 
 use crate::adopting::AdoptError;
+use crate::change::change_tables;
 use crate::examining::examine;
 use crate::format::Format;
 use crate::memory::Memory;
 use crate::opening::{close_file, connect};
-use crate::raising::raise_register;
+use crate::raising::SecondFormat;
 use crate::repeats::Digests;
 use crate::sql::SqlKeep;
 use crate::versions::test_tables;
@@ -163,7 +164,7 @@ fn migrate_tables<S: Alter>(
         Ok(known) => known,
         Err(error) => return Err(error),
     };
-    match raise_register(conn) {
+    match change_tables(conn, &SecondFormat) {
         Ok(()) => Ok(known),
         Err(error) => Err(AdoptError::from(error)),
     }

@@ -19,7 +19,8 @@ ghost use Rattle.reg_tables.specs.declared.format.Format.TheVariants.{Second};
 ghost use Rattle.reg_tables.specs.Opened.{AdoptsFiles, FindsEmpty, FindsNotEmpty, RefusesFiles};
 
 use crate::adopting::AdoptError;
-use crate::creating::make_register;
+use crate::change::change_tables;
+use crate::creating::NewTables;
 use crate::format::Format;
 use crate::memory::Memory;
 use crate::reading::read_error;
@@ -95,7 +96,7 @@ fn fill<S: Alter>(conn: &mut Connection<S>, bytes: &[u8]) -> Result<(), CreateEr
     if !conn.is_autocommit() {
         return Err(CreateError::Store);
     }
-    match make_register(conn, bytes) {
+    match change_tables(conn, &NewTables { dictionary: bytes }) {
         Ok(()) => Ok(()),
         Err(KeepError::NoMemory) => Err(CreateError::NoMemory),
         Err(_) => Err(CreateError::Store),

@@ -6,7 +6,7 @@ ghost use Rattle.sqlite.specs.State.{HasCleanDisk, Survives, IsUnchanged};
 ghost use Rattle.sqlite.specs.Held.{state};
 ghost use Rattle.reg_tables.specs.Quiet.{IsIdle, IsSettled, IsStill, StaysIfOpen};
 ghost use Rattle.reg_tables.specs.Found.{FindsShown, OnlyReads};
-ghost use Rattle.reg_store.specs.Keep.{fails};
+ghost use Rattle.reg_store.specs.Keep.{fails, is_store};
 
 use reg_store::KeepError;
 use sqlite::types::ValueRef;
@@ -36,20 +36,22 @@ fn is_open<S: Alter>(conn: &mut Connection<S>) -> bool
     }
 }
 
-/// Whether memory was refused to a call, and the connection is known to be open. If not, the store failed.
+/// Why a call failed. Want of memory is answered only where the connection is known to be open.
 #[tactic(auto, using(crate::proofs::QueryLemmas::survives_none))]
-pub(crate) fn is_refused<S: Alter>(conn: &mut Connection<S>, error: &Error) -> bool
+pub(crate) fn refusal<S: Alter>(conn: &mut Connection<S>, error: &Error) -> KeepError
     requires settled { HasCleanDisk (state S.Store conn.old) → IsSettled (state S.Store conn.old) }
-    ensures known { HasCleanDisk (state S.Store conn.new) → IsTrue result
+    ensures known { HasCleanDisk (state S.Store conn.new) → is_store result ≡ false
         → IsUnchanged (state S.Store conn.old) (state S.Store conn.new) }
+    ensures refused { result ≢ KeepError.Full }
     ensures still { StaysIfOpen (state S.Store conn.old) (state S.Store conn.new) }
     ensures mode { conn.old.in_transaction ≡ false → conn.new.in_transaction ≡ false }
     ensures crash { Survives (state S.Store conn.old) (state S.Store conn.new) (λ _. ⊥) }
 {
-    if !is_memory(error) {
-        return false;
+    if is_memory(error) && is_open(conn) {
+        KeepError::NoMemory
+    } else {
+        KeepError::Store
     }
-    is_open(conn)
 }
 
 fn ask<S: Alter>(
@@ -69,7 +71,6 @@ fn ask<S: Alter>(
 }
 
 /// The rows that a query of the register shows. Want of memory is answered only where the connection is known to be open.
-#[tactic(auto, using(crate::proofs::QueryLemmas::failed_quiet, crate::proofs::QueryLemmas::failed_then))]
 pub(crate) fn query<S: Alter>(
     conn: &mut Connection<S>,
     sql: &str,
@@ -85,12 +86,6 @@ pub(crate) fn query<S: Alter>(
 {
     match ask(conn, sql, params) {
         Ok(rows) => Ok(rows),
-        Err(error) => {
-            if is_refused(conn, &error) {
-                Err(KeepError::NoMemory)
-            } else {
-                Err(KeepError::Store)
-            }
-        }
+        Err(error) => Err(refusal(conn, &error)),
     }
 }

@@ -9,8 +9,9 @@ ghost use Rattle.reg_tables.specs.Memory.{Agrees};
 ghost use Rattle.reg_tables.specs.Register.{deposits_in, KeepsIfClean, KeepsRegister, LeavesBroken, LeavesList};
 
 use crate::adding::add_checked;
+use crate::change::change_tables;
 use crate::graph::read_graph;
-use crate::marks::add_mark;
+use crate::marks::NewMark;
 use crate::memory::{Memory, copy_project};
 use crate::project::{find_project, find_targets};
 use crate::reading::{find_deposit, find_lines};
@@ -144,7 +145,7 @@ impl<S: Alter> Keep for SqlKeep<S> {
     }
 
     fn withdraw(&mut self, n: u32) -> Result<(), KeepError> {
-        match add_mark(&mut self.connection, n) {
+        match change_tables(&mut self.connection, &NewMark { number: n }) {
             Ok(()) => {
                 self.memory.mark(n);
                 Ok(())

@@ -12,7 +12,7 @@ ghost use Rattle.reg_tables.specs.Adoption.{Adopts, is_store_failure};
 
 use crate::adopting::{AdoptError, other_format};
 use crate::format::Format;
-use crate::queries::is_refused;
+use crate::queries::refusal;
 use crate::schema::{is_meta, is_register};
 use sqlite::{Alter, Connection, Error, Row};
 use sqlite_schema::schema::Schema;
@@ -44,7 +44,6 @@ fn ask_meta<S: Alter>(conn: &mut Connection<S>) -> Result<Vec<Row>, Error>
 /// Why a database is refused whose first table is meta, and whose tables are not those of the format.
 ///
 /// Another number of the format comes before that it is no register.
-#[tactic(auto, using(crate::proofs::QueryLemmas::still_then))]
 fn refuse_tables<S: Alter>(conn: &mut Connection<S>, format: Format) -> AdoptError
     requires mode { conn.old.in_transaction ≡ false }
     requires meta { StartsWithMeta (state S.Store conn.old).now.schema }
@@ -61,13 +60,7 @@ fn refuse_tables<S: Alter>(conn: &mut Connection<S>, format: Format) -> AdoptErr
             Some(number) => AdoptError::Version(number),
             None => AdoptError::NotRegister,
         },
-        Err(error) => {
-            if is_refused(conn, &error) {
-                AdoptError::NoMemory
-            } else {
-                AdoptError::Store
-            }
-        }
+        Err(error) => AdoptError::from(refusal(conn, &error)),
     }
 }
 

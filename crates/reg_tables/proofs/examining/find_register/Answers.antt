@@ -2,17 +2,13 @@ use Rattle.std.proofs.Common.{rules, ◌≡◌, ◌+◌, true, false, None, Some
 use Rattle.sqlite.specs.Effect.{Database}
 use Rattle.sqlite.specs.State.{State}
 use Rattle.sqlite.specs.Held.{state}
-use Rattle.reg_store.specs.declared.keep.KeepError.{KeepError}
-use Rattle.reg_store.specs.declared.keep.KeepError.TheVariants as keep
-use Rattle.reg_store.specs.Keep.{is_store}
-use Rattle.reg_tables.specs.declared.format.Format.{Format}
-use Rattle.reg_tables.specs.declared.adopting.AdoptError.{AdoptError}
-use Rattle.reg_tables.specs.Adoption.{Examines, adopt_error, is_store_failure}
-use Rattle.reg_tables.specs.Quiet.{IsStill, clean_before, idle_then, quiet_read, quiet_then}
+use Rattle.reg_tables.specs.Adoption.{Examines}
+use Rattle.reg_tables.specs.Quiet.{clean_before, idle_then, quiet_then}
 use Rattle.reg_tables.specs.Whole.{AreWhole, Counts, Tests}
 use Rattle.reg_tables.specs.Digests.{HoldsDigests}
 use Rattle.reg_tables.specs.Heads.{HoldsHeads}
 use Rattle.reg_tables.proofs.ExamineLemmas.{finds_none, finds_whole, none_examines, tests_false, tests_true}
+use Rattle.reg_tables.proofs.QueryLemmas.{fault_is, fault_quiet}
 use Rattle.reg_tables.proofs.examining.find_register.Goals as goal
 
 pub holds_deposits-requires-clause-idle : goal.holds_deposits-requires-clause-idle
@@ -67,20 +63,8 @@ returns-in-Ok-false-clause-refused g c clean format schema meta =
 pub returns-in-Ok-false-clause-quiet : goal.returns-in-Ok-false-clause-quiet
 returns-in-Ok-false-clause-quiet g c = quiet_then _ _ _ _ c.in-Ok-Some.ensures.quiet c.in-Ok-false.ensures.quiet
 
--- what a keep's failure is answered says nothing of the tables
-fault_examines : (format : Format) (db : Database) (e : KeepError) (a : AdoptError) → a ≡ adopt_error e → Examines format db (Err a)
-fault_examines format db keep.Full a is = subst (λ (x : AdoptError). Examines format db (Err x)) (sym is) tt
-fault_examines format db keep.Store a is = subst (λ (x : AdoptError). Examines format db (Err x)) (sym is) tt
-fault_examines format db keep.NoMemory a is = subst (λ (x : AdoptError). Examines format db (Err x)) (sym is) tt
-
--- it is a failure of the store where the keep failed
-fault_quiet : (old new : State) (e : KeepError) (a : AdoptError) → a ≡ adopt_error e → IsStill old new (is_store e) → IsStill old new (is_store_failure a)
-fault_quiet old new keep.Full a is quiet = subst (λ (x : AdoptError). IsStill old new (is_store_failure x)) (sym is) (quiet_read old new true quiet)
-fault_quiet old new keep.Store a is quiet = subst (λ (x : AdoptError). IsStill old new (is_store_failure x)) (sym is) quiet
-fault_quiet old new keep.NoMemory a is quiet = subst (λ (x : AdoptError). IsStill old new (is_store_failure x)) (sym is) quiet
-
 pub returns-in-Err-clause-refused : goal.returns-in-Err-clause-refused
-returns-in-Err-clause-refused g c _ format schema meta = fault_examines format (state g.S.Store c.args.conn.now).now c.in-Err.error c.from.result c.from.ensures
+returns-in-Err-clause-refused g c _ format schema meta = fault_is (λ a. Examines format (state g.S.Store c.args.conn.now).now (Err a)) c.in-Err.error c.from.result c.from.ensures tt tt
 
 pub returns-in-Err-clause-quiet : goal.returns-in-Err-clause-quiet
 returns-in-Err-clause-quiet g c = fault_quiet (state g.S.Store c.args.conn.now) (state g.S.Store c.find_count.new.conn) c.in-Err.error c.from.result c.from.ensures c.in-Err.ensures.quiet

@@ -1,11 +1,10 @@
-use Rattle.std.proofs.Common.{rules, ◌≡◌, ◌∙◌, ℤ, IsTrue, to_z, of_z, w64, Err, refl, subst}
+use Rattle.std.proofs.Common.{rules, ◌≡◌, ℤ, to_z, of_z, w64, Err, refl, subst}
 use Rattle.sqlite.specs.Held.{state}
 use Rattle.sqlite.proofs.StateLemmas.{survives_then}
 use Rattle.reg_tables.specs.declared.adopting.AdoptError.TheVariants.{Version}
 use Rattle.reg_tables.specs.Adoption.{Adopts}
-use Rattle.reg_tables.specs.Quiet.{clean_before}
 use Rattle.reg_tables.proofs.FormatLemmas.{refused_format, refused_tables}
-use Rattle.reg_tables.proofs.QueryLemmas.{both_open, settled_then}
+use Rattle.reg_tables.proofs.QueryLemmas.{both_open, fault_is, fault_quiet, refused_quiet, settled_then, still_then}
 use Rattle.reg_tables.proofs.versions.refuse_tables.Goals as goal
 
 pub returns-in-Some-clause-refused : goal.returns-in-Some-clause-refused
@@ -34,23 +33,21 @@ returns-in-Ok-clause-same g c clean well = let o = c.in-Ok.ensures.open clean in
 pub returns-in-Ok-clause-still : goal.returns-in-Ok-clause-still
 returns-in-Ok-clause-still g c = c.ask_meta.ensures.same
 
-pub returns-then-is_refused-clause-same : goal.returns-then-is_refused-clause-same
-returns-then-is_refused-clause-same g c clean well =
-    let is : IsTrue c.is_refused.result = search rules in
-    let at = (c.is_refused.ensures.known clean is).0 in
-    let early = clean_before (state g.S.Store c.ask_meta.new.conn) (state g.S.Store c.is_refused.new.conn) c.is_refused.ensures.crash clean in
-    let was = c.ask_meta.ensures.same early at.was_open in (both_open at.is_open was.0, at.now_is ∙ was.1, at.committed_is ∙ was.2)
+pub returns-clause-refused : goal.returns-clause-refused
+returns-clause-refused g c clean = fault_is (λ a. Adopts c.args.format (state g.S.Store c.args.conn.now).now (Err a)) c.refusal.result c.from.result c.from.ensures tt tt
 
-pub returns-then-is_refused-clause-still : goal.returns-then-is_refused-clause-still
-returns-then-is_refused-clause-still g c clean is_open =
-    let is : IsTrue c.is_refused.result = search rules in
-    let at = (c.is_refused.ensures.known clean is).0 in
-    let early = clean_before (state g.S.Store c.ask_meta.new.conn) (state g.S.Store c.is_refused.new.conn) c.is_refused.ensures.crash clean in
-    let was = c.ask_meta.ensures.same early at.was_open in (was.0, at.now_is ∙ was.1, at.committed_is ∙ was.2)
+pub returns-clause-same : goal.returns-clause-same
+returns-clause-same g c clean well =
+    let old = state g.S.Store c.args.conn.now in
+    let new = state g.S.Store c.refusal.new.conn in
+    let quiet = fault_quiet old new c.refusal.result c.from.result c.from.ensures (refused_quiet old (state g.S.Store c.ask_meta.new.conn) new _ (c.refusal.ensures.mode c.ask_meta.ensures.mode) c.ask_meta.ensures.same c.ask_meta.ensures.crash c.refusal.ensures.known c.refusal.ensures.still c.refusal.ensures.crash) in
+    (quiet.is_open clean well, (quiet.same clean well).0, (quiet.same clean well).1)
 
-pub returns-then-is_refused-clause-crash : goal.returns-then-is_refused-clause-crash
-returns-then-is_refused-clause-crash g c =
-    survives_then (state g.S.Store c.args.conn.now) (state g.S.Store c.ask_meta.new.conn) (state g.S.Store c.is_refused.new.conn) _ _ (λ _. ⊥) (λ _ db none. none) (λ _ db none. none) c.ask_meta.ensures.crash c.is_refused.ensures.crash
+pub returns-clause-still : goal.returns-clause-still
+returns-clause-still g c = still_then (state g.S.Store c.args.conn.now) (state g.S.Store c.ask_meta.new.conn) (state g.S.Store c.refusal.new.conn) c.ask_meta.ensures.same c.refusal.ensures.still c.refusal.ensures.crash
 
-pub is_refused-requires : goal.is_refused-requires
-is_refused-requires g c = record { settled = settled_then (state g.S.Store c.args.conn.now) (state g.S.Store c.ask_meta.new.conn) c.requires.settled c.ask_meta.ensures.same c.ask_meta.ensures.crash }
+pub returns-clause-crash : goal.returns-clause-crash
+returns-clause-crash g c = survives_then (state g.S.Store c.args.conn.now) (state g.S.Store c.ask_meta.new.conn) (state g.S.Store c.refusal.new.conn) _ _ (λ _. ⊥) (λ _ db none. none) (λ _ db none. none) c.ask_meta.ensures.crash c.refusal.ensures.crash
+
+pub refusal-requires : goal.refusal-requires
+refusal-requires g c = record { settled = settled_then (state g.S.Store c.args.conn.now) (state g.S.Store c.ask_meta.new.conn) c.requires.settled c.ask_meta.ensures.same c.ask_meta.ensures.crash }

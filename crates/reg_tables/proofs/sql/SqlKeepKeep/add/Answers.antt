@@ -91,8 +91,8 @@ more g c clean =
     let old = state g.S.Store keep.connection in
     let new = state g.S.Store c.add_checked-added.new.conn in
     let first = clean_before old new c.add_checked-added.ensures.crash clean in
-    let put = subst (λ n. AddsFile (n + 1) (added g c) (kept_rows c.args.checked.now.groups) c.args.checked.now.graph.steps old.now new.now) c.count-count.ensures (c.in-Ok-added.ensures.put clean) in
-    next_at {old = old} {new = new} (Change g c) (next g c) (keep.kept c.requires.working first) (turns g c clean) put (c.in-Ok-added.ensures.sound clean) (c.in-Ok-added.ensures.settled clean) (c.in-Ok-added.ensures.open clean refl)
+    let put = subst (λ n. AddsFile (n + 1) (added g c) (kept_rows c.args.checked.now.groups) c.args.checked.now.graph.steps old.now new.now) c.count-count.ensures (c.in-Ok-added.ensures.put clean).change in
+    next_at {old = old} {new = new} (Change g c) (next g c) (keep.kept c.requires.working first) (turns g c clean) put (c.in-Ok-added.ensures.put clean).sound (c.in-Ok-added.ensures.settled clean) (c.in-Ok-added.ensures.open clean refl)
 
 -- it counts one more
 counts : (g : Over) (c : goal.After-push g) → HasCleanDisk (state g.S.Store c.add_checked-added.new.conn) → length (next g c) ≡ length c.args.self.now.memory.known.items + 1

@@ -3,7 +3,7 @@ use Rattle.std.proofs.lemmas.Result.{on_ok_weaker}
 use Rattle.sqlite.specs.State.{HasCleanDisk}
 use Rattle.sqlite.specs.Held.{state}
 use Rattle.reg_tables.proofs.CreateLemmas.{all_ran}
-use Rattle.reg_tables.proofs.creating.make_tables.Goals as goal
+use Rattle.reg_tables.proofs.creating.NewTablesChange.make.Goals as goal
 
 pub returns-clause-made : goal.returns-clause-made
 returns-clause-made g c clean =
@@ -15,5 +15,5 @@ returns-clause-made g c clean =
     let late : HasCleanDisk last = omega (arith, c.run.ensures.survives.clean) in
     let later : HasCleanDisk four = omega (arith, c.create_withdrawals.ensures.survives.clean) in
     let early : HasCleanDisk mid = omega (arith, c.create_second.ensures.survives.clean) in
-    on_ok_weaker c.run.result (all_ran c.args.dictionary.now old mid four last new (c.in_ok-create_first.ensures.made early) (c.in_ok-create_second.ensures.made later) (c.in_ok-create_withdrawals.ensures.made late))
+    on_ok_weaker c.run.result (all_ran c.args.self.now.dictionary.now old mid four last new (c.in_ok-create_first.ensures.made early) (c.in_ok-create_second.ensures.made later) (c.in_ok-create_withdrawals.ensures.made late))
     (rw c.params-to_sql.ensures at (c.run.ensures.ran clean))

@@ -3,7 +3,7 @@ use Rattle.std.proofs.lemmas.Result.{on_ok_weaker}
 use Rattle.sqlite.specs.State.{HasCleanDisk}
 use Rattle.sqlite.specs.Held.{state}
 use Rattle.reg_tables.proofs.MigrateLemmas.{changes_tables}
-use Rattle.reg_tables.proofs.raising.change_tables.Goals as goal
+use Rattle.reg_tables.proofs.raising.add_marks.Goals as goal
 
 pub returns-clause-changed : goal.returns-clause-changed
 returns-clause-changed g c clean =
