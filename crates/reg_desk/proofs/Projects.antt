@@ -193,14 +193,6 @@ of_file_before keep old new number Holds reads s holds = λ d file at is.
     holds d file (ap (λ (l : List Deposit). slice_get (sents l) (number - 1)) (reads.same s refl) ∙ at)
     (subst (λ (e : Entries). IsFileOf e d file) (sym reads.same_dictionary) is)
 
-pub of_file_after : {K : Type 0} (keep : Ghosts K) (old new : K) (number : ℕ) (Holds : CheckedFile → Type 0)
-    → OnlyReads keep old new false → keep.is_sound new
-    → OfDeposit (keep.dictionary old) (sents (keep.deposits old)) number Holds
-    → OfDeposit (keep.dictionary new) (sents (keep.deposits new)) number Holds
-of_file_after keep old new number Holds reads s holds = λ d file at is.
-    holds d file (ap (λ (l : List Deposit). slice_get (sents l) (number - 1)) (sym (reads.same s refl)) ∙ at)
-    (subst (λ (e : Entries). IsFileOf e d file) reads.same_dictionary is)
-
 -- a number of the list stays one
 pub within_after : {K : Type 0} (keep : Ghosts K) (old new : K) (number : ℕ) → OnlyReads keep old new false → (keep.is_sound old → (0 < number) × (number ≤ length (keep.deposits old)))
     → keep.is_sound new → (0 < number) × (number ≤ length (keep.deposits new))

@@ -16,7 +16,7 @@ use Rattle.ags_check.specs.Findings.{CheckedFile}
 use Rattle.reg_store.specs.declared.keep.KeptRow.{KeptRow}
 use Rattle.reg_store.specs.Fit.{kept_row, group_rows, kept_rows}
 use Rattle.reg_desk.specs.Extract.{IsOfRows, IsRowOrEmpty}
-use Rattle.reg_desk.specs.View.{IsRow, IsViewOf, is_written, line_end, line_where, plain_lines, separator, text_from, with_group}
+use Rattle.reg_desk.specs.View.{IsSpelledRow, IsViewOf, is_written, line_end, line_where, plain_lines, separator, text_from, with_group}
 use Rattle.reg_desk.proofs.Bridges.{kept_contents, lines_count, row_spelled}
 
 -- ---- texts that are made of rows
@@ -50,7 +50,7 @@ with_rows : (written : Bool) (done group : List ℕ) → IsOfRows done → IsOfR
 with_rows true done group d g = joined done group d g
 with_rows false done group d g = d
 
-from_rows : (done group : List ℕ) (written : Bool) (rows : List KeptRow) (marks : List Bool) → AllByRecursion IsRow rows → IsOfRows done → IsOfRows group → IsOfRows (text_from done group written rows marks)
+from_rows : (done group : List ℕ) (written : Bool) (rows : List KeptRow) (marks : List Bool) → AllByRecursion IsSpelledRow rows → IsOfRows done → IsOfRows group → IsOfRows (text_from done group written rows marks)
 from_rows done group written [] marks each d g = with_rows written done group d g
 from_rows done group written (row ∷ rows) marks each d g =
     go (row.kind == 0) (row.kind == 4) (λ before text some left b t. from_rows before text some rows left each.1 b t)
@@ -65,16 +65,16 @@ from_rows done group written (row ∷ rows) marks each d g =
     go false false more = more done (group ++ row.line ++ line_end) written marks d (row_more group row.line g (inr each.0))
 
 -- what is written of rows
-pub rows_written : (rows : List KeptRow) (marks : List Bool) (text : List ℕ) → All IsRow rows → text ≡ text_from [] [] false rows marks → IsOfRows text
-rows_written rows marks text each wrote = subst IsOfRows (sym wrote) (from_rows [] [] false rows marks (recursion_from_All IsRow rows each) no_rows no_rows)
+pub rows_written : (rows : List KeptRow) (marks : List Bool) (text : List ℕ) → All IsSpelledRow rows → text ≡ text_from [] [] false rows marks → IsOfRows text
+rows_written rows marks text each wrote = subst IsOfRows (sym wrote) (from_rows [] [] false rows marks (recursion_from_All IsSpelledRow rows each) no_rows no_rows)
 
 -- ---- what is kept of a file is rows
 
-data_are : (name : List ℕ) (rows : List (List (List ℕ))) → AllByRecursion ArePlain rows → AllByRecursion IsRow (map (kept_row name kinds.Data) rows)
+data_are : (name : List ℕ) (rows : List (List (List ℕ))) → AllByRecursion ArePlain rows → AllByRecursion IsSpelledRow (map (kept_row name kinds.Data) rows)
 data_are name [] plain = tt
 data_are name (fields ∷ rows) plain = ((descriptor_text kinds.Data ∷ fields, row_spelled kinds.Data fields plain.0), data_are name rows plain.1)
 
-group_are : (g : Contents) → IsPlainGroup g → AllByRecursion IsRow (group_rows g)
+group_are : (g : Contents) → IsPlainGroup g → AllByRecursion IsSpelledRow (group_rows g)
 group_are g plain = (
   (descriptor_text kinds.Group ∷ g.name ∷ [], row_spelled kinds.Group (g.name ∷ []) (plain.name, tt)),
   (
@@ -89,14 +89,14 @@ group_are g plain = (
   ),
 )
 
-file_are : (file : List Contents) → AllByRecursion IsPlainGroup file → All IsRow (flat_map group_rows file)
-file_are [] plain = All-nil IsRow
-file_are (g ∷ file) plain = All-append IsRow (group_rows g) (flat_map group_rows file) (All-from_recursion IsRow (group_rows g) (group_are g plain.0)) (file_are file plain.1)
+file_are : (file : List Contents) → AllByRecursion IsPlainGroup file → All IsSpelledRow (flat_map group_rows file)
+file_are [] plain = All-nil IsSpelledRow
+file_are (g ∷ file) plain = All-append IsSpelledRow (group_rows g) (flat_map group_rows file) (All-from_recursion IsSpelledRow (group_rows g) (group_are g plain.0)) (file_are file plain.1)
 
-pub kept_are : (bytes : List ℕ) (groups : List Group) → FileGroups bytes groups → All IsRow (kept_rows groups)
-kept_are bytes groups read = subst (λ (rows : List KeptRow). All IsRow rows) (sym (kept_contents groups)) (file_are (contents_of groups) (read_plain bytes groups read).1)
+pub kept_are : (bytes : List ℕ) (groups : List Group) → FileGroups bytes groups → All IsSpelledRow (kept_rows groups)
+kept_are bytes groups read = subst (λ (rows : List KeptRow). All IsSpelledRow rows) (sym (kept_contents groups)) (file_are (contents_of groups) (read_plain bytes groups read).1)
 
 -- the rows of a view are a file's
-pub not_broken : (rows : List KeptRow) (graph : StepGraph) (file : CheckedFile) → IsViewOf rows graph file → (All IsRow rows → length (plain_lines [] rows) ≢ graph.rows) → ⊥
+pub not_broken : (rows : List KeptRow) (graph : StepGraph) (file : CheckedFile) → IsViewOf rows graph file → (All IsSpelledRow rows → length (plain_lines [] rows) ≢ graph.rows) → ⊥
 not_broken rows graph file view broken =
-    broken (subst (λ (l : List KeptRow). All IsRow l) (sym view.same_rows) (kept_are file.bytes file.groups view.clean.groups)) (lines_count (plain_lines [] rows) rows graph file refl view)
+    broken (subst (λ (l : List KeptRow). All IsSpelledRow l) (sym view.same_rows) (kept_are file.bytes file.groups view.clean.groups)) (lines_count (plain_lines [] rows) rows graph file refl view)

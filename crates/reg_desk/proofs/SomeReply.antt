@@ -20,7 +20,7 @@ use Rattle.reg_desk.specs.declared.answer.Answer.{Answer}
 use Rattle.reg_desk.specs.declared.answer.Answer.TheVariants.{Clean, Findings, Listing, Text, Denied, Unknown, TooLarge}
 use Rattle.reg_desk.specs.Shown.{Look, IsDrawnAt}
 use Rattle.reg_desk.specs.Extract.{extract_contents, IsExtractText}
-use Rattle.reg_desk.specs.Machine.{Terms, decided, look_at, IsSeen, IsTextOf, OrDenied, OrFound, OrRefused, first_equal, receipt_of, listed_line, IsListing, held, IsDrawnFrom, withdrawal_of, Changes, IsNext, IsRun}
+use Rattle.reg_desk.specs.Machine.{Terms, decided, look_at, IsSeen, IsTextOf, OrDenied, OrFound, OrRefused, first_equal, receipt_of, listed_of, IsListing, held, IsDrawnFrom, withdrawal_of, Changes, IsNext, IsRun}
 use Rattle.reg_desk.specs.Laws.{ThereIs, SomeReply, SomeRun, NoLeak, with_bytes}
 use Rattle.reg_desk.proofs.SomeFindings.{either, some_findings}
 use Rattle.reg_desk.proofs.Walks.{drawn_shown}
@@ -62,10 +62,10 @@ some_listing terms caller project day n (kept ∷ state) none =
     let rest = some_listing terms caller project day (n + 1) state in
     where_seen (bytes_eq kept.sent.project project) (IsSeen terms caller day kept)
     (λ lines.
-    (more : List Listed) × (lines ≡ listed_line n kept.sent ∷ more)
+    (more : List Listed) × (lines ≡ listed_of n kept.sent ∷ more)
     × IsListing terms caller project day (n + 1) state more)
     (IsListing terms caller project day (n + 1) state)
-    (λ seen absent. rest (λ more h. absent (listed_line n kept.sent ∷ more) (more, refl, h))) rest none
+    (λ seen absent. rest (λ more h. absent (listed_of n kept.sent ∷ more) (more, refl, h))) rest none
 
 some_drawn : (terms : Terms) (caller : Caller) (project : List ℕ) (groups : List (List ℕ)) (day : ℤ)
     (of : Option Deposit) → ThereIs (IsDrawnFrom terms caller project groups day of)

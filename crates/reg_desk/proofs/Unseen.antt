@@ -12,7 +12,7 @@ use Rattle.reg_desk.specs.Asked.{Asked, listing, withdraw}
 use Rattle.reg_desk.specs.declared.answer.Listed.{Listed}
 use Rattle.reg_desk.specs.declared.answer.Answer.{Answer}
 use Rattle.reg_desk.specs.declared.answer.Answer.TheVariants.{Listing}
-use Rattle.reg_desk.specs.Machine.{Terms, decided, IsSeen, listed_line, IsListing, held, IsReply, IsRun}
+use Rattle.reg_desk.specs.Machine.{Terms, decided, IsSeen, listed_of, IsListing, held, IsReply, IsRun}
 use Rattle.reg_desk.specs.Laws.{WithdrawnStaysHidden}
 use Rattle.reg_desk.proofs.Taken.{not_denied, withdrawn_own}
 use Rattle.reg_desk.proofs.Runs.{given_by}
@@ -47,7 +47,7 @@ others_listed terms caller project day number n (d ∷ state) never lines h =
     by : (t : Bool)
         → ((more : List Listed) → IsListing terms caller project day (n + 1) state more → AreOthers number more)
         → MatchBool t
-        ((IsSeen terms caller day d × ((more : List Listed) × (lines ≡ listed_line n d.sent ∷ more)
+        ((IsSeen terms caller day d × ((more : List Listed) × (lines ≡ listed_of n d.sent ∷ more)
         × IsListing terms caller project day (n + 1) state more))
         ⊎ ((IsSeen terms caller day d → ⊥) × IsListing terms caller project day (n + 1) state lines))
         (IsListing terms caller project day (n + 1) state lines) → AreOthers number lines

@@ -22,5 +22,6 @@ abbrev pub asked : Request → Asked
 asked (requests.Deposit caller project embargo bytes day) = deposit caller.now project.now embargo bytes.now day
 asked (requests.Check caller project bytes day) = check caller.now project.now bytes.now day
 asked (requests.List caller project day) = listing caller.now project.now day
-asked (requests.Extract caller project number groups day) = extract caller.now project.now number (names_in groups.now) day
+asked (requests.Extract caller project number groups day) =
+    extract caller.now project.now number (names_in groups.now) day
 asked (requests.Withdraw caller project number day) = withdraw caller.now project.now number day

@@ -12,9 +12,11 @@ use Rattle.reg_desk.specs.Laws.{WasExtracted, IsShownWhole}
 use Rattle.reg_desk.specs.Machine.{held}
 use Rattle.reg_desk.specs.Serving.{is_failed, terms_at, Serves, ShowsRows}
 
--- The desk before, what it is asked, its answer, and the desk after. A desk that failed answers StoreFailed and keeps what it has;
--- else the request is served over its keep under its policy, which stays. An extract is made of rows, also over a keep that is not sound.
-pub record AnsweredBy {K : Type 0} (keep : Ghosts K) (old : Desk K keep) (request : Asked) (answer : Answer) (new : Desk K keep) : Type 0 where
+-- The desk before, what it is asked, its answer, and the desk after. A desk that failed answers StoreFailed and keeps
+-- what it has; else the request is served over its keep under its policy, which stays. An extract is made of rows, also
+-- over a keep that is not sound.
+pub record AnsweredBy {K : Type 0} (keep : Ghosts K) (old : Desk K keep) (request : Asked) (answer : Answer)
+    (new : Desk K keep) : Type 0 where
   pub policy : new.policy ≡ old.policy
   pub failed : new.failed ≡ is_failed answer
   pub stuck : old.failed ≡ true → (answer ≡ StoreFailed) × (new.keep ≡ old.keep)
@@ -22,7 +24,8 @@ pub record AnsweredBy {K : Type 0} (keep : Ghosts K) (old : Desk K keep) (reques
   pub rows : ShowsRows request answer
 
 -- One answer for each request, in order: each request is answered so by the desk that the one before it left.
-abbrev pub AreAnsweredBy : {K : Type 0} (keep : Ghosts K) → Desk K keep → List Asked → List Answer → Desk K keep → Type 0
+abbrev pub AreAnsweredBy : {K : Type 0} (keep : Ghosts K) → Desk K keep → List Asked → List Answer → Desk K keep
+    → Type 0
 AreAnsweredBy keep old [] [] new = new ≡ old
 AreAnsweredBy {K} keep old (request ∷ requests) (answer ∷ answers) new =
     (next : Desk K keep) × AnsweredBy keep old request answer next × AreAnsweredBy keep next requests answers new
@@ -33,8 +36,8 @@ abbrev pub IsCleanText : {K : Type 0} → Ghosts K → K → Answer → Type 0
 IsCleanText keep old (Text text) = ∥ AreFindings (keep.dictionary old) text [] ∥₁
 IsCleanText keep old _ = Unit {0}
 
--- where all groups of a deposit are asked whose bytes are themselves the text of an extract, and every row of it is shown, the text
--- is these bytes
+-- where all groups of a deposit are asked whose bytes are themselves the text of an extract, and every row of it is
+-- shown, the text is these bytes
 abbrev pub IsSameText : {K : Type 0} → Ghosts K → List Rule → K → Asked → List ℕ → Type 0
 IsSameText keep rules old (extract caller project number [] day) text =
     (kept : Deposit) → held number (keep.deposits old) ≡ Some kept → WasExtracted (keep.dictionary old) kept.sent.bytes

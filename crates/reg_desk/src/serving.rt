@@ -17,7 +17,7 @@ use crate::request::Request;
 use crate::serving::body::serve_check;
 use crate::serving::deposit::serve_deposit;
 use crate::serving::drawing::serve_extract;
-use crate::serving::listing::serve_list;
+use crate::serving::listing::serve_listing;
 use crate::serving::withdrawal::serve_withdraw;
 use reg_policy::{Caller, Day, Decision, Name, Policy, Subject, Verb};
 use reg_store::{Keep, KeepError};
@@ -53,7 +53,7 @@ pub(crate) fn serve<K: Keep>(
             caller,
             project,
             day,
-        } => serve_list(alloc, keep, policy, caller, project, day),
+        } => serve_listing(alloc, keep, policy, caller, project, day),
         Request::Extract {
             caller,
             project,
@@ -95,7 +95,7 @@ fn refused(error: KeepError) -> Answer
 }
 
 /// Whether two names are one.
-fn is_same(one: &Name, other: &Name) -> bool
+fn are_equal_names(one: &Name, other: &Name) -> bool
     ensures { result ≡ bytes_eq one.now other.now }
 {
     one.text().as_bytes() == other.text().as_bytes()

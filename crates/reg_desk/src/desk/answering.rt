@@ -15,7 +15,8 @@ use reg_store::Keep;
 use std::alloc::{AllocError, Global};
 
 impl<K: Keep> Desk<K> {
-    /// Answers one request. Once the desk has answered StoreFailed it answers nothing else, also where memory is wanting.
+    /// Answers one request. Once the desk has answered StoreFailed it answers nothing else, also where memory is
+    /// wanting.
     pub fn answer(&mut self, alloc: Global, request: &Request<'_>) -> Answer
         ensures answered { AnsweredBy K.Keep self.old (asked request.entry.now) result self.new }
         ensures clean { K.is_sound self.new.keep → IsCleanText K.Keep self.old.keep result }
@@ -30,8 +31,8 @@ impl<K: Keep> Desk<K> {
         answer
     }
 
-    /// Answers requests in order. At `Err` the desk is as it was. That its policy and its keep's dictionary and limit stay, how many
-    /// answers there are, and whether it has failed then, follow from `answered` and `unasked`.
+    /// Answers requests in order. At `Err` the desk is as it was. That its policy and its keep's dictionary and limit
+    /// stay, how many answers there are, and whether it has failed then, follow from `answered` and `unasked`.
     pub fn run(
         &mut self,
         alloc: Global,

@@ -9,7 +9,7 @@ ghost use Rattle.reg_desk.specs.Serving.{IsAnswerOfRows, OfHeld, OnlyReads, Serv
 ghost use Rattle.reg_desk.specs.View.{DrawsFile, IsViewOf};
 
 use crate::answer::Answer;
-use crate::serving::{decide_request, is_same, refused};
+use crate::serving::{decide_request, are_equal_names, refused};
 use crate::view::{Look, extract};
 use ags_links::Graph;
 use ags_text::Sequence;
@@ -77,7 +77,7 @@ fn draw<K: Keep>(
         return Ok(None);
     }
     let head = keep.head(number)?;
-    if head.withdrawn || !is_same(&head.project, project) {
+    if head.withdrawn || !are_equal_names(&head.project, project) {
         return Ok(None);
     }
     let look = Look::at(policy, caller, &head, day);

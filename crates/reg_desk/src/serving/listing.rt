@@ -146,7 +146,7 @@ fn lines_of<K: Keep>(
 
 /// What a list is answered.
 #[tactic(none)]
-pub(super) fn serve_list<K: Keep>(
+pub(super) fn serve_listing<K: Keep>(
     alloc: Global,
     keep: &mut K,
     policy: &Policy,

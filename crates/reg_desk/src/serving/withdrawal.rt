@@ -7,7 +7,7 @@ ghost use Rattle.reg_desk.specs.Machine.{held};
 ghost use Rattle.reg_desk.specs.Serving.{OnlyReads, Serves, mark_of};
 
 use crate::answer::Answer;
-use crate::serving::{decide_request, is_same, refused};
+use crate::serving::{decide_request, are_equal_names, refused};
 use reg_policy::{Caller, Day, Decision, Name, Policy, Verb};
 use reg_store::{Keep, KeepError};
 
@@ -28,7 +28,7 @@ fn own_mark<K: Keep>(
         return Ok(None);
     }
     let head = keep.head(number)?;
-    if is_same(&head.project, project) && is_same(&head.firm, &caller.firm) {
+    if are_equal_names(&head.project, project) && are_equal_names(&head.firm, &caller.firm) {
         Ok(Some(head.withdrawn))
     } else {
         Ok(None)

@@ -15,7 +15,7 @@ fn is_marked(marks: &[bool], row: usize) -> bool
 }
 
 /// Appends a line and its end.
-fn push_line(out: &mut Vec<u8>, line: &[u8]) -> Result<(), AllocError>
+fn push_kept_line(out: &mut Vec<u8>, line: &[u8]) -> Result<(), AllocError>
     ensures { OnOk result (out.new.items ≡ out.old.items ++ line.now ++ line_end) }
 {
     out.extend_from_slice(line)?;
@@ -27,7 +27,7 @@ fn push_where(out: &mut Vec<u8>, line: &[u8], written: bool) -> Result<(), Alloc
     ensures { OnOk result (out.new.items ≡ out.old.items ++ line_where written line.now) }
 {
     if written {
-        push_line(out, line)?;
+        push_kept_line(out, line)?;
     }
     Ok(())
 }
@@ -39,7 +39,7 @@ fn push_first(out: &mut Vec<u8>, line: &[u8]) -> Result<(), AllocError>
     if !out.is_empty() {
         out.extend_from_slice(b"\r\n")?;
     }
-    push_line(out, line)
+    push_kept_line(out, line)
 }
 
 /// Takes the last group back, unless one of its rows is written.
@@ -84,7 +84,7 @@ pub(super) fn write_rows(
             written = written || kept;
             data += 1;
         } else {
-            push_line(&mut out, row.line.as_slice())?;
+            push_kept_line(&mut out, row.line.as_slice())?;
         }
     }
     end_group(&mut out, start, written);

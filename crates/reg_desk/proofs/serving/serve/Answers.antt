@@ -10,8 +10,8 @@ serve_deposit-requires g c = c.requires
 pub serve_check-requires : goal.serve_check-requires
 serve_check-requires g c = c.requires
 
-pub serve_list-requires : goal.serve_list-requires
-serve_list-requires g c = c.requires
+pub serve_listing-requires : goal.serve_listing-requires
+serve_listing-requires g c = c.requires
 
 pub serve_extract-requires : goal.serve_extract-requires
 serve_extract-requires g c = c.requires
@@ -29,7 +29,7 @@ returns-in-Check-clause-serves g c =
 
 pub returns-in-List-clause-serves : goal.returns-in-List-clause-serves
 returns-in-List-clause-serves g c =
-    subst (λ (r : Request). Serves g.K.Keep c.args.policy.now (asked r) c.args.keep.now c.serve_list.new.keep c.serve_list.result) (sym c.in-List.is) c.serve_list.ensures
+    subst (λ (r : Request). Serves g.K.Keep c.args.policy.now (asked r) c.args.keep.now c.serve_listing.new.keep c.serve_listing.result) (sym c.in-List.is) c.serve_listing.ensures
 
 pub returns-in-Extract-clause-serves : goal.returns-in-Extract-clause-serves
 returns-in-Extract-clause-serves g c =
@@ -48,7 +48,7 @@ pub returns-in-Check-clause-rows : goal.returns-in-Check-clause-rows
 returns-in-Check-clause-rows g c = subst (λ (r : Request). ShowsRows (asked r) c.serve_check.result) (sym c.in-Check.is) tt
 
 pub returns-in-List-clause-rows : goal.returns-in-List-clause-rows
-returns-in-List-clause-rows g c = subst (λ (r : Request). ShowsRows (asked r) c.serve_list.result) (sym c.in-List.is) tt
+returns-in-List-clause-rows g c = subst (λ (r : Request). ShowsRows (asked r) c.serve_listing.result) (sym c.in-List.is) tt
 
 pub returns-in-Extract-clause-rows : goal.returns-in-Extract-clause-rows
 returns-in-Extract-clause-rows g c = subst (λ (r : Request). ShowsRows (asked r) c.serve_extract.result) (sym c.in-Extract.is) c.serve_extract.ensures.rows

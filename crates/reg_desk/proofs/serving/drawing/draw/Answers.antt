@@ -11,7 +11,7 @@ use Rattle.reg_desk.proofs.Serves.{reads_once, reads_more, still_works}
 use Rattle.reg_desk.proofs.Drawing.{headed, head_drawn, other_drawn, unheld_drawn}
 use Rattle.reg_desk.proofs.Projects.{of_file_before, within_after}
 use Rattle.reg_desk.proofs.serving.drawing.draw.Goals as goal
-use Rattle.reg_desk.proofs.serving.drawing.draw.Goals.{then-number-eq0-via-then-number-eq0, then-number-eq0-via-else-number-eq0+then-number-count, then-head-via-then-head, then-head-via-else-head+then-not-is_same}
+use Rattle.reg_desk.proofs.serving.drawing.draw.Goals.{then-number-eq0-via-then-number-eq0, then-number-eq0-via-else-number-eq0+then-number-count, then-head-via-then-head, then-head-via-else-head+then-not-are_equal_names}
 
 pub returns-then-number-eq0-clause-drawn : goal.returns-then-number-eq0-clause-drawn
 returns-then-number-eq0-clause-drawn g c = λ s.
@@ -29,7 +29,7 @@ returns-then-head-clause-drawn g c = λ s.
     ∣ other_drawn (terms_at g.K.Keep c.args.policy.now c.args.keep.now) (g.K.Keep.deposits c.args.keep.now) c.args.caller.now c.args.project.now c.args.number (names_in c.args.groups.now) c.args.day h.kept c.in_ok-head.head h.holds h.of_head
     (elim c.then-head.branch [
       | then-head-via-then-head w ↦ inl w.if-head.true
-      | then-head-via-else-head+then-not-is_same w ↦ inr (sym w.is_same.ensures ∙ w.if-not-is_same.true)
+      | then-head-via-else-head+then-not-are_equal_names w ↦ inr (sym w.are_equal_names.ensures ∙ w.if-not-are_equal_names.true)
     ]) ∣₁
 
 pub draw_held-requires-clause-working : goal.draw_held-requires-clause-working
@@ -55,6 +55,6 @@ returns-clause-drawn g c = λ s.
     let groups = names_in c.args.groups.now in
     IfOk-weaker c.draw_held.result _ _ (λ (text : Option (Vec ℕ Global)) drawn.
     head_drawn (terms_at K c.args.policy.now keep) (K.deposits keep) c.args.caller.now c.args.project.now c.args.number groups c.args.day c.in_ok-head.head (option_map (λ (t : Vec ℕ Global). t.items) text) h
-    c.if-head.false (sym c.is_same.ensures ∙ c.if-not-is_same.false)
+    c.if-head.false (sym c.are_equal_names.ensures ∙ c.if-not-are_equal_names.false)
     (of_file_before K keep c.head.new.self c.args.number (λ file. IsExtractOf (look_on c.args.policy.now c.args.caller.now c.in_ok-head.head c.args.day) (file_of file) groups (option_map (λ (t : Vec ℕ Global). t.items) text)) first s1
     (λ d file at is. subst (λ (look : Look). IsExtractOf look (file_of file) groups (option_map (λ (t : Vec ℕ Global). t.items) text)) c.at-look.ensures (drawn d file at is)))) (c.draw_held.ensures.drawn s)

@@ -4,7 +4,7 @@ use Rattle.reg_desk.specs.declared.answer.Listed.{Listed}
 use Rattle.reg_desk.specs.declared.answer.Answer.TheVariants.{Listing}
 use Rattle.reg_desk.specs.Serving.{Serves}
 use Rattle.reg_desk.proofs.Listings.{listing_denied, listing_unread, listing_replies}
-use Rattle.reg_desk.proofs.serving.listing.serve_list.Goals as goal
+use Rattle.reg_desk.proofs.serving.listing.serve_listing.Goals as goal
 
 pub returns-in-Deny : goal.returns-in-Deny
 returns-in-Deny g c =
