@@ -128,7 +128,7 @@ pub enum Play {
     Steps(&'static [Step]),
     /// The same under the policy with lines more.
     Under(Added, &'static [Step]),
-    /// Three runs are asked, where withdrawals are permitted and memory may be refused once.
+    /// Six runs are asked, where withdrawals are permitted and memory may be refused once.
     Runs,
     /// Four requests are asked behind a deposit of this body.
     Told(&'static Body),

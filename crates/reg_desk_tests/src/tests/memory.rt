@@ -270,15 +270,6 @@ fn is_listed(answer: &Answer, held: bool) -> bool {
     is_listing(answer, if held { &ONE } else { &[] })
 }
 
-/// Whether it is the withdrawal of that, where it is held, and else that the deposit is unknown.
-fn is_mark(answer: &Answer, held: bool) -> bool {
-    if held {
-        is_withdrawn(answer, 1)
-    } else {
-        name_of(answer) == "unknown"
-    }
-}
-
 /// 0 where an answer is the machine's, 1 where it is want of memory, and else 2.
 fn fault_of(answer: &Answer, right: bool) -> u32 {
     if right {
@@ -290,101 +281,96 @@ fn fault_of(answer: &Answer, right: bool) -> u32 {
     }
 }
 
-/// Whether the first file's deposit is held by the answers so far, whether it is withdrawn, and the sum of those numbers.
-#[derive(Clone, Copy)]
-struct Account {
-    held: bool,
-    withdrawn: bool,
-    faults: u32,
-}
-
-/// That where nothing is answered.
-const NOTHING: Account = Account {
-    held: false,
-    withdrawn: false,
-    faults: 0,
-};
-
-/// It with so much more.
-fn faulty(before: Account, faults: u32) -> Account {
-    Account {
-        held: before.held,
-        withdrawn: before.withdrawn,
-        faults: before.faults.saturating_add(faults),
-    }
-}
-
-/// It after the answers to a deposit, a list, an extract and a withdrawal.
-fn after_four(
-    before: Account,
-    deposit: &Answer,
-    listing: &Answer,
-    extract: &Answer,
-    withdrawal: &Answer,
-) -> Account {
+/// The sum of these for the answers to a deposit, a list and an extract.
+fn faults_of(deposit: &Answer, listing: &Answer, extract: &Answer, held: bool) -> u32 {
     let taken = fault_of(deposit, is_receipt(deposit, 1, UNTIL));
-    let held = before.held || taken == 0;
-    let shown = held && !before.withdrawn;
-    let marked = fault_of(withdrawal, is_mark(withdrawal, held));
-    let faults = taken
-        .saturating_add(fault_of(listing, is_listed(listing, shown)))
-        .saturating_add(fault_of(extract, is_extract(extract, shown)))
-        .saturating_add(marked);
-    Account {
-        held,
-        withdrawn: before.withdrawn || (held && marked == 0),
-        faults: before.faults.saturating_add(faults),
-    }
+    let held = held || taken == 0;
+    taken
+        .saturating_add(fault_of(listing, is_listed(listing, held)))
+        .saturating_add(fault_of(extract, is_extract(extract, held)))
 }
 
-/// The same after a run.
-fn after(before: Account, answers: &[Answer]) -> Account {
+/// The same of a run.
+fn faults(answers: &[Answer], held: bool) -> u32 {
     match answers {
-        [deposit, listing, extract, withdrawal] => {
-            after_four(before, deposit, listing, extract, withdrawal)
-        }
-        _ => faulty(before, 2),
+        [deposit, listing, extract] => faults_of(deposit, listing, extract, held),
+        _ => 2,
     }
 }
 
-/// The same after a run that is asked. Where it is refused memory itself, nothing was asked.
-fn asks<K: Keep>(
-    alloc: Global,
-    desk: &mut Desk<K>,
-    requests: &[Request],
-    before: Account,
-) -> Account {
+/// The same of a run that is asked. Where it is refused memory itself, nothing was asked.
+fn asks<K: Keep>(alloc: Global, desk: &mut Desk<K>, requests: &[Request]) -> u32 {
     let held = desk.keep().count();
     match desk.run(alloc, requests) {
-        Ok(answers) => after(before, &answers),
-        Err(_) => faulty(
-            before,
-            u32::from(desk.keep().count() != held).saturating_add(1),
-        ),
+        Ok(answers) => faults(&answers, held == 1),
+        Err(_) => u32::from(desk.keep().count() != held).saturating_add(1),
     }
 }
 
-/// The sum of those numbers after three such runs.
+/// The same of three such runs.
 fn asks_thrice<K: Keep>(alloc: Global, desk: &mut Desk<K>, requests: &[Request]) -> u32 {
-    let mut account = NOTHING;
+    let mut faults = 0u32;
     for _ in 0..3 {
-        account = asks(alloc, desk, requests, account);
+        faults = faults.saturating_add(asks(alloc, desk, requests));
     }
-    account.faults
+    faults
 }
 
-/// The requests of a run: Delta deposits the first file, Echo lists and draws it, and Delta withdraws it.
-fn four_of<'a>(
+/// The requests of a run: Delta deposits the first file, and Echo lists and draws it.
+fn three_of<'a>(
     delta: &'a Caller,
     echo: &'a Caller,
     project: &'a Name,
     day: Day,
-) -> [Request<'a>; 4] {
+) -> [Request<'a>; 3] {
     [
         deposit_of(delta, project, day, FILE_A, day),
         list_of(echo, project, day),
         extract_of(echo, project, 1, &[], day),
+    ]
+}
+
+/// The faults of the answers to a withdrawal of that deposit and a list, and whether it is withdrawn then.
+fn faults_of_two(withdrawal: &Answer, listing: &Answer, withdrawn: bool) -> (u32, bool) {
+    let refused = fault_of(withdrawal, is_withdrawn(withdrawal, 1));
+    let withdrawn = withdrawn || refused == 0;
+    let other = fault_of(listing, is_listed(listing, !withdrawn));
+    (refused.saturating_add(other), withdrawn)
+}
+
+/// The same of a run.
+fn faults_and_mark(answers: &[Answer], withdrawn: bool) -> (u32, bool) {
+    match answers {
+        [withdrawal, listing] => faults_of_two(withdrawal, listing, withdrawn),
+        _ => (2, withdrawn),
+    }
+}
+
+/// The faults of three runs of these two requests. Where a run is refused memory itself, nothing was asked.
+fn withdraws_thrice<K: Keep>(alloc: Global, desk: &mut Desk<K>, requests: &[Request]) -> u32 {
+    let mut faults = 0u32;
+    let mut withdrawn = false;
+    for _ in 0..3 {
+        let (more, mark) = match desk.run(alloc, requests) {
+            Ok(answers) => faults_and_mark(&answers, withdrawn),
+            Err(_) => (1, withdrawn),
+        };
+        faults = faults.saturating_add(more);
+        withdrawn = mark;
+    }
+    faults
+}
+
+/// The requests of a run after those: Delta withdraws the deposit, and Echo lists.
+fn two_requests<'a>(
+    delta: &'a Caller,
+    echo: &'a Caller,
+    project: &'a Name,
+    day: Day,
+) -> [Request<'a>; 2] {
+    [
         withdraw_of(delta, project, 1, day),
+        list_of(echo, project, day),
     ]
 }
 
@@ -397,7 +383,9 @@ pub fn is_refused_once<K: Keep>(
 ) -> bool {
     match two_of(callers, b"t-delta", b"t-echo") {
         Some((delta, echo, day)) => {
-            asks_thrice(alloc, desk, &four_of(delta, echo, project, day)) <= 1
+            let asked = asks_thrice(alloc, desk, &three_of(delta, echo, project, day));
+            let requests = two_requests(delta, echo, project, day);
+            asked.saturating_add(withdraws_thrice(alloc, desk, &requests)) <= 1
         }
         None => false,
     }
