@@ -9,14 +9,12 @@ import http.client
 import multiprocessing
 import os
 import re
-import subprocess
 import sys
 import tempfile
 import threading
 import time
 sys.dont_write_bytecode = True
 sys.path.insert(0, os.path.join(os.path.dirname(os.path.abspath(__file__)), "..", "conformance"))
-import bodies  # noqa: E402
 import machine  # noqa: E402
 import servers  # noqa: E402
 
@@ -27,9 +25,9 @@ ALL = 24 * 10**9
 GREATEST = "1000000"
 
 
-def served(place, *more):
+def served(place):
     """A register that is served. What it prints for each connection is read, or it would wait once the pipe is full."""
-    server = servers.Server(place, GREATEST, *more)
+    server = place.serve(GREATEST)
     threading.Thread(target=server.process.stdout.read, daemon=True).start()
     return server
 
@@ -38,19 +36,14 @@ def filled(program, folder, count):
     """A folder with a register of so many deposits of 1 kB."""
     os.makedirs(folder)
     place = servers.Place(program, folder)
-    place.run("init", "--store=register", "--dictionary=mini")
+    place.make()
     if count:
         server = served(place)
         for n in range(count):
             data = machine.FILE_B.replace(b"North bank", b"Site %d" % n)
-            server.ask(servers.head(b"/v1/projects/N1/deposits", [b"Content-Length: %d" % len(data)], b"POST") + data, False)
-        end(server)
+            server.ask(servers.post(b"deposits", data), False)
+        server.stop()
     return place
-
-
-def end(server):
-    server.process.kill()
-    server.process.wait()
 
 
 def memory(process):
@@ -68,7 +61,7 @@ def idle(program, folder):
         server = served(place)
         taken = time.monotonic() - begun
         resident, part, greatest = memory(server.process)
-        end(server)
+        server.stop()
         print(f"| {count} | {resident} | {part} | {greatest} | {taken:.2f} | {ALL // (part * 1024)} |", flush=True)
 
 
@@ -114,7 +107,7 @@ def behind_nginx(program, folder, seconds):
     try:
         for n in range(MANY):
             place = filled(program, os.path.join(folder, f"many{n}"), 0)
-            place.run("deposit", "--store=register", "--policy=policy", "--callers=callers", "--token=t-delta", f"--project=P{n}", f"--day={servers.DAY}", "a")
+            place.right(*servers.asking("deposit", "a", project=f"P{n}"))
             running.append(served(place))
             text += f"~^P{n}$ http://127.0.0.1:{running[-1].port};\n"
         site = servers.Site(os.path.join(folder, "nginx"), text, running[0].port, certificate, workers=4)
@@ -125,11 +118,11 @@ def behind_nginx(program, folder, seconds):
         site.end()
     finally:
         for server in running:
-            end(server)
+            server.stop()
 
 
 def main():
-    program, seconds = os.path.abspath(sys.argv[1]), float(sys.argv[2]) if len(sys.argv) > 2 else 10
+    program, seconds = sys.argv[1], float(sys.argv[2]) if len(sys.argv) > 2 else 10
     with tempfile.TemporaryDirectory(prefix="servers") as folder:
         idle(program, folder)
         if servers.lacking("nginx", "openssl"):

@@ -17,27 +17,25 @@ each table and each row is as it was.
 No start may end by a signal, 101, 134 or 139, or not within a minute. `bad_registers.py PROGRAM 1 SEED 17` does random change 17 alone."""
 import collections
 import contextlib
-import os
 import random
 import re
-import resource
 import shutil
 import sqlite3
 import subprocess
 import sys
 import tempfile
 sys.dont_write_bytecode = True
-import bodies  # noqa: E402
 import hostile  # noqa: E402
 import machine  # noqa: E402
 import reference  # noqa: E402
+import servers  # noqa: E402
+from servers import asking  # noqa: E402
 
 DICTIONARY_LIMIT = 67108864
 LAST_NUMBER = 2932896
 NOT_ONE, FAILED = "not a register", "store failed"
-DAY = "2024-06-01"
-ASKING = ["--policy=policy", "--callers=callers", "--project=N1", "--day=" + DAY]
-REQUESTS = [f"GET /v1/projects/N1/deposits/{n} HTTP/1.1\r\nAuthorization: Bearer {token}\r\n\r\n".encode() for n in (1, 2, 3, 4) for token in ("t-echo", "t-delta")]
+REQUESTS = [servers.head(b"/v1/projects/N1/deposits/%d" % n, [], token=token)
+            for n in (1, 2, 3, 4) for token in (b"t-echo", b"t-delta")]
 FORMAT_1 = {"meta": [("name", "text"), ("num", "integer"), ("body", "blob")],
            "deposits": [("number", "integer"), ("firm", "text"), ("project", "text"), ("embargo", "integer"), ("body", "blob")],
            "lines": [("deposit", "integer"), ("seq", "integer"), ("grp", "text"), ("kind", "integer"), ("line", "blob")],
@@ -182,25 +180,22 @@ def all_in(path):
 
 # ---- the program's answers
 
-class Place:
-    """A folder with registers that the program made, and the answers to what is asked of a copy."""
+class Place(servers.Place):
+    """A place with registers that the program made, and the answers to what is asked of a copy."""
+
+    patience = 60
 
     def __init__(self, program, folder):
-        self.program, self.folder, self.lists, self.counts = program, folder, Lists(), collections.Counter()
-        mini = machine.spelled_dictionary(reference.built_in())
-        files = {"mini": mini, "policy": machine.WITHDRAWING.encode(), "callers": machine.CALLERS.encode(),
-                 "a": machine.FILE_A, "b": machine.FILE_B, "c": machine.file_c(), "other": mini + b" \r\n"}
-        for name, data in files.items():
-            self.put(name, data)
-        self.computer = machine.Computer()
-        self.computer.files.update(files)
-        self.make("empty", "mini", [])
-        self.make("one", "other", [("t-delta", "a")])
-        self.make("three", "mini", [("t-delta", "b"), ("t-foxtrot", "c"), ("t-delta", "a")])
+        super().__init__(program, folder, machine.WITHDRAWING)
+        self.lists, self.counts = Lists(), collections.Counter()
+        self.put("other", servers.FILES["mini"] + b" \r\n")
+        self.made("empty", "mini", [])
+        self.made("one", "other", [("t-delta", "a")])
+        self.made("three", "mini", [("t-delta", "b"), ("t-foxtrot", "c"), ("t-delta", "a")])
         self.make_marked()
         for name in NAMES:
             if name.startswith("old-"):
-                bodies.copy_as_format_1(self.folder, name.removeprefix("old-"), name)
+                self.copy_as_format_1(name.removeprefix("old-"), name)
             self.copy(name, "whole-" + name)
             self.written("whole-" + name, ["VACUUM"])
         self.schemas = {1: self.schema_of("old-three"), 2: self.schema_of("three")}
@@ -208,40 +203,17 @@ class Place:
         for name in ("empty", "one", "three"):
             self.before["old-" + name] = self.before[name]
 
-    def path(self, name):
-        return os.path.join(self.folder, name)
-
-    def put(self, name, data):
-        with open(self.path(name), "wb") as file:
-            file.write(data)
-
-    def got(self, name):
-        with open(self.path(name), "rb") as file:
-            return file.read()
-
-    def run(self, words):
-        run = subprocess.run([self.program, *words], cwd=self.folder, stdin=subprocess.DEVNULL, capture_output=True, timeout=hostile.PATIENCE)
-        return run.stdout, run.stderr, run.returncode
-
-    def make(self, name, dictionary, deposits):
-        given = [(["init", f"--store={name}", f"--dictionary={dictionary}"], b"created\n")]
-        given += [(["deposit", f"--store={name}", f"--token={token}", "--embargo=2024-06-01", *ASKING, file], f"receipt {n} 2024-06-01\n".encode()) for n, (token, file) in enumerate(deposits, 1)]
-        for words, want in given:
-            self.right(words, want)
+    def made(self, name, dictionary, deposits):
+        self.make(name, dictionary)
+        for number, (token, file) in enumerate(deposits, 1):
+            self.right(*asking("deposit", file, store=name, token=token, embargo=servers.DAY),
+                       want=f"receipt {number} {servers.DAY}\n".encode())
 
     def make_marked(self):
         """Makes a register whose first two deposits of three are withdrawn."""
         self.copy("three", "marked")
         for token, number in (("t-delta", 1), ("t-foxtrot", 2)):
-            words = ["withdraw", "--store=marked", f"--token={token}", *ASKING, str(number)]
-            self.right(words, f"withdrawn {number}\n".encode())
-
-    def right(self, words, want):
-        if (got := self.run(words)) != (want, b"", 0):
-            sys.exit(f"{words}: {got}")
-
-    def copy(self, name, copy):
-        bodies.copy_register(self.folder, name, copy)
+            self.right(*asking("withdraw", str(number), store="marked", token=token), want=b"withdrawn %d\n" % number)
 
     def schema_of(self, name):
         self.copy(name, "read")
@@ -268,21 +240,14 @@ class Place:
 
     def asked(self, name):
         """What the program answers of a register: the listing by words, and where there is one the extracts over `serve`."""
-        answers = [self.run(["list", f"--store={name}", "--token=t-delta", *ASKING])]
+        answers = [self.run(*asking("list", store=name))]
         return answers + self.served(name) if answers[0][2] == 0 else answers
 
     def served(self, name):
         """The replies to the requests for extracts, and how `serve` ended."""
-        port = bodies.free_port()
-        words = ["serve", f"--store={name}", f"--port={port}", f"--connections={len(REQUESTS)}", *(word for word in ASKING if "project" not in word)]
-        process = subprocess.Popen([self.program, *words], cwd=self.folder, stdin=subprocess.DEVNULL, stdout=subprocess.PIPE, stderr=subprocess.PIPE)
-        try:
-            replies = [hostile.answered(random, port, data) for data in REQUESTS] if process.stdout.readline() else []
-            out, fault = process.communicate(timeout=hostile.PATIENCE)
-            return [*replies, (out, fault, process.returncode)]
-        finally:
-            process.kill()
-            process.wait()
+        with self.serve(len(REQUESTS), store=name) as server:
+            replies = [hostile.answered(random, server, data) for data in REQUESTS] if server.listening else []
+            return [*replies, server.rest()]
 
     def wanted(self, held):
         """What the machine answers to the same."""
@@ -290,8 +255,8 @@ class Place:
         register.deposits = held[1]
         self.computer.files["held"] = register
         rules, callers = machine.read_policy(machine.WITHDRAWING), machine.read_callers(machine.CALLERS)
-        replies = [machine.serve(register, rules, callers, DAY, data) for data in REQUESTS]
-        return [self.computer.run(["list", "--store=held", "--token=t-delta", *ASKING], ""), *(reply for _, reply in replies), ("".join(f"{status}\n" for status, _ in replies).encode(), b"", 0)]
+        replies = [machine.serve(register, rules, callers, servers.DAY, data) for data in REQUESTS]
+        return [self.computer.run(asking("list", store="held"), ""), *(reply for _, reply in replies), ("".join(f"{status}\n" for status, _ in replies).encode(), b"", 0)]
 
     def read(self, name, number):
         """What the definition has of a register of that format, whether its tables are defined so, and their rows."""
@@ -348,7 +313,7 @@ class Place:
         held, is_same, tables = self.read(name, 1)
         before = all_in(self.path("read"))
         is_strict = is_by_rows and is_same
-        listed, answer = self.asked(name), self.run(["migrate", f"--store={name}"])
+        listed, answer = self.asked(name), self.run("migrate", f"--store={name}")
         if is_crash([*listed, answer]):
             return f"CRASH: {listed}, {answer}"
         opened = self.fault_in(listed[0])
@@ -376,7 +341,7 @@ class Place:
 
     def wrong_migrated(self, name, template, held, before):
         """What is wrong with a register that was migrated."""
-        again = self.run(["migrate", f"--store={name}"])
+        again = self.run("migrate", f"--store={name}")
         if again != (b"", b"groundreg: register version 2\n", 4):
             return f"migrated again: {again}"
         if wrong := self.wrong_answers(self.asked(name), held, template):
@@ -436,7 +401,7 @@ def of_withdrawals():
     yield of("the last two taken out whole, one of them withdrawn", *two)
     yield of("the same, with its withdrawal", *two, "DELETE FROM withdrawals WHERE deposit = 2")
     yield of("format 3 with four tables", "UPDATE meta SET num = 3 WHERE name = 'format'", "DROP TABLE withdrawals")
-    yield of("format 1 with four tables, and its steps missing", *bodies.TO_FORMAT_1, "DELETE FROM steps")
+    yield of("format 1 with four tables, and its steps missing", *servers.TO_FORMAT_1, "DELETE FROM steps")
     for text in DEFINED:
         for end in (" STRICT", "", " STRICT, WITHOUT ROWID"):
             made = ["DROP TABLE withdrawals", WITHDRAWALS.format(text) + end]
@@ -524,9 +489,7 @@ def by_hand(place, columns):
 def files_by_hand(place):
     """(what was changed, register): files that were changed as files. Each is made under the name `bad`."""
     def put(file, log=None):
-        for end in ("", "-wal"):
-            if os.path.exists(place.path("bad" + end)):
-                os.remove(place.path("bad" + end))
+        place.copy("none", "bad")
         place.put("bad", file)
         if log is not None:
             place.put("bad-wal", log)
@@ -633,26 +596,25 @@ def cases(place, seed, numbers):
 
 
 def main():
-    program = os.path.abspath(sys.argv[1])
     count, seed, first = (int(sys.argv[n]) if len(sys.argv) > n else usual for n, usual in ((2, 300), (3, 1), (4, 1)))
-    resource.setrlimit(resource.RLIMIT_AS, (hostile.MEMORY, hostile.MEMORY))
+    servers.limit_memory()
     folder = tempfile.mkdtemp(prefix="registers")
-    place, passed, failed = Place(program, folder), 0, 0
+    place = Place(sys.argv[1], folder)
     for what, name, is_by_rows in cases(place, seed, range(first, first + count)):
         try:
             wrong = place.wrong("bad", name, is_by_rows)
         except subprocess.TimeoutExpired:
             wrong = "no answer within a minute"
-        passed += wrong is None
-        failed += wrong is not None
+        place.passed += wrong is None
+        place.failed += wrong is not None
         if wrong:
             print(f"{what}: {wrong}", flush=True)
-            bodies.copy_register(folder, "bad", f"wrong-{failed}")
-    if not failed:
+            place.copy("bad", f"wrong-{place.failed}")
+    if not place.failed:
         shutil.rmtree(folder)
-    print(f"({', '.join(f'{text}: {times}' for text, times in sorted(place.counts.items()))}{'; the changed files are in ' + folder if failed else ''})")
-    print(f"{passed} passed, {failed} failed")
-    return failed > 0
+    print(f"({', '.join(f'{text}: {times}' for text, times in sorted(place.counts.items()))}{'; the changed files are in ' + folder if place.failed else ''})")
+    print(f"{place.passed} passed, {place.failed} failed")
+    return place.failed > 0
 
 
 if __name__ == "__main__":

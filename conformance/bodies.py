@@ -8,16 +8,14 @@ the program where one is named: what is drawn is a file without findings, by ref
 the same bytes; and where hidden rows alone are changed, the listing and every extract are the same. A seed gives the same bodies each time.
 The program deposits by words, in a register file of its own for each body, and lists and draws over `serve`, a connection each. What it
 answers is compared with the machine too."""
-import os
 import random
 import shutil
-import socket
-import sqlite3
-import subprocess
 import sys
 import tempfile
-import machine
-import reference
+sys.dont_write_bytecode = True
+import machine  # noqa: E402
+import reference  # noqa: E402
+import servers  # noqa: E402
 
 STATES = ["FINAL", "PRELIM", "HELD"]
 DAYS = ["2024-05-31", "2024-06-01", "2024-06-02"]
@@ -157,79 +155,29 @@ class Machine:
         return [register.list(rules, caller, "N1", day)] + [register.extract(rules, caller, "N1", 1, groups, day) for groups in asked]
 
 
-class Program:
+class Program(servers.Place):
     """The same on the program. Answers are the bytes of its replies, and texts stand by themselves."""
 
+    patience = 20
+
     def __init__(self, program, folder):
-        self.program, self.folder = os.path.abspath(program), folder
-        self.put("mini", machine.spelled_dictionary(reference.built_in()))
+        callers = (f'[[caller]]\ntoken = "{firm}"\nfirm = "{firm}"\nrole = "{caller_of(firm)["role"]}"\n' for firm in FIRMS)
+        super().__init__(program, folder, callers="".join(callers))
         self.put("all", b'rule = [{number = 1, effect = "permit"}]\n')
-        self.put("callers", "".join(f'[[caller]]\ntoken = "{firm}"\nfirm = "{firm}"\nrole = "{caller_of(firm)["role"]}"\n' for firm in FIRMS).encode())
-        self.run("init", "--store", "empty", "--dictionary", "mini")
-
-    def put(self, name, data):
-        with open(os.path.join(self.folder, name), "wb") as file:
-            file.write(data)
-
-    def run(self, *words):
-        subprocess.run([self.program, *words], cwd=self.folder, check=True, stdout=subprocess.DEVNULL)
+        self.make("empty")
 
     def seen_of(self, text, deposit, policy_text, caller, day, asked):
-        copy_register(self.folder, "empty", "store")
+        self.copy("empty", "register")
         self.put("body", text)
         self.put("policy", policy_text.encode())
-        self.run("deposit", "--store=store", "--policy=all", "--callers=callers", "--token", deposit["firm"], "--project", deposit["project"], "--embargo", deposit["embargo"], "body")
-        targets = [""] + ["/1?groups=" + b",".join(groups).decode() for groups in asked]
-        return [answer_in(reply) for reply in self.replies(targets, caller, day)]
-
-    def replies(self, targets, caller, day):
-        port = free_port()
-        serving = subprocess.Popen([self.program, "serve", "--store=store", "--policy=policy", "--callers=callers", "--port", str(port), "--connections", str(len(targets)), "--day", day],
-                                   cwd=self.folder, stdout=subprocess.PIPE)
-        serving.stdout.readline()
-        for target in targets:
-            with socket.create_connection(("127.0.0.1", port), timeout=20) as connection:
-                connection.sendall(f"GET /v1/projects/N1/deposits{target} HTTP/1.1\r\nAuthorization: Bearer {caller['firm']}\r\n\r\n".encode())
-                yield b"".join(iter(lambda: connection.recv(65536), b""))
-        serving.communicate(timeout=20)
-
-
-def free_port():
-    """A port below those that connections are given, on which nobody listens."""
-    while True:
-        port = random.randrange(10000, 32000)
-        with socket.socket() as probe:
-            try:
-                probe.bind(("127.0.0.1", port))
-                return port
-            except OSError:
-                pass
-
-
-def copy_register(folder, name, copy):
-    """Copies a register file and the log beside it, which belongs to it."""
-    for end in ("", "-wal"):
-        there, here = os.path.join(folder, name + end), os.path.join(folder, copy + end)
-        if os.path.exists(here):
-            os.remove(here)
-        if os.path.exists(there):
-            shutil.copy(there, here)
-
-
-# What makes a register of format 1 of one of format 2.
-TO_FORMAT_1 = ["DROP TABLE withdrawals", "UPDATE meta SET num = 1 WHERE name = 'format'"]
-
-
-def copy_as_format_1(folder, name, copy):
-    """Copies a register as one of format 1. Its log has a page that was written last."""
-    copy_register(folder, name, "work")
-    setting = "UPDATE meta SET num = {} WHERE name = 'format'".format
-    for statements in (TO_FORMAT_1, ["BEGIN", setting(0), setting(1), "COMMIT"]):
-        connection = sqlite3.connect(os.path.join(folder, "work"), isolation_level=None)
-        for statement in statements:
-            connection.execute(statement)
-        copy_register(folder, "work", copy)  # before the connection ends, which puts the log into the file
-        connection.close()
+        self.right("deposit", "--store=register", "--policy=all", "--callers=callers", "--token", deposit["firm"],
+                   "--project", deposit["project"], "--embargo", deposit["embargo"], "body")
+        pages = [b"", *(b"/1?groups=" + b",".join(groups) for groups in asked)]
+        with self.serve(len(pages), day=day) as server:
+            replies = [server.ask(servers.head(b"/v1/projects/N1/deposits" + page, [], token=caller["firm"].encode()), False)
+                       for page in pages]
+            server.rest()
+        return [answer_in(reply) for reply in replies]
 
 
 def answer_in(reply):

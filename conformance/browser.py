@@ -1,7 +1,6 @@
 """A headless Chromium, driven by the WebDriver protocol through Debian's chromedriver."""
 import base64
 import json
-import os
 import subprocess
 import sys
 import tempfile
@@ -9,7 +8,7 @@ import time
 import urllib.error
 import urllib.request
 sys.dont_write_bytecode = True
-import bodies  # noqa: E402
+import servers  # noqa: E402
 
 PATIENCE = 30
 ELEMENT = "element-6066-11e4-a52e-4f735466cecf"
@@ -24,7 +23,7 @@ class Browser:
     """One window of a new profile. `hosts` are names that lead to 127.0.0.1."""
 
     def __init__(self, hosts, downloads):
-        self.port, self.profile = bodies.free_port(), tempfile.TemporaryDirectory(prefix="browser")
+        self.port, self.profile = servers.free_port(), tempfile.TemporaryDirectory(prefix="browser")
         self.driver = subprocess.Popen(["chromedriver", f"--port={self.port}"], stdout=subprocess.DEVNULL, stderr=subprocess.DEVNULL)
         words = ["--headless=new", "--no-sandbox", "--disable-gpu", "--disable-dev-shm-usage", "--ignore-certificate-errors", f"--user-data-dir={self.profile.name}", "--window-size=1920,1080",
                  "--host-resolver-rules=" + ",".join(f"MAP {host} 127.0.0.1" for host in hosts), "--disable-background-networking", "--no-first-run"]

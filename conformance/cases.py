@@ -75,7 +75,6 @@ def siblings(last):
 BASE = base()
 S1 = ["BH1", "1.50", "S1", ""]
 S2 = ["BH1", "2.50", "S2", ""]
-OWN_LOCA = ["HEADING", "LOCA"]
 
 CASES = [
     # name, phase, bytes, findings

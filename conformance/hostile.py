@@ -16,9 +16,7 @@ import collections
 import os
 import random
 import re
-import resource
 import shutil
-import socket
 import subprocess
 import sys
 import tempfile
@@ -27,12 +25,10 @@ sys.dont_write_bytecode = True
 import bodies  # noqa: E402
 import compare  # noqa: E402
 import machine  # noqa: E402
-import reference  # noqa: E402
+import servers  # noqa: E402
 import stories  # noqa: E402
 
-PATIENCE = 60
 A_START = 50
-MEMORY = 4 << 30
 CRASHES = {101, 134, 139}
 DAYS = ["2024-05-31", "2024-06-01", "2024-06-02"]
 TOKENS = re.compile(rb'"[^"\r\n]*"|[A-Za-z0-9_.%-]+')
@@ -55,10 +51,6 @@ POLICIES = [
     "[[rule]]\nnumber = 0x1F\neffect = 'permit'\n[[\"rule\"]]\nnumber = 1_000\n'effect' = \"\"\"deny\"\"\"\n",
     'rule = [\n  {number = +5, effect = "\\u0070ermit", firm = "*"}, # one\n  {number = 0b111, effect = \'\'\'deny\'\'\', heading = "LOCA_STAT", value = "a\\tb\\"c"},\n]\n',
     '# all\r\n[[rule]]\r\nnumber=1\r\neffect="permit"\r\nverb="list"\r\n\r\n[[rule]]\r\nnumber=3\r\neffect="permit"\r\nowner="own"\r\nembargo="*"\r\n']
-
-
-class Differs(Exception):
-    """The program answered otherwise than the machine: what was asked, what the machine answers, what came."""
 
 
 # ---- changes
@@ -147,48 +139,38 @@ def older_toml(text):
 
 # ---- the program and the machine side by side
 
-class Side:
-    """A folder with a register of three deposits, known to the program and to the machine."""
+class Side(servers.Place):
+    """A place with a register of three deposits, known to the program and to the machine."""
+
+    patience = 60
 
     def __init__(self, program, folder):
-        self.program, self.folder, self.computer = program, folder, machine.Computer()
+        super().__init__(program, folder, machine.WITHDRAWING)
         self.counts = collections.Counter()
-        mini = machine.spelled_dictionary(reference.built_in())
-        files = {"mini": mini, "policy": machine.WITHDRAWING.encode(), "callers": machine.CALLERS.encode(),
-                 "a": machine.FILE_A, "b": machine.FILE_B, "c": machine.file_c()}
-        for name, data in files.items():
-            self.put(name, data)
         self.same(["init", "--store=first", "--dictionary=mini"])
         for token, file in (("t-delta", "b"), ("t-foxtrot", "c"), ("t-delta", "a")):
-            self.same(["deposit", "--store=first", "--policy=policy", "--callers=callers", f"--token={token}", "--project=N1", "--day=2024-05-01", "--embargo=2024-06-01", file])
-
-    def put(self, name, data):
-        with open(os.path.join(self.folder, name), "wb") as file:
-            file.write(data)
-        self.computer.files[name] = data
+            self.same(servers.asking("deposit", file, store="first", token=token, day="2024-05-01", embargo=servers.DAY))
 
     def fresh(self, name):
         """A copy of the register under another name."""
-        bodies.copy_register(self.folder, "first", name)
+        self.copy("first", name)
         self.computer.files[name] = register = machine.Register()
         register.files, register.deposits = dict(self.computer.files["first"].files), list(self.computer.files["first"].deposits)
         return register
 
     def away(self, name):
-        for end in ("", "-wal"):
-            if os.path.exists(os.path.join(self.folder, name + end)):
-                os.remove(os.path.join(self.folder, name + end))
+        self.copy("none", name)
         self.computer.files.pop(name, None)
 
-    def got(self, words, given=b""):
-        run = subprocess.run([self.program, *words], cwd=self.folder, input=given, capture_output=True, timeout=PATIENCE)
-        if run.returncode < 0 or run.returncode in CRASHES:
-            raise Differs((words, given, "CRASH"), self.computer.run(words, "", given), (run.stdout, run.stderr, run.returncode))
-        return run.stdout, run.stderr, run.returncode
+    def answer(self, words, given=b""):
+        got = self.run(*words, given=given)
+        if got[2] < 0 or got[2] in CRASHES:
+            raise stories.Differs((words, given, "CRASH"), self.computer.run(words, "", given), got)
+        return got
 
     def same(self, words, given=b"", texts=()):
         """Compares a start of the program; the texts of TOML among its files may be in TOML 1.1."""
-        got, want = self.got(words, given), self.computer.run(words, "", given)
+        got, want = self.answer(words, given), self.computer.run(words, "", given)
         if got != want and texts and want[1].endswith(b" refused\n"):
             kept = {name: self.computer.files[name] for name in texts}
             try:
@@ -199,7 +181,7 @@ class Side:
                 pass
             self.computer.files.update(kept)
         if got != want:
-            raise Differs((words, given, {name: self.computer.files[name] for name in texts}), want, got)
+            raise stories.Differs((words, given, {name: self.computer.files[name] for name in texts}), want, got)
         self.counts[said(want)] += 1
         return want
 
@@ -255,7 +237,7 @@ def dictionary_turn(chance, side, names):
     if chance.random() < 0.1:
         side.away("made")
         want = side.same(["init", "--store=made", "--dictionary=d"])
-        return want if want[2] else side.same(["deposit", "--store=made", "--policy=policy", "--callers=callers", "--token=t-delta", "--project=N1", "--day=2024-06-01", chance.choice("abc")])
+        return want if want[2] else side.same(servers.asking("deposit", chance.choice("abc"), store="made"))
     file = chance.choice(["a", "b", "c", "file"])
     if file == "file":
         side.put("file", names[chance.randrange(len(names))])
@@ -277,55 +259,44 @@ def body_of_turn(chance, names):
     base = chance.choice([machine.FILE_A, machine.FILE_B, machine.file_c(), bodies.body(chance)]) if chance.random() < 0.6 else names[chance.randrange(len(names))]
     data = changed(chance, base, AGS_WORDS)
     length = max(0, len(data) + (chance.choice([-1, 1, -2, 100]) if chance.random() < 0.1 else 0))
-    target, token = chance.choice([("check", "t-echo"), ("check", "t-delta"), ("deposits", "t-delta"), ("deposits?embargo=2024-06-01", "t-foxtrot")])
-    return f"POST /v1/projects/N1/{target} HTTP/1.1\r\nAuthorization: Bearer {token}\r\nContent-Length: {length}\r\n\r\n".encode() + data
+    target, token = chance.choice([(b"check", b"t-echo"), (b"check", b"t-delta"), (b"deposits", b"t-delta"), (b"deposits?embargo=2024-06-01", b"t-foxtrot")])
+    return servers.post(target, data, token, length)
 
 
-def answered(chance, port, data):
+def answered(chance, server, data):
     """All that a connection answers to these bytes, sent whole or in pieces."""
-    with socket.create_connection(("127.0.0.1", port), timeout=PATIENCE) as connection:
-        try:
-            cut = chance.randrange(len(data) + 1) if chance.random() < 0.1 else 0
-            if cut:
-                connection.sendall(data[:cut])
-                time.sleep(0.0005)
-            connection.sendall(data[cut:])
-            connection.shutdown(socket.SHUT_WR)
-        except OSError:
-            pass  # the reply came before all was sent
-        return stories.received(connection)
+    connection = server.connect()
+    cut = chance.randrange(len(data) + 1) if chance.random() < 0.1 else 0
+    if cut:
+        servers.sent(connection, data[:cut], True)
+        time.sleep(0.0005)
+    servers.sent(connection, data[cut:], False)
+    return servers.received(connection)
 
 
 def session(side, given, chance):
-    """Compares the connections of one start of `serve`; how many were right before the first that was not, and that one."""
-    register = side.fresh("served")
+    """Compares the connections of one start of `serve`; how many were right before the first that was not, and that
+    one."""
+    register, printed = side.fresh("served"), ""
     rules, callers = machine.read_policy(machine.WITHDRAWING), machine.read_callers(machine.CALLERS)
-    port = bodies.free_port()
-    words = ["serve", "--store=served", "--policy=policy", "--callers=callers", f"--port={port}", f"--connections={len(given)}", "--day=2024-06-01"]
-    process = subprocess.Popen([side.program, *words], cwd=side.folder, stdin=subprocess.DEVNULL, stdout=subprocess.PIPE, stderr=subprocess.PIPE)
-    lines = f"listening 127.0.0.1:{port}\n"
-    try:
-        stories.printed_line(process, time.monotonic() + PATIENCE)
+    with side.serve(len(given), store="served") as server:
         for n, data in enumerate(given):
-            status, want = machine.serve(register, rules, callers, "2024-06-01", data)
+            status, want = machine.serve(register, rules, callers, servers.DAY, data)
             try:
-                got = answered(chance, port, data)
+                got = answered(chance, server, data)
             except OSError as fault:
-                got = f"{fault}, status {process.poll()}".encode()
+                got = f"{fault}, status {server.process.poll()}".encode()
             if got != want:
-                return n, Differs((data, "CRASH" if process.poll() not in (None, 0) else ""), want, got)
-            side.counts[f"{status} {want.rpartition(b':')[2][:12].decode('latin-1') if status in (400, 404) else ''}".strip()] += 1
-            lines += f"{status}\n"
-        out, fault = process.communicate(timeout=PATIENCE)
-        printed = (lines.partition("\n")[2].encode(), b"", 0)
-        if (out, fault, process.returncode) != printed:
-            return len(given) - 1, Differs(words, printed, (out, fault, process.returncode))
-        return len(given), None
-    except subprocess.TimeoutExpired:
-        return len(given) - 1, Differs(words, "an end", "none")
-    finally:
-        process.kill()
-        process.wait()
+                is_crash = server.process.poll() not in (None, 0)
+                return n, stories.Differs((data, "CRASH" if is_crash else ""), want, got)
+            told = want.rpartition(b":")[2][:12].decode("latin-1") if status in (400, 404) else ""
+            side.counts[f"{status} {told}".strip()] += 1
+            printed += f"{status}\n"
+        try:
+            got, want = server.rest(), (printed.encode(), b"", 0)
+        except subprocess.TimeoutExpired:
+            got, want = "none", "an end"
+        return (len(given), None) if got == want else (len(given) - 1, stories.Differs("the end of `serve`", want, got))
 
 
 def by_words(turn, side, seed, kind, numbers, names):
@@ -333,10 +304,10 @@ def by_words(turn, side, seed, kind, numbers, names):
     for number in numbers:
         try:
             turn(random.Random(f"{seed} {kind} {number}"), side, names)
-        except Differs as difference:
+        except stories.Differs as difference:
             yield number, difference
         except subprocess.TimeoutExpired:
-            yield number, Differs("a start", "an answer within a minute", "none")
+            yield number, stories.Differs("a start", "an answer within a minute", "none")
 
 
 def by_socket(make, side, seed, kind, numbers, names):
@@ -355,9 +326,8 @@ KINDS = {"file": (by_words, file_turn), "policy": (by_words, policy_turn), "call
 
 
 def main():
-    program = os.path.abspath(sys.argv[1])
     count, seed = (int(sys.argv[n]) if len(sys.argv) > n else usual for n, usual in ((2, 300), (3, 1)))
-    resource.setrlimit(resource.RLIMIT_AS, (MEMORY, MEMORY))
+    servers.limit_memory()
     files, names, failed, asked = os.path.join(os.path.dirname(os.path.abspath(__file__)), "files"), [], 0, 0
     for name in sorted(os.listdir(files)):
         if name.endswith(".ags"):
@@ -366,7 +336,7 @@ def main():
     for word in sys.argv[4:] or KINDS:
         kind, _, first = word.partition(":")
         folder = tempfile.mkdtemp(prefix="hostile")
-        side, begun = Side(program, folder), time.monotonic()
+        side, begun = Side(sys.argv[1], folder), time.monotonic()
         side.counts.clear()
         way, turn = KINDS[kind]
         for number, difference in way(turn, side, seed, kind, range(int(first or 1), int(first or 1) + count), names):

@@ -13,11 +13,9 @@ import multiprocessing
 import os
 import random
 import re
-import select
 import shutil
 import socket
 import sqlite3
-import struct
 import subprocess
 import sys
 import tempfile
@@ -27,8 +25,8 @@ import bodies  # noqa: E402
 import compare  # noqa: E402
 import machine  # noqa: E402
 import reference  # noqa: E402
+import servers  # noqa: E402
 
-PATIENCE = 60
 FIRMS = ["Delta", "Gamma", "Foxtrot", "Echo"]
 DAYS = ["2024-06-02", "2024-06-02", "2024-06-01", "2024-05-31", "2030-01-01", "1970-01-01", "9999-12-31"]
 EMBARGOES = ["2024-06-01", "2024-06-01", "2024-06-02", "2024-05-01", "1970-01-01", "9999-12-31"]
@@ -285,50 +283,15 @@ def needs_no_end(data, answer):
     return machine.head_of(data) is not None and b"short body" not in answer
 
 
-def broken_off(connection, data):
-    """Sends a part of a request and resets the connection."""
-    connection.sendall(data)
-    connection.setsockopt(socket.SOL_SOCKET, socket.SO_LINGER, struct.pack("ii", 1, 0))
-    connection.close()
-
-
-def sent(connection, data, keeps_open):
-    try:
-        connection.sendall(data)
-        if not keeps_open:
-            connection.shutdown(socket.SHUT_WR)
-    except OSError:
-        pass  # the reply came before all was sent
-
-
-def received(connection):
-    """All that comes until the end."""
-    out = bytearray()
-    try:
-        while piece := connection.recv(65536):
-            out += piece
-    except ConnectionResetError:
-        pass  # it was let go while we were still sending
-    connection.close()
-    return bytes(out)
-
-
-def printed_line(process, deadline):
-    """The next line of a program's output, or what there is of it when the deadline is over."""
-    line = b""
-    while not line.endswith(b"\n") and select.select([process.stdout], [], [], max(0, deadline - time.monotonic()))[0]:
-        piece = os.read(process.stdout.fileno(), 1)
-        if not piece:
-            break
-        line += piece
-    return line
-
-
 # ---- a story
 
 def marked(register, is_withdrawn):
     """The deposits of a register, each of them withdrawn, or none."""
     return [{**deposit, "withdrawn": is_withdrawn} for deposit in register.deposits]
+
+
+def asking(*words, store="s", **other):
+    return servers.asking(*words, store=store, policy="p", callers="c", **other)
 
 
 def register_like(other, deposits, number=machine.FORMAT):
@@ -338,63 +301,58 @@ def register_like(other, deposits, number=machine.FORMAT):
     return register
 
 
-class Story:
-    """A folder and the machine's own picture of it. Paths are relative to the folder."""
+class Story(servers.Place):
+    """A place of which each start is compared with the machine's. Paths are relative to its folder."""
+
+    patience = 60
 
     def __init__(self, chance, program, folder):
-        self.chance, self.program, self.folder = chance, program, folder
-        self.computer = machine.Computer(["", ".", "sub"])
-        self.asked = {"runs": 0, "connections": 0}
-        os.mkdir(os.path.join(folder, "sub"))
-
-    def put(self, path, data):
-        with open(os.path.join(self.folder, path), "wb") as file:
-            file.write(data)
-        self.computer.files[path] = data
+        super().__init__(program, folder, files={"empty": b""})
+        self.chance, self.asked = chance, {"runs": 0, "connections": 0}
+        self.computer.folders |= {".", "sub"}
+        os.mkdir(self.path("sub"))
 
     def compare(self, what, want, got):
         if want != got:
             raise Differs(what, want, got)
 
-    def run(self, words, given=b""):
-        """Runs the program with these words, and compares its answer."""
-        today = datetime.datetime.now(datetime.timezone.utc).date().isoformat()
-        want = self.computer.run(words, today, given)
-        raw = [word.encode("utf-8", "surrogateescape") for word in words]
-        run = subprocess.run([self.program, *raw], cwd=self.folder, input=given, capture_output=True, timeout=PATIENCE)
+    def same(self, words, given=b""):
+        """Compares a start with these words."""
+        want = self.computer.run(words, servers.now()[:10], given)
         self.asked["runs"] += 1
-        self.compare(words, want, (run.stdout, run.stderr, run.returncode))
+        raw = [word.encode("utf-8", "surrogateescape") for word in words]
+        self.compare(words, want, self.run(*raw, given=given))
         return want
 
     def connect(self, port):
-        connection = socket.create_connection(("127.0.0.1", port), timeout=PATIENCE)
+        connection = servers.connection_to(port, self.patience)
         connection.setsockopt(socket.IPPROTO_TCP, socket.TCP_NODELAY, 1)
         return connection
 
     def speak(self, connection, data, answer):
         """Sends a request in pieces or whole, with its side open or closed, or breaks off."""
         if data is None:
-            return broken_off(connection, self.chance.choice([b"", b"GET / HT", b"POST /v1/projects/N1/check HTTP/1.1\r\nAuthorization: Bearer t-echo\r\nContent-Length: 10\r\n\r\nabc"]))
+            connection.sendall(self.chance.choice([b"", b"GET / HT", servers.post(b"check", b"abc", b"t-echo", 10)]))
+            return servers.reset(connection)
         cut = self.chance.randrange(len(data) + 1) if self.chance.random() < 0.2 else 0
         if cut:
-            sent(connection, data[:cut], True)
+            servers.sent(connection, data[:cut], True)
             time.sleep(0.001)
-        return sent(connection, data[cut:], needs_no_end(data, answer) and self.chance.random() < 0.4)
+        return servers.sent(connection, data[cut:], needs_no_end(data, answer) and self.chance.random() < 0.4)
 
-    def serve(self, options, given):
-        """Starts `serve`, makes these connections, one by one or all at once, and compares what is printed and what is answered."""
-        port = bodies.free_port()
+    def session(self, options, given):
+        """Starts `serve`, makes these connections, one by one or all at once, and compares what is printed and what is
+        answered."""
+        port = servers.free_port()
         words = spelling(self.chance, "serve", {**options, "port": str(port), "connections": str(len(given))}, [])
-        today = datetime.datetime.now(datetime.timezone.utc).date().isoformat()
-        want, replies = self.computer.serve(words, today, given)
-        process = subprocess.Popen([self.program, *words], cwd=self.folder, stdin=subprocess.DEVNULL, stdout=subprocess.PIPE, stderr=subprocess.PIPE)
+        want, replies = self.computer.serve(words, servers.now()[:10], given)
+        process = self.start(*words)
         self.asked["runs"] += 1
         try:
-            deadline = time.monotonic() + PATIENCE
-            out = printed_line(process, deadline)
+            out = servers.printed_line(process, self.patience)
             if replies and out:
                 out += self.talk(process, port, words, given, replies)
-            rest, fault = process.communicate(timeout=PATIENCE)
+            rest, fault = process.communicate(timeout=self.patience)
             self.compare(words, want, (out + rest, fault, process.returncode))
             if replies and "log" in options:
                 self.compare_log(words, options, given, want[0].decode().split()[2:], replies)
@@ -405,12 +363,15 @@ class Story:
     def compare_log(self, words, options, given, statuses, replies):
         """Compares the lines that were appended to the log. Of a connection that broke off it may have a head or none."""
         callers = machine.read_callers(self.computer.files[options["callers"]].decode())
-        with open(os.path.join(self.folder, options["log"]), encoding="ascii") as file:
-            lines = file.read().splitlines()[-len(given):]
+        lines = self.got(options["log"]).decode("ascii").splitlines()[-len(given):]
         for data, status, reply, line in zip(given, statuses, replies, lines, strict=True):
             parts = re.fullmatch(r"\d{4}-\d\d-\d\dT\d\d:\d\d:\d\dZ (.*) \d+ (\d+) \d+", line)
             got = parts and (parts[1], int(parts[2]))
-            self.compare((words, data, "its line of the log", line), ("fault", 0) if data is None else machine.logged(callers, data, status, reply), got and (got[0].split()[-1], got[1]) if data is None else got)
+            if data is None:
+                want, got = ("fault", 0), got and (got[0].split()[-1], got[1])
+            else:
+                want = machine.logged(callers, data, status, reply)
+            self.compare((words, data, "its line of the log", line), want, got)
 
     def talk(self, process, port, words, given, replies):
         """Makes the connections; what was printed meanwhile."""
@@ -428,9 +389,9 @@ class Story:
                 connections.append(self.connect(port))
                 self.speak(connections[n], data, replies[n])
             if data is not None:
-                self.compare((words, data), replies[n], received(connections[n]))
+                self.compare((words, data), replies[n], servers.received(connections[n]))
             if not at_once:
-                line = printed_line(process, time.monotonic() + PATIENCE)
+                line = servers.printed_line(process, self.patience)
                 self.compare((words, data, "its line at once"), True, line.endswith(b"\n"))
                 out += line
         return out
@@ -440,7 +401,6 @@ class Story:
     def setting(self, names):
         """The files of a story, and a register with nothing in it."""
         chance = self.chance
-        self.put("empty", b"")
         self.put("junk", b"no database, but some text\n" * chance.choice([1, 50]))
         self.put("d", dictionary(chance))
         self.put("d-bad", refused_dictionary(chance))
@@ -455,9 +415,9 @@ class Story:
             self.put(f"b{n}", text)
         self.tokens = sorted(machine.read_callers(self.computer.files["c"].decode()))
         if chance.random() < 0.3:
-            self.run(self.maybe_misspelt(spelling(chance, "init", {"store": chance.choice(["s", "junk", "sub", "nowhere/s", "sub/s"]), "dictionary": chance.choice(["d", "d-bad", "none", "junk"])}, [])))
+            self.same(self.maybe_misspelt(spelling(chance, "init", {"store": chance.choice(["s", "junk", "sub", "nowhere/s", "sub/s"]), "dictionary": chance.choice(["d", "d-bad", "none", "junk"])}, [])))
         if not isinstance(self.computer.files.get("s"), machine.Register):
-            self.run(spelling(chance, "init", {"store": "s", "dictionary": "d"}, []))
+            self.same(spelling(chance, "init", {"store": "s", "dictionary": "d"}, []))
 
     def maybe_misspelt(self, words):
         return misspelt(self.chance, words) if self.chance.random() < 0.06 else words
@@ -475,14 +435,14 @@ class Story:
         command = chance.choice([*usual, "check", "init", "migrate", "nothing"] if self.count() else ["deposit"])
         file = self.mostly([f"b{n}" for n in range(len(self.texts))], ["none", "sub", "p", "none é"])
         if command == "nothing":
-            return self.run([], chance.choice(self.texts))
+            return self.same([], chance.choice(self.texts))
         if command == "init":
-            return self.run(self.maybe_misspelt(spelling(chance, command, {"store": chance.choice(["s", "empty", "junk", "sub", "sub/s", "nowhere/s", "new"]), "dictionary": self.mostly(["d"], ["d-bad", "none"])}, [])))
+            return self.same(self.maybe_misspelt(spelling(chance, command, {"store": chance.choice(["s", "empty", "junk", "sub", "sub/s", "nowhere/s", "new"]), "dictionary": self.mostly(["d"], ["d-bad", "none"])}, [])))
         if command == "migrate":
             store = chance.choice(["s", "s", "empty", "junk", "sub", "sub/s", "nowhere/s", "none"])
-            return self.run(self.maybe_misspelt(spelling(chance, command, {"store": store}, [])))
+            return self.same(self.maybe_misspelt(spelling(chance, command, {"store": store}, [])))
         if command == "check":
-            return self.run(self.maybe_misspelt(spelling(chance, command, {"dictionary": self.mostly(["d"], ["d-bad", "none", "sub"])}, [file])))
+            return self.same(self.maybe_misspelt(spelling(chance, command, {"dictionary": self.mostly(["d"], ["d-bad", "none", "sub"])}, [file])))
         options = {"store": self.mostly(["s"], ["none", "new", "empty", "junk", "sub", "nowhere/s"]), "policy": self.mostly(["p", "p", "p-more"], ["p-bad", "none", "sub", "bytes"]),
                    "callers": self.mostly(["c"], ["c-bad", "none", "bytes", "sub"]), "token": self.mostly([token_for(chance, command, self.tokens)], ["nobody", "", "T-delta"]), "project": self.mostly(PROJECTS, BAD_PROJECTS)}
         if chance.random() < 0.85:
@@ -496,7 +456,7 @@ class Story:
             places = [self.mostly([number_for(chance, self.count())], BAD_NUMBERS + ["999999"])]
             if command == "extract" and chance.random() < 0.5:
                 options["groups"] = self.mostly(GROUPS, BAD_GROUPS)
-        out, _, status = self.run(self.maybe_misspelt(spelling(chance, command, options, places)))
+        out, _, status = self.same(self.maybe_misspelt(spelling(chance, command, options, places)))
         if command == "extract" and status == 0 and out and chance.random() < 0.5:
             self.texts.append(out)
             self.put(f"b{len(self.texts) - 1}", out)
@@ -517,7 +477,7 @@ class Story:
             luck = chance.random()
             given.append(None if luck < 0.03 else b"" if luck < 0.06 else request(chance, self.tokens, self.texts, count))
             count = max(count, 1)
-        self.serve(options, given)
+        self.session(options, given)
 
     def refused_serve(self):
         """A start of `serve` that ends before it listens."""
@@ -531,14 +491,13 @@ class Story:
                 options.update(store=self.mostly(["s"], ["none"]), port=str(taken.getsockname()[1]), connections="1")
                 words = spelling(chance, "serve", options, [])
                 want, _ = self.computer.serve(words, "2024-06-01", [], False)
-                run = subprocess.run([self.program, *words], cwd=self.folder, stdin=subprocess.DEVNULL, capture_output=True, timeout=PATIENCE)
                 self.asked["runs"] += 1
-                return self.compare(words, want, (run.stdout, run.stderr, run.returncode))
+                return self.compare(words, want, self.run(*words))
         bad = chance.choice([{"port": "0"}, {"port": "65536"}, {"port": "+80"}, {"port": "x"}, {"port": ""}, {"connections": "0"}, {"connections": "1000001"}, {"connections": "-1"}, {"connections": "1e3"}, {"port": "99999999999999999999"}])
         if kind == 1:
-            return self.run(spelling(chance, "serve", {**options, "port": "8017", "connections": "1", **bad}, []))
+            return self.same(spelling(chance, "serve", {**options, "port": "8017", "connections": "1", **bad}, []))
         # a store that is none ends it before it listens, whatever else is right
-        return self.run(self.maybe_misspelt(spelling(chance, "serve", {**options, "store": "none", "port": "8017", "connections": "1"}, [])))
+        return self.same(self.maybe_misspelt(spelling(chance, "serve", {**options, "store": "none", "port": "8017", "connections": "1"}, [])))
 
     def damages(self):
         """Statements of another hand, each with what stands there then where it changes something."""
@@ -568,7 +527,7 @@ class Story:
 
     def written(self, statement):
         """Another hand writes into the copy of the register. Whether it changed anything."""
-        connection = sqlite3.connect(os.path.join(self.folder, "t"))
+        connection = sqlite3.connect(self.path("t"))
         connection.executescript(statement)
         changes = connection.total_changes
         connection.close()
@@ -576,10 +535,10 @@ class Story:
 
     def damage(self):
         """Another hand changes a copy of the register, or makes it one of format 1; it is opened and migrated."""
-        bodies.copy_register(self.folder, "s", "t")
+        self.copy("s", "t")
         held = self.computer.files["s"]
         if self.chance.random() < 0.5:
-            self.written("; ".join(bodies.TO_FORMAT_1))
+            self.written("; ".join(servers.TO_FORMAT_1))
             found = register_like(held, marked(held, False), 1)
             if self.chance.random() < 0.7 and self.written(self.chance.choice(list(self.spoils()))):
                 found = machine.Damaged(1)
@@ -587,17 +546,16 @@ class Story:
             statement, found = self.chance.choice(list(self.damages()))
             found = found if self.written(statement) else register_like(held, list(held.deposits))
         self.computer.files["t"] = found
-        asking = ["--store=t", "--policy=p", "--callers=c", "--token=t-delta", "--project=N1", "--day=2024-06-01"]
         for words in (["list"], ["migrate"], ["list"], ["extract", "1"], ["withdraw", "1"]):
-            self.run([*words, *(asking[:1] if words == ["migrate"] else asking)])
+            self.same([*words, "--store=t"] if words == ["migrate"] else asking(*words, store="t"))
 
     def largest(self):
         """A file at the limit, and one above it."""
         clean = machine.FILE_A
         self.put("long", clean + b" " * (machine.LIMIT - len(clean) + self.chance.randrange(2)))
         for token in self.chance.sample(["t-delta", "t-echo"], 2):
-            self.run(["deposit", "--store=s", "--policy=p", "--callers=c", "--project=N1", "--day=2024-06-01", "--token", token, "long"])
-        self.run(["check", "--dictionary", "d", "long"])
+            self.same(asking("deposit", "long", token=token))
+        self.same(["check", "--dictionary", "d", "long"])
 
     def tell(self, names):
         chance = self.chance
@@ -612,7 +570,7 @@ class Story:
             self.damage()
         if chance.random() < 0.01:
             self.largest()
-        self.run(["list", "--store=s", "--policy=p", "--callers=c", "--token=t-delta", "--project=N1", "--day=2024-06-02"])
+        self.same(asking("list", day="2024-06-02"))
 
 
 def shortened(value):

@@ -10,18 +10,16 @@ import contextlib
 import os
 import socket
 import sqlite3
-import subprocess
 import sys
 import tempfile
 sys.dont_write_bytecode = True
 import machine  # noqa: E402
-import reference  # noqa: E402
+import servers  # noqa: E402
 
-PATIENCE = 60
 OPTIONS = {"--store": "s", "--policy": "q", "--callers": "c", "--day": "2024-05-01", "--project": "N1", "--token": "t-delta"}
 OF_SERVE = ("--store", "--policy", "--callers", "--day")
 REFUSED = "4 ! words refused"
-MINI, POLICY, CALLERS = machine.spelled_dictionary(reference.built_in()), machine.POLICY.encode(), machine.CALLERS.encode()
+MINI, POLICY, CALLERS = servers.FILES["mini"], machine.POLICY.encode(), machine.CALLERS.encode()
 
 
 def longer(text):
@@ -420,32 +418,21 @@ def words_of(line):
     return words
 
 
-class Folder:
-    """A folder with the files that the lines name, and what is counted of the starts there."""
+class Folder(servers.Place):
+    """A place with the files that the lines name."""
 
-    def __init__(self, program, place):
-        self.program, self.place, self.passed, self.wrong = program, place, 0, []
-        for name, data in FILES.items():
-            with open(os.path.join(place, name), "wb") as file:
-                file.write(data)
+    patience = 60
 
     def answer(self, words):
-        run = subprocess.run([self.program, *words], cwd=self.place, stdin=subprocess.DEVNULL, capture_output=True, timeout=PATIENCE)
-        printed, said = PRINTED.get(run.stdout, run.stdout), run.stderr
-        told = str(run.returncode) + (" " + printed.decode("latin-1")[:-1] if printed.endswith(b"\n") else printed.decode("latin-1"))
+        out, said, status = self.run(*words)
+        out = PRINTED.get(out, out)
+        told = str(status) + (" " + out.decode("latin-1")[:-1] if out.endswith(b"\n") else out.decode("latin-1"))
         if said.startswith(b"groundreg: ") and said.endswith(b"\n"):
             return told + " ! " + said[len(b"groundreg: "):-1].decode("latin-1")
         return told + said.decode("latin-1")
 
     def hold(self, line, want):
-        got = self.answer(words_of(line))
-        self.count(got == want, f"{line}\n  wanted {want}\n  got    {got:.300}")
-
-    def count(self, is_well, wrong):
-        if is_well:
-            self.passed += 1
-        else:
-            self.wrong.append(wrong)
+        self.check(line, want, self.answer(words_of(line)))
 
     def play(self, scene):
         for line, want in lines_of(scene):
@@ -453,7 +440,7 @@ class Folder:
 
     def change(self, store, statement, *values, keys="OFF"):
         """Runs a statement on a store as another hand does, whether that keeps to foreign keys or not."""
-        with contextlib.closing(sqlite3.connect(os.path.join(self.place, store))) as connection, connection:
+        with contextlib.closing(sqlite3.connect(self.path(store))) as connection, connection:
             connection.execute(f"PRAGMA foreign_keys = {keys}")
             connection.execute(statement, values)
 
@@ -468,7 +455,7 @@ class Folder:
 def refuse_stores(folder):
     folder.play(BEFORE_STORES)
     for statement in OF_NO_DEPOSIT:
-        folder.count(folder.refuses("s", statement), f"not refused: {statement}")
+        folder.check(f"is refused: {statement}", True, folder.refuses("s", statement))
     for store, statement, want, migrated in STORES:
         if statement:
             folder.change(store, statement)
@@ -476,7 +463,7 @@ def refuse_stores(folder):
             folder.hold(f"{command}|--store={store}", want)
         folder.hold(f"migrate|--store={store}", migrated)
     # Asking for a register that is not there makes no file.
-    folder.count(not os.path.exists(os.path.join(folder.place, "gone")), "a file `gone` was made")
+    folder.check("a file `gone` is made", False, os.path.exists(folder.path("gone")))
     folder.play(BEHIND_STORES)
 
 
@@ -499,24 +486,20 @@ def refuse_port(folder):
 def make_private(folder):
     folder.play("init|--store=s|--dictionary=mini => 0 created\nserve|&|--log=l|--port=80|--connections=1|--store=empty => 4 ! not a register")
     for name in ("s", "s-wal", "l"):
-        mode = os.stat(os.path.join(folder.place, name)).st_mode & 0o777
-        folder.count(mode == 0o600, f"{name} has mode {mode:o}, wanted 600")
+        folder.check(f"the mode of {name}", "600", f"{os.stat(folder.path(name)).st_mode & 0o777:o}")
 
 
 def main():
-    program = os.path.abspath(sys.argv[1])
-    passed, wrong = 0, []
+    passed = failed = 0
     # (an empty word is no line)
     plays = [lambda folder, scene=scene: folder.play(scene) for scene in SCENES] + [lambda folder: folder.hold("", REFUSED), refuse_stores, refuse_changed, refuse_port, make_private]
     for play in plays:
-        with tempfile.TemporaryDirectory() as place:
-            folder = Folder(program, place)
+        with tempfile.TemporaryDirectory() as path:
+            folder = Folder(sys.argv[1], path, files=FILES)
             play(folder)
-            passed, wrong = passed + folder.passed, wrong + folder.wrong
-    for text in wrong:
-        print(text)
-    print(f"{passed} passed, {len(wrong)} failed")
-    sys.exit(len(wrong) > 0)
+            passed, failed = passed + folder.passed, failed + folder.failed
+    print(f"{passed} passed, {failed} failed")
+    sys.exit(failed > 0)
 
 
 if __name__ == "__main__":
