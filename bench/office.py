@@ -1,10 +1,12 @@
 #!/usr/bin/env python3
-"""Measures registers that are served: the memory of an idle one, and requests a second over one and over a hundred behind one nginx.
+"""Measures registers that are served: the memory of an idle one, and requests a second over one and over a hundred
+behind one nginx.
 
 usage: bench/office.py PROGRAM [SECONDS]
-Prints two tables. The first has, for registers of 0, 100 and 10,000 deposits of 1 kB, the resident memory of `serve` that listens (VmRSS and, of what it shares
-with others, its part: Pss), the greatest since its start (VmHWM), the seconds of that start, and how many would fit into 24 GB by Pss. The second has the
-requests that CLIENTS processes got answered in SECONDS (10), one after the other over connections that they keep: listings and extracts of 1 kB."""
+Prints two tables. The first has, for registers of 0, 100 and 10,000 deposits of 1 kB, the resident memory of `serve`
+that listens (VmRSS and, of what it shares with others, its part: Pss), the greatest since its start (VmHWM), the
+seconds of that start, and how many would fit into 24 GB by Pss. The second has the requests that CLIENTS processes got
+answered in SECONDS (10), one after the other over connections that they keep: listings and extracts of 1 kB."""
 import http.client
 import multiprocessing
 import os
@@ -48,8 +50,10 @@ def filled(program, folder, count):
 
 def memory(process):
     """VmRSS, Pss and VmHWM in KiB."""
-    with open(f"/proc/{process.pid}/status", encoding="ascii") as file, open(f"/proc/{process.pid}/smaps_rollup", encoding="ascii") as parts:
-        text = file.read() + parts.read()
+    text = ""
+    for name in ("status", "smaps_rollup"):
+        with open(f"/proc/{process.pid}/{name}", encoding="ascii") as file:
+            text += file.read()
     return [int(re.search(rf"^{name}:\s*(\d+)", text, re.M)[1]) for name in ("VmRSS", "Pss", "VmHWM")]
 
 
@@ -81,7 +85,8 @@ def asked(site_port, certificate, projects, target, seconds, counts, at):
     connection = Connection(site_port, certificate)
     count, until = 0, time.monotonic() + seconds
     while time.monotonic() < until:
-        connection.request("GET", f"/v1/projects/{projects[(at * 37 + count) % len(projects)]}/deposits{target}", headers={"Authorization": "Bearer t-delta"})
+        connection.request("GET", f"/v1/projects/{projects[(at * 37 + count) % len(projects)]}/deposits{target}",
+                           headers={"Authorization": "Bearer t-delta"})
         reply = connection.getresponse()
         reply.read()
         if reply.status != 200:
@@ -93,7 +98,8 @@ def asked(site_port, certificate, projects, target, seconds, counts, at):
 def rate(site, projects, target, seconds):
     """Requests a second."""
     counts = multiprocessing.Array("q", CLIENTS)
-    clients = [multiprocessing.Process(target=asked, args=(site.port, site.certificate, projects, target, seconds, counts, at)) for at in range(CLIENTS)]
+    given = (site.port, site.certificate, projects, target, seconds, counts)
+    clients = [multiprocessing.Process(target=asked, args=(*given, at)) for at in range(CLIENTS)]
     for client in clients:
         client.start()
     for client in clients:
@@ -102,7 +108,8 @@ def rate(site, projects, target, seconds):
 
 
 def behind_nginx(program, folder, seconds):
-    print(f"\n| Registers behind one nginx | listings of one deposit a second | extracts of 1 kB a second | MB of all, Pss |\n|---|---|---|---|")
+    print("\n| Registers behind one nginx | listings of one deposit a second | extracts of 1 kB a second"
+          " | MB of all, Pss |\n|---|---|---|---|")
     certificate, running, text = servers.certificate_in(folder), [], ""
     try:
         for n in range(MANY):
@@ -114,7 +121,8 @@ def behind_nginx(program, folder, seconds):
         for count in (1, MANY):
             projects = [f"P{n}" for n in range(count)]
             held = sum(memory(server.process)[1] for server in running[:count]) / 1024
-            print(f"| {count} | {rate(site, projects, '', seconds):.0f} | {rate(site, projects, '/1', seconds):.0f} | {held:.0f} |", flush=True)
+            listings, extracts = (rate(site, projects, target, seconds) for target in ("", "/1"))
+            print(f"| {count} | {listings:.0f} | {extracts:.0f} | {held:.0f} |", flush=True)
         site.end()
     finally:
         for server in running:

@@ -1,4 +1,5 @@
-"""Measures a register: what a command on a file costs, beside the same rows written by SQLite itself; requests a second; the cost of opening."""
+"""Measures a register: what a command on a file costs, beside the same rows written by SQLite itself; requests a
+second; the cost of opening."""
 import os
 import shutil
 import socket
@@ -43,7 +44,8 @@ class Place(servers.Place):
             return taken, megabytes(note), out
 
     def bytes_held(self):
-        return sum(os.path.getsize(self.path(name)) for name in ("register", "register-wal") if os.path.exists(self.path(name)))
+        return sum(os.path.getsize(self.path(name))
+                   for name in ("register", "register-wal") if os.path.exists(self.path(name)))
 
     def asked(self, *parts):
         """Seconds for the requests of each part, one part behind the other in one run of the program, which has opened
@@ -64,7 +66,8 @@ def megabytes(note):
 
 
 def ask(port, requests):
-    """Seconds for these requests, one connection each, from the first connection to the last reply, and that reply; each has to be 200."""
+    """Seconds for these requests, one connection each, from the first connection to the last reply, and that reply;
+    each has to be 200."""
     reply = b""
     begun = time.monotonic()
     for request in requests:
@@ -77,9 +80,11 @@ def ask(port, requests):
 
 
 def by_words(place, data):
-    """Seconds, MB and output of the deposit of a file, of a listing of another project, which opens the register, of a listing, and of an extract."""
+    """Seconds, MB and output of the deposit of a file, of a listing of another project, which opens the register, of a
+    listing, and of an extract."""
     place.put("file", data)
-    return [place.measured(*words) for words in (asking("deposit", "file"), asking("list", project="N2"), asking("list"), asking("extract", "1"))]
+    asked = asking("deposit", "file"), asking("list", project="N2"), asking("list"), asking("extract", "1")
+    return [place.measured(*words) for words in asked]
 
 
 def checked_there(place, data):
@@ -101,13 +106,14 @@ def built_plainly(folder):
     if not shutil.which("rustc"):
         return None
     plain = os.path.join(folder, "plain")
-    subprocess.run(["rustc", "-O", "--edition", "2021", os.path.join(os.path.dirname(os.path.abspath(__file__)), "plain.rs"), "-o", plain], check=True)
+    subprocess.run(["rustc", "-O", "--edition", "2021",
+                    os.path.join(os.path.dirname(os.path.abspath(__file__)), "plain.rs"), "-o", plain], check=True)
     return plain
 
 
 def answered_plainly(plain, folder, requests, reply, kept=()):
-    """Seconds that the server in plain Rust takes for these requests, each of which it answers with the bytes of this reply. It keeps their bodies in a
-    file, if one is named."""
+    """Seconds that the server in plain Rust takes for these requests, each of which it answers with the bytes of this
+    reply. It keeps their bodies in a file, if one is named."""
     path = os.path.join(folder, "reply")
     with open(path, "wb") as file:
         file.write(reply)
@@ -118,14 +124,16 @@ def answered_plainly(plain, folder, requests, reply, kept=()):
 
 
 def by_sqlite(place):
-    """Seconds that SQLite takes to write the rows of a register into a file of its own, in one transaction, and to read them again."""
+    """Seconds that SQLite takes to write the rows of a register into a file of its own, in one transaction, and to read
+    them again."""
     place.copy("register", "copy")
     source = sqlite3.connect(place.path("copy"))
     tables = source.execute("SELECT name, sql FROM sqlite_master WHERE type = 'table' ORDER BY rowid").fetchall()
     rows = {name: source.execute(f"SELECT * FROM {name}").fetchall() for name, _ in tables}
     source.close()
     target = sqlite3.connect(place.path("beside"), isolation_level=None)
-    target.executescript("PRAGMA journal_mode = wal; PRAGMA synchronous = full; PRAGMA foreign_keys = on;" + ";".join(sql for _, sql in tables))
+    target.executescript("PRAGMA journal_mode = wal; PRAGMA synchronous = full; PRAGMA foreign_keys = on;"
+                         + ";".join(sql for _, sql in tables))
     begun = time.monotonic()
     target.execute("BEGIN")
     for name, sql in tables:
@@ -142,7 +150,8 @@ def by_sqlite(place):
 
 
 def socket_times(place, data):
-    """Seconds that a deposit of a file and an extract of it take over the socket, where the register was open before: the extract is the shortest of three."""
+    """Seconds that a deposit of a file and an extract of it take over the socket, where the register was open before:
+    the extract is the shortest of three."""
     (posted, *drawn), _ = place.asked([deposit(data)], [EXTRACT], [EXTRACT], [EXTRACT])
     return posted, min(drawn)
 
@@ -164,10 +173,13 @@ def hundred(length):
 
 
 def grown(program, folder, limit, size):
-    """What a deposit of 1 kB and a listing take in registers of many deposits and of large ones: each served from the empty register, in one run of the program."""
+    """What a deposit of 1 kB and a listing take in registers of many deposits and of large ones: each served from the
+    empty register, in one run of the program."""
     print("\n| A register of | the last 100 deposits, ms each | 10 listings, ms each |\n|---|---|---|")
-    for name, requests in (("100 of 1 kB", [deposit(small(n)) for n in range(100)]), (f"{MANY} of 1 kB", [deposit(small(n)) for n in range(MANY)]),
-                           (f"100 of {size // 400} bytes", hundred(size // 400)), (f"100 of {size // 4} bytes", hundred(size // 4))):
+    for name, requests in (("100 of 1 kB", [deposit(small(n)) for n in range(100)]),
+                           (f"{MANY} of 1 kB", [deposit(small(n)) for n in range(MANY)]),
+                           (f"100 of {size // 400} bytes", hundred(size // 400)),
+                           (f"100 of {size // 4} bytes", hundred(size // 4))):
         place = Place(program, folder, limit)
         (_, added, listed), reply = place.asked(requests[:-100], requests[-100:], [LISTING] * 10)
         if reply.count(b'"number"') != len(requests):
@@ -176,20 +188,29 @@ def grown(program, folder, limit, size):
 
 
 def requests_a_second(program, folder, limit):
-    """Requests a second, a connection each, beside a plain Rust server that answers each with the last reply; before a listing, one that is not counted.
-    Of requests that change nothing each is the best of some turns, of the program and of the plain server one after the other; deposits are asked once."""
+    """Requests a second, a connection each, beside a plain Rust server that answers each with the last reply; before a
+    listing, one that is not counted. Of requests that change nothing each is the best of some turns, of the program and
+    of the plain server one after the other; deposits are asked once."""
     tools = tempfile.mkdtemp(prefix="bench")
     plain = built_plainly(tools)
     place = Place(program, folder, limit)
-    print(f"\n| {REQUESTS} requests, a connection each | a second | of a plain Rust server that answers each with the last reply | that has each body on the disk first |\n|---|---|---|---|")
+    print(f"\n| {REQUESTS} requests, a connection each | a second"
+          " | of a plain Rust server that answers each with the last reply | that has each body on the disk first |\n"
+          "|---|---|---|---|")
     # Delta sees all rows of its own deposits; of what Echo sees, each deposit's row of PROJ has to be read
     foreign = LISTING.replace(b"t-delta", b"t-echo")
     deposits, apart = ([deposit(small(n, way)) for n in range(100 + REQUESTS)] for way in (False, True))
     deposited, listed = "deposits of 1 kB", [LISTING] * REQUESTS
-    for name, first, requests in (("", [], deposits[:10]), ("listings of 10 deposits", [LISTING], listed), ("", [], deposits[10:100]), ("listings of 100 deposits", [LISTING], listed),
-                                  (deposited, [], deposits[100:]), (f"listings of {len(deposits)} deposits", [LISTING], listed),
-                                  ("extracts of 1 kB", [], [EXTRACT] * REQUESTS), ("the same deposit again", [], deposits[:1] * REQUESTS),
-                                  ("new", [], apart), (f"listings of {len(apart)} deposits, each with a row of PROJ of its own", [LISTING], listed),
+    for name, first, requests in (("", [], deposits[:10]),
+                                  ("listings of 10 deposits", [LISTING], listed),
+                                  ("", [], deposits[10:100]), ("listings of 100 deposits", [LISTING], listed),
+                                  (deposited, [], deposits[100:]),
+                                  (f"listings of {len(deposits)} deposits", [LISTING], listed),
+                                  ("extracts of 1 kB", [], [EXTRACT] * REQUESTS),
+                                  ("the same deposit again", [], deposits[:1] * REQUESTS),
+                                  ("new", [], apart),
+                                  (f"listings of {len(apart)} deposits, each with a row of PROJ of its own",
+                                   [LISTING], listed),
                                   ("the same, asked by another firm", [foreign], [foreign] * REQUESTS)):
         if name == "new":
             place = Place(program, folder, limit)
@@ -212,7 +233,9 @@ def requests_a_second(program, folder, limit):
 
 def measure(program, size, limit):
     folder = tempfile.mkdtemp(prefix="bench")
-    print("\n| File | Bytes | deposit, s | MB | list, s | MB | extract, s | MB | deposit over the socket, s | extract there, s | Register, bytes | SQLite writes the rows, s | reads them | its bytes |\n" + "|---" * 14 + "|")
+    print("\n| File | Bytes | deposit, s | MB | list, s | MB | extract, s | MB | deposit over the socket, s"
+          " | extract there, s | Register, bytes | SQLite writes the rows, s | reads them | its bytes |\n"
+          + "|---" * 14 + "|")
     for make in (files.flat, files.deep, files.ring):
         place = Place(program, folder, limit)
         data = make(size)
@@ -221,13 +244,15 @@ def measure(program, size, limit):
         written, read, beside = by_sqlite(place)
         posted, got = socket_times(Place(program, folder, limit), data)
         note = "" if len(text) > size // 2 else " (not whole)"
-        commands = f"{deposited:.2f} | {to_deposit:.1f} | {listed:.2f} | {to_list:.1f} | {drawn:.2f}{note} | {to_draw:.1f}"
-        print(f"| {make.__name__} | {len(data)} | {commands} | {posted:.2f} | {got:.2f} | {held} | {written:.2f} | {read:.2f} | {beside} |", flush=True)
+        print(f"| {make.__name__} | {len(data)} | {deposited:.2f} | {to_deposit:.1f} | {listed:.2f} | {to_list:.1f}"
+              f" | {drawn:.2f}{note} | {to_draw:.1f} | {posted:.2f} | {got:.2f} | {held}"
+              f" | {written:.2f} | {read:.2f} | {beside} |", flush=True)
     requests_a_second(program, folder, limit)
     grown(program, folder, limit, size)
     place = Place(program, folder, limit)
     text = files.deep(size // 4)
     (taken,), _ = place.asked([deposit(text.replace(b"North bank", b"Site %02d" % n)) for n in range(100)])
     opened, memory, _ = place.measured(*asking("list", project="N2"))
-    print(f"\n100 deposits of {len(text)} bytes: {taken / 100:.2f} s each over the socket, {place.bytes_held()} bytes; opened, and a listing of no deposits, in {opened:.2f} s and {memory:.1f} MB")
+    print(f"\n100 deposits of {len(text)} bytes: {taken / 100:.2f} s each over the socket, {place.bytes_held()} bytes;"
+          f" opened, and a listing of no deposits, in {opened:.2f} s and {memory:.1f} MB")
     shutil.rmtree(folder)

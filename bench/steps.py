@@ -2,8 +2,9 @@
 """Measures what one deposit may cost: a file of 62 kB whose own DICT makes each of 2,000 rows a child of 2,000 others.
 
 usage: bench/steps.py PROGRAM [ROWS]
-Printed: bytes of the file, its steps, seconds and MB of its deposit, bytes of the register and of its log after it, seconds and MB of the next start,
-which is a listing, and the steps of each deposit by the line that docs/OPERATING.md has for that."""
+Printed: bytes of the file, its steps, seconds and MB of its deposit, bytes of the register and of its log after it,
+seconds and MB of the next start, which is a listing, and the steps of each deposit by the line that docs/OPERATING.md
+has for that."""
 import os
 import re
 import sqlite3
@@ -23,7 +24,8 @@ def size_of(place, name):
 
 def file_of(rows):
     """The file: so many rows of LOCA, and of a group each row of which belongs to all of these."""
-    return (files.FRONT + files.group("LOCA", ["LOCA_ID"], [""], ["ID"], ([f"BH{n}"] for n in range(rows))) + files.of_every_hole(rows)).encode()
+    return (files.FRONT + files.group("LOCA", ["LOCA_ID"], [""], ["ID"], ([f"BH{n}"] for n in range(rows)))
+            + files.of_every_hole(rows)).encode()
 
 
 def main():
@@ -34,7 +36,8 @@ def main():
         deposited, to_deposit, _ = place.measured(*asking("deposit", "file"))
         sizes = [size_of(place, name) for name in ("register", "register-wal")]
         opened, to_open, _ = place.measured(*asking("list"))
-        print(f"{len(data)} bytes, {rows * rows + rows:,} steps: deposit {deposited:.2f} s, {to_deposit:.0f} MB; register {sizes[0]} bytes, log {sizes[1]}; the next start {opened:.2f} s, {to_open:.0f} MB")
+        print(f"{len(data)} bytes, {rows * rows + rows:,} steps: deposit {deposited:.2f} s, {to_deposit:.0f} MB;"
+              f" register {sizes[0]} bytes, log {sizes[1]}; the next start {opened:.2f} s, {to_open:.0f} MB")
         with open(os.path.join(here, "..", "docs", "OPERATING.md"), encoding="utf-8") as page:
             line = re.search(r'^\$ sqlite3 site\.register "(SELECT deposit, .*)"$', page.read(), re.MULTILINE)[1]
         connection = sqlite3.connect(place.path("register"))

@@ -1,12 +1,16 @@
 #!/usr/bin/env python3
-"""The program at its limits and one beyond, texts that are nested or repeated without end, and peers that do not behave.
+"""The program at its limits and one beyond, texts that are nested or repeated without end, and peers that do not
+behave.
 
-usage: limits.py PROGRAM [SECONDS]     the last line is 'N passed, M failed'; before it stand the seconds of each start that took more than a tenth of one
+usage: limits.py PROGRAM [SECONDS]     the last line is 'N passed, M failed'
 
-SECONDS (a hundredth) is what the slow peer waits behind each of its bytes. Peers speak to one `serve`, and behind each of them a listing is asked, which has
-to be the one from before; `serve` has to end with 0 after its K connections, with the statuses that belong to them. Of a thousand connections one after the
-other each has to be answered as the machine of machine.py has it, and the greatest resident memory after the last may be 64 KiB above that after the
-hundredth (VmHWM, from /proc)."""
+Before that stand the seconds of each start that took more than a tenth of one.
+
+SECONDS (a hundredth) is what the slow peer waits behind each of its bytes. Peers speak to one `serve`, and behind each
+of them a listing is asked, which has to be the one from before; `serve` has to end with 0 after its K connections, with
+the statuses that belong to them. Of a thousand connections one after the other each has to be answered as the machine
+of machine.py has it, and the greatest resident memory after the last may be 64 KiB above that after the hundredth
+(VmHWM, from /proc)."""
 import os
 import shutil
 import socket
@@ -23,7 +27,8 @@ import servers  # noqa: E402
 from servers import DAY, asking, head, post, received, sent  # noqa: E402
 
 LIMIT = machine.LIMIT
-CLEAN, TOO_LARGE, NO_WORDS = (b"clean\n", b"", 0), (b"", b"groundreg: too large\n", 4), (b"", b"groundreg: words refused\n", 4)
+CLEAN, TOO_LARGE = (b"clean\n", b"", 0), (b"", b"groundreg: too large\n", 4)
+NO_WORDS, DENIED = (b"", b"groundreg: words refused\n", 4), (b"denied 0\n", b"", 2)
 LISTING = head(b"/v1/projects/N1/deposits", [])
 MEMORY_ROOM = 64
 
@@ -64,43 +69,61 @@ def filled(data, length, more=b" "):
 # ---- lengths
 
 def lengths(place):
-    a = machine.FILE_A
-    for name, data, want in [("a file at the limit", filled(a, LIMIT), CLEAN), ("a file one above it", filled(a, LIMIT + 1), TOO_LARGE), ("one long line", b"x" * LIMIT, (b"5 1 -\n", b"", 1)),
-                             ("a line of quotes", b'"' * LIMIT, (b"3 1 -\n", b"", 1)), ("a line of commas", b"," * LIMIT, (b"5 1 -\n", b"", 1)), ("a row of nulls", b'"",' * (LIMIT // 3 - 1) + b'""', (b"3 1 -\n", b"", 1)), ("zeros", bytes(LIMIT), (b"5 1 -\n", b"", 1))]:
+    a, mini = machine.FILE_A, servers.FILES["mini"]
+    for name, data, want in [("a file at the limit", filled(a, LIMIT), CLEAN),
+                             ("a file one above it", filled(a, LIMIT + 1), TOO_LARGE),
+                             ("one long line", b"x" * LIMIT, (b"5 1 -\n", b"", 1)),
+                             ("a line of quotes", b'"' * LIMIT, (b"3 1 -\n", b"", 1)),
+                             ("a line of commas", b"," * LIMIT, (b"5 1 -\n", b"", 1)),
+                             ("a row of nulls", b'"",' * (LIMIT // 3 - 1) + b'""', (b"3 1 -\n", b"", 1)),
+                             ("zeros", bytes(LIMIT), (b"5 1 -\n", b"", 1))]:
         place.try_start(name, [], want, data)
         place.with_file(name + ", by `check`", data, ["check", "--dictionary=mini", "given"], want)
     for make in (files.flat, files.deep, files.ring):
         place.try_start(f"{make.__name__} of bench/files.py", [], CLEAN, make(LIMIT))
-    place.with_file("a dictionary at the limit", filled(servers.FILES["mini"], LIMIT), ["check", "--dictionary=given", "a"], CLEAN)
-    place.with_file("a dictionary one above it", filled(servers.FILES["mini"], LIMIT + 1), ["check", "--dictionary=given", "a"], refused("dictionary"))
-    place.with_file("`init` with a dictionary one above it", filled(servers.FILES["mini"], LIMIT + 1), ["init", "--store=none", "--dictionary=given"], refused("dictionary"))
-    for name, entry in (("headings of one group", [b"HEADING", b"LOCA", b"LOCA_%d", b"OTHER", b""]), ("groups", [b"GROUP", b"%d", b"", b"", b"LOCA"])):
+    place.with_file("a dictionary at the limit", filled(mini, LIMIT),
+                    ["check", "--dictionary=given", "a"], CLEAN)
+    place.with_file("a dictionary one above it", filled(mini, LIMIT + 1),
+                    ["check", "--dictionary=given", "a"], refused("dictionary"))
+    place.with_file("`init` with a dictionary one above it", filled(mini, LIMIT + 1),
+                    ["init", "--store=none", "--dictionary=given"], refused("dictionary"))
+    for name, entry in (("headings of one group", [b"HEADING", b"LOCA", b"LOCA_%d", b"OTHER", b""]),
+                        ("groups", [b"GROUP", b"%d", b"", b"", b"LOCA"])):
         line = machine.line_of(b"DATA", entry)
-        count = (LIMIT - len(servers.FILES["mini"])) // len(line % 100000)
-        place.with_file(f"a dictionary of {count:,} {name}", servers.FILES["mini"] + b"".join(line % n for n in range(100000, 100000 + count)), ["check", "--dictionary=given", "a"], CLEAN)
-    place.with_file("a deposit one above the limit", filled(a, LIMIT + 1), asking("deposit", "given", embargo=DAY), (b"too large\n", b"", 4))
-    place.with_file("the same, which the policy denies", filled(a, LIMIT + 1), asking("deposit", "given", token="t-echo", embargo=DAY), (b"denied 0\n", b"", 2))
-    place.with_file("a deposit at the limit", filled(a, LIMIT), asking("deposit", "given", embargo=DAY), (f"receipt 1 {DAY}\n".encode(), b"", 0))
+        count = (LIMIT - len(mini)) // len(line % 100000)
+        text = mini + b"".join(line % n for n in range(100000, 100000 + count))
+        place.with_file(f"a dictionary of {count:,} {name}", text, ["check", "--dictionary=given", "a"], CLEAN)
+    place.with_file("a deposit one above the limit", filled(a, LIMIT + 1), asking("deposit", "given", embargo=DAY),
+                    (b"too large\n", b"", 4))
+    place.with_file("the same, which the policy denies", filled(a, LIMIT + 1),
+                    asking("deposit", "given", token="t-echo", embargo=DAY), DENIED)
+    place.with_file("a deposit at the limit", filled(a, LIMIT), asking("deposit", "given", embargo=DAY),
+                    (f"receipt 1 {DAY}\n".encode(), b"", 0))
     place.try_start("its extract", asking("extract", "1"), (a, b"", 0))
 
 
 # ---- policies, callers, words
 
 def eights(place):
-    """Files of 3 to 12 holes, so that what statements of eight rows leave over is each number from 0 to 7: their lines and steps are counted in the tables, and
-    the register, opened anew, gives each file back whole, but for the blank line at its end. Each hole has a row of LOCA under PROJ, of SAMP under LOCA and of LNMC under SAMP: three steps."""
+    """Files of 3 to 12 holes, so that what statements of eight rows leave over is each number from 0 to 7: their lines
+    and steps are counted in the tables, and the register, opened anew, gives each file back whole, but for the blank
+    line at its end. Each hole has a row of LOCA under PROJ, of SAMP under LOCA and of LNMC under SAMP: three steps."""
     for holes in range(3, 13):
         data = (files.FRONT + files.holes(holes) + files.samples(holes, lambda n: "") + files.contents(holes)).encode()
         store = f"eights{holes}"
         place.put("eight", data)
-        place.try_start(f"a register for {holes} holes", ["init", f"--store={store}", "--dictionary=mini"], (b"created\n", b"", 0))
-        place.try_start(f"a deposit of {holes} holes", asking("deposit", "eight", store=store, embargo=DAY), (f"receipt 1 {DAY}\n".encode(), b"", 0))
+        place.try_start(f"a register for {holes} holes", ["init", f"--store={store}", "--dictionary=mini"],
+                        (b"created\n", b"", 0))
+        place.try_start(f"a deposit of {holes} holes", asking("deposit", "eight", store=store, embargo=DAY),
+                        (f"receipt 1 {DAY}\n".encode(), b"", 0))
         place.copy(store, "copy")
         register = sqlite3.connect(place.path("copy"))
         counts = [register.execute(f"SELECT count(*) FROM {table}").fetchone()[0] for table in ("lines", "steps")]
         register.close()
-        place.check(f"lines and steps of {holes} holes", [sum(line != b"" for line in data.split(b"\r\n")), 3 * holes], counts)
-        place.try_start(f"an extract of {holes} holes", asking("extract", "1", store=store), (data.removesuffix(b"\r\n"), b"", 0))
+        place.check(f"lines and steps of {holes} holes", [sum(line != b"" for line in data.split(b"\r\n")), 3 * holes],
+                    counts)
+        place.try_start(f"an extract of {holes} holes", asking("extract", "1", store=store),
+                        (data.removesuffix(b"\r\n"), b"", 0))
 
 
 def policies(place):
@@ -108,32 +131,56 @@ def policies(place):
 
     def rules(numbers, more=""):
         return "".join(f'[[rule]]\nnumber = {n}\neffect = "permit"\n{more}' for n in numbers).encode()
+    inline = b", ".join(b'{number = %d, effect = "permit"}' % n for n in range(1, 10000))
     never = 'firm = "Nobody"\nheading = "LOCA_ID"\nvalue = "' + "x" * 200 + '"\n'
     for name, data, want in [
-        ("a policy at the limit", filled(machine.POLICY.encode() + b"#", LIMIT), listed), ("a policy one above it", filled(machine.POLICY.encode() + b"#", LIMIT + 1), refused("policy")),
-        ("9,999 rules", rules(range(1, 10000)), listed), ("10,000 rules", rules(range(1, 10001)), refused("policy")), ("10,000 rules, the last of them twice", rules([*range(1, 10000), 9999]), refused("policy")),
-        ("9,998 long rules that match nothing, and one", rules(range(1, 9999), never) + rules([9999]), listed), ("9,999 inline rules", b"rule = [" + b", ".join(b'{number = %d, effect = "permit"}' % n for n in range(1, 10000)) + b"]\n", listed),
-        ("rules with one number without end", rules([1] * (LIMIT // len(rules([1])))), refused("policy")), ("no rules", b"", (b"denied 0\n", b"", 2)), ("empty rules without end", b"[[rule]]\n" * (LIMIT // 9), refused("policy")),
-        ("a value without end", rules([1], 'heading = "LOCA_ID"\nvalue = "' + "x" * (LIMIT - 100) + '"\n'), (b"denied 0\n", b"", 2)), ("a number of a million digits", b"[[rule]]\nnumber = " + b"1" * 1000000 + b"\n", refused("policy")),
-        ("100,000 keys of one table", b"".join(b"k%d = 1\n" % n for n in range(100000)), refused("policy")), ("numbers 1 and 9999", rules([1, 9999]), listed), ("number 0", rules([0]), refused("policy")),
-        ("a name of 32", rules([1]) + b'firm = "' + b"x" * 32 + b'"\n', (b"denied 0\n", b"", 2)), ("a name of 33", rules([1]) + b'firm = "' + b"x" * 33 + b'"\n', refused("policy")),
-        ("a group of 4", rules([1]) + b'verb = "list"\ngroup = "ABCD"\n', (b"denied 0\n", b"", 2)), ("a group of 5", rules([1]) + b'group = "ABCDE"\n', refused("policy")),
-        ("a heading of 9", rules([1]) + b'heading = "ABCDEFGHI"\nvalue = ""\n', (b"denied 0\n", b"", 2)), ("a heading of 10", rules([1]) + b'heading = "ABCDEFGHIJ"\nvalue = ""\n', refused("policy")),
+        ("a policy at the limit", filled(machine.POLICY.encode() + b"#", LIMIT), listed),
+        ("a policy one above it", filled(machine.POLICY.encode() + b"#", LIMIT + 1), refused("policy")),
+        ("9,999 rules", rules(range(1, 10000)), listed),
+        ("10,000 rules", rules(range(1, 10001)), refused("policy")),
+        ("10,000 rules, the last of them twice", rules([*range(1, 10000), 9999]), refused("policy")),
+        ("9,998 long rules that match nothing, and one", rules(range(1, 9999), never) + rules([9999]), listed),
+        ("9,999 inline rules", b"rule = [" + inline + b"]\n", listed),
+        ("rules with one number without end", rules([1] * (LIMIT // len(rules([1])))), refused("policy")),
+        ("no rules", b"", DENIED),
+        ("empty rules without end", b"[[rule]]\n" * (LIMIT // 9), refused("policy")),
+        ("a value without end", rules([1], 'heading = "LOCA_ID"\nvalue = "' + "x" * (LIMIT - 100) + '"\n'), DENIED),
+        ("a number of a million digits", b"[[rule]]\nnumber = " + b"1" * 1000000 + b"\n", refused("policy")),
+        ("100,000 keys of one table", b"".join(b"k%d = 1\n" % n for n in range(100000)), refused("policy")),
+        ("numbers 1 and 9999", rules([1, 9999]), listed), ("number 0", rules([0]), refused("policy")),
+        ("a name of 32", rules([1]) + b'firm = "' + b"x" * 32 + b'"\n', DENIED),
+        ("a name of 33", rules([1]) + b'firm = "' + b"x" * 33 + b'"\n', refused("policy")),
+        ("a group of 4", rules([1]) + b'verb = "list"\ngroup = "ABCD"\n', DENIED),
+        ("a group of 5", rules([1]) + b'group = "ABCDE"\n', refused("policy")),
+        ("a heading of 9", rules([1]) + b'heading = "ABCDEFGHI"\nvalue = ""\n', DENIED),
+        ("a heading of 10", rules([1]) + b'heading = "ABCDEFGHIJ"\nvalue = ""\n', refused("policy")),
     ]:
         place.with_file(name, data, asking("list", policy="given"), want)
 
 
 def nested(place):
-    """Texts whose values, keys or headers stand within each other: whatever the depth, a policy of that form is refused."""
+    """Texts whose values, keys or headers stand within each other: whatever the depth, a policy of that form is
+    refused."""
     for depth in (79, 80, 81, 1000, 10000, 100000, LIMIT // 7):
-        forms = [("arrays", b"rule = " + b"[" * depth + b"]" * depth), ("arrays without an end", b"rule = " + b"[" * depth), ("inline tables", b"rule = " + b"{a=" * depth + b"1" + b"}" * depth), ("inline tables in arrays", b"rule = " + b"[{a=" * depth + b"1" + b"}]" * depth),
-                 ("a dotted key", b"rule" + b".a" * depth + b" = 1"), ("a header", b"[rule" + b".a" * depth + b"]"), ("a header of an array", b"[[rule" + b".a" * depth + b"]]"), ("dotted keys in inline tables", b"rule = " + b"{a.a.a=" * depth + b"1" + b"}" * depth),
-                 ("a value of a rule", b'[[rule]]\nnumber = 1\neffect = "permit"\nfirm = ' + b"[" * depth + b"]" * depth), ("headers, each longer", b"".join(b"[rule" + b".a" * n + b"]\n" for n in range(1, min(depth, 1000)))),
-                 ("line ends in arrays", b"rule = " + b"[\r\n" * depth + b"]" * depth), ("brackets alone", b"[" * depth), ("braces alone", b"{" * depth), ("quotes alone", b'"' * depth), ("backslashes", b'rule = "' + b"\\\\" * depth + b'"')]
+        forms = [("arrays", b"rule = " + b"[" * depth + b"]" * depth),
+                 ("arrays without an end", b"rule = " + b"[" * depth),
+                 ("inline tables", b"rule = " + b"{a=" * depth + b"1" + b"}" * depth),
+                 ("inline tables in arrays", b"rule = " + b"[{a=" * depth + b"1" + b"}]" * depth),
+                 ("a dotted key", b"rule" + b".a" * depth + b" = 1"),
+                 ("a header", b"[rule" + b".a" * depth + b"]"),
+                 ("a header of an array", b"[[rule" + b".a" * depth + b"]]"),
+                 ("dotted keys in inline tables", b"rule = " + b"{a.a.a=" * depth + b"1" + b"}" * depth),
+                 ("a value of a rule",
+                  b'[[rule]]\nnumber = 1\neffect = "permit"\nfirm = ' + b"[" * depth + b"]" * depth),
+                 ("headers, each longer", b"".join(b"[rule" + b".a" * n + b"]\n" for n in range(1, min(depth, 1000)))),
+                 ("line ends in arrays", b"rule = " + b"[\r\n" * depth + b"]" * depth),
+                 ("brackets alone", b"[" * depth), ("braces alone", b"{" * depth), ("quotes alone", b'"' * depth),
+                 ("backslashes", b'rule = "' + b"\\\\" * depth + b'"')]
         for name, data in forms:
             if len(data) <= LIMIT:
                 place.with_file(f"{name}, {depth} deep", data, asking("list", policy="given"), refused("policy"))
-    place.with_file("callers 100,000 deep", b"caller = " + b"[" * 100000 + b"]" * 100000, asking("list", callers="given"), refused("callers"))
+    place.with_file("callers 100,000 deep", b"caller = " + b"[" * 100000 + b"]" * 100000,
+                    asking("list", callers="given"), refused("callers"))
 
 
 def callers(place):
@@ -142,12 +189,21 @@ def callers(place):
     def many(tokens):
         return b"caller = [" + b",".join(b'{token="%s",firm="F",role="r"}' % token for token in tokens) + b"]\n"
     numbered = [b"t%d" % n for n in range(400000)]
+    tables = b"".join(b'[[caller]]\ntoken="t%d"\nfirm="F"\nrole="r"\n' % n for n in range(320000))
+    alike = [b"x" * 55 + b"%06d" % n for n in range(175000)]
     for name, data, token, want in [
-        ("400,000 callers, the first", many(numbered), "t0", listed), ("400,000 callers, the last", many(numbered), "t399999", listed), ("400,000 callers, none", many(numbered), "t400000", refused("token")),
-        ("400,000 callers, the last as the first", many([*numbered[:-1], b"t0"]), "t0", refused("callers")), ("400,000 callers, all the same", many([b"t"] * 400000), "t", refused("callers")),
-        ("400,000 callers from the last to the first", many(numbered[::-1]), "t7", listed), ("320,000 tables of callers", b"".join(b'[[caller]]\ntoken="t%d"\nfirm="F"\nrole="r"\n' % n for n in range(320000)), "t319999", listed),
-        ("callers at the limit", filled(machine.CALLERS.encode() + b"#", LIMIT), "t-delta", listed), ("callers one above it", filled(machine.CALLERS.encode() + b"#", LIMIT + 1), "t-delta", refused("callers")),
-        ("a token of 64", many([b"~" * 64]), "~" * 64, listed), ("a token of 65", many([b"~" * 65]), "~" * 65, refused("callers")), ("tokens that share 60 characters", many([b"x" * 55 + b"%06d" % n for n in range(175000)]), "x" * 55 + "174999", listed),
+        ("400,000 callers, the first", many(numbered), "t0", listed),
+        ("400,000 callers, the last", many(numbered), "t399999", listed),
+        ("400,000 callers, none", many(numbered), "t400000", refused("token")),
+        ("400,000 callers, the last as the first", many([*numbered[:-1], b"t0"]), "t0", refused("callers")),
+        ("400,000 callers, all the same", many([b"t"] * 400000), "t", refused("callers")),
+        ("400,000 callers from the last to the first", many(numbered[::-1]), "t7", listed),
+        ("320,000 tables of callers", tables, "t319999", listed),
+        ("callers at the limit", filled(machine.CALLERS.encode() + b"#", LIMIT), "t-delta", listed),
+        ("callers one above it", filled(machine.CALLERS.encode() + b"#", LIMIT + 1), "t-delta", refused("callers")),
+        ("a token of 64", many([b"~" * 64]), "~" * 64, listed),
+        ("a token of 65", many([b"~" * 65]), "~" * 65, refused("callers")),
+        ("tokens that share 60 characters", many(alike), "x" * 55 + "174999", listed),
     ]:
         place.with_file(name, data, asking("list", callers="given", token=token), want)
 
@@ -318,11 +374,13 @@ def thousand(place):
     for n in range(1000):
         data = asked[n % len(asked)]
         status, want = machine.serve(register, rules, by, DAY, data)
-        place.check(f"connection {n + 1} of a thousand", (want, str(status)), (server.ask(data), server.line(str(status))))
+        place.check(f"connection {n + 1} of a thousand", (want, str(status)),
+                    (server.ask(data), server.line(str(status))))
         if n in (98, 498, 998):
             memory.append(server.memory())
     place.check("memory that does not grow", True, memory[3] <= memory[1] + MEMORY_ROOM)
-    print(f"(greatest resident memory of `serve` before its first connection and after its 99th, 499th and 999th: {', '.join(map(str, memory))} KiB)")
+    print("(greatest resident memory of `serve` before its first connection and after its 99th, 499th and 999th:"
+          f" {', '.join(map(str, memory))} KiB)")
     place.slow.append(f"a thousand connections: {time.monotonic() - begun:.2f} s")
     server.end("a thousand connections")
 

@@ -4,8 +4,9 @@ and lists and extracts what it held.
 
 usage: made_over.py PROGRAM     the last line is 'N passed, M failed'
 
-`old.register` was made by a program whose table of deposits had the key `number INTEGER PRIMARY KEY`: `init` with samples/mini.ags, then the deposits
-below; `sqlite3 PATH ".backup old.register"` put it into one file. The lines of SQL are read from docs/OPERATING.md, so that what the page says is what is tried."""
+`old.register` was made by a program whose table of deposits had the key `number INTEGER PRIMARY KEY`: `init` with
+samples/mini.ags, then the deposits below; `sqlite3 PATH ".backup old.register"` put it into one file. The lines of SQL
+are read from docs/OPERATING.md, so that what the page says is what is tried."""
 import os
 import shutil
 import subprocess
@@ -51,12 +52,14 @@ def try_all(place):
     place.check("the new register, to be migrated", version, place.run("migrate", "--store=new.register"))
     for token in ("t-delta", "t-foxtrot", "t-echo"):
         for words in (["list"], *(["extract", str(number)] for number, *_ in DEPOSITS)):
-            same, new = (place.run(*asking(*words, store=store, token=token)) for store in ("same.register", "new.register"))
+            same, new = (place.run(*asking(*words, store=store, token=token))
+                         for store in ("same.register", "new.register"))
             place.check(f"{words} for {token}", same, new)
 
 
 def by_sqlite3(place, *words, given=b""):
-    run = subprocess.run(["sqlite3", "new.register", *words], cwd=place.folder, input=given, capture_output=True, timeout=120)
+    run = subprocess.run(["sqlite3", "new.register", *words], cwd=place.folder, input=given, capture_output=True,
+                         timeout=120)
     return run.stdout, run.stderr, run.returncode
 
 

@@ -44,7 +44,8 @@ class Place(servers.Place):
     patience = 120
 
     def __init__(self, program, folder):
-        files = {"mini": servers.sample("mini.ags"), "more": machine.FILE_B, "empty": b"", "denying": machine.POLICY.encode()}
+        files = {"mini": servers.sample("mini.ags"), "more": machine.FILE_B, "empty": b"",
+                 "denying": machine.POLICY.encode()}
         super().__init__(program, folder, machine.WITHDRAWING, files=files)
         register, callers = machine.Register(), machine.read_callers(machine.CALLERS)
         for number, (token, project, embargo, path) in enumerate(DEPOSITS):
@@ -80,7 +81,8 @@ def refused(place):
     for words in (["init", "--store=register", "--dictionary=mini"], asking("deposit", "more"),
                   asking("list", token="t-echo"), asking("extract", "1"),
                   asking("withdraw", "1"), ["migrate", "--store=register", "--dictionary=mini"],
-                  ["serve", "--store=register", "--policy=policy", "--callers=callers", "--port=80", "--connections=1"]):
+                  ["serve", "--store=register", "--policy=policy", "--callers=callers", "--port=80",
+                   "--connections=1"]):
         place.same(words)
     place.check("the register after the refusals", before, place.read())
 
@@ -140,7 +142,8 @@ def migrated(place):
         whole = [connection.execute(f"PRAGMA {told}").fetchall() for told in ("integrity_check", "foreign_key_check")]
     place.check("the file, by sqlite3", [[(b"ok",)], []], whole)
     place.make("made")
-    place.check("its tables, beside those of a register that is made", defined(place, "made"), defined(place, "register"))
+    place.check("its tables, beside those of a register that is made", defined(place, "made"),
+                defined(place, "register"))
     everything(place)
     place.same(["migrate", "--store=register"])
     for number, (token, project, _, _) in enumerate(DEPOSITS):

@@ -138,9 +138,9 @@ def program_cases(program, folder):
     built = bodies.Program(program, folder)
     built.put("callers", read(CALLERS, "rb"))
     for one in deposits:
-        sent = ["--embargo", one["Embargo"], os.path.join(home, one["File"])]
-        built.right(*servers.asking("deposit", *sent, store="empty", policy="all", token=people[one["Firm"]]["token"],
-                                    project=one["Project"], day="2024-05-01"))
+        built.right(*servers.asking("deposit", os.path.join(home, one["File"]), store="empty", policy="all",
+                                    token=people[one["Firm"]]["token"], project=one["Project"], day="2024-05-01",
+                                    embargo=one["Embargo"]))
     for pattern in patterns:
         built.put("policy", pattern.policy.encode())
         rules = machine.read_policy(pattern.policy)

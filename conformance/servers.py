@@ -66,7 +66,8 @@ class Place:
             return file.read()
 
     def copy(self, name, copy):
-        """Copies a register file and the log beside it, which belongs to it; where nothing has that name, the copy is away."""
+        """Copies a register file and the log beside it, which belongs to it. Of a name that nothing has, no copy is
+        left."""
         for end in ("", "-wal"):
             there, here = self.path(name + end), self.path(copy + end)
             if os.path.exists(here):
@@ -121,7 +122,8 @@ class Place:
 
 def asking(command, *more, **other):
     """The words of a command that asks a register; `other` are the options that are not as usual."""
-    options = {"store": "register", "policy": "policy", "callers": "callers", "token": "t-delta", "project": "N1", "day": DAY}
+    options = {"store": "register", "policy": "policy", "callers": "callers", "token": "t-delta", "project": "N1",
+               "day": DAY}
     return [command, *(f"--{name}={value}" for name, value in {**options, **other}.items()), *more]
 
 

@@ -1,11 +1,14 @@
 #!/usr/bin/env python3
-"""Command lines of the program, each with what has to come of it: its status, what it prints and what it says of a fault.
+"""Command lines of the program, each with what has to come of it: its status, what it prints and what it says of a
+fault.
 
 usage: words.py PROGRAM     the last line is 'N passed, M failed'
 
-The lines of a scene run one after the other in a folder of its own. `|` stands between the words of a line. Among them `@` stands for those of OPTIONS that
-the line does not name, and `&` for those of them that `serve` takes. Behind `=>` stand the status, what is printed without its line end, and behind `!` what is
-said on standard error without `groundreg: ` before it. Of a line without `=>` the words are refused. Nothing here comes from what the program answered."""
+The lines of a scene run one after the other in a folder of its own. `|` stands between the words of a line. Among them
+`@` stands for those of OPTIONS that the line does not name, and `&` for those of them that `serve` takes. Behind `=>`
+stand the status, what is printed without its line end, and behind `!` what is said on standard error without
+`groundreg: ` before it. Of a line without `=>` the words are refused. Nothing here comes from what the program
+answered."""
 import contextlib
 import os
 import socket
@@ -16,7 +19,8 @@ sys.dont_write_bytecode = True
 import machine  # noqa: E402
 import servers  # noqa: E402
 
-OPTIONS = {"--store": "s", "--policy": "q", "--callers": "c", "--day": "2024-05-01", "--project": "N1", "--token": "t-delta"}
+OPTIONS = {"--store": "s", "--policy": "q", "--callers": "c", "--day": "2024-05-01", "--project": "N1",
+           "--token": "t-delta"}
 OF_SERVE = ("--store", "--policy", "--callers", "--day")
 REFUSED = "4 ! words refused"
 MINI, POLICY, CALLERS = servers.FILES["mini"], machine.POLICY.encode(), machine.CALLERS.encode()
@@ -27,15 +31,19 @@ def longer(text):
     return text + b" " * (machine.LIMIT + 1 - len(text))
 
 
-FILES = {"mini": MINI, "q": POLICY, "c": CALLERS, "a": machine.FILE_A, "b": machine.FILE_B, "--day": machine.FILE_A, "empty": b"", "junk": b"this is no database", "bytes": b"\xff\xfe", "open": b"[[rule",
+FILES = {"mini": MINI, "q": POLICY, "c": CALLERS, "a": machine.FILE_A, "b": machine.FILE_B, "--day": machine.FILE_A,
+         "empty": b"", "junk": b"this is no database", "bytes": b"\xff\xfe", "open": b"[[rule",
          "long": longer(machine.FILE_A), "longest": longer(MINI), "long_q": longer(POLICY), "long_c": longer(CALLERS),
          "w": machine.WITHDRAWING.encode(),  # the policy under which contractors may withdraw
-         # policies by which extracts are drawn in June alone, by which rows are seen from a day on, and one whose rule ends before it begins
+         # policies by which extracts are drawn in June alone, by which rows are seen from a day on, and one whose rule
+         # ends before it begins
          "june": machine.ruled(40, *machine.JUNE).encode(), "seen": machine.ruled(80, 'from = "2024-06-02"').encode(),
          "ended": machine.ruled(40, machine.JUNE[0], 'until = "2024-05-31"').encode()}
 
-# What is printed, by the name that a line has for it: file a, the first 466 bytes of it, what others see of file b, and a listing of two deposits.
-PRINTED = {machine.FILE_A: b"(a)\n", machine.FILE_A[:466]: b"(a to 466)\n", machine.without(machine.FILE_B, 33, 40, 47): b"(of b)\n",
+# What is printed, by the name that a line has for it: file a, the first 466 bytes of it, what others see of file b, and
+# a listing of two deposits.
+PRINTED = {machine.FILE_A: b"(a)\n", machine.FILE_A[:466]: b"(a to 466)\n",
+           machine.without(machine.FILE_B, 33, 40, 47): b"(of b)\n",
            b"1 Delta 2024-06-01\n2 Foxtrot 2024-06-01\n": b"(both)\n"}
 
 # A register from its making to an extract.
@@ -306,8 +314,8 @@ init|--store=s|--dictionary=longest => 4 ! dictionary refused
 init|--store=s|--dictionary=mini => 4 ! store not empty
 """
 
-SCENES = (REGISTER, WITHDRAWAL, RULE_DAYS, WORDS_REFUSED, IN_ANY_ORDER, OF_WORDS_AND_POLICIES, OF_CALLERS_AND_TOKENS, OF_REQUESTS,
-          OF_DICTIONARIES_AND_FILES)
+SCENES = (REGISTER, WITHDRAWAL, RULE_DAYS, WORDS_REFUSED, IN_ANY_ORDER, OF_WORDS_AND_POLICIES,
+          OF_CALLERS_AND_TOKENS, OF_REQUESTS, OF_DICTIONARIES_AND_FILES)
 
 # What `serve` says of a port that is taken (PORT): the port comes last.
 PORT_TAKEN = """
@@ -470,7 +478,8 @@ def refuse_stores(folder):
 def refuse_changed(folder):
     for number, (statements, asked) in enumerate(CHANGED):
         store = f"s{number}"
-        folder.play(f"init|--store={store}|--dictionary=mini => 0 created\ndeposit|@|--store={store}|a => 0 receipt 1 2024-05-01")
+        folder.play(f"init|--store={store}|--dictionary=mini => 0 created\n"
+                    f"deposit|@|--store={store}|a => 0 receipt 1 2024-05-01")
         for statement in statements:
             folder.change(store, *statement)
         for commands, want in asked:
@@ -484,15 +493,17 @@ def refuse_port(folder):
 
 
 def make_private(folder):
-    folder.play("init|--store=s|--dictionary=mini => 0 created\nserve|&|--log=l|--port=80|--connections=1|--store=empty => 4 ! not a register")
+    folder.play("init|--store=s|--dictionary=mini => 0 created\n"
+                "serve|&|--log=l|--port=80|--connections=1|--store=empty => 4 ! not a register")
     for name in ("s", "s-wal", "l"):
         folder.check(f"the mode of {name}", "600", f"{os.stat(folder.path(name)).st_mode & 0o777:o}")
 
 
 def main():
     passed = failed = 0
-    # (an empty word is no line)
-    plays = [lambda folder, scene=scene: folder.play(scene) for scene in SCENES] + [lambda folder: folder.hold("", REFUSED), refuse_stores, refuse_changed, refuse_port, make_private]
+    plays = [lambda folder, scene=scene: folder.play(scene) for scene in SCENES]
+    plays.append(lambda folder: folder.hold("", REFUSED))  # an empty word is no line
+    plays += [refuse_stores, refuse_changed, refuse_port, make_private]
     for play in plays:
         with tempfile.TemporaryDirectory() as path:
             folder = Folder(sys.argv[1], path, files=FILES)
