@@ -15,7 +15,7 @@ import reference
 import servers
 
 home = os.path.dirname(os.path.dirname(os.path.realpath(__file__)))
-sys.path += [os.path.join(home, "samples"), os.path.join(home, "tools")]
+sys.path.append(os.path.join(home, "tools"))
 import lines  # noqa: E402
 import policies  # noqa: E402
 
