@@ -113,9 +113,9 @@ class Place:
     def make(self, store="register", dictionary="mini"):
         self.right("init", f"--store={store}", f"--dictionary={dictionary}", want=b"created\n")
 
-    def serve(self, *words, **more):
+    def serve(self, connections, *words, **more):
         """`serve` on a register, once it listens."""
-        server = Server(self, *words, **more)
+        server = Server(self, connections, *words, **more)
         server.listening = server.printed()
         return server
 
@@ -128,7 +128,10 @@ def asking(command, *more, **other):
 
 
 class Server:
-    """`serve` on a register of a place, with further words of it."""
+    """`serve` on a register of a place, with further words of it. `listening` is the line that it prints first, once
+    that is read."""
+
+    listening = b""
 
     def __init__(self, place, connections, *words, store="register", day=DAY, **more):
         self.place, self.port = place, free_port()
