@@ -21,7 +21,8 @@ FRONT = (
 
 
 def largest(size, text_of, sample=1000):
-    """The longest text of text_of(1), text_of(2), .. that has at most `size` bytes; its growth is measured at `sample`."""
+    """The longest text of text_of(1), text_of(2), .. that has at most `size` bytes; its growth is measured at
+    `sample`."""
     each = (len(text_of(2 * sample)) - len(text_of(sample))) / sample
     low, high = 1, int(size / each) + 1
     while len(text_of(high)) <= size:
@@ -82,7 +83,8 @@ def own_dict(rows):
 
 
 def of_every_hole(count):
-    """A group of the file's own DICT whose parent, LOCA, has none of its keys: every row of LOCA is a parent of every row of it."""
+    """A group of the file's own DICT whose parent, LOCA, has none of its keys: every row of LOCA is a parent of every
+    row of it."""
     own = own_dict([["GROUP", "ABCD", "", "", "LOCA"], ["HEADING", "ABCD", "ABCD_ID", "KEY", ""]])
     return group("ABCD", ["ABCD_ID"], [""], ["ID"], ([f"{n}"] for n in range(count))) + own
 
@@ -94,14 +96,16 @@ def steps(size):
 
 def own_dictionary(name, parent, headings, status):
     """A DICT that gives a group, its parent, and its headings, all of one status."""
-    return own_dict([["GROUP", name, "", "", parent]] + [["HEADING", name, heading, status, ""] for heading in headings])
+    return own_dict([["GROUP", name, "", "", parent]] + [["HEADING", name, heading, status, ""]
+                                                         for heading in headings])
 
 
 def of_width(width, status, code, entries):
     """A group of the file's own DICT with that many headings of one status and type; entries(n) are those of row n."""
     headings = [f"WIDE_{place:04X}" for place in range(width)]
     own = own_dictionary("WIDE", "", headings, status)
-    return lambda count: FRONT + group("WIDE", headings, [""] * width, [code] * width, (entries(n) for n in range(count))) + own
+    return lambda count: FRONT + group("WIDE", headings, [""] * width, [code] * width,
+                                       (entries(n) for n in range(count))) + own
 
 
 def narrow(size):
@@ -116,22 +120,27 @@ def wide(size):
 
 def wide_links(size):
     """A few hundred rows under 5,000 headings of type RL: in every tenth a link to the project."""
-    return largest(size, of_width(5000, "OTHER", "RL", lambda n: ["PROJ|P7" if place % 10 == n % 10 else "" for place in range(5000)]), 10)
+    return largest(size,
+                   of_width(5000, "OTHER", "RL",
+                            lambda n: ["PROJ|P7" if place % 10 == n % 10 else "" for place in range(5000)]), 10)
 
 
 def dict_of_one(size):
     """A DICT of the file's own with as many headings as there is room for, all of one group."""
-    return largest(size, lambda count: FRONT + own_dict(["HEADING", "LOCA", f"LOCA_{n}", "OTHER", ""] for n in range(count)))
+    return largest(size, lambda count: FRONT + own_dict(["HEADING", "LOCA", f"LOCA_{n}", "OTHER", ""]
+                                                        for n in range(count)))
 
 
 def dict_of_many(size):
     """The same, of a thousand groups that the DICT does not name."""
-    return largest(size, lambda count: FRONT + own_dict(["HEADING", f"G{n % 1000}", f"G{n % 1000}_{n}", "OTHER", ""] for n in range(count)))
+    return largest(size, lambda count: FRONT + own_dict(["HEADING", f"G{n % 1000}", f"G{n % 1000}_{n}", "OTHER", ""]
+                                                        for n in range(count)))
 
 
 def dict_of_the_same(size):
     """The same, each of which restates one that the standard dictionary has."""
-    return largest(size, lambda count: FRONT + own_dict(["HEADING", "LOCA", "LOCA_ID", "OTHER", ""] for n in range(count)))
+    return largest(size, lambda count: FRONT + own_dict(["HEADING", "LOCA", "LOCA_ID", "OTHER", ""]
+                                                        for n in range(count)))
 
 
 def name_of(place):
@@ -146,7 +155,8 @@ def name_of(place):
 def children(size):
     """A thousand groups of the file's own DICT, of one row each, under one group of many rows."""
     names = [name_of(place) for place in range(1000)]
-    own = own_dict([entry for name in names for entry in (["GROUP", name, "", "", "LOCA"], ["HEADING", name, "LOCA_ID", "KEY", ""])])
+    own = own_dict([entry for name in names
+                    for entry in (["GROUP", name, "", "", "LOCA"], ["HEADING", name, "LOCA_ID", "KEY", ""])])
     rest = "".join(group(name, ["LOCA_ID"], [""], ["ID"], [["BH0"]]) for name in names) + own
     return largest(size, lambda count: FRONT + holes(count) + rest)
 
@@ -158,9 +168,12 @@ def subsets(size):
     entries = [["HEADING", "PARE", key, "KEY", ""] for key in keys]
     for name, headings in chosen.items():
         entries += [["GROUP", name, "", "", "PARE"]] + [["HEADING", name, key, "KEY", ""] for key in headings]
-    rest = "".join(group(name, headings, [""] * len(headings), ["X"] * len(headings), [["0"] * len(headings)]) for name, headings in chosen.items())
+    rest = "".join(group(name, headings, [""] * len(headings), ["X"] * len(headings), [["0"] * len(headings)])
+                   for name, headings in chosen.items())
     rest += own_dict([["GROUP", "PARE", "", "", ""]] + entries)
-    return largest(size, lambda count: FRONT + group("PARE", keys, [""] * 10, ["X"] * 10, ([str(n)] * 10 for n in range(count))) + rest)
+    return largest(size, lambda count: FRONT
+                   + group("PARE", keys, [""] * 10, ["X"] * 10, ([str(n)] * 10 for n in range(count))) + rest)
 
 
-ALL = [flat, deep, ring, broken, short, steps, narrow, wide, wide_links, dict_of_one, dict_of_many, dict_of_the_same, children, subsets]
+ALL = [flat, deep, ring, broken, short, steps, narrow, wide, wide_links, dict_of_one, dict_of_many, dict_of_the_same,
+       children, subsets]

@@ -2,12 +2,14 @@
 """Measures how long registers of several sizes take to open, and the memory of that, by `list`.
 
 usage: bench/opening.py PROGRAM [--kit KIT] [CASE..]
-A register is made by the program with one generated file; the others are that file with another name of the project, put in by SQLite.
-CASE is one of the names that stand in CASES; without any, all up to 100 deposits of 100 kB and 10,000 of 1 kB are measured.
+A register is made by the program with one generated file; the others are that file with another name of the project,
+put in by SQLite.
+CASE is one of the names that stand in CASES; without any, all up to 100 deposits of 100 kB and 10,000 of 1 kB are
+measured.
 KIT is a program that opens the database PATH, its only argument, by the kit's own `Connection::open_from`.
-Printed for each: deposits, bytes of them and of the register, seconds (the shortest of some runs) and MB (1,048,576 bytes) of `list`, and of KIT."""
+Printed for each: deposits, bytes of them and of the register, seconds (the shortest of some runs) and MB (1,048,576
+bytes) of `list`, and of KIT."""
 import os
-import resource
 import sqlite3
 import subprocess
 import sys
@@ -18,6 +20,7 @@ sys.path.insert(0, here)
 sys.dont_write_bytecode = True
 import files  # noqa: E402
 import register  # noqa: E402
+from servers import asking, limit_memory  # noqa: E402
 
 # What is measured: the file, its bytes, how many of it, how many runs.
 CASES = {
@@ -36,12 +39,6 @@ CASES = {
 }
 ALONE = ("flat_1", "deep_1", "flat_4", "deep_4", "hundred", "many")
 NAME = "North bank"
-MEMORY = 4 << 30
-
-
-def limit():
-    """What the launcher does: no more than 4 GiB for the program."""
-    resource.setrlimit(resource.RLIMIT_AS, (MEMORY, MEMORY))
 
 
 def renamed(column):
@@ -55,39 +52,43 @@ def multiplied(path, count):
     db.executescript("PRAGMA synchronous = off; PRAGMA cache_size = -200000")
     db.execute("BEGIN")
     for n in range(2, count + 1):
-        db.execute(f"INSERT INTO deposits SELECT ?1, firm, project, embargo, {renamed('body')} FROM deposits WHERE number = 1", (n,))
+        db.execute(f"INSERT INTO deposits SELECT ?1, firm, project, embargo, {renamed('body')}"
+                   " FROM deposits WHERE number = 1", (n,))
         db.execute(
-            f"INSERT INTO lines SELECT ?1, seq, grp, kind, CASE WHEN grp = 'PROJ' AND kind = 4 THEN {renamed('line')} ELSE line END"
+            "INSERT INTO lines SELECT ?1, seq, grp, kind,"
+            f" CASE WHEN grp = 'PROJ' AND kind = 4 THEN {renamed('line')} ELSE line END"
             " FROM lines WHERE deposit = 1 ORDER BY seq", (n,))
-        db.execute("INSERT INTO steps SELECT ?1, child, target FROM steps WHERE deposit = 1 ORDER BY child, target", (n,))
+        db.execute("INSERT INTO steps SELECT ?1, child, target FROM steps WHERE deposit = 1 ORDER BY child, target",
+                   (n,))
     db.execute("COMMIT")
     db.execute("PRAGMA wal_checkpoint(TRUNCATE)").fetchall()
     db.close()
 
 
 def timed(words, folder, runs):
-    """The shortest of some runs in seconds, the greatest resident memory in MB, the status of the last and what it says."""
+    """The shortest of some runs in seconds, the greatest resident memory in MB, the status of the last and what it
+    says."""
     best, most = float("inf"), 0.0
     for _ in range(runs):
         with tempfile.NamedTemporaryFile() as note:
             begun = time.monotonic()
-            run = subprocess.run(["/usr/bin/time", "-q", "-f", "%M", "-o", note.name, *words], cwd=folder, stdin=subprocess.DEVNULL,
-                                 capture_output=True, preexec_fn=limit)
+            run = subprocess.run([*register.noting(note), *words], cwd=folder, stdin=subprocess.DEVNULL,
+                                 capture_output=True, preexec_fn=limit_memory)
             best = min(best, time.monotonic() - begun)
-            most = max(most, int(note.read().split()[-1]) / 1024)
+            most = max(most, register.megabytes(note))
     return best, most, run.returncode, run.stderr.decode().strip()
 
 
 def measured(program, kit, name, folder):
     make, size, count, runs = CASES[name]
-    place = register.Place(program, folder, limit)
+    place = register.Place(program, folder, limit_memory)
     data = make(size)
-    with open(place.path("a"), "wb") as file:
-        file.write(data)
-    place.run("deposit", *register.ASKING, "a")
+    place.put("a", data)
+    place.measured(*asking("deposit", "a"))
     multiplied(place.path("register"), count)
-    taken, most, status, said = timed([program, "list", *register.ASKING], folder, runs)
-    cells = [name, f"{count:,}", f"{count * len(data):,}", f"{place.bytes_held():,}", f"{taken:.2f}", f"{most:.0f}", f"{status} {said}".strip()]
+    taken, most, status, said = timed([program, *asking("list")], folder, runs)
+    cells = [name, f"{count:,}", f"{count * len(data):,}", f"{place.bytes_held():,}", f"{taken:.2f}", f"{most:.0f}",
+             f"{status} {said}".strip()]
     if kit:
         taken, most, status, said = timed([kit, "register"], folder, runs)
         cells += [f"{taken:.2f}", f"{most:.0f}", f"{status} {said}".strip()]

@@ -1,4 +1,5 @@
-"""Measures a register: what a command on a file costs, beside the same rows written by SQLite itself; requests a second; the cost of opening."""
+"""Measures a register: what a command on a file costs, beside the same rows written by SQLite itself; requests a
+second; the cost of opening."""
 import os
 import shutil
 import socket
@@ -9,59 +10,64 @@ import tempfile
 import time
 import files
 sys.path.insert(0, os.path.join(os.path.dirname(os.path.abspath(__file__)), "..", "conformance"))
-import bodies  # noqa: E402
+import servers  # noqa: E402
+from servers import asking, head, post, sample  # noqa: E402
 
-SAMPLES = os.path.join(os.path.dirname(os.path.abspath(__file__)), "..", "samples")
-WORDS = ["--store", "register", "--policy", f"{SAMPLES}/policy.toml", "--callers", f"{SAMPLES}/callers.toml"]
-ASKING = [*WORDS, "--token", "t-delta", "--project", "N1", "--day", "2024-06-01"]
-FIELDS = "HTTP/1.1\r\nAuthorization: Bearer t-delta\r\n"
+LISTING, EXTRACT = (head(b"/v1/projects/N1/deposits" + page, []) for page in (b"", b"/1"))
 REQUESTS = 300
 # How often requests that change nothing are asked, of the program and of the plain server in turn: the shortest counts.
 TURNS = 3
 MANY = 10000
 
 
-class Place:
-    """A folder with a register, and the program that keeps it."""
+class Place(servers.Place):
+    """A place with a new register, whose starts are measured; `limit` is for the program."""
+
+    patience = 3600
 
     def __init__(self, program, folder, limit):
-        self.program, self.folder, self.limit = program, folder, limit
         for name in os.listdir(folder):
             os.remove(os.path.join(folder, name))
-        self.run("init", "--store", "register", "--dictionary", f"{SAMPLES}/mini.ags")
+        policy, callers = (sample(name).decode() for name in ("policy.toml", "callers.toml"))
+        super().__init__(program, folder, policy, callers, {"mini": sample("mini.ags")})
+        self.limit = limit
+        self.make()
 
-    def path(self, name):
-        return os.path.join(self.folder, name)
-
-    def run(self, *words):
+    def measured(self, *words):
         """Seconds, greatest resident memory in MB and output of a command."""
         with tempfile.NamedTemporaryFile() as note:
-            timed = ["/usr/bin/time", "-q", "-f", "%M", "-o", note.name, self.program, *words]
             begun = time.monotonic()
-            run = subprocess.run(timed, cwd=self.folder, stdin=subprocess.DEVNULL, capture_output=True, preexec_fn=self.limit)
+            out, said, status = self.run(*words, under=noting(note), preexec_fn=self.limit)
             taken = time.monotonic() - begun
-            memory = int(note.read().split()[-1]) / 1024
-        if run.returncode:
-            sys.exit(f"{words[0]}: {run.returncode}, {run.stdout[:80]} {run.stderr[:80]}")
-        return taken, memory, run.stdout
+            if status:
+                sys.exit(f"{words[0]}: {status}, {out[:80]} {said[:80]}")
+            return taken, megabytes(note), out
 
     def bytes_held(self):
-        return sum(os.path.getsize(self.path(name)) for name in ("register", "register-wal") if os.path.exists(self.path(name)))
+        return sum(os.path.getsize(self.path(name))
+                   for name in ("register", "register-wal") if os.path.exists(self.path(name)))
 
-    def serve(self, *parts):
-        """Seconds for the requests of each part, one part behind the other in one run of the program, which has opened the register; and the last reply."""
-        port = bodies.free_port()
-        count = sum(len(requests) for requests in parts)
-        serving = subprocess.Popen([self.program, "serve", *WORDS, "--port", str(port), "--connections", str(count), "--day", "2024-06-01"], cwd=self.folder,
-                                   stdout=subprocess.PIPE, preexec_fn=self.limit)
-        serving.stdout.readline()
-        asked = [ask(port, requests) for requests in parts]
-        serving.communicate()
+    def asked(self, *parts):
+        """Seconds for the requests of each part, one part behind the other in one run of the program, which has opened
+        the register; and the last reply."""
+        with self.serve(sum(map(len, parts)), preexec_fn=self.limit) as server:
+            asked = [ask(server.port, requests) for requests in parts]
+            server.rest()
         return [taken for taken, _ in asked], asked[-1][1]
 
 
+def noting(note):
+    """The words of GNU time that notes the greatest resident memory."""
+    return ["/usr/bin/time", "-q", "-f", "%M", "-o", note.name]
+
+
+def megabytes(note):
+    return int(note.read().split()[-1]) / 1024
+
+
 def ask(port, requests):
-    """Seconds for these requests, one connection each, from the first connection to the last reply, and that reply; each has to be 200."""
+    """Seconds for these requests, one connection each, from the first connection to the last reply, and that reply;
+    each has to be 200."""
     reply = b""
     begun = time.monotonic()
     for request in requests:
@@ -74,28 +80,25 @@ def ask(port, requests):
 
 
 def by_words(place, data):
-    """Seconds, MB and output of the deposit of a file, of a listing of another project, which opens the register, of a listing, and of an extract."""
-    with open(place.path("file"), "wb") as file:
-        file.write(data)
-    other = ["N2" if word == "N1" else word for word in ASKING]
-    return [place.run(*words) for words in (["deposit", *ASKING, "file"], ["list", *other], ["list", *ASKING], ["extract", *ASKING, "1"])]
+    """Seconds, MB and output of the deposit of a file, of a listing of another project, which opens the register, of a
+    listing, and of an extract."""
+    place.put("file", data)
+    asked = asking("deposit", "file"), asking("list", project="N2"), asking("list"), asking("extract", "1")
+    return [place.measured(*words) for words in asked]
 
 
 def checked_there(place, data):
     """Status, seconds, bytes of the reply and greatest resident memory in MB of a check over the socket."""
-    port, first, count = bodies.free_port(), b"", 0
-    with tempfile.NamedTemporaryFile() as note:
-        words = ["/usr/bin/time", "-q", "-f", "%M", "-o", note.name, place.program, "serve", *WORDS, "--port", str(port), "--connections", "1"]
-        serving = subprocess.Popen(words, cwd=place.folder, stdout=subprocess.PIPE, preexec_fn=place.limit)
-        serving.stdout.readline()
+    first, count = b"", 0
+    with tempfile.NamedTemporaryFile() as note, place.serve(1, under=noting(note), preexec_fn=place.limit) as server:
         begun = time.monotonic()
-        with socket.create_connection(("127.0.0.1", port)) as connection:
-            connection.sendall(post(data).replace(b"/deposits", b"/check", 1))
+        with server.connect() as connection:
+            connection.sendall(post(b"check", data))
             while piece := connection.recv(1 << 20):
                 first, count = first or piece, count + len(piece)
         taken = time.monotonic() - begun
-        serving.communicate()
-        return first[9:12].decode() or "fault", taken, count, int(note.read().split()[-1]) / 1024
+        server.rest()
+        return first[9:12].decode() or "fault", taken, count, megabytes(note)
 
 
 def built_plainly(folder):
@@ -103,13 +106,14 @@ def built_plainly(folder):
     if not shutil.which("rustc"):
         return None
     plain = os.path.join(folder, "plain")
-    subprocess.run(["rustc", "-O", "--edition", "2021", os.path.join(os.path.dirname(os.path.abspath(__file__)), "plain.rs"), "-o", plain], check=True)
+    subprocess.run(["rustc", "-O", "--edition", "2021",
+                    os.path.join(os.path.dirname(os.path.abspath(__file__)), "plain.rs"), "-o", plain], check=True)
     return plain
 
 
 def answered_plainly(plain, folder, requests, reply, kept=()):
-    """Seconds that the server in plain Rust takes for these requests, each of which it answers with the bytes of this reply. It keeps their bodies in a
-    file, if one is named."""
+    """Seconds that the server in plain Rust takes for these requests, each of which it answers with the bytes of this
+    reply. It keeps their bodies in a file, if one is named."""
     path = os.path.join(folder, "reply")
     with open(path, "wb") as file:
         file.write(reply)
@@ -120,14 +124,16 @@ def answered_plainly(plain, folder, requests, reply, kept=()):
 
 
 def by_sqlite(place):
-    """Seconds that SQLite takes to write the rows of a register into a file of its own, in one transaction, and to read them again."""
-    bodies.copy_register(place.folder, "register", "copy")
+    """Seconds that SQLite takes to write the rows of a register into a file of its own, in one transaction, and to read
+    them again."""
+    place.copy("register", "copy")
     source = sqlite3.connect(place.path("copy"))
     tables = source.execute("SELECT name, sql FROM sqlite_master WHERE type = 'table' ORDER BY rowid").fetchall()
     rows = {name: source.execute(f"SELECT * FROM {name}").fetchall() for name, _ in tables}
     source.close()
     target = sqlite3.connect(place.path("beside"), isolation_level=None)
-    target.executescript("PRAGMA journal_mode = wal; PRAGMA synchronous = full; PRAGMA foreign_keys = on;" + ";".join(sql for _, sql in tables))
+    target.executescript("PRAGMA journal_mode = wal; PRAGMA synchronous = full; PRAGMA foreign_keys = on;"
+                         + ";".join(sql for _, sql in tables))
     begun = time.monotonic()
     target.execute("BEGIN")
     for name, sql in tables:
@@ -144,69 +150,78 @@ def by_sqlite(place):
 
 
 def socket_times(place, data):
-    """Seconds that a deposit of a file and an extract of it take over the socket, where the register was open before: the extract is the shortest of three."""
-    asked = f"GET /v1/projects/N1/deposits/1 {FIELDS}\r\n".encode()
-    (posted, *drawn), _ = place.serve([post(data)], [asked], [asked], [asked])
+    """Seconds that a deposit of a file and an extract of it take over the socket, where the register was open before:
+    the extract is the shortest of three."""
+    (posted, *drawn), _ = place.asked([deposit(data)], [EXTRACT], [EXTRACT], [EXTRACT])
     return posted, min(drawn)
 
 
-def post(data):
-    return f"POST /v1/projects/N1/deposits {FIELDS}Content-Length: {len(data)}\r\n\r\n".encode() + data
+def deposit(data):
+    return post(b"deposits", data)
 
 
 def small(number, apart=False):
     """A small file, another one for each number, with another row of PROJ too where they stand apart."""
-    with open(f"{SAMPLES}/delta.ags", "rb") as file:
-        text = file.read().replace(b"FINAL", b"FINAL %d" % number)
+    text = sample("delta.ags").replace(b"FINAL", b"FINAL %d" % number)
     return text.replace(b"North bank", b"Site %d" % number) if apart else text
 
 
 def hundred(length):
     """A hundred deposits of about so many bytes."""
     text = files.deep(length)
-    return [post(text.replace(b"North bank", b"Site %02d" % n)) for n in range(100)]
+    return [deposit(text.replace(b"North bank", b"Site %02d" % n)) for n in range(100)]
 
 
 def grown(program, folder, limit, size):
-    """What a deposit of 1 kB and a listing take in registers of many deposits and of large ones: each served from the empty register, in one run of the program."""
-    asked = f"GET /v1/projects/N1/deposits {FIELDS}\r\n".encode()
+    """What a deposit of 1 kB and a listing take in registers of many deposits and of large ones: each served from the
+    empty register, in one run of the program."""
     print("\n| A register of | the last 100 deposits, ms each | 10 listings, ms each |\n|---|---|---|")
-    for name, requests in (("100 of 1 kB", [post(small(n)) for n in range(100)]), (f"{MANY} of 1 kB", [post(small(n)) for n in range(MANY)]),
-                           (f"100 of {size // 400} bytes", hundred(size // 400)), (f"100 of {size // 4} bytes", hundred(size // 4))):
+    for name, requests in (("100 of 1 kB", [deposit(small(n)) for n in range(100)]),
+                           (f"{MANY} of 1 kB", [deposit(small(n)) for n in range(MANY)]),
+                           (f"100 of {size // 400} bytes", hundred(size // 400)),
+                           (f"100 of {size // 4} bytes", hundred(size // 4))):
         place = Place(program, folder, limit)
-        (_, added, listed), reply = place.serve(requests[:-100], requests[-100:], [asked] * 10)
+        (_, added, listed), reply = place.asked(requests[:-100], requests[-100:], [LISTING] * 10)
         if reply.count(b'"number"') != len(requests):
             sys.exit(f"a listing has {reply.count(b'number')} lines, and not {len(requests)}")
         print(f"| {name} | {1000 * added / 100:.1f} | {1000 * listed / 10:.1f} |", flush=True)
 
 
 def requests_a_second(program, folder, limit):
-    """Requests a second, a connection each, beside a plain Rust server that answers each with the last reply; before a listing, one that is not counted.
-    Of requests that change nothing each is the best of some turns, of the program and of the plain server one after the other; deposits are asked once."""
+    """Requests a second, a connection each, beside a plain Rust server that answers each with the last reply; before a
+    listing, one that is not counted. Of requests that change nothing each is the best of some turns, of the program and
+    of the plain server one after the other; deposits are asked once."""
     tools = tempfile.mkdtemp(prefix="bench")
     plain = built_plainly(tools)
     place = Place(program, folder, limit)
-    print(f"\n| {REQUESTS} requests, a connection each | a second | of a plain Rust server that answers each with the last reply | that has each body on the disk first |\n|---|---|---|---|")
-    listing, extract = (f"GET /v1/projects/N1/deposits{path} {FIELDS}\r\n".encode() for path in ("", "/1"))
+    print(f"\n| {REQUESTS} requests, a connection each | a second"
+          " | of a plain Rust server that answers each with the last reply | that has each body on the disk first |\n"
+          "|---|---|---|---|")
     # Delta sees all rows of its own deposits; of what Echo sees, each deposit's row of PROJ has to be read
-    foreign = listing.replace(b"t-delta", b"t-echo")
-    deposits, apart = ([post(small(n, way)) for n in range(100 + REQUESTS)] for way in (False, True))
-    deposited, listed = "deposits of 1 kB", [listing] * REQUESTS
-    for name, first, requests in (("", [], deposits[:10]), ("listings of 10 deposits", [listing], listed), ("", [], deposits[10:100]), ("listings of 100 deposits", [listing], listed),
-                                  (deposited, [], deposits[100:]), (f"listings of {len(deposits)} deposits", [listing], listed),
-                                  ("extracts of 1 kB", [], [extract] * REQUESTS), ("the same deposit again", [], deposits[:1] * REQUESTS),
-                                  ("new", [], apart), (f"listings of {len(apart)} deposits, each with a row of PROJ of its own", [listing], listed),
+    foreign = LISTING.replace(b"t-delta", b"t-echo")
+    deposits, apart = ([deposit(small(n, way)) for n in range(100 + REQUESTS)] for way in (False, True))
+    deposited, listed = "deposits of 1 kB", [LISTING] * REQUESTS
+    for name, first, requests in (("", [], deposits[:10]),
+                                  ("listings of 10 deposits", [LISTING], listed),
+                                  ("", [], deposits[10:100]), ("listings of 100 deposits", [LISTING], listed),
+                                  (deposited, [], deposits[100:]),
+                                  (f"listings of {len(deposits)} deposits", [LISTING], listed),
+                                  ("extracts of 1 kB", [], [EXTRACT] * REQUESTS),
+                                  ("the same deposit again", [], deposits[:1] * REQUESTS),
+                                  ("new", [], apart),
+                                  (f"listings of {len(apart)} deposits, each with a row of PROJ of its own",
+                                   [LISTING], listed),
                                   ("the same, asked by another firm", [foreign], [foreign] * REQUESTS)):
         if name == "new":
             place = Place(program, folder, limit)
-        (_, taken), reply = place.serve(first, requests)
+        (_, taken), reply = place.asked(first, requests)
         if name in ("", "new"):
             continue
         kept = (place.path("kept"),) if name == deposited else ()
         times = {"": [taken], "plain": [], "kept": []}
         for turn in range(TURNS):
             if turn and name != deposited:
-                times[""].append(place.serve(first, requests)[0][1])
+                times[""].append(place.asked(first, requests)[0][1])
             if plain:
                 times["plain"].append(answered_plainly(plain, tools, requests, reply))
             if plain and kept:
@@ -218,7 +233,9 @@ def requests_a_second(program, folder, limit):
 
 def measure(program, size, limit):
     folder = tempfile.mkdtemp(prefix="bench")
-    print("\n| File | Bytes | deposit, s | MB | list, s | MB | extract, s | MB | deposit over the socket, s | extract there, s | Register, bytes | SQLite writes the rows, s | reads them | its bytes |\n" + "|---" * 14 + "|")
+    print("\n| File | Bytes | deposit, s | MB | list, s | MB | extract, s | MB | deposit over the socket, s"
+          " | extract there, s | Register, bytes | SQLite writes the rows, s | reads them | its bytes |\n"
+          + "|---" * 14 + "|")
     for make in (files.flat, files.deep, files.ring):
         place = Place(program, folder, limit)
         data = make(size)
@@ -227,13 +244,15 @@ def measure(program, size, limit):
         written, read, beside = by_sqlite(place)
         posted, got = socket_times(Place(program, folder, limit), data)
         note = "" if len(text) > size // 2 else " (not whole)"
-        commands = f"{deposited:.2f} | {to_deposit:.1f} | {listed:.2f} | {to_list:.1f} | {drawn:.2f}{note} | {to_draw:.1f}"
-        print(f"| {make.__name__} | {len(data)} | {commands} | {posted:.2f} | {got:.2f} | {held} | {written:.2f} | {read:.2f} | {beside} |", flush=True)
+        print(f"| {make.__name__} | {len(data)} | {deposited:.2f} | {to_deposit:.1f} | {listed:.2f} | {to_list:.1f}"
+              f" | {drawn:.2f}{note} | {to_draw:.1f} | {posted:.2f} | {got:.2f} | {held}"
+              f" | {written:.2f} | {read:.2f} | {beside} |", flush=True)
     requests_a_second(program, folder, limit)
     grown(program, folder, limit, size)
     place = Place(program, folder, limit)
     text = files.deep(size // 4)
-    (taken,), _ = place.serve([post(text.replace(b"North bank", b"Site %02d" % n)) for n in range(100)])
-    opened, memory, _ = place.run("list", *WORDS, "--token", "t-delta", "--project", "N2", "--day", "2024-06-01")
-    print(f"\n100 deposits of {len(text)} bytes: {taken / 100:.2f} s each over the socket, {place.bytes_held()} bytes; opened, and a listing of no deposits, in {opened:.2f} s and {memory:.1f} MB")
+    (taken,), _ = place.asked([deposit(text.replace(b"North bank", b"Site %02d" % n)) for n in range(100)])
+    opened, memory, _ = place.measured(*asking("list", project="N2"))
+    print(f"\n100 deposits of {len(text)} bytes: {taken / 100:.2f} s each over the socket, {place.bytes_held()} bytes;"
+          f" opened, and a listing of no deposits, in {opened:.2f} s and {memory:.1f} MB")
     shutil.rmtree(folder)

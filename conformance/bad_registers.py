@@ -7,40 +7,42 @@ The program makes registers, and registers of format 1 are made of those. Copies
 way that the definition of a register names, and COUNT times at random: bytes of the file or of its log, a block, the
 length, a row, a cell. What the tables then hold is read by Python's sqlite3 and held against the definition, spelled
 out below (`held_by`), and the program has to answer:
-- where a row or a cell was changed: `not a register` or `register version N` as the definition has it, `store failed` in the place of `not a register`,
-  or the listing and the extracts that the machine of machine.py gives for the deposits that the tables hold;
-- where the tables themselves, or bytes, were changed: one of these three faults, or those listings and extracts; where sqlite3 cannot read the file, a
-  fault, or the listing and the extracts from before the change.
+- where a row or a cell was changed: `not a register` or `register version N` as the definition has it, `store failed`
+in the place of `not a register`, or the listing and the extracts that the machine of machine.py gives for the deposits
+that the tables hold;
+- where the tables themselves, or bytes, were changed: one of these three faults, or those listings and extracts; where
+sqlite3 cannot read the file, a fault, or the listing and the extracts from before the change.
 Of a register of format 1 `migrate` has to answer so: one of these faults, or `migrated`, and then the register has the
 listing and the extracts, with no deposit withdrawn. Before that its listing is refused. Where `migrate` said a fault,
 each table and each row is as it was.
-No start may end by a signal, 101, 134 or 139, or not within a minute. `bad_registers.py PROGRAM 1 SEED 17` does random change 17 alone."""
+No start may end by a signal, 101, 134 or 139, or not within a minute. `bad_registers.py PROGRAM 1 SEED 17` does random
+change 17 alone."""
 import collections
 import contextlib
-import os
 import random
 import re
-import resource
 import shutil
 import sqlite3
 import subprocess
 import sys
 import tempfile
 sys.dont_write_bytecode = True
-import bodies  # noqa: E402
 import hostile  # noqa: E402
 import machine  # noqa: E402
 import reference  # noqa: E402
+import servers  # noqa: E402
+from servers import asking  # noqa: E402
 
 DICTIONARY_LIMIT = 67108864
 LAST_NUMBER = 2932896
 NOT_ONE, FAILED = "not a register", "store failed"
-DAY = "2024-06-01"
-ASKING = ["--policy=policy", "--callers=callers", "--project=N1", "--day=" + DAY]
-REQUESTS = [f"GET /v1/projects/N1/deposits/{n} HTTP/1.1\r\nAuthorization: Bearer {token}\r\n\r\n".encode() for n in (1, 2, 3, 4) for token in ("t-echo", "t-delta")]
+REQUESTS = [servers.head(b"/v1/projects/N1/deposits/%d" % n, [], token=token)
+            for n in (1, 2, 3, 4) for token in (b"t-echo", b"t-delta")]
 FORMAT_1 = {"meta": [("name", "text"), ("num", "integer"), ("body", "blob")],
-           "deposits": [("number", "integer"), ("firm", "text"), ("project", "text"), ("embargo", "integer"), ("body", "blob")],
-           "lines": [("deposit", "integer"), ("seq", "integer"), ("grp", "text"), ("kind", "integer"), ("line", "blob")],
+           "deposits": [("number", "integer"), ("firm", "text"), ("project", "text"), ("embargo", "integer"),
+                        ("body", "blob")],
+           "lines": [("deposit", "integer"), ("seq", "integer"), ("grp", "text"), ("kind", "integer"),
+                     ("line", "blob")],
            "steps": [("deposit", "integer"), ("child", "integer"), ("target", "integer")]}
 COLUMNS = {**FORMAT_1, "withdrawals": [("deposit", "integer")]}
 FORMATS = {1: FORMAT_1, 2: COLUMNS}
@@ -48,7 +50,8 @@ KINDS = [b"GROUP", b"HEADING", b"UNIT", b"TYPE", b"DATA"]
 # The registers that are changed; those of format 1 are named for those that they are made of.
 NAMES = ["empty", "one", "three", "marked", "old-empty", "old-one", "old-three"]
 NUMBERS = [-1, 0, 1, 2, 3, 4, 5, 7, 99, 999999, 1000000, 2932896, 2932897, 2**31, 2**32 + 1, 2**63 - 1, -2**63]
-TEXTS = ["", "N1", "N 1", "Delta", "Echo", "x" * 32, "x" * 33, "é", "a\x00b", "LOCA", "SAMP", "loca", "format", "dictionary"]
+TEXTS = ["", "N1", "N 1", "Delta", "Echo", "x" * 32, "x" * 33, "é", "a\x00b", "LOCA", "SAMP", "loca", "format",
+         "dictionary"]
 
 
 class Unreadable(Exception):
@@ -60,9 +63,10 @@ class Unreadable(Exception):
 def rows_of(connection, table, columns):
     """The rows of a table by their rowid; each value has its column's type."""
     kinds = ", ".join(f"typeof({name})" for name, _ in columns)
-    rows = connection.execute(f"SELECT {kinds}, {', '.join(name for name, _ in columns)} FROM {table} NOT INDEXED ORDER BY rowid").fetchall()
-    width = len(columns)
-    return [row[width:] if all(kind == want.encode() for kind, (_, want) in zip(row, columns)) else None for row in rows]
+    names, width = ", ".join(name for name, _ in columns), len(columns)
+    rows = connection.execute(f"SELECT {kinds}, {names} FROM {table} NOT INDEXED ORDER BY rowid").fetchall()
+    return [row[width:] if all(kind == want.encode() for kind, (_, want) in zip(row, columns)) else None
+            for row in rows]
 
 
 class Lists:
@@ -87,8 +91,10 @@ class Lists:
 
     def listed(self, file):
         lines = [(g.name, KINDS.index(row.descriptor), machine.line_of(row.descriptor, row.items)[:-2])
-                 for g in file.groups for row in sorted([g.heading, g.unit, g.type, *g.data, Start(g)], key=lambda row: row.line)]
-        return [(seq, *line) for seq, line in enumerate(lines)], sorted((child, target) for child, targets in enumerate(file.steps) for target in targets)
+                 for g in file.groups
+                 for row in sorted([g.heading, g.unit, g.type, *g.data, Start(g)], key=lambda row: row.line)]
+        steps = sorted((child, target) for child, targets in enumerate(file.steps) for target in targets)
+        return [(seq, *line) for seq, line in enumerate(lines)], steps
 
 
 class Start:
@@ -123,13 +129,15 @@ def held_by(tables, lists, number):
     if entries is None:
         return NOT_ONE
     deposits = sorted(tables["deposits"])
-    if [row[0] for row in deposits] != list(range(1, len(deposits) + 1)) or len({(row[1], row[2], row[4]) for row in deposits}) != len(deposits):
+    if [row[0] for row in deposits] != list(range(1, len(deposits) + 1)):
+        return NOT_ONE
+    if len({(row[1], row[2], row[4]) for row in deposits}) != len(deposits):
         return NOT_ONE
     for number, firm, project, embargo, body in deposits:
         if not is_name(firm) or not is_name(project) or not 0 <= embargo <= LAST_NUMBER or len(body) > machine.LIMIT:
             return NOT_ONE
-        listed = lists.of(entries, body)
-        if listed is None or sorted(row[1:] for row in tables["lines"] if row[0] == number) != listed[0] or sorted(row[1:] for row in tables["steps"] if row[0] == number) != listed[1]:
+        found = tuple(sorted(row[1:] for row in tables[name] if row[0] == number) for name in ("lines", "steps"))
+        if lists.of(entries, body) != found:
             return NOT_ONE
     known, withdrawn = {row[0] for row in deposits}, {row[0] for row in tables.get("withdrawals", [])}
     if not withdrawn <= known or any(row[0] not in known for row in tables["lines"] + tables["steps"]):
@@ -150,7 +158,8 @@ def reading(path):
         connection = sqlite3.connect(path)
         connection.text_factory = bytes
         yield connection
-    except (sqlite3.Error, OverflowError, UnicodeDecodeError) as fault:  # the last where an error's own text is no UTF-8
+    except (sqlite3.Error, OverflowError, UnicodeDecodeError) as fault:
+        # (the last of them where an error's own text is no UTF-8)
         raise Unreadable(str(fault)) from None
     finally:
         if connection:
@@ -182,25 +191,22 @@ def all_in(path):
 
 # ---- the program's answers
 
-class Place:
-    """A folder with registers that the program made, and the answers to what is asked of a copy."""
+class Place(servers.Place):
+    """A place with registers that the program made, and the answers to what is asked of a copy."""
+
+    patience = 60
 
     def __init__(self, program, folder):
-        self.program, self.folder, self.lists, self.counts = program, folder, Lists(), collections.Counter()
-        mini = machine.spelled_dictionary(reference.built_in())
-        files = {"mini": mini, "policy": machine.WITHDRAWING.encode(), "callers": machine.CALLERS.encode(),
-                 "a": machine.FILE_A, "b": machine.FILE_B, "c": machine.file_c(), "other": mini + b" \r\n"}
-        for name, data in files.items():
-            self.put(name, data)
-        self.computer = machine.Computer()
-        self.computer.files.update(files)
-        self.make("empty", "mini", [])
-        self.make("one", "other", [("t-delta", "a")])
-        self.make("three", "mini", [("t-delta", "b"), ("t-foxtrot", "c"), ("t-delta", "a")])
+        super().__init__(program, folder, machine.WITHDRAWING)
+        self.lists, self.counts = Lists(), collections.Counter()
+        self.put("other", servers.FILES["mini"] + b" \r\n")
+        self.made("empty", "mini", [])
+        self.made("one", "other", [("t-delta", "a")])
+        self.made("three", "mini", [("t-delta", "b"), ("t-foxtrot", "c"), ("t-delta", "a")])
         self.make_marked()
         for name in NAMES:
             if name.startswith("old-"):
-                bodies.copy_as_format_1(self.folder, name.removeprefix("old-"), name)
+                self.copy_as_format_1(name.removeprefix("old-"), name)
             self.copy(name, "whole-" + name)
             self.written("whole-" + name, ["VACUUM"])
         self.schemas = {1: self.schema_of("old-three"), 2: self.schema_of("three")}
@@ -208,40 +214,17 @@ class Place:
         for name in ("empty", "one", "three"):
             self.before["old-" + name] = self.before[name]
 
-    def path(self, name):
-        return os.path.join(self.folder, name)
-
-    def put(self, name, data):
-        with open(self.path(name), "wb") as file:
-            file.write(data)
-
-    def got(self, name):
-        with open(self.path(name), "rb") as file:
-            return file.read()
-
-    def run(self, words):
-        run = subprocess.run([self.program, *words], cwd=self.folder, stdin=subprocess.DEVNULL, capture_output=True, timeout=hostile.PATIENCE)
-        return run.stdout, run.stderr, run.returncode
-
-    def make(self, name, dictionary, deposits):
-        given = [(["init", f"--store={name}", f"--dictionary={dictionary}"], b"created\n")]
-        given += [(["deposit", f"--store={name}", f"--token={token}", "--embargo=2024-06-01", *ASKING, file], f"receipt {n} 2024-06-01\n".encode()) for n, (token, file) in enumerate(deposits, 1)]
-        for words, want in given:
-            self.right(words, want)
+    def made(self, name, dictionary, deposits):
+        self.make(name, dictionary)
+        for number, (token, file) in enumerate(deposits, 1):
+            self.right(*asking("deposit", file, store=name, token=token, embargo=servers.DAY),
+                       want=f"receipt {number} {servers.DAY}\n".encode())
 
     def make_marked(self):
         """Makes a register whose first two deposits of three are withdrawn."""
         self.copy("three", "marked")
         for token, number in (("t-delta", 1), ("t-foxtrot", 2)):
-            words = ["withdraw", "--store=marked", f"--token={token}", *ASKING, str(number)]
-            self.right(words, f"withdrawn {number}\n".encode())
-
-    def right(self, words, want):
-        if (got := self.run(words)) != (want, b"", 0):
-            sys.exit(f"{words}: {got}")
-
-    def copy(self, name, copy):
-        bodies.copy_register(self.folder, name, copy)
+            self.right(*asking("withdraw", str(number), store="marked", token=token), want=b"withdrawn %d\n" % number)
 
     def schema_of(self, name):
         self.copy(name, "read")
@@ -249,13 +232,15 @@ class Place:
             return schema_in(connection)
 
     def written(self, name, statements, loosely=False):
-        """Writes into a register as another hand does; loosely, where a column may hold what its type forbids. Whether anything was changed."""
+        """Writes into a register as another hand does; loosely, where a column may hold what its type forbids. Whether
+        anything was changed."""
         connection = sqlite3.connect(self.path(name), isolation_level=None)
         connection.execute("PRAGMA foreign_keys = OFF")
         if loosely:
             connection.execute("PRAGMA writable_schema = ON")
             kept = connection.execute("SELECT name, sql FROM sqlite_master WHERE type = 'table'").fetchall()
-            connection.execute("UPDATE sqlite_master SET sql = replace(replace(replace(sql, 'STRICT', ''), 'TEXT', 'ANY'), 'NOT NULL', '') WHERE type = 'table'")
+            loose = "replace(replace(replace(sql, 'STRICT', ''), 'TEXT', 'ANY'), 'NOT NULL', '')"
+            connection.execute(f"UPDATE sqlite_master SET sql = {loose} WHERE type = 'table'")
             connection.close()
             connection = sqlite3.connect(self.path(name), isolation_level=None)
         for statement, *values in [(item,) if isinstance(item, str) else item for item in statements]:
@@ -267,22 +252,16 @@ class Place:
         connection.close()
 
     def asked(self, name):
-        """What the program answers of a register: the listing by words, and where there is one the extracts over `serve`."""
-        answers = [self.run(["list", f"--store={name}", "--token=t-delta", *ASKING])]
+        """What the program answers of a register: the listing by words, and where there is one the extracts over
+        `serve`."""
+        answers = [self.run(*asking("list", store=name))]
         return answers + self.served(name) if answers[0][2] == 0 else answers
 
     def served(self, name):
         """The replies to the requests for extracts, and how `serve` ended."""
-        port = bodies.free_port()
-        words = ["serve", f"--store={name}", f"--port={port}", f"--connections={len(REQUESTS)}", *(word for word in ASKING if "project" not in word)]
-        process = subprocess.Popen([self.program, *words], cwd=self.folder, stdin=subprocess.DEVNULL, stdout=subprocess.PIPE, stderr=subprocess.PIPE)
-        try:
-            replies = [hostile.answered(random, port, data) for data in REQUESTS] if process.stdout.readline() else []
-            out, fault = process.communicate(timeout=hostile.PATIENCE)
-            return [*replies, (out, fault, process.returncode)]
-        finally:
-            process.kill()
-            process.wait()
+        with self.serve(len(REQUESTS), store=name) as server:
+            replies = [hostile.answered(random, server, data) for data in REQUESTS] if server.listening else []
+            return [*replies, server.rest()]
 
     def wanted(self, held):
         """What the machine answers to the same."""
@@ -290,8 +269,10 @@ class Place:
         register.deposits = held[1]
         self.computer.files["held"] = register
         rules, callers = machine.read_policy(machine.WITHDRAWING), machine.read_callers(machine.CALLERS)
-        replies = [machine.serve(register, rules, callers, DAY, data) for data in REQUESTS]
-        return [self.computer.run(["list", "--store=held", "--token=t-delta", *ASKING], ""), *(reply for _, reply in replies), ("".join(f"{status}\n" for status, _ in replies).encode(), b"", 0)]
+        replies = [machine.serve(register, rules, callers, servers.DAY, data) for data in REQUESTS]
+        printed = "".join(f"{status}\n" for status, _ in replies).encode()
+        listed = self.computer.run(asking("list", store="held"), "")
+        return [listed, *(reply for _, reply in replies), (printed, b"", 0)]
 
     def read(self, name, number):
         """What the definition has of a register of that format, whether its tables are defined so, and their rows."""
@@ -348,7 +329,7 @@ class Place:
         held, is_same, tables = self.read(name, 1)
         before = all_in(self.path("read"))
         is_strict = is_by_rows and is_same
-        listed, answer = self.asked(name), self.run(["migrate", f"--store={name}"])
+        listed, answer = self.asked(name), self.run("migrate", f"--store={name}")
         if is_crash([*listed, answer]):
             return f"CRASH: {listed}, {answer}"
         opened = self.fault_in(listed[0])
@@ -376,7 +357,7 @@ class Place:
 
     def wrong_migrated(self, name, template, held, before):
         """What is wrong with a register that was migrated."""
-        again = self.run(["migrate", f"--store={name}"])
+        again = self.run("migrate", f"--store={name}")
         if again != (b"", b"groundreg: register version 2\n", 4):
             return f"migrated again: {again}"
         if wrong := self.wrong_answers(self.asked(name), held, template):
@@ -436,7 +417,7 @@ def of_withdrawals():
     yield of("the last two taken out whole, one of them withdrawn", *two)
     yield of("the same, with its withdrawal", *two, "DELETE FROM withdrawals WHERE deposit = 2")
     yield of("format 3 with four tables", "UPDATE meta SET num = 3 WHERE name = 'format'", "DROP TABLE withdrawals")
-    yield of("format 1 with four tables, and its steps missing", *bodies.TO_FORMAT_1, "DELETE FROM steps")
+    yield of("format 1 with four tables, and its steps missing", *servers.TO_FORMAT_1, "DELETE FROM steps")
     for text in DEFINED:
         for end in (" STRICT", "", " STRICT, WITHOUT ROWID"):
             made = ["DROP TABLE withdrawals", WITHDRAWALS.format(text) + end]
@@ -451,7 +432,10 @@ def setting_of(table, column, which):
 
 def by_hand(place, columns):
     """The same of the tables with these columns."""
-    clean, other = machine.FILE_A.replace(b"North bank", b"South bank"), machine.spelled_dictionary(reference.built_in()[:-5])
+    other = machine.spelled_dictionary(reference.built_in()[:-5])
+    blobs = [b"", b"x", machine.FILE_A.replace(b"North bank", b"South bank"), machine.FILE_A + b" ",
+             b"\xef\xbb\xbf" + machine.FILE_A, machine.FILE_A[:-1], other]
+    values = {"integer": NUMBERS, "text": TEXTS, "blob": blobs}
     for table in columns:
         name = "marked" if table == "withdrawals" else "three"
         yield f"no table {table}", name, [f"DROP TABLE {table}"], False
@@ -468,7 +452,7 @@ def by_hand(place, columns):
         trigger = f"CREATE TRIGGER more AFTER INSERT ON {table} BEGIN DELETE FROM steps; END"
         yield f"a trigger on {table}", name, [trigger], False
         for column, kind in columns[table]:
-            for value in NUMBERS if kind == "integer" else TEXTS if kind == "text" else [b"", b"x", clean, machine.FILE_A + b" ", b"\xef\xbb\xbf" + machine.FILE_A, machine.FILE_A[:-1], other]:
+            for value in values[kind]:
                 for where in ("min", "max"):
                     setting = setting_of(table, column, where)
                     yield f"{where} {column} of {table} set to {value!r:.20}", name, [(setting, value)], False
@@ -478,55 +462,85 @@ def by_hand(place, columns):
         more = ", ".join(f"{each} + 1" if each in ("number", "seq", "child") else each for each, _ in columns[table])
         adding = f"INSERT OR REPLACE INTO {table} SELECT {more} FROM {table} ORDER BY rowid DESC LIMIT 1"
         yield f"a row more in {table}, by numbers", name, [adding], False
-    yield "another table", "three", ["CREATE TABLE more (a INTEGER)"], False
+    yield from of_rows(place, other)
+
+
+def of_rows(place, other):
+    """The same of whatever tables; `other` is a dictionary without the last group."""
+    def three(what, *statements):
+        return what, "three", list(statements), False
+
+    def one(what, *statement):
+        return what, "one", [statement], False
+    setting, dictionary = "UPDATE meta SET num = {} WHERE name = 'format'", " WHERE name = 'dictionary'"
+    yield three("another table", "CREATE TABLE more (a INTEGER)")
     for number in (0, 1, 2, 3, 7, -1, 2**63 - 1):
-        yield f"format {number}", "three", [f"UPDATE meta SET num = {number} WHERE name = 'format'"], False
-        yield f"format {number} without other tables", "three", [f"UPDATE meta SET num = {number} WHERE name = 'format'", "DROP TABLE steps", "DROP TABLE lines", "DROP TABLE deposits"], False
-        yield f"format {number} and a table more", "three", [f"UPDATE meta SET num = {number} WHERE name = 'format'", "CREATE TABLE more (a INTEGER)"], False
+        numbered, dropped = setting.format(number), [f"DROP TABLE {name}" for name in ("steps", "lines", "deposits")]
+        yield three(f"format {number}", numbered)
+        yield three(f"format {number} without other tables", numbered, *dropped)
+        yield three(f"format {number} and a table more", numbered, "CREATE TABLE more (a INTEGER)")
     for value in (None, "x", "2", b"2", 1.5, 2.0):
-        setting = "UPDATE meta SET num = ? WHERE name = 'format'"
-        yield f"format {value!r}, against its type", "three", [(setting, value)], True
+        yield f"format {value!r}, against its type", "three", [(setting.format("?"), value)], True
     for name in ("format", "dictionary"):
-        yield f"meta without {name}", "three", [f"DELETE FROM meta WHERE name = '{name}'"], False
-        yield f"meta with a body of {name} changed", "three", [f"UPDATE meta SET body = x'41' WHERE name = '{name}'"], False
-        yield f"meta with the number of {name} changed", "three", [f"UPDATE meta SET num = num + 1 WHERE name = '{name}'"], False
-    yield "every number of meta raised by 6", "three", ["UPDATE meta SET num = num + 6"], False
-    yield "format 7, and bodies of no byte", "three", ["UPDATE meta SET num = 7 WHERE name = 'format'", "UPDATE deposits SET body = x''"], False
-    yield "a step taken out", "three", ["DELETE FROM steps WHERE deposit = 1 AND child = 9"], False
-    yield "a third row of meta", "three", ["INSERT INTO meta VALUES ('more', 0, x'')"], False
-    yield "the dictionary spelled otherwise", "three", ["UPDATE meta SET body = CAST(body || x'0d0a' AS BLOB) WHERE name = 'dictionary'"], False
-    yield "a dictionary without the last group", "three", [("UPDATE meta SET body = ? WHERE name = 'dictionary'", other)], False
-    yield "a dictionary without the last group, and no LNMC", "one", [("UPDATE meta SET body = ? WHERE name = 'dictionary'", other)], False
-    for text, length in (("mini", DICTIONARY_LIMIT), ("mini", DICTIONARY_LIMIT + 1)):
-        yield f"a dictionary of {length} bytes", "one", [("UPDATE meta SET body = ? WHERE name = 'dictionary'", place.got(text) + b" " * (length - len(place.got(text))))], False
+        of_name = f" WHERE name = '{name}'"
+        yield three(f"meta without {name}", "DELETE FROM meta" + of_name)
+        yield three(f"meta with a body of {name} changed", "UPDATE meta SET body = x'41'" + of_name)
+        yield three(f"meta with the number of {name} changed", "UPDATE meta SET num = num + 1" + of_name)
+    yield three("every number of meta raised by 6", "UPDATE meta SET num = num + 6")
+    yield three("format 7, and bodies of no byte", setting.format(7), "UPDATE deposits SET body = x''")
+    yield three("a step taken out", "DELETE FROM steps WHERE deposit = 1 AND child = 9")
+    yield three("a third row of meta", "INSERT INTO meta VALUES ('more', 0, x'')")
+    yield three("the dictionary spelled otherwise",
+                "UPDATE meta SET body = CAST(body || x'0d0a' AS BLOB)" + dictionary)
+    body = "UPDATE meta SET body = ?" + dictionary
+    yield three("a dictionary without the last group", (body, other))
+    yield one("a dictionary without the last group, and no LNMC", body, other)
+    for length in (DICTIONARY_LIMIT, DICTIONARY_LIMIT + 1):
+        yield one(f"a dictionary of {length} bytes", body, place.got("mini").ljust(length))
     for length in (machine.LIMIT, machine.LIMIT + 1):
-        yield f"a body of {length} bytes", "one", [("UPDATE deposits SET body = ?", machine.FILE_A + b" " * (length - len(machine.FILE_A)))], False
-    again = ["INSERT INTO deposits SELECT 4, firm, project, embargo + {}, body FROM deposits WHERE number = 3", "INSERT INTO lines SELECT 4, seq, grp, kind, line FROM lines WHERE deposit = 3",
+        yield one(f"a body of {length} bytes", "UPDATE deposits SET body = ?", machine.FILE_A.ljust(length))
+    yield from of_deposits(three)
+    yield three("lines without a deposit",
+                "INSERT INTO lines SELECT 9, seq, grp, kind, line FROM lines WHERE deposit = 3")
+    yield three("steps without a deposit", "INSERT INTO steps SELECT 9, child, target FROM steps WHERE deposit = 3")
+    spaced = "CAST(replace(CAST(line AS TEXT), '\",\"', '\" , \"') AS BLOB)"
+    yield three("a line spelled with spaces", f"UPDATE lines SET line = {spaced} WHERE deposit = 1 AND seq = 4")
+    yield three("two lines exchanged", "UPDATE lines SET seq = seq + 100 WHERE deposit = 1 AND seq IN (27, 28)",
+                "UPDATE lines SET seq = 155 - seq WHERE seq > 100")
+    for text in ("INSERT INTO steps VALUES (1, 0, 1)", "INSERT INTO steps VALUES (1, 9, 99)",
+                 "INSERT INTO steps VALUES (1, 99, 9)", "INSERT INTO steps VALUES (1, -1, 0)",
+                 "INSERT INTO steps VALUES (1, 9, 9)",
+                 "UPDATE steps SET target = target + 1 WHERE deposit = 1 AND child = 9",
+                 "INSERT INTO lines VALUES (1, 41, 'LNMC', 4, x'2244415441222c22223a')",
+                 "INSERT INTO lines VALUES (1, -1, 'PROJ', 0, x'')"):
+        yield three(text, text)
+
+
+def of_deposits(three):
+    """The same of whole deposits."""
+    again = ["INSERT INTO deposits SELECT 4, firm, project, embargo + {}, body FROM deposits WHERE number = 3",
+             "INSERT INTO lines SELECT 4, seq, grp, kind, line FROM lines WHERE deposit = 3",
              "INSERT INTO steps SELECT 4, child, target FROM steps WHERE deposit = 3"]
-    yield "two equal deposits", "three", [text.format(0) for text in again], False
-    yield "two equal deposits with different embargoes", "three", [text.format(1) for text in again], False
-    yield "one deposit more", "three", [text.format(0) for text in again] + ["UPDATE deposits SET firm = 'Gamma' WHERE number = 4"], False
-    yield "one deposit more without its lines", "three", [again[0].format(0), "UPDATE deposits SET firm = 'Gamma' WHERE number = 4"], False
-    yield "the last deposit taken out whole", "three", ["DELETE FROM deposits WHERE number = 3", "DELETE FROM lines WHERE deposit = 3", "DELETE FROM steps WHERE deposit = 3"], False
-    yield "the first deposit taken out whole", "three", ["DELETE FROM deposits WHERE number = 1", "DELETE FROM lines WHERE deposit = 1", "DELETE FROM steps WHERE deposit = 1"], False
-    yield "two deposits exchanged", "three", ["UPDATE deposits SET number = number + 10 WHERE number < 3", "UPDATE deposits SET number = 13 - number WHERE number > 10",
-                                              *(f"UPDATE {table} SET deposit = {change} WHERE deposit {which}" for table in ("lines", "steps") for change, which in (("deposit + 10", "< 3"), ("13 - deposit", "> 10")))], False
-    yield "the bodies of two exchanged", "three", ["UPDATE deposits SET body = (SELECT body FROM deposits d WHERE d.number = 4 - deposits.number) WHERE number <> 2"], False
-    yield "lines without a deposit", "three", ["INSERT INTO lines SELECT 9, seq, grp, kind, line FROM lines WHERE deposit = 3"], False
-    yield "steps without a deposit", "three", ["INSERT INTO steps SELECT 9, child, target FROM steps WHERE deposit = 3"], False
-    yield "a line spelled with spaces", "three", ["UPDATE lines SET line = CAST(replace(CAST(line AS TEXT), '\",\"', '\" , \"') AS BLOB) WHERE deposit = 1 AND seq = 4"], False
-    yield "two lines exchanged", "three", ["UPDATE lines SET seq = seq + 100 WHERE deposit = 1 AND seq IN (27, 28)", "UPDATE lines SET seq = 155 - seq WHERE seq > 100"], False
-    for text in ("INSERT INTO steps VALUES (1, 0, 1)", "INSERT INTO steps VALUES (1, 9, 99)", "INSERT INTO steps VALUES (1, 99, 9)", "INSERT INTO steps VALUES (1, -1, 0)", "INSERT INTO steps VALUES (1, 9, 9)",
-                 "UPDATE steps SET target = target + 1 WHERE deposit = 1 AND child = 9", "INSERT INTO lines VALUES (1, 41, 'LNMC', 4, x'2244415441222c22223a')", "INSERT INTO lines VALUES (1, -1, 'PROJ', 0, x'')"):
-        yield text, "three", [text], False
+    gamma = "UPDATE deposits SET firm = 'Gamma' WHERE number = 4"
+    yield three("two equal deposits", *(text.format(0) for text in again))
+    yield three("two equal deposits with different embargoes", *(text.format(1) for text in again))
+    yield three("one deposit more", *(text.format(0) for text in again), gamma)
+    yield three("one deposit more without its lines", again[0].format(0), gamma)
+    for name, number in (("last", 3), ("first", 1)):
+        places = ("deposits WHERE number", "lines WHERE deposit", "steps WHERE deposit")
+        yield three(f"the {name} deposit taken out whole", *(f"DELETE FROM {place} = {number}" for place in places))
+    yield three("two deposits exchanged", "UPDATE deposits SET number = number + 10 WHERE number < 3",
+                "UPDATE deposits SET number = 13 - number WHERE number > 10",
+                *(f"UPDATE {table} SET deposit = {change} WHERE deposit {which}" for table in ("lines", "steps")
+                  for change, which in (("deposit + 10", "< 3"), ("13 - deposit", "> 10"))))
+    other_body = "(SELECT body FROM deposits d WHERE d.number = 4 - deposits.number)"
+    yield three("the bodies of two exchanged", f"UPDATE deposits SET body = {other_body} WHERE number <> 2")
 
 
 def files_by_hand(place):
     """(what was changed, register): files that were changed as files. Each is made under the name `bad`."""
     def put(file, log=None):
-        for end in ("", "-wal"):
-            if os.path.exists(place.path("bad" + end)):
-                os.remove(place.path("bad" + end))
+        place.copy("none", "bad")
         place.put("bad", file)
         if log is not None:
             place.put("bad-wal", log)
@@ -536,14 +550,29 @@ def files_by_hand(place):
         yield f"marked, with a record of {value} for a withdrawal", "marked"
     for name in ("empty", "one", "three", "marked", "old-three"):
         file, log, whole = place.got(name), place.got(name + "-wal"), place.got("whole-" + name)
-        for what, *parts in [("as it is", file, log), ("without its log", file), ("without its file", b"", log), ("with an empty log", file, b""), ("put together", whole), ("put together, with an empty log", whole, b""),
-                             ("put together, with its old log", whole, log), ("with a log of zeros", file, bytes(len(log))), ("with a log of text", file, b"no log\n" * 99), ("with more behind its file", file + b"x" * 4096, log),
-                             ("with more behind its log", file, log + log), ("of text", b"no database\n" * 99), ("of zeros", bytes(8192)), ("with its header alone", whole[:100]), ("with its first page alone", whole[:4096])]:
+        for what, *parts in [("as it is", file, log),
+                             ("without its log", file), ("without its file", b"", log),
+                             ("with an empty log", file, b""), ("put together", whole),
+                             ("put together, with an empty log", whole, b""),
+                             ("put together, with its old log", whole, log),
+                             ("with a log of zeros", file, bytes(len(log))),
+                             ("with a log of text", file, b"no log\n" * 99),
+                             ("with more behind its file", file + b"x" * 4096, log),
+                             ("with more behind its log", file, log + log),
+                             ("of text", b"no database\n" * 99), ("of zeros", bytes(8192)),
+                             ("with its header alone", whole[:100]), ("with its first page alone", whole[:4096])]:
             put(*parts)
             yield f"{name}, {what}", name
-        for what, at, value in [("its page size", 16, b"\x02\x00"), ("a page size that is none", 16, b"\x03\x00"), ("a rollback journal", 18, b"\x01\x01"), ("an unknown format", 18, b"\x07\x07"), ("room kept on each page", 20, b"\x20"),
-                                ("its length", 28, b"\x00\x00\x00\x01"), ("its first free page", 32, b"\x00\x00\x00\x02\x00\x00\x00\x01"), ("the schema's format", 44, b"\x00\x00\x00\x09"), ("the text's encoding", 56, b"\x00\x00\x00\x02"),
-                                ("its user version", 60, b"\x00\x00\x00\x07"), ("its application", 68, b"abcd"), ("its magic", 0, b"SQLite format 4")]:
+        for what, at, value in [("its page size", 16, b"\x02\x00"),
+                                ("a page size that is none", 16, b"\x03\x00"),
+                                ("a rollback journal", 18, b"\x01\x01"), ("an unknown format", 18, b"\x07\x07"),
+                                ("room kept on each page", 20, b"\x20"),
+                                ("its length", 28, b"\x00\x00\x00\x01"),
+                                ("its first free page", 32, b"\x00\x00\x00\x02\x00\x00\x00\x01"),
+                                ("the schema's format", 44, b"\x00\x00\x00\x09"),
+                                ("the text's encoding", 56, b"\x00\x00\x00\x02"),
+                                ("its user version", 60, b"\x00\x00\x00\x07"),
+                                ("its application", 68, b"abcd"), ("its magic", 0, b"SQLite format 4")]:
             put(whole[:at] + value + whole[at + len(value):])
             yield f"{name}, with {what} changed", name
         step = max(1, len(log) // 40)
@@ -561,7 +590,8 @@ def files_by_hand(place):
 # ---- changes at random
 
 def at_random(chance, place):
-    """A changed copy under the name `bad`: what was changed, of which register, and whether it was a row or a cell. None where sqlite3 took no change."""
+    """A changed copy under the name `bad`: what was changed, of which register, and whether it was a row or a cell.
+    None where sqlite3 took no change."""
     name = chance.choice(["one", "three", "three", "marked", "marked", "old-one", "old-three", "old-three"])
     if chance.random() < 0.5:
         template, part = (name, chance.choice(["", "-wal"])) if chance.random() < 0.6 else ("whole-" + name, "")
@@ -570,7 +600,8 @@ def at_random(chance, place):
         at, kind = chance.randrange(len(data)), chance.randrange(10)
         if kind < 6:
             for place_at in [at] + [chance.randrange(len(data)) for _ in range(chance.choice((0, 0, 0, 1, 3)))]:
-                data[place_at] = chance.choice([data[place_at] ^ (1 << chance.randrange(8)), chance.randrange(256), 0, 255])
+                flipped = data[place_at] ^ (1 << chance.randrange(8))
+                data[place_at] = chance.choice([flipped, chance.randrange(256), 0, 255])
         elif kind == 6:
             del data[at:]
         elif kind == 7:
@@ -587,20 +618,28 @@ def at_random(chance, place):
     withdrawals = ["withdrawals"] * 3 if name == "marked" else []
     table = chance.choice(["meta", "deposits", "lines", "lines", "steps", "steps", *withdrawals])
     column, kind = chance.choice(COLUMNS[table])
-    where = f"rowid = (SELECT rowid FROM {table} ORDER BY rowid LIMIT 1 OFFSET {chance.randrange(99)} % (SELECT count(*) FROM {table}))"
+    offset = f"{chance.randrange(99)} % (SELECT count(*) FROM {table})"
+    where = f"rowid = (SELECT rowid FROM {table} ORDER BY rowid LIMIT 1 OFFSET {offset})"
     loosely = chance.random() < 0.2
-    values = {"integer": [*NUMBERS, *range(30)], "text": TEXTS, "blob": [b"", b"x", machine.FILE_A, machine.FILE_B, b'"DATA","BH1"']}
+    values = {"integer": [*NUMBERS, *range(30)], "text": TEXTS,
+              "blob": [b"", b"x", machine.FILE_A, machine.FILE_B, b'"DATA","BH1"']}
     way = chance.randrange(8)
     if way == 0:
         statement = (f"DELETE FROM {table} WHERE {where}",)
     elif way == 1:
-        statement = (f"INSERT OR REPLACE INTO {table} SELECT {', '.join('?' if name == column else name for name, _ in COLUMNS[table])} FROM {table} WHERE {where}", chance.choice(values[kind]))
+        row = ", ".join("?" if name == column else name for name, _ in COLUMNS[table])
+        copying = f"INSERT OR REPLACE INTO {table} SELECT {row} FROM {table} WHERE {where}"
+        statement = (copying, chance.choice(values[kind]))
     elif way == 2 and kind == "blob":
-        statement = (f"UPDATE {table} SET {column} = CAST(substr({column}, 1, ?) || x'{chance.randrange(256):02x}' || substr({column}, 2 + ?) AS BLOB) WHERE {where}", *[chance.randrange(1200)] * 2)
+        changed = f"substr({column}, 1, ?) || x'{chance.randrange(256):02x}' || substr({column}, 2 + ?)"
+        at = chance.randrange(1200)
+        statement = (f"UPDATE {table} SET {column} = CAST({changed} AS BLOB) WHERE {where}", at, at)
     elif way == 3 and kind == "integer":
-        statement = (f"UPDATE OR REPLACE {table} SET {column} = {column} + ? WHERE {where}", chance.choice([-1, 1, 2, 10]))
+        statement = (f"UPDATE OR REPLACE {table} SET {column} = {column} + ? WHERE {where}",
+                     chance.choice([-1, 1, 2, 10]))
     else:
-        statement = (f"UPDATE OR REPLACE {table} SET {column} = ? WHERE {where}", chance.choice([*values["integer"], *values["text"], *values["blob"], None, 1.5] if loosely else values[kind]))
+        others = [*values["integer"], *values["text"], *values["blob"], None, 1.5] if loosely else values[kind]
+        statement = (f"UPDATE OR REPLACE {table} SET {column} = ? WHERE {where}", chance.choice(others))
     try:
         place.written("bad", [statement], loosely)
     except (sqlite3.Error, OverflowError):
@@ -633,26 +672,26 @@ def cases(place, seed, numbers):
 
 
 def main():
-    program = os.path.abspath(sys.argv[1])
     count, seed, first = (int(sys.argv[n]) if len(sys.argv) > n else usual for n, usual in ((2, 300), (3, 1), (4, 1)))
-    resource.setrlimit(resource.RLIMIT_AS, (hostile.MEMORY, hostile.MEMORY))
+    servers.limit_memory()
     folder = tempfile.mkdtemp(prefix="registers")
-    place, passed, failed = Place(program, folder), 0, 0
+    place = Place(sys.argv[1], folder)
     for what, name, is_by_rows in cases(place, seed, range(first, first + count)):
         try:
             wrong = place.wrong("bad", name, is_by_rows)
         except subprocess.TimeoutExpired:
             wrong = "no answer within a minute"
-        passed += wrong is None
-        failed += wrong is not None
+        place.passed += wrong is None
+        place.failed += wrong is not None
         if wrong:
             print(f"{what}: {wrong}", flush=True)
-            bodies.copy_register(folder, "bad", f"wrong-{failed}")
-    if not failed:
+            place.copy("bad", f"wrong-{place.failed}")
+    if not place.failed:
         shutil.rmtree(folder)
-    print(f"({', '.join(f'{text}: {times}' for text, times in sorted(place.counts.items()))}{'; the changed files are in ' + folder if failed else ''})")
-    print(f"{passed} passed, {failed} failed")
-    return failed > 0
+    told = ", ".join(f"{text}: {times}" for text, times in sorted(place.counts.items()))
+    print(f"({told}{'; the changed files are in ' + folder if place.failed else ''})")
+    print(f"{place.passed} passed, {place.failed} failed")
+    return place.failed > 0
 
 
 if __name__ == "__main__":

@@ -3,21 +3,20 @@
 
 usage: bodies.py [COUNT [SEED [PROGRAM]]]     the last line is 'N passed, M failed'
 
-Of each of COUNT bodies, with record links, rings and file sets, under a policy and for a caller of its own, it tries on the machine, or on
-the program where one is named: what is drawn is a file without findings, by reference.py; the extract of an extract that is shown whole is
-the same bytes; and where hidden rows alone are changed, the listing and every extract are the same. A seed gives the same bodies each time.
-The program deposits by words, in a register file of its own for each body, and lists and draws over `serve`, a connection each. What it
-answers is compared with the machine too."""
-import os
+Of each of COUNT bodies, with record links, rings and file sets, under a policy and for a caller of its own, it tries on
+the machine, or on the program where one is named: what is drawn is a file without findings, by reference.py; the
+extract of an extract that is shown whole is the same bytes; and where hidden rows alone are changed, the listing and
+every extract are the same. A seed gives the same bodies each time. The program deposits by words, in a register file of
+its own for each body, and lists and draws over `serve`, a connection each. What it answers is compared with the machine
+too."""
 import random
 import shutil
-import socket
-import sqlite3
-import subprocess
 import sys
 import tempfile
-import machine
-import reference
+sys.dont_write_bytecode = True
+import machine  # noqa: E402
+import reference  # noqa: E402
+import servers  # noqa: E402
 
 STATES = ["FINAL", "PRELIM", "HELD"]
 DAYS = ["2024-05-31", "2024-06-01", "2024-06-02"]
@@ -57,22 +56,27 @@ def body(chance):
         samples.append([chance.choice(locations)[0], f"{chance.randrange(4)}.50", f"S{n}", ""])
     for sample in samples:
         sample[3] = names_in(chance, locations, samples)
-    tests = [[s[0], s[1], s[2], f"{n}.05", chance.choice(["23", "18.4", "x, \"y\""])] for n, s in enumerate(chance.choices(samples, k=chance.randrange(5)) if samples else [])]
-    groups = [table("PROJ", ["PROJ_ID", "PROJ_NAME", "FILE_FSET"], ["ID", "X", "X"], [["P7", chance.choice(["North bank", ""]), file_set()]]),
+    tests = [[s[0], s[1], s[2], f"{n}.05", chance.choice(["23", "18.4", "x, \"y\""])]
+             for n, s in enumerate(chance.choices(samples, k=chance.randrange(5)) if samples else [])]
+    groups = [table("PROJ", ["PROJ_ID", "PROJ_NAME", "FILE_FSET"], ["ID", "X", "X"],
+                    [["P7", chance.choice(["North bank", ""]), file_set()]]),
               table("TRAN", ["TRAN_ISNO", "TRAN_DLIM", "TRAN_RCON"], ["X", "X", "X"], [["1", "|", "+"]]),
               table("UNIT", ["UNIT_UNIT"], ["X"], [["m"]]),
               table("TYPE", ["TYPE_TYPE"], ["X"], [["ID"], ["X"], ["2DP"], ["RL"]]),
               table("LOCA", ["LOCA_ID", "LOCA_STAT", "FILE_FSET"], ["ID", "X", "X"], locations)]
     if samples:
-        groups.append(table("SAMP", ["LOCA_ID", "SAMP_TOP", "SAMP_REF", "SAMP_LINK"], ["ID", "2DP", "X", "RL"], samples, ["", "m", "", ""]))
+        groups.append(table("SAMP", ["LOCA_ID", "SAMP_TOP", "SAMP_REF", "SAMP_LINK"], ["ID", "2DP", "X", "RL"], samples,
+                            ["", "m", "", ""]))
     if tests:
-        groups.append(table("LNMC", ["LOCA_ID", "SAMP_TOP", "SAMP_REF", "SPEC_DPTH", "LNMC_MC"], ["ID", "2DP", "X", "2DP", "X"], tests, ["", "m", "", "m", ""]))
+        groups.append(table("LNMC", ["LOCA_ID", "SAMP_TOP", "SAMP_REF", "SPEC_DPTH", "LNMC_MC"],
+                            ["ID", "2DP", "X", "2DP", "X"], tests, ["", "m", "", "m", ""]))
     if sets:
         rows = [[s, f"{s}-{n}.pdf"] for s in sets for n in range(chance.randrange(1, 3))]
         groups.append(table("FILE", ["FILE_FSET", "FILE_NAME"], ["X", "X"], rows))
     if chance.random() < 0.3:
         chance.shuffle(groups)
-    text = (b"\xef\xbb\xbf" if chance.random() < 0.1 else b"") + chance.choice([b"\r\n", b"\r\n", b"", b"  \r\n\r\n"]).join(groups)
+    mark = b"\xef\xbb\xbf" if chance.random() < 0.1 else b""
+    text = mark + chance.choice([b"\r\n", b"\r\n", b"", b"  \r\n\r\n"]).join(groups)
     return text.replace(b'","', b'" , "') if chance.random() < 0.1 else text
 
 
@@ -86,7 +90,8 @@ def clean_body(chance):
 def rule_days(chance):
     """The lines of a rule that set its first day, its last one, or both."""
     first, last = sorted(chance.choices(RULE_DAYS, k=2))
-    return "".join(chance.choice([[f'from = "{first}"\n'], [f'until = "{last}"\n'], [f'from = "{first}"\n', f'until = "{last}"\n']]))
+    return "".join(chance.choice([[f'from = "{first}"\n'], [f'until = "{last}"\n'],
+                                  [f'from = "{first}"\n', f'until = "{last}"\n']]))
 
 
 def policy(chance):
@@ -97,9 +102,12 @@ def policy(chance):
     if chance.random() < 0.2:
         verb = chance.choice(["deposit", "list", "extract", "withdraw"])
         rules.insert(0, f'verb = "{verb}"\nfirm = "{chance.choice(FIRMS)}"')
-    sights = ['owner = "own"', 'embargo = "running"', f'group = "LOCA"\nheading = "LOCA_STAT"\nvalue = "{chance.choice(STATES)}"',
-              f'group = "SAMP"\nheading = "SAMP_REF"\nvalue = "S{chance.randrange(5)}"', f'group = "{chance.choice(["FILE", "LNMC", "SAMP", "PROJ"])}"',
-              f'firm = "{chance.choice(FIRMS)}"\nproject = "N1"', 'owner = "other"\nembargo = "past"\nheading = "LOCA_ID"\nvalue = "BH2"']
+    sights = ['owner = "own"', 'embargo = "running"',
+              f'group = "LOCA"\nheading = "LOCA_STAT"\nvalue = "{chance.choice(STATES)}"',
+              f'group = "SAMP"\nheading = "SAMP_REF"\nvalue = "S{chance.randrange(5)}"',
+              f'group = "{chance.choice(["FILE", "LNMC", "SAMP", "PROJ"])}"',
+              f'firm = "{chance.choice(FIRMS)}"\nproject = "N1"',
+              'owner = "other"\nembargo = "past"\nheading = "LOCA_ID"\nvalue = "BH2"']
     out = []
     for rule in rules:
         out.append((rule, "deny" if rule.count("\n") and "firm" in rule else "permit"))
@@ -107,7 +115,8 @@ def policy(chance):
         out.append(('verb = "see"\n' + sight, "permit" if sight == 'owner = "own"' else "deny"))
     out.append(('verb = "see"', "permit" if chance.random() < 0.9 else "deny"))
     days = [rule_days(chance) if chance.random() < 0.2 else "" for _ in out]
-    return "".join(f'[[rule]]\nnumber = {10 * n}\neffect = "{effect}"\n{keys}\n{more}\n' for n, ((keys, effect), more) in enumerate(zip(out, days), 1))
+    return "".join(f'[[rule]]\nnumber = {10 * n}\neffect = "{effect}"\n{keys}\n{more}\n'
+                   for n, ((keys, effect), more) in enumerate(zip(out, days), 1))
 
 
 def caller_of(firm):
@@ -138,7 +147,8 @@ def hidden_changed(chance, file, shown):
                 items[chance.randrange(len(items))] = chance.choice([b"x", b"BH1", b"7.50", b"", b"HELD"])
                 rows.append(chance.choice([items, row.items]))
         if rows:
-            head = [machine.line_of(b"GROUP", [g.name]), machine.line_of(b"HEADING", g.headings), machine.line_of(b"UNIT", g.unit.items), machine.line_of(b"TYPE", g.type.items)]
+            head = [machine.line_of(b"GROUP", [g.name]), machine.line_of(b"HEADING", g.headings),
+                    machine.line_of(b"UNIT", g.unit.items), machine.line_of(b"TYPE", g.type.items)]
             groups.append(b"".join(head + [machine.line_of(b"DATA", row) for row in rows]))
     return b"\r\n".join(groups)
 
@@ -150,86 +160,40 @@ def held(text, deposit):
 
 
 class Machine:
-    """Registers of one deposit each on the machine, and what it answers: a listing, then an extract for each list of groups."""
+    """Registers of one deposit each on the machine, and what it answers: a listing, then an extract for each list of
+    groups."""
 
     def seen_of(self, text, deposit, policy_text, caller, day, asked):
         register, rules = held(text, deposit), machine.read_policy(policy_text)
-        return [register.list(rules, caller, "N1", day)] + [register.extract(rules, caller, "N1", 1, groups, day) for groups in asked]
+        return [register.list(rules, caller, "N1", day),
+                *(register.extract(rules, caller, "N1", 1, groups, day) for groups in asked)]
 
 
-class Program:
+class Program(servers.Place):
     """The same on the program. Answers are the bytes of its replies, and texts stand by themselves."""
 
+    patience = 20
+
     def __init__(self, program, folder):
-        self.program, self.folder = os.path.abspath(program), folder
-        self.put("mini", machine.spelled_dictionary(reference.built_in()))
+        callers = (f'[[caller]]\ntoken = "{firm}"\nfirm = "{firm}"\nrole = "{caller_of(firm)["role"]}"\n'
+                   for firm in FIRMS)
+        super().__init__(program, folder, callers="".join(callers))
         self.put("all", b'rule = [{number = 1, effect = "permit"}]\n')
-        self.put("callers", "".join(f'[[caller]]\ntoken = "{firm}"\nfirm = "{firm}"\nrole = "{caller_of(firm)["role"]}"\n' for firm in FIRMS).encode())
-        self.run("init", "--store", "empty", "--dictionary", "mini")
-
-    def put(self, name, data):
-        with open(os.path.join(self.folder, name), "wb") as file:
-            file.write(data)
-
-    def run(self, *words):
-        subprocess.run([self.program, *words], cwd=self.folder, check=True, stdout=subprocess.DEVNULL)
+        self.make("empty")
 
     def seen_of(self, text, deposit, policy_text, caller, day, asked):
-        copy_register(self.folder, "empty", "store")
+        self.copy("empty", "register")
         self.put("body", text)
         self.put("policy", policy_text.encode())
-        self.run("deposit", "--store=store", "--policy=all", "--callers=callers", "--token", deposit["firm"], "--project", deposit["project"], "--embargo", deposit["embargo"], "body")
-        targets = [""] + ["/1?groups=" + b",".join(groups).decode() for groups in asked]
-        return [answer_in(reply) for reply in self.replies(targets, caller, day)]
-
-    def replies(self, targets, caller, day):
-        port = free_port()
-        serving = subprocess.Popen([self.program, "serve", "--store=store", "--policy=policy", "--callers=callers", "--port", str(port), "--connections", str(len(targets)), "--day", day],
-                                   cwd=self.folder, stdout=subprocess.PIPE)
-        serving.stdout.readline()
-        for target in targets:
-            with socket.create_connection(("127.0.0.1", port), timeout=20) as connection:
-                connection.sendall(f"GET /v1/projects/N1/deposits{target} HTTP/1.1\r\nAuthorization: Bearer {caller['firm']}\r\n\r\n".encode())
-                yield b"".join(iter(lambda: connection.recv(65536), b""))
-        serving.communicate(timeout=20)
-
-
-def free_port():
-    """A port below those that connections are given, on which nobody listens."""
-    while True:
-        port = random.randrange(10000, 32000)
-        with socket.socket() as probe:
-            try:
-                probe.bind(("127.0.0.1", port))
-                return port
-            except OSError:
-                pass
-
-
-def copy_register(folder, name, copy):
-    """Copies a register file and the log beside it, which belongs to it."""
-    for end in ("", "-wal"):
-        there, here = os.path.join(folder, name + end), os.path.join(folder, copy + end)
-        if os.path.exists(here):
-            os.remove(here)
-        if os.path.exists(there):
-            shutil.copy(there, here)
-
-
-# What makes a register of format 1 of one of format 2.
-TO_FORMAT_1 = ["DROP TABLE withdrawals", "UPDATE meta SET num = 1 WHERE name = 'format'"]
-
-
-def copy_as_format_1(folder, name, copy):
-    """Copies a register as one of format 1. Its log has a page that was written last."""
-    copy_register(folder, name, "work")
-    setting = "UPDATE meta SET num = {} WHERE name = 'format'".format
-    for statements in (TO_FORMAT_1, ["BEGIN", setting(0), setting(1), "COMMIT"]):
-        connection = sqlite3.connect(os.path.join(folder, "work"), isolation_level=None)
-        for statement in statements:
-            connection.execute(statement)
-        copy_register(folder, "work", copy)  # before the connection ends, which puts the log into the file
-        connection.close()
+        self.right("deposit", "--store=register", "--policy=all", "--callers=callers", "--token", deposit["firm"],
+                   "--project", deposit["project"], "--embargo", deposit["embargo"], "body")
+        pages = [b"", *(b"/1?groups=" + b",".join(groups) for groups in asked)]
+        with self.serve(len(pages), day=day) as server:
+            token = caller["firm"].encode()
+            replies = [server.ask(servers.head(b"/v1/projects/N1/deposits" + page, [], token=token), False)
+                       for page in pages]
+            server.rest()
+        return [answer_in(reply) for reply in replies]
 
 
 def answer_in(reply):
@@ -246,7 +210,9 @@ def turn(chance, counts, side):
     asked = [[], [b"LOCA"], [b"SAMP", b"FILE"], [b"LNMC", b"NONE"]]
     answers = side.seen_of(text, deposit, policy_text, caller, day, asked)
     wrong = []
-    if isinstance(side, Program) and answers != [("text", a[1]) if a[0] == "text" else ("reply", machine.reply(a)[1]) for a in Machine().seen_of(text, deposit, policy_text, caller, day, asked)]:
+    if isinstance(side, Program) and answers != [
+            ("text", a[1]) if a[0] == "text" else ("reply", machine.reply(a)[1])
+            for a in Machine().seen_of(text, deposit, policy_text, caller, day, asked)]:
         wrong.append("another answer than the machine's")
     texts = [answer for answer in answers[1:] if answer[0] == "text"]
     counts["extracts"] += len(texts)

@@ -1,7 +1,6 @@
 """A headless Chromium, driven by the WebDriver protocol through Debian's chromedriver."""
 import base64
 import json
-import os
 import subprocess
 import sys
 import tempfile
@@ -9,7 +8,7 @@ import time
 import urllib.error
 import urllib.request
 sys.dont_write_bytecode = True
-import bodies  # noqa: E402
+import servers  # noqa: E402
 
 PATIENCE = 30
 ELEMENT = "element-6066-11e4-a52e-4f735466cecf"
@@ -24,16 +23,22 @@ class Browser:
     """One window of a new profile. `hosts` are names that lead to 127.0.0.1."""
 
     def __init__(self, hosts, downloads):
-        self.port, self.profile = bodies.free_port(), tempfile.TemporaryDirectory(prefix="browser")
-        self.driver = subprocess.Popen(["chromedriver", f"--port={self.port}"], stdout=subprocess.DEVNULL, stderr=subprocess.DEVNULL)
-        words = ["--headless=new", "--no-sandbox", "--disable-gpu", "--disable-dev-shm-usage", "--ignore-certificate-errors", f"--user-data-dir={self.profile.name}", "--window-size=1920,1080",
-                 "--host-resolver-rules=" + ",".join(f"MAP {host} 127.0.0.1" for host in hosts), "--disable-background-networking", "--no-first-run"]
-        wanted = {"browserName": "chrome", "acceptInsecureCerts": True, "goog:chromeOptions": {"args": words, "prefs": {"download.default_directory": downloads}}, "goog:loggingPrefs": {"browser": "ALL"}}
+        self.port, self.profile = servers.free_port(), tempfile.TemporaryDirectory(prefix="browser")
+        self.driver = subprocess.Popen(["chromedriver", f"--port={self.port}"], stdout=subprocess.DEVNULL,
+                                       stderr=subprocess.DEVNULL)
+        words = ["--headless=new", "--no-sandbox", "--disable-gpu", "--disable-dev-shm-usage",
+                 "--ignore-certificate-errors", f"--user-data-dir={self.profile.name}", "--window-size=1920,1080",
+                 "--host-resolver-rules=" + ",".join(f"MAP {host} 127.0.0.1" for host in hosts),
+                 "--disable-background-networking", "--no-first-run"]
+        wanted = {"browserName": "chrome", "acceptInsecureCerts": True,
+                  "goog:chromeOptions": {"args": words, "prefs": {"download.default_directory": downloads}},
+                  "goog:loggingPrefs": {"browser": "ALL"}}
         self.session = ""
         deadline = time.monotonic() + PATIENCE
         while not self.session:
             try:
-                self.session = "/session/" + self.ask("POST", "/session", {"capabilities": {"alwaysMatch": wanted}})["sessionId"]
+                self.session = "/session/" + self.ask("POST", "/session",
+                                                      {"capabilities": {"alwaysMatch": wanted}})["sessionId"]
             except (OSError, Failed):
                 if time.monotonic() > deadline:
                     raise
@@ -41,7 +46,8 @@ class Browser:
 
     def ask(self, method, path, value=None):
         data = None if value is None else json.dumps(value).encode()
-        request = urllib.request.Request(f"http://127.0.0.1:{self.port}{self.session}{path}", data, {"Content-Type": "application/json"}, method=method)
+        request = urllib.request.Request(f"http://127.0.0.1:{self.port}{self.session}{path}", data,
+                                         {"Content-Type": "application/json"}, method=method)
         try:
             with urllib.request.urlopen(request, timeout=PATIENCE * 2) as answer:
                 return json.load(answer)["value"]
@@ -83,7 +89,7 @@ class Browser:
 
     def text(self, selector):
         """The text that is seen of an element; nothing where there is none."""
-        return self.run("const found = document.querySelector(arguments[0]); return found ? found.innerText : '';", selector)
+        return self.run("return document.querySelector(arguments[0])?.innerText ?? '';", selector)
 
     def wait(self, selector, holds=bool):
         """The text of an element once it holds, or what it is when the patience is over."""
@@ -94,7 +100,8 @@ class Browser:
 
     def errors(self):
         """What the console has of errors, without those of replies that are no success."""
-        return [line["message"] for line in self.ask("POST", "/se/log", {"type": "browser"}) if line["level"] == "SEVERE" and "the server responded with a status" not in line["message"]]
+        return [line["message"] for line in self.ask("POST", "/se/log", {"type": "browser"})
+                if line["level"] == "SEVERE" and "the server responded with a status" not in line["message"]]
 
     def picture(self, path):
         with open(path, "wb") as file:

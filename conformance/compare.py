@@ -11,8 +11,9 @@ import sys
 import reference
 
 here = os.path.dirname(os.path.abspath(__file__))
-WORDS = [b'"DATA"', b'"GROUP"', b'"HEADING"', b'"UNIT"', b'"TYPE"', b'""', b'"X"', b'"ID"', b'"2DP"', b'"RL"', b'"PA"', b'"BH1"', b'"BH2"', b'"S1"',
-         b'"1.50"', b'"LOCA"', b'"SAMP"', b'"DICT"', b'"FILE"', b'"KEY"', b'"LOCA_ID"', b'"SAMP_TOP"', b'"FILE_FSET"', b'"SAMP|BH1|1.50|S1"', b'"LOCA|BH1"', b'"m"']
+WORDS = [b'"DATA"', b'"GROUP"', b'"HEADING"', b'"UNIT"', b'"TYPE"', b'""', b'"X"', b'"ID"', b'"2DP"', b'"RL"', b'"PA"',
+         b'"BH1"', b'"BH2"', b'"S1"', b'"1.50"', b'"LOCA"', b'"SAMP"', b'"DICT"', b'"FILE"', b'"KEY"', b'"LOCA_ID"',
+         b'"SAMP_TOP"', b'"FILE_FSET"', b'"SAMP|BH1|1.50|S1"', b'"LOCA|BH1"', b'"m"']
 
 
 def change(data, chance):
@@ -37,7 +38,8 @@ def change(data, chance):
         lines[k] = b",".join(fields)
     elif kind == 7 and lines[k]:
         at = chance.randrange(len(lines[k]))
-        lines[k] = lines[k][:at] + bytes([chance.choice(b'"," \r\n\t|+-_1AXa\x80\x00')]) + lines[k][at + chance.randrange(2):]
+        byte = bytes([chance.choice(b'"," \r\n\t|+-_1AXa\x80\x00')])
+        lines[k] = lines[k][:at] + byte + lines[k][at + chance.randrange(2):]
     elif kind == 8 and lines[k]:
         at = chance.randrange(len(lines[k]))
         lines[k] = lines[k][:at] + lines[k][at + 1:]

@@ -1,5 +1,6 @@
 #!/usr/bin/env python3
-"""The register as a machine, written apart from the product and straight from its definitions: slow, plain, nothing kept twice.
+"""The register as a machine, written apart from the product and straight from its definitions: slow, plain, nothing
+kept twice.
 
 It has the policy and the callers, what a caller may see of a file, the extract, the five requests with the state that
 each leaves, a request as it is read from the bytes of a connection with the bytes of its reply, the command line, and
@@ -19,7 +20,8 @@ except ImportError:  # a Python before 3.11: what reads no policy and no callers
 import urllib.parse
 import reference
 
-LIMIT = 16_777_216  # bytes of a file, a policy, callers, a dictionary, and a body over HTTP; the scripts here take it from this place
+# Bytes of a file, a policy, callers, a dictionary, and a body over HTTP; the scripts here take it from this place.
+LIMIT = 16_777_216
 MOST = 999999
 LAST_DAY = "9999-12-31"
 FORMAT = 2  # of a register that is made; one of format 1 has no marks
@@ -36,7 +38,8 @@ def is_name(text):
 
 
 def day_of(text):
-    """The day that a text `yyyy-mm-dd` names, from 1970-01-01 on, as that text, or None. Days compare as their texts."""
+    """The day that a text `yyyy-mm-dd` names, from 1970-01-01 on, as that text, or None. Days compare as their
+    texts."""
     if not isinstance(text, str) or not re.fullmatch(r"[0-9]{4}-[0-9]{2}-[0-9]{2}", text) or text < "1970-01-01":
         return None
     try:
@@ -62,7 +65,8 @@ def document(text):
 
 
 def tables_under(table, key, known):
-    """The tables of the array under the one key that a document may have; unknown keys are looked for before anything else."""
+    """The tables of the array under the one key that a document may have; unknown keys are looked for before anything
+    else."""
     items = table.get(key, [])
     inner = [item for item in items if isinstance(item, dict)] if isinstance(items, list) else []
     if any(k != key for k in table) or any(k not in known for item in inner for k in item):
@@ -95,7 +99,9 @@ def read_policy(text):
     rules = []
     for item in items:
         number = item.get("number")
-        if isinstance(number, bool) or not isinstance(number, int) or not 1 <= number <= 9999 or item.get("effect") not in ("permit", "deny"):
+        if isinstance(number, bool) or not isinstance(number, int) or not 1 <= number <= 9999:
+            raise Refused("BadValue")
+        if item.get("effect") not in ("permit", "deny"):
             raise Refused("BadValue")
         for key, is_value in RULE_VALUES.items():
             if key in item and item[key] != "*" and not is_value(item[key]):
@@ -105,7 +111,9 @@ def read_policy(text):
             raise Refused("BadValue")
         if ("heading" in item) != ("value" in item):
             raise Refused("BadValue")
-        if "heading" in item and not (isinstance(item["heading"], str) and re.fullmatch(r"[A-Z0-9_]{1,9}", item["heading"]) and isinstance(item["value"], str)):
+        if "heading" in item and not (isinstance(item["heading"], str)
+                                      and re.fullmatch(r"[A-Z0-9_]{1,9}", item["heading"])
+                                      and isinstance(item["value"], str)):
             raise Refused("BadValue")
         rules.append({k: v for k, v in item.items() if k in ("number", "effect", "heading", "value") or v != "*"})
     if any(b["number"] <= a["number"] for a, b in zip(rules, rules[1:])):
@@ -148,7 +156,8 @@ def read_callers(text):
     items = tables_under(document(text), "caller", {"token", "firm", "role"})
     for item in items:
         token = item.get("token")
-        if not (isinstance(token, str) and re.fullmatch(r"[!-~]{1,64}", token) and is_name(item.get("firm")) and is_name(item.get("role"))):
+        if not (isinstance(token, str) and re.fullmatch(r"[!-~]{1,64}", token) and is_name(item.get("firm"))
+                and is_name(item.get("role"))):
             raise Refused("BadValue")
     tokens = [item["token"] for item in items]
     if len(set(tokens)) != len(tokens):
@@ -179,8 +188,10 @@ def line_of(descriptor, fields):
 def spelled_dictionary(entries):
     """The text of a dictionary of these entries: one group DICT, as it is written."""
     rows = [[b"GROUP", e[1], b"", b"", e[2]] if e[0] == "G" else [b"HEADING", *e[1:4], b""] for e in entries]
-    head = line_of(b"GROUP", [b"DICT"]) + line_of(b"HEADING", [b"DICT_TYPE", b"DICT_GRP", b"DICT_HDNG", b"DICT_STAT", b"DICT_PGRP"])
-    return head + line_of(b"UNIT", [b""] * 5) + line_of(b"TYPE", [b"X"] * 5) + b"".join(line_of(b"DATA", row) for row in rows)
+    headings = [b"DICT_TYPE", b"DICT_GRP", b"DICT_HDNG", b"DICT_STAT", b"DICT_PGRP"]
+    head = line_of(b"GROUP", [b"DICT"]) + line_of(b"HEADING", headings)
+    head += line_of(b"UNIT", [b""] * 5) + line_of(b"TYPE", [b"X"] * 5)
+    return head + b"".join(line_of(b"DATA", row) for row in rows)
 
 
 # ---- what a caller may see of a file
@@ -194,7 +205,8 @@ class File:
         self.words = reference.Dictionary(reference.extended(standard, reference.own_entries(self.groups)))
         self.rows = [(g, row) for g in self.groups for row in g.data]
         self.delimiter, self.concatenator = reference.separators(self.groups)
-        self.steps = [[n for n, (_, s) in enumerate(self.rows) if any(s is t for t in self.targets(g, row))] for g, row in self.rows]
+        self.steps = [[n for n, (_, s) in enumerate(self.rows) if any(s is t for t in self.targets(g, row))]
+                      for g, row in self.rows]
 
     def targets(self, g, row):
         """The rows that a row has a step to."""
@@ -205,7 +217,8 @@ class File:
             if kind == b"RL" and g.under(row, heading):
                 for part in g.under(row, heading).split(self.concatenator):
                     pieces = part.split(self.delimiter)
-                    found += [s for h, s in self.rows if pieces[0] == h.name and pieces[1:] == reference.key(h, s, self.words)]
+                    found += [s for h, s in self.rows if pieces[0] == h.name
+                              and pieces[1:] == reference.key(h, s, self.words)]
         set_of = g.under(row, b"FILE_FSET")
         if g.name != b"FILE" and set_of:
             found += [s for h, s in self.rows if h.name == b"FILE" and h.under(s, b"FILE_FSET") == set_of]
@@ -225,7 +238,8 @@ class File:
 def is_permitted(rules, caller, deposit, day, g, row):
     if g.name in reference.DEFINITIONS:
         return True
-    facts = {"group": g.name, "own": deposit["firm"] == caller["firm"], "past": day >= deposit["embargo"], "headings": g.headings, "cells": row.items}
+    facts = {"group": g.name, "own": deposit["firm"] == caller["firm"], "past": day >= deposit["embargo"],
+             "headings": g.headings, "cells": row.items}
     return decide(rules, caller, deposit["project"], "see", day, facts)[0] == "permit"
 
 
@@ -236,14 +250,17 @@ def shown_rows(rules, caller, deposit, day, file):
 
 
 def extract_text(file, shown, groups):
-    """The asked rows that are shown with all that they reach, as a file. No groups asks for all; PROJ is always asked."""
+    """The asked rows that are shown with all that they reach, as a file. No groups asks for all; PROJ is always
+    asked."""
     asked = {n for n, (g, _) in enumerate(file.rows) if not groups or g.name in groups or g.name == b"PROJ"}
     drawn = {m for n in asked & shown for m in file.reach(n)}
     texts = []
     for g in file.groups:
-        rows = [row for n, (h, row) in enumerate(file.rows) if h is g and (g.name in reference.DEFINITIONS or n in drawn)]
+        rows = [row for n, (h, row) in enumerate(file.rows) if h is g
+                and (g.name in reference.DEFINITIONS or n in drawn)]
         if rows:
-            head = line_of(b"GROUP", [g.name]) + line_of(b"HEADING", g.headings) + line_of(b"UNIT", g.unit.items) + line_of(b"TYPE", g.type.items)
+            head = line_of(b"GROUP", [g.name]) + line_of(b"HEADING", g.headings)
+            head += line_of(b"UNIT", g.unit.items) + line_of(b"TYPE", g.type.items)
             texts.append(head + b"".join(line_of(b"DATA", row.items) for row in rows))
     return b"\r\n".join(texts)
 
@@ -339,15 +356,17 @@ class Register:
 
 # ---- a connection
 
-PHRASES = {200: "OK", 400: "Bad Request", 401: "Unauthorized", 403: "Forbidden", 404: "Not Found", 405: "Method Not Allowed", 411: "Length Required",
-           413: "Payload Too Large", 422: "Unprocessable Entity", 503: "Service Unavailable", 507: "Insufficient Storage"}
+PHRASES = {200: "OK", 400: "Bad Request", 401: "Unauthorized", 403: "Forbidden", 404: "Not Found",
+           405: "Method Not Allowed", 411: "Length Required", 413: "Payload Too Large", 422: "Unprocessable Entity",
+           503: "Service Unavailable", 507: "Insufficient Storage"}
 TOKEN = rb"[!#$%&'*+.^_`|~0-9A-Za-z-]+"
 REQUEST_LINE = re.compile(rb"(?:\r?\n)*(" + TOKEN + rb") ([\x21-\x7e\x80-\xff]+) HTTP/1\.[01]\r?\n")
 FIELD = re.compile(rb"(" + TOKEN + rb"):([\t\x20-\x7e\x80-\xff]*)\r?\n")
 
 
 def rendered(status, body, kind="application/json"):
-    head = f"HTTP/1.1 {status} {PHRASES[status]}\r\nContent-Type: {kind}\r\nContent-Length: {len(body)}\r\nConnection: close\r\n\r\n"
+    fields = f"Content-Type: {kind}\r\nContent-Length: {len(body)}\r\nConnection: close\r\n\r\n"
+    head = f"HTTP/1.1 {status} {PHRASES[status]}\r\n{fields}"
     return status, head.encode() + body
 
 
@@ -401,6 +420,12 @@ def values(fields, name):
     return [value for key, value in fields if key == name]
 
 
+def token_in(fields):
+    """The token that a head's fields give, or None."""
+    given = values(fields, b"authorization")
+    return given[0][7:].decode("latin-1") if len(given) == 1 and given[0].startswith(b"Bearer ") else None
+
+
 def reply(answer):
     """The bytes of the reply to an answer."""
     kind = answer[0]
@@ -411,7 +436,8 @@ def reply(answer):
     if kind == "withdrawn":
         return as_json(200, {"withdrawn": answer[1]})
     if kind == "listing":
-        return as_json(200, {"deposits": [{"number": n, "firm": firm, "embargo": embargo} for n, firm, embargo in answer[1]]})
+        return as_json(200, {"deposits": [{"number": n, "firm": firm, "embargo": embargo}
+                                          for n, firm, embargo in answer[1]]})
     if kind == "text":
         return rendered(200, answer[1], "text/plain; charset=us-ascii")
     if kind == "denied":
@@ -419,7 +445,8 @@ def reply(answer):
     if kind == "findings":
         def subject(text):
             return "".join("?" if b < 32 or b > 126 else chr(b) for b in text)
-        return as_json(422, {"findings": [{"code": code, "line": line, "subject": subject(text)} for line, code, text in answer[1]]})
+        return as_json(422, {"findings": [{"code": code, "line": line, "subject": subject(text)}
+                                          for line, code, text in answer[1]]})
     return error({"unknown": 404, "too large": 413, "full": 507}[kind], kind)
 
 
@@ -436,13 +463,12 @@ def serve(register, rules, callers, day, data):
     if not route:
         return error(404, "no route")
     project, page, number = route[1].decode(), route[2].partition(b"/")[0].decode(), route[3]
-    kind = {("check", b"POST", False): "check", ("deposits", b"POST", False): "deposit", ("deposits", b"GET", False): "list",
-            ("deposits", b"GET", True): "extract", ("deposits", b"DELETE", True): "withdraw",
-            }.get((page, method, number is not None))
+    kind = {("check", b"POST", False): "check", ("deposits", b"POST", False): "deposit",
+            ("deposits", b"GET", False): "list", ("deposits", b"GET", True): "extract",
+            ("deposits", b"DELETE", True): "withdraw"}.get((page, method, number is not None))
     if kind is None:
         return error(405, "method")
-    given = values(fields, b"authorization")
-    token = given[0][7:].decode("latin-1") if len(given) == 1 and given[0].startswith(b"Bearer ") else None
+    token = token_in(fields)
     if token not in callers:
         return error(401, "no caller")
     length = 0
@@ -457,7 +483,8 @@ def serve(register, rules, callers, day, data):
             return error(413, "too large")
     known = {"deposit": "embargo", "extract": "groups"}.get(kind)
     pairs = pairs_of(query)
-    bad = not is_name(project) or (number is not None and number_in(number.decode()) is None) or len(pairs) > 1 or any(name != known for name, _ in pairs)
+    bad = not is_name(project) or (number is not None and number_in(number.decode()) is None)
+    bad = bad or len(pairs) > 1 or any(name != known for name, _ in pairs)
     value = pairs[0][1] if pairs else None
     if kind == "deposit" and value is not None:
         bad = bad or day_of(value) is None
@@ -484,15 +511,15 @@ def logged(callers, data, status, text):
     if head is None:
         return f"- - - - {status}", len(text)
     method, target, fields, _ = head
-    given = values(fields, b"authorization")
-    caller = callers.get(given[0][7:].decode("latin-1")) if len(given) == 1 and given[0].startswith(b"Bearer ") else None
+    caller = callers.get(token_in(fields), {"firm": "-", "role": "-"})
     path = "".join(chr(b) if 32 < b < 127 and b != 92 else f"\\x{b:02x}" for b in target.partition(b"?")[0])
-    return f"{caller['firm'] if caller else '-'} {caller['role'] if caller else '-'} {method.decode()} {path} {status}", len(text)
+    return f"{caller['firm']} {caller['role']} {method.decode()} {path} {status}", len(text)
 
 
 # ---- the command line
 
-OPTIONS = {"init": "store dictionary", "check": "dictionary", "deposit": "store policy callers token project day embargo",
+OPTIONS = {"init": "store dictionary", "check": "dictionary",
+           "deposit": "store policy callers token project day embargo",
            "extract": "store policy callers token project day groups", "list": "store policy callers token project day",
            "withdraw": "store policy callers token project day", "migrate": "store",
            "serve": "store policy callers port connections day day-by-clock patience end-on-failure log"}
@@ -517,7 +544,8 @@ def ended_by(fault):
 
 
 def words_of(words):
-    """The command, its options and its further words. A byte that is no text stands in a word as Python's own stand-in for it."""
+    """The command, its options and its further words. A byte that is no text stands in a word as Python's own stand-in
+    for it."""
     if not words or words[0] not in OPTIONS or any("\udc80" <= c <= "\udcff" for word in words for c in word):
         raise Fault("words refused", 4)
     command, rest, options, places = words[0], list(words[1:]), {}, []
@@ -536,7 +564,8 @@ def words_of(words):
                 raise Fault("words refused", 4)
             value = rest.pop(0)
         options[name] = value
-    if len(places) != PLACES[command] or any(name not in options for name in OPTIONS[command].split() if name not in MAY_LACK):
+    needed = set(OPTIONS[command].split()) - MAY_LACK
+    if len(places) != PLACES[command] or not needed <= set(options):
         raise Fault("words refused", 4)
     for name, most in (("port", 65535), ("connections", 1000000), ("patience", 3600)):
         if name in options and not (re.fullmatch(r"[0-9]+", options[name]) and 1 <= int(options[name]) <= most):
@@ -617,8 +646,8 @@ class Computer:
             return ended_by(fault)
 
     def serve(self, words, today, given, is_free=True):
-        """What `serve` prints as far as it gets, with the status, and the reply to each connection. `given` are the bytes of each, None for one
-        that is broken off; whether the port is free is told."""
+        """What `serve` prints as far as it gets, with the status, and the reply to each connection. `given` are the
+        bytes of each, None for one that is broken off; whether the port is free is told."""
         try:
             _, options, _ = words_of(words)
             rules = self.text(options["policy"], "policy", read_policy)
@@ -909,7 +938,8 @@ def examples():
 
     small = Register(most=1)
     other = FILE_A.replace(b"BH1", b"BH2")
-    yield "with room for one", [small.deposit(rules, delta, "N1", june, x, SENT)[0] for x in (FILE_A, other, FILE_A)], ["receipt", "full", "receipt"]
+    got = [small.deposit(rules, delta, "N1", june, data, SENT)[0] for data in (FILE_A, other, FILE_A)]
+    yield "with room for one", got, ["receipt", "full", "receipt"]
 
     register = Register()
     register.deposit(rules, delta, "N1", june, FILE_B, SENT)
@@ -929,21 +959,28 @@ def examples():
     yield "extract of C by Delta", register.extract(rules, delta, "N1", 1, [], june), ("text", c)
 
     register = Register()
-    hidden, shown, itself = (with_cell(b"PROJ_LINK", b"RL", cell, LINKING) for cell in (b"LOCA|BH2", b"LOCA|BH1", b"PROJ|P7"))
+    hidden, shown, itself = (with_cell(b"PROJ_LINK", b"RL", cell, LINKING)
+                             for cell in (b"LOCA|BH2", b"LOCA|BH1", b"PROJ|P7"))
     last = b"".join(lines(FILE_A)[6:]) + b"\r\n" + b"".join(lines(FILE_A)[:5])
     bodies = [hidden, shown, with_cell(b"FILE_FSET", b"X", b"FS1", FILES), last, itself]
-    yield "what the row of PROJ reaches", [register.deposit(rules, delta, "N1", june, body, SENT)[:2] for body in bodies], [("receipt", n) for n in range(1, 6)]
-    for name, caller, day, want in [("by Echo", echo, june, [2, 3, 4, 5]), ("by Echo the day before", echo, may, []), ("by Delta", delta, may, [1, 2, 3, 4, 5])]:
-        yield f"its listing {name}", register.list(rules, caller, "N1", day), ("listing", [(n, "Delta", june) for n in want])
+    got = [register.deposit(rules, delta, "N1", june, body, SENT)[:2] for body in bodies]
+    yield "what the row of PROJ reaches", got, [("receipt", n) for n in range(1, 6)]
+    for name, caller, day, want in [("by Echo", echo, june, [2, 3, 4, 5]),
+                                    ("by Echo the day before", echo, may, []),
+                                    ("by Delta", delta, may, [1, 2, 3, 4, 5])]:
+        listing = "listing", [(n, "Delta", june) for n in want]
+        yield f"its listing {name}", register.list(rules, caller, "N1", day), listing
 
     spaced = b"\xef\xbb\xbf" + FILE_A.replace(b'"DATA","P7","North bank"', b'"DATA" , "P7","North ""bank"""')[:-2]
     register = Register()
     register.deposit(rules, delta, "N1", june, spaced, SENT)
-    yield "one spelling", register.extract(rules, delta, "N1", 1, [], june), ("text", FILE_A.replace(b"North bank", b'North ""bank""'))
+    text = FILE_A.replace(b"North bank", b'North ""bank""')
+    yield "one spelling", register.extract(rules, delta, "N1", 1, [], june), ("text", text)
 
     register = Register()
-    run = [register.check(rules, echo, "N1", FILE_A, june)[0], register.check(rules, echo, "N1", b"", june)[0], register.deposit(rules, delta, "N1", june, FILE_A, june)[0],
-           register.list(rules, echo, "N1", june)[0], register.extract(rules, echo, "N2", 1, [], june)[0], register.list(rules, echo, "N2", june)[1],
+    run = [register.check(rules, echo, "N1", FILE_A, june)[0], register.check(rules, echo, "N1", b"", june)[0],
+           register.deposit(rules, delta, "N1", june, FILE_A, june)[0], register.list(rules, echo, "N1", june)[0],
+           register.extract(rules, echo, "N2", 1, [], june)[0], register.list(rules, echo, "N2", june)[1],
            len(register.extract(rules, echo, "N1", 1, [b"NONE"], june)[1])]
     yield "a run", run, ["clean", "findings", "receipt", "listing", "unknown", [], 466]
 
@@ -952,9 +989,12 @@ def examples():
 
     q = POLICY
     for name, text, want in [
-        ("20 then 10", q.replace("number = 5\n", "number = 90\n"), "Order"), ("no effect", '[[rule]]\nnumber = 1\n', "BadValue"),
-        ("colour", '[[rule]]\nnumber = 0\neffect = "permit"\n[[rule]]\ncolour = 1\n', "UnknownKey"), ("not closed", "[[rule", "Syntax"), ("empty", "", "read"),
-        ("one table", "[rule]\ncolour = 1\n", "BadValue"), ("a number", "rule = 3", "BadValue"), ("inline", 'rule = [{number = 1, effect = "permit"}]', "read"),
+        ("20 then 10", q.replace("number = 5\n", "number = 90\n"), "Order"),
+        ("no effect", '[[rule]]\nnumber = 1\n', "BadValue"),
+        ("colour", '[[rule]]\nnumber = 0\neffect = "permit"\n[[rule]]\ncolour = 1\n', "UnknownKey"),
+        ("not closed", "[[rule", "Syntax"), ("empty", "", "read"),
+        ("one table", "[rule]\ncolour = 1\n", "BadValue"),
+        ("a number", "rule = 3", "BadValue"), ("inline", 'rule = [{number = 1, effect = "permit"}]', "read"),
         ("the verb withdraw", '[[rule]]\nnumber = 1\neffect = "deny"\nverb = "withdraw"\n', "read"),
         ("another verb", '[[rule]]\nnumber = 1\neffect = "deny"\nverb = "withdrawn"\n', "BadValue"),
         *((f"days: {more}", ruled(40, *more), want) for more, want in DAYS_READ),
@@ -978,7 +1018,8 @@ def examples():
         ("method", head("PUT /v1/projects/N1/check HTTP/1.1"), (405, '{"error":"method"}')),
         ("no length", head(check, "t-echo"), (411, '{"error":"length required"}')),
         ("too large", head(check, "t-echo", size.format(LIMIT + 1)), (413, '{"error":"too large"}')),
-        ("a long body that is not sent", head(check, "t-echo", size.format(len(longer))), (400, '{"error":"short body"}')),
+        ("a long body that is not sent", head(check, "t-echo", size.format(len(longer))),
+         (400, '{"error":"short body"}')),
         ("a long body", head(check, "t-echo", size.format(len(longer))) + longer, (200, '{"clean":true}')),
         ("short body", head(check, "t-echo", size.format(543)) + FILE_A[:542], (400, '{"error":"short body"}')),
         ("clean", head(check, "t-echo", size.format(543)) + FILE_A, (200, '{"clean":true}')),
@@ -998,15 +1039,17 @@ def examples():
         ("LF alone", head(listing.format(""), "t-echo").replace(b"\r\n", b"\n"), (200, '{"deposits":[]}')),
         ("HTTP/1.2", head(listing.format(""), "t-echo").replace(b"1.1", b"1.2"), (400, '{"error":"bad head"}')),
         ("33 fields", head(listing.format(""), "t-echo", *["X: 1"] * 32), (400, '{"error":"bad head"}')),
-        ("a name with a quote", head(check, "t-echo", size.format(544)) + FILE_A.replace(b'"GROUP","LOCA"', b'"GROUP","l""\x01\\"'),
+        ("a name with a quote", head(check, "t-echo", size.format(544))
+         + FILE_A.replace(b'"GROUP","LOCA"', b'"GROUP","l""\x01\\"'),
          (422, '{"findings":[{"code":"19","line":26,"subject":"l\\"?\\\\"}]}')),
     ]:
         got = ask(register, data)
         yield f"connection: {name}", got, want
     yield from deletions(by)
     status, text = serve(Register(), rules, by, "2024-05-01", head(post, "t-delta", size.format(543)) + FILE_A)
-    yield "a whole reply", text, (b'HTTP/1.1 200 OK\r\nContent-Type: application/json\r\nContent-Length: 35\r\nConnection: close\r\n\r\n'
-                                  b'{"embargo":"2024-06-01","number":1}')
+    yield "a whole reply", text, (
+        b'HTTP/1.1 200 OK\r\nContent-Type: application/json\r\nContent-Length: 35\r\n'
+        b'Connection: close\r\n\r\n{"embargo":"2024-06-01","number":1}')
 
 
 def ruled(number, *more, policy=POLICY):
@@ -1018,8 +1061,10 @@ def ruled(number, *more, policy=POLICY):
 JUNE = 'from = "2024-06-01"', 'until = "2024-06-30"'
 DAYS_READ = [
     (JUNE, "read"), (JUNE[:1], "read"), (JUNE[1:], "read"), (('from = "2024-06-01"', 'until = "2024-06-01"'), "read"),
-    (('from = "2024-06-01"', 'until = "2024-05-31"'), "BadValue"), *(((f"{key} = {value}",), "BadValue") for key in DAY_KEYS for value in (
-        '"*"', "2024-06-01", '"2024-6-1"', '"2023-02-29"', '"1969-12-31"', '"10000-01-01"', '""', "19875", '["2024-06-01"]')),
+    (('from = "2024-06-01"', 'until = "2024-05-31"'), "BadValue"),
+    *(((f"{key} = {value}",), "BadValue") for key in DAY_KEYS for value in (
+        '"*"', "2024-06-01", '"2024-6-1"', '"2023-02-29"', '"1969-12-31"', '"10000-01-01"', '""', "19875",
+        '["2024-06-01"]')),
     (('From = "2024-06-01"',), "UnknownKey"),
 ]
 
@@ -1028,7 +1073,8 @@ def rule_days(delta, echo):
     """Rules that match on some days alone, of each verb."""
     a, b = FILE_A, FILE_B
     for number, more, data, asked in [
-        (40, JUNE, a, {"2024-05-31": ("denied", 0), "2024-06-01": ("text", a), "2024-06-30": ("text", a), "2024-07-01": ("denied", 0)}),
+        (40, JUNE, a, {"2024-05-31": ("denied", 0), "2024-06-01": ("text", a), "2024-06-30": ("text", a),
+                       "2024-07-01": ("denied", 0)}),
         (80, ['from = "2024-06-02"'], a, {"2024-06-01": ("unknown",), "2024-06-02": ("text", a)}),
         (80, ['from = "2024-06-02"'], b, {"2024-06-01": ("unknown",), "2024-06-02": ("text", without(b, 33, 40, 47))}),
     ]:
@@ -1037,12 +1083,14 @@ def rule_days(delta, echo):
         for day, want in asked.items():
             yield f"rule {number} with {more} on {day}", register.extract(rules, echo, "N1", 1, [], day), want
     asks = [("check", lambda rules, day: Register().check(rules, echo, "N1", a, day), 20, ("clean",)),
-            ("deposit", lambda rules, day: Register().deposit(rules, delta, "N1", day, a, day), 10, ("receipt", 1, "2024-06-30")),
+            ("deposit", lambda rules, day: Register().deposit(rules, delta, "N1", day, a, day), 10,
+             ("receipt", 1, "2024-06-30")),
             ("list", lambda rules, day: Register().list(rules, echo, "N1", day), 30, ("listing", [])),
             ("withdraw", lambda rules, day: Register().withdraw(rules, delta, "N1", 1, day), 45, ("unknown",))]
     for name, ask, number, want in asks:
         rules = read_policy(ruled(number, *JUNE, policy=WITHDRAWING))
-        yield f"{name} under such days", [ask(rules, day) for day in ("2024-06-30", "2024-07-01")], [want, ("denied", 0)]
+        got = [ask(rules, day) for day in ("2024-06-30", "2024-07-01")]
+        yield f"{name} under such days", got, [want, ("denied", 0)]
 
 
 def withdrawals(q, by):
@@ -1103,32 +1151,42 @@ def runs():
     """The same of the command line."""
     computer, today = Computer(), "2024-05-01"
     mini = spelled_dictionary(reference.built_in())
-    computer.files = {"mini": mini, "a": FILE_A, "q": POLICY.encode(), "c": CALLERS.encode(), "empty": b"", "junk": b"junk"}
+    computer.files = {"mini": mini, "a": FILE_A, "q": POLICY.encode(), "c": CALLERS.encode(), "empty": b"",
+                      "junk": b"junk"}
     with_token = ["--store", "s", "--policy", "q", "--callers", "c", "--project", "N1", "--token"]
     deposit = ["deposit", "a", "--day", today, "--embargo", "2024-06-01", *with_token]
     for words, want in [
-        ([], (b"2 0 -\n", b"", 1)), (["init", "--store", "s", "--dictionary", "a"], (b"", b"groundreg: dictionary refused\n", 4)),
-        (["init", "--store", "s", "--dictionary", "mini"], (b"created\n", b"", 0)), (["init", "--store=s", "--dictionary=mini"], (b"", b"groundreg: store not empty\n", 4)),
+        ([], (b"2 0 -\n", b"", 1)),
+        (["init", "--store", "s", "--dictionary", "a"], (b"", b"groundreg: dictionary refused\n", 4)),
+        (["init", "--store", "s", "--dictionary", "mini"], (b"created\n", b"", 0)),
+        (["init", "--store=s", "--dictionary=mini"], (b"", b"groundreg: store not empty\n", 4)),
         ([*deposit, "t-delta"], (b"receipt 1 2024-06-01\n", b"", 0)), ([*deposit, "t-gamma"], (b"denied 5\n", b"", 2)),
         (["list", "--day", today, *with_token, "t-delta"], (b"1 Delta 2024-06-01\n", b"", 0)),
         (["extract", "1", "--day", "2024-05-31", *with_token, "t-echo"], (b"unknown\n", b"", 3)),
         (["extract", "1", "--day", "2024-06-01", *with_token, "t-echo"], (FILE_A, b"", 0)),
-        (["list", "--project", "N 1", *with_token[:6], "--token", "t-delta"], (b"", b"groundreg: project refused\n", 4)),
+        (["list", "--project", "N 1", *with_token[:6], "--token", "t-delta"],
+         (b"", b"groundreg: project refused\n", 4)),
         (["check", "--dictionary", "mini", "a"], (b"clean\n", b"", 0)),
         (["check", "--dictionary", "mini", "none"], (b"", b"groundreg: cannot read none\n", 6)),
-        (["list", *["empty" if word == "s" else word for word in with_token], "t-delta"], (b"", b"groundreg: not a register\n", 4)),
-        (["list", *["junk" if word == "s" else word for word in with_token], "t-delta"], (b"", b"groundreg: store failed\n", 5)),
-        (["list", *["nowhere/s" if word == "s" else word for word in with_token], "t-delta"], (b"", b"groundreg: store failed\n", 5)),
+        (["list", *["empty" if word == "s" else word for word in with_token], "t-delta"],
+         (b"", b"groundreg: not a register\n", 4)),
+        (["list", *["junk" if word == "s" else word for word in with_token], "t-delta"],
+         (b"", b"groundreg: store failed\n", 5)),
+        (["list", *["nowhere/s" if word == "s" else word for word in with_token], "t-delta"],
+         (b"", b"groundreg: store failed\n", 5)),
         (["list", *with_token, "t-delta", "\udcff"], (b"", b"groundreg: words refused\n", 4)),
     ]:
         yield " ".join(words).replace("\udcff", "(a byte FF)"), computer.run(words, today), want
-    serving = ["serve", "--port", "8017", "--connections", "2", "--day", today, "--policy", "q", "--callers", "c", "--store"]
+    serving = ["serve", "--port", "8017", "--connections", "2", "--day", today, "--policy", "q", "--callers", "c",
+               "--store"]
     post = head("POST /v1/projects/N1/deposits?embargo=2024-06-01 HTTP/1.1", "t-delta", "Content-Length: 543") + FILE_A
     for name, words, is_free, want in [
-        ("serve", [*serving, "s"], True, (b"listening 127.0.0.1:8017\n200\n404\n", b"", 0)), ("serve, a port that is taken", [*serving, "s"], False, (b"", b"groundreg: cannot listen\n", 6)),
+        ("serve", [*serving, "s"], True, (b"listening 127.0.0.1:8017\n200\n404\n", b"", 0)),
+        ("serve, a port that is taken", [*serving, "s"], False, (b"", b"groundreg: cannot listen\n", 6)),
         ("serve, that and no register", [*serving, "none"], False, (b"", b"groundreg: not a register\n", 4)),
     ]:
-        yield name, computer.serve(words, today, [post, head("GET /v1/projects/N1/deposits/999 HTTP/1.1", "t-echo")], is_free)[0], want
+        given = [post, head("GET /v1/projects/N1/deposits/999 HTTP/1.1", "t-echo")]
+        yield name, computer.serve(words, today, given, is_free)[0], want
     yield from migrations(computer, today)
 
 

@@ -8,26 +8,22 @@ usage: migrate.py PROGRAM [COUNT [SEED]]     the last line is 'N passed, M faile
 deposits below under samples/policy.toml; `sqlite3 PATH ".backup format_1.register"` put it into one file. COUNT times
 (30) a migration is ended by SIGKILL at a random moment. What it leaves has to be the register in format 1, which is
 migrated then, or in format 2."""
-import datetime
 import os
 import random
-import resource
 import shutil
-import signal
 import sqlite3
-import subprocess
 import sys
 import tempfile
 import time
 sys.dont_write_bytecode = True
 import bad_registers  # noqa: E402
-import bodies  # noqa: E402
 import machine  # noqa: E402
+import servers  # noqa: E402
+from servers import asking  # noqa: E402
 
 HERE = os.path.dirname(os.path.abspath(__file__))
 ROOT = os.path.dirname(HERE)
 OLD = os.path.join(HERE, "format_1.register")
-PATIENCE = 120
 TOKENS = ["t-delta", "t-foxtrot", "t-gamma", "t-echo"]
 # token, project, embargo and file of each deposit of the register
 DEPOSITS = [
@@ -42,23 +38,15 @@ DEPOSITS = [
 ]
 
 
-def asking(command, token, project, day, *more, policy="policy"):
-    """The words of a command that asks the register."""
-    options = {"store": "s", "policy": policy, "callers": "callers", "token": token, "project": project, "day": day}
-    return [command, *(f"--{name}={value}" for name, value in options.items()), *more]
+class Place(servers.Place):
+    """A place with the register, and the machine's own picture of it."""
 
-
-class Place:
-    """A folder with the register, and the machine's own picture of it; what passed and failed there."""
+    patience = 120
 
     def __init__(self, program, folder):
-        self.program, self.folder, self.passed, self.failed = program, folder, 0, 0
-        self.computer = machine.Computer()
-        for name, data in (("policy", machine.WITHDRAWING.encode()), ("denying", machine.POLICY.encode()),
-                           ("callers", machine.CALLERS.encode()), ("more", machine.FILE_B), ("empty", b"")):
-            self.put(name, data)
-        with open(os.path.join(ROOT, "samples", "mini.ags"), "rb") as file:
-            self.put("mini", file.read())
+        files = {"mini": servers.sample("mini.ags"), "more": machine.FILE_B, "empty": b"",
+                 "denying": machine.POLICY.encode()}
+        super().__init__(program, folder, machine.WITHDRAWING, files=files)
         register, callers = machine.Register(), machine.read_callers(machine.CALLERS)
         for number, (token, project, embargo, path) in enumerate(DEPOSITS):
             with open(os.path.join(ROOT, path), "rb") as file:
@@ -68,78 +56,53 @@ class Place:
         self.before = register.deposits
         self.anew()
 
-    def path(self, name):
-        return os.path.join(self.folder, name)
-
-    def put(self, name, data):
-        with open(self.path(name), "wb") as file:
-            file.write(data)
-        self.computer.files[name] = data
-
     def anew(self):
         """Puts the register there as the earlier program made it."""
-        bodies.copy_register(self.folder, "none", "s")
-        shutil.copy(OLD, self.path("s"))
-        self.computer.files["s"] = register = machine.Register()
+        self.copy("none", "register")
+        shutil.copy(OLD, self.path("register"))
+        self.computer.files["register"] = register = machine.Register()
         register.deposits, register.format = list(self.before), 1
-
-    def hold(self, what, got, want):
-        self.passed += got == want
-        self.failed += got != want
-        if got != want:
-            print(f"{what}\n  wanted {want!r:.600}\n  got    {got!r:.600}", flush=True)
-
-    def run(self, words, limit=None):
-        run = subprocess.run([self.program, *words], cwd=self.folder, stdin=subprocess.DEVNULL, capture_output=True,
-                             timeout=PATIENCE, preexec_fn=limit)
-        return run.stdout, run.stderr, run.returncode
 
     def same(self, words):
         """Compares a start of the program with the machine."""
-        today = datetime.datetime.now(datetime.timezone.utc).date().isoformat()
-        self.hold(" ".join(words), self.run(words), self.computer.run(words, today))
+        self.check(" ".join(words), self.computer.run(words, servers.now()[:10]), self.run(*words))
 
     def read(self):
         """The tables of the register with their rows, as sqlite3 reads them."""
-        bodies.copy_register(self.folder, "s", "read")
+        self.copy("register", "read")
         return bad_registers.all_in(self.path("read"))
 
 
 def refused(place):
     """Every command refuses a register of format 1, and changes nothing."""
     before = place.read()
-    place.hold("its tables", sorted(before[1]), sorted(bad_registers.FORMAT_1))
-    place.hold("its deposits", len(before[1]["deposits"]), len(DEPOSITS))
-    for words in (["init", "--store=s", "--dictionary=mini"], asking("deposit", "t-delta", "N1", "2024-06-01", "more"),
-                  asking("list", "t-echo", "N1", "2024-06-01"), asking("extract", "t-delta", "N1", "2024-06-01", "1"),
-                  asking("withdraw", "t-delta", "N1", "2024-06-01", "1"), ["migrate", "--store=s", "--dictionary=mini"],
-                  ["serve", "--store=s", "--policy=policy", "--callers=callers", "--port=80", "--connections=1"]):
+    place.check("its tables", sorted(bad_registers.FORMAT_1), sorted(before[1]))
+    place.check("its deposits", len(DEPOSITS), len(before[1]["deposits"]))
+    for words in (["init", "--store=register", "--dictionary=mini"], asking("deposit", "more"),
+                  asking("list", token="t-echo"), asking("extract", "1"),
+                  asking("withdraw", "1"), ["migrate", "--store=register", "--dictionary=mini"],
+                  ["serve", "--store=register", "--policy=policy", "--callers=callers", "--port=80",
+                   "--connections=1"]):
         place.same(words)
-    place.hold("the register after the refusals", place.read(), before)
+    place.check("the register after the refusals", before, place.read())
 
 
 def of_nothing(place):
     """A path that names nothing, and a file of no bytes."""
     there = sorted(os.listdir(place.folder))
     place.same(["migrate", "--store=none"])
-    place.hold("what is made where there was nothing", sorted(os.listdir(place.folder)), there)
+    place.check("what is made where there was nothing", there, sorted(os.listdir(place.folder)))
     place.same(["migrate", "--store=empty"])
     place.same(["migrate", "--store=callers"])
-
-
-def full_disk():
-    """A file that would grow beyond the first page of a register's log is one that cannot be written."""
-    signal.signal(signal.SIGXFSZ, signal.SIG_IGN)
-    resource.setrlimit(resource.RLIMIT_FSIZE, (4096, 4096))
 
 
 def on_a_full_disk(place):
     """A migration whose store fails leaves the register in format 1."""
     before = place.read()
-    got = place.run(["migrate", "--store=s"], full_disk)
-    place.hold("a migration on a disk that is full", got, (b"", b"groundreg: store failed\n", 5))
-    place.same(asking("list", "t-delta", "N1", "2024-06-01"))
-    place.hold("the register after it", place.read(), before)
+    got = place.run("migrate", "--store=register", preexec_fn=servers.full_disk)
+    place.check("a migration on a disk that is full", (b"", b"groundreg: store failed\n", 5), got)
+    place.same(asking("list"))
+    place.check("the register after it", before, place.read())
 
 
 def everything(place):
@@ -147,15 +110,15 @@ def everything(place):
     for token in TOKENS:
         for project in ("N1", "N2", "N3"):
             for day in ("2024-05-31", "2024-06-01"):
-                place.same(asking("list", token, project, day))
-            for number in range(1, len(place.computer.files["s"].deposits) + 2):
-                place.same(asking("extract", token, project, "2024-06-01", str(number)))
-        place.same(asking("extract", token, "N1", "2024-06-01", "1", "--groups=SAMP"))
+                place.same(asking("list", token=token, project=project, day=day))
+            for number in range(1, len(place.computer.files["register"].deposits) + 2):
+                place.same(asking("extract", str(number), token=token, project=project))
+        place.same(asking("extract", "1", "--groups=SAMP", token=token))
 
 
 def defined(place, name):
     """How sqlite3 tells the tables of a register: whether they are strict, their columns and their foreign keys."""
-    bodies.copy_register(place.folder, name, "read")
+    place.copy(name, "read")
     connection = sqlite3.connect(place.path("read"))
     strict = sorted(row[1:] for row in connection.execute("PRAGMA table_list") if not row[1].startswith("sqlite_"))
     tables = [connection.execute(f"PRAGMA {told}({row[0]})").fetchall() for row in strict
@@ -167,69 +130,68 @@ def defined(place, name):
 def migrated(place):
     """The migration, and what is asked of the register then."""
     schema, rows = place.read()
-    place.same(["migrate", "--store=s"])
+    place.same(["migrate", "--store=register"])
     after = place.read()
     meta = [("format" if row[0] == b"format" else "dictionary", row[1], row[2]) for row in after[1]["meta"]]
-    place.hold("its format", sorted(row[:2] for row in meta), [("dictionary", 0), ("format", 2)])
+    place.check("its format", [("dictionary", 0), ("format", 2)], sorted(row[:2] for row in meta))
     kept = {name: items for name, items in after[1].items() if name not in ("meta", "withdrawals")}
-    place.hold("the other rows", kept, {name: items for name, items in rows.items() if name != "meta"})
-    place.hold("no deposit is withdrawn", after[1].get("withdrawals"), [])
-    bodies.copy_register(place.folder, "s", "read")
+    place.check("the other rows", {name: items for name, items in rows.items() if name != "meta"}, kept)
+    place.check("no deposit is withdrawn", [], after[1].get("withdrawals"))
+    place.copy("register", "read")
     with bad_registers.reading(place.path("read")) as connection:
         whole = [connection.execute(f"PRAGMA {told}").fetchall() for told in ("integrity_check", "foreign_key_check")]
-    place.hold("the file, by sqlite3", whole, [[(b"ok",)], []])
-    place.run(["init", "--store=made", "--dictionary=mini"])
-    place.hold("its tables, beside those of a register that is made", defined(place, "s"), defined(place, "made"))
+    place.check("the file, by sqlite3", [[(b"ok",)], []], whole)
+    place.make("made")
+    place.check("its tables, beside those of a register that is made", defined(place, "made"),
+                defined(place, "register"))
     everything(place)
-    place.same(["migrate", "--store=s"])
+    place.same(["migrate", "--store=register"])
     for number, (token, project, _, _) in enumerate(DEPOSITS):
-        place.same(asking("deposit", token, project, "2024-06-01", f"d{number}"))
-    for words in (asking("withdraw", "t-delta", "N1", "2024-06-01", "1", policy="denying"),
-                  *(asking("withdraw", token, "N1", "2024-06-01", "1") for token in ("t-echo", "t-foxtrot", "t-delta")),
-                  asking("withdraw", "t-delta", "N2", "2024-06-01", "7"),
-                  *(asking("deposit", token, "N1", "2024-06-01", name)
+        place.same(asking("deposit", f"d{number}", token=token, project=project))
+    for words in (asking("withdraw", "1", policy="denying"),
+                  *(asking("withdraw", "1", token=token) for token in ("t-echo", "t-foxtrot", "t-delta")),
+                  asking("withdraw", "7", project="N2"),
+                  *(asking("deposit", name, token=token)
                     for token, name in (("t-delta", "d0"), ("t-gamma", "more"), ("t-foxtrot", "more")))):
         place.same(words)
     everything(place)
-    place.same(["migrate", "--store=s"])
+    place.same(["migrate", "--store=register"])
 
 
 def ended(place, count, chance):
     """Migrations that are ended at random moments."""
     place.anew()
     begun = time.monotonic()
-    place.run(["migrate", "--store=s"])
+    place.run("migrate", "--store=register")
     taken, left = time.monotonic() - begun, 0
     schema, rows = bad_registers.all_in(OLD)
     for number in range(count):
         place.anew()
-        process = subprocess.Popen([place.program, "migrate", "--store=s"], cwd=place.folder, stdin=subprocess.DEVNULL,
-                                   stdout=subprocess.PIPE, stderr=subprocess.PIPE)
+        process = place.start("migrate", "--store=register")
         time.sleep(chance.uniform(0, 1.2 * taken))
         process.kill()
-        out, fault = process.communicate(timeout=PATIENCE)
-        place.hold(f"end {number}: what was printed", (out in (b"", b"migrated\n"), fault), (True, b""))
-        is_old = place.run(asking("list", "t-delta", "N1", "2024-06-01"))[1] == b"groundreg: register version 1\n"
+        out, fault = process.communicate(timeout=place.patience)
+        place.check(f"end {number}: what was printed", (True, b""), (out in (b"", b"migrated\n"), fault))
+        is_old = place.run(*asking("list"))[1] == b"groundreg: register version 1\n"
         left += is_old
-        place.hold(f"end {number}: it had said that it was done", is_old and out != b"", False)
-        place.computer.files["s"].format = 1 if is_old else 2
+        place.check(f"end {number}: it had said that it was done", False, is_old and out != b"")
+        place.computer.files["register"].format = 1 if is_old else 2
         _, now = place.read()
-        place.hold(f"end {number}: the rows", {name: now[name] for name in rows if name != "meta"},
-                   {name: rows[name] for name in rows if name != "meta"})
-        place.hold(f"end {number}: the tables", sorted(now), sorted(bad_registers.FORMATS[1 if is_old else 2]))
+        place.check(f"end {number}: the rows", {name: rows[name] for name in rows if name != "meta"},
+                    {name: now[name] for name in rows if name != "meta"})
+        place.check(f"end {number}: the tables", sorted(bad_registers.FORMATS[1 if is_old else 2]), sorted(now))
         for _ in range(2):
-            place.same(["migrate", "--store=s"])
-        place.same(asking("list", "t-foxtrot", "N1", "2024-06-01"))
+            place.same(["migrate", "--store=register"])
+        place.same(asking("list", token="t-foxtrot"))
         for token, deposit in (("t-delta", "1"), ("t-echo", "4")):
-            place.same(asking("extract", token, "N1", "2024-06-01", deposit))
+            place.same(asking("extract", deposit, token=token))
     print(f"({left} of {count} migrations were ended before they were done)")
 
 
 def main():
-    program = os.path.abspath(sys.argv[1])
     count, seed = (int(sys.argv[n]) if len(sys.argv) > n else usual for n, usual in ((2, 30), (3, 1)))
     with tempfile.TemporaryDirectory(prefix="migrate") as folder:
-        place = Place(program, folder)
+        place = Place(sys.argv[1], folder)
         refused(place)
         of_nothing(place)
         on_a_full_disk(place)

@@ -12,9 +12,10 @@ import tomllib
 import bodies
 import machine
 import reference
+import servers
 
 home = os.path.dirname(os.path.dirname(os.path.realpath(__file__)))
-sys.path += [os.path.join(home, "samples"), os.path.join(home, "tools")]
+sys.path.append(os.path.join(home, "tools"))
 import lines  # noqa: E402
 import policies  # noqa: E402
 
@@ -137,24 +138,21 @@ def program_cases(program, folder):
     built = bodies.Program(program, folder)
     built.put("callers", read(CALLERS, "rb"))
     for one in deposits:
-        asked = [*rights("all", people[one["Firm"]], one["Project"]), "--day=2024-05-01"]
-        built.run("deposit", *asked, "--embargo", one["Embargo"], os.path.join(home, one["File"]))
+        built.right(*servers.asking("deposit", os.path.join(home, one["File"]), store="empty", policy="all",
+                                    token=people[one["Firm"]]["token"], project=one["Project"], day="2024-05-01",
+                                    embargo=one["Embargo"]))
     for pattern in patterns:
         built.put("policy", pattern.policy.encode())
         rules = machine.read_policy(pattern.policy)
         for row in pattern.rows:
             caller, number, day = people[row["Caller"]], int(row["Deposit"]), row.get("Day", DAY)
             project = register.deposits[number - 1]["project"]
-            words = ["extract", *rights("policy", caller, project), "--day", day, str(number)]
-            run = subprocess.run([built.program, *words], cwd=folder, stdout=subprocess.PIPE)
+            out, _, status = built.run(*servers.asking("extract", str(number), store="empty", token=caller["token"],
+                                                       project=project, day=day))
             kind, *told = register.extract(rules, caller, project, number, [], day)
             text = told[0] if kind == "text" else " ".join([kind, *map(str, told)]).encode() + b"\n"
-            yield f"the program's extract: {pattern.name}: {row}", (run.returncode, run.stdout), (STATUSES[kind], text)
-    yield "steps of each deposit", steps_by_deposit(os.path.join(folder, "empty")), steps_of(register)
-
-
-def rights(policy, caller, project):
-    return ["--store=empty", "--callers=callers", "--policy", policy, "--token", caller["token"], "--project", project]
+            yield f"the program's extract: {pattern.name}: {row}", (status, out), (STATUSES[kind], text)
+    yield "steps of each deposit", steps_by_deposit(built.path("empty")), steps_of(register)
 
 
 def steps_by_deposit(path):

@@ -1,20 +1,19 @@
 #!/usr/bin/env python3
-"""Peers that do not behave beside peers that do, refused uploads, failures and the log of `serve`, all over real sockets.
+"""Peers that do not behave beside peers that do, refused uploads, failures and the log of `serve`, all over real
+sockets.
 
 usage: peers.py PROGRAM     the last line is 'N passed, M failed'
 
-`serve` has a patience of a second or two. A peer that is silent, sends a byte each 100 ms, stops in a body, reads nothing of a reply of 16 MB or a byte of it
-each 100 ms, breaks off, sends on without end or never closes is cut in time, and the request that waits behind it is answered as the machine of machine.py has it. Then 200
-peers come at once, five of them such ones, three times; the greatest resident memory (VmHWM, from /proc) may grow by 256 KiB from the first time to the third.
-A refused POST of 3 MB has to get its status 20 times of 20, by Python's http.client and by curl. `samples/proxy` asks the same through nginx."""
+`serve` has a patience of a second or two. A peer that is silent, sends a byte each 100 ms, stops in a body, reads
+nothing of a reply of 16 MB or a byte of it each 100 ms, breaks off, sends on without end or never closes is cut in
+time, and the request that waits behind it is answered as the machine of machine.py has it. Then 200 peers come at once,
+five of them such ones, three times; the greatest resident memory (VmHWM, from /proc) may grow by 256 KiB from the first
+time to the third. A refused POST of 3 MB has to get its status 20 times of 20, by Python's http.client and by curl.
+`samples/proxy` asks the same through nginx."""
 import collections
-import datetime
 import http.client
 import os
 import re
-import resource
-import shutil
-import signal
 import subprocess
 import sys
 import tempfile
@@ -23,8 +22,7 @@ import time
 sys.dont_write_bytecode = True
 import machine  # noqa: E402
 import servers  # noqa: E402
-import stories  # noqa: E402
-from servers import DAY, Server, head, reset  # noqa: E402
+from servers import DAY, head, now  # noqa: E402
 
 MOST = 200
 ROUNDS = 3
@@ -37,10 +35,11 @@ LISTING = head(b"/v1/projects/N1/deposits", FIELDS)
 
 def post(target, data, token=b"t-delta", length=None):
     """A request with a body, which closes its connection."""
-    return head(b"/v1/projects/N1/" + target, [*FIELDS, b"Content-Length: %d" % (len(data) if length is None else length)], b"POST", token) + data
+    return servers.post(target, data, token, length, FIELDS)
 
 
-# A check whose reply has some 16 MB, and no more than a request may have: two findings for each two bytes, of 82 bytes together.
+# A check whose reply has some 16 MB, and no more than a request may have: two findings for each two bytes, of 82 bytes
+# together.
 LONG_REPLY = post(b"check", b"x\n" * min(200_000, machine.LIMIT // 2))
 
 
@@ -97,7 +96,7 @@ def sipping(connection, over):
 def broken(connection, over):
     """Breaks off in the middle."""
     connection.sendall(post(b"check", machine.FILE_A)[:-100])
-    reset(connection)
+    servers.reset(connection)
 
 
 def endless(connection, over):
@@ -114,8 +113,10 @@ def lingering(connection, over):
     over.wait()
 
 
-# What `serve` prints of each. The last two have their replies; what they send on is thrown away, and they are waited for no longer than two seconds.
-KINDS = {silent: "fault", dribbling: "fault", stopped: "fault", deaf: "fault", sipping: "fault", broken: "fault", endless: "413", lingering: "200"}
+# What `serve` prints of each. The last two have their replies; what they send on is thrown away, and they are waited
+# for no longer than two seconds.
+KINDS = {silent: "fault", dribbling: "fault", stopped: "fault", deaf: "fault", sipping: "fault", broken: "fault",
+         endless: "413", lingering: "200"}
 AMONG_MANY = [silent, dribbling, stopped, deaf, broken]
 
 
@@ -133,20 +134,23 @@ def misbehaves(kind, connect, over):
 # ---- honest requests, which change nothing
 
 def honest(place):
-    """Requests over a register that holds file a by Delta, each with its status and the bytes of its reply, by the machine."""
+    """Requests over a register that holds file a by Delta, each with its status and the bytes of its reply, by the
+    machine."""
     rules, callers = machine.read_policy(machine.POLICY), machine.read_callers(machine.CALLERS)
     register = machine.Register()
     register.deposit(rules, callers["t-delta"], "N1", DAY, machine.FILE_A, DAY)
-    asked = [LISTING, post(b"check", machine.FILE_B), post(b"deposits", machine.FILE_A), head(b"/v1/projects/N1/deposits/1", FIELDS), head(b"/v1/projects/N1/deposits/2", FIELDS),
-             post(b"check", b"x\n" * 1000), head(b"/v1/x", FIELDS), head(b"/v1/projects/N1/deposits", FIELDS, token=b"nobody"), post(b"deposits", machine.FILE_A, b"t-gamma")]
+    asked = [LISTING, post(b"check", machine.FILE_B), post(b"deposits", machine.FILE_A),
+             head(b"/v1/projects/N1/deposits/1", FIELDS), head(b"/v1/projects/N1/deposits/2", FIELDS),
+             post(b"check", b"x\n" * 1000), head(b"/v1/x", FIELDS),
+             head(b"/v1/projects/N1/deposits", FIELDS, token=b"nobody"), post(b"deposits", machine.FILE_A, b"t-gamma")]
     return [(data, *machine.serve(register, rules, callers, DAY, data)) for data in asked]
 
 
 def answered(connect, data):
     """All that comes of a request, at the end of which the connection has to be closed."""
     connection = connect()
-    stories.sent(connection, data, True)
-    return stories.received(connection)
+    servers.sent(connection, data, True)
+    return servers.received(connection)
 
 
 def parts(reply):
@@ -156,14 +160,16 @@ def parts(reply):
 
 
 def at_once(place, name, connect, asked, seen, until):
-    """Has peers connect at once, one of each kind and the others with these requests; what `seen` sees of each reply has to be that of the machine's. Those that
-    do not behave go on until `until` returns what it does, which is returned with the statuses."""
+    """Has peers connect at once, one of each kind and the others with these requests; what `seen` sees of each reply
+    has to be that of the machine's. Those that do not behave go on until `until` returns what it does, which is
+    returned with the statuses."""
     over, barrier, turn = threading.Event(), threading.Barrier(MOST), threading.Lock()
     replies, given = [None] * (MOST - len(AMONG_MANY)), [asked[n % len(asked)] for n in range(MOST - len(AMONG_MANY))]
 
     def connected(*more):
-        # Each opens its connection by itself: the system queues 128, and one that finds the queue full in the midst of its handshake sends its bytes again
-        # seconds later, when it may have been accepted for longer than the server has patience.
+        # Each opens its connection by itself: the system queues 128, and one that finds the queue full in the midst of
+        # its handshake sends its bytes again seconds later, when it may have been accepted for longer than the server
+        # has patience.
         with turn:
             return connect(*more)
 
@@ -192,18 +198,17 @@ def at_once(place, name, connect, asked, seen, until):
     return [status for _, status, _ in given], got
 
 
-def new_place(program, folder, limit=None):
+def new_place(program, folder):
     """A folder whose register holds file a by Delta."""
     place = servers.Place(program, folder)
     place.check("init", (b"created\n", b"", 0), place.run("init", "--store=register", "--dictionary=mini"))
-    place.check("a deposit", (b"receipt 1 %s\n" % DAY.encode(), b"", 0),
-                place.run("deposit", "--store=register", "--policy=policy", "--callers=callers", "--token=t-delta", "--project=N1", f"--day={DAY}", "a"))
+    place.check("a deposit", (b"receipt 1 %s\n" % DAY.encode(), b"", 0), place.run(*servers.asking("deposit", "a")))
     return place
 
 
 def one_by_one(place):
     """Each kind of peer alone, and behind it a request that waits."""
-    server = Server(place, 2 * len(KINDS) + 2, "--patience=1")
+    server = place.serve(2 * len(KINDS) + 2, "--patience=1")
     data, status, want = honest(place)[0]
     for kind, line in KINDS.items():
         over = threading.Event()
@@ -214,27 +219,31 @@ def one_by_one(place):
         place.check(f"the request behind a peer that is {kind.__name__}", want, answered(server.connect, data))
         taken = time.monotonic() - begun
         place.check(f"the seconds that it waits ({taken:.2f})", True, taken < 1 + SLACK)
-        place.check(f"the lines of both, {kind.__name__}", [line, str(status)], [server.line(line), server.line(str(status))])
+        place.check(f"the lines of both, {kind.__name__}", [line, str(status)],
+                    [server.line(line), server.line(str(status))])
         over.set()
         thread.join()
     connection = server.connect()
     for at in range(0, len(data), 40):
-        stories.sent(connection, data[at:at + 40], True)
+        servers.sent(connection, data[at:at + 40], True)
         time.sleep(0.1)
-    place.check("a peer that is slow, and not too slow", (want, str(status)), (stories.received(connection), server.line(str(status))))
-    place.check("a request without a patience of its own", (want, str(status)), (answered(server.connect, data), server.line(str(status))))
+    place.check("a peer that is slow, and not too slow", (want, str(status)),
+                (servers.received(connection), server.line(str(status))))
+    place.check("a request without a patience of its own", (want, str(status)),
+                (answered(server.connect, data), server.line(str(status))))
     server.end("one by one")
 
 
 def many(place):
     """Two hundred at once, again and again."""
-    server, memory = Server(place, ROUNDS * MOST + 1, "--patience=2"), []
+    server, memory = place.serve(ROUNDS * MOST + 1, "--patience=2"), []
 
     def lines():
-        return collections.Counter(stories.printed_line(server.process, time.monotonic() + servers.PATIENCE).decode().strip() for _ in range(MOST))
+        return collections.Counter(server.printed().decode().strip() for _ in range(MOST))
     for turn in range(ROUNDS):
         statuses, got = at_once(place, f"(turn {turn + 1})", server.connect, honest(place), bytes, lines)
-        place.check(f"the lines of turn {turn + 1}", collections.Counter([*map(str, statuses), *(KINDS[kind] for kind in AMONG_MANY)]), got)
+        place.check(f"the lines of turn {turn + 1}",
+                    collections.Counter([*map(str, statuses), *(KINDS[kind] for kind in AMONG_MANY)]), got)
         memory.append(server.memory())
     # The first turn has the program's buffers grow to what such peers need.
     place.check("memory that does not grow", True, memory[-1] <= memory[1] + MEMORY_ROOM)
@@ -259,27 +268,30 @@ def by_http_client(connect, path, token, length):
         connection.close()
 
 
-def by_curl(words, folder, path, token, length):
+def by_curl(words, place, path, token, length):
     """The same of curl, which gets these words besides, and the token from a file."""
-    with open(os.path.join(folder, "upload"), "wb") as file:
-        file.write(b"x" * length)
-    with open(os.path.join(folder, "fields"), "w", encoding="ascii") as file:
-        file.write(f"Authorization: Bearer {token}\n")
-    run = subprocess.run(["curl", "-s", "-o", "reply", "-w", "%{http_code}", "-H", "@fields", "-H", "Expect:", "--data-binary", "@upload", *words, path], cwd=folder, capture_output=True, timeout=servers.PATIENCE)
+    place.put("upload", b"x" * length)
+    place.put("fields", f"Authorization: Bearer {token}\n".encode())
+    run = subprocess.run(["curl", "-s", "-o", "reply", "-w", "%{http_code}", "-H", "@fields", "-H", "Expect:",
+                          "--data-binary", "@upload", *words, path],
+                         cwd=place.folder, capture_output=True, timeout=servers.PATIENCE)
     return int(run.stdout) if run.returncode == 0 else f"curl ended with {run.returncode}"
 
 
 def uploads(place, name, connect, curl_words, url):
     """Refused POSTs: of 3 MB by nobody, and of one byte too many."""
     path = "/v1/projects/N1/deposits"
-    for what, token, length, status in (("3 MB by nobody", "nobody", 3_000_000, 401), ("one byte too many", "t-delta", machine.LIMIT + 1, 413)):
-        place.check(f"{what}, by http.client {name}", [status] * TIMES, [by_http_client(connect, path, token, length) for _ in range(TIMES)])
+    for what, token, length, status in (("3 MB by nobody", "nobody", 3_000_000, 401),
+                                        ("one byte too many", "t-delta", machine.LIMIT + 1, 413)):
+        place.check(f"{what}, by http.client {name}", [status] * TIMES,
+                    [by_http_client(connect, path, token, length) for _ in range(TIMES)])
         if not servers.lacking("curl"):
-            place.check(f"{what}, by curl {name}", [status] * TIMES, [by_curl(curl_words, place.folder, url + path, token, length) for _ in range(TIMES)])
+            place.check(f"{what}, by curl {name}", [status] * TIMES,
+                        [by_curl(curl_words, place, url + path, token, length) for _ in range(TIMES)])
 
 
 def refused(place):
-    server = Server(place, 4 * TIMES if not servers.lacking("curl") else 2 * TIMES)
+    server = place.serve(4 * TIMES if not servers.lacking("curl") else 2 * TIMES)
     uploads(place, "", server.connect, [], f"http://127.0.0.1:{server.port}")
     server.process.stdout.read()
     server.end("refused uploads")
@@ -287,102 +299,105 @@ def refused(place):
 
 # ---- days, failures, the log
 
-def full_disk():
-    """A file that would grow beyond the first page of a register's log is one that cannot be written."""
-    signal.signal(signal.SIGXFSZ, signal.SIG_IGN)
-    resource.setrlimit(resource.RLIMIT_FSIZE, (4096, 4096))
-
-
 def failures(place):
-    """A store that fails ends `serve` with 5 behind the reply, where that is asked for; then the register is as it was."""
+    """A store that fails ends `serve` with 5 behind the reply, where that is asked for; then the register is as it
+    was."""
     data, failed = post(b"deposits", machine.FILE_B), machine.error(503, "store failed")[1]
     for more, asked, end in ((["--end-on-failure"], 1, (5, b"groundreg: store failed\n")), ([], 2, (0, b""))):
-        server = Server(place, 2, *more, limit=full_disk)
+        server = place.serve(2, *more, preexec_fn=servers.full_disk)
         for n in range(asked):
-            place.check(f"deposit {n + 1} on a full disk {more}", (failed, "503"), (answered(server.connect, data), server.line("503")))
+            place.check(f"deposit {n + 1} on a full disk {more}", (failed, "503"),
+                        (answered(server.connect, data), server.line("503")))
         server.end(f"a full disk {more}", *end)
-    server = Server(place, 1, "--end-on-failure")
-    place.check("the deposit sent again", (machine.reply(("receipt", 2, DAY))[1], "200"), (answered(server.connect, data), server.line("200")))
+    server = place.serve(1, "--end-on-failure")
+    place.check("the deposit sent again", (machine.reply(("receipt", 2, DAY))[1], "200"),
+                (answered(server.connect, data), server.line("200")))
     server.end("a disk with room")
 
 
-def today():
-    return datetime.datetime.now(datetime.timezone.utc).strftime("%Y-%m-%dT%H:%M:%SZ")
-
-
 def of_each_status():
-    """Requests over a register that holds file a by Delta, so that each status but 507 comes, 0 and `fault` with it. None breaks off."""
+    """Requests over a register that holds file a by Delta, so that each status but 507 comes, 0 and `fault` with it.
+    None breaks off."""
     listing = head(b"/v1/projects/N1/deposits", [])
-    return [post(b"deposits", machine.FILE_A), listing, head(b"/v1/projects/N1/deposits/1?groups=LOCA", []), post(b"check", machine.FILE_B), post(b"check", b"x\n"), b"GET / HTTP/1.2\r\n\r\n", head(b"/v1/projects/N1/deposits?token=t-delta", []),
-            head(b"/v1/projects/N1/deposits", [], token=b"nobody"), post(b"deposits", machine.FILE_A, b"t-gamma"), head(b"/v1/x\xc3\xa9\\?t-delta", []), head(b"/v1/projects/N1/deposits/9", [], token=b"t-echo"),
+    return [post(b"deposits", machine.FILE_A), listing, head(b"/v1/projects/N1/deposits/1?groups=LOCA", []),
+            post(b"check", machine.FILE_B), post(b"check", b"x\n"), b"GET / HTTP/1.2\r\n\r\n",
+            head(b"/v1/projects/N1/deposits?token=t-delta", []),
+            head(b"/v1/projects/N1/deposits", [], token=b"nobody"), post(b"deposits", machine.FILE_A, b"t-gamma"),
+            head(b"/v1/x\xc3\xa9\\?t-delta", []), head(b"/v1/projects/N1/deposits/9", [], token=b"t-echo"),
             head(b"/v1/projects/N1/deposits", [], b"PUT"), head(b"/v1/projects/N1/deposits/1", [], b"DELETE"),
             head(b"/v1/projects/N1/check", [], b"POST"), post(b"check", b"", length=machine.LIMIT + 1), b"", None,
             post(b"deposits", machine.FILE_B)]
 
 
 def log(place):
-    """Each connection has its line, whatever its status; the log is for its owner alone, and has no token. A log that cannot be written ends `serve`."""
+    """Each connection has its line, whatever its status; the log is for its owner alone, and has no token. A log that
+    cannot be written ends `serve`."""
     os.umask(0o022)
     rules, callers = machine.read_policy(machine.POLICY), machine.read_callers(machine.CALLERS)
     register = machine.Register()
     register.deposit(rules, callers["t-delta"], "N1", DAY, machine.FILE_A, DAY)
     given, seen = of_each_status(), set()
-    server, begun = Server(place, len(given), "--log=log", limit=full_disk), today()
+    server, begun = place.serve(len(given), "--log=log", preexec_fn=servers.full_disk), now()
     for n, data in enumerate(given):
-        status, want = ("fault", b"") if data is None else machine.error(503, "store failed") if data is given[-1] else machine.serve(register, rules, callers, DAY, data)
         if data is None:
+            status, want, wanted = "fault", b"", ("Delta contractor POST /v1/projects/N1/check fault", 0)
             misbehaves(broken, server.connect, threading.Event())
         else:
+            is_last = data is given[-1]
+            status, want = (machine.error(503, "store failed") if is_last
+                            else machine.serve(register, rules, callers, DAY, data))
+            wanted = machine.logged(callers, data, status, want)
             connection = server.connect()
-            stories.sent(connection, data, data != b"")
-            place.check(f"a request that is logged, {data[:60]}", want, stories.received(connection))
+            servers.sent(connection, data, data != b"")
+            place.check(f"a request that is logged, {data[:60]}", want, servers.received(connection))
         place.check("its line of output", str(status), server.line(str(status)))
-        with open(os.path.join(place.folder, "log"), encoding="ascii") as file:
-            lines = file.read().splitlines()
+        lines = place.got("log").decode("ascii").splitlines()
         parts = re.fullmatch(r"(\S+) (.*) (\d+) (\d+) (\d+)", lines[-1])
-        wanted = ("Delta contractor POST /v1/projects/N1/check fault", 0) if data is None else machine.logged(callers, data, status, want)
-        place.check(f"its line of the log, {lines[-1]}", (n + 1, wanted, True), (len(lines), (parts[2], int(parts[4])), begun <= parts[1] <= today()))
+        place.check(f"its line of the log, {lines[-1]}", (n + 1, wanted, True),
+                    (len(lines), (parts[2], int(parts[4])), begun <= parts[1] <= now()))
         # A request that is refused by its head has a body that is not read, or in part.
         if status in (0, 200, 422, 503):
             place.check(f"its bytes, {lines[-1]}", len(data), int(parts[3]))
         seen.add(str(status))
     server.end("the log")
     place.check("statuses", {"0", "fault", *map(str, set(machine.PHRASES) - {507})}, seen)
-    with open(os.path.join(place.folder, "log"), encoding="ascii") as file:
-        text = file.read()
+    text = place.got("log").decode("ascii")
     place.check("no token", [], [token for token in [*callers, "nobody", "Bearer"] if token in text])
-    place.check("rights", {"register": "600", "register-wal": "600", "log": "600"}, {name: f"{os.stat(os.path.join(place.folder, name)).st_mode & 0o777:o}" for name in ("register", "register-wal", "log")})
+    place.check("rights", {"register": "600", "register-wal": "600", "log": "600"},
+                {name: f"{os.stat(place.path(name)).st_mode & 0o777:o}"
+                 for name in ("register", "register-wal", "log")})
     data, status, want = honest(place)[0]
-    server = Server(place, 2, "--log=/dev/full")
+    server = place.serve(2, "--log=/dev/full")
     place.check("a log that is full", want, answered(server.connect, data))
     server.end("a log that is full", 6)
-    server = Server(place, 1, "--log=log")
+    server = place.serve(1, "--log=log")
     place.check("a log that is there", (want, str(status)), (answered(server.connect, data), server.line(str(status))))
-    with open(os.path.join(place.folder, "log"), encoding="ascii") as file:
-        place.check("it is appended to", (True, len(given) + 1), ((after := file.read()).startswith(text), after.count("\n")))
+    after = place.got("log").decode("ascii")
+    place.check("it is appended to", (True, len(given) + 1), (after.startswith(text), after.count("\n")))
     server.end("a log that is there")
 
 
 def by_clock(place):
     """Without a day of its own, `serve` takes that of the clock, and with --day-by-clock that of each request."""
-    before = today()
+    before = now()
     for number, more in ((2, ["--day-by-clock"]), (3, [])):
-        server = Server(place, 1, *more, day=None)
+        server = place.serve(1, *more, day=None)
         got = answered(server.connect, post(b"deposits", machine.FILE_B.replace(b"BH1", b"BH%d" % (number + 5))))
-        place.check(f"the day of a deposit {more}", True, got in [machine.reply(("receipt", number, day[:10]))[1] for day in (before, today())])
+        receipts = [machine.reply(("receipt", number, day[:10]))[1] for day in (before, now())]
+        place.check(f"the day of a deposit {more}", True, got in receipts)
         server.line("200")
         server.end(f"by the clock {more}")
 
 
 def main():
-    program = os.path.abspath(sys.argv[1])
     passed = failed = 0
     for part in (one_by_one, many, refused, failures, log, by_clock):
         with tempfile.TemporaryDirectory(prefix="peers") as folder:
-            place = new_place(program, folder)
+            place = new_place(sys.argv[1], folder)
             begun = time.monotonic()
             part(place)
-            print(f"({part.__name__}: {place.passed} passed, {place.failed} failed, {time.monotonic() - begun:.0f} s)", flush=True)
+            print(f"({part.__name__}: {place.passed} passed, {place.failed} failed, {time.monotonic() - begun:.0f} s)",
+                  flush=True)
             passed, failed = passed + place.passed, failed + place.failed
     print(f"{passed} passed, {failed} failed")
     return failed > 0

@@ -1,16 +1,19 @@
 #!/usr/bin/env python3
 """A second checker of this profile, written apart from the product: slow, plain, and straight from the rules.
 
-usage: reference.py [--phases N] < FILE.ags       prints one line `code line subject` a finding, or `clean`, as groundreg does
+usage: reference.py [--phases N] < FILE.ags
 
+Prints one line `code line subject` a finding, or `clean`, as groundreg does.
 It proves nothing. It is here so that what the files of files/ must give was computed twice: by hand in cases.py and by
-this program. Every rule is written as a search over all lines, rows or pairs of rows; no index, no order that matters."""
+this program. Every rule is written as a search over all lines, rows or pairs of rows; no index, no order that
+matters."""
 import re
 import sys
 
 CODES = "1 2 2a 2b 3 4 5 6 7 8 9 10a 10b 10c 11a 11b 11c 13 14 15 16 17 18 19 19a 19b 20 P1 P2".split()
 DESCRIPTORS = (b"GROUP", b"HEADING", b"UNIT", b"TYPE", b"DATA")
-FOLLOWS = {b"GROUP": (b"HEADING",), b"HEADING": (b"UNIT",), b"UNIT": (b"TYPE",), b"TYPE": (b"DATA", b"GROUP"), b"DATA": (b"DATA", b"GROUP")}
+FOLLOWS = {b"GROUP": (b"HEADING",), b"HEADING": (b"UNIT",), b"UNIT": (b"TYPE",), b"TYPE": (b"DATA", b"GROUP"),
+           b"DATA": (b"DATA", b"GROUP")}
 DEFINITIONS = (b"TRAN", b"ABBR", b"UNIT", b"TYPE", b"DICT")
 NO_PARENT = (b"PROJ", b"TRAN", b"ABBR", b"DICT", b"UNIT", b"TYPE", b"FILE")
 
@@ -171,7 +174,8 @@ def own_entries(groups):
                 if kind == b"GROUP":
                     entries.append(("G", g.under(row, b"DICT_GRP"), g.under(row, b"DICT_PGRP")))
                 if kind == b"HEADING":
-                    entries.append(("H", g.under(row, b"DICT_GRP"), g.under(row, b"DICT_HDNG"), g.under(row, b"DICT_STAT")))
+                    entries.append(("H", g.under(row, b"DICT_GRP"), g.under(row, b"DICT_HDNG"),
+                                    g.under(row, b"DICT_STAT")))
     return entries
 
 
@@ -295,7 +299,8 @@ def fits(kind, unit, cell):
         return re.fullmatch(r"[+-]?[0-9]+(\.[0-9]+)?([Ee][+-]?[0-9]{1,3})?", text) is not None
     if re.fullmatch(r"[0-9]SCI", kind):
         n = int(kind[0])
-        return re.fullmatch(r"[+-]?[0-9]" + (r"\.[0-9]{%d}" % n if n else "") + r"[Ee][+-]?[0-9]{1,3}", text) is not None
+        decimals = r"\.[0-9]{%d}" % n if n else ""
+        return re.fullmatch(r"[+-]?[0-9]" + decimals + r"[Ee][+-]?[0-9]{1,3}", text) is not None
     if kind == "MC":
         return re.fullmatch(r"[+-]?[0-9]+(\.[0-9]+)?", text) is not None
     if kind == "YN":
@@ -311,7 +316,8 @@ def fits(kind, unit, cell):
             return day_exists(text)
         if unit in ("yyyy-mm-ddThh:mm", "yyyy-mm-ddThh:mm:ss"):
             seconds = unit.endswith("ss")
-            return day_exists(text) or (len(text) > 10 and text[10] == "T" and day_exists(text[:10]) and clock(text[11:], seconds))
+            return day_exists(text) or (len(text) > 10 and text[10] == "T" and day_exists(text[:10])
+                                        and clock(text[11:], seconds))
         if unit in ("hh:mm", "hh:mm:ss"):
             return clock(text, unit.endswith("ss"), kind == "T")
         return True
@@ -350,7 +356,8 @@ def names_a_row(part, delimiter, groups, words):
 
 
 def listed(groups, group, **wanted):
-    return any(all(g.under(row, h.encode()) == v for h, v in wanted.items()) for g in groups if g.name == group for row in g.data)
+    return any(all(g.under(row, h.encode()) == v for h, v in wanted.items()) for g in groups if g.name == group
+               for row in g.data)
 
 
 def fifth_phase(groups, words):
@@ -375,7 +382,8 @@ def fifth_phase(groups, words):
                 if kind == b"PT" and not listed(groups, b"TYPE", TYPE_TYPE=entry):
                     found.add((row.line, "17", heading))
                 if kind == b"PA" and not listed(groups, b"ABBR", ABBR_HDNG=heading, ABBR_CODE=entry):
-                    if not all(listed(groups, b"ABBR", ABBR_HDNG=heading, ABBR_CODE=part) for part in entry.split(concatenator)):
+                    if not all(listed(groups, b"ABBR", ABBR_HDNG=heading, ABBR_CODE=part)
+                               for part in entry.split(concatenator)):
                         found.add((row.line, "16", heading))
                 if kind == b"RL" and is_data:
                     if not all(names_a_row(part, delimiter, groups, words) for part in entry.split(concatenator)):
@@ -395,16 +403,17 @@ def fifth_phase(groups, words):
 
 
 def findings(data, phases=5, standard=None):
-    """All findings of the first of the phases that has any, in order, under the entries of a standard dictionary (the built-in one)."""
+    """All findings of the first of the phases that has any, in order, under the entries of a standard dictionary (the
+    built-in one)."""
     found, rows = first_phase(lines_of(data), False)
     if not found and phases >= 2:
         found = second_phase(rows)
     if not found and phases >= 3:
         groups = cut(rows)
         found = third_phase(groups)
-        words = Dictionary(extended(built_in() if standard is None else standard, own_entries(groups))) if not found else None
-        if not found and phases >= 4:
-            found = fourth_phase(groups, words)
+    if not found and phases >= 4:
+        words = Dictionary(extended(built_in() if standard is None else standard, own_entries(groups)))
+        found = fourth_phase(groups, words)
         if not found and phases >= 5:
             found = fifth_phase(groups, words)
     return sorted(found, key=lambda f: (f[0], CODES.index(f[1]), f[2]))

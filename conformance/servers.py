@@ -1,75 +1,165 @@
-"""What tests and measurements of `serve` share: a folder with a register, a start of `serve` on it, connections to it, and the sample site of nginx."""
+"""What tests and measurements of the program share: a folder in which it is started, `serve` there, connections to it,
+and the sample site of nginx."""
+import datetime
 import os
+import random
+import resource
+import select
 import shutil
+import signal
 import socket
+import sqlite3
 import ssl
 import struct
 import subprocess
 import sys
 import time
 sys.dont_write_bytecode = True
-import bodies  # noqa: E402
 import machine  # noqa: E402
 import reference  # noqa: E402
-import stories  # noqa: E402
 
 PATIENCE = 300
+MEMORY = 4 << 30
 DAY = "2024-06-01"
 SAMPLES = os.path.join(os.path.dirname(os.path.abspath(__file__)), "..", "samples")
-SITE = os.path.join(SAMPLES, "nginx", "groundreg.conf")
 NAME = "register.example.org"
+# The small dictionary, and files without findings under it.
+FILES = {"mini": machine.spelled_dictionary(reference.built_in()), "a": machine.FILE_A, "b": machine.FILE_B,
+         "c": machine.file_c()}
+# What makes a register of format 1 of one of format 2.
+TO_FORMAT_1 = ["DROP TABLE withdrawals", "UPDATE meta SET num = 1 WHERE name = 'format'"]
+
+
+def sample(name):
+    with open(os.path.join(SAMPLES, name), "rb") as file:
+        return file.read()
+
+
+# ---- the program
+
+class Wrong(Exception):
+    """A start that did not end as it had to."""
 
 
 class Place:
-    """A folder with a register and the texts that it is served by; what passed and failed there."""
+    """A folder in which the program is started: its files, which the model's `computer` has too, and the registers that
+    are made there; what passed and failed."""
 
-    def __init__(self, program, folder, policy=machine.POLICY, callers=machine.CALLERS):
-        self.program, self.folder, self.passed, self.failed = program, folder, 0, 0
-        self.mini = machine.spelled_dictionary(reference.built_in())
-        for name, data in (("mini", self.mini), ("policy", policy.encode()), ("callers", callers.encode()), ("a", machine.FILE_A)):
+    patience = PATIENCE
+
+    def __init__(self, program, folder, policy=machine.POLICY, callers=machine.CALLERS, files=None):
+        self.program, self.folder, self.passed, self.failed = os.path.abspath(program), folder, 0, 0
+        self.computer = machine.Computer()
+        for name, data in {"policy": policy.encode(), "callers": callers.encode(), **(files or FILES)}.items():
             self.put(name, data)
 
+    def path(self, name):
+        return os.path.join(self.folder, name)
+
     def put(self, name, data):
-        with open(os.path.join(self.folder, name), "wb") as file:
+        with open(self.path(name), "wb") as file:
             file.write(data)
+        self.computer.files[name] = data
+
+    def got(self, name):
+        with open(self.path(name), "rb") as file:
+            return file.read()
+
+    def copy(self, name, copy):
+        """Copies a register file and the log beside it, which belongs to it. Of a name that nothing has, no copy is
+        left."""
+        for end in ("", "-wal"):
+            there, here = self.path(name + end), self.path(copy + end)
+            if os.path.exists(here):
+                os.remove(here)
+            if os.path.exists(there):
+                shutil.copy(there, here)
+
+    def copy_as_format_1(self, name, copy):
+        """Copies a register as one of format 1. Its log has a page that was written last."""
+        self.copy(name, "work")
+        setting = "UPDATE meta SET num = {} WHERE name = 'format'".format
+        for statements in (TO_FORMAT_1, ["BEGIN", setting(0), setting(1), "COMMIT"]):
+            connection = sqlite3.connect(self.path("work"), isolation_level=None)
+            for statement in statements:
+                connection.execute(statement)
+            self.copy("work", copy)  # before the connection ends, which puts the log into the file
+            connection.close()
 
     def check(self, name, want, got):
         self.passed += got == want
         self.failed += got != want
         if got != want:
-            print(f"{name}: wanted {str(want)[:300]}, got {str(got)[:300]}", flush=True)
+            print(f"{name}\n  wanted {want!r:.600}\n  got    {got!r:.600}", flush=True)
 
-    def run(self, *words, given=b"", limit=None):
+    def start(self, *words, under=(), **more):
+        """A start that goes on; `under` are the words of a program that starts it, `more` is of subprocess."""
+        return subprocess.Popen([*under, self.program, *words], cwd=self.folder, stdin=subprocess.DEVNULL,
+                                stdout=subprocess.PIPE, stderr=subprocess.PIPE, **more)
+
+    def run(self, *words, under=(), given=b"", **more):
         """Standard output, standard error and status of a start."""
-        run = subprocess.run([self.program, *words], cwd=self.folder, input=given, capture_output=True, timeout=PATIENCE, preexec_fn=limit)
+        run = subprocess.run([*under, self.program, *words], cwd=self.folder, input=given, capture_output=True,
+                             timeout=self.patience, **more)
         return run.stdout, run.stderr, run.returncode
+
+    def right(self, *words, want=None):
+        """What a start prints that has to end with 0, and to print this if it is told."""
+        out, said, status = self.run(*words)
+        if status or want not in (None, out):
+            raise Wrong(f"{words} ended with {status}: {out[:80]} {said[:80]}")
+        return out
+
+    def make(self, store="register", dictionary="mini"):
+        self.right("init", f"--store={store}", f"--dictionary={dictionary}", want=b"created\n")
+
+    def serve(self, connections, *words, **more):
+        """`serve` on a register, once it listens."""
+        server = Server(self, connections, *words, **more)
+        server.listening = server.printed()
+        return server
+
+
+def asking(command, *more, **other):
+    """The words of a command that asks a register; `other` are the options that are not as usual."""
+    options = {"store": "register", "policy": "policy", "callers": "callers", "token": "t-delta", "project": "N1",
+               "day": DAY}
+    return [command, *(f"--{name}={value}" for name, value in {**options, **other}.items()), *more]
 
 
 class Server:
-    """`serve` on a place's register, which listens once this is made."""
+    """`serve` on a register of a place, with further words of it. `listening` is the line that it prints first, once
+    that is read."""
 
-    def __init__(self, place, connections, *more, day=DAY, limit=None):
-        self.place, self.port = place, bodies.free_port()
-        self.process = subprocess.Popen([place.program, "serve", "--store=register", "--policy=policy", "--callers=callers", f"--port={self.port}", f"--connections={connections}", *([f"--day={day}"] if day else []), *more],
-                                        cwd=place.folder, stdin=subprocess.DEVNULL, stdout=subprocess.PIPE, stderr=subprocess.PIPE, preexec_fn=limit)
-        self.listening = stories.printed_line(self.process, time.monotonic() + PATIENCE)
+    listening = b""
+
+    def __init__(self, place, connections, *words, store="register", day=DAY, **more):
+        self.place, self.port = place, free_port()
+        self.process = place.start("serve", f"--store={store}", "--policy=policy", "--callers=callers",
+                                   f"--port={self.port}", f"--connections={connections}",
+                                   *([f"--day={day}"] if day else []), *words, **more)
+
+    def __enter__(self):
+        return self
+
+    def __exit__(self, *_):
+        self.stop()
 
     def connect(self, receives=None):
-        connection = socket.socket()
-        connection.settimeout(PATIENCE)
-        if receives:
-            connection.setsockopt(socket.SOL_SOCKET, socket.SO_RCVBUF, receives)
-        connection.connect(("127.0.0.1", self.port))
-        return connection
+        return connection_to(self.port, self.place.patience, receives)
 
     def ask(self, data, is_ended=True):
         connection = self.connect()
-        stories.sent(connection, data, not is_ended)
-        return stories.received(connection)
+        sent(connection, data, not is_ended)
+        return received(connection)
+
+    def printed(self):
+        """The next line that is printed."""
+        return printed_line(self.process, self.place.patience)
 
     def line(self, want):
         """The next line that is printed has to be one of these."""
-        line = stories.printed_line(self.process, time.monotonic() + PATIENCE).decode().strip()
+        line = self.printed().decode().strip()
         return line if line in want.split("|") else f"line {line!r}, wanted {want}"
 
     def memory(self):
@@ -77,17 +167,104 @@ class Server:
         with open(f"/proc/{self.process.pid}/status", encoding="ascii") as file:
             return int(next(line for line in file if line.startswith("VmHWM:")).split()[1])
 
+    def rest(self):
+        """What is printed yet, what is said, and the status, at its end."""
+        out, said = self.process.communicate(timeout=self.place.patience)
+        return out, said, self.process.returncode
+
     def end(self, name, status=0, said=b""):
         try:
-            out, fault = self.process.communicate(timeout=PATIENCE)
-            self.place.check(f"{name}: the end", (b"", said, status), (out, fault, self.process.returncode))
+            self.place.check(f"{name}: the end", (b"", said, status), self.rest())
         except subprocess.TimeoutExpired:
             self.place.check(f"{name}: the end", "an end", "none")
             self.process.kill()
 
+    def stop(self):
+        self.process.kill()
+        self.process.wait()
+
+
+def printed_line(process, seconds):
+    """The next line of a program's output, or what there is of it after so many seconds."""
+    line, deadline = b"", time.monotonic() + seconds
+    while not line.endswith(b"\n") and select.select([process.stdout], [], [], max(0, deadline - time.monotonic()))[0]:
+        piece = os.read(process.stdout.fileno(), 1)
+        if not piece:
+            break
+        line += piece
+    return line
+
+
+def now():
+    """The moment by the clock, as the log has it; the day is its first ten characters."""
+    return datetime.datetime.now(datetime.timezone.utc).strftime("%Y-%m-%dT%H:%M:%SZ")
+
+
+def limit_memory():
+    """What the launcher does: no more than 4 GiB for the program."""
+    resource.setrlimit(resource.RLIMIT_AS, (MEMORY, MEMORY))
+
+
+def full_disk():
+    """A file that would grow beyond the first page of a register's log is one that cannot be written."""
+    signal.signal(signal.SIGXFSZ, signal.SIG_IGN)
+    resource.setrlimit(resource.RLIMIT_FSIZE, (4096, 4096))
+
+
+# ---- connections
+
+def free_port():
+    """A port below those that connections are given, on which nobody listens."""
+    while True:
+        port = random.randrange(10000, 32000)
+        with socket.socket() as probe:
+            try:
+                probe.bind(("127.0.0.1", port))
+                return port
+            except OSError:
+                pass
+
+
+def connection_to(port, seconds, receives=None):
+    """A connection with this patience, and with room for so many bytes that nobody has read yet."""
+    connection = socket.socket()
+    connection.settimeout(seconds)
+    if receives:
+        connection.setsockopt(socket.SOL_SOCKET, socket.SO_RCVBUF, receives)
+    connection.connect(("127.0.0.1", port))
+    return connection
+
 
 def head(target, fields, method=b"GET", token=b"t-delta"):
-    return method + b" " + target + b" HTTP/1.1\r\n" + b"".join(field + b"\r\n" for field in [b"Authorization: Bearer " + token, *fields]) + b"\r\n"
+    lines = [b"%s %s HTTP/1.1" % (method, target), b"Authorization: Bearer " + token, *fields, b"", b""]
+    return b"\r\n".join(lines)
+
+
+def post(page, data, token=b"t-delta", length=None, fields=()):
+    """A request with a body, to a page of project N1."""
+    length = b"Content-Length: %d" % (len(data) if length is None else length)
+    return head(b"/v1/projects/N1/" + page, [*fields, length], b"POST", token) + data
+
+
+def sent(connection, data, keeps_open):
+    try:
+        connection.sendall(data)
+        if not keeps_open:
+            connection.shutdown(socket.SHUT_WR)
+    except OSError:
+        pass  # the reply came before all was sent
+
+
+def received(connection):
+    """All that comes until the end."""
+    out = bytearray()
+    try:
+        while piece := connection.recv(65536):
+            out += piece
+    except ConnectionResetError:
+        pass  # it was let go while we were still sending
+    connection.close()
+    return bytes(out)
 
 
 def reset(connection):
@@ -98,43 +275,45 @@ def reset(connection):
 # ---- nginx
 
 class Site:
-    """nginx with the sample site, on a port of loopback: with a certificate of the moment, this text as the map of projects, and a register for all others.
-    `changes` are pairs of texts of the site, each there once, and what stands there instead."""
+    """nginx with the sample site, on a port of loopback: with a certificate of the moment, this text as the map of
+    projects, and a register for all others. `changes` are pairs of texts of the site, each there once, and what stands
+    there instead."""
 
     def __init__(self, folder, projects, other, certificate, changes=(), workers=0):
-        self.folder, self.port, self.certificate = folder, bodies.free_port(), certificate
+        self.folder, self.port, self.certificate = folder, free_port(), certificate
         os.makedirs(folder, exist_ok=True)
         with open(os.path.join(folder, "projects.map"), "w", encoding="utf-8") as file:
             file.write(projects)
         self.configure(other, changes, workers)
-        self.process = subprocess.Popen(["nginx", "-p", folder, "-c", f"{folder}/nginx.conf"], stderr=subprocess.DEVNULL)
+        self.process = subprocess.Popen(["nginx", "-p", folder, "-c", f"{folder}/nginx.conf"],
+                                        stderr=subprocess.DEVNULL)
         wait_for(self.port)
 
     def configure(self, other, changes, workers):
         """Writes the site and nginx's own configuration, which includes it."""
-        with open(SITE, encoding="utf-8") as file:
-            text = file.read()
-        paths = [("/etc/groundreg/projects.map", f"{self.folder}/projects.map"), ("/etc/ssl/register.crt", f"{self.certificate}.crt"), ("/etc/ssl/register.key", f"{self.certificate}.key"),
-                 ("/etc/ssl/certs/ca-certificates.crt", f"{self.certificate}.crt"), ("listen 443 ssl;", f"listen 127.0.0.1:{self.port} ssl;"), ("http://127.0.0.1:8017;", f"http://127.0.0.1:{other};")]
-        for old, new in [*paths, *changes]:
+        text = sample("nginx/groundreg.conf").decode()
+        for old, new in [("/etc/groundreg/projects.map", f"{self.folder}/projects.map"),
+                         ("/etc/ssl/register.crt", f"{self.certificate}.crt"),
+                         ("/etc/ssl/register.key", f"{self.certificate}.key"),
+                         ("/etc/ssl/certs/ca-certificates.crt", f"{self.certificate}.crt"),
+                         ("listen 443 ssl;", f"listen 127.0.0.1:{self.port} ssl;"),
+                         ("http://127.0.0.1:8017;", f"http://127.0.0.1:{other};"), *changes]:
             assert text.count(old) == 1, old
             text = text.replace(old, new)
         with open(f"{self.folder}/site.conf", "w", encoding="utf-8") as file:
             file.write(text)
-        places = "".join(f"{name}_temp_path {self.folder}/{name};\n" for name in ("client_body", "proxy", "fastcgi", "uwsgi", "scgi"))
+        names = ("client_body", "proxy", "fastcgi", "uwsgi", "scgi")
+        places = "".join(f"{name}_temp_path {self.folder}/{name};\n" for name in names)
         types = "include /etc/nginx/mime.types;\n" if os.path.exists("/etc/nginx/mime.types") else ""
         kind = f"worker_processes {workers};\n" if workers else "master_process off;\n"
         with open(f"{self.folder}/nginx.conf", "w", encoding="utf-8") as file:
-            file.write(f"daemon off;\n{kind}pid {self.folder}/pid;\nerror_log {self.folder}/errors;\nevents {{ worker_connections 2000; }}\nhttp {{\naccess_log off;\n{types}{places}include {self.folder}/site.conf;\n}}\n")
+            file.write(f"daemon off;\n{kind}pid {self.folder}/pid;\nerror_log {self.folder}/errors;\n"
+                       f"events {{ worker_connections 2000; }}\n"
+                       f"http {{\naccess_log off;\n{types}{places}include {self.folder}/site.conf;\n}}\n")
 
     def connect(self, receives=None):
         context = ssl.create_default_context(cafile=f"{self.certificate}.crt")
-        connection = socket.socket()
-        connection.settimeout(PATIENCE)
-        if receives:
-            connection.setsockopt(socket.SOL_SOCKET, socket.SO_RCVBUF, receives)
-        connection.connect(("127.0.0.1", self.port))
-        return context.wrap_socket(connection, server_hostname=NAME)
+        return context.wrap_socket(connection_to(self.port, PATIENCE, receives), server_hostname=NAME)
 
     def end(self):
         self.process.terminate()
@@ -144,7 +323,8 @@ class Site:
 def certificate_in(folder):
     """The path, without its ending, of a certificate for the site's name and of its key, made for the moment."""
     path = os.path.join(folder, "certificate")
-    subprocess.run(["openssl", "req", "-x509", "-newkey", "rsa:2048", "-nodes", "-days", "2", "-subj", f"/CN={NAME}", "-addext", f"subjectAltName=DNS:{NAME}", "-keyout", f"{path}.key", "-out", f"{path}.crt"],
+    subprocess.run(["openssl", "req", "-x509", "-newkey", "rsa:2048", "-nodes", "-days", "2", "-subj", f"/CN={NAME}",
+                    "-addext", f"subjectAltName=DNS:{NAME}", "-keyout", f"{path}.key", "-out", f"{path}.crt"],
                    check=True, capture_output=True)
     return path
 

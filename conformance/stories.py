@@ -3,21 +3,20 @@
 
 usage: stories.py PROGRAM [COUNT [SEED [FIRST]]]      the last line is 'N passed, M failed'
 
-A story makes a folder with dictionaries, policies, callers and bodies, some of them refused, and runs the program there: by words, and over
-a socket with `serve`, raw and malformed requests among them. Statuses, standard output, standard error and the bytes of each reply are compared;
-a story ends at its first difference, which is printed. A seed gives the same stories each time, and `stories.py PROGRAM 1 SEED FIRST` tells
-story FIRST alone. Two stories are told at a time."""
+A story makes a folder with dictionaries, policies, callers and bodies, some of them refused, and runs the program
+there: by words, and over a socket with `serve`, raw and malformed requests among them. Statuses, standard output,
+standard error and the bytes of each reply are compared; a story ends at its first difference, which is printed. A seed
+gives the same stories each time, and `stories.py PROGRAM 1 SEED FIRST` tells story FIRST alone. Two stories are told at
+a time."""
 import datetime
 import functools
 import multiprocessing
 import os
 import random
 import re
-import select
 import shutil
 import socket
 import sqlite3
-import struct
 import subprocess
 import sys
 import tempfile
@@ -27,12 +26,13 @@ import bodies  # noqa: E402
 import compare  # noqa: E402
 import machine  # noqa: E402
 import reference  # noqa: E402
+import servers  # noqa: E402
 
-PATIENCE = 60
 FIRMS = ["Delta", "Gamma", "Foxtrot", "Echo"]
 DAYS = ["2024-06-02", "2024-06-02", "2024-06-01", "2024-05-31", "2030-01-01", "1970-01-01", "9999-12-31"]
 EMBARGOES = ["2024-06-01", "2024-06-01", "2024-06-02", "2024-05-01", "1970-01-01", "9999-12-31"]
-BAD_DAYS = ["2024-6-1", "2023-02-29", "1969-12-31", "10000-01-01", "", "today", "2024-06-01 ", "2024/06/01", "2024-00-10", "2024-13-01"]
+BAD_DAYS = ["2024-6-1", "2023-02-29", "1969-12-31", "10000-01-01", "", "today", "2024-06-01 ", "2024/06/01",
+            "2024-00-10", "2024-13-01"]
 PROJECTS = [*["N1"] * 12, "N2", "x" * 32, "_-_"]
 BAD_PROJECTS = ["N 1", "", "x" * 33, "N1/", "N.1", "é"]
 GROUPS = ["", "LOCA", "LOCA,SAMP", "SAMP,FILE", "LNMC,NONE", "LOCA,LOCA", "PROJ", "TRAN", "A1"]
@@ -55,7 +55,8 @@ def any_policy(chance):
     """Rules with any keys: few of them make sense."""
     keys = {"firm": [*FIRMS, "*"], "role": ["contractor", "consultant", "*"], "project": ["N1", "N2", "*"],
             "verb": [*machine.VERBS, "see", "*"],
-            "group": ["PROJ", "LOCA", "SAMP", "FILE", "LNMC", "*"], "owner": ["own", "other", "*"], "embargo": ["past", "running", "*"]}
+            "group": ["PROJ", "LOCA", "SAMP", "FILE", "LNMC", "*"], "owner": ["own", "other", "*"],
+            "embargo": ["past", "running", "*"]}
     out, number = "", 0
     for _ in range(chance.randrange(8)):
         number += chance.randrange(1, 9)
@@ -66,7 +67,8 @@ def any_policy(chance):
         if chance.random() < 0.3:
             out += bodies.rule_days(chance)
         if chance.random() < 0.15:
-            heading, value = chance.choice([("LOCA_STAT", "PRELIM"), ("SAMP_REF", "S1"), ("FILE_FSET", ""), ("LOCA_ID", "BH2"), ("NONE", "x"), ("LNMC_MC", 'x, "y"')])
+            heading, value = chance.choice([("LOCA_STAT", "PRELIM"), ("SAMP_REF", "S1"), ("FILE_FSET", ""),
+                                            ("LOCA_ID", "BH2"), ("NONE", "x"), ("LNMC_MC", 'x, "y"')])
             out += f"heading = {toml_text(heading)}\nvalue = {toml_text(value)}\n"
     return out
 
@@ -80,38 +82,47 @@ def policy(chance):
 def refused_days(chance):
     """The lines of a rule with a day that may not be there, or with a last day before the first."""
     day = toml_text(chance.choice(DAYS))
-    values = ['"*"', chance.choice(["2024-06-01", "2024-06-01T10:00:00Z"]), chance.choice(["20240601", "true", f"[{day}]", f"{{day = {day}}}"]), toml_text(chance.choice(BAD_DAYS))]
+    values = ['"*"', chance.choice(["2024-06-01", "2024-06-01T10:00:00Z"]),
+              chance.choice(["20240601", "true", f"[{day}]", f"{{day = {day}}}"]), toml_text(chance.choice(BAD_DAYS))]
     if chance.random() < 0.2:
         return 'from = "2024-06-02"\nuntil = "2024-06-01"\n'
-    lines = [f"{key} = {value}\n" for key, value in zip(chance.sample(machine.DAY_KEYS, 2), (chance.choice(values), day))]
+    lines = [f"{key} = {value}\n"
+             for key, value in zip(chance.sample(machine.DAY_KEYS, 2), (chance.choice(values), day))]
     return "".join(lines[:chance.randrange(1, 3)])
 
 
 def refused_policy(chance):
     text = policy(chance) or machine.POLICY
     return chance.choice([
-        lambda: text.replace("number = ", "number = 9", 1) + '[[rule]]\nnumber = 1\neffect = "deny"\n', lambda: text.replace('"permit"', '"allow"', 1), lambda: text + "colour = 1\n",
-        lambda: text + "[[rule]]\nnumber = 9999\n", lambda: text + "[[rule", lambda: "rule = 3\n", lambda: "[rule]\nnumber = 1\n", lambda: text + '[[rule]]\nnumber = 10000\neffect = "deny"\n',
+        lambda: text.replace("number = ", "number = 9", 1) + '[[rule]]\nnumber = 1\neffect = "deny"\n',
+        lambda: text.replace('"permit"', '"allow"', 1), lambda: text + "colour = 1\n",
+        lambda: text + "[[rule]]\nnumber = 9999\n", lambda: text + "[[rule", lambda: "rule = 3\n",
+        lambda: "[rule]\nnumber = 1\n", lambda: text + '[[rule]]\nnumber = 10000\neffect = "deny"\n',
         lambda: text + '[[rule]]\nnumber = 9998\neffect = "deny"\nverb = "delete"\n',
         *[lambda: text + '[[rule]]\nnumber = 9998\neffect = "deny"\n' + refused_days(chance)] * 3,
         lambda: text + '[[rule]]\nnumber = 9998\neffect = "deny"\nheading = "LOCA_ID"\n',
-        lambda: text + '[[rule]]\nnumber = 9998\neffect = "deny"\ngroup = "loca"\n', lambda: text + "\x00", lambda: text + '[[caller]]\ntoken = "t"\n'])().encode()
+        lambda: text + '[[rule]]\nnumber = 9998\neffect = "deny"\ngroup = "loca"\n', lambda: text + "\x00",
+        lambda: text + '[[caller]]\ntoken = "t"\n'])().encode()
 
 
 def callers(chance):
     """The text of callers, with some tokens that are hard to spell."""
     rows = [("t-" + firm.lower(), firm, "consultant" if firm == "Echo" else "contractor") for firm in FIRMS]
     odd = ["!", "~" * 64, "a=b", "-x", "--day", "t,u", "'\"\\", "#", "[[", "Bearer"]
-    rows += [(token, chance.choice(FIRMS), chance.choice(["contractor", "consultant", "r"])) for token in chance.sample(odd, chance.randrange(3))]
+    rows += [(token, chance.choice(FIRMS), chance.choice(["contractor", "consultant", "r"]))
+             for token in chance.sample(odd, chance.randrange(3))]
     chance.shuffle(rows)
-    return "".join(f"[[caller]]\ntoken = {toml_text(token)}\nfirm = \"{firm}\"\nrole = \"{role}\"\n" for token, firm, role in rows)
+    return "".join(f"[[caller]]\ntoken = {toml_text(token)}\nfirm = \"{firm}\"\nrole = \"{role}\"\n"
+                   for token, firm, role in rows)
 
 
 def refused_callers(chance):
     text = callers(chance)
     more = "[[caller]]\ntoken = {}\nfirm = \"F\"\nrole = \"r\"\n"
-    return (text + chance.choice([more.format('"t-delta"'), more.format('""'), more.format(toml_text("x" * 65)), more.format('"a b"'), more.format('"é"'), more.format("1"),
-                                  '[[caller]]\ntoken = "n"\nfirm = "F G"\nrole = "r"\n', '[[caller]]\ntoken = "n"\n', "name = 1\n", "[[caller", "[caller]\n"])).encode()
+    return (text + chance.choice([
+        more.format('"t-delta"'), more.format('""'), more.format(toml_text("x" * 65)), more.format('"a b"'),
+        more.format('"é"'), more.format("1"), '[[caller]]\ntoken = "n"\nfirm = "F G"\nrole = "r"\n',
+        '[[caller]]\ntoken = "n"\n', "name = 1\n", "[[caller", "[caller]\n"])).encode()
 
 
 def dictionary(chance):
@@ -121,15 +132,20 @@ def dictionary(chance):
         return machine.spelled_dictionary(entries)
     for _ in range(chance.randrange(1, 4)):
         k = chance.randrange(len(entries))
-        entries = chance.choice([lambda: entries[:k] + entries[k + 1:], lambda: entries + [entries[k]], lambda: [("G", b"ABCD", b"LOCA"), *entries], lambda: entries + [("H", b"LOCA", b"LOCA_XTRA", b"OTHER")],
-                                 lambda: entries + [("H", b"SAMP", b"\xc3\xa9", b"KEY")], lambda: [("H", b"LNMC", b"LNMC_MC", b"REQUIRED"), *entries], lambda: entries[k:] + entries[:k]])()
+        entries = chance.choice([
+            lambda: entries[:k] + entries[k + 1:], lambda: entries + [entries[k]],
+            lambda: [("G", b"ABCD", b"LOCA"), *entries], lambda: entries + [("H", b"LOCA", b"LOCA_XTRA", b"OTHER")],
+            lambda: entries + [("H", b"SAMP", b"\xc3\xa9", b"KEY")],
+            lambda: [("H", b"LNMC", b"LNMC_MC", b"REQUIRED"), *entries], lambda: entries[k:] + entries[:k]])()
     text = machine.spelled_dictionary(entries)
     return text.replace(b"\r\n", b"\n") if chance.random() < 0.3 else text
 
 
 def refused_dictionary(chance):
     text = machine.spelled_dictionary(reference.built_in())
-    return chance.choice([b"", machine.FILE_A, b"".join(machine.lines(text)[:4]), text.replace(b"DICT_PGRP", b"DICT_XXXX"), text + b"x\r\n", text.replace(b'"DATA"', b'"DATUM"', 1), text + text])
+    return chance.choice([b"", machine.FILE_A, b"".join(machine.lines(text)[:4]),
+                          text.replace(b"DICT_PGRP", b"DICT_XXXX"), text + b"x\r\n",
+                          text.replace(b'"DATA"', b'"DATUM"', 1), text + text])
 
 
 def body(chance, names):
@@ -147,10 +163,16 @@ def body(chance, names):
 # ---- words
 
 def spelling(chance, command, options, places):
-    """The words of a command: options in any order and in both spellings, before, between and behind the other words."""
+    """The words of a command: options in any order and in both spellings, before, between and behind the other
+    words."""
     items = []
     for name, value in options.items():
-        items.append([f"--{name}"] if value is None else [f"--{name}={value}"] if value.startswith("-") or chance.random() < 0.3 else [f"--{name}", value])
+        if value is None:
+            items.append([f"--{name}"])
+        elif value.startswith("-") or chance.random() < 0.3:
+            items.append([f"--{name}={value}"])
+        else:
+            items.append([f"--{name}", value])
     items += [[place] for place in places]
     chance.shuffle(items)
     return [command, *(word for item in items for word in item)]
@@ -164,7 +186,9 @@ def misspelt(chance, words):
     if kind == 0:
         del words[k]
     elif kind == 1:
-        words.insert(max(k, 1), chance.choice(["more", "", "--help", "-h", "-V", "--version", "--colour", "--colour=1", "-x", "\udcff", "é", "-", "--embargo=2024-06-01", "--port=1"]))
+        words.insert(max(k, 1),
+                     chance.choice(["more", "", "--help", "-h", "-V", "--version", "--colour", "--colour=1", "-x",
+                                    "\udcff", "é", "-", "--embargo=2024-06-01", "--port=1"]))
     elif kind == 2:
         words += words[1:3]
     elif kind == 3:
@@ -188,7 +212,8 @@ def fields_of(chance, token, length):
     fields = [b"Authorization: Bearer " + token]
     if length is not None:
         fields.append(b"Content-Length: " + length)
-    more = [b"Host: localhost", b"User-Agent: story", b"Accept: */*", b"X-Empty:", b"X-Tab:\ta\tb\t", b"X-High: \xe9\xff", b"Connection: keep-alive", b"Expect: 100-continue", b"x:" + b"y" * 300]
+    more = [b"Host: localhost", b"User-Agent: story", b"Accept: */*", b"X-Empty:", b"X-Tab:\ta\tb\t",
+            b"X-High: \xe9\xff", b"Connection: keep-alive", b"Expect: 100-continue", b"x:" + b"y" * 300]
     fields += chance.sample(more, chance.choice([0, 0, 1, 2, 3]))
     chance.shuffle(fields)
     return fields
@@ -201,29 +226,42 @@ def twisted(chance, method, target, fields):
     if kind == 0:
         method = chance.choice([b"PUT", b"DELETE", b"HEAD", b"get", b"OPTIONS", b"G", b"GET ", b"POST", b"GET"])
     elif kind == 1:
-        target = chance.choice([b"/", b"/v1", b"/v1/projects", b"/v1/projects//deposits", target.replace(b"/v1", b"/V1"), target + b"/", target.split(b"?")[0] + b"/x", b"*", b"http://h" + target, target + b"#x",
-                                target.replace(b"N1", b"N%31"), target.replace(b"N1", b"\xc3\xa9"), target.replace(b"N1", b"\xff"), target.replace(b"deposits", b"check"), target.replace(b"N1", b"N 1")])
+        target = chance.choice([b"/", b"/v1", b"/v1/projects", b"/v1/projects//deposits",
+                                target.replace(b"/v1", b"/V1"), target + b"/", target.split(b"?")[0] + b"/x", b"*",
+                                b"http://h" + target, target + b"#x",
+                                target.replace(b"N1", b"N%31"), target.replace(b"N1", b"\xc3\xa9"),
+                                target.replace(b"N1", b"\xff"), target.replace(b"deposits", b"check"),
+                                target.replace(b"N1", b"N 1")])
     elif kind == 2:
-        target += chance.choice([b"?", b"?&&", b"?x", b"?x=1", b"?embargo=2024-06-02", b"?embargo", b"?embargo=2024-6-2", b"?groups=LOCA%2CSAMP", b"?groups=LOCA,", b"?groups", b"?%67roups=LOCA", b"?groups=LOCA&groups=LOCA",
-                                 b"?embargo=2024-06-02&embargo=2024-06-02", b"?groups=+LOCA", b"?embargo=2024%2d06-02", b"?groups=%", b"?groups=%ff", b"?=", b"?groups=LOCA?", b"?&embargo=2024-06-02&", b"&x=1"])
+        target += chance.choice([b"?", b"?&&", b"?x", b"?x=1", b"?embargo=2024-06-02", b"?embargo",
+                                 b"?embargo=2024-6-2", b"?groups=LOCA%2CSAMP", b"?groups=LOCA,", b"?groups",
+                                 b"?%67roups=LOCA", b"?groups=LOCA&groups=LOCA",
+                                 b"?embargo=2024-06-02&embargo=2024-06-02", b"?groups=+LOCA", b"?embargo=2024%2d06-02",
+                                 b"?groups=%", b"?groups=%ff", b"?=", b"?groups=LOCA?",
+                                 b"?&embargo=2024-06-02&", b"&x=1"])
     elif kind == 3 and fields:
         fields[at:at + 1] = []
     elif kind == 4 and fields:
         fields.insert(at, fields[at])
     elif kind == 5:
-        fields.append(chance.choice([b"Transfer-Encoding: chunked", b"transfer-encoding:", b"Content-Length: 0", b"content-length: x", b"AUTHORIZATION: Bearer t-echo", b"Authorization : Bearer t-echo", b" folded: x", b"X: \x01", b"X", b": x",
+        fields.append(chance.choice([b"Transfer-Encoding: chunked", b"transfer-encoding:", b"Content-Length: 0",
+                                     b"content-length: x", b"AUTHORIZATION: Bearer t-echo",
+                                     b"Authorization : Bearer t-echo", b" folded: x", b"X: \x01", b"X", b": x",
                                      b"X\xc3: y", b"X: \x7f", b"Content-Length: %d" % (machine.LIMIT + 1)]))
     elif kind == 6:
-        fields = [field.replace(b"Bearer ", chance.choice([b"bearer ", b"Bearer  ", b"Bearer\t", b"Basic ", b"", b"Bearer"])) for field in fields]
+        schemes = [b"bearer ", b"Bearer  ", b"Bearer\t", b"Basic ", b"", b"Bearer"]
+        fields = [field.replace(b"Bearer ", chance.choice(schemes)) for field in fields]
     elif kind == 7:
-        fields = [field.replace(b"Authorization: ", chance.choice([b"authorization:", b"AuThOrIzAtIoN:  \t", b"Authorisation: "])) for field in fields]
+        names = [b"authorization:", b"AuThOrIzAtIoN:  \t", b"Authorisation: "]
+        fields = [field.replace(b"Authorization: ", chance.choice(names)) for field in fields]
     elif kind == 8:
         fields += [b"X-%d: 1" % n for n in range(chance.choice([32, 33]) - len(fields))]
     elif kind == 9:
         size = len(method) + len(target) + 12 + sum(len(field) + 2 for field in fields) + 2
         fields.append(b"X: " + b"y" * (chance.choice([8192, 8193, 9000]) - size - 5))
     elif kind == 10:
-        fields = [field.replace(b"Content-Length: ", b"Content-Length: " + chance.choice([b"0", b"00000000", b"+", b"-", b"9", b"1", b"0x", b"1 "])) for field in fields]
+        signs = [b"0", b"00000000", b"+", b"-", b"9", b"1", b"0x", b"1 "]
+        fields = [field.replace(b"Content-Length: ", b"Content-Length: " + chance.choice(signs)) for field in fields]
     elif kind == 11:
         fields = [field.replace(b"Bearer t-", b"Bearer T-") for field in fields]
     elif kind == 12:
@@ -253,7 +291,8 @@ def request(chance, tokens, texts, count):
         method, data = b"POST", chance.choice(texts)
         length = str(len(data)).encode()
     if kind == "deposit" and chance.random() < 0.6:
-        target += b"?embargo=" + chance.choice(EMBARGOES if chance.random() < 0.9 else BAD_DAYS).replace(" ", "+").encode()
+        day = chance.choice(EMBARGOES if chance.random() < 0.9 else BAD_DAYS)
+        target += b"?embargo=" + day.replace(" ", "+").encode()
     if kind == "withdraw":
         method = b"DELETE"
         if chance.random() < 0.1:
@@ -262,12 +301,14 @@ def request(chance, tokens, texts, count):
         number = number_for(chance, count) if chance.random() < 0.95 else chance.choice(BAD_NUMBERS).replace(" ", "%20")
         target += b"/" + number.encode()
         if kind == "extract" and chance.random() < 0.5:
-            target += b"?groups=" + chance.choice(GROUPS if chance.random() < 0.9 else BAD_GROUPS).replace(" ", "+").encode()
+            groups = chance.choice(GROUPS if chance.random() < 0.9 else BAD_GROUPS)
+            target += b"?groups=" + groups.replace(" ", "+").encode()
     fields = fields_of(chance, token, length)
     while chance.random() < 0.25:
         method, target, fields = twisted(chance, method, target, fields)
     end = b"\n" if chance.random() < 0.05 else b"\r\n"
-    version = chance.choice([b"HTTP/1.0", b"HTTP/1.2", b"HTTP/2", b"http/1.1", b"", b"HTTP/1.1 "]) if chance.random() < 0.05 else b"HTTP/1.1"
+    versions = [b"HTTP/1.0", b"HTTP/1.2", b"HTTP/2", b"http/1.1", b"", b"HTTP/1.1 "]
+    version = chance.choice(versions) if chance.random() < 0.05 else b"HTTP/1.1"
     out = end.join([b" ".join([method, target, version]), *fields, b"", b""]) + data
     luck = chance.random()
     if luck < 0.05:
@@ -285,50 +326,15 @@ def needs_no_end(data, answer):
     return machine.head_of(data) is not None and b"short body" not in answer
 
 
-def broken_off(connection, data):
-    """Sends a part of a request and resets the connection."""
-    connection.sendall(data)
-    connection.setsockopt(socket.SOL_SOCKET, socket.SO_LINGER, struct.pack("ii", 1, 0))
-    connection.close()
-
-
-def sent(connection, data, keeps_open):
-    try:
-        connection.sendall(data)
-        if not keeps_open:
-            connection.shutdown(socket.SHUT_WR)
-    except OSError:
-        pass  # the reply came before all was sent
-
-
-def received(connection):
-    """All that comes until the end."""
-    out = bytearray()
-    try:
-        while piece := connection.recv(65536):
-            out += piece
-    except ConnectionResetError:
-        pass  # it was let go while we were still sending
-    connection.close()
-    return bytes(out)
-
-
-def printed_line(process, deadline):
-    """The next line of a program's output, or what there is of it when the deadline is over."""
-    line = b""
-    while not line.endswith(b"\n") and select.select([process.stdout], [], [], max(0, deadline - time.monotonic()))[0]:
-        piece = os.read(process.stdout.fileno(), 1)
-        if not piece:
-            break
-        line += piece
-    return line
-
-
 # ---- a story
 
 def marked(register, is_withdrawn):
     """The deposits of a register, each of them withdrawn, or none."""
     return [{**deposit, "withdrawn": is_withdrawn} for deposit in register.deposits]
+
+
+def asking(*words, store="s", **other):
+    return servers.asking(*words, store=store, policy="p", callers="c", **other)
 
 
 def register_like(other, deposits, number=machine.FORMAT):
@@ -338,63 +344,58 @@ def register_like(other, deposits, number=machine.FORMAT):
     return register
 
 
-class Story:
-    """A folder and the machine's own picture of it. Paths are relative to the folder."""
+class Story(servers.Place):
+    """A place of which each start is compared with the machine's. Paths are relative to its folder."""
+
+    patience = 60
 
     def __init__(self, chance, program, folder):
-        self.chance, self.program, self.folder = chance, program, folder
-        self.computer = machine.Computer(["", ".", "sub"])
-        self.asked = {"runs": 0, "connections": 0}
-        os.mkdir(os.path.join(folder, "sub"))
-
-    def put(self, path, data):
-        with open(os.path.join(self.folder, path), "wb") as file:
-            file.write(data)
-        self.computer.files[path] = data
+        super().__init__(program, folder, files={"empty": b""})
+        self.chance, self.asked = chance, {"runs": 0, "connections": 0}
+        self.computer.folders |= {".", "sub"}
+        os.mkdir(self.path("sub"))
 
     def compare(self, what, want, got):
         if want != got:
             raise Differs(what, want, got)
 
-    def run(self, words, given=b""):
-        """Runs the program with these words, and compares its answer."""
-        today = datetime.datetime.now(datetime.timezone.utc).date().isoformat()
-        want = self.computer.run(words, today, given)
-        raw = [word.encode("utf-8", "surrogateescape") for word in words]
-        run = subprocess.run([self.program, *raw], cwd=self.folder, input=given, capture_output=True, timeout=PATIENCE)
+    def same(self, words, given=b""):
+        """Compares a start with these words."""
+        want = self.computer.run(words, servers.now()[:10], given)
         self.asked["runs"] += 1
-        self.compare(words, want, (run.stdout, run.stderr, run.returncode))
+        raw = [word.encode("utf-8", "surrogateescape") for word in words]
+        self.compare(words, want, self.run(*raw, given=given))
         return want
 
     def connect(self, port):
-        connection = socket.create_connection(("127.0.0.1", port), timeout=PATIENCE)
+        connection = servers.connection_to(port, self.patience)
         connection.setsockopt(socket.IPPROTO_TCP, socket.TCP_NODELAY, 1)
         return connection
 
     def speak(self, connection, data, answer):
         """Sends a request in pieces or whole, with its side open or closed, or breaks off."""
         if data is None:
-            return broken_off(connection, self.chance.choice([b"", b"GET / HT", b"POST /v1/projects/N1/check HTTP/1.1\r\nAuthorization: Bearer t-echo\r\nContent-Length: 10\r\n\r\nabc"]))
+            connection.sendall(self.chance.choice([b"", b"GET / HT", servers.post(b"check", b"abc", b"t-echo", 10)]))
+            return servers.reset(connection)
         cut = self.chance.randrange(len(data) + 1) if self.chance.random() < 0.2 else 0
         if cut:
-            sent(connection, data[:cut], True)
+            servers.sent(connection, data[:cut], True)
             time.sleep(0.001)
-        return sent(connection, data[cut:], needs_no_end(data, answer) and self.chance.random() < 0.4)
+        return servers.sent(connection, data[cut:], needs_no_end(data, answer) and self.chance.random() < 0.4)
 
-    def serve(self, options, given):
-        """Starts `serve`, makes these connections, one by one or all at once, and compares what is printed and what is answered."""
-        port = bodies.free_port()
+    def session(self, options, given):
+        """Starts `serve`, makes these connections, one by one or all at once, and compares what is printed and what is
+        answered."""
+        port = servers.free_port()
         words = spelling(self.chance, "serve", {**options, "port": str(port), "connections": str(len(given))}, [])
-        today = datetime.datetime.now(datetime.timezone.utc).date().isoformat()
-        want, replies = self.computer.serve(words, today, given)
-        process = subprocess.Popen([self.program, *words], cwd=self.folder, stdin=subprocess.DEVNULL, stdout=subprocess.PIPE, stderr=subprocess.PIPE)
+        want, replies = self.computer.serve(words, servers.now()[:10], given)
+        process = self.start(*words)
         self.asked["runs"] += 1
         try:
-            deadline = time.monotonic() + PATIENCE
-            out = printed_line(process, deadline)
+            out = servers.printed_line(process, self.patience)
             if replies and out:
                 out += self.talk(process, port, words, given, replies)
-            rest, fault = process.communicate(timeout=PATIENCE)
+            rest, fault = process.communicate(timeout=self.patience)
             self.compare(words, want, (out + rest, fault, process.returncode))
             if replies and "log" in options:
                 self.compare_log(words, options, given, want[0].decode().split()[2:], replies)
@@ -403,14 +404,18 @@ class Story:
             process.wait()
 
     def compare_log(self, words, options, given, statuses, replies):
-        """Compares the lines that were appended to the log. Of a connection that broke off it may have a head or none."""
+        """Compares the lines that were appended to the log. Of a connection that broke off it may have a head or
+        none."""
         callers = machine.read_callers(self.computer.files[options["callers"]].decode())
-        with open(os.path.join(self.folder, options["log"]), encoding="ascii") as file:
-            lines = file.read().splitlines()[-len(given):]
+        lines = self.got(options["log"]).decode("ascii").splitlines()[-len(given):]
         for data, status, reply, line in zip(given, statuses, replies, lines, strict=True):
             parts = re.fullmatch(r"\d{4}-\d\d-\d\dT\d\d:\d\d:\d\dZ (.*) \d+ (\d+) \d+", line)
             got = parts and (parts[1], int(parts[2]))
-            self.compare((words, data, "its line of the log", line), ("fault", 0) if data is None else machine.logged(callers, data, status, reply), got and (got[0].split()[-1], got[1]) if data is None else got)
+            if data is None:
+                want, got = ("fault", 0), got and (got[0].split()[-1], got[1])
+            else:
+                want = machine.logged(callers, data, status, reply)
+            self.compare((words, data, "its line of the log", line), want, got)
 
     def talk(self, process, port, words, given, replies):
         """Makes the connections; what was printed meanwhile."""
@@ -428,9 +433,9 @@ class Story:
                 connections.append(self.connect(port))
                 self.speak(connections[n], data, replies[n])
             if data is not None:
-                self.compare((words, data), replies[n], received(connections[n]))
+                self.compare((words, data), replies[n], servers.received(connections[n]))
             if not at_once:
-                line = printed_line(process, time.monotonic() + PATIENCE)
+                line = servers.printed_line(process, self.patience)
                 self.compare((words, data, "its line at once"), True, line.endswith(b"\n"))
                 out += line
         return out
@@ -440,7 +445,6 @@ class Story:
     def setting(self, names):
         """The files of a story, and a register with nothing in it."""
         chance = self.chance
-        self.put("empty", b"")
         self.put("junk", b"no database, but some text\n" * chance.choice([1, 50]))
         self.put("d", dictionary(chance))
         self.put("d-bad", refused_dictionary(chance))
@@ -455,9 +459,11 @@ class Story:
             self.put(f"b{n}", text)
         self.tokens = sorted(machine.read_callers(self.computer.files["c"].decode()))
         if chance.random() < 0.3:
-            self.run(self.maybe_misspelt(spelling(chance, "init", {"store": chance.choice(["s", "junk", "sub", "nowhere/s", "sub/s"]), "dictionary": chance.choice(["d", "d-bad", "none", "junk"])}, [])))
+            options = {"store": chance.choice(["s", "junk", "sub", "nowhere/s", "sub/s"]),
+                       "dictionary": chance.choice(["d", "d-bad", "none", "junk"])}
+            self.same(self.maybe_misspelt(spelling(chance, "init", options, [])))
         if not isinstance(self.computer.files.get("s"), machine.Register):
-            self.run(spelling(chance, "init", {"store": "s", "dictionary": "d"}, []))
+            self.same(spelling(chance, "init", {"store": "s", "dictionary": "d"}, []))
 
     def maybe_misspelt(self, words):
         return misspelt(self.chance, words) if self.chance.random() < 0.06 else words
@@ -475,16 +481,22 @@ class Story:
         command = chance.choice([*usual, "check", "init", "migrate", "nothing"] if self.count() else ["deposit"])
         file = self.mostly([f"b{n}" for n in range(len(self.texts))], ["none", "sub", "p", "none é"])
         if command == "nothing":
-            return self.run([], chance.choice(self.texts))
+            return self.same([], chance.choice(self.texts))
         if command == "init":
-            return self.run(self.maybe_misspelt(spelling(chance, command, {"store": chance.choice(["s", "empty", "junk", "sub", "sub/s", "nowhere/s", "new"]), "dictionary": self.mostly(["d"], ["d-bad", "none"])}, [])))
+            stores = ["s", "empty", "junk", "sub", "sub/s", "nowhere/s", "new"]
+            options = {"store": chance.choice(stores), "dictionary": self.mostly(["d"], ["d-bad", "none"])}
+            return self.same(self.maybe_misspelt(spelling(chance, command, options, [])))
         if command == "migrate":
             store = chance.choice(["s", "s", "empty", "junk", "sub", "sub/s", "nowhere/s", "none"])
-            return self.run(self.maybe_misspelt(spelling(chance, command, {"store": store}, [])))
+            return self.same(self.maybe_misspelt(spelling(chance, command, {"store": store}, [])))
         if command == "check":
-            return self.run(self.maybe_misspelt(spelling(chance, command, {"dictionary": self.mostly(["d"], ["d-bad", "none", "sub"])}, [file])))
-        options = {"store": self.mostly(["s"], ["none", "new", "empty", "junk", "sub", "nowhere/s"]), "policy": self.mostly(["p", "p", "p-more"], ["p-bad", "none", "sub", "bytes"]),
-                   "callers": self.mostly(["c"], ["c-bad", "none", "bytes", "sub"]), "token": self.mostly([token_for(chance, command, self.tokens)], ["nobody", "", "T-delta"]), "project": self.mostly(PROJECTS, BAD_PROJECTS)}
+            options = {"dictionary": self.mostly(["d"], ["d-bad", "none", "sub"])}
+            return self.same(self.maybe_misspelt(spelling(chance, command, options, [file])))
+        options = {"store": self.mostly(["s"], ["none", "new", "empty", "junk", "sub", "nowhere/s"]),
+                   "policy": self.mostly(["p", "p", "p-more"], ["p-bad", "none", "sub", "bytes"]),
+                   "callers": self.mostly(["c"], ["c-bad", "none", "bytes", "sub"]),
+                   "token": self.mostly([token_for(chance, command, self.tokens)], ["nobody", "", "T-delta"]),
+                   "project": self.mostly(PROJECTS, BAD_PROJECTS)}
         if chance.random() < 0.85:
             options["day"] = self.mostly(DAYS, BAD_DAYS)
         places = []
@@ -496,7 +508,7 @@ class Story:
             places = [self.mostly([number_for(chance, self.count())], BAD_NUMBERS + ["999999"])]
             if command == "extract" and chance.random() < 0.5:
                 options["groups"] = self.mostly(GROUPS, BAD_GROUPS)
-        out, _, status = self.run(self.maybe_misspelt(spelling(chance, command, options, places)))
+        out, _, status = self.same(self.maybe_misspelt(spelling(chance, command, options, places)))
         if command == "extract" and status == 0 and out and chance.random() < 0.5:
             self.texts.append(out)
             self.put(f"b{len(self.texts) - 1}", out)
@@ -505,19 +517,23 @@ class Story:
     def by_socket(self):
         """One start of `serve` with some connections."""
         chance = self.chance
-        options = {"store": self.mostly(["s"], ["none", "junk"]), "policy": self.mostly(["p", "p", "p-more"], ["p-bad", "none"]), "callers": self.mostly(["c"], ["c-bad", "none"])}
+        options = {"store": self.mostly(["s"], ["none", "junk"]),
+                   "policy": self.mostly(["p", "p", "p-more"], ["p-bad", "none"]),
+                   "callers": self.mostly(["c"], ["c-bad", "none"])}
         if chance.random() < 0.85:
             options["day"] = self.mostly(DAYS, BAD_DAYS)
         elif chance.random() < 0.5:
             options["day-by-clock"] = None
-        more = {"patience": chance.choice(["60", "3600"]), "end-on-failure": None, "log": self.mostly(["log", "sub/log"], ["sub", "nowhere/log"])}
+        more = {"patience": chance.choice(["60", "3600"]), "end-on-failure": None,
+                "log": self.mostly(["log", "sub/log"], ["sub", "nowhere/log"])}
         options.update((name, value) for name, value in more.items() if chance.random() < 0.2)
         given, count = [], self.count()
         for _ in range(chance.randrange(1, 12)):
             luck = chance.random()
-            given.append(None if luck < 0.03 else b"" if luck < 0.06 else request(chance, self.tokens, self.texts, count))
+            given.append(None if luck < 0.03 else b"" if luck < 0.06
+                         else request(chance, self.tokens, self.texts, count))
             count = max(count, 1)
-        self.serve(options, given)
+        self.session(options, given)
 
     def refused_serve(self):
         """A start of `serve` that ends before it listens."""
@@ -531,14 +547,16 @@ class Story:
                 options.update(store=self.mostly(["s"], ["none"]), port=str(taken.getsockname()[1]), connections="1")
                 words = spelling(chance, "serve", options, [])
                 want, _ = self.computer.serve(words, "2024-06-01", [], False)
-                run = subprocess.run([self.program, *words], cwd=self.folder, stdin=subprocess.DEVNULL, capture_output=True, timeout=PATIENCE)
                 self.asked["runs"] += 1
-                return self.compare(words, want, (run.stdout, run.stderr, run.returncode))
-        bad = chance.choice([{"port": "0"}, {"port": "65536"}, {"port": "+80"}, {"port": "x"}, {"port": ""}, {"connections": "0"}, {"connections": "1000001"}, {"connections": "-1"}, {"connections": "1e3"}, {"port": "99999999999999999999"}])
+                return self.compare(words, want, self.run(*words))
+        bad = chance.choice([{"port": "0"}, {"port": "65536"}, {"port": "+80"}, {"port": "x"}, {"port": ""},
+                             {"connections": "0"}, {"connections": "1000001"}, {"connections": "-1"},
+                             {"connections": "1e3"}, {"port": "99999999999999999999"}])
         if kind == 1:
-            return self.run(spelling(chance, "serve", {**options, "port": "8017", "connections": "1", **bad}, []))
+            return self.same(spelling(chance, "serve", {**options, "port": "8017", "connections": "1", **bad}, []))
         # a store that is none ends it before it listens, whatever else is right
-        return self.run(self.maybe_misspelt(spelling(chance, "serve", {**options, "store": "none", "port": "8017", "connections": "1"}, [])))
+        options = {**options, "store": "none", "port": "8017", "connections": "1"}
+        return self.same(self.maybe_misspelt(spelling(chance, "serve", options, [])))
 
     def damages(self):
         """Statements of another hand, each with what stands there then where it changes something."""
@@ -568,7 +586,7 @@ class Story:
 
     def written(self, statement):
         """Another hand writes into the copy of the register. Whether it changed anything."""
-        connection = sqlite3.connect(os.path.join(self.folder, "t"))
+        connection = sqlite3.connect(self.path("t"))
         connection.executescript(statement)
         changes = connection.total_changes
         connection.close()
@@ -576,10 +594,10 @@ class Story:
 
     def damage(self):
         """Another hand changes a copy of the register, or makes it one of format 1; it is opened and migrated."""
-        bodies.copy_register(self.folder, "s", "t")
+        self.copy("s", "t")
         held = self.computer.files["s"]
         if self.chance.random() < 0.5:
-            self.written("; ".join(bodies.TO_FORMAT_1))
+            self.written("; ".join(servers.TO_FORMAT_1))
             found = register_like(held, marked(held, False), 1)
             if self.chance.random() < 0.7 and self.written(self.chance.choice(list(self.spoils()))):
                 found = machine.Damaged(1)
@@ -587,17 +605,16 @@ class Story:
             statement, found = self.chance.choice(list(self.damages()))
             found = found if self.written(statement) else register_like(held, list(held.deposits))
         self.computer.files["t"] = found
-        asking = ["--store=t", "--policy=p", "--callers=c", "--token=t-delta", "--project=N1", "--day=2024-06-01"]
         for words in (["list"], ["migrate"], ["list"], ["extract", "1"], ["withdraw", "1"]):
-            self.run([*words, *(asking[:1] if words == ["migrate"] else asking)])
+            self.same([*words, "--store=t"] if words == ["migrate"] else asking(*words, store="t"))
 
     def largest(self):
         """A file at the limit, and one above it."""
         clean = machine.FILE_A
         self.put("long", clean + b" " * (machine.LIMIT - len(clean) + self.chance.randrange(2)))
         for token in self.chance.sample(["t-delta", "t-echo"], 2):
-            self.run(["deposit", "--store=s", "--policy=p", "--callers=c", "--project=N1", "--day=2024-06-01", "--token", token, "long"])
-        self.run(["check", "--dictionary", "d", "long"])
+            self.same(asking("deposit", "long", token=token))
+        self.same(["check", "--dictionary", "d", "long"])
 
     def tell(self, names):
         chance = self.chance
@@ -612,7 +629,7 @@ class Story:
             self.damage()
         if chance.random() < 0.01:
             self.largest()
-        self.run(["list", "--store=s", "--policy=p", "--callers=c", "--token=t-delta", "--project=N1", "--day=2024-06-02"])
+        self.same(asking("list", day="2024-06-02"))
 
 
 def shortened(value):
@@ -646,7 +663,8 @@ def main():
     names = sorted(os.path.join(files, name) for name in os.listdir(files) if name.endswith(".ags"))
     passed = failed = runs = connections = 0
     with multiprocessing.Pool(2) as pool:
-        for number, difference, asked in pool.imap(functools.partial(told, program, names, seed), range(first, first + count)):
+        for number, difference, asked in pool.imap(functools.partial(told, program, names, seed),
+                                                   range(first, first + count)):
             passed += difference is None
             failed += difference is not None
             runs, connections = runs + asked["runs"], connections + asked["connections"]

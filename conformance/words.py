@@ -1,27 +1,29 @@
 #!/usr/bin/env python3
-"""Command lines of the program, each with what has to come of it: its status, what it prints and what it says of a fault.
+"""Command lines of the program, each with what has to come of it: its status, what it prints and what it says of a
+fault.
 
 usage: words.py PROGRAM     the last line is 'N passed, M failed'
 
-The lines of a scene run one after the other in a folder of its own. `|` stands between the words of a line. Among them `@` stands for those of OPTIONS that
-the line does not name, and `&` for those of them that `serve` takes. Behind `=>` stand the status, what is printed without its line end, and behind `!` what is
-said on standard error without `groundreg: ` before it. Of a line without `=>` the words are refused. Nothing here comes from what the program answered."""
+The lines of a scene run one after the other in a folder of its own. `|` stands between the words of a line. Among them
+`@` stands for those of OPTIONS that the line does not name, and `&` for those of them that `serve` takes. Behind `=>`
+stand the status, what is printed without its line end, and behind `!` what is said on standard error without
+`groundreg: ` before it. Of a line without `=>` the words are refused. Nothing here comes from what the program
+answered."""
 import contextlib
 import os
 import socket
 import sqlite3
-import subprocess
 import sys
 import tempfile
 sys.dont_write_bytecode = True
 import machine  # noqa: E402
-import reference  # noqa: E402
+import servers  # noqa: E402
 
-PATIENCE = 60
-OPTIONS = {"--store": "s", "--policy": "q", "--callers": "c", "--day": "2024-05-01", "--project": "N1", "--token": "t-delta"}
+OPTIONS = {"--store": "s", "--policy": "q", "--callers": "c", "--day": "2024-05-01", "--project": "N1",
+           "--token": "t-delta"}
 OF_SERVE = ("--store", "--policy", "--callers", "--day")
 REFUSED = "4 ! words refused"
-MINI, POLICY, CALLERS = machine.spelled_dictionary(reference.built_in()), machine.POLICY.encode(), machine.CALLERS.encode()
+MINI, POLICY, CALLERS = servers.FILES["mini"], machine.POLICY.encode(), machine.CALLERS.encode()
 
 
 def longer(text):
@@ -29,15 +31,19 @@ def longer(text):
     return text + b" " * (machine.LIMIT + 1 - len(text))
 
 
-FILES = {"mini": MINI, "q": POLICY, "c": CALLERS, "a": machine.FILE_A, "b": machine.FILE_B, "--day": machine.FILE_A, "empty": b"", "junk": b"this is no database", "bytes": b"\xff\xfe", "open": b"[[rule",
+FILES = {"mini": MINI, "q": POLICY, "c": CALLERS, "a": machine.FILE_A, "b": machine.FILE_B, "--day": machine.FILE_A,
+         "empty": b"", "junk": b"this is no database", "bytes": b"\xff\xfe", "open": b"[[rule",
          "long": longer(machine.FILE_A), "longest": longer(MINI), "long_q": longer(POLICY), "long_c": longer(CALLERS),
          "w": machine.WITHDRAWING.encode(),  # the policy under which contractors may withdraw
-         # policies by which extracts are drawn in June alone, by which rows are seen from a day on, and one whose rule ends before it begins
+         # policies by which extracts are drawn in June alone, by which rows are seen from a day on, and one whose rule
+         # ends before it begins
          "june": machine.ruled(40, *machine.JUNE).encode(), "seen": machine.ruled(80, 'from = "2024-06-02"').encode(),
          "ended": machine.ruled(40, machine.JUNE[0], 'until = "2024-05-31"').encode()}
 
-# What is printed, by the name that a line has for it: file a, the first 466 bytes of it, what others see of file b, and a listing of two deposits.
-PRINTED = {machine.FILE_A: b"(a)\n", machine.FILE_A[:466]: b"(a to 466)\n", machine.without(machine.FILE_B, 33, 40, 47): b"(of b)\n",
+# What is printed, by the name that a line has for it: file a, the first 466 bytes of it, what others see of file b, and
+# a listing of two deposits.
+PRINTED = {machine.FILE_A: b"(a)\n", machine.FILE_A[:466]: b"(a to 466)\n",
+           machine.without(machine.FILE_B, 33, 40, 47): b"(of b)\n",
            b"1 Delta 2024-06-01\n2 Foxtrot 2024-06-01\n": b"(both)\n"}
 
 # A register from its making to an extract.
@@ -308,8 +314,8 @@ init|--store=s|--dictionary=longest => 4 ! dictionary refused
 init|--store=s|--dictionary=mini => 4 ! store not empty
 """
 
-SCENES = (REGISTER, WITHDRAWAL, RULE_DAYS, WORDS_REFUSED, IN_ANY_ORDER, OF_WORDS_AND_POLICIES, OF_CALLERS_AND_TOKENS, OF_REQUESTS,
-          OF_DICTIONARIES_AND_FILES)
+SCENES = (REGISTER, WITHDRAWAL, RULE_DAYS, WORDS_REFUSED, IN_ANY_ORDER, OF_WORDS_AND_POLICIES,
+          OF_CALLERS_AND_TOKENS, OF_REQUESTS, OF_DICTIONARIES_AND_FILES)
 
 # What `serve` says of a port that is taken (PORT): the port comes last.
 PORT_TAKEN = """
@@ -420,32 +426,21 @@ def words_of(line):
     return words
 
 
-class Folder:
-    """A folder with the files that the lines name, and what is counted of the starts there."""
+class Folder(servers.Place):
+    """A place with the files that the lines name."""
 
-    def __init__(self, program, place):
-        self.program, self.place, self.passed, self.wrong = program, place, 0, []
-        for name, data in FILES.items():
-            with open(os.path.join(place, name), "wb") as file:
-                file.write(data)
+    patience = 60
 
     def answer(self, words):
-        run = subprocess.run([self.program, *words], cwd=self.place, stdin=subprocess.DEVNULL, capture_output=True, timeout=PATIENCE)
-        printed, said = PRINTED.get(run.stdout, run.stdout), run.stderr
-        told = str(run.returncode) + (" " + printed.decode("latin-1")[:-1] if printed.endswith(b"\n") else printed.decode("latin-1"))
+        out, said, status = self.run(*words)
+        out = PRINTED.get(out, out)
+        told = str(status) + (" " + out.decode("latin-1")[:-1] if out.endswith(b"\n") else out.decode("latin-1"))
         if said.startswith(b"groundreg: ") and said.endswith(b"\n"):
             return told + " ! " + said[len(b"groundreg: "):-1].decode("latin-1")
         return told + said.decode("latin-1")
 
     def hold(self, line, want):
-        got = self.answer(words_of(line))
-        self.count(got == want, f"{line}\n  wanted {want}\n  got    {got:.300}")
-
-    def count(self, is_well, wrong):
-        if is_well:
-            self.passed += 1
-        else:
-            self.wrong.append(wrong)
+        self.check(line, want, self.answer(words_of(line)))
 
     def play(self, scene):
         for line, want in lines_of(scene):
@@ -453,7 +448,7 @@ class Folder:
 
     def change(self, store, statement, *values, keys="OFF"):
         """Runs a statement on a store as another hand does, whether that keeps to foreign keys or not."""
-        with contextlib.closing(sqlite3.connect(os.path.join(self.place, store))) as connection, connection:
+        with contextlib.closing(sqlite3.connect(self.path(store))) as connection, connection:
             connection.execute(f"PRAGMA foreign_keys = {keys}")
             connection.execute(statement, values)
 
@@ -468,7 +463,7 @@ class Folder:
 def refuse_stores(folder):
     folder.play(BEFORE_STORES)
     for statement in OF_NO_DEPOSIT:
-        folder.count(folder.refuses("s", statement), f"not refused: {statement}")
+        folder.check(f"is refused: {statement}", True, folder.refuses("s", statement))
     for store, statement, want, migrated in STORES:
         if statement:
             folder.change(store, statement)
@@ -476,14 +471,15 @@ def refuse_stores(folder):
             folder.hold(f"{command}|--store={store}", want)
         folder.hold(f"migrate|--store={store}", migrated)
     # Asking for a register that is not there makes no file.
-    folder.count(not os.path.exists(os.path.join(folder.place, "gone")), "a file `gone` was made")
+    folder.check("a file `gone` is made", False, os.path.exists(folder.path("gone")))
     folder.play(BEHIND_STORES)
 
 
 def refuse_changed(folder):
     for number, (statements, asked) in enumerate(CHANGED):
         store = f"s{number}"
-        folder.play(f"init|--store={store}|--dictionary=mini => 0 created\ndeposit|@|--store={store}|a => 0 receipt 1 2024-05-01")
+        folder.play(f"init|--store={store}|--dictionary=mini => 0 created\n"
+                    f"deposit|@|--store={store}|a => 0 receipt 1 2024-05-01")
         for statement in statements:
             folder.change(store, *statement)
         for commands, want in asked:
@@ -497,26 +493,24 @@ def refuse_port(folder):
 
 
 def make_private(folder):
-    folder.play("init|--store=s|--dictionary=mini => 0 created\nserve|&|--log=l|--port=80|--connections=1|--store=empty => 4 ! not a register")
+    folder.play("init|--store=s|--dictionary=mini => 0 created\n"
+                "serve|&|--log=l|--port=80|--connections=1|--store=empty => 4 ! not a register")
     for name in ("s", "s-wal", "l"):
-        mode = os.stat(os.path.join(folder.place, name)).st_mode & 0o777
-        folder.count(mode == 0o600, f"{name} has mode {mode:o}, wanted 600")
+        folder.check(f"the mode of {name}", "600", f"{os.stat(folder.path(name)).st_mode & 0o777:o}")
 
 
 def main():
-    program = os.path.abspath(sys.argv[1])
-    passed, wrong = 0, []
-    # (an empty word is no line)
-    plays = [lambda folder, scene=scene: folder.play(scene) for scene in SCENES] + [lambda folder: folder.hold("", REFUSED), refuse_stores, refuse_changed, refuse_port, make_private]
+    passed = failed = 0
+    plays = [lambda folder, scene=scene: folder.play(scene) for scene in SCENES]
+    plays.append(lambda folder: folder.hold("", REFUSED))  # an empty word is no line
+    plays += [refuse_stores, refuse_changed, refuse_port, make_private]
     for play in plays:
-        with tempfile.TemporaryDirectory() as place:
-            folder = Folder(program, place)
+        with tempfile.TemporaryDirectory() as path:
+            folder = Folder(sys.argv[1], path, files=FILES)
             play(folder)
-            passed, wrong = passed + folder.passed, wrong + folder.wrong
-    for text in wrong:
-        print(text)
-    print(f"{passed} passed, {len(wrong)} failed")
-    sys.exit(len(wrong) > 0)
+            passed, failed = passed + folder.passed, failed + folder.failed
+    print(f"{passed} passed, {failed} failed")
+    sys.exit(failed > 0)
 
 
 if __name__ == "__main__":

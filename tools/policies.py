@@ -1,7 +1,8 @@
-"""What a policy says and what it shows, told before anything is served: the refusals and warnings of `bin/policy check`, and the rows of `bin/policy see`.
+"""What a policy says and what it shows, told before anything is served: the refusals and warnings of `bin/policy
+check`, and the rows of `bin/policy see`.
 
-The language of rules is that of docs/COMMANDS.md. Decisions are those of the reference model (conformance/machine.py); rows and their steps are looked up by key
-here, so that a long file is told in seconds."""
+The language of rules is that of docs/COMMANDS.md. Decisions are those of the reference model (conformance/machine.py);
+rows and their steps are looked up by key here, so that a long file is told in seconds."""
 import collections
 import datetime
 import difflib
@@ -19,13 +20,17 @@ REQUEST_VERBS = tuple(verb for verb in machine.VERBS if verb != "see")
 FIRST_DAY, LAST_DAY = "1970-01-01", "9999-12-31"
 SHORT_TOKEN = 16
 ORDER = ("Syntax", "UnknownKey", "BadValue", "Order", "DuplicateToken")
-TEXTS = {"Syntax": "the text is no TOML", "UnknownKey": "a key that may not be there", "BadValue": "a value that may not be there", "Order": "numbers do not rise",
+TEXTS = {"Syntax": "the text is no TOML", "UnknownKey": "a key that may not be there",
+         "BadValue": "a value that may not be there", "Order": "numbers do not rise",
          "DuplicateToken": "a token that is there twice"}
 NAME = "1 to 32 letters, digits, - or _"
 DAY = f'a day of the calendar in quotes, "yyyy-mm-dd" from {FIRST_DAY} to {LAST_DAY}'
-POLICY_VALUES = {"number": "a whole number from 1 to 9999", "effect": "permit or deny", "firm": f"{NAME}, or *", "role": f"{NAME}, or *", "project": f"{NAME}, or *",
-                 "verb": ", ".join(machine.VERBS) + ", or *", "group": "1 to 4 capital letters or digits, or *", "owner": "own, other or *", "embargo": "past, running or *",
-                 "heading": "1 to 9 capital letters, digits or _, with a value beside it", "value": "a text, with a heading beside it",
+POLICY_VALUES = {"number": "a whole number from 1 to 9999", "effect": "permit or deny", "firm": f"{NAME}, or *",
+                 "role": f"{NAME}, or *", "project": f"{NAME}, or *",
+                 "verb": ", ".join(machine.VERBS) + ", or *", "group": "1 to 4 capital letters or digits, or *",
+                 "owner": "own, other or *", "embargo": "past, running or *",
+                 "heading": "1 to 9 capital letters, digits or _, with a value beside it",
+                 "value": "a text, with a heading beside it",
                  "from": DAY, "until": f"{DAY}, not before the rule's from"}
 CALLER_VALUES = {"token": "1 to 64 characters from ! to ~", "firm": NAME, "role": NAME}
 
@@ -44,7 +49,8 @@ class Places:
             return told
         begin = self.tables[index]
         end = self.tables[index + 1] if index + 1 < len(self.tables) else len(self.lines) + 1
-        found = [n for n in range(begin, end) if key and re.match(rf"\s*[\"']?{re.escape(key)}[\"']?\s*=", self.lines[n - 1])]
+        found = [n for n in range(begin, end) if key
+                 and re.match(rf"\s*[\"']?{re.escape(key)}[\"']?\s*=", self.lines[n - 1])]
         return f"line {found[0] if found else begin}, {told}"
 
 
@@ -86,11 +92,14 @@ def is_rule_value(item, key):
 
 def is_caller_value(item, key):
     value = item.get(key)
-    return isinstance(value, str) and re.fullmatch(r"[!-~]{1,64}", value) is not None if key == "token" else machine.is_name(value)
+    if key == "token":
+        return isinstance(value, str) and re.fullmatch(r"[!-~]{1,64}", value) is not None
+    return machine.is_name(value)
 
 
 def refusals(text, array, values, required, is_value):
-    """(refusal, where and what may stand there) of each fault of a text, in the order in which the program looks for them."""
+    """(refusal, where and what may stand there) of each fault of a text, in the order in which the program looks for
+    them."""
     table, found = parsed(text)
     if table is None:
         return found
@@ -102,7 +111,8 @@ def refusals(text, array, values, required, is_value):
         if not isinstance(item, dict):
             found.append(("BadValue", f"{places.of(index)}: a table, begun by [[{array}]]"))
             continue
-        found += [("UnknownKey", f"{places.of(index, key)}: {nearest(key, values, 'keys are ' + ', '.join(values))}") for key in item if key not in values]
+        found += [("UnknownKey", f"{places.of(index, key)}: {nearest(key, values, 'keys are ' + ', '.join(values))}")
+                  for key in item if key not in values]
         wanted = [key for key in values if (key in item or key in required) and not is_value(item, key)]
         found += [("BadValue", f"{places.of(index, key)}: {values[key]}") for key in wanted]
     items = [(index, item) for index, item in enumerate(tables_of(table, array)) if isinstance(item, dict)]
@@ -117,7 +127,8 @@ def twice_or_falling(items, places, array):
         number, token = item.get("number"), item.get("token")
         if array == "rule" and isinstance(number, int):
             if greatest is not None and number <= greatest:
-                found.append(("Order", f"{places.of(index, 'number')}: a number above {greatest}, that of the rule before it"))
+                found.append(("Order",
+                              f"{places.of(index, 'number')}: a number above {greatest}, that of the rule before it"))
             greatest = number
         if array == "caller" and isinstance(token, str):
             if token in seen:
@@ -153,7 +164,8 @@ def days_of(rule):
 def turning_days(rule, rules):
     """The first day of a rule, and each later one of its days on which another rule begins or has ended."""
     first, last = days_of(rule)
-    after = [datetime.date.fromisoformat(other["until"]) + datetime.timedelta(1) for other in rules if other.get("until", LAST_DAY) < LAST_DAY]
+    after = [datetime.date.fromisoformat(other["until"]) + datetime.timedelta(1)
+             for other in rules if other.get("until", LAST_DAY) < LAST_DAY]
     turns = {other["from"] for other in rules if "from" in other} | {day.isoformat() for day in after}
     return sorted({first, *(day for day in turns if first < day <= last)})
 
@@ -199,19 +211,22 @@ def misspelt(rule, key, rules, callers):
     known = set(named) | ({caller[key] for caller in callers.values()} if key != "project" else set())
     if name is None or name in known:
         return None
-    alike = [other for other in sorted(known) if other.casefold() == name.casefold()] or difflib.get_close_matches(name, sorted(known), 1, 0.75)
+    alike = [other for other in sorted(known) if other.casefold() == name.casefold()]
+    alike = alike or difflib.get_close_matches(name, sorted(known), 1, 0.75)
     return f"no caller and no other rule has the {key} {name}: is {alike[0]} meant?" if alike else None
 
 
 def still_served(rule, rules, callers):
-    """Of a denial of deposits alone: a caller whom it is for and who still lists, draws or withdraws on some of its days."""
+    """Of a denial of deposits alone: a caller whom it is for and who still lists, draws or withdraws on some of its
+    days."""
     if rule["effect"] != "deny" or rule.get("verb") != "deposit" or "firm" not in rule:
         return None
     days = turning_days(rule, rules)
     for caller in callers.values():
         if caller["firm"] == rule["firm"]:
             project, verbs = rule.get("project", ""), ("list", "extract", "withdraw")
-            may = " and ".join(verb for verb in verbs if any(machine.decide(rules, caller, project, verb, day)[0] == "permit" for day in days))
+            may = " and ".join(verb for verb in verbs if any(
+                machine.decide(rules, caller, project, verb, day)[0] == "permit" for day in days))
             if may:
                 return (f"denies deposits alone: {caller['firm']} may still {may}."
                         " A denial without verb ends every access")
@@ -223,14 +238,16 @@ def hides_by_value(rule):
     if rule["effect"] != "deny" or "heading" not in rule or rule.get("verb", "see") != "see":
         return None
     group = rule.get("group", "the group")
-    return (f"hides {rule['heading']} {rule['value']!r} alone: other spellings, an empty entry and files without {rule['heading']} are not hidden."
-            f" Permit the values that may be seen, then deny {group}")
+    heading = rule["heading"]
+    return (f"hides {heading} {rule['value']!r} alone: other spellings, an empty entry and files without {heading}"
+            f" are not hidden. Permit the values that may be seen, then deny {group}")
 
 
 def rule_warnings(rules, callers, words):
     """(number of the rule, warning), in the order of the rules."""
     for index, rule in enumerate(rules):
-        told = [never_matches(rule, words), *(misspelt(rule, key, rules, callers) for key in ("firm", "role", "project"))]
+        told = [never_matches(rule, words),
+                *(misspelt(rule, key, rules, callers) for key in ("firm", "role", "project"))]
         earlier = is_behind(rule, rules[:index])
         told.append(earlier and f"is never reached: rule {earlier['number']} decides all that it could")
         told += [still_served(rule, rules, callers), hides_by_value(rule)]
@@ -244,7 +261,8 @@ def warnings(rules, callers, words):
         found.append("no rule permits see: no row of a data group is shown to anybody, and every listing is empty")
     short = [caller for token, caller in callers.items() if len(token) < SHORT_TOKEN]
     if short:
-        found.append(f"{len(short)} of {len(callers)} tokens have fewer than {SHORT_TOKEN} characters: whoever guesses one is that caller")
+        found.append(f"{len(short)} of {len(callers)} tokens have fewer than {SHORT_TOKEN} characters:"
+                     " whoever guesses one is that caller")
     return found
 
 
@@ -263,7 +281,8 @@ class Steps:
         self.rows = [(g, row) for g in self.groups for row in g.data]
         self.separators = reference.separators(self.groups)
         self.numbers = {id(row): n for n, (_, row) in enumerate(self.rows)}
-        self.places = {g.name: {heading: at for at, heading in reversed(list(enumerate(g.headings)))} for g in self.groups}
+        self.places = {g.name: {heading: at for at, heading in reversed(list(enumerate(g.headings)))}
+                       for g in self.groups}
         self.indexes = {}
         self.keys = {g.name: self.words.keys(g.name) for g in self.groups}
         self.steps = [sorted(self.targets(g, row)) for g, row in self.rows]
@@ -316,7 +335,8 @@ def decisions(rules, caller, deposit, day, steps):
         if g.name in reference.DEFINITIONS:
             yield None
             continue
-        facts = {"group": g.name, "own": deposit["firm"] == caller["firm"], "past": day >= deposit["embargo"], "headings": g.headings, "cells": row.items}
+        facts = {"group": g.name, "own": deposit["firm"] == caller["firm"], "past": day >= deposit["embargo"],
+                 "headings": g.headings, "cells": row.items}
         effect, number = machine.decide(rules, caller, deposit["project"], "see", day, facts)
         yield None if effect == "permit" else number
 

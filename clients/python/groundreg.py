@@ -28,7 +28,8 @@ DEFINITIONS = ("TRAN", "ABBR", "UNIT", "TYPE", "DICT")
 
 @dataclass(frozen=True)
 class Finding:
-    """A broken rule: its code (`2a`, `10c`), the line from 1 (0: the file as a whole), and the group, heading or value that it speaks of, or nothing."""
+    """A broken rule: its code (`2a`, `10c`), the line from 1 (0: the file as a whole), and the group, heading or value
+    that it speaks of, or nothing."""
     code: str
     line: int
     subject: str
@@ -39,7 +40,8 @@ class Finding:
 
 @dataclass(frozen=True)
 class Deposit:
-    """A deposit of a listing: its number from 1, the firm that sent it, and the first day on which it is no longer under embargo (yyyy-mm-dd)."""
+    """A deposit of a listing: its number from 1, the firm that sent it, and the first day on which it is no longer
+    under embargo (yyyy-mm-dd)."""
     number: int
     firm: str
     embargo: str
@@ -47,7 +49,8 @@ class Deposit:
 
 @dataclass(frozen=True)
 class Receipt:
-    """What a deposit is answered: its number, and its embargo. A file that is held already has the receipt of the first one."""
+    """What a deposit is answered: its number, and its embargo. A file that is held already has the receipt of the first
+    one."""
     number: int
     embargo: str
 
@@ -77,7 +80,8 @@ class HasFindings(Refused):
 
 
 class Unknown(Refused):
-    """404: no such deposit in this project, or none that this caller sees, or, of a withdrawal, none of the own firm."""
+    """404: no such deposit in this project, or none that this caller sees, or, of a withdrawal, none of the own
+    firm."""
 
 
 class TooLarge(Refused):
@@ -89,7 +93,8 @@ class Full(Refused):
 
 
 class Failed(Refused):
-    """502 to 504: the register, or what is before it, failed. The request may have been done: send a deposit again, and its receipt has the same number."""
+    """502 to 504: the register, or what is before it, failed. The request may have been done: send a deposit again, and
+    its receipt has the same number."""
 
 
 class NotARegister(Exception):
@@ -118,7 +123,8 @@ class Register:
         return []
 
     def deposit(self, data: bytes, embargo: Optional[str] = None) -> Receipt:
-        """Deposits a file until whose embargo day (yyyy-mm-dd; without one the register's day) a policy may hide it from others."""
+        """Deposits a file until whose embargo day (yyyy-mm-dd; without one the register's day) a policy may hide it
+        from others."""
         query = {"embargo": embargo} if embargo is not None else {}
         return Receipt(**self._json("POST", "deposits", data, query))
 
@@ -127,15 +133,18 @@ class Register:
         return [Deposit(**each) for each in self._json("GET", "deposits")["deposits"]]
 
     def extract(self, number: int, groups: Iterable[str] = ()) -> bytes:
-        """The rows of a deposit that this caller is shown, of these groups with all that they belong to or link to, or of all; an AGS4 file."""
+        """The rows of a deposit that this caller is shown, of these groups with all that they belong to or link to, or
+        of all; an AGS4 file."""
         names = ",".join(groups)
         return self._request("GET", f"deposits/{number}", None, {"groups": names} if names else {})
 
     def withdraw(self, number: int) -> None:
-        """Withdraws a deposit of the caller's own firm. It stays kept, and can be neither listed nor drawn from then on."""
+        """Withdraws a deposit of the caller's own firm. It stays kept, and can be neither listed nor drawn from then
+        on."""
         self._json("DELETE", f"deposits/{number}")
 
-    def _json(self, method: str, path: str, data: Optional[bytes] = None, query: Optional[Dict[str, str]] = None) -> Dict[str, Any]:
+    def _json(self, method: str, path: str, data: Optional[bytes] = None,
+              query: Optional[Dict[str, str]] = None) -> Dict[str, Any]:
         try:
             return json.loads(self._request(method, path, data, query or {}))
         except ValueError:
@@ -168,7 +177,9 @@ def refusal(status: int, body: bytes) -> Exception:
             return HasFindings([Finding(**each) for each in told["findings"]])
         return KINDS.get(status, Refused)(status, told["error"])
     except (ValueError, KeyError, TypeError):
-        return KINDS[status](status, "not answered by the register itself") if status in KINDS else NotARegister(f"status {status}")
+        if status in KINDS:
+            return KINDS[status](status, "not answered by the register itself")
+        return NotARegister(f"status {status}")
 
 
 def rows_of(data: bytes) -> Iterable[List[str]]:
@@ -194,11 +205,14 @@ def tables(data: bytes) -> Dict[str, List[Dict[str, str]]]:
 def as_sarif(found: Dict[str, List[Finding]]) -> Dict[str, Any]:
     """The findings of files as SARIF 2.1.0, which code hosts show beside the lines."""
     codes = sorted({finding.code for each in found.values() for finding in each})
-    results = [{"ruleId": finding.code, "level": "error", "message": {"text": f"Rule {finding.code}" + (f": {finding.subject}" if finding.subject else "")},
-                "locations": [{"physicalLocation": {"artifactLocation": {"uri": urllib.parse.quote(path)}, "region": {"startLine": max(1, finding.line)}}}]}
+    results = [{"ruleId": finding.code, "level": "error",
+                "message": {"text": f"Rule {finding.code}" + (f": {finding.subject}" if finding.subject else "")},
+                "locations": [{"physicalLocation": {"artifactLocation": {"uri": urllib.parse.quote(path)},
+                                                    "region": {"startLine": max(1, finding.line)}}}]}
                for path, each in found.items() for finding in each]
     driver = {"name": "groundreg", "rules": [{"id": code, "name": f"AGS4 Rule {code}"} for code in codes]}
-    return {"$schema": "https://json.schemastore.org/sarif-2.1.0.json", "version": "2.1.0", "runs": [{"tool": {"driver": driver}, "results": results}]}
+    return {"$schema": "https://json.schemastore.org/sarif-2.1.0.json", "version": "2.1.0",
+            "runs": [{"tool": {"driver": driver}, "results": results}]}
 
 
 def print_findings(found: Dict[str, List[Finding]], form: str) -> None:
@@ -228,7 +242,9 @@ def status_of(error: Refused) -> int:
 
 
 def main(words: Optional[List[str]] = None) -> int:
-    parser = argparse.ArgumentParser(prog="python -m groundreg", description="Checks AGS4 files at a register. The token is in the environment as GROUNDREG_TOKEN.")
+    parser = argparse.ArgumentParser(
+        prog="python -m groundreg",
+        description="Checks AGS4 files at a register. The token is in the environment as GROUNDREG_TOKEN.")
     parser.add_argument("command", choices=["check"])
     parser.add_argument("files", nargs="+")
     parser.add_argument("--url", default=os.environ.get("GROUNDREG_URL", "http://127.0.0.1:8017"))

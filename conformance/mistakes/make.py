@@ -127,7 +127,6 @@ COUNT = TEXT.count("\r\n")
 DICT = ["DICT_TYPE", "DICT_GRP", "DICT_HDNG", "DICT_STAT", "DICT_PGRP"]
 AGS3 = ['"**PROJ"', '"*PROJ_ID","*PROJ_NAME"', '"<UNITS>",""', '"P7","North bank"', "", '"**HOLE"',
         '"*HOLE_ID","*HOLE_TYPE"', '"BH101","CP"', ""]
-OWN = row("DATA", "HEADING", "LOCA", "LOCA_RIG", "OTHER", "")
 
 
 def cases():

@@ -5,7 +5,7 @@
         print(cause.code, cause.subject, cause.value, len(cause.findings), cause.here, cause.fix)"""
 from dataclasses import dataclass
 
-from . import ags, entries, groups, headings, kinds, lines, texts
+from . import entries, groups, headings, lines, texts
 
 # In which order the causes of one phase are fixed: what other findings follow from comes first.
 ORDER = {code: rank for rank, code in enumerate(

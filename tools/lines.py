@@ -1,7 +1,8 @@
 """The command lines of README.md, run as they stand there, in their order.
 
-A block that begins with ```console has them: a line `$ COMMAND`, and below it what the command prints. A line `$ NAME=VALUE` is kept for those behind
-it. A command that ends with `&` goes on beside those behind it; what it prints meanwhile stands below what the next command itself prints."""
+A block that begins with ```console has them: a line `$ COMMAND`, and below it what the command prints. A line `$
+NAME=VALUE` is kept for those behind it. A command that ends with `&` goes on beside those behind it; what it prints
+meanwhile stands below what the next command itself prints."""
 import os
 import re
 import select
@@ -40,7 +41,9 @@ class Session:
     def printed_beside(self, count):
         """So many further lines of the program that goes on beside, or what comes of them in time."""
         out, deadline = b"", time.monotonic() + PATIENCE
-        while self.beside and out.count(b"\n") < count and select.select([self.beside.stdout], [], [], max(0, deadline - time.monotonic()))[0]:
+        while self.beside and out.count(b"\n") < count:
+            if not select.select([self.beside.stdout], [], [], max(0, deadline - time.monotonic()))[0]:
+                break
             piece = os.read(self.beside.stdout.fileno(), 1)
             if not piece:
                 break
@@ -55,7 +58,8 @@ class Session:
             return []
         start = {"cwd": self.folder, "stdout": subprocess.PIPE, "stderr": subprocess.STDOUT}
         if command.endswith("&"):
-            self.beside = subprocess.Popen(["bash", "-c", self.kept + "exec " + command.removesuffix("&")], stdin=subprocess.DEVNULL, **start)
+            self.beside = subprocess.Popen(["bash", "-c", self.kept + "exec " + command.removesuffix("&")],
+                                           stdin=subprocess.DEVNULL, **start)
             return self.printed_beside(len(wanted))
         run = subprocess.run(["bash", "-c", self.kept + command], stdin=subprocess.DEVNULL, timeout=PATIENCE, **start)
         own = as_lines(run.stdout)
@@ -86,7 +90,8 @@ def as_lines(data):
 
 
 def answers(text, folder):
-    """(command, what the document says that it prints, what it prints) of each command; None where the machine lacks its program."""
+    """(command, what the document says that it prints, what it prints) of each command; None where the machine lacks
+    its program."""
     session = Session(folder)
     for command, wanted in blocks(text):
         if not is_there(command):
