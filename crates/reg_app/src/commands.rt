@@ -4,7 +4,7 @@ ghost use Rattle.std.specs.Prelude.{◌≡◌, ◌≤◌, false, length};
 ghost use Rattle.reg_cli.specs.Checking.{ChecksInput};
 ghost use Rattle.reg_cli.specs.Streams.{HaveNotFailed, has_failed};
 
-use crate::serving::{Serving, serve_register, serve_desk};
+use crate::serving::{Serving, serve_desk, serve_register};
 use crate::stores::{create_store, make_private, migrate_store, not_made, open_store};
 use reg_cli::{
     Action, Asker, Fault, Refusal, Session, Watched, Words, ask_deposit, ask_extract, ask_list,
