@@ -9,7 +9,7 @@ ghost use Rattle.reg_desk.specs.Serving.{IsAnswerOfRows, OfHeld, OnlyReads, Serv
 ghost use Rattle.reg_desk.specs.View.{DrawsFile, IsViewOf};
 
 use crate::answer::Answer;
-use crate::serving::{decide_request, are_equal_names, refused};
+use crate::serving::{are_equal_names, decide_request, refused};
 use crate::view::{Look, extract};
 use ags_links::Graph;
 use ags_text::Sequence;

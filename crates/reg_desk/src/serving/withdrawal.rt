@@ -7,7 +7,7 @@ ghost use Rattle.reg_desk.specs.Machine.{held};
 ghost use Rattle.reg_desk.specs.Serving.{OnlyReads, Serves, mark_of};
 
 use crate::answer::Answer;
-use crate::serving::{decide_request, are_equal_names, refused};
+use crate::serving::{are_equal_names, decide_request, refused};
 use reg_policy::{Caller, Day, Decision, Name, Policy, Verb};
 use reg_store::{Keep, KeepError};
 
