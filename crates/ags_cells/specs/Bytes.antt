@@ -19,7 +19,7 @@ capital_e = 69
 abbrev pub small_e : ℕ
 small_e = 101
 
--- what stands between a day and its time
+-- separates a day from its time
 abbrev pub capital_t : ℕ
 capital_t = 84
 

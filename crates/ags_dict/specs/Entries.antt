@@ -103,7 +103,7 @@ is_incomplete group = is_dict group && not (has_dict_headings group.headings)
 abbrev pub lacks_heading : List Contents → Bool
 lacks_heading contents = list_any is_incomplete contents
 
--- ---- what is asked of the entries
+-- ---- look-ups in the entries
 
 -- Rule 7: the group's headings in the order of the dictionary
 abbrev pub order_of : Entries → List ℕ → List (List ℕ)

@@ -26,7 +26,7 @@ places_at places text = option_map_or (λ v. v.items) (found_at places.held text
 abbrev pub rank_at : Ranks → List ℕ → List ℕ → Option ℕ
 rank_at ranks group heading = option_and_then (λ of_group. found_at of_group heading) (found_at ranks.held group)
 
--- the place is kept for the text, behind those kept before, and nothing changes for other texts
+-- the place is kept for the text, after those kept before, and nothing changes for other texts
 abbrev pub NotesPlace : List ℕ → ℕ → PlacesByText → PlacesByText → Type 0
 NotesPlace text place old new = (other : List ℕ) → places_at new other
     ≡ (if bytes_eq text other then places_at old other ++ place ∷ [] else places_at old other)

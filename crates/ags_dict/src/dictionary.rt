@@ -1,4 +1,4 @@
-//! A dictionary's entries, and what is asked of them.
+//! A dictionary's entries, and look-ups in them.
 
 ghost use Rattle.std.specs.Prelude.{◌≡◌, IfOk, map, length, [], option_copied};
 ghost use Rattle.ags_rows.specs.Contents.{place_in};
@@ -19,7 +19,7 @@ pub struct Dictionary {
     pub(crate) headings: HeadingEntries,
 }
 
-// Written out, so that no crate that lets one go proves again how its parts are dropped.
+// Written out, so that no crate that drops one proves again how its parts are dropped.
 impl Drop for Dictionary {
     fn drop(self) {
         let Dictionary {

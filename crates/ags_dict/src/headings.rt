@@ -33,7 +33,7 @@ impl Model for HeadingEntries {
     ghost invariant = { λ h. FindsHeadings h.entries.items h.by_group h.by_heading h.ranks };
 }
 
-/// Notes at which place an entry for a heading of a group stands.
+/// Notes the place of an entry for a heading of a group.
 fn note_place(
     alloc: Global,
     group: &[u8],

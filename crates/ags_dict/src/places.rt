@@ -1,4 +1,4 @@
-//! Where texts stand in a list.
+//! The places of texts in a list.
 
 ghost use Rattle.std.specs.Prelude.{◌≡◌, ℕ, List, [], OnOk, slice_get, None};
 ghost use Rattle.ags_dict.specs.Index.{places_at, rank_at, NotesPlace, NotesRank, PutsRank};
@@ -6,7 +6,7 @@ ghost use Rattle.ags_dict.specs.Index.{places_at, rank_at, NotesPlace, NotesRank
 use std::alloc::{AllocError, Global};
 use std::collections::BTreeMap;
 
-/// For each text, the places of a list at which it stands, rising.
+/// For each text, its places in a list, rising.
 #[derive(Drop)]
 pub(crate) struct PlacesByText {
     pub(crate) held: BTreeMap<Vec<u8>, Vec<usize>>,

@@ -163,7 +163,7 @@ fn dictionary(alloc: Global, source: Source) -> Result<Dictionary, DictError> {
     }
 }
 
-/// Appends texts, each with a space behind it, and a stroke.
+/// Appends texts, each with a space after it, and a stroke.
 fn push_texts(text: &mut Vec<u8>, texts: Result<Vec<&[u8]>, AllocError>) -> Result<(), AllocError> {
     for part in &texts? {
         text.extend_from_slice(part)?;
@@ -226,7 +226,7 @@ const SAID: &[Said] = &[
         b"FILE",
         b"FILE_FSET FILE_NAME FILE_DESC /FILE_FSET FILE_NAME //none",
     ),
-    // other groups stand beside DICT
+    // there are other groups beside DICT
     (
         Source::OtherGroups,
         b"LOCA",
@@ -241,7 +241,7 @@ const SAID: &[Said] = &[
     (Source::Extended, b"NEWG", b"///LOCA"),
 ];
 
-// A function that names a table carries it to each of its points, so tables are handed out by functions of their own.
+// A function that names a table carries it to each of its points, so functions of their own return the tables.
 
 /// What is said of groups.
 fn said_of_groups() -> &'static [Said] {
@@ -290,7 +290,7 @@ const ASKED: &[Asked] = &[
     (Source::Extended, b"SAMP", b"LOCA_XTRA", None, true, true),
 ];
 
-/// What is asked of groups and headings.
+/// The questions about groups and headings.
 fn questions_asked() -> &'static [Asked] {
     ASKED
 }

@@ -1,4 +1,4 @@
--- What stands at a place of a list: `At`, by the place and the item there, and as a member.
+-- The item at a place of a list: `At`, by the place and that item, and as a member.
 use Rattle.std.proofs.Common.{◌≡◌, ℕ, zero, suc, ◌+◌, ◌<◌, List, [], ◌∷◌, ◌++◌, length, get_or, map, take, Some, refl, sym, ◌∙◌, ap, arith}
 use Rattle.std.specs.Prelude.{Contains, slice_get, option_map}
 use Rattle.std.proofs.lemmas.List.{take_more}
@@ -19,7 +19,7 @@ at_read xs k x d at = get_or_from_slice_get xs k x d (at_get xs k x at)
 pub at_from_read : {X : Type 0} (xs : List X) (k : ℕ) (x d : X) → k < length xs → get_or xs k d ≡ x → At xs k x
 at_from_read xs k x d lt is = get_at xs k x (slice_get-get_or xs k d lt ∙ ap Some is)
 
--- one item stands there
+-- a place has one item
 pub at_same : {X : Type 0} (xs : List X) (k : ℕ) (x y : X) → At xs k x → At xs k y → x ≡ y
 at_same xs k x y a b = sym (at_read xs k x x a) ∙ at_read xs k y x b
 
@@ -30,7 +30,7 @@ at_later y xs k x at = (omega (arith, at.0), at.1)
 pub at_earlier : {X : Type 0} (y : X) (xs : List X) (k : ℕ) (x : X) → At (y ∷ xs) (suc k) x → At xs k x
 at_earlier y xs k x at = (omega (arith, at.0), at.1)
 
--- what stands at a place of a list, read off each item
+-- the item at a place of a list, with a function applied to each item
 pub at_map : {X Y : Type 0} (f : X → Y) (xs : List X) (k : ℕ) (x : X) → At xs k x → At (map f xs) k (f x)
 at_map f xs k x at = get_at (map f xs) k (f x) (slice_get-map f xs k ∙ ap (option_map f) (at_get xs k x at))
 
@@ -45,6 +45,6 @@ contains_at xs k x at = (k, at.0, at.1)
 pub at_contained : {X : Type 0} (xs : List X) (x : X) (h : Contains xs x) → At xs h.0 x
 at_contained xs x h = (h.1, h.2)
 
--- up to the next place stands what stands at this one, and before it what stood so far
+-- the items up to the next place are those before this place and the item at it
 pub take_at : {X : Type 0} (xs : List X) (k : ℕ) (x : X) → At xs k x → take (k + 1) xs ≡ take k xs ++ x ∷ []
 take_at {X} xs k x at = take_more xs k x at.0 ∙ ap (λ (y : X). take k xs ++ y ∷ []) at.1

@@ -40,7 +40,7 @@ at_mapped f (z ∷ xs) x (suc k) lt e =
     let h = at_mapped f xs x k (omega (arith, lt)) e in
     (suc h.0, omega (arith, h.1), h.2)
 
--- what a function gives of each of some stands among what it gives of each of all
+-- the values of a function for some items are among its values for all items
 pub mapped_within : {X Y : Type 0} (f : X → Y) (xs ys : List X) → ((x : X) → Contains xs x → Contains ys x) → (y : Y) → Contains (map f xs) y → Contains (map f ys) y
 mapped_within f xs ys within y h =
     let one = mapped_at f xs y h.0 h.1 h.2 in

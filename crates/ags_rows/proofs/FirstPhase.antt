@@ -34,7 +34,7 @@ later_found bytes Stands file rows found parts is clear h =
 
 -- ---- the first phase
 
--- what was noted of the lines' bytes and what stands in their spelling, together
+-- the findings noted of the lines' bytes and those in their spelling, together
 pub rows_strict : (bytes : List ℕ) (lines : List TextLine) (noted : List Finding) (rows : List FileRow) (found : List Finding)
     → Lines (after_byte_order_mark bytes) lines → Adds (StandsInBytes lines) [] noted → AreTaken lines noted rows found → AreRows StandsInLines bytes rows found
 rows_strict bytes lines noted rows found cut first h =
@@ -45,7 +45,7 @@ rows_strict bytes lines noted rows found cut first h =
       listed_all h.1 found (adds_lines lines [] noted h.1 first h.2) h.3,
     )
 
--- what stands in the lines' spelling, and nothing that was noted before
+-- the findings in the lines' spelling, and none noted before
 pub rows_loose : (bytes : List ℕ) (lines : List TextLine) (noted : List Finding) (rows : List FileRow) (found : List Finding)
     → Lines (after_byte_order_mark bytes) lines → noted ≡ [] → AreTaken lines noted rows found → AreRows StandsInLinesLoosely bytes rows found
 rows_loose bytes lines noted rows found cut none h =
@@ -56,7 +56,7 @@ rows_loose bytes lines noted rows found cut none h =
       listed_all h.1 found (adds_same [] h.1 (spelled_loosely lines) (loosely_spelled lines) (subst (λ (l : List Finding). Adds (StandsInSpelling lines) l h.1) none h.2)) h.3,
     )
 
--- ---- the phases together, behind a first phase of whichever kind
+-- ---- the phases together, after a first phase of whichever kind
 
 pub few_rows : (Stands : List TextLine → Finding → Type 0) (bytes : List ℕ) (rows : List FileRow) (found : List Finding) (most : ℕ) → AreRows Stands bytes rows found → length bytes ≤ most → length rows ≤ most
 few_rows Stands bytes rows found most h le = rows_within bytes h.0.lines rows most h.1.lines (subst (λ (r : List FileRow). RowsFrom 1 h.0.lines r) h.2 h.1.rows) le

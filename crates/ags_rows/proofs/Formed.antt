@@ -1,4 +1,4 @@
--- Groups against which nothing stands, and contents that are well formed, are one.
+-- Groups have no finding where their contents are well formed, and the other way round.
 use Rattle.std.proofs.Common.{◌≡◌, ◌≢◌, ℕ, Bool, true, false, List, [], ◌∷◌, length, map, refl, sym, ap, subst, ◌∙◌, inl, inr}
 use Rattle.std.specs.List.{AllByRecursion}
 use Rattle.std.proofs.lemmas.Bool.{cases_eq, true_from_ne_false}
@@ -66,7 +66,7 @@ formed_clear groups w f h =
 
 -- ---- what breaks nothing is well formed
 
--- nothing stands against the groups
+-- the groups have no finding
 abbrev Clear : List Group → Type 0
 Clear groups = (f : Finding) → StandsInGroups groups f → ⊥
 

@@ -1,5 +1,5 @@
 -- What proofs and definitions of the crates above cite of this one, beside its contracts and definitions. Each is proved here: nothing in it has to be believed.
--- What stands at a place of a list, and what a list contains.
+-- The item at a place of a list, and what a list contains.
 pub use Rattle.ags_rows.proofs.AtPlaces.{at_later, at_earlier, at_from_read, at_same, at_map, at_mapped, contains_at, at_contained, take_at}
 pub use Rattle.ags_rows.proofs.Collecting.{none_is, is_one, one_is, before_or_at}
 pub use Rattle.ags_rows.proofs.Written.{all_at}

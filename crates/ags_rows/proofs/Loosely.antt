@@ -6,7 +6,7 @@ use Rattle.ags_rows.specs.Findings.{FileParts, FirstFound, phases, loose_phases,
 use Rattle.ags_rows.specs.Parsing.{later_phases}
 use Rattle.ags_rows.proofs.WellFormed.{clear_first}
 
--- phases in which nothing stands, with Rules 1 and 2a struck out
+-- phases without findings, with Rules 1 and 2a struck out
 loose_first : (file : FileParts) → FirstFound (phases file) [] → FirstFound (loose_phases file) []
 loose_first file h =
     let clear = clear_first (StandsInLines file.lines) (later_phases file.rows file.groups) h in

@@ -1,4 +1,4 @@
--- Names that were met and names that stand earlier in their list.
+-- Names that were met, and names that come earlier in their list.
 use Rattle.std.proofs.Common.{◌≡◌, ℕ, ◌+◌, Bool, true, false, cond, eqb, nat_cmp, List, [], ◌∷◌, length, Option, Some, refl, sym, ap, subst, ◌∙◌, arith, inl, inr}
 use Rattle.std.specs.Prelude.{◌⊎◌, ◌↔◌, is_some, not}
 use Rattle.std.specs.Str.{bytes_eq}

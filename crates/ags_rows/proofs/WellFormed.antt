@@ -1,4 +1,4 @@
--- What stands in a file without findings is well formed.
+-- The contents of a file without findings are well formed.
 use Rattle.std.proofs.Common.{◌≡◌, ◌≢◌, ℕ, suc, ◌+◌, ◌<◌, ◌≤◌, true, false, List, [], ◌∷◌, ◌++◌, get_or, map, flat_map, refl, sym, ap, subst, ◌∙◌, arith, inl, inr}
 use Rattle.std.specs.Prelude.{Any, nat_le, replicate}
 use Rattle.std.specs.List.{AllByRecursion, list_any}
@@ -135,7 +135,7 @@ contents_plain (g ∷ groups) h =
       contents_plain groups (all_right P rows (flat_map rows_of groups) rest),
     )
 
--- ---- texts that stand once
+-- ---- texts that occur once
 
 pub once_apart : (texts : List (List ℕ)) (i j : ℕ) (x y : List ℕ) → StandOnce texts → i < j → At texts i x → At texts j y → x ≡ y → ⊥
 once_apart texts i j x y once lt a b e =
@@ -147,7 +147,7 @@ once_from texts apart i j d lt below e =
 
 -- ---- a file without findings
 
--- nothing stands in the first phase, and the later ones give none
+-- the first phase has no finding, and the later ones give none
 pub clear_first : (Stands : Finding → Type 0) (later : List (Finding → Type 0)) → FirstFound (Stands ∷ later) [] → ((f : Finding) → Stands f → ⊥) × FirstFound later []
 clear_first Stands later (inl h) = absurd (h.1 refl)
 clear_first Stands later (inr h) = h

@@ -263,7 +263,7 @@ rows_written n (g ∷ k ∷ gs) h =
     let rest = flat_map rows_of (groups_from (next + 1) (k ∷ gs)) in
     rows_join n (group_lines g) (empty_line ∷ written_lines (k ∷ gs)) (rows_of (group_from n g)) rest (group_rows n g h.0) (inr (blank_no_row empty_line tt, rows_written (next + 1) (k ∷ gs) h.1))
 
--- ---- what stands in the groups
+-- ---- the contents of the groups
 
 data_contents : (n : ℕ) (rows : List (List (List ℕ))) → map (λ row. row.cells) (data_from n rows) ≡ rows
 unfolding data_from

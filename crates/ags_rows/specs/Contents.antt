@@ -1,4 +1,4 @@
--- What a file holds, without the lines on which it stands.
+-- What a file holds, without its line numbers.
 use Rattle.std.specs.Prelude.{ℕ, List, [], map, position, Option, Some, None, slice_index_or}
 use Rattle.std.specs.Str.{bytes_eq}
 use Rattle.ags_rows.specs.declared.rows.Row.{Row}
@@ -39,6 +39,6 @@ abbrev pub field_at : List (List ℕ) → Option ℕ → List ℕ
 field_at fields None = []
 field_at fields (Some place) = slice_index_or fields place []
 
--- what stands under a heading, null where the heading is absent
+-- the field under a heading, null where the heading is absent
 abbrev pub under : List (List ℕ) → List (List ℕ) → List ℕ → List ℕ
 under headings fields heading = field_at fields (place_in headings heading)

@@ -14,7 +14,7 @@ use Rattle.ags_rows.specs.FindingOrder.{finding_cmp, finding_total}
 abbrev pub bare_finding : Bare → Finding
 bare_finding bare = record { line = bare.line; code = bare.code; subject = [] }
 
--- a finding as a list tells it
+-- a finding as a list reports it
 abbrev pub finding_of : FindingRef → Finding
 finding_of found = record { line = found.line; code = found.code; subject = found.subject.now }
 

@@ -58,7 +58,7 @@ OneListOfGroups =
     × ((bytes : List ℕ) (groups others : List Group) → LooseGroups bytes groups → LooseGroups bytes others
     → groups ≡ others)
 
--- The file that is written has no finding, it has groups, and what stands in them is what was written.
+-- The file that is written has no finding, it has groups, and their contents are what was written.
 abbrev pub IsReadBack : List Contents → Type 0
 IsReadBack contents =
     RowFindings (written_file contents) []
@@ -78,7 +78,7 @@ CleanFileReadsLoosely =
     ((bytes : List ℕ) → RowFindings bytes [] → LooseFindings bytes [])
     × ((bytes : List ℕ) (groups : List Group) → FileGroups bytes groups → LooseGroups bytes groups)
 
--- MINI is the file that is written of its table, which is well formed; it has no finding, and what stands in it is the
+-- MINI is the file that is written of its table, which is well formed. It has no finding, and its contents are the
 -- table.
 abbrev pub MiniIsWritten : Type 0
 MiniIsWritten =

@@ -1,4 +1,4 @@
--- What stands against a file: for each phase its sentences, one for each rule.
+-- The findings of each phase of a file, with one sentence for each rule.
 use Rattle.std.specs.Prelude.{◌≡◌, ◌≢◌, ℕ, ◌+◌, ◌<◌, ◌≤◌, ◌⊎◌, List, [], ◌∷◌, map, Any, Contains, length, false}
 use Rattle.std.specs.List.{AllByRecursion}
 use Rattle.ags_rows.specs.declared.rows.Ending.TheVariants.{Lf}
@@ -33,7 +33,7 @@ abbrev pub LacksFields : List ℕ → Type 0
 LacksFields content = ¬ (IsBlank content) × Lacks carriage_return content × SpellsNoFields content
 
 -- Rule 1: a byte is no ASCII. Rule 2a: the line ends with LF alone. Rule 3: fields spell it, and the first is no
--- descriptor. Rule 5: it is not blank, has no CR, and no fields spell it. Rule 6: a CR stands in it.
+-- descriptor. Rule 5: it is not blank, has no CR, and no fields spell it. Rule 6: it has a CR.
 abbrev pub line_rules : ℕ → TextLine → List (Finding → Type 0)
 line_rules number line =
     Notes number Rule1 [] (Any (λ b. ascii_end ≤ b) line.content)
@@ -43,7 +43,7 @@ line_rules number line =
     ∷ Notes number Rule6 [] (Contains line.content carriage_return)
     ∷ []
 
--- what stands in the lines, which are numbered from 1
+-- a finding of the lines, which are numbered from 1
 abbrev pub StandsInLines : List TextLine → Finding → Type 0
 StandsInLines lines = Among lines (λ place line. OneOf (line_rules (place + 1) line))
 
@@ -51,7 +51,7 @@ StandsInLines lines = Among lines (λ place line. OneOf (line_rules (place + 1) 
 abbrev pub IsStruck : Finding → Type 0
 IsStruck found = (found.code ≡ Rule1) ⊎ (found.code ≡ Rule2a)
 
--- what stands in the lines and is not struck out
+-- a finding of the lines that is not struck out
 abbrev pub StandsInLinesLoosely : List TextLine → Finding → Type 0
 StandsInLinesLoosely lines found = StandsInLines lines found × ¬ (IsStruck found)
 
@@ -71,7 +71,7 @@ StandsInOrder rows =
 
 -- ---- the third phase: each group
 
--- this name of the list stands at an earlier place as well
+-- this name of the list is at an earlier place as well
 abbrev pub IsRepeat : List (List ℕ) → ℕ → List ℕ → Type 0
 IsRepeat names place name = (earlier : ℕ) × (earlier < place) × At names earlier name
 
@@ -92,7 +92,7 @@ name_rules names place group =
     ∷ Notes group.line P1 group.name (IsRepeat names place group.name)
     ∷ []
 
--- A heading, noted at the HEADING row. Rule 19a: it is not right. P2: it stands earlier in the row.
+-- A heading, noted at the HEADING row. Rule 19a: it is not right. P2: it equals an earlier one.
 abbrev pub heading_rules : Group → ℕ → List ℕ → List (Finding → Type 0)
 heading_rules group place heading =
     Notes group.heading_line Rule19a heading (is_heading_name heading ≡ false)
@@ -107,6 +107,6 @@ group_rules names place group =
     ∷ Among group.headings (λ place heading. OneOf (heading_rules group place heading))
     ∷ []
 
--- what stands in the groups of a file
+-- a finding of the groups of a file
 abbrev pub StandsInGroups : List Group → Finding → Type 0
 StandsInGroups groups = Among groups (λ place group. OneOf (group_rules (map (λ g. g.name) groups) place group))

@@ -1,4 +1,4 @@
--- What stands in a file, without the places where it stands, and the file that is written of it.
+-- What a file holds, without its line numbers, and the file that is written of it.
 use Rattle.std.specs.Prelude.{◌≡◌, ◌≢◌, ◌<◌, ℕ, List, [], ◌∷◌, ◌++◌, map, flat_map, length, true}
 use Rattle.std.specs.List.{AllByRecursion, AllPairs}
 use Rattle.ags_rows.specs.declared.rows.Ending.TheVariants.{CrLf}
@@ -64,7 +64,7 @@ pub record IsPlainGroup (group : Contents) : Type 0 where
   pub types : ArePlain group.types
   pub rows : AllByRecursion ArePlain group.rows
 
--- no text stands twice
+-- no text occurs twice
 abbrev pub StandOnce : List (List ℕ) → Type 0
 StandOnce texts = AllPairs (λ text later. text ≢ later) texts
 
@@ -73,7 +73,7 @@ pub record AreUnder (headings fields : List (List ℕ)) : Type 0 where
   pub count : length fields ≡ length headings
   pub plain : ArePlain fields
 
--- Rules 4, 19a: there is a heading, each has a right name, and none stands twice.
+-- Rules 4, 19a: there is a heading, each has a right name, and none occurs twice.
 pub record AreHeadings (headings : List (List ℕ)) : Type 0 where
   pub some : headings ≢ []
   pub named : AllByRecursion (λ heading. is_heading_name heading ≡ true) headings
@@ -92,7 +92,7 @@ pub record IsWellFormedGroup (group : Contents) : Type 0 where
 abbrev pub group_names : List Contents → List (List ℕ)
 group_names groups = map (λ group. group.name) groups
 
--- Contents that can be written and read back: there is a group, each is well formed, and no name stands twice.
+-- Contents that can be written and read back: there is a group, each is well formed, and no name occurs twice.
 pub record IsWellFormed (groups : List Contents) : Type 0 where
   pub some : groups ≢ []
   pub each : AllByRecursion IsWellFormedGroup groups

@@ -1,4 +1,4 @@
-//! What stands against the groups of a file.
+//! The findings of the groups of a file.
 
 ghost use Rattle.std.specs.Prelude.{◌≢◌, [], OnOk};
 ghost use Rattle.ags_rows.specs.declared.code.Code.TheVariants.{Rule4};
@@ -97,7 +97,7 @@ fn note_name<'g>(
     note_repeat(line, Code::P1, name, met, findings)
 }
 
-/// Notes a name that no heading may have, and one that stands before in its row (Rule 19a, P2).
+/// Notes a name that no heading may have, and one that an earlier heading of its row has (Rule 19a, P2).
 fn note_heading<'g>(
     line: u32,
     heading: &'g [u8],
@@ -114,7 +114,7 @@ fn note_heading<'g>(
     note_repeat(line, Code::P2, heading, met, findings)
 }
 
-/// Notes what stands in the headings of a group (Rule 19a, P2).
+/// Notes the findings of the headings of a group (Rule 19a, P2).
 fn note_headings(
     alloc: Global,
     group: &Group,
@@ -129,7 +129,7 @@ fn note_headings(
     Ok(())
 }
 
-/// Notes what stands in a group.
+/// Notes the findings of a group.
 fn note_group<'g>(
     alloc: Global,
     group: &'g Group,
@@ -144,7 +144,7 @@ fn note_group<'g>(
     note_headings(alloc, group, findings)
 }
 
-/// Notes what stands in the groups.
+/// Notes the findings of the groups.
 fn note_groups(
     alloc: Global,
     groups: &[Group],

@@ -1,4 +1,4 @@
-//! Where a name stands in a list of names, looked up in logarithmic time.
+//! The first place of a name in a list of names, looked up in logarithmic time.
 
 ghost use Rattle.std.specs.Prelude.{◌≡◌, IfOk, OnOk, map};
 ghost use Rattle.ags_rows.specs.Contents.{place_in};
@@ -15,7 +15,7 @@ pub struct Places<'n> {
     first: BTreeMap<&'n [u8], usize>,
 }
 
-// Written out, so that no crate that lets one go proves again how its parts are dropped.
+// Written out, so that no crate that drops one proves again how its parts are dropped.
 impl<'n> Drop for Places<'n> {
     fn drop(self) {
         let Places { names: _, first: _ } = self;
@@ -33,7 +33,7 @@ impl<'n> Model for Places<'n> {
     ghost invariant = { λ p. AreFirst p.first (map (λ name. name.now) p.names.items) };
 }
 
-/// Adds a name at a place, unless it stands at an earlier one.
+/// Adds a name at a place, unless it has an earlier one.
 fn add_name<'n>(
     first: &mut BTreeMap<&'n [u8], usize>,
     name: &'n [u8],

@@ -5,28 +5,28 @@ ghost use Rattle.std.specs.List.{list_all};
 ghost use Rattle.ags_text.specs.Bytes.{low_line};
 ghost use Rattle.ags_text.specs.Names.{is_capital, is_digit, is_within, is_group_name, is_heading_name, is_definition};
 
-/// Whether a byte may stand in a group's name.
+/// Whether a byte may be in a group's name.
 fn is_group_letter(letter: u8) -> bool
     ensures { result ≡ (is_capital letter || is_digit letter) }
 {
     letter.is_ascii_uppercase() || letter.is_ascii_digit()
 }
 
-/// Whether a byte may stand in a heading's name.
+/// Whether a byte may be in a heading's name.
 fn is_heading_letter(letter: u8) -> bool
     ensures { result ≡ ((is_capital letter || is_digit letter) || letter == low_line) }
 {
     is_group_letter(letter) || letter == b'_'
 }
 
-/// Whether each byte may stand in a group's name.
+/// Whether each byte may be in a group's name.
 fn has_group_letters(name: &[u8]) -> bool
     ensures { result ≡ list_all (λ b. is_capital b || is_digit b) name.now }
 {
     name.iter().all(|letter| is_group_letter(*letter))
 }
 
-/// Whether each byte may stand in a heading's name.
+/// Whether each byte may be in a heading's name.
 fn has_heading_letters(name: &[u8]) -> bool
     ensures { result ≡ list_all (λ b. (is_capital b || is_digit b) || b == low_line) name.now }
 {

@@ -20,7 +20,7 @@ static LINES: [(&[u8], &str); 11] = [
     (b"\"a\"\r", "none"),
 ];
 
-/// Fields, each with a semicolon behind it.
+/// Fields, each with a semicolon after it.
 fn joined(alloc: Global, fields: &[Cell]) -> Result<String, AllocError> {
     let mut text = String::new(alloc);
     for field in fields {

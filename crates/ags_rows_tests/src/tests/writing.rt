@@ -246,7 +246,7 @@ static FILES: [(&[u8], usize, usize); 4] = [
     (FILE_C, 1153, 49),
 ];
 
-/// Whether a file has so many bytes and lines, and is written again as it stands.
+/// Whether a file has so many bytes and lines, and is written again with the same bytes.
 fn is_written_again(
     alloc: Global,
     file: &[u8],
@@ -282,7 +282,7 @@ fn push_fields(text: &mut Vec<u8>, alloc: Global, line: &[u8]) -> Result<(), All
     Ok(())
 }
 
-/// Appends a field, a row and a line, one behind the other.
+/// Appends a field, a row and a line, one after the other.
 fn push_spelled(text: &mut Vec<u8>, alloc: Global) -> Result<(), AllocError> {
     quote(text, b"a\"b")?;
     push_fields(text, alloc, b"\"a\" , \"b\"")?;
@@ -346,7 +346,7 @@ fn are_cells_or_nothing(alloc: Global, cells: Vec<Cell<'static>>) -> bool {
         && is_group_or_nothing(alloc, cells)
 }
 
-/// Run with each allocation refused in turn by `conformance/refused_tests`.
+/// `conformance/refused_tests` runs this once for each allocation, which fails in that run.
 #[test]
 fn unchanged_on_want_of_memory(rt: HostRuntime) {
     assert!(rt; is_field_or_nothing(rt.alloc()));
