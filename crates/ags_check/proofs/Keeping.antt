@@ -1,4 +1,4 @@
--- Nothing stands in the fourth and the fifth phase against groups whose contents keep the rules.
+-- The fourth and the fifth phase have no finding against groups whose contents keep the rules.
 use Rattle.std.proofs.Common.{ℕ, ◌+◌, List, inl, inr, Contains}
 use Rattle.ags_rows.specs.declared.code.Code.{Code}
 use Rattle.ags_rows.specs.declared.finding.Finding.{Finding}

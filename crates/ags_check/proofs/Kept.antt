@@ -1,4 +1,4 @@
--- The contents of groups against which nothing stands in the fourth and the fifth phase keep the rules.
+-- The contents of groups against which the fourth and the fifth phase have no finding keep the rules.
 use Rattle.std.proofs.Common.{◌≡◌, ℕ, ◌+◌, true, List, refl, sym, ap, subst, ◌∙◌, inl, inr, Contains}
 use Rattle.std.specs.Prelude.{codes}
 use Rattle.std.proofs.lemmas.Bool.{true_from_ne_false}

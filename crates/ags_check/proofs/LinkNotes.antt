@@ -17,7 +17,7 @@ use Rattle.ags_check.specs.RowRules.{IsBrokenLink}
 use Rattle.ags_check.specs.Placing.{InSome}
 use Rattle.ags_check.proofs.EntryNotes.{heading_at, heading_of}
 
--- what stands in the row at a column's place stands under its heading
+-- what is in the row at a column's place is what is under its heading
 pub text_same : (group : Contents) (column : Column) (fields : List (List ℕ)) (text : List ℕ) → IsColumn group column → text ≡ column_text column fields → text ≡ under group.headings fields column.heading.now
 text_same group column fields text is same = same ∙ ap (field_at fields) is.place
 

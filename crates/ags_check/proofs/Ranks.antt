@@ -56,7 +56,7 @@ behind_then order names i name latest None e h b = absurd (true≢false (sym b))
 behind_then order names i name None (Some r) e h b = absurd (true≢false (sym b))
 behind_then order names i name (Some l) (Some r) e h b = (h.1.0, h.1.1, h.1.2, h.1.3, (r, l, e, h.1.4, ltb-true r l b))
 
--- a name behind the latest place is overtaken
+-- a name whose place is before the latest one is overtaken
 pub behind_overtaken : (order names : List (List ℕ)) (i : ℕ) (name : List ℕ) (latest : Option ℕ)
     → IsLatest (place_in order) names i latest → is_behind (place_in order name) latest ≡ true → IsOvertaken order names i name
 behind_overtaken order names i name latest h b = behind_then order names i name latest (place_in order name) refl h b

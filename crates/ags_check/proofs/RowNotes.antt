@@ -27,7 +27,7 @@ same_row rows n r s a b = sym a.1 ∙ get_or_default rows n r s a.0 ∙ b.1
 pub same_group : (rows : List DataRow) (n : ℕ) (r s : DataRow) → At rows n r → At rows n s → r.group ≡ s.group
 same_group rows n r s a b = ap (λ (row : DataRow). row.group) (same_row rows n r s a b)
 
--- the first row of the key stands before a row that repeats it
+-- the first row of the key is before a row that repeats it
 pub repeats_means : (entries : Entries) (file : List Contents) (number first : ℕ) (row : DataRow) → keys_of entries row.group ≢ [] → At (data_rows file) number row
     → IsFirstOfKey (data_rows file) entries number first → IsTrue (ltb first number) ↔ RepeatsKey entries file number row
 repeats_means entries file number first row keyed at is_first = (

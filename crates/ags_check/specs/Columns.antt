@@ -15,7 +15,7 @@ use Rattle.ags_check.specs.declared.rows.columns.Column.{Column}
 abbrev pub IsTyped : Column → Type 0
 IsTyped column = IsTypeCodeOf column.code.now column.cell_type
 
--- where the heading stands, and its unit and type
+-- where the heading is, and its unit and type
 pub record IsColumn (group : Contents) (column : Column) : Type 0 where
   pub place : column.place ≡ place_in group.headings column.heading.now
   pub unit : column.unit.now ≡ unit_over group column.heading.now
@@ -27,11 +27,11 @@ pub record AreColumns (group : Contents) (headings : List (List ℕ)) (columns :
   pub each : All (IsColumn group) columns
   pub heads : map (λ column. column.heading.now) columns ≡ headings
 
--- what stands in a row at the column's place
+-- what is in a row at the column's place
 abbrev pub column_text : Column → List (List ℕ) → List ℕ
 column_text column fields = field_at fields column.place
 
--- A group and the entries that it stands under.
+-- A group and the entries that apply to it.
 pub record Outlined : Type 0 where
   pub group : Group
   pub entries : Entries
@@ -46,7 +46,7 @@ pub record IsOutline (group : Group) (entries : Entries) (own_columns required_c
   pub has_parent : parented ≡ is_some (parent_of entries group.name)
   pub is_data : of_data ≡ not (is_definition group.name)
 
--- the DATA rows of the group stand among these from number `first` on
+-- the DATA rows of the group are among these, from number `first` on
 abbrev pub RowsStand : List DataRow → ℕ → Group → Type 0
 RowsStand rows first group =
     (place : ℕ) (row : Row) → At group.rows place row → At rows (first + place) (headed_row group row)

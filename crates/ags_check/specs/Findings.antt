@@ -13,11 +13,11 @@ use Rattle.ags_check.specs.declared.checking.CheckError.TheVariants as errors
 use Rattle.ags_check.specs.Header.{StandsInDictionary}
 use Rattle.ags_check.specs.RowRules.{StandsInEntries}
 
--- The phases behind those of the rows: a file's groups, against the dictionary given and its extended entries.
+-- The phases after those of the rows: a file's groups, against the dictionary given and its extended entries.
 abbrev pub dictionary_phases : Entries → Entries → List Group → List (Finding → Type 0)
 dictionary_phases given entries groups = StandsInDictionary given entries groups ∷ StandsInEntries entries groups ∷ []
 
--- nothing stands in the phase
+-- the phase has no finding
 abbrev pub IsClear : (Finding → Type 0) → Type 0
 IsClear Stands = (found : Finding) → ¬ (Stands found)
 
@@ -36,7 +36,7 @@ HasFindings result AreThese =
 abbrev pub read_under : Entries → List Contents → DataFile
 read_under given contents = record { contents = contents; entries = extended given contents }
 
--- The bytes have no finding under the entries given, and this is what stands in them.
+-- The bytes have no finding under the entries given, and `file` is what they hold.
 pub record IsCleanFile (given : Entries) (bytes : List ℕ) (file : DataFile) : Type 0 where
   pub groups : List Group
   pub read : FileGroups bytes groups
@@ -56,7 +56,7 @@ pub record CheckedFile : Type 0 where
 abbrev pub file_of : CheckedFile → DataFile
 file_of checked = record { contents = contents_of checked.groups; entries = checked.entries }
 
--- These are the groups of the bytes; what stands in them has no finding; and the graph is its graph.
+-- These are the groups of the bytes; what is in them has no finding; and the graph is its graph.
 pub record IsClean (checked : CheckedFile) : Type 0 where
   pub groups : FileGroups checked.bytes checked.groups
   pub file : IsCleanFile checked.given checked.bytes (file_of checked)

@@ -1,7 +1,7 @@
 -- The fourth phase: what the GROUP rows and HEADING rows of a file, and the DATA rows of TRAN and PROJ, break. No fact
--- here knows a line: `file` is what the file holds, `given` are the entries of the dictionary handed in, `entries`
--- those of it and of the file's DICT. The rules behind them say at which line, with which code and which subject a fact
--- is a finding.
+-- here knows a line: `file` is what the file holds, `given` are the entries of the dictionary passed in, `entries`
+-- those of it and of the file's DICT. The rules below the facts say at which line, with which code and which subject a
+-- fact is a finding.
 use Rattle.std.specs.Prelude.{◌≡◌, ℕ, ◌<◌, List, [], ◌++◌, ◌∷◌, length, codes, true, false, Some, Contains, if◌then◌else◌}
 use Rattle.ags_text.specs.Bytes.{low_line}
 use Rattle.ags_rows.specs.declared.code.Code.{Code}
@@ -37,7 +37,7 @@ StandsBefore order one other =
     (first : ℕ) × (second : ℕ) × (place_in order one ≡ Some first) × (place_in order other ≡ Some second)
     × (first < second)
 
--- Rule 7: the heading is in the group's order, and an earlier heading of the row stands later in that order.
+-- Rule 7: the heading is in the group's order, and an earlier heading of the row comes later in that order.
 abbrev pub IsMisplaced : List (List ℕ) → List (List ℕ) → List ℕ → Type 0
 IsMisplaced order headings heading =
     (place : ℕ) × (earlier : ℕ) × (other : List ℕ) × At headings place heading
@@ -96,7 +96,7 @@ tran_and_proj_rules group place row =
     ∷ []
 
 -- the rules on one group. Rules 9 and 18: the dictionary has no entry for the group; then no other rule that asks the
--- dictionary stands, since it has no parent either. Rule 10c: its parent group is not in the file.
+-- dictionary has a finding, since the group has no parent either. Rule 10c: its parent group is not in the file.
 abbrev pub group_header_rules : Entries → Entries → List Contents → Code → Group → List (Finding → Type 0)
 group_header_rules given entries file unknown group =
     Notes group.line unknown group.name (IsUnknownGroup entries (group_contents group))
@@ -115,7 +115,7 @@ file_rules file =
     ∷ Notes 0 Rule17 (codes "TYPE") (¬ (HasGroup file (codes "TYPE")))
     ∷ []
 
--- what stands in the groups of a file against its dictionary
+-- the findings on the groups of a file against its dictionary
 abbrev pub StandsInDictionary : Entries → Entries → List Group → Finding → Type 0
 StandsInDictionary given entries groups =
     let file = contents_of groups in

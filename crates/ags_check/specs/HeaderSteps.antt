@@ -31,7 +31,7 @@ AtLongSign code heading group =
     Among group.rows (λ place row.
     Notes row.line code heading (IsLongSign (group_contents group) place (fields_of row) heading))
 
--- each DATA row behind the first, where the group has this name; the subject is the name
+-- each DATA row after the first, where the group has this name; the subject is the name
 abbrev pub AtFurtherRows : Code → List ℕ → Group → Finding → Type 0
 AtFurtherRows code name group =
     Among group.rows (λ place row. Notes row.line code name ((group.name ≡ name) × (0 < place)))
@@ -52,7 +52,7 @@ later None other = other
 later (Some place) None = Some place
 later (Some place) (Some other) = Some (max place other)
 
--- whether a place stands before the latest one so far
+-- whether a place is before the latest one so far
 abbrev pub is_behind : Option ℕ → Option ℕ → Bool
 is_behind None latest = false
 is_behind (Some place) None = false
@@ -65,7 +65,7 @@ IsLatest rank names end (Some latest) =
     ((place : ℕ) (name : List ℕ) (this : ℕ) → place < end → At names place name → rank name ≡ Some this → this ≤ latest)
     × ((place : ℕ) × (name : List ℕ) × (place < end) × At names place name × (rank name ≡ Some latest))
 
--- an earlier name of the list stands later in the order than this one, the name at the place
+-- an earlier name of the list comes later in the order than this one, the name at the place
 abbrev pub IsOvertaken : List (List ℕ) → List (List ℕ) → ℕ → List ℕ → Type 0
 IsOvertaken order names place name =
     (earlier : ℕ) × (other : List ℕ) × (earlier < place) × At names earlier other × StandsBefore order name other
@@ -89,7 +89,7 @@ abbrev pub AtUnknown : ℕ → Code → Entries → List ℕ → List (Bor (List
 AtUnknown line code entries group headings =
     AtAbsent line code (map (λ name. name.now) headings) (order_of entries group)
 
--- a heading before which the list has one that stands later in the group's order
+-- a heading before which the list has one that comes later in the group's order
 abbrev pub AtMisplaced : ℕ → Code → Entries → List ℕ → List (Bor (List ℕ)) → Finding → Type 0
 AtMisplaced line code entries group headings =
     let names = map (λ name. name.now) headings in

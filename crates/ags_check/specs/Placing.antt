@@ -1,4 +1,4 @@
--- Where a rule's finding stands: a wrapper for a kind of row puts the line to a fact that knows none.
+-- Where a rule's finding is: a wrapper for a kind of row puts the line to a fact that knows none.
 use Rattle.std.specs.Prelude.{◌≡◌, ℕ, List}
 use Rattle.ags_rows.specs.declared.code.Code.{Code}
 use Rattle.ags_rows.specs.declared.finding.Finding.{Finding}

@@ -1,6 +1,6 @@
 -- The fifth phase: what the UNIT, TYPE and DATA rows of a file break. No fact here knows a line: `file` is what the
--- file holds, `entries` are those of the extended dictionary. What stands under a heading that a group does not have
--- reads as null. The rules behind them say at which line, with which code and which subject a fact is a finding.
+-- file holds, `entries` are those of the extended dictionary. What is under a heading that a group does not have
+-- reads as null. The rules below the facts say at which line, with which code and which subject a fact is a finding.
 use Rattle.std.specs.Prelude.{◌≡◌, ◌≢◌, ℕ, ◌+◌, ◌<◌, List, [], ◌∷◌, codes, false, Some, Contains}
 use Rattle.ags_text.specs.Names.{is_definition}
 use Rattle.ags_rows.specs.declared.code.Code.TheVariants.{Rule8, Rule10a, Rule10b, Rule10c, Rule11c, Rule15, Rule16, Rule17, Rule20}
@@ -51,7 +51,7 @@ IsUnlistedAbbreviation file heading text =
     × ((part : List ℕ) × Contains (parts_at (separators_of file).concatenator text) part
     × ¬ (IsAbbreviation file heading part))
 
--- ---- of what stands over a heading
+-- ---- of what is over a heading
 
 -- the unit and the type over a heading
 abbrev pub unit_over : Contents → List ℕ → List ℕ
@@ -91,7 +91,7 @@ IsUnlistedFileSet file row = (is_definition row.group ≡ false) × (row.group �
 abbrev pub headed_row : Group → Row → DataRow
 headed_row group row = row_in (group_contents group) (fields_of row)
 
--- the rules on what stands over a heading, in the UNIT and the TYPE row
+-- the rules on what is over a heading, in the UNIT and the TYPE row
 abbrev pub unit_and_type_rules : List Contents → Group → List ℕ → List (Finding → Type 0)
 unit_and_type_rules file group heading =
     Notes group.unit_line Rule15 heading (IsUnlistedUnit file (unit_over (group_contents group) heading))
@@ -136,7 +136,7 @@ entry_rules_of entries file first group =
     ∷ Among group.rows (λ place row f. OneOf (data_row_rules entries file group (first + place) row) f)
     ∷ []
 
--- what stands in the UNIT, TYPE and DATA rows of a file
+-- the findings on the UNIT, TYPE and DATA rows of a file
 abbrev pub StandsInEntries : Entries → List Group → Finding → Type 0
 StandsInEntries entries groups =
     let file = contents_of groups in

@@ -26,7 +26,7 @@ pub enum CheckError {
     /// All findings of the first phase that has any, in order.
     #[error("the file has findings")]
     Findings(FindingList),
-    /// Memory is wanting.
+    /// The check is out of memory.
     #[error("out of memory")]
     NoMemory,
 }

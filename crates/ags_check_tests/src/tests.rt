@@ -38,7 +38,7 @@ fn is_replaced(edits: &[Edit], line: usize) -> bool {
     false
 }
 
-/// A file with lines of its own in place of others; the edits stand in the order of the lines.
+/// A file with lines of its own in place of others; the edits are in the order of the lines.
 fn edited(alloc: Global, file: &[u8], edits: &[Edit]) -> Result<Vec<u8>, AllocError> {
     let mut text = Vec::new(alloc);
     let mut line = 1usize;

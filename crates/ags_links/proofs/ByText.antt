@@ -1,4 +1,4 @@
--- Pairs of a text and a row in the order of their texts: what one more pair adds, what a sort leaves, and where the pairs of a text stand.
+-- Pairs of a text and a row, by text: what one more pair adds, what a sort leaves, and where the pairs of a text are.
 use Rattle.std.proofs.Common.{◌≡◌, ℕ, suc, zero, ◌+◌, ◌-◌, ◌<◌, ◌≤◌, Bool, true, false, not, ◌&&◌, cond, List, [], ◌∷◌, ◌++◌, length, map, take, drop, get_or, refl, sym, ap, subst, ◌∙◌, arith, Vec, inl, inr, ◌⊎◌}
 use Rattle.std.specs.declared.alloc.Global.{Global}
 use Rattle.std.specs.declared.cmp.Ordering.{Ordering}
@@ -95,7 +95,7 @@ sorted_keeps xs ys text stable = found_is ys text ∙ ap (map (λ (p : Pair). p.
     | inr none ↦ elim (some_has text xs) [ inl y ↦ by y | inr also ↦ none ∙ sym also ]
   ]
 
--- ---- where the pairs of a text stand
+-- ---- where the pairs of a text are
 
 le_is : (o : Ordering) → is_le (ordering_reverse o) ≡ not (is_lt o)
 le_is Less = refl
@@ -157,7 +157,7 @@ module _ (pairs : List Pair) (text : List ℕ) (sorted : AreInOrder pairs) where
   parted true = parted_upto
   parted false = parted_before
 
-  -- where the last below a place stands before, and the one at it does not
+  -- `stands_before` holds of the last below a place, and not of the one at it
   pub boundary_here : (upto : Bool) (place : ℕ) → place ≤ length pairs → IsEnd upto text pairs place → IsBegin upto text pairs place → IsBoundary upto text pairs place
   boundary_here upto place le low high = (
     le,
@@ -198,12 +198,12 @@ pub rows_alone : (pairs : List Pair) → map (λ (x : List ℕ × ℕ). x.1) (pa
 rows_alone [] = refl
 rows_alone (x ∷ xs) = ap (λ l. x.1 ∷ l) (rows_alone xs)
 
--- the boundary before the pairs of a text is not behind the one behind them
+-- the boundary before the pairs of a text is not after the one that follows them
 ends_later : (pairs : List Pair) (text : List ℕ) (first end : ℕ) → IsBoundary false text pairs first → IsBoundary true text pairs end → end < first → ⊥
 ends_later [] text first end low high lt = omega (arith, low.0, lt)
 ends_later (p ∷ ps) text first end low high lt = true≢false (sym (lt_le (order (key (get_or (p ∷ ps) end p)) text) (low.1.0 end p (omega arith) lt)) ∙ high.1.1 end p (omega arith) (omega (arith, lt, low.0)))
 
--- the pairs of a text stand between its two boundaries
+-- the pairs of a text are between its two boundaries
 pub stand_between : (pairs : List Pair) (text : List ℕ) (first end : ℕ) → IsBoundary false text pairs first → IsBoundary true text pairs end
     → (first ≤ end) × (filter (has text) pairs ≡ take (end - first) (drop first pairs))
 stand_between pairs text first end low high = (

@@ -10,7 +10,7 @@ use Rattle.ags_rows.specs.Parts.{parts_at}
 use Rattle.std.specs.List.{onto_first}
 use Rattle.ags_links.specs.KeyTexts.{end_mark, byte_text, ended_text, key_text}
 
--- no separator stands in the text
+-- no separator is in the text
 none_cut : (s : ℕ) (text : List ℕ) → ((j : ℕ) → j < length text → eqb (get_or text j 0) s ≡ false) → parts_at s text ≡ text ∷ []
 none_cut s [] h = refl
 none_cut s (b ∷ text) h = rw (h 0 (omega arith), none_cut s text (λ j lt. h (suc j) (omega (arith, lt)))) refl

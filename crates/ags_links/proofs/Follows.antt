@@ -10,7 +10,7 @@ use Rattle.ags_links.proofs.Weights.{weigh_turns, weigh_one, degree}
 use Rattle.ags_links.proofs.WalkLemmas.{reach_keeps, reached_more, reached_itself}
 use Rattle.ags_links.proofs.Members.{target_of_step, step_of_target}
 
--- a turn for a row and one for each step that starts at it
+-- one for a row, and one for each step that starts at it
 abbrev pub cost : List (ℕ × ℕ) → ℕ → ℕ
 cost steps r = 1 + degree steps r
 

@@ -1,4 +1,4 @@
--- Where headings stand, and what stands under them.
+-- Where headings are, and what is under them.
 use Rattle.std.proofs.Common.{◌≡◌, ℕ, ◌+◌, ◌<◌, Bool, true, false, cond, ltb, Option, Some, None, List, [], ◌∷◌, ◌++◌, length, take, get_or, map, filter, refl, sym, ap, subst, ◌∙◌, arith, inl, inr, ◌⊎◌, ◌↔◌, Contains, Bor, append-nil}
 use Rattle.std.specs.Prelude.{is_some}
 use Rattle.std.specs.List.{position_or_len}
@@ -38,7 +38,7 @@ pub place_of : (place : Option ℕ) → ((i : ℕ) × (place ≡ Some i)) ⊎ (p
 place_of None = inr refl
 place_of (Some i) = inl (i, refl)
 
--- what has a place is a name, which stands there
+-- what has a place is a name, and is at that place
 pub at_place : (names : List (List ℕ)) (name : List ℕ) (i : ℕ) → place_in names name ≡ Some i → (i < length names) × (get_or names i name ≡ name)
 at_place names name i e =
     let h = position-Some (λ n. bytes_eq n name) names i name e in
@@ -80,7 +80,7 @@ texts_permuted names moved name same h =
 
 -- ---- entries
 
--- what stands at the places of headings is what stands under the headings
+-- what is at the places of headings is what is under the headings
 pub entries_at : (row : DataRow) (headings : List (List ℕ)) → map (field_at row.fields) (map (place_in row.headings) headings) ≡ map (entry_of row) headings
 entries_at row [] = refl
 entries_at row (h ∷ headings) = ap (λ es. entry_of row h ∷ es) (entries_at row headings)

@@ -56,7 +56,7 @@ inside_rows groups entries rows kept parents spans firsts by_key by_file_set sep
 pub rows_below : (rows : List PlacedRow) (found : List DataRow) (n : ℕ) → map row_of rows ≡ found → n < length found → n < length rows
 rows_below rows found n e lt = subst (λ count. n < count) (sym (ap length e) ∙ length-map rows row_of) lt
 
--- the group of a row stands at its place
+-- the group of a row is at the row's place
 pub group_at : (groups : List Group) (rows : List PlacedRow) (found : List DataRow) (n : ℕ) (x : PlacedRow) → map row_of rows ≡ found → n < length found → All (IsPlaced groups) rows → x ≡ get_or rows n x → At groups x.place x.group.now
 group_at groups rows found n x e lt placed is = placed_at groups rows n x placed (rows_below rows found n e lt, sym is)
 

@@ -42,7 +42,7 @@ rows_counted (g ∷ groups) =
 pub kept_counted : (groups : List Group) (rows : List PlacedRow) → map row_of rows ≡ data_rows (contents_of groups) → length rows ≡ row_count groups
 kept_counted groups rows e = sym (length-map rows row_of) ∙ ap length e ∙ rows_counted groups
 
--- a kept row's group stands at its place
+-- a kept row's group is at the row's place
 pub placed_at : (groups : List Group) (rows : List PlacedRow) (i : ℕ) (x : PlacedRow) → All (IsPlaced groups) rows → At rows i x → At groups x.place x.group.now
 placed_at groups rows i x placed h = subst (IsPlaced groups) h.1 (placed i x h.0)
 
@@ -122,7 +122,7 @@ first_of_group by_group rows group numbers x finds e lt at =
     let h = (finds.exact group n).0 (subst (λ l. Contains l n) e (Contains-get_or numbers 0 0 lt)) in
     ap (λ (r : DataRow). r.group) (one_at (map row_of rows) n (row_of x) h.0 (at_map row_of rows n x at) h.1) ∙ h.2
 
--- ---- the headings of a list that stand in a HEADING row
+-- ---- the headings of a list that are in a HEADING row
 
 pub filter_push : (p : List ℕ → Bool) (xs : List (List ℕ)) (x : List ℕ) → filter p (xs ++ x ∷ []) ≡ filter p xs ++ cond (p x) (x ∷ []) []
 filter_push p [] x = by_test (p x) where

@@ -1,5 +1,5 @@
 -- What proofs and definitions of the crates above cite of this one, beside its contracts and definitions. Each is proved here: nothing in it has to be believed.
--- What a list contains, and what stands at a place of it.
+-- What a list contains, and what is at a place of it.
 pub use Rattle.ags_links.proofs.Members.{contains_head, contains_tail, contains_cons, contains_map, map_contains}
 pub use Rattle.ags_rows.proofs.Lemmas.{at_map}
 pub use Rattle.ags_links.proofs.RowLemmas.{one_at, some_at, map_at}

@@ -122,7 +122,7 @@ link_lists file r heading parts found once cut adds same rises =
 
 -- ---- going over the parts of a cell
 
--- the parts of what stands in the row under a heading
+-- the parts of what is in the row under a heading
 abbrev pub ArePartsOf : DataFile → DataRow → List ℕ → List (Bor (List ℕ)) → Type 0
 ArePartsOf file r heading parts = (part : List ℕ) → Contains (texts parts) part ↔ IsPartOf (separators_of file.contents) r heading part
 

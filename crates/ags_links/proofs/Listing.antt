@@ -1,4 +1,4 @@
--- The parent rows of each row, once the texts that they were found by are let go.
+-- The parent rows of each row, once the texts that they were found by are dropped.
 use Rattle.std.proofs.Common.{◌≡◌, ℕ, ◌-◌, List, length, take, drop, map, refl, sym, ap, subst, ◌∙◌, arith, All, Vec}
 use Rattle.std.specs.declared.alloc.Global.{Global}
 use Rattle.std.proofs.lemmas.List.{length-map, take-map, drop-map}

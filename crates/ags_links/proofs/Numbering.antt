@@ -9,7 +9,7 @@ use Rattle.ags_links.specs.Laws.{RowsAreNumbered, RowsStandOnce, RowsBeforeAddUp
 use Rattle.ags_links.proofs.RowLemmas.{some_at, map_at}
 use Rattle.ags_rows.proofs.Lemmas.{at_map}
 
--- ---- rows behind other rows
+-- ---- rows after other rows
 
 pub front_row : (xs ys : List DataRow) (k : ℕ) (r : DataRow) → At xs k r → At (xs ++ ys) k r
 front_row xs ys k r at = (omega (arith, at.0, length-append xs ys), get_or_append_left xs ys r k at.0 ∙ at.1)

@@ -1,4 +1,4 @@
--- The parts of record links: of all that stands in a row, and each once.
+-- The parts of record links: of all that is in a row, and each once.
 use Rattle.std.proofs.Common.{◌≡◌, ℕ, ◌+◌, ◌<◌, ◌≤◌, List, [], ◌∷◌, ◌++◌, length, get_or, map, Option, Some, sym, ap, subst, ◌∙◌, arith, inl, inr, ◌↔◌, Contains, codes}
 use Rattle.std.specs.Str.{bytes_eq}
 use Rattle.std.proofs.lemmas.Bool.{cases_lt}
@@ -15,9 +15,9 @@ use Rattle.ags_links.specs.declared.separators.Separators.{Separators}
 use Rattle.ags_links.proofs.Heading.{at_place, name_placed}
 use Rattle.ags_links.proofs.Members.{contains_map, map_contains, contains_filter, filter_contains}
 
--- ---- the parts of what stands at some places
+-- ---- the parts of what is at some places
 
--- these are the parts of what stands at the places
+-- these are the parts of what is at the places
 abbrev pub ArePartsAt : ℕ → DataRow → List (Option ℕ) → List (List ℕ) → Type 0
 ArePartsAt separator row places parts = (part : List ℕ) → Contains parts part ↔ IsPartAmong separator row places part
 
@@ -49,7 +49,7 @@ null_place separator row places old place so_far null part = (
   ],
 )
 
--- at the places of the headings of type RL stand the row's record links
+-- the row's record links are at the places of the headings of type RL
 pub linked_part : (separators : Separators) (row : DataRow) (links : List (Option ℕ)) (part : List ℕ) → links ≡ map (place_in row.headings) (record_links row.headings row.types)
     → IsPartAmong separators.concatenator row links part ↔ IsLinkedPart separators row part
 linked_part separators row links part e = (
@@ -73,7 +73,7 @@ linked_part separators row links part e = (
 
 -- ---- each text once
 
--- each text that stands first before the next place is taken, and no other
+-- each text whose first place is before the next place is taken, and no other
 pub record TakesFirst (texts : List (List ℕ)) (next : ℕ) (once : List (List ℕ)) : Type 0 where
   pub only : (text : List ℕ) → Contains once text → Contains texts text
   pub each : (text : List ℕ) (place : ℕ) → place_in texts text ≡ Some place → place < next → Contains once text

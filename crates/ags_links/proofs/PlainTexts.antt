@@ -1,4 +1,4 @@
--- Texts in which no byte is a mark: they stand in a key as they are.
+-- Texts in which no byte is a mark: they are in a key as they are.
 use Rattle.std.proofs.Common.{◌≡◌, ℕ, ◌<◌, suc, false, List, [], ◌∷◌, ◌++◌, All, cond, flat_map, refl, ap, ◌∙◌, arith, tests}
 use Rattle.std.specs.Prelude.{nat_le}
 use Rattle.ags_links.specs.KeyTexts.{byte_text}

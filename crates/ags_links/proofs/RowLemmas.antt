@@ -1,18 +1,18 @@
--- What stands where in a list.
+-- What is where in a list.
 use Rattle.std.proofs.Common.{◌≡◌, ℕ, zero, suc, ◌<◌, List, [], ◌∷◌, ◌++◌, length, get_or, map, refl, sym, ap, ◌∙◌, arith, inl, inr, ◌⊎◌}
 use Rattle.std.proofs.lemmas.List.{length_push, get_or_default}
 use Rattle.ags_rows.specs.Collecting.{At}
 use Rattle.ags_rows.proofs.Lemmas.{at_map}
 
--- one thing stands at a place
+-- one thing is at a place
 pub one_at : {X : Type 0} (xs : List X) (n : ℕ) (r s : X) → At xs n r → At xs n s → r ≡ s
 one_at xs n r s h k = sym h.1 ∙ get_or_default xs n r s h.0 ∙ k.1
 
--- what stands at a place
+-- what is at a place
 pub read_at : {X : Type 0} (xs : List X) (n : ℕ) (d : X) → n < length xs → At xs n (get_or xs n d)
 read_at xs n d lt = (lt, get_or_default xs n (get_or xs n d) d lt)
 
--- something stands at each place
+-- something is at each place
 pub some_at : {X : Type 0} (xs : List X) (n : ℕ) → n < length xs → (x : X) × At xs n x
 some_at [] n lt = absurd (omega arith)
 some_at (x ∷ xs) zero lt = (x, (lt, refl))
@@ -30,7 +30,7 @@ pub at_last : {X : Type 0} (xs : List X) (x : X) → At (xs ++ x ∷ []) (length
 at_last [] x = (omega arith, refl)
 at_last (y ∷ xs) x = let k = at_last xs x in (omega (arith, k.0), k.1)
 
--- it stands there before, or is the last
+-- it was there before, or is the last
 pub at_cases : {X : Type 0} (xs : List X) (x : X) (n : ℕ) (r : X) → At (xs ++ x ∷ []) n r → At xs n r ⊎ ((n ≡ length xs) × (x ≡ r))
 at_cases [] x zero r h = inr (refl, h.1)
 at_cases [] x (suc n) r h = absurd (omega (arith, h.0))
@@ -40,6 +40,6 @@ at_cases (y ∷ xs) x (suc n) r h = elim (at_cases xs x n r (omega (arith, h.0),
   | inr k ↦ inr (ap suc k.0, k.1)
 ]
 
--- what stands in a list that is made of another was made of what stands there
+-- what is at a place of a list made of another was made of what is at that place of the other
 pub map_at : {X Y : Type 0} (f : X → Y) (xs : List X) (n : ℕ) (x : X) (y : Y) → At xs n x → At (map f xs) n y → f x ≡ y
 map_at f xs n x y h k = one_at (map f xs) n (f x) y (at_map f xs n x h) k

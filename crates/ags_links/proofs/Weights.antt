@@ -98,6 +98,6 @@ weigh_degree (p ∷ steps) marks =
     let split = weigh_from_same (degree (p ∷ steps)) (λ r. at_row p.0 r + degree steps r) (degree_cons p steps) 0 marks in
     omega (arith, split, weigh_from_add (at_row p.0) (degree steps) 0 marks, weigh_from_at p.0 p.0 0 marks zero_more, weigh_degree steps marks, sum_by-cons (λ (q : ℕ × ℕ). cond (get_or marks q.0 false) 1 0) p steps)
 
--- a turn for each marked row, and one for each step that starts at one
+-- one for each marked row, and one for each step that starts at one
 pub weigh_turns : (steps : List (ℕ × ℕ)) (marks : List Bool) → weigh (λ r. 1 + degree steps r) marks ≡ turns_of marks steps
 weigh_turns steps marks = omega (arith, weigh_from_add (λ _. 1) (degree steps) 0 marks, weigh_one marks, weigh_degree steps marks)

@@ -29,7 +29,7 @@ group_rows group = map (row_in group) group.rows
 abbrev pub data_rows : List Contents → List DataRow
 data_rows contents = flat_map group_rows contents
 
--- how many DATA rows stand in the groups before this place
+-- how many DATA rows are in the groups before this place
 abbrev pub rows_before : List Contents → ℕ → ℕ
 rows_before file place = length (data_rows (take place file))
 
@@ -44,7 +44,7 @@ pub record IsRowOfGroup (file : List Contents) (n : ℕ) (row : DataRow) : Type 
   pub number : n ≡ rows_before file group_place + place
   pub same : row_in group fields ≡ row
 
--- what stands in the row under a heading; null where the heading is absent
+-- what is in the row under a heading; null where the heading is absent
 abbrev pub entry_of : DataRow → List ℕ → List ℕ
 entry_of row heading = under row.headings row.fields heading
 

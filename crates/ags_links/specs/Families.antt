@@ -1,4 +1,4 @@
--- What the index keeps: which row has which text, and what stands where in the rows of each group.
+-- What the index keeps: which row has which text, and what is where in the rows of each group.
 use Rattle.std.specs.Prelude.{◌≡◌, ◌<◌, ℕ, List, ◌∷◌, Bool, Contains, map, filter, length, codes, is_some}
 use Rattle.std.specs.Str.{bytes_eq}
 use Rattle.ags_rows.specs.Contents.{place_in, under}
@@ -59,7 +59,7 @@ pub record AreKept {G X : Type 0} (groups : List G) (kept : List X) (Has : ℕ �
 abbrev pub AreFamilies : Entries → List Group → List Family → Type 0
 AreFamilies entries groups families = AreKept groups families (λ place. IsFamily entries)
 
--- what is kept for the row's group stands at its place
+-- what is kept for the row's group is at the group's place
 abbrev pub HasFamily : Entries → List Family → PlacedRow → Type 0
 HasFamily entries families row =
     (row.place < length families) × ((family : Family) → At families row.place family

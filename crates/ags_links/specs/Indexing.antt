@@ -1,4 +1,4 @@
--- What an index keeps, and what is asked of it by the numbers of rows.
+-- What an index keeps, and what it answers where rows are given by number.
 use Rattle.std.specs.Prelude.{◌≡◌, ◌≢◌, ◌<◌, ◌^◌, ◌↔◌, ℕ, List, Bool, All, Contains, IsTrue, codes, false, map, length}
 use Rattle.std.specs.Borrow.{Bor}
 use Rattle.ags_rows.specs.declared.rows.Group.{Group}
@@ -77,7 +77,7 @@ abbrev pub IsFileStepAt : DataFile → ℕ → ℕ → Type 0
 IsFileStepAt file =
     RowsRelate (rows_in file) (λ r s. (is_definition r.group ≡ false) × (r.group ≢ codes "FILE") × IsFileRow r s)
 
--- the list has exactly the parts of what stands in row n under the heading
+-- the list has exactly the parts of what is in row n under the heading
 abbrev pub ListsPartsAt : DataFile → ℕ → List ℕ → List (Bor (List ℕ)) → Type 0
 ListsPartsAt file n heading parts = (r : DataRow) → At (rows_in file) n r
     → ListsTexts parts (links.IsPartOf (links.separators_of file.contents) r heading)
@@ -87,7 +87,7 @@ abbrev pub ListsLinkedPartsAt : DataFile → ℕ → List (Bor (List ℕ)) → T
 ListsLinkedPartsAt file n parts = (r : DataRow) → At (rows_in file) n r
     → ListsTexts parts (IsLinkedPart (links.separators_of file.contents) r)
 
--- the answer says whether some part of what stands in row n under the heading names no row
+-- the answer says whether some part of what is in row n under the heading names no row
 abbrev pub TellsIfBroken : DataFile → ℕ → List ℕ → Bool → Type 0
 TellsIfBroken file n heading answer = (r : DataRow) → At (rows_in file) n r
     → IsTrue answer ↔ links.IsBroken file.entries (links.separators_of file.contents) (rows_in file) r heading

@@ -1,5 +1,5 @@
--- Lists of texts as one text, in which no two lists are alike: a zero ends each text, and a zero or a one of a text
--- itself stands behind a one.
+-- Lists of texts as one text, in which no two lists are alike: a zero ends each text, and a one comes before each
+-- zero or one of a text itself.
 use Rattle.std.specs.Prelude.{ℕ, List, [], ◌∷◌, ◌++◌, nat_le, flat_map, if◌then◌else◌}
 
 abbrev pub end_mark : ℕ

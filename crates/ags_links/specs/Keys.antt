@@ -7,7 +7,7 @@ use Rattle.ags_links.specs.DataRows.{DataRow, entry_of, RowsRelate}
 abbrev pub key_of : Entries → DataRow → List (List ℕ)
 key_of entries row = map (entry_of row) (keys_of entries row.group)
 
--- s stands in the group of r and has an equal key
+-- s is in the group of r and has an equal key
 abbrev pub HasKeyOf : Entries → DataRow → DataRow → Type 0
 HasKeyOf entries r s = (s.group ≡ r.group) × (key_of entries s ≡ key_of entries r)
 

@@ -18,7 +18,7 @@ RowsStandOnce =
     (here : IsRowOfGroup file n row) (there : IsRowOfGroup file n other)
     → (here.group_place ≡ there.group_place) × (here.place ≡ there.place)
 
--- Before the next group stand the rows that stand before this one, and its own; all of them are rows of the file.
+-- The rows before the next group are those before this one, and its own; all of them are rows of the file.
 abbrev pub RowsBeforeAddUp : Type 0
 RowsBeforeAddUp = (file : List Contents) (place : ℕ) (group : Contents) → At file place group
     → (rows_before file (place + 1) ≡ rows_before file place + length group.rows)

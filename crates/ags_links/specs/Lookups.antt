@@ -29,22 +29,22 @@ pub record AreByText (pairs : List (Vec ℕ Global × ℕ)) (rows : List ℕ) : 
   pub sorted : AreInOrder pairs
   pub alone : rows ≡ map (λ p. p.1) pairs
 
--- the pair stands before those of the text; where these count, not behind them
+-- the pair is before those of the text; where these count, not after them
 abbrev pub stands_before : Bool → List ℕ → Vec ℕ Global × ℕ → Bool
 stands_before false text p = is_lt (slice_cmp nat_cmp p.0.items text)
 stands_before true text p = is_le (slice_cmp nat_cmp p.0.items text)
 
--- the last below the place, if there is one, stands before
+-- `stands_before` holds of the last below the place, if there is one
 abbrev pub IsEnd : Bool → List ℕ → List (Vec ℕ Global × ℕ) → ℕ → Type 0
 IsEnd upto text pairs place =
     (d : Vec ℕ Global × ℕ) → 0 < place → stands_before upto text (slice_index_or pairs (place - 1) d) ≡ true
 
--- the one at the place, if there is one, does not
+-- it does not hold of the one at the place, if there is one
 abbrev pub IsBegin : Bool → List ℕ → List (Vec ℕ Global × ℕ) → ℕ → Type 0
 IsBegin upto text pairs place =
     (d : Vec ℕ Global × ℕ) → place < length pairs → stands_before upto text (slice_index_or pairs place d) ≡ false
 
--- those below the place stand before, and no others
+-- `stands_before` holds of those below the place, and of no others
 abbrev pub IsBoundary : Bool → List ℕ → List (Vec ℕ Global × ℕ) → ℕ → Type 0
 IsBoundary upto text pairs place =
     (place ≤ length pairs)
@@ -67,7 +67,7 @@ pub record Finds (lookup : Lookup) (Has : ℕ → List ℕ → Type 0) : Type 0 
   pub rising : (text : List ℕ) → IsStrictlyIncreasing (found lookup text)
   pub exact : (text : List ℕ) (n : ℕ) → Contains (found lookup text) n ↔ Has n text
 
--- for each text that is asked of it the rows that have it, rising
+-- for each text that is asked for, the rows that have it, rising
 pub record FindsAsked (lookup : Lookup) (IsAsked : List ℕ → Type 0) (Has : ℕ → List ℕ → Type 0) : Type 0 where
   pub rising : (text : List ℕ) → IsStrictlyIncreasing (found lookup text)
   pub exact : (text : List ℕ) → IsAsked text → (n : ℕ) → Contains (found lookup text) n ↔ Has n text
@@ -77,7 +77,7 @@ abbrev pub HasOneText : Lookup → Type 0
 HasOneText lookup =
     (n : ℕ) (text other : List ℕ) → Contains (found lookup text) n → Contains (found lookup other) n → text ≡ other
 
--- at the place of each row stands the first row that has its text
+-- at the place of each row is the first row that has its text
 abbrev pub AreFirstWith : Lookup → List ℕ → Type 0
 AreFirstWith lookup firsts =
     (text : List ℕ) (n : ℕ) → Contains (found lookup text) n

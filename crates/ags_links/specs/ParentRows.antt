@@ -85,7 +85,7 @@ IsAmongUsers Nobody n = ⊥
 IsAmongUsers (One m) n = m ≡ n
 IsAmongUsers Many n = Unit {0}
 
--- a user that is told is among so many rows
+-- where there is just one user, it is among so many rows
 abbrev pub AreUsersBelow : ℕ → Users → Type 0
 AreUsersBelow count Nobody = Unit {0}
 AreUsersBelow count (One n) = n < count

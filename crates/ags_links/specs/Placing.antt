@@ -11,7 +11,7 @@ use Rattle.ags_links.specs.declared.placed.PlacedRow.{PlacedRow}
 abbrev pub row_of : PlacedRow → DataRow
 row_of kept = row_in (group_contents kept.group.now) (fields_of kept.row.now)
 
--- the row's group stands at its place in the file
+-- the row's group is at its place in the file
 abbrev pub IsPlaced : List Group → PlacedRow → Type 0
 IsPlaced groups kept = (kept.place < length groups) × (slice_index_or groups kept.place kept.group.now ≡ kept.group.now)
 
@@ -20,7 +20,7 @@ abbrev pub AddsGroupRows : List Group → ℕ → List PlacedRow → List Placed
 AddsGroupRows groups place old new = (d : Group) → map row_of new
     ≡ map row_of old ++ group_rows (group_contents (slice_index_or groups place d))
 
--- what stands in the row at the places
+-- what is in the row at the places
 abbrev pub fields_at : List (Option ℕ) → PlacedRow → List (List ℕ)
 fields_at places row = map (field_at (row_of row).fields) places
 
@@ -32,7 +32,7 @@ HaveEqualEntries row places other other_places = fields_at places row ≡ fields
 abbrev pub ListsTexts : List (Bor (List ℕ)) → (List ℕ → Type 0) → Type 0
 ListsTexts texts IsOne = (text : List ℕ) → Contains (map (λ t. t.now) texts) text ↔ IsOne text
 
--- a part of what stands in the row at one of the places; a null has none
+-- a part of what is in the row at one of the places; a null has none
 abbrev pub IsPartAmong : ℕ → DataRow → List (Option ℕ) → List ℕ → Type 0
 IsPartAmong separator row places part =
     (place : Option ℕ) × Contains places place × (field_at row.fields place ≢ [])

@@ -12,7 +12,7 @@ use Rattle.ags_rows.specs.Collecting.{At}
 use Rattle.ags_links.specs.DataRows.{DataRow, entry_of}
 use Rattle.ags_links.specs.Keys.{key_of}
 
--- `|`, which stands between pieces where TRAN does not say otherwise
+-- `|`, which separates pieces where TRAN does not say otherwise
 abbrev pub bar : ℕ
 bar = 124
 
@@ -20,7 +20,7 @@ bar = 124
 abbrev pub one_character : List ℕ → ℕ → ℕ
 one_character entry usual = if length entry == 1 then slice_index entry 0 else usual
 
--- what stands under a heading in the first DATA row of TRAN; null where TRAN or the row is absent
+-- what is under a heading in the first DATA row of TRAN; null where TRAN or the row is absent
 abbrev pub first_entry : Option Contents → List ℕ → List ℕ
 first_entry tran heading =
     option_map_or (λ group. under group.headings (slice_index_or group.rows 0 []) heading) tran []
@@ -41,7 +41,7 @@ separators_of contents =
 abbrev pub Names : Entries → ℕ → List ℕ → DataRow → Type 0
 Names entries delimiter part s = parts_at delimiter part ≡ s.group ∷ key_of entries s
 
--- a part of what stands in the row under a heading, read as a record link
+-- a part of what is in the row under a heading, read as a record link
 abbrev pub IsPartOf : Separators → DataRow → List ℕ → List ℕ → Type 0
 IsPartOf separators row heading part = Contains (parts_at separators.concatenator (entry_of row heading)) part
 
@@ -49,7 +49,7 @@ IsPartOf separators row heading part = Contains (parts_at separators.concatenato
 abbrev pub NamesAt : Entries → Separators → List DataRow → List ℕ → ℕ → Type 0
 NamesAt entries separators rows part n = (s : DataRow) × At rows n s × Names entries separators.delimiter part s
 
--- some part of what stands in the row under the heading names no row
+-- some part of what is in the row under the heading names no row
 abbrev pub IsBroken : Entries → Separators → List DataRow → DataRow → List ℕ → Type 0
 IsBroken entries separators rows row heading =
     (part : List ℕ) × IsPartOf separators row heading part × ((n : ℕ) → ¬ (NamesAt entries separators rows part n))

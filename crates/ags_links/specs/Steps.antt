@@ -43,11 +43,11 @@ Step entries separators r s = IsParentRow entries r s
 abbrev pub StepAt : DataFile → ℕ → ℕ → Type 0
 StepAt file n m = RowsRelate (data_rows file.contents) (Step file.entries (separators_of file.contents)) n m
 
--- one step stands before another: by the row that it starts at, then by the row that it ends at
+-- one step is before another: by the row that it starts at, then by the row that it ends at
 abbrev pub IsBefore : ℕ × ℕ → ℕ × ℕ → Type 0
 IsBefore p q = (p.0 < q.0) ⊎ ((p.0 ≡ q.0) × (p.1 < q.1))
 
--- each step stands before all behind it
+-- each step is before all that follow it
 abbrev pub AreAscending : List (ℕ × ℕ) → Type 0
 AreAscending [] = Unit {0}
 AreAscending (p ∷ steps) = AllByRecursion (IsBefore p) steps × AreAscending steps

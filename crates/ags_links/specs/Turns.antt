@@ -1,4 +1,4 @@
--- How many turns a closure takes: a turn takes one row from the work list, or looks at one step beside a row taken.
+-- How many turns a closure takes: in each it takes one row from the work list, or looks at one step beside a row taken.
 use Rattle.std.specs.Prelude.{ℕ, ◌+◌, List, Bool, true, false, not, slice_index_or, count_by}
 
 -- the marked rows, and the steps that start at them

@@ -13,7 +13,7 @@ pub fn reached(alloc: Global, graph: &Graph, from: &[bool]) -> Result<(Vec<bool>
     requires { length from.now ≡ graph.now.rows }
     ensures rows { IfOk result (λ out. length out.0.items ≡ graph.now.rows) }
     ensures marks { IfOk result (λ out. AreReachedFrom graph.now.steps from.now out.0.items) }
-    // a turn for each reached row, and one for each step that starts at one
+    // one for each reached row, and one for each step that starts at one
     ensures turns { IfOk result (λ out. out.1 ≡ turns_of out.0.items graph.now.steps) }
     ensures few_turns { IfOk result (λ out. out.1 ≤ graph.now.rows + length graph.now.steps) }
 {
@@ -29,7 +29,7 @@ pub fn shown(
     requires { length permitted.now ≡ graph.now.rows }
     ensures rows { IfOk result (λ out. length out.0.items ≡ graph.now.rows) }
     ensures marks { IfOk result (λ out. AreShownUnder graph.now permitted.now out.0.items) }
-    // a turn for each row that is not shown, and one for each step that ends at one
+    // one for each row that is not shown, and one for each step that ends at one
     ensures turns { IfOk result (λ out. out.1 ≡ hidden_turns out.0.items graph.now.steps) }
     ensures few_turns { IfOk result (λ out. out.1 ≤ graph.now.rows + length graph.now.steps) }
 {
@@ -76,7 +76,7 @@ fn spread(
     Ok((marks, turns))
 }
 
-/// What stands beside each row: where its steps lead, in their order.
+/// What is beside each row: where its steps lead, in their order.
 fn adjacent(alloc: Global, rows: usize, steps: &[(u32, u32)]) -> Result<Vec<Vec<u32>>, AllocError>
     requires { InRange rows steps.now }
     ensures rows { IfOk result (λ beside. length beside.items ≡ rows) }
@@ -108,7 +108,7 @@ fn marked_rows(alloc: Global, marks: &[bool]) -> Result<Vec<u32>, AllocError>
     Ok(work)
 }
 
-/// Looks at each step beside a row, a turn each: where it leads is marked, and put on the work list if it was not.
+/// Looks at each step beside a row, and counts it: where it leads is marked, and put on the work list if it was not.
 fn look(
     beside: &[u32],
     marks: &mut [bool],
@@ -130,7 +130,7 @@ fn look(
     Ok(())
 }
 
-/// Empties the work list, a turn for each row taken and each step looked at.
+/// Empties the work list, and counts each row taken and each step looked at.
 fn follow(
     steps: &[(u32, u32)],
     beside: &[Vec<u32>],

@@ -1,4 +1,4 @@
-//! What the index keeps for each group: where its headings stand; and the rows by group, by key and by file set.
+//! What the index keeps for each group: where its headings are; and the rows by group, by key and by file set.
 
 ghost use Rattle.std.specs.Prelude.{◌≡◌, ◌<◌, ◌^◌, IfOk, All, length, map};
 ghost use Rattle.ags_rows.specs.Contents.{place_in};
@@ -33,7 +33,7 @@ pub(crate) struct KeyedRows {
     pub(crate) by_file_set: Lookup,
 }
 
-/// Where the names stand among the headings.
+/// Where the names are among the headings.
 pub(crate) fn places_of(
     alloc: Global,
     headings: &Places<'_>,
@@ -44,7 +44,7 @@ pub(crate) fn places_of(
     names.iter().map(|name| headings.find(name)).collect(alloc)
 }
 
-/// Where the group's headings of type RL stand.
+/// Where the group's headings of type RL are.
 fn record_links(
     alloc: Global,
     headings: &Places<'_>,

@@ -33,7 +33,7 @@ pub struct Index<'s, 'f, 'd> {
     rows: Vec<PlacedRow<'s, 'f>>,
     families: Vec<Family<'s, 'd>>,
     parents: ParentLists,
-    // where the parent rows of each row stand among the rows of the look-up of its group
+    // where the parent rows of each row are among the rows of the look-up of its group
     spans: Vec<Span>,
     // for each row the first row of its group with an equal key
     firsts: Vec<u32>,
@@ -210,7 +210,7 @@ impl<'s, 'f, 'd> Index<'s, 'f, 'd> {
         Ok(rows_with(&self.by_key, &text))
     }
 
-    /// The parts of what stands in the row under a heading, each once.
+    /// The parts of what is in the row under a heading, each once.
     fn parts_under(&self, row: u32, heading: &[u8]) -> Result<Vec<&'s [u8]>, AllocError>
         requires { row < length (rows_in self.now) }
         ensures { IfOk result (λ parts. ListsPartsAt self.now row heading.now parts.items) }
@@ -240,7 +240,7 @@ impl<'s, 'f, 'd> Index<'s, 'f, 'd> {
         distinct(self.alloc, parts)
     }
 
-    /// Whether some part of what stands in the row under a heading, read as a record link (Rule 11), names no row.
+    /// Whether some part of what is in the row under a heading, read as a record link (Rule 11), names no row.
     /// A heading that the group does not have reads as null.
     pub fn has_broken_part(&self, row: u32, heading: &[u8]) -> Result<bool, AllocError>
         requires { row < length (rows_in self.now) }
@@ -256,7 +256,7 @@ impl<'s, 'f, 'd> Index<'s, 'f, 'd> {
         Ok(false)
     }
 
-    /// What stands in the row under a heading, read as a record link (Rule 11): the rows that its parts name,
+    /// What is in the row under a heading, read as a record link (Rule 11): the rows that its parts name,
     /// rising, each once, or `Broken` where some part names no row. A heading that the group does not have reads
     /// as null.
     pub fn link_targets(&self, row: u32, heading: &[u8]) -> Result<Targets, AllocError>

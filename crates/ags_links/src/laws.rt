@@ -12,7 +12,7 @@ pub fn rows_stand_once()
     ensures { RowsStandOnce }
 {}
 
-/// Before the next group stand the rows that stand before this one, and its own; all of them are rows of the file.
+/// The rows before the next group are those before this one, and its own; all of them are rows of the file.
 pub fn rows_before_add_up()
     ensures { RowsBeforeAddUp }
 {}

@@ -1,4 +1,4 @@
-//! The parent rows of each row: the rows of each look-up, and where those of a row stand among them.
+//! The parent rows of each row: the rows of each look-up, and where those of a row are among them.
 
 ghost use Rattle.std.specs.Prelude.{◌≡◌, ◌<◌, ◌^◌, IfOk, All, length};
 ghost use Rattle.ags_links.specs.Families.{HasFamily, AreFamilies};
@@ -14,14 +14,14 @@ use ags_dict::Dictionary;
 use ags_rows::Group;
 use std::alloc::{AllocError, Global};
 
-/// The rows of each look-up, and where the parent rows of each row stand among those of the look-up of its group.
+/// The rows of each look-up, and where the parent rows of each row are among those of the look-up of its group.
 #[derive(Drop)]
 pub(crate) struct ListedParents {
     pub(crate) parents: ParentLists,
     pub(crate) spans: Vec<Span>,
 }
 
-/// Where the parent rows of each row stand in the look-up of its group. Rows that follow one another often belong to rows
+/// Where the parent rows of each row are in the look-up of its group. Rows that follow one another often belong to rows
 /// that do, so those of a row are looked for first where those of the row before end.
 fn parent_spans(
     alloc: Global,
@@ -57,7 +57,7 @@ fn rows_alone(alloc: Global, lookups: &[Lookup]) -> Result<Vec<Vec<u32>>, AllocE
     Ok(lists)
 }
 
-/// The rows of each look-up. The texts that these were found by are let go.
+/// The rows of each look-up. The texts that these were found by are dropped.
 fn without_texts(alloc: Global, parents: ParentLookups) -> Result<ParentLists, AllocError>
     ensures groups { IfOk result (λ kept. kept.of_groups ≡ parents.of_groups) }
     ensures lists { IfOk result (λ kept. AreRowsOf parents.lookups.items kept.lists.items) }
@@ -69,8 +69,8 @@ fn without_texts(alloc: Global, parents: ParentLookups) -> Result<ParentLists, A
     })
 }
 
-/// The parent rows of each row. The rows by group are let go before the spans are made, and the texts once they are looked
-/// up.
+/// The parent rows of each row. The rows by group are dropped before the spans are made, and the texts once they are
+/// looked up.
 pub(crate) fn listed_parents(
     alloc: Global,
     groups: &[Group<'_>],

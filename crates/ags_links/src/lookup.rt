@@ -46,7 +46,7 @@ pub(crate) fn rows_by_text(alloc: Global, pairs: Vec<(Vec<u8>, u32)>) -> Result<
     })
 }
 
-/// Whether the pair stands before those of the text, or, up to these, not behind them.
+/// Whether the pair is before those of the text, or, up to these, not after them.
 fn stands_before(pair: &(Vec<u8>, u32), text: &[u8], upto: bool) -> bool
     ensures { result ≡ stands_before upto text.now pair.now }
 {
@@ -54,7 +54,7 @@ fn stands_before(pair: &(Vec<u8>, u32), text: &[u8], upto: bool) -> bool
     if upto { order.is_le() } else { order.is_lt() }
 }
 
-/// Whether the last pair below the place, if there is one, stands before.
+/// Whether `stands_before` holds of the last pair below the place, if there is one.
 fn may_end(pairs: &[(Vec<u8>, u32)], place: usize, text: &[u8], upto: bool) -> bool
     requires { place ≤ length pairs.now }
     ensures { IsTrue result → IsEnd upto text.now pairs.now place }
@@ -62,7 +62,7 @@ fn may_end(pairs: &[(Vec<u8>, u32)], place: usize, text: &[u8], upto: bool) -> b
     place == 0 || stands_before(&pairs[place - 1], text, upto)
 }
 
-/// Whether the pair at the place, if there is one, does not stand before.
+/// Whether `stands_before` does not hold of the pair at the place, if there is one.
 fn may_begin(pairs: &[(Vec<u8>, u32)], place: usize, text: &[u8], upto: bool) -> bool
     requires { place ≤ length pairs.now }
     ensures { IsTrue result → IsBegin upto text.now pairs.now place }
@@ -70,7 +70,7 @@ fn may_begin(pairs: &[(Vec<u8>, u32)], place: usize, text: &[u8], upto: bool) ->
     place == pairs.len() || !stands_before(&pairs[place], text, upto)
 }
 
-/// Where the pairs end that stand before. A place that is near is tried first.
+/// The end of the pairs that `stands_before` holds of. A place that is near is tried first.
 fn boundary(pairs: &[(Vec<u8>, u32)], near: usize, text: &[u8], upto: bool) -> usize
     requires { AreInOrder pairs.now }
     ensures { IsBoundary upto text.now pairs.now result }
@@ -85,7 +85,7 @@ fn boundary(pairs: &[(Vec<u8>, u32)], near: usize, text: &[u8], upto: bool) -> u
     }
 }
 
-/// Where the pairs of the text stand. They are found at once where they begin at the place that is tried first.
+/// Where the pairs of the text are. They are found at once where they begin at the place that is tried first.
 pub(crate) fn span_of(lookup: &Lookup, near: usize, text: &[u8]) -> Span
     ensures { IsSpanOf lookup.now text.now result }
 {

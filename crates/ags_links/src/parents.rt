@@ -29,7 +29,7 @@ pub(crate) struct ParentLinks<'l, 's> {
     pub(crate) text: Vec<u8>,
 }
 
-/// Where a group's link headings stand in its rows, and the place of the look-up that has the rows of its parent
+/// Where a group's link headings are in its rows, and the place of the look-up that has the rows of its parent
 /// group by their entries under them.
 #[derive(Drop)]
 pub(crate) struct LinkPlaces {
@@ -358,7 +358,7 @@ fn first_with(texts: &Places<'_>, links: &ParentLinks<'_, '_>) -> usize
     texts.find(&links.text).unwrap()
 }
 
-/// Where each group's link headings stand in its rows, and which look-up is its own.
+/// Where each group's link headings are in its rows, and which look-up is its own.
 fn link_places(
     alloc: Global,
     families: &[Family<'_, '_>],
@@ -380,7 +380,7 @@ fn link_places(
     Ok(of_groups)
 }
 
-/// Where each group's link headings stand in its rows, and which look-up it shares with the groups of the same links.
+/// Where each group's link headings are in its rows, and which look-up it shares with the groups of the same links.
 fn shared_places(
     alloc: Global,
     families: &[Family<'_, '_>],

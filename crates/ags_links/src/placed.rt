@@ -1,4 +1,4 @@
-//! The DATA rows of a file, with the groups that they stand in.
+//! The DATA rows of a file, with the groups that they are in.
 
 ghost use Rattle.std.specs.Prelude.{◌≡◌, ◌<◌, ◌^◌, All, IfOk, OnOk, length, map};
 ghost use Rattle.ags_rows.specs.Contents.{field_at, contents_of};
@@ -16,7 +16,7 @@ pub(crate) struct PlacedRow<'s, 'f> {
     pub(crate) row: &'s Row<'f>,
 }
 
-/// What stands in the row at a place; null where there is none.
+/// What is in the row at a place; null where there is none.
 pub(crate) fn field<'s>(row: &PlacedRow<'s, '_>, place: Option<usize>) -> &'s [u8]
     ensures { result.now ≡ field_at (row_of row.now).fields place }
 {

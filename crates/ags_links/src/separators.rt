@@ -1,4 +1,4 @@
-//! What stands between the pieces and the parts of a record link: TRAN_DLIM and TRAN_RCON.
+//! What separates the pieces and the parts of a record link: TRAN_DLIM and TRAN_RCON.
 
 ghost use Rattle.std.specs.Prelude.{◌≡◌, codes, option_copied};
 ghost use Rattle.std.specs.List.{find};
@@ -8,7 +8,7 @@ ghost use Rattle.ags_links.specs.RecordLinks.{one_character, first_entry, tran_o
 
 use ags_rows::{Group, under};
 
-/// What stands between the pieces of a part, and between the parts of a record link.
+/// What separates the pieces of a part, and what separates the parts of a record link.
 #[derive(Clone, Copy, Debug, PartialEq, Eq)]
 pub struct Separators {
     pub delimiter: u8,
@@ -34,7 +34,7 @@ fn tran<'g, 'a>(groups: &'g [Group<'a>]) -> Option<&'g Group<'a>>
         .find(|group| group.name.as_slice() == b"TRAN".as_slice())
 }
 
-/// What stands under a heading in the group's first DATA row; null where there is none.
+/// What is under a heading in the group's first DATA row; null where there is none.
 fn first_entry<'g>(group: &'g Group<'_>, heading: &[u8]) -> &'g [u8]
     ensures { result.now ≡ first_entry (Some (group_contents group.now)) heading.now }
 {
@@ -44,7 +44,7 @@ fn first_entry<'g>(group: &'g Group<'_>, heading: &[u8]) -> &'g [u8]
     }
 }
 
-/// What stands under a heading in TRAN's first DATA row; null where there is none.
+/// What is under a heading in TRAN's first DATA row; null where there is none.
 fn tran_entry<'g>(groups: &'g [Group<'_>], heading: &[u8]) -> &'g [u8]
     ensures { result.now ≡ first_entry (tran_of (contents_of groups.now)) heading.now }
 {

@@ -14,13 +14,13 @@ use std::alloc::{AllocError, Global};
 /// Ends each text.
 const END_MARK: u8 = 0;
 
-/// Stands before a byte of a text that is a mark itself.
+/// The mark before a byte of a text that is a mark itself.
 const ESCAPE_MARK: u8 = 1;
 
 /// The bytes that a text is given room for at first; most have no more.
 const ROOM: usize = 32;
 
-/// Adds a byte of a text, behind an escape mark where it is a mark itself.
+/// Adds a byte of a text, after an escape mark where it is a mark itself.
 fn push_marked(out: &mut Vec<u8>, byte: u8) -> Result<(), AllocError>
     ensures { OnOk result (out.new.items ≡ out.old.items ++ byte_text byte) }
 {
@@ -38,7 +38,7 @@ fn is_plain(text: &[u8]) -> bool
     text.iter().all(|byte| *byte > ESCAPE_MARK)
 }
 
-/// Adds the bytes of a text, each mark behind an escape mark.
+/// Adds the bytes of a text, each mark after an escape mark.
 fn push_bytes(out: &mut Vec<u8>, text: &[u8]) -> Result<(), AllocError>
     ensures { OnOk result (out.new.items ≡ out.old.items ++ flat_map byte_text text.now) }
 {
@@ -61,7 +61,7 @@ fn push_text(out: &mut Vec<u8>, text: &[u8]) -> Result<(), AllocError>
     Ok(())
 }
 
-/// Adds what stands in the row at the places.
+/// Adds what is in the row at the places.
 pub(crate) fn push_entries(
     out: &mut Vec<u8>,
     row: &PlacedRow<'_, '_>,
@@ -75,7 +75,7 @@ pub(crate) fn push_entries(
     Ok(())
 }
 
-/// Adds the row's group, then what stands in the row at the places of its KEY headings.
+/// Adds the row's group, then what is in the row at the places of its KEY headings.
 pub(crate) fn push_group_entries(
     out: &mut Vec<u8>,
     row: &PlacedRow<'_, '_>,
@@ -149,7 +149,7 @@ pub(crate) fn push_parts<'t>(
     Ok(())
 }
 
-/// The parts of what stands in the row at the places; a null has none.
+/// The parts of what is in the row at the places; a null has none.
 pub(crate) fn link_parts<'s>(
     alloc: Global,
     separator: u8,
@@ -168,7 +168,7 @@ pub(crate) fn link_parts<'s>(
     Ok(parts)
 }
 
-/// Whether the name stands first at the place.
+/// Whether the first place of the name is this place.
 pub(crate) fn is_first(names: &Places<'_>, name: &[u8], place: usize) -> bool
     ensures { IsTrue result ↔ (place_in names.now name.now ≡ Some place) }
 {

@@ -82,7 +82,7 @@ const CASES: &[Case] = &[
     },
 ];
 
-// A function that names a table carries it to each of its points, so tables are handed out by functions of their own.
+// A function that names a table carries it to each of its points, so functions of their own return the tables.
 
 /// The worked examples of what is reached and of what is shown.
 fn cases() -> &'static [Case] {

@@ -91,7 +91,7 @@ fn later(one: Option<usize>, other: Option<usize>) -> Option<usize>
     }
 }
 
-/// Whether a place stands before the latest one so far.
+/// Whether a place is before the latest one so far.
 fn is_behind(place: Option<usize>, latest: Option<usize>) -> bool
     ensures { result ≡ is_behind place latest }
 {
@@ -101,7 +101,7 @@ fn is_behind(place: Option<usize>, latest: Option<usize>) -> bool
     }
 }
 
-/// Rule 7: notes the headings before which the row has one that stands later in the group's order.
+/// Rule 7: notes the headings before which the row has one that comes later in the group's order.
 pub(crate) fn note_misplaced(
     dictionary: &Dictionary,
     group: &[u8],
@@ -123,7 +123,7 @@ pub(crate) fn note_misplaced(
     Ok(())
 }
 
-/// What stands behind the front of a text, if the text begins with it.
+/// What comes after the front of a text, if the text begins with it.
 fn behind<'t>(text: &'t [u8], front: &[u8]) -> Option<&'t [u8]>
     ensures { MatchOption result ((rest : List ℕ) → text.now ≡ front.now ++ rest → ⊥)
         (λ rest. text.now ≡ front.now ++ rest.now) }

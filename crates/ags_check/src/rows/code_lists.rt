@@ -34,7 +34,7 @@ impl<'a> Model for CodeLists<'a> {
         AreCodeLists (contents_of l.groups.now) l.units l.types l.abbreviations.held l.concatenator };
 }
 
-/// Adds what stands under a heading in the rows of a group.
+/// Adds what is under a heading in the rows of a group.
 fn push_texts<'a>(
     group: &'a Group<'_>,
     heading: &[u8],
@@ -67,7 +67,7 @@ fn push_named<'a>(
     Ok(())
 }
 
-/// What stands under a heading in the groups of this name.
+/// What is under a heading in the groups of this name.
 fn texts<'a>(
     alloc: Global,
     groups: &'a [Group<'_>],
@@ -129,7 +129,7 @@ fn listed_abbreviations<'a>(
     Abbreviations::of(alloc, pairs.as_slice())
 }
 
-/// The texts that stand under a heading in the groups of this name, to be looked up.
+/// The texts under a heading in the groups of this name, to be looked up.
 fn places<'a>(
     alloc: Global,
     groups: &'a [Group<'_>],

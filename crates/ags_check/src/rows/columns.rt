@@ -8,7 +8,7 @@ use ags_cells::CellType;
 use ags_rows::{Group, Places, cell_at};
 use std::alloc::{AllocError, Global};
 
-/// A heading: where it stands, and its unit and type.
+/// A heading: where it is, and its unit and type.
 #[derive(Clone, Copy)]
 pub(crate) struct Column<'a> {
     pub(crate) heading: &'a [u8],

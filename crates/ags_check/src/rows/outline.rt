@@ -72,7 +72,7 @@ fn is_without_file(file_set: &[u8], has_file: bool) -> bool
 }
 
 impl<'a> Outline<'a> {
-    /// What is said of this group's rows, where its headings stand at these places.
+    /// What is said of this group's rows, where its headings are at these places.
     fn placed(
         alloc: Global,
         dictionary: &'a Dictionary,

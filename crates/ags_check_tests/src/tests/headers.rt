@@ -243,7 +243,7 @@ const NEEDED: &[Case] = &[
 ];
 
 // A function that names a table carries it to each of its points, and a long table costs more than its parts: so tables
-// are short, and are handed out by functions of their own.
+// are short, and functions of their own return them.
 
 /// The cases of unknown groups and headings.
 pub fn unknown() -> &'static [Case] {

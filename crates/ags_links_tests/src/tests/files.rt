@@ -37,7 +37,7 @@ fn replaced(alloc: Global, file: &[u8], old: &[u8], new: &[u8]) -> Result<Vec<u8
     Ok(text)
 }
 
-/// A text, and what stands in its place.
+/// A text, and the one that replaces it.
 type Edit = (&'static [u8], &'static [u8]);
 
 /// A file with texts replaced, one after the other.
@@ -49,7 +49,7 @@ fn edited(alloc: Global, file: &[u8], edits: &[Edit]) -> Result<Vec<u8>, AllocEr
     Ok(text)
 }
 
-/// What is asked of a file's index.
+/// What a file's index is asked.
 #[derive(Clone, Copy)]
 enum Ask {
     /// How many rows and steps the graph has.
@@ -134,7 +134,7 @@ fn tell(alloc: Global, text: &mut String, index: &Index, ask: Ask) -> Result<(),
     }
 }
 
-/// Tells what is asked of the groups of a file.
+/// Tells what the groups of a file are asked for.
 fn tell_groups(
     alloc: Global,
     text: &mut String,
@@ -146,7 +146,7 @@ fn tell_groups(
     tell(alloc, text, &index, ask)
 }
 
-/// Tells what is asked of a file.
+/// Tells what a file is asked for.
 fn tell_file(
     alloc: Global,
     text: &mut String,
@@ -356,14 +356,14 @@ const CASES: &[Case] = &[
     },
 ];
 
-// A function that names a table carries it to each of its points, so tables are handed out by functions of their own.
+// A function that names a table carries it to each of its points, so functions of their own return the tables.
 
 /// The worked examples.
 fn cases() -> &'static [Case] {
     CASES
 }
 
-/// Whether what is asked of a case's file is answered as wanted.
+/// Whether the answer for a case's file is the one that the case wants.
 fn agrees(alloc: Global, mini: &Dictionary, case: &Case) -> bool {
     match edited(alloc, bytes_of(case.file), case.edits) {
         Ok(file) => answers(alloc, mini, file.as_slice(), case.ask, case.want),
@@ -371,7 +371,7 @@ fn agrees(alloc: Global, mini: &Dictionary, case: &Case) -> bool {
     }
 }
 
-/// Whether what is asked of a file is answered by a text.
+/// Whether the answer for a file is the text that is wanted.
 fn answers(alloc: Global, mini: &Dictionary, file: &[u8], ask: Ask, want: &str) -> bool {
     let mut text = String::new(alloc);
     let told = tell_file(alloc, &mut text, mini, file, ask).is_ok();
@@ -413,7 +413,7 @@ const SAMPLES: &str =
 const TESTS: &str =
     "\"GROUP\",\"LNMC\"\r\n\"HEADING\",\"LOCA_ID\",\"SAMP_TOP\",\"SAMP_REF\"\r\n\"UNIT\",\"\",\"m\",\"\"\r\n\"TYPE\",\"ID\",\"2DP\",\"X\"\r\n";
 
-/// A group of 20,000 rows, of 1,000 boreholes in turn.
+/// A group of 20,000 rows, which go round 1,000 boreholes again and again.
 fn add_samples(text: &mut String, header: &str) -> Result<(), AllocError> {
     text.push_str(header)?;
     for sample in 0..20_000 {

@@ -10,7 +10,7 @@ use Rattle.ags_check.specs.RowRules.{entry_rules_of}
 use Rattle.ags_check.proofs.Numbering.{group_stands, group_few, group_next}
 use Rattle.ags_check.proofs.rows.note_row_groups.Goals as goal
 
--- the rows of the group at a place stand from a number on, as the index has them
+-- the rows of the group at a place are numbered from a number on, as the index has them
 stands : (groups : List Group) (contents : List Contents) (i first : ℕ) (group : Group) → contents ≡ contents_of groups → first ≡ rows_before (contents_of groups) i → At groups i group
     → RowsStand (data_rows contents) first group
 stands groups contents i first group same is at =

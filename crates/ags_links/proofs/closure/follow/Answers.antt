@@ -21,7 +21,7 @@ row_below c = omega (arith, marked_below c.loop-row.marks c.in-Some.row ((taken 
 fits : (c : In-Some) → c.loop-row.turns + 1 + length (targets c.args.steps.now c.in-Some.row) ≤ length c.loop-row.marks + length c.args.steps.now
 fits c = follow_fits c.args.steps.now c.args.marks.now c.loop-row.marks c.pop.new.self.items c.loop-row.turns c.in-Some.row (taken c)
 
--- what stands beside the row
+-- what is beside the row
 beside_row : (c : After-turns-1) → c.deref.result.now ≡ targets c.args.steps.now c.in-Some.row
 beside_row c = c.deref.ensures.value ∙ ap (λ v. v.items) c.index-beside-row.is ∙ c.requires.beside c.in-Some.row c.index-beside-row.result (row_below (goal.at.look-requires-clause-rows c).In-Some)
 

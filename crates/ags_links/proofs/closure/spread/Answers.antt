@@ -30,7 +30,7 @@ follow-requires-clause-all c = λ r h. c.in_ok-work.ensures.all r (subst (λ mar
 pub follow-requires-clause-weight : goal.follow-requires-clause-weight
 follow-requires-clause-weight c = λ w. c.in_ok-work.ensures.weight w ∙ ap (weigh w) (sym (c.deref_mut.ensures.value ∙ c.in_ok-marks.ensures.items))
 
--- the marks that are handed out are those that the walk left
+-- the marks that are returned are those that the walk left
 left : (c : After-drop-beside-2) → take c.in_ok-marks.marks.len (c.follow.new.marks ++ drop (length c.follow.new.marks) c.in_ok-marks.marks.items) ≡ c.follow.new.marks
 left c =
     written_back c.in_ok-marks.marks.len c.follow.new.marks c.in_ok-marks.marks.items (omega (arith, c.in_ok-marks.marks.ok.0))

@@ -12,7 +12,7 @@ use Rattle.ags_links.proofs.parents.parents.Goals.{In_ok-of_groups}
 pub shared_places-requires : goal.shared_places-requires
 shared_places-requires c = omega (arith, ap length c.deref.ensures.value, c.requires.families.each_has, c.in_ok-links.ensures.each_has)
 
--- where the link headings of each group stand, said of the links themselves
+-- where the link headings of each group are, said of the links themselves
 placed : (c : In_ok-of_groups) → AreKept c.in_ok-links.links.items c.in_ok-of_groups.of_groups.items (IsPlacedAt c.args.families.now (texts_in c.in_ok-links.links.items))
 placed c = subst (λ (ls : List ParentLinks). AreKept ls c.in_ok-of_groups.of_groups.items (IsPlacedAt c.args.families.now (texts_in ls))) c.deref.ensures.value c.in_ok-of_groups.ensures
 

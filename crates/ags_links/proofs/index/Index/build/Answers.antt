@@ -10,7 +10,7 @@ use Rattle.ags_links.specs.Placing.{IsPlaced, row_of}
 use Rattle.ags_links.proofs.index.Index.build.Goals as goal
 use Rattle.ags_links.proofs.index.Index.build.Goals.{In_ok-rows}
 
--- each row stands in its group, among the groups that are handed on
+-- each row is in its group, among the groups that are passed on
 placed : (c : In_ok-rows) → All (IsPlaced c.groups-groups.result.now) c.in_ok-rows.rows.items
 placed c = subst (λ gs. All (IsPlaced gs) c.in_ok-rows.rows.items) (sym c.groups-groups.ensures) c.in_ok-rows.ensures.placed
 

@@ -20,7 +20,7 @@ index-links-requires c =
     let span = some_at i.spans.items c.args.row (omega (arith, at.0, lists.each_has)) in
     omega (arith, (lists.each c.args.row c.index-kept.result.now span.0 at span.1).grouped.0, i.parents.of_groups.ok.0)
 
--- where the row's parent rows stand
+-- where the row's parent rows are
 list_at : (c : After-index-span) → IsParentList c.args.self.now.entries (rows_in c.args.self.now) c.self.inside.parents c.args.row c.index-kept.result.now c.index-span.result.now
 list_at c =
     let i = c.self.inside in
@@ -38,7 +38,7 @@ index-requires c =
     let at = (goal.at.index-requires c).After-index-span in
     omega (arith, (list_at at).stands.0, ap (λ (l : LinkPlaces). l.lookup) (links_same at), c.self.inside.parents.lists.ok.0)
 
--- the list that is read is the one that they stand in
+-- the list that is read is the one that they are in
 list_same : (c : After-index-span) (v : Vec ℕ Global) → v ≡ get_or c.self.inside.parents.lists.items c.index-links.result.now.lookup v → (list_at c).list.items ≡ v.items
 list_same c v e =
     let lists = c.self.inside.parents.lists.items in
