@@ -1,4 +1,4 @@
-//! A register of AGS4 files. Without words it checks a file on standard input, and prints its findings, or `clean`.
+//! A register of AGS4 files. Without arguments it checks a file on standard input, and prints its findings, or `clean`.
 #![tactic(auto)]
 
 use jiff::Zoned;
@@ -11,7 +11,7 @@ use std::env;
 use std::io::{ErrorKind, Read, Write};
 use std::process::ExitCode;
 
-/// The words that the program is started with, its name first. A word that is not UTF-8 refuses them.
+/// The arguments that the program is started with, its name first. One that is not UTF-8 refuses them all.
 fn words_given(rt: &HostRuntime) -> Result<Vec<String>, Fault> {
     match env::args(rt) {
         Ok(words) => Ok(words.collect(rt.alloc())?),

@@ -22,9 +22,9 @@ use std::convert::AsStr;
 use std::fs::File;
 use std::io::{Read, Write};
 
-/// Runs the program on its words, of which the first is its name; without others it checks the file that the input
+/// Runs the program on its arguments. The first is its name; without others it checks the file that the input
 /// carries. `today` is what the clock tells, if it tells a day, and `F` stands for what the files of a store held. No
-/// clause says what is done with further words, or with `today`.
+/// clause says what is done with further arguments, or with `today`.
 pub fn run_words<F: Start, S: AsStr, R: Read, W: Write, E: Write>(
     rt: &HostRuntime,
     start: F,
@@ -52,7 +52,7 @@ pub fn run_words<F: Start, S: AsStr, R: Read, W: Write, E: Write>(
     }
 }
 
-/// Does what the words ask.
+/// Does what the arguments ask.
 fn run_command<'w, F: Start, W: Write, E: Write>(
     rt: &HostRuntime,
     alloc: Global,
@@ -204,9 +204,9 @@ fn number_given(text: &str) -> Result<u32, Fault> {
     number_of_deposit(text.as_bytes()).ok_or(Fault::NumberRefused)
 }
 
-/// Opens the register in the file at a path, and does with it what is asked. Each command that opens one comes here: a
-/// keep is shown to be one at length where its type is named, so that is once over the store of a file, and once over
-/// any store.
+/// Opens the register in the file at a path, and does with it what is asked. Each command that opens one comes here.
+/// Where the type of a store is named, the proof that it is one is long. So the proof is there twice: once over
+/// `FileStore`, and once over any `Alter`.
 pub(crate) fn use_store<'w, F: Start, W: Write>(
     rt: &HostRuntime,
     alloc: Global,
@@ -222,7 +222,7 @@ pub(crate) fn use_store<'w, F: Start, W: Write>(
     done
 }
 
-/// Does what is asked with a keep in tables, of any store, and hands it back.
+/// Does what is asked with a store in tables, over any `Alter`, and returns the store.
 fn use_tables<'w, S: Alter, W: Write>(
     rt: &HostRuntime,
     alloc: Global,
@@ -236,7 +236,7 @@ fn use_tables<'w, S: Alter, W: Write>(
     use_keep(rt, alloc, keep, policy, task, out)
 }
 
-/// Does what is asked with a keep, and hands it back.
+/// Does what is asked with a store, and returns the store.
 fn use_keep<'w, K: Keep, W: Write>(
     rt: &HostRuntime,
     alloc: Global,

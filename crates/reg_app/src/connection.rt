@@ -106,7 +106,7 @@ fn drain_peer<C: Clock>(clock: &C, stream: &TcpStream) -> io::Result<()> {
     Ok(())
 }
 
-/// For how many seconds what a peer still sends behind its reply is read.
+/// For how many seconds what a peer still sends after its reply is read.
 const DRAINING: u64 = 2;
 
 /// How many bytes of it are read: as many as a request may have.

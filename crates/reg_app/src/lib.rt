@@ -1,7 +1,7 @@
-//! What the program `groundreg` does: the commands of a register, and without words the check of standard input.
+//! What the program `groundreg` does: the commands of a register, and without arguments the check of standard input.
 //!
-//! Words, streams and the day are passed in, so that what is printed, what is said of a fault and the status of a run
-//! are contracts over readers and writers that tell their bytes. What names no store and no socket is `reg_cli`.
+//! Arguments, streams and the day are passed in. So contracts say what is printed, what is said of a fault and the
+//! status of a run, over readers and writers whose bytes they can name. What names no store and no socket is `reg_cli`.
 #![tactic(auto)]
 
 mod commands;

@@ -50,7 +50,7 @@ pub struct Serving<'s> {
     pub patience: Duration,
     /// How many connections are served.
     pub connections: u32,
-    /// Whether no more are served behind a reply that the store failed.
+    /// Whether no more are served after a reply that the store failed.
     pub ends_on_failure: bool,
 }
 

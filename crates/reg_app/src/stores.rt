@@ -20,7 +20,7 @@ use std::io::ErrorKind;
 use std::os::unix::fs::OpenOptionsExt;
 use std::path::Path;
 
-/// Makes an empty register at a path, and closes it. What names the type of a keep in a file is kept short: it is
+/// Makes an empty register at a path, and closes it. What names the type of a store in a file is kept short: it is
 /// written out at each point of a function that holds one.
 pub(crate) fn create_store<F: Start>(
     rt: &HostRuntime,

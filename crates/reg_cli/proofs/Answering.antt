@@ -1,4 +1,4 @@
--- From what is told to the answer of a run.
+-- From what is reported to the answer of a run.
 use Rattle.std.proofs.Common.{ap, length, ◌≡◌, ◌≤◌, ◌∷◌, ◌↔◌, ◌||◌, ℕ, Bool, true, false, IsTrue, inl, inr, ◌⊎◌, [], List, Option, None, Some, Ok, Err, IfSome, refl, sym, subst, ◌∙◌, arith, rules}
 use Rattle.reg_cli.specs.declared.fault.Fault.{Fault}
 use Rattle.reg_cli.specs.declared.fault.Fault.TheVariants.{TooLarge, NoMemory, Stream}
@@ -39,7 +39,7 @@ said_answer entries bytes NoMemory other about = no_memory
 said_answer entries bytes Stream other about = absurd (search rules)
 said_answer entries bytes fault other about = absurd about
 
--- where such a fault is told, the outcome is the answer or the failure of the writer
+-- where such a fault is reported, the outcome is the answer or the failure of the writer
 other_answers : (entries : Entries) (bytes : List ℕ) (out err err_after : Option (List ℕ)) (fault : Fault) (in_failed out_failed before after : Bool) (status : ℕ)
     → is_stream fault ≡ false → in_failed ≡ is_stream fault → out_failed ≡ false → before ≡ false
     → ReportsOn entries bytes (Err fault) → Tells err err_after (fault_text fault) before after (fault_status fault) status
@@ -51,7 +51,7 @@ other_answers entries bytes out err err_after fault in_failed out_failed before 
     let answer = subst (λ text. Answers entries bytes [] text (fault_status fault)) cut.parts (said_answer entries bytes fault other about) in
     ([], cut.part, rw (ei ∙ other, eo, failed, six) (not_said cut.part cut.rest (fault_status fault) answer), appends_none out, cut.taken)
 
--- where the reader failed, nothing is told
+-- where the reader failed, nothing is reported
 stream_answers : (entries : Entries) (bytes : List ℕ) (out err err_after : Option (List ℕ)) (in_failed out_failed before after : Bool) (status : ℕ)
     → in_failed ≡ true → out_failed ≡ false → before ≡ false
     → Tells err err_after [] before after (fault_status Stream) status → AnswersOn entries bytes out out err err_after in_failed out_failed after status
@@ -75,7 +75,7 @@ pub other_status : (fault : Fault) → is_stream fault ≡ false → fault_statu
 other_status Stream other = absurd (search rules)
 other_status fault other = omega arith
 
--- where a fault is told, the outcome is the answer or the failure of a stream
+-- where a fault is reported, the outcome is the answer or the failure of a stream
 pub fault_answers : (entries : Entries) (known out err err_after : Option (List ℕ)) (fault : Fault) (in_failed out_failed before after : Bool) (status : ℕ)
     → in_failed ≡ is_stream fault → out_failed ≡ false → before ≡ false
     → IfSome known (λ bytes. ReportsOn entries bytes (Err fault)) → Tells err err_after (fault_text fault) before after (fault_status fault) status
@@ -87,7 +87,7 @@ fault_answers entries (Some bytes) out err err_after fault in_failed out_failed 
   | inr other ↦ other_answers entries bytes out err err_after fault in_failed out_failed before after status other ei eo eb about told
 ]
 
--- want of memory can come before anything is read
+-- a run can be out of memory before anything is read
 pub no_memory_on : (entries : Entries) (known : Option (List ℕ)) (fault : Fault) → fault ≡ NoMemory → IfSome known (λ bytes. ReportsOn entries bytes (Err fault))
 no_memory_on entries None fault is = tt
 no_memory_on entries (Some bytes) fault is = subst (λ f. ReportsOn entries bytes (Err f)) (sym is) tt
@@ -127,7 +127,7 @@ report_fails out out_after text in_failed before after err_failed status ended e
 report_fails out out_after text in_failed before after err_failed status ended ei eb ee few (inr (cut, failed, six)) =
     one_failed in_failed after err_failed ended (or_second in_failed after err_failed failed) six
 
--- where a fault is told, the status is 6 exactly where a stream failed
+-- where a fault is reported, the status is 6 exactly where a stream failed
 pub fault_fails : (err err_after : Option (List ℕ)) (in_failed out_failed before after : Bool) (fault : Fault) (ended : ℕ)
     → in_failed ≡ is_stream fault → out_failed ≡ false → before ≡ false → Tells err err_after (fault_text fault) before after (fault_status fault) ended
     → (ended ≡ fault_status Stream) ↔ IsTrue (in_failed || (out_failed || after))

@@ -92,7 +92,7 @@ takes_failed room None new kept = record { taken = []; few = omega arith; first 
 takes_failed room (Some all) None kept = absurd kept
 takes_failed room (Some all) (Some rest) kept = record { taken = []; few = omega arith; first = sym kept }
 
--- what one read gave stands behind what was there
+-- what one read gave comes after what was there
 pub appends_read : (count : ℕ) (old new : Option (List ℕ)) (buf before after : List ℕ) → Consumes old new (take count buf) → (count ≡ 0 → IsAtEnd new)
     → count ≤ length buf → after ≡ before ++ take count buf → Appended count old new before after
 appends_read count old new buf before after one end few joined = record {

@@ -1,4 +1,4 @@
--- From what is written, text by text, to what is told.
+-- From what is written, text by text, to what is reported.
 use Rattle.std.proofs.Common.{◌≡◌, ℕ, suc, ◌++◌, [], ◌∷◌, List, length, Bool, true, false, ◌||◌, inl, inr, Option, Result, Ok, Err, refl, sym, ap, ◌∙◌, append_assoc, arith, rules}
 use Rattle.std.specs.Result.{is_err}
 use Rattle.std.specs.Io.KnownBytes.{Appends}
@@ -50,7 +50,7 @@ or_true : (b : Bool) → (b || true) ≡ true
 or_true true = refl
 or_true false = refl
 
--- what was written is told
+-- what was written is reported
 pub ended_tells : {T E : Type 0} (old new : Option (List ℕ)) (text : List ℕ) (before after : Bool) (r : Result T E) (status ended : ℕ)
     → WritesText old new r text → after ≡ (before || is_err r) → ended ≡ ended_with r status → Tells old new text before after status ended
 ended_tells old new text before after (Ok v) status ended writes noted is = inl (writes, noted ∙ or_false before, is)

@@ -56,7 +56,7 @@ module _ {W E : Type 0} (writer : WriteGhosts W) (errors : WriteGhosts E) where
       (in_failed : Bool) × AnswersTo entries bytes in_failed out out_after err err_after status
 
 module _ {R W E : Type 0} (reader : ReadGhosts R) (writer : WriteGhosts W) (errors : WriteGhosts E) where
-  -- the outcome of a run on the bytes of a watched reader, where it tells them
+  -- the outcome of a run on the bytes of a watched reader, if contracts can name them
   abbrev pub AnswersOnInput : Entries → Watched R → Watched R → Watched W → Watched W → Watched E → Watched E → ℕ
       → Type 0
   AnswersOnInput entries input input_after out out_after err err_after status =

@@ -17,8 +17,8 @@ use Rattle.reg_cli.specs.declared.watched.Watched.{Watched}
 
 module _ {R W E : Type 0} (reader : ReadGhosts R) (writer : WriteGhosts W) (errors : WriteGhosts E) where
   -- A run that checks what a watched reader carries, under the entries of a dictionary. Its status is that of a stream
-  -- that failed exactly where one failed, it takes no byte beyond the one after LIMIT, and where the reader
-  -- tells its bytes, the outcome is the one of these.
+  -- that failed exactly where one failed. It takes no byte beyond the one after LIMIT. Where contracts can name the
+  -- reader's bytes, the outcome is the one of these.
   pub record ChecksStream (entries : Entries) (input input_after : Watched R) (out out_after : Watched W)
       (err err_after : Watched E) (status : ℕ) : Type 0 where
     pub failed : (status ≡ fault_status Stream)

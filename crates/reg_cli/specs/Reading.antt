@@ -12,7 +12,7 @@ pub record TakesAtMost (most : ℕ) (old new : Option (List ℕ)) : Type 0 where
   pub few : length taken ≤ most
   pub first : Consumes old new taken
 
--- the next bytes were taken and stand at the list's end, `count` of them, none only at the end of the stream
+-- the next bytes were taken and are at the list's end, `count` of them, none only at the end of the stream
 pub record Appended (count : ℕ) (old new : Option (List ℕ)) (before after : List ℕ) : Type 0 where
   pub more : List ℕ
   pub joined : after ≡ before ++ more

@@ -19,7 +19,7 @@ unwritten_text path = codes "groundreg: cannot write " ++ (path ++ codes "\n")
 abbrev pub version_text : ℤ → List ℕ
 version_text number = codes "groundreg: register version " ++ (signed_decimal number ++ codes "\n")
 
--- the refusal was told, and the run ends with its status, or the writer has failed
+-- the refusal was reported, and the run ends with its status, or the writer has failed
 abbrev pub TellsRefusal : {W : Type 0} → WriteGhosts W → Refusal → Watched W → Watched W → ℕ → Type 0
 TellsRefusal writer (Plain fault) old new ended = TellsTo writer old new (fault_text fault) (fault_status fault) ended
 TellsRefusal writer (CannotRead path) old new ended = TellsTo writer old new (unread_text path.now) 6 ended

@@ -1,4 +1,4 @@
-//! What is asked of a desk, and that its answer is printed.
+//! What is requested from a desk, and that its answer is printed.
 
 ghost use Rattle.reg_desk.specs.Asked.{asked, names_in};
 ghost use Rattle.reg_cli.specs.Asking.{AsksDesk};
@@ -14,8 +14,8 @@ use reg_store::Keep;
 use std::alloc::Global;
 use std::io::Write;
 
-/// Asks the desk to keep a file, as the one who asks. Its one refusal is want of memory: then nothing is printed, and
-/// the desk is as its answer left it.
+/// Requests that the desk keep a file, as the one who asks. It is refused only when out of memory: then nothing is
+/// printed, and the desk is as its answer left it.
 pub fn ask_deposit<'w, K: Keep, W: Write>(
     alloc: Global,
     desk: &mut Desk<K>,
@@ -37,7 +37,7 @@ pub fn ask_deposit<'w, K: Keep, W: Write>(
     ask_desk(alloc, desk, &request, out)
 }
 
-/// Asks the desk for the deposits of a project, as the one who asks. It is refused as `ask_deposit` is.
+/// Requests a project's deposits from the desk, as the one who asks. It is refused as `ask_deposit` is.
 pub fn ask_list<'w, K: Keep, W: Write>(
     alloc: Global,
     desk: &mut Desk<K>,
@@ -54,8 +54,8 @@ pub fn ask_list<'w, K: Keep, W: Write>(
     ask_desk(alloc, desk, &request, out)
 }
 
-/// Asks the desk for an extract of the deposit of a number, from 1 on, as the one who asks: of these groups, or of all
-/// where none is named. It is refused as `ask_deposit` is.
+/// Requests from the desk an extract of the deposit of a number, from 1 on, as the one who asks: of these groups, or of
+/// all where none is named. It is refused as `ask_deposit` is.
 pub fn ask_extract<'w, K: Keep, W: Write>(
     alloc: Global,
     desk: &mut Desk<K>,
@@ -77,8 +77,8 @@ pub fn ask_extract<'w, K: Keep, W: Write>(
     ask_desk(alloc, desk, &request, out)
 }
 
-/// Asks the desk to withdraw the deposit of a number, from 1 on, as the one who asks. It is refused as `ask_deposit`
-/// is.
+/// Requests that the desk withdraw the deposit of a number, from 1 on, as the one who asks. It is refused as
+/// `ask_deposit` is.
 pub fn ask_withdraw<'w, K: Keep, W: Write>(
     alloc: Global,
     desk: &mut Desk<K>,
@@ -97,7 +97,7 @@ pub fn ask_withdraw<'w, K: Keep, W: Write>(
     ask_desk(alloc, desk, &request, out)
 }
 
-/// Asks the desk, and prints its answer.
+/// Calls the desk, and prints its answer.
 fn ask_desk<'w, K: Keep, W: Write>(
     alloc: Global,
     desk: &mut Desk<K>,

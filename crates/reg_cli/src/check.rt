@@ -24,7 +24,7 @@ use ags_rows::{FindingList, LIMIT};
 use std::alloc::{AllocError, Global};
 use std::io::{Read, Write};
 
-/// A run without words: checks the file that the stream carries under the dictionary that is built in.
+/// A run without arguments: checks the file that the stream carries under the dictionary that is built in.
 pub fn run_without_words<R: Read, W: Write, E: Write>(
     alloc: Global,
     input: &mut Watched<R>,

@@ -13,7 +13,7 @@ use std::io::Write;
 /// there.
 #[derive(Clone, Copy, Debug, PartialEq, Eq)]
 pub enum Fault {
-    /// The words are none of a command's.
+    /// The arguments are none of a command's.
     WordsRefused,
     /// The policy is none.
     PolicyRefused,
@@ -39,7 +39,7 @@ pub enum Fault {
     NotRegister,
     /// The store failed.
     StoreFailed,
-    /// A growth was refused.
+    /// An allocation failed.
     NoMemory,
     /// A read or a write failed.
     Stream,

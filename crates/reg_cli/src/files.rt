@@ -1,4 +1,4 @@
-//! The files that words name.
+//! The files that arguments name.
 
 ghost use Rattle.std.specs.Prelude.{◌≡◌, ◌≤◌, IfOk, IfSome, length};
 ghost use Rattle.ags_dict.specs.Reading.{IsDictionary};

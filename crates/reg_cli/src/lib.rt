@@ -1,10 +1,10 @@
-//! What the program reads, asks, prints and is told, apart from any store and socket: the words of the command line,
-//! the files that they name, the streams that are watched, the faults and reports that are printed, who asks, what is
-//! asked of a desk and what is printed of its answer, and the check of standard input or of a file under another
-//! dictionary.
+//! What the program is given, reads, requests and prints, apart from any store and socket: the arguments of the command
+//! line, the files that they name, the streams that are watched, the faults and reports that are printed, who asks,
+//! what is requested from a desk and what is printed of its answer, and the check of standard input or of a file under
+//! another dictionary.
 //!
-//! Words and streams are passed in, so that what is printed, what is said of a fault and the status of a run are
-//! contracts over readers and writers that tell their bytes.
+//! Arguments and streams are passed in. So contracts say what is printed, what is said of a fault and the status of a
+//! run, over readers and writers whose bytes they can name.
 #![tactic(auto)]
 
 mod asking;

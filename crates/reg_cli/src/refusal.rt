@@ -17,9 +17,9 @@ use std::io::Write;
 pub enum Refusal<'w> {
     /// A fault whose text is the same each time.
     Plain(Fault),
-    /// The file that this word names can not be read.
+    /// The file that this argument names can not be read.
     CannotRead(&'w str),
-    /// The file that this word names can not be written.
+    /// The file that this argument names can not be written.
     CannotWrite(&'w str),
     /// The register has a format of this number, and not the one that is asked for.
     Version(i64),

@@ -9,8 +9,8 @@ use crate::words::Asker;
 use reg_policy::{Caller, Callers, Day, Name, NameError};
 use std::alloc::Global;
 
-/// Who asks by this token, for the project and on the day that the words give, or on `today` where they give none. A
-/// token of no caller, a project that is no name and a day that is none are refused. No clause says which of them is
+/// Who asks by this token, for the project and on the day that the arguments give, or on `today` where they give none.
+/// A token of no caller, a project that is no name and a day that is none are refused. No clause says which of them is
 /// named.
 pub fn session_of<'c>(
     alloc: Global,

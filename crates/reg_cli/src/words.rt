@@ -1,4 +1,4 @@
-//! The words of the command line.
+//! The arguments of the command line.
 
 ghost use Rattle.std.specs.Prelude.{◌≤◌, IfSome};
 
@@ -8,7 +8,7 @@ use clap::{Arg, ArgAction, ArgMatches, Command, Error};
 use std::alloc::{AllocError, Global};
 use std::convert::AsStr;
 
-/// What the words ask, of which the first is the program's name. No clause says so.
+/// What the arguments ask, of which the first is the program's name. No clause says so.
 pub fn read_words<'w, S: AsStr>(alloc: Global, words: &'w [S]) -> Result<Words<'w>, Fault> {
     let [_program, words @ ..] = words else {
         return Err(Fault::WordsRefused);
@@ -20,7 +20,7 @@ pub fn read_words<'w, S: AsStr>(alloc: Global, words: &'w [S]) -> Result<Words<'
     task_words(&form.task, &given).ok_or(Fault::WordsRefused)
 }
 
-/// A command with the texts that its words give.
+/// A command with the texts that its arguments give.
 #[derive(Clone, Copy)]
 pub enum Words<'w> {
     Init { store: &'w str, dictionary: &'w str },
@@ -75,13 +75,13 @@ pub struct Service<'w> {
     /// The seconds for reading a request, and for writing its reply: 1 to 3,600, as `read_words` reads it. No clause
     /// says so.
     pub patience: u32,
-    /// Whether `serve` ends behind an answer that the store failed.
+    /// Whether `serve` ends after an answer that the store failed.
     pub ends_on_failure: bool,
     /// The file to which a line is appended for each connection.
     pub log: Option<&'w str>,
 }
 
-/// A command's name, the words that other commands have too, and its own.
+/// A command's name, the arguments that other commands have too, and its own.
 struct Form {
     name: &'static str,
     task: Task,
@@ -101,7 +101,7 @@ enum Task {
     Serve,
 }
 
-/// A word of a command, by the name under which it is read.
+/// An argument of a command, by the name under which it is read.
 enum Word {
     /// An option that has to be given.
     Required(&'static str),
@@ -109,7 +109,7 @@ enum Word {
     Optional(&'static str),
     /// An option without a value, which may be left out.
     Flag(&'static str),
-    /// A word without an option's name.
+    /// An argument without an option's name.
     Plain(&'static str),
 }
 
@@ -175,7 +175,7 @@ static FORMS: [Form; 8] = [
     },
 ];
 
-/// The words that say who asks.
+/// The arguments that say who asks.
 const ASKER: &[Word] = &[
     Word::Required("store"),
     Word::Required("policy"),
@@ -195,7 +195,7 @@ fn form_of(name: &str) -> Option<&'static Form> {
     None
 }
 
-/// What the words give to a command, whose name is the first. A request for help is refused as well.
+/// What the arguments give to a command, whose name is the first. A request for help is refused as well.
 fn given_by<'w, S: AsStr>(
     alloc: Global,
     form: &Form,
@@ -241,7 +241,7 @@ fn flag<'w>(alloc: Global, name: &'w str) -> Arg<'w> {
     Arg::new(alloc, name).long(name).action(ArgAction::SetTrue)
 }
 
-/// What a command's own words give.
+/// What a command's own arguments give.
 fn task_words<'w>(task: &Task, given: &ArgMatches<'w>) -> Option<Words<'w>> {
     match task {
         Task::Init => init_words(given),

@@ -1,4 +1,4 @@
--- Bodies that are handed in: what they are refused for, and what a check is answered.
+-- Bodies that a caller sends: why they are refused, and what a check is answered.
 use Rattle.std.proofs.Common.{◌≡◌, ◌≢◌, ℕ, ◌<◌, ◌≤◌, Bool, true, false, List, [], ◌∷◌, refl, sym, subst, inl, inr, ◌⊎◌, arith}
 use Rattle.std.specs.Prelude.{ℤ, nat_lt, length, MatchBool}
 use Rattle.std.proofs.lemmas.Bool.{true≢false, cases_Bool, ltb-true, lt-ltb}
@@ -48,7 +48,7 @@ found_some (f ∷ found) Stands some = refl
 refused_found : (terms : Terms) (bytes : List ℕ) (Stands : Answer → Type 0) (found : List Finding) → length bytes ≤ LIMIT → AreFindings terms.dictionary bytes found → found ≢ [] → OrRefused terms bytes Stands (Findings found)
 refused_found terms bytes Stands found le are some = where_false (nat_lt LIMIT (length bytes)) _ _ (ltb_of LIMIT (length bytes) le) (found, are, found_some found Stands some)
 
--- what stands where it is not refused
+-- what holds where it is not refused
 pub refused_none : (terms : Terms) (bytes : List ℕ) (Stands : Answer → Type 0) (answer : Answer) → length bytes ≤ LIMIT → AreFindings terms.dictionary bytes [] → Stands answer → OrRefused terms bytes Stands answer
 refused_none terms bytes Stands answer le are h = where_false (nat_lt LIMIT (length bytes)) _ _ (ltb_of LIMIT (length bytes) le) ([], are, h)
 

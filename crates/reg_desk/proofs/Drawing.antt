@@ -1,4 +1,4 @@
--- What is drawn and seen of a kept deposit, from what a keep tells of it.
+-- What is drawn and seen of a kept deposit, from what a store says of it.
 use Rattle.std.proofs.Common.{◌≡◌, ◌≢◌, ℕ, zero, suc, ◌-◌, ◌<◌, ◌≤◌, Bool, true, false, Option, Some, None, Ok, Err, List, [], ◌∷◌, refl, sym, ap, subst, ◌∙◌, inl, inr, ◌⊎◌, arith}
 use Rattle.std.proofs.lemmas.Option.{slice_get_within, get_or_from_slice_get}
 use Rattle.std.proofs.lemmas.Bool.{true≢false}
@@ -85,7 +85,7 @@ pub clean_of : (given : Entries) (d : Sent) (file : CheckedFile) → IsFileOf gi
 clean_of given d file is =
     subst (λ (b : List ℕ). IsCleanFile given b (file_of file)) is.bytes (subst (λ (g : Entries). IsCleanFile g file.bytes (file_of file)) is.given is.clean.file)
 
--- calls that read a keep, and then something that was answered by what was read
+-- calls that read a store, and then an answer made from what was read
 pub reads_answered : {K : Type 0} (keep : Ghosts K) (old new : K) (failed : Bool) → OnlyReads keep old new false → (keep.is_sound new → failed ≡ false) → OnlyReads keep old new failed
 reads_answered keep old new failed reads lives = record {
   sound = reads.sound;
@@ -98,7 +98,7 @@ reads_answered keep old new failed reads lives = record {
   whole = reads.whole;
 }
 
--- what a keep tells of the deposit of a number by its head
+-- what a store says of the deposit of a number by its head
 pub record IsHeaded (given : Entries) (state : List Deposit) (number : ℕ) (head : KeptHead) : Type 0 where
   pub kept : Deposit
   pub place : slice_get (sents state) (number - 1) ≡ Some kept.sent

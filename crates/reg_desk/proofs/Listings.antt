@@ -63,7 +63,7 @@ lines_end terms caller day at all lines so_far = subst (AreLines terms caller da
 
 -- ---- the project's numbers
 
--- where a list that is numbered from n stands
+-- `at` gives each deposit of a list that is numbered from n
 abbrev Stands : (ℕ → Option Deposit) → ℕ → List Deposit → Type 0
 Stands at n state = (i k : ℕ) (d : Deposit) → slice_get state i ≡ Some d → k ≡ n + i → at k ≡ Some d
 

@@ -30,7 +30,7 @@ use Rattle.reg_desk.proofs.Clean.{clean_formed, clean_keeps}
 
 -- ---- the row of PROJ among the DATA rows
 
--- the row stands at its number, counted on from this one
+-- the row is at its number, counted on from this one
 abbrev StandsFrom : ℕ → List DataRow → ProjectRow → Type 0
 StandsFrom number rows project = (k : ℕ) × (project.number ≡ number + k) × HasAt rows (IsLineOf (project_line project)) k
 
@@ -97,7 +97,7 @@ project_first file clean n r p of_project =
     let only = (keeps.groups p.group (p.group_place, p.of_file.0, p.of_file.1)).only_rows p.place p.fields (at_contained p.group.rows p.fields (p.place, p.of_group.0, p.of_group.1)) in
     (name, nothing_below p.place (λ lt. only.one_project (name, lt)))
 
--- and its group stands once
+-- and its group occurs once
 one_place : (file : CheckedFile) → IsClean file → (i j : ℕ) (g h : Contents) → At (contents_of file.groups) i g → At (contents_of file.groups) j h → g.name ≡ h.name → i < j → ⊥
 one_place file clean i j g h at_i at_j same lt =
     let names = group_names (contents_of file.groups) in
@@ -127,7 +127,7 @@ one_project file clean n m a b =
 
 -- ---- what it says
 
--- the row of PROJ of a file without findings stands at its number
+-- the row of PROJ of a file without findings is at its number
 its_line : (file : CheckedFile) → IsClean file → (project : ProjectRow) → Some project ≡ project_of (kept_rows file.groups) → HasAt (data_rows (contents_of file.groups)) (IsLineOf (project_line project)) project.number
 its_line file clean project is =
     let found = found_line 0 [] (kept_rows file.groups) (data_rows (contents_of file.groups)) project (lines_spelled file.bytes file.groups clean.groups) (sym is) in

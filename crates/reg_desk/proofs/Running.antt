@@ -19,9 +19,9 @@ use Rattle.reg_desk.specs.Serving.{is_failed, IsAnswer, terms_at, Serves}
 use Rattle.reg_desk.specs.Running.{AreFailed, AreAnswers, failing, Runs, RunsIfSound}
 use Rattle.reg_desk.proofs.Bodies.{where_true, where_false}
 
--- ---- the keep of a desk that answers a list of requests
+-- ---- the store of a desk that answers a list of requests
 
--- once the desk has failed, each answer is StoreFailed, and the keep stays
+-- once the desk has failed, each answer is StoreFailed, and the store stays the same
 stays_failed : {K : Type 0} (keep : Ghosts K) (old new : Desk K keep) (requests : List Asked) (answers : List Answer) → AreAnsweredBy keep old requests answers new → old.failed ≡ true
     → AreFailed requests answers × (new.keep ≡ old.keep)
 stays_failed {K = K} keep old new [] [] by failed = (tt, ap (λ (d : Desk K keep). d.keep) by)
@@ -32,7 +32,7 @@ stays_failed keep old new (r ∷ requests) (a ∷ answers) by failed =
     let rest = stays_failed keep by.0 new requests answers by.2 (by.1.failed ∙ ap is_failed stuck.0) in
     ((stuck.0, rest.0), rest.1 ∙ stuck.1)
 
--- a keep that is sound then was sound before
+-- a store that is sound afterwards was sound before
 was_sound : {K : Type 0} (keep : Ghosts K) (old new : Desk K keep) (requests : List Asked) (answers : List Answer) → AreAnsweredBy keep old requests answers new → keep.is_sound new.keep → keep.is_sound old.keep
 was_sound {K = K} keep old new [] [] by sound = subst (λ (d : Desk K keep). keep.is_sound d.keep) by sound
 was_sound keep old new [] (a ∷ answers) by sound = absurd by
@@ -43,12 +43,12 @@ was_sound keep old new (r ∷ requests) (a ∷ answers) by sound =
 
 -- ---- the run
 
--- a keep that has not failed leaves its own list alone
+-- a store that has not failed leaves its own list and no other
 abbrev Settled : {K : Type 0} → Ghosts K → Type 0
 Settled {K} keep = (k : K) (list : List Deposit) → keep.is_sound k → keep.has_failed k ≡ false → keep.may_leave k list
     → list ≡ keep.deposits k
 
--- a keep that has not failed leaves a register of some list
+-- a store that has not failed leaves a register of some list
 abbrev Unbroken : {K : Type 0} → Ghosts K → Type 0
 Unbroken {K} keep = (k : K) → keep.is_sound k → keep.has_failed k ≡ false → keep.may_break k → ⊥
 
@@ -103,7 +103,7 @@ runs_on keep rules old mid new r a requests answers sound lives serves is rest =
     skip true e more = absurd (true≢false e)
     skip false e more = refl
 
--- what a desk answers that had not failed, over a keep that is sound at the end
+-- what a desk that had not failed answers, over a store that is sound at the end
 pub desk_runs : {K : Type 0} (keep : Ghosts K) (old new : Desk K keep) (requests : List Asked) (answers : List Answer) → Settled keep → Unbroken keep → AreAnsweredBy keep old requests answers new → RunsIfSound keep old requests answers new
 desk_runs {K = K} keep old new [] [] settled unbroken by sound works =
     let was = was_sound keep old new [] [] by sound in
@@ -129,7 +129,7 @@ desk_runs {K = K} keep old new (r ∷ requests) (a ∷ answers) settled unbroken
 
 -- ---- the loop
 
--- the next request is asked of the desk that these left
+-- the next request goes to the desk that these left
 pub answered_more : {K : Type 0} (keep : Ghosts K) (old mid new : Desk K keep) (requests : List Asked) (answers : List Answer) (r : Asked) (a : Answer)
     → AreAnsweredBy keep old requests answers mid → AnsweredBy keep mid r a new → AreAnsweredBy keep old (requests ++ r ∷ []) (answers ++ a ∷ []) new
 answered_more {K = K} keep old mid new [] [] r a h by = (new, subst (λ (d : Desk K keep). AnsweredBy keep d r a new) h by, refl)

@@ -47,7 +47,7 @@ note {line} {code} {subject} {Fact} none = either Fact (λ x. elim x [
   | inr never ↦ none [] (adds_clear never refl)
 ])
 
--- what is listed by itself is listed behind others
+-- what is listed by itself is listed after others
 adds_behind : {Stands : Finding → Type 0} (front more : List Finding) → Adds Stands [] more → Adds Stands front (front ++ more)
 adds_behind front more x = record { more = x.more; joined = ap (λ (l : List Finding). front ++ l) x.joined; only = x.only; all = x.all }
 

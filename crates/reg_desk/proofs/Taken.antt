@@ -21,7 +21,7 @@ use Rattle.reg_desk.specs.declared.answer.Answer.TheVariants.{Receipt, Findings,
 use Rattle.reg_desk.specs.Machine.{Terms, decided, OrDenied, OrFound, OrRefused, first_equal, receipt_of, held, is_own, withdrawal_of, IsReply, IsTaken, IsWithdrawn}
 use Rattle.reg_desk.specs.Laws.{TakenIsReceived, WithdrawnIsReplied}
 
--- what stands of the receipt
+-- what holds of the receipt
 abbrev IsReceipt : Terms → List Deposit → Caller → List ℕ → ℤ → List ℕ → Answer → Type 0
 IsReceipt terms state caller project embargo bytes r =
     r ≡ receipt_of terms embargo (length state) (first_equal 1 caller.firm project bytes (sents state))
@@ -60,7 +60,7 @@ not_found [] P r h never = (refl, h)
 not_found (f ∷ found) P r h never = absurd (never (f ∷ found) h)
 
 -- a reply that is no refusal: the body is permitted, not above the limit of bytes and without findings, and the rest
--- stands
+-- holds
 pub not_refused : (d : Decision) (terms : Terms) (bytes : List ℕ) (P : Answer → Type 0) (r : Answer)
     → OrDenied d (OrRefused terms bytes P) r → ((n : ℕ) → r ≡ Denied n → ⊥) → (r ≡ TooLarge → ⊥)
     → ((l : List Finding) → r ≡ Findings l → ⊥)

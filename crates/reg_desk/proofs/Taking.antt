@@ -144,7 +144,7 @@ deposit_repeats keep rules caller project embargo bytes day old new n e fine rea
     none_some None p a b = cc
     none_some (Some q) p a b = cc
 
--- ---- what the keep finds
+-- ---- what the store finds
 
 -- its number is one of the list
 pub found_within : (firm project bytes : List ℕ) (state : List Deposit) (n : ℕ)
@@ -245,7 +245,7 @@ deposit_full keep rules caller project embargo bytes day old mid fine reads unhe
     (no_room s)) ∣₁)
     (λ s. inr (λ list change. omega (arith, change.0.4, no_room s), refl)) (fine_asks terms state caller project embargo bytes day fine).0
 
--- the keep refuses to append
+-- the store refuses to append
 pub deposit_unadded : {K : Type 0} (keep : Ghosts K) (rules : List Rule) (caller : Caller) (project : List ℕ) (embargo : ℤ) (bytes : List ℕ) (day : ℤ) (old mid new : K) (e : KeepError)
     → IsFine (terms_at keep rules old) caller project bytes day → OnlyReads keep old mid false → (keep.is_sound mid → IsTaken (terms_at keep rules old) (keep.deposits old) caller project bytes day)
     → Appends keep (asked_deposit caller project embargo bytes) mid new (Err e)

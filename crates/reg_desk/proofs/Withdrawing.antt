@@ -213,7 +213,7 @@ marking keep rules caller project number day old mid new k result permit reads i
       asks = withdraw_asks terms state caller project number day k permit;
     }
 
--- it is not marked yet, and the keep marks it
+-- it is not marked yet, and the store marks it
 pub withdraw_marks : {K X : Type 0} (keep : Ghosts K) (rules : List Rule) (caller : Caller) (project : List ℕ)
     (number : ℕ) (day : ℤ) (old mid new : K) (k : ℕ) (x : X)
     → decided (terms_at keep rules old) caller project verbs.Withdraw day ≡ Permit k → OnlyReads keep old mid false
@@ -229,7 +229,7 @@ withdraw_marks keep rules caller project number day old mid new k x permit reads
     (λ s. own_answer terms state caller project number day k false permit
     (owned caller project (held number state) false (is (marks.sound s))))
 
--- the keep refuses to mark it
+-- the store refuses to mark it
 pub withdraw_unmarked : {K X : Type 0} (keep : Ghosts K) (rules : List Rule) (caller : Caller) (project : List ℕ)
     (number : ℕ) (day : ℤ) (old mid new : K) (k : ℕ) (e : KeepError)
     → decided (terms_at keep rules old) caller project verbs.Withdraw day ≡ Permit k → OnlyReads keep old mid false
@@ -241,7 +241,7 @@ withdraw_unmarked {X = X} keep rules caller project number day old mid new k e p
     (marked number (keep.deposits mid)) e
     (marking keep rules caller project number day old mid new k (Err e) permit reads is marks) (λ s. named)
 
--- ---- what the keep asks before it marks
+-- ---- what the store requires before it marks
 
 -- the number is one of the list
 pub own_within : {K : Type 0} (keep : Ghosts K) (caller : Caller) (project : List ℕ) (number : ℕ) (old mid : K)

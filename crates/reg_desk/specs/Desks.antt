@@ -13,8 +13,8 @@ use Rattle.reg_desk.specs.Machine.{held}
 use Rattle.reg_desk.specs.Serving.{is_failed, terms_at, Serves, ShowsRows}
 
 -- The desk before, what it is asked, its answer, and the desk after. A desk that failed answers StoreFailed and keeps
--- what it has; else the request is served over its keep under its policy, which stays. An extract is made of rows, also
--- over a keep that is not sound.
+-- what it has; else the request is served over its store under its policy, which stays. An extract is made of rows,
+-- also over a store that is not sound.
 pub record AnsweredBy {K : Type 0} (keep : Ghosts K) (old : Desk K keep) (request : Asked) (answer : Answer)
     (new : Desk K keep) : Type 0 where
   pub policy : new.policy ≡ old.policy
@@ -31,7 +31,7 @@ AreAnsweredBy {K} keep old (request ∷ requests) (answer ∷ answers) new =
     (next : Desk K keep) × AnsweredBy keep old request answer next × AreAnsweredBy keep next requests answers new
 AreAnsweredBy keep old _ _ new = ⊥
 
--- where the answer is a text, it is a file without findings under the keep's dictionary
+-- where the answer is a text, it is a file without findings under the store's dictionary
 abbrev pub IsCleanText : {K : Type 0} → Ghosts K → K → Answer → Type 0
 IsCleanText keep old (Text text) = ∥ AreFindings (keep.dictionary old) text [] ∥₁
 IsCleanText keep old _ = Unit {0}

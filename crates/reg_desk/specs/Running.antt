@@ -16,9 +16,9 @@ use Rattle.reg_desk.specs.Serving.{is_failed, IsAnswer, IsAfter, terms_at}
 abbrev pub AreFailed : List Asked → List Answer → Type 0
 AreFailed requests answers = AllZip (λ request answer. answer ≡ StoreFailed) requests answers
 
--- One answer for each request. Up to the first StoreFailed each is the machine's reply with its next state, or want of
--- memory with the state unchanged; from there on all are StoreFailed. `last` is the state before the first StoreFailed,
--- or at the end.
+-- One answer for each request. Up to the first StoreFailed each is the machine's reply with its next state, or NoMemory
+-- with the state unchanged; from there on all are StoreFailed. `last` is the state before the first StoreFailed, or at
+-- the end.
 abbrev pub AreAnswers : Terms → List Deposit → List Asked → List Answer → List Deposit → Type 0
 AreAnswers terms state [] [] last = last ≡ state
 AreAnswers terms state (request ∷ requests) (answer ∷ answers) last =
@@ -40,7 +40,7 @@ IsHeldIn list (withdraw caller project number day) (Withdrawn n) =
     option_map (λ d. d.withdrawn) (held n list) ≡ Some true
 IsHeldIn list _ _ = ⊤
 
--- The answers of a keep that works at the start, its list at the end where none of them is StoreFailed, and what a
+-- The answers of a store that works at the start, its list at the end where none of them is StoreFailed, and what a
 -- crash leaves then.
 pub record Runs {K : Type 0} (keep : Ghosts K) (rules : List Rule) (old new : K) (requests : List Asked)
     (answers : List Answer) : Type 0 where
@@ -54,13 +54,13 @@ pub record Runs {K : Type 0} (keep : Ghosts K) (rules : List Rule) (old new : K)
   -- a crash leaves a register of some list, so of one of these
   pub whole : keep.may_break new → ⊥
 
--- If the desk had not failed and its keep is sound at the end: its answers, its list then and what a crash may leave
+-- If the desk had not failed and its store is sound at the end: its answers, its list then and what a crash may leave
 -- are as `Runs` says.
 abbrev pub RunsIfSound : {K : Type 0} (keep : Ghosts K) → Desk K keep → List Asked → List Answer → Desk K keep → Type 0
 RunsIfSound keep old requests answers new = keep.is_sound new.keep → old.failed ≡ false
     → ∥ Runs keep old.policy old.keep new.keep requests answers ∥₁
 
--- If the desk had not failed and its keep is sound at the end: every list that a crash may leave holds each deposit
+-- If the desk had not failed and its store is sound at the end: every list that a crash may leave holds each deposit
 -- that was answered by a receipt, under its number, with the embargo that the receipt shows, and has the mark of each
 -- that was answered as withdrawn.
 abbrev pub ReceiptsSurviveIfSound : {K : Type 0} (keep : Ghosts K) → Desk K keep → List Asked → List Answer

@@ -83,7 +83,7 @@ fn decide_request<'x>(
     policy.decide(&Subject::of_request(caller, project, verb, day))
 }
 
-/// The answer where the keep refuses.
+/// The answer where the store refuses.
 fn refused(error: KeepError) -> Answer
     ensures { result ≡ answer_of error }
 {

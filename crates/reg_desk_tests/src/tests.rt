@@ -1,4 +1,4 @@
-//! Worked examples of the desk, the same over each keep.
+//! Worked examples of the desk, the same over each store.
 
 ghost use Rattle.std.specs.Prelude.{◌≡◌, ◌≤◌, ◌<◌, false};
 
@@ -110,7 +110,7 @@ pub struct Example {
     pub steps: &'static [Step],
 }
 
-/// The keep of a desk that begins.
+/// The store of a desk that begins.
 #[derive(Clone, Copy)]
 pub enum Over {
     /// In memory.
@@ -124,13 +124,13 @@ pub enum Over {
 /// What is played at a desk that begins.
 #[derive(Clone, Copy)]
 pub enum Play {
-    /// These steps are asked in turn.
+    /// These steps are asked one after the other.
     Steps(&'static [Step]),
     /// The same under the policy with lines more.
     Under(Added, &'static [Step]),
     /// Six runs are asked, where withdrawals are permitted and memory may be refused once.
     Runs,
-    /// Four requests are asked behind a deposit of this body.
+    /// Four requests are asked after a deposit of this body.
     Told(&'static Body),
 }
 
@@ -166,7 +166,7 @@ fn holds<K: Keep>(
     }
 }
 
-/// Whether these steps in turn are answered as they should be.
+/// Whether these steps, one after the other, are answered as they should be.
 fn hold<K: Keep>(
     alloc: Global,
     desk: &mut Desk<K>,
@@ -198,7 +198,7 @@ fn answers<K: Keep>(
     }
 }
 
-/// Whether a desk over this keep and under this policy answers as it should what is played, for this project; and the keep.
+/// The store, and whether a desk over it, under this policy, answers what is played for this project as it should.
 fn plays_at<K: Keep>(
     alloc: Global,
     keep: K,
@@ -214,7 +214,7 @@ fn plays_at<K: Keep>(
     (desk.into_keep(), right)
 }
 
-/// A keep in memory under a dictionary that may hold so many deposits.
+/// A store in memory, under a dictionary, that may hold so many deposits.
 fn keep_under(alloc: Global, dictionary: Dictionary, limit: u32) -> PlainKeep
     requires least { 0 < limit }
     requires most { limit ≤ 999999 }
@@ -226,7 +226,7 @@ fn keep_under(alloc: Global, dictionary: Dictionary, limit: u32) -> PlainKeep
     }
 }
 
-/// The same under the small dictionary; none where no keep may hold so many.
+/// The same under the small dictionary; none where no store may hold so many.
 fn memory_of(alloc: Global, limit: u32) -> Option<PlainKeep> {
     if limit == 0 || limit > MOST {
         return None;
@@ -237,7 +237,7 @@ fn memory_of(alloc: Global, limit: u32) -> Option<PlainKeep> {
     }
 }
 
-/// Whether that is so over a keep in memory that may hold so many deposits.
+/// Whether that is so over a store in memory that may hold so many deposits.
 fn plays_in_memory(
     alloc: Global,
     limit: u32,
@@ -255,7 +255,7 @@ fn plays_in_memory(
     }
 }
 
-/// The same over a keep that gives no body.
+/// The same over a store that gives no body.
 fn plays_without_bodies(
     alloc: Global,
     policy: Policy,
@@ -273,7 +273,7 @@ fn plays_without_bodies(
     }
 }
 
-/// Want of memory, where no tables were made for that.
+/// Out of memory, where that is why no tables were made.
 fn unmade(error: CreateError) -> Result<bool, AllocError> {
     match error {
         CreateError::NoMemory => Err(AllocError),
@@ -281,7 +281,7 @@ fn unmade(error: CreateError) -> Result<bool, AllocError> {
     }
 }
 
-/// The same over tables. `SqlKeep` is shown to be a keep here alone, and let go by the crate that has it.
+/// The same over tables. `SqlKeep` is shown to be a `Keep` here alone, and dropped by the crate that has it.
 fn plays_in_tables(
     alloc: Global,
     policy: Policy,
@@ -307,7 +307,7 @@ fn length_of(alloc: Global, body: &Body) -> Result<usize, AllocError> {
     Ok(bytes_of(alloc, body)?.len())
 }
 
-/// The same over such a keep. None but a keep in memory has a limit of its own: with another limit nothing is asked.
+/// The same over such a store. Only a store in memory has a limit of its own: with another limit nothing is asked.
 fn plays_over(
     alloc: Global,
     (over, limit): (Over, u32),
@@ -362,8 +362,8 @@ fn plays_of(
     }
 }
 
-/// Whether a desk over such a keep, for so many deposits, answers as it should what is played. Where memory is refused before it begins,
-/// nothing is asked.
+/// Whether a desk over such a store, for so many deposits, answers what is played as it should. Where memory is refused
+/// before it begins, nothing is asked.
 fn plays(alloc: Global, over: Over, limit: u32, play: Play) -> Result<bool, AllocError> {
     match Callers::read(alloc, CALLERS) {
         Ok(callers) => plays_of(alloc, (over, limit), &callers, play),
@@ -371,7 +371,7 @@ fn plays(alloc: Global, over: Over, limit: u32, play: Play) -> Result<bool, Allo
     }
 }
 
-/// The examples over such a keep.
+/// The examples over such a store.
 fn examples_over(alloc: Global, rt: &impl Abort, over: Over) {
     for example in &EXAMPLES {
         let play = Play::Steps(example.steps);
@@ -393,7 +393,7 @@ fn bodies_are_as_long_as_they_should_be(rt: HostRuntime) {
     }
 }
 
-/// Long bodies take longer, so each keep has a test of them.
+/// Long bodies take longer, so each store has a test of them.
 #[test]
 fn long_bodies_in_memory(rt: HostRuntime) {
     assert!(rt; plays(rt.alloc(), Over::Memory, MOST, Play::Steps(&LONG)).unwrap_or(false));

@@ -6,7 +6,7 @@ use Rattle.std.specs.Io.KnownBytes.{Consumes, IsAtEnd}
 use borrow.Rule.Slice.PartMut.{put_mid, post_of, same_len_mid, mid_of}
 use Rattle.reg_http.specs.Fills.{FillsMore}
 
--- the front grows by what was written behind it
+-- the front grows by what was written after it
 pub take-put_mid-more : (xs ys : List ℕ) (a k n : ℕ) → a ≤ length xs → n ≤ length ys
     → take (a + n) (put_mid a k xs ys) ≡ take a xs ++ take n ys
 take-put_mid-more xs ys a k n inside few =

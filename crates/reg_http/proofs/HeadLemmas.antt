@@ -52,7 +52,7 @@ none_at_end bytes none h rest head =
 pub none_ever : (bytes front rest : List ℕ) → bytes ≡ front ++ rest → NeverHasRequest front → HasNoHead bytes
 none_ever bytes front rest split never h q head = never rest h q (rw (← split) head.reads)
 
--- what fits in the front stands in the front
+-- what fits in the front is in the front
 cut : (front rest p q : List ℕ) → front ++ rest ≡ p ++ q → length p ≤ length front → front ≡ p ++ drop (length p) front
 cut front rest p q same fits =
     let head : take (length p) front ≡ p =

@@ -19,7 +19,7 @@ use Rattle.reg_http.proofs.SeekLemmas.{all_bytes, with_token, with_tokens, seek_
 abbrev Rows : Type 0
 Rows = RowsOf (RouteOf Page)
 
--- what the routes have after the project, from its slash on, and behind that
+-- what the routes have after the project: from its slash on, and after its slash
 abbrev behind : Rows
 behind = (codes "check", check_route) ∷ (codes "deposits/" ++ param_token ∷ [], deposit_route) ∷ (codes "deposits", deposits_route) ∷ []
 
@@ -77,21 +77,21 @@ project_step (b ∷ p) r e = ⊎_elim hit miss (cases_Bool (ltb 0 1 && cuts (seg
         let P : ℕ × Rows → Type 0 = λ x. seek (x.0 - 1) x.1 p ≡ Some r in
         absurd (nowhere (has_slash (b ∷ p)) (subst P (param_miss below (b ∷ p) is) e))
 
--- the routes, and what stands behind the project's slash
+-- the routes, and what comes after the project's slash
 abbrev Ends : List ℕ → RouteOf Page → Type 0
 Ends q r = (r ≡ check_route) ⊎ ((r ≡ deposits_route) ⊎ ((r ≡ deposit_route) × (rest : List ℕ) × (q ≡ codes "deposits/" ++ rest)))
 
 abbrev AreBytes : List ℕ → Type 0
 AreBytes p = (k : ℕ) → get_or p k 0 < 256
 
--- what stands behind bytes is bytes
+-- what comes after bytes is bytes
 bytes_behind : (w q : List ℕ) → AreBytes (w ++ q) → AreBytes q
 bytes_behind w q bytes k = omega (arith, get_or-append-add w q k 0, bytes (length w + k))
 
 abbrev last_rows : Rows
 last_rows = (slash ∷ param_token ∷ [], deposit_route) ∷ ([], deposits_route) ∷ []
 
--- behind `deposits`
+-- after `deposits`
 last_ends : (q : List ℕ) (r : RouteOf Page) → AreBytes q → seek 0 last_rows q ≡ Some r → (r ≡ deposits_route) ⊎ ((r ≡ deposit_route) × (rest : List ℕ) × (q ≡ slash ∷ rest))
 last_ends [] r bytes e =
     let is : Some deposits_route ≡ Some r = sym (seek_end last_rows) ∙ e in
@@ -108,7 +108,7 @@ last_ends (y ∷ p) r bytes e = ⊎_elim
     none-some r (sym (seek_none 0 p) ∙ ap (λ s. seek 0 s p) (sym none) ∙ sym (seek_plain last_rows y p refl refl) ∙ e))
     (cases_eq slash y)
 
--- behind the project
+-- after the project
 ends_of : (q : List ℕ) (r : RouteOf Page) → AreBytes q → seek 0 behind q ≡ Some r → Ends q r
 ends_of [] r bytes e = none-some r (sym (seek_end behind) ∙ e)
 ends_of (y ∷ p) r bytes e = ⊎_elim check_here other_than_check (cases_eq 99 y)

@@ -18,7 +18,7 @@ use Rattle.reg_desk.specs.declared.answer.Listed.{Listed}
 use Rattle.reg_http.specs.Bodies.{finding_data, findings_data, IsListedData, IsListingData, listed_data, listing_data, printed}
 use Rattle.reg_http.proofs.PlainLemmas.{code_plain, day_plain, name_plain}
 
--- the texts of items, behind others or not, with a comma between two
+-- the texts of items, after others or not, with a comma between two
 abbrev items_front : Bool → List Data → List ℕ
 items_front later [] = []
 items_front later (d ∷ ds) = comma_if later ++ (compact_text d ++ items_front true ds)
@@ -27,13 +27,13 @@ items_front later (d ∷ ds) = comma_if later ++ (compact_text d ++ items_front 
 abbrev pub list_front : List ℕ → List Data → List ℕ
 list_front name ds = codes "{" ++ (quoted name ++ (codes ":[" ++ items_front false ds))
 
--- behind other items stands a comma
+-- after other items comes a comma
 later_more : (ds : List Data) (d : Data) → items_front true (ds ++ d ∷ []) ≡ items_front true ds ++ 44 ∷ compact_text d
 later_more [] d = ap (λ t. 44 ∷ t) (append-nil (compact_text d))
 later_more (e ∷ ds) d =
     ap (λ t. 44 ∷ (compact_text e ++ t)) (later_more ds d) ∙ ap (λ t. 44 ∷ t) (sym (append_assoc (compact_text e) (items_front true ds) (44 ∷ compact_text d)))
 
--- one item more, behind so many
+-- one item more, after so many
 items_more : (ds : List Data) (d : Data) (n : ℕ) → length ds ≡ n → items_front false (ds ++ d ∷ []) ≡ items_front false ds ++ (comma_if (nat_lt 0 n) ++ compact_text d)
 items_more [] d n none = subst (λ k. compact_text d ++ [] ≡ comma_if (nat_lt 0 k) ++ compact_text d) none (append-nil (compact_text d))
 items_more (e ∷ ds) d n some =
@@ -67,16 +67,16 @@ list_closed name ds = append_assoc (codes "{" ++ quoted name) (codes ":[" ++ ite
 quoted_plain : (s rest : List ℕ) → escape s ≡ s → quoted s ++ rest ≡ 34 ∷ (s ++ 34 ∷ rest)
 quoted_plain s rest plain = ap (λ t. 34 ∷ t) (append_assoc (escape s) (34 ∷ []) rest ∙ ap (λ t. t ++ 34 ∷ rest) plain)
 
--- where the last piece was written, it stands behind the others
+-- where the last piece was written, it comes after the others
 pub last_piece : {T E P : Type 0} (r : Result T E) (new grown same : List ℕ) → new ≡ (if is_ok r then grown else same) → (new ≡ grown → P) → OnOk r P
 last_piece (Ok t) new grown same is next = next is
 last_piece (Err e) new grown same is next = tt
 
--- five pieces, one behind the other
+-- five pieces, one after the other
 pub five_pieces : (o a b c d e o1 o2 o3 o4 o5 : List ℕ) → o1 ≡ o ++ a → o2 ≡ o1 ++ b → o3 ≡ o2 ++ c → o4 ≡ o3 ++ d → o5 ≡ o4 ++ e → o5 ≡ ((((o ++ a) ++ b) ++ c) ++ d) ++ e
 five_pieces o a b c d e o1 o2 o3 o4 o5 e1 e2 e3 e4 e5 = rw (e5, e4, e3, e2, e1) refl
 
--- the pieces of a finding, one behind the other
+-- the pieces of a finding, one after the other
 pub finding_pieces : (o a b c d e f g o1 o2 o3 o4 o5 o6 : List ℕ) → o1 ≡ (o ++ a) ++ b → o2 ≡ o1 ++ c → o3 ≡ o2 ++ d → o4 ≡ o3 ++ e → o5 ≡ o4 ++ f → o6 ≡ o5 ++ g
     → o6 ≡ o ++ (a ++ (b ++ (c ++ (d ++ (e ++ (f ++ g))))))
 finding_pieces o a b c d e f g o1 o2 o3 o4 o5 o6 e1 e2 e3 e4 e5 e6 = rw (e6, e5, e4, e3, e2, e1) (simp append_assoc)
@@ -117,7 +117,7 @@ pub deposits_begin : codes "{\"deposits\":[" ≡ list_front (codes "deposits") [
 unfolding escape_byte
 deposits_begin = refl
 
--- ---- what is written behind the last
+-- ---- what is written after the last line
 
 -- one finding more is written
 pub findings_more : (fs : List Finding) (place : ℕ) (f : Finding) (old mid new : List ℕ) → At fs place f → old ≡ list_front (codes "findings") (map finding_data (take place fs))

@@ -36,7 +36,7 @@ Appends-none : (u : Option (List ℕ)) → Appends u u []
 Appends-none None = tt
 Appends-none (Some xs) = sym (append-nil xs)
 
--- the one refusal for want of memory
+-- the one refusal when out of memory
 memory_is : (r : Refusal) → is_want_of_memory r ≡ true → OutOfMemory ≡ r
 memory_is BadHead e = cc
 memory_is NoRoute e = cc
@@ -84,7 +84,7 @@ head_of bytes left buf headers spans filled held small split =
     }
 
 module _ {D : Type 0} (answers : D → Asked → Answer → D → Type 0) (callers : List Credential) (day : ℤ) where
-  -- a refusal at a head, or want of memory
+  -- a refusal at a head, or out of memory
   at_head : (bytes : List ℕ) (d : D) (u w : Option (List ℕ)) (r : Refusal) (result : Result Served IoFault) (h : RequestHead) (rest : List ℕ)
       → IsHead bytes h rest → (is_want_of_memory r ≡ false → ask_of callers day (head_parts h) ≡ Err r) → Written u w (rendered r) (status_of r) result
       → (is_want_of_memory r ≡ true) ⊎ (is_want_of_memory r ≡ false) → ServesOne answers callers day bytes d d u w result
@@ -144,7 +144,7 @@ module _ {D : Type 0} (answers : D → Asked → Answer → D → Type 0) (calle
   asked_at (Some more) early parts d e u w a result asks way = λ bytes h head same.
       serve_result bytes (early ++ more) d e u w h a result head (ap (ask_of callers day) (sym same) ∙ asks) way
 
--- a head with anything behind it
+-- a head with anything after it
 head_before : (bytes rest all : List ℕ) (h : RequestHead) → IsHead bytes h rest → IsHead (print_request h ++ all) h all
 head_before bytes rest all h head = record { reads = (head.reads.0, refl); short = head.short; few = head.few }
 

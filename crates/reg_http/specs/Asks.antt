@@ -17,7 +17,7 @@ use Rattle.reg_http.specs.declared.request.route.Kind.{Kind}
 use Rattle.reg_http.specs.declared.refusal.Refusal.{Refusal}
 use Rattle.reg_http.specs.declared.refusal.Refusal.TheVariants.{NoCaller}
 
--- the token behind `Bearer` and one space
+-- the token after `Bearer` and one space
 abbrev pub token_in : List ℕ → Option (List ℕ)
 token_in value = if starts_with nat_eq value (codes "Bearer ") then Some (drop 7 value) else None
 

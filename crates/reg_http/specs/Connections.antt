@@ -23,7 +23,7 @@ abbrev pub most_calls : ℕ
 most_calls = longest_head + 1 + LIMIT
 
 module _ {R W : Type 0} where
-  -- nothing was asked of any reader or writer
+  -- no reader or writer was called
   abbrev pub AreFresh : List (Tally R × Tally W) → Type 0
   AreFresh [] = ⊤
   AreFresh (c ∷ cs) = (IsFresh c.0 × IsFresh c.1) × AreFresh cs
@@ -44,7 +44,7 @@ module _ {D R W : Type 0} (answers : D → Asked → Answer → D → Type 0)
     pub calls : calls_of new.0 ≤ most_calls
     pub waits : IfSome (remaining (inner_of old.0)) (λ bytes. WaitsFor callers day bytes (calls_of new.0))
 
-  -- each in turn, the next over the desk that the last left
+  -- one after the other, the next over the desk that the last left
   abbrev pub ServesAll : List (Tally R × Tally W) → List (Result Served IoFault) → List (Tally R × Tally W)
       → D → D → Type 0
   ServesAll [] [] [] before after = after ≡ before
@@ -63,7 +63,7 @@ module _ {K R W : Type 0} {keep : KeepGhosts K} (reads : ReadGhosts R) (writes :
   ServesPair old new before after r =
       ServesConnection (AnsweredBy keep) reads.remaining writes.contents callers day old new before after r
 
-  -- the connections were served over a desk in turn, if there was memory for their results
+  -- the connections were served over a desk, one after the other, if there was memory for their results
   abbrev pub ServesList : List (Tally R × Tally W) → List (Tally R × Tally W) → Desk K keep → Desk K keep
       → Result (Vec (Result Served IoFault) Global) AllocError → Type 0
   ServesList old new before after r =

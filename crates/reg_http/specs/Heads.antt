@@ -11,7 +11,7 @@ use Rattle.reg_http.specs.declared.tally.Tally.{Tally}
 use Rattle.reg_http.specs.declared.request.head.HeadRead.{HeadRead}
 use Rattle.reg_http.specs.declared.request.head.HeadRead.TheVariants.{Empty, Fault, Bad, Whole}
 
--- the limits of a head: its bytes, empty lines before it and the empty line behind it included, and its fields
+-- the limits of a head: its bytes, empty lines before it and the empty line after it included, and its fields
 abbrev pub longest_head : ℕ
 longest_head = 8192
 
@@ -25,7 +25,7 @@ pub record IsHead (bytes : List ℕ) (h : RequestHead) (rest : List ℕ) : Type 
   pub short : length (print_request h) ≤ longest_head
   pub few : length h.fields ≤ most_fields
 
--- no head within the limits stands at the front
+-- no head within the limits is at the front
 abbrev pub HasNoHead : List ℕ → Type 0
 HasNoHead bytes = (h : RequestHead) (rest : List ℕ) → ¬ (IsHead bytes h rest)
 
@@ -55,7 +55,7 @@ ReadsHead bytes left buf headers Fault = ⊤
 ReadsHead bytes left buf headers Bad = (0 < length bytes) × HasNoHead bytes
 ReadsHead bytes left buf headers (Whole spans filled) = Consumes (Some bytes) left (take filled buf)
 
--- the same of a reader, where it tells its bytes
+-- the same of a reader, if contracts can name its bytes
 abbrev pub ReadsHeadFrom : {R : Type 0} → ReadGhosts R → Tally R → Tally R → List ℕ → List HeaderSpan → HeadRead
     → Type 0
 ReadsHeadFrom reads old new buf headers read =

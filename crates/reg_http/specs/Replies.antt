@@ -7,11 +7,11 @@ use Rattle.reg_desk.specs.View.{line_end}
 unfoldable pub phrase_of : ℕ → List ℕ
 phrase_of status = unwrap_or (reason_phrase status) []
 
--- a text, and a status line behind it
+-- a text, and a status line after it
 abbrev pub with_status_line : List ℕ → ℕ → List ℕ
 with_status_line text status = text ++ codes "HTTP/1.1 " ++ decimal status ++ codes " " ++ phrase_of status ++ line_end
 
--- a text, and behind it the fields of a reply and the empty line
+-- a text, and after it the fields of a reply and the empty line
 abbrev pub with_fields : List ℕ → List ℕ → ℕ → List ℕ
 with_fields text kind length =
     text ++ codes "Content-Type: " ++ kind

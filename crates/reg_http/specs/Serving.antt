@@ -57,8 +57,8 @@ ServesAsked answers a day all old new before after r =
 
 module _ {D : Type 0} (answers : D → Asked → Answer → D → Type 0)
     (callers : List Credential) (day : ℤ) (bytes : List ℕ) where
-  -- The ways of a connection: the desk before and after, the text to be written, and its status. Want of memory in the
-  -- engine can come at a head before the desk is asked, or where the reply to its answer is built.
+  -- The ways of a connection: the desk before and after, the text to be written, and its status. The engine can be out
+  -- of memory at a head before the desk is called, or where the reply to its answer is built.
   pub data Exchange : D → D → List ℕ → ℕ → Type 0 where
     silent : {d : D} → ReadAs callers day bytes nothing → Exchange d d [] 0
     refused : {d : D} (r : Refusal) → ReadAs callers day bytes (refusal r) → Exchange d d (rendered r) (status_of r)
@@ -81,7 +81,7 @@ abbrev pub body_reads : Result Asking Refusal → ℕ
 body_reads (Ok a) = a.length + 1
 body_reads (Err r) = 0
 
--- How many reads are made: behind bytes that are no head, or behind a head that is refused, no more than a head may
+-- How many reads are made: after bytes that are no head, or after a head that is refused, no more than a head may
 -- have bytes; of a request as many more as its body has bytes, and one for the end.
 pub record WaitsFor (callers : List Credential) (day : ℤ) (bytes : List ℕ) (reads : ℕ) : Type 0 where
   pub headless : HasNoHead bytes → reads ≤ longest_head

@@ -53,14 +53,14 @@ module _ {K W : Type 0} {keep : KeepGhosts K} (writes : WriteGhosts W) where
       → (all : List ℕ) × ServesOneTo callers day all old new writer writer_after r
 
 module _ {K R W : Type 0} {keep : KeepGhosts K} (reads : ReadGhosts R) (writes : WriteGhosts W) where
-  -- what a head asks was served, of what came early with it and what the reader still had, where that tells its bytes
+  -- what a head asks was served, of what came early with it and what the reader still had, if contracts can name that
   abbrev pub ServesAskedFrom : Ask → ℤ → List ℕ → Tally R → Desk K keep → Desk K keep
       → Tally W → Tally W → Result Served IoFault → Type 0
   ServesAskedFrom ask day early reader old new writer writer_after r =
       IfSome (reads.remaining (inner_of reader))
       (λ left. ServesAskedTo writes ask day (early ++ left) old new writer writer_after r)
 
-  -- a head of these parts was served, with what came early and what the reader still had, where that tells its bytes
+  -- a head of these parts was served, with what came early and what the reader still had, if contracts can name that
   abbrev pub ServesHead : List Credential → ℤ → Parts → List ℕ → Tally R → Desk K keep → Desk K keep
       → Tally W → Tally W → Result Served IoFault → Type 0
   ServesHead callers day parts early reader old new writer writer_after r =
@@ -68,7 +68,7 @@ module _ {K R W : Type 0} {keep : KeepGhosts K} (reads : ReadGhosts R) (writes :
       → IsHead bytes h (early ++ left) → parts_seen parts ≡ head_parts h
       → ServesOneTo writes callers day bytes old new writer writer_after r)
 
-  -- the bytes of the reader were served, where it tells them, and the reply was written to the writer
+  -- the bytes of the reader were served, if contracts can name them, and the reply was written to the writer
   abbrev pub ServesOneFrom : List Credential → ℤ → Tally R → Desk K keep → Desk K keep
       → Tally W → Tally W → Result Served IoFault → Type 0
   ServesOneFrom callers day reader old new writer writer_after r =

@@ -57,7 +57,7 @@ ReadsBody all n (Err fault.Short) = length all < n
 ReadsBody all n (Err fault.Read) = ⊤
 ReadsBody all n (Err fault.Memory) = ⊤
 
--- the same, whatever is told of what was to come: a body has that length, and of no length none ends early
+-- the same, whatever is known of what was to come: a body has that length, and of no length none ends early
 abbrev pub FitsBody : ℕ → Result (Vec ℕ Global) BodyFault → Type 0
 FitsBody n (Ok body) = length body.items ≡ n
 FitsBody n (Err fault.Short) = 0 < n

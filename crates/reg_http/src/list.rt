@@ -11,7 +11,7 @@ use reg_store::Keep;
 use std::alloc::{AllocError, Global};
 use std::io::{Read, Write};
 
-/// Serves each connection in turn, all of them fresh. At `Err` the desk and each connection are as they were.
+/// Serves the connections one after the other, all of them fresh. At `Err` desk and connections are as they were.
 pub fn serve_list<K: Keep, R: Read, W: Write>(
     alloc: Global,
     desk: &mut Desk<K>,

@@ -25,7 +25,7 @@ pub(crate) enum Refusal {
     BadParameter,
     /// The body ends before its length.
     ShortBody,
-    /// Memory was refused. It may come in the place of any that follows `BadHead`.
+    /// An allocation failed. This may come instead of any that follows `BadHead`.
     OutOfMemory,
 }
 

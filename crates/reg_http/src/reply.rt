@@ -37,7 +37,7 @@ fn push_status(text: &mut String, status: StatusCode) -> Result<(), AllocError>
     text.push_str("\r\n")
 }
 
-/// Appends the fields, and the empty line behind them.
+/// Appends the fields, and the empty line after them.
 fn push_fields(text: &mut String, kind: &str, length: usize) -> Result<(), AllocError>
     ensures { OnOk result (string_bytes text.new ≡ with_fields (string_bytes text.old) kind.now length) }
 {

@@ -28,8 +28,8 @@ use reg_store::Keep;
 use std::alloc::Global;
 use std::io::{Read, Write};
 
-/// Serves one connection: reads a request, asks the desk, and writes the reply. Reader and writer are fresh.
-/// Over a reader that tells its bytes, at most 8,192 reads are made where the head is refused.
+/// Serves one connection: reads a request, calls the desk, and writes the reply. Reader and writer are fresh.
+/// Over a reader whose bytes contracts can name, at most 8,192 reads are made where the head is refused.
 /// A reply is one write where the writer takes it: `connections_in_turn` tests it, and no clause says so.
 pub fn serve_one<K: Keep, R: Read, W: Write>(
     alloc: Global,
@@ -176,7 +176,7 @@ fn serve_asked<K: Keep, R: Read, W: Write>(
     serve_request(alloc, desk, &request, writer)
 }
 
-/// Asks the desk, and writes the reply to its answer.
+/// Calls the desk, and writes the reply to its answer.
 fn serve_request<K: Keep, W: Write>(
     alloc: Global,
     desk: &mut Desk<K>,

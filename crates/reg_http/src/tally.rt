@@ -7,7 +7,7 @@ ghost use Rattle.reg_http.specs.Tallies.{inner_of, calls_of, has_failed, IsFresh
 use std::io;
 use std::io::{Read, Write};
 
-/// A reader or a writer, the number of reads or writes asked of it, and whether one of them failed.
+/// A reader or a writer, the number of its calls of `read` or `write`, and whether one of them failed.
 #[derive(Drop)]
 pub struct Tally<T> {
     inner: T,
@@ -28,7 +28,7 @@ impl<T> Tally<T> {
         }
     }
 
-    /// How many reads or writes were asked of it; a flush is not counted. It stays at its greatest value.
+    /// How often `read` or `write` was called; a flush is not counted. It stays at its greatest value.
     pub fn calls(&self) -> u64
         ensures { result ≡ calls_of self.now }
     {

@@ -90,14 +90,14 @@ fn answers(
     has_status(&served, status) && written.as_slice() == reply
 }
 
-/// What is asked of a desk that begins.
+/// What is requested from a desk that begins.
 #[derive(Clone, Copy)]
 enum Play<'a> {
     /// A connection without a byte.
     Silence,
-    /// Three equal deposits, and how many growths are refused.
+    /// Three equal deposits, and how many allocations fail.
     Deposits(u32),
-    /// Two lists of two equal deposits, and how many growths are refused.
+    /// Two lists of two equal deposits, and how many allocations fail.
     Lists(u32),
     /// A list of a deposit, nothing, and the same deposit.
     Turns,
@@ -183,8 +183,8 @@ Connection: close\r\n\
 \r\n\
 {\"error\":\"out of memory\"}";
 
-/// Whether memory was wanting for a deposit, from the status and what was written; none where it is neither that nor
-/// the receipt.
+/// Whether memory ran out for a deposit, from the status and what was written; none where it is neither that nor the
+/// receipt.
 fn was_wanting(served: &Result<Served, IoFault>, written: &[u8]) -> Option<bool> {
     if has_status(served, 503) && written == OUT_OF_MEMORY {
         Some(true)
@@ -216,7 +216,7 @@ fn deposits(
     was_wanting(&served, &written)
 }
 
-/// For how many of three equal deposits memory was wanting.
+/// For how many of three equal deposits memory ran out.
 fn deposits_thrice(
     alloc: Global,
     desk: &mut Desk<PlainKeep>,
@@ -231,8 +231,8 @@ fn deposits_thrice(
     Some(refused)
 }
 
-/// Whether no more answers than growths that were refused are 503: none with memory. Some growths the code can do
-/// without.
+/// Whether no more answers are 503 than allocations failed: none with memory. The code can do without some
+/// allocations.
 fn are_at_most(counted: Option<u32>, refused: u32) -> bool {
     match counted {
         Some(count) => count <= refused,
@@ -240,8 +240,8 @@ fn are_at_most(counted: Option<u32>, refused: u32) -> bool {
     }
 }
 
-/// How many growths are refused: one where `conformance/refused_tests` refuses it, else none. None where it is refused
-/// here.
+/// How many allocations fail: one where `conformance/refused_tests` makes it fail, else none. None where the one that
+/// fails is in this function.
 fn growths_refused(rt: &HostRuntime) -> Option<u32> {
     match env::var(rt, "REFUSED") {
         Ok(number) if number.as_str() != "0" => Some(1),
@@ -250,8 +250,8 @@ fn growths_refused(rt: &HostRuntime) -> Option<u32> {
     }
 }
 
-/// With memory, and where `conformance/refused_tests` refuses one growth: of three equal deposits one at most is then
-/// answered 503, and each other as ever. Where memory is refused before, nothing is asked.
+/// With memory, and where `conformance/refused_tests` makes one allocation fail: of three equal deposits one at most is
+/// then answered 503, and each other as ever. Where memory is refused before, nothing is asked.
 #[test]
 fn memory_is_refused_once(rt: HostRuntime) {
     if let Some(refused) = growths_refused(&rt) {
@@ -290,7 +290,7 @@ const RECEIPT_ALONE: Expects = Expects {
     other: RECEIPT,
 };
 
-/// How many of these answers are want of memory; none where one is neither that nor as ever.
+/// How many of these answers say out of memory; none where one is neither that nor as ever.
 fn count_wanting(results: &[Result<Served, IoFault>]) -> Option<u32> {
     let mut wanting = 0u32;
     for served in results {
@@ -303,8 +303,8 @@ fn count_wanting(results: &[Result<Served, IoFault>]) -> Option<u32> {
     Some(wanting)
 }
 
-/// How often memory was wanting while two equal deposits were served in a list; none where an answer is neither as ever
-/// nor want of memory, or where the list was refused whole and something is held that was not.
+/// How often memory ran out while two equal deposits were served in a list; none where an answer is neither as ever nor
+/// out of memory, or where the list was refused whole and something is held that was not.
 fn list_wanting(
     alloc: Global,
     desk: &mut Desk<PlainKeep>,
@@ -341,9 +341,9 @@ fn lists_twice(
     Some(first.saturating_add(second))
 }
 
-/// With memory, and where `conformance/refused_tests` refuses one growth: two equal deposits are served in a list,
-/// twice. Memory is then wanting once, for the list whole or for one of the four answers, and each other answer is as
-/// ever.
+/// With memory, and where `conformance/refused_tests` makes one allocation fail: two equal deposits are served in a
+/// list, twice. Memory then runs out once, for the list whole or for one of the four answers, and each other answer is
+/// as ever.
 #[test]
 fn memory_is_refused_once_in_a_list(rt: HostRuntime) {
     if let Some(refused) = growths_refused(&rt) {

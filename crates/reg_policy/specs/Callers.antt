@@ -33,7 +33,7 @@ pub record IsCaller (table : Members) (l : Credential) : Type 0 where
 abbrev pub has_token : List ℕ → List Credential → Bool
 has_token token callers = list_any (λ l. bytes_eq token l.token) callers
 
--- no token stands twice
+-- no token occurs twice
 abbrev pub are_unique : List Credential → Bool
 are_unique [] = true
 are_unique (l ∷ callers) = not (has_token l.token callers) && are_unique callers
@@ -56,7 +56,7 @@ callers_error ReadErrors.NoMemory = NoMemory
 
 -- What reading callers gives: them, or the first refusal that holds of the whole document.
 abbrev pub ReadsCallers : List ℕ → Result (List Credential) CallersError → Type 0
--- a document of callers, no token of which stands twice
+-- a document of callers in which no token occurs twice
 ReadsCallers text (Ok callers) = HasCallers text callers × (are_unique callers ≡ true)
 -- no TOML document
 ReadsCallers text (Err Syntax) = IsRefused caller_key caller_keys IsCaller text ReadErrors.Syntax
@@ -64,7 +64,7 @@ ReadsCallers text (Err Syntax) = IsRefused caller_key caller_keys IsCaller text 
 ReadsCallers text (Err UnknownKey) = IsRefused caller_key caller_keys IsCaller text ReadErrors.UnknownKey
 -- of these keys alone, but the array is no list of callers: a value that its key may not have, or a key that is missing
 ReadsCallers text (Err BadValue) = IsRefused caller_key caller_keys IsCaller text ReadErrors.BadValue
--- a document of callers, but a token stands twice
+-- a document of callers, but a token occurs twice
 ReadsCallers text (Err DuplicateToken) =
     (callers : List Credential) × HasCallers text callers × (are_unique callers ≡ false)
 -- memory was refused, which says nothing of the text

@@ -53,7 +53,7 @@ GivesWord (Some (string s)) r =
     IfOk r (λ o. option_map (λ x. x.now) o ≡ (if bytes_eq s (codes "*") then None else Some s)) × IsOk r
 GivesWord (Some d) r = r ≡ Err BadValue
 
--- a copy of a text, or want of memory
+-- a copy of a text, or NoMemory
 abbrev pub GivesCopy : List ℕ → Result (List ℕ) ReadError → Type 0
 GivesCopy text (Ok copy) = copy ≡ text
 GivesCopy text (Err e) = e ≡ NoMemory

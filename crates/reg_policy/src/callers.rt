@@ -191,7 +191,7 @@ fn is_token_byte(b: u8) -> bool
     b'!' <= b && b <= b'~'
 }
 
-/// Whether no token stands twice: none is that of a later caller.
+/// Whether no token occurs twice: none is that of a later caller.
 fn are_unique(alloc: Global, credentials: &[Credential]) -> Result<bool, ReadError>
     ensures unique { IfOk result (λ unique. unique ≡ are_unique credentials.now) }
     ensures memory { IfErr result (λ error. error ≡ ReadError.NoMemory) }

@@ -15,7 +15,7 @@ use toml::{Table, Value};
 pub(crate) enum ReadError {
     /// The text is no TOML.
     Syntax,
-    /// A key is none of those that may stand there.
+    /// A key is none of those that may be there.
     UnknownKey,
     /// A value is of a wrong kind or form, or missing.
     BadValue,

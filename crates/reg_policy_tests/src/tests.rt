@@ -51,7 +51,7 @@ fn copied(alloc: Global, text: &str) -> Option<Name> {
     name.clone().ok()
 }
 
-/// Whether a copy of one name stands in this order to another name, and equals it where it should.
+/// Whether a copy of one name has this order to another name, and equals it where it should.
 fn are_ordered(alloc: Global, one: &str, other: &str, want: Ordering) -> bool {
     let Some(copy) = copied(alloc, one) else {
         return false;
@@ -111,7 +111,7 @@ fn numbers_of_no_day(rt: HostRuntime) {
     }
 }
 
-/// Texts, one behind the other.
+/// Texts, one after the other.
 fn joined(alloc: Global, texts: &[&str]) -> Result<String, AllocError> {
     let mut whole = String::new(alloc);
     for text in texts {

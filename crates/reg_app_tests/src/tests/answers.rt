@@ -36,7 +36,7 @@ const ALL: &str = "[[rule]]\nnumber = 1\neffect = \"permit\"\n";
 
 const RECEIPT: &[u8] = b"receipt 1 2024-06-01\n";
 
-/// What is asked of a register that has room for one deposit, what is printed, and the status. The full register counts
+/// Requests to a register that has room for one deposit, what is printed, and the status. The full register counts
 /// the deposit that is withdrawn, and so does the file that is sent again.
 static OF_ONE: [(Asks, &[u8], u8); 11] = [
     (Asks::Withdraw(1), b"unknown\n", 3),
@@ -93,7 +93,7 @@ fn all_answered<K: Keep>(
     Ok(true)
 }
 
-/// Whether a desk over this keep answers so.
+/// Whether a desk over this store answers so.
 fn keep_answers<K: Keep + Drop>(
     alloc: Global,
     keep: K,

@@ -26,7 +26,7 @@ impl<R: Read> Read for Asked<R> {
     }
 }
 
-/// A file: so many bytes of a text and of the spaces behind it. What is printed, what is said of a fault, and the
+/// A file: so many bytes of a text and of the spaces after it. What is printed, what is said of a fault, and the
 /// status.
 struct Input {
     text: &'static [u8],
@@ -36,7 +36,7 @@ struct Input {
     status: u8,
 }
 
-/// The length of the longest file that is checked. From there on the byte behind it is asked for too.
+/// The length of the longest file that is checked. From there on the byte after it is asked for too.
 const LONGEST: u64 = LIMIT as u64;
 
 const INPUTS: [Input; 10] = [

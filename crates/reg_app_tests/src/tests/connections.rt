@@ -227,7 +227,7 @@ fn write_parts<W: Write>(stream: &mut W, parts: &[&[u8]]) -> io::Result<()> {
     Ok(())
 }
 
-/// Writes what a peer sends, and more behind it where it goes on.
+/// Writes what a peer sends, and more after it where it goes on.
 fn write_sent<W: Write>(stream: &mut W, alloc: Global, peer: &Peer) -> io::Result<()> {
     write_parts(stream, peer.sends)?;
     match peer.then {
@@ -308,7 +308,7 @@ impl Clock for Calendar {
     }
 }
 
-/// Serves so many connections by a clock, with a second of patience, from an empty keep in memory: the status of the
+/// Serves so many connections by a clock, with a second of patience, from an empty store in memory: the status of the
 /// run.
 fn serve_some<C: Clock, W: Write, L: Write + Drop>(
     alloc: Global,
@@ -335,7 +335,7 @@ fn serve_some<C: Clock, W: Write, L: Write + Drop>(
     ))
 }
 
-/// Serves from a keep: the status of the run.
+/// Serves from a store: the status of the run.
 fn serve_keep<K: Keep + Drop, C: Clock, W: Write, L: Write + Drop>(
     alloc: Global,
     clock: &C,

@@ -15,8 +15,8 @@ use reg_store::Keep;
 use std::alloc::{AllocError, Global};
 
 impl<K: Keep> Desk<K> {
-    /// Answers one request. Once the desk has answered StoreFailed it answers nothing else, also where memory is
-    /// wanting.
+    /// Answers one request. Once the desk has answered StoreFailed it answers nothing else, even when it is out
+    /// of memory.
     pub fn answer(&mut self, alloc: Global, request: &Request<'_>) -> Answer
         ensures answered { AnsweredBy K.Keep self.old (asked request.entry.now) result self.new }
         ensures clean { K.is_sound self.new.keep → IsCleanText K.Keep self.old.keep result }
@@ -31,7 +31,7 @@ impl<K: Keep> Desk<K> {
         answer
     }
 
-    /// Answers requests in order. At `Err` the desk is as it was. That its policy and its keep's dictionary and limit
+    /// Answers requests in order. At `Err` the desk is as it was. That its policy and its store's dictionary and limit
     /// stay, how many answers there are, and whether it has failed then, follow from `answered` and `unasked`.
     pub fn run(
         &mut self,
@@ -42,7 +42,7 @@ impl<K: Keep> Desk<K> {
         ensures answered { IfOk result (λ answers.
             AreAnsweredBy K.Keep self.old (map asked requests.entry.now) answers.items self.new) }
 
-        // What a desk that had not failed answers over a sound keep, and what a crash may leave.
+        // What a desk that had not failed answers over a sound store, and what a crash may leave.
         ensures runs { IfOk result (λ answers.
             RunsIfSound K.Keep self.old (map asked requests.entry.now) answers.items self.new) }
         ensures receipts { IfOk result (λ answers.

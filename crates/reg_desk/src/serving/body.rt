@@ -1,4 +1,4 @@
-//! Bodies that are handed in: what they are refused for, and the check of one.
+//! Bodies that a caller sends: why they are refused, and the check of one.
 
 ghost use Rattle.std.specs.Prelude.{◌≡◌, ◌⊎◌, List, false};
 ghost use Rattle.ags_rows.specs.declared.finding.Finding.{Finding};

@@ -32,7 +32,7 @@ fn push_where(out: &mut Vec<u8>, line: &[u8], written: bool) -> Result<(), Alloc
     Ok(())
 }
 
-/// Appends the first line of a group, behind an empty line if there is a group before it.
+/// Appends the first line of a group, after an empty line if there is a group before it.
 fn push_first(out: &mut Vec<u8>, line: &[u8]) -> Result<(), AllocError>
     ensures { OnOk result (out.new.items ≡ out.old.items ++ separator out.old.items ++ line.now ++ line_end) }
 {

@@ -61,7 +61,7 @@ pub const A_TOO_LONG: Body = Body {
     spaces: LIMIT - 542,
 };
 
-/// It behind a byte order mark, with spaces and quotes in line 5, and without its last line end.
+/// It after a byte order mark, with spaces and quotes in line 5, and without its last line end.
 pub const A_SPACED: Body = Body {
     front: b"\xEF\xBB\xBF",
     file: File::A,
@@ -160,7 +160,7 @@ pub const B_TESTED: Body = Body {
     spaces: 0,
 };
 
-/// A dictionary of its own, behind the second file: PROJ has a heading of record links.
+/// A dictionary of its own, after the second file: PROJ has a heading of record links.
 const LINKING: Edit = Edit {
     first: 48,
     last: 47,
@@ -314,7 +314,7 @@ pub const C_SHOWN: Body = Body {
     spaces: 0,
 };
 
-/// Bodies whose lengths are told.
+/// Bodies, each with the length that it should have.
 pub static LENGTHS: [Length; 6] = [
     Length("the first file", A, 543),
     Length("before 4,193,762 spaces", A_LONG, 4_194_305),
@@ -333,7 +333,7 @@ fn file_bytes(file: File) -> &'static [u8] {
     }
 }
 
-/// Where this line of a file begins, counted from 1; behind the file where it has no such line.
+/// Where this line of a file begins, counted from 1; the length of the file where it has no such line.
 fn begin_of(file: &[u8], line: usize) -> usize {
     let mut left = line;
     for (place, byte) in file.iter().enumerate() {

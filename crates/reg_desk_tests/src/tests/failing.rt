@@ -1,4 +1,4 @@
-//! The desk over a keep that fails.
+//! The desk over a store that fails.
 
 ghost use Rattle.std.specs.Prelude.{◌≡◌, false};
 
@@ -76,7 +76,7 @@ fn run_before<K: Keep>(alloc: Global, desk: &mut Desk<K>, requests: &[Request]) 
     }
 }
 
-/// The same, and none also where the keep does not hold the one deposit that was answered.
+/// The same, and none also where the store does not hold the one deposit that was answered.
 fn stop_at<K: Keep>(alloc: Global, desk: &mut Desk<K>, requests: &[Request]) -> Option<usize> {
     let before = run_before(alloc, desk, requests)?;
     if desk.keep().count() == u32::from(before > 0) {
@@ -86,7 +86,7 @@ fn stop_at<K: Keep>(alloc: Global, desk: &mut Desk<K>, requests: &[Request]) -> 
     }
 }
 
-/// The same of a desk over this keep.
+/// The same of a desk over this store.
 fn stop_over<K: Keep + Drop>(alloc: Global, keep: K, requests: &[Request]) -> Option<usize>
     requires { K.has_failed keep ≡ false }
 {
@@ -94,7 +94,7 @@ fn stop_over<K: Keep + Drop>(alloc: Global, keep: K, requests: &[Request]) -> Op
     stop_at(alloc, &mut Desk::new(keep, policy), requests)
 }
 
-/// The same over a keep that answers so many calls.
+/// The same over a store that answers so many calls.
 fn stop_of(alloc: Global, requests: &[Request], calls: u32) -> Option<usize> {
     match memory_of(alloc, MOST) {
         Some(keep) => stop_over(alloc, Refusing::new(keep, calls), requests),
@@ -102,8 +102,8 @@ fn stop_of(alloc: Global, requests: &[Request], calls: u32) -> Option<usize> {
     }
 }
 
-/// Behind how many answers the store fails over the keeps that answer 0 to 63 calls (8 where it does not), and how often
-/// it fails; none where a run is not as it should be.
+/// Of stores that answer 0 to 63 calls: after how many answers they fail (8 where one does not), and how many fail;
+/// none where a run is not as it should be.
 fn stops_of(alloc: Global, requests: &[Request]) -> Option<([bool; 9], u32)> {
     let mut stops = [false; 9];
     let mut failed = 0u32;
@@ -131,8 +131,8 @@ fn stops(alloc: Global) -> Option<([bool; 9], u32)> {
     eight_stops(alloc, &callers, &project)
 }
 
-/// The store fails at each of its calls in turn: within each request but the check, and behind those that may fail first
-/// three more are asked.
+/// The store fails at each of its calls, one after the other: within each request but the check. After those that may
+/// fail first, three more are asked.
 #[test]
 fn runs_that_fail(rt: HostRuntime) -> io::Result<()> {
     let (stops, failed) = stops(rt.alloc()).unwrap_or(([false; 9], 0));

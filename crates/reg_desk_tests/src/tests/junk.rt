@@ -18,7 +18,7 @@ use reg_store::{Keep, KeepError, Kept, KeptHead, KeptRow, PlainKeep, ProjectRow}
 use std::alloc::Global;
 use std::mem::swap;
 
-/// A keep in memory that gives a text in place of one line of a file. What an extract does not ask it does not answer.
+/// A store in memory that gives a text in place of one line of a file. It answers only the calls that an extract makes.
 #[derive(Drop)]
 struct Junked {
     keep: PlainKeep,
@@ -26,7 +26,7 @@ struct Junked {
     text: Bytes,
 }
 
-/// Whether the keep has a deposit of the number.
+/// Whether the store has a deposit of the number.
 fn has(keep: &PlainKeep, n: u32) -> bool
     ensures { IsTrue result → (0 < n) × (n ≤ length (deposits_of keep.now)) }
 {
@@ -146,7 +146,7 @@ impl Keep for Junked {
     ghost few = { λ _ sound _. absurd sound };
 }
 
-/// What a desk over this keep answers to one request, and the keep.
+/// What a desk over this store answers to one request, and the store.
 fn asked<K: Keep + Drop>(alloc: Global, keep: K, request: &Request) -> Option<(K, Answer)>
     requires { K.has_failed keep ≡ false }
 {

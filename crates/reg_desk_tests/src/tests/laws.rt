@@ -1,4 +1,4 @@
-//! Cases that meet the premises of the laws on extracts and on hidden rows, over each keep. All is asked on 2024-06-01.
+//! Cases that meet the premises of the laws on extracts and hidden rows, over each store. All is asked on 2024-06-01.
 
 use super::bodies::{A, B, B_SHOWN, B_TESTED, B_WETTER};
 use super::examples::{FIRST, LISTED, MOST, SECOND, UNTIL};
@@ -24,7 +24,7 @@ static DRAWN_TWICE: [Step; 5] = [
     Step("t-delta", UNTIL, Ask::Extract(2, &[]), Want::Gives(B_SHOWN)),
 ];
 
-/// What is played over a keep in memory, and over tables.
+/// What is played over a store in memory, and over tables.
 fn plays_twice(alloc: Global, rt: &impl Abort, play: Play) {
     assert!(rt; plays(alloc, Over::Memory, MOST, play).unwrap_or(false));
     assert!(rt; plays(alloc, Over::Tables, MOST, play).unwrap_or(false));
@@ -53,7 +53,7 @@ fn four_of<'a>(
 /// What they are answered.
 static TOLD: [Want; 4] = [LISTED, SECOND, Want::Gives(B_SHOWN), Want::Gives(A)];
 
-/// Whether four requests in turn are answered so.
+/// Whether four requests, one after the other, are answered so.
 fn tells_each<K: Keep>(
     alloc: Global,
     desk: &mut Desk<K>,

@@ -1,5 +1,5 @@
-//! Memory that is refused to one growth, by `conformance/refused_tests`: want of memory is answered then, once, and by the same call with
-//! memory what should be.
+//! Memory is refused to one allocation, by `conformance/refused_tests`: the answer is then out of memory, once; the
+//! same call with memory answers what it should.
 
 ghost use Rattle.std.specs.Prelude.{◌≡◌};
 
@@ -41,7 +41,7 @@ static CALLS: [(&str, Call); 5] = [
     ("reached", Call::Reached),
 ];
 
-/// What a call that is refused answers: want of memory where that is why, and else that it is not right.
+/// What a call that is refused answers: out of memory where that is why, and else that it is not right.
 fn refused_for(memory: bool) -> Result<bool, AllocError> {
     if memory { Err(AllocError) } else { Ok(false) }
 }
@@ -58,7 +58,7 @@ fn write(text: &mut Vec<u8>, group: &Group) -> Result<(), AllocError> {
     )
 }
 
-/// Whether this group is written as the last of the second file, which begins behind 831 bytes.
+/// Whether this group is written as the last of the second file, which begins after 831 bytes.
 fn is_last(alloc: Global, group: &Group) -> Result<bool, AllocError> {
     let mut text = Vec::new(alloc);
     write(&mut text, group)?;
@@ -230,7 +230,7 @@ fn is_right(alloc: Global, call: Call) -> Result<bool, AllocError> {
     }
 }
 
-/// How many of the calls answer want of memory; each other is right.
+/// How many of the calls run out of memory; each other is right.
 fn refused_of(alloc: Global, rt: &impl Abort) -> u32 {
     let mut refused = 0u32;
     for (name, call) in &CALLS {
@@ -270,7 +270,7 @@ fn is_listed(answer: &Answer, held: bool) -> bool {
     is_listing(answer, if held { &ONE } else { &[] })
 }
 
-/// 0 where an answer is the machine's, 1 where it is want of memory, and else 2.
+/// 0 where an answer is the machine's, 1 where it is out of memory, and else 2.
 fn fault_of(answer: &Answer, right: bool) -> u32 {
     if right {
         0

@@ -1,4 +1,4 @@
-//! A keep in memory that fails.
+//! A store in memory that fails.
 
 ghost use Rattle.std.specs.Prelude.{◌≡◌, false, ⊤, refl};
 
@@ -8,7 +8,7 @@ use ags_links::Graph;
 use reg_policy::{Day, Name};
 use reg_store::{Keep, KeepError, Kept, KeptHead, KeptRow, PlainKeep, ProjectRow};
 
-/// A keep in memory that answers `Store` where its body is asked for, and at the call after so many other calls.
+/// A store in memory that answers `Store` where its body is asked for, and at the call after so many other calls.
 #[derive(Drop)]
 pub struct Refusing {
     keep: PlainKeep,
@@ -17,7 +17,7 @@ pub struct Refusing {
 }
 
 impl Refusing {
-    /// Over this keep, with so many calls that are answered.
+    /// Over this store, with so many calls that are answered.
     pub fn new(keep: PlainKeep, answered: u32) -> Refusing
         ensures { result.failed ≡ false }
     {

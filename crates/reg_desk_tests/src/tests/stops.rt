@@ -221,7 +221,7 @@ fn stage_by<K: Keep>(alloc: Global, desk: &mut Desk<K>, visit: Visit) -> Option<
     stage.ok()?
 }
 
-/// The stage of a visit by a desk over this keep, and the keep.
+/// The stage of a visit by a desk over this store, and the store.
 fn visited<K: Keep>(alloc: Global, keep: K, policy: Policy, visit: Visit) -> (Option<Stage>, K)
     requires { K.has_failed keep ≡ false }
 {
@@ -230,7 +230,7 @@ fn visited<K: Keep>(alloc: Global, keep: K, policy: Policy, visit: Visit) -> (Op
     (stage, desk.into_keep())
 }
 
-/// The same of a keep in tables, of any store. `SqlKeep` is shown to be a keep here alone.
+/// The same of a store in tables, over any `Alter`. `SqlKeep` is shown to be a `Keep` here alone.
 fn visited_tables<S: Alter + Drop>(
     alloc: Global,
     keep: SqlKeep<S>,
@@ -357,7 +357,7 @@ fn left<D: Crash + Drop>(alloc: Global, side: Side, files: Files<D>, task: Task)
     match Connection::open_files(alloc, Files { log, db }, options(side)) {
         Ok(connection) => {
             let (found, connection) = done_on_files(alloc, connection, task);
-            // A connection that is let go takes the prover longer than one that is closed.
+            // A connection that is dropped takes the prover longer than one that is closed.
             let _ = closed(None, connection);
             found
         }

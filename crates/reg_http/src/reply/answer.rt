@@ -126,7 +126,7 @@ fn withdrawn_reply(alloc: Global, number: u32) -> Result<Vec<u8>, AllocError>
     value_reply(alloc, StatusCode::OK, &value)
 }
 
-/// The reply with a JSON body, made in the memory of the body: its front is put behind the body, and then moved
+/// The reply with a JSON body, made in the memory of the body: its front is put after the body, and then moved
 /// before it.
 fn json_reply(alloc: Global, status: StatusCode, mut body: Vec<u8>) -> Result<Vec<u8>, AllocError>
     ensures { IfOk result (λ reply. reply.items ≡ reply_text status json_kind body.items) }

@@ -38,7 +38,7 @@ fn findings_room(findings: &FindingList) -> usize {
     room
 }
 
-/// The bytes that a reply has at most before and behind the lines of its list.
+/// The bytes that a reply has at most before and after the lines of its list.
 const AROUND_BYTES: usize = 141;
 
 /// The bytes that a finding without its subject takes at most, with the comma before it.
@@ -133,7 +133,7 @@ fn write_comma(out: &mut Vec<u8>, place: usize) -> Result<(), AllocError>
     Ok(())
 }
 
-/// Writes a text, behind what stands before it.
+/// Writes a text, after the one that comes before it.
 fn write_behind(out: &mut Vec<u8>, before: &[u8], text: &[u8]) -> Result<(), AllocError>
     ensures { OnOk result (out.new.items ≡ out.old.items ++ before.now ++ text.now) }
 {

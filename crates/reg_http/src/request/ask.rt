@@ -92,7 +92,7 @@ fn caller_by<'c>(callers: &'c Callers, token: Option<&[u8]>) -> Result<&'c Calle
     }
 }
 
-/// The token behind `Bearer` and one space.
+/// The token after `Bearer` and one space.
 fn token_of<'v>(value: &'v [u8]) -> Option<&'v [u8]>
     ensures { option_map (λ t. t.now) result ≡ token_in value.now }
 {
@@ -135,7 +135,7 @@ pub(crate) fn values<'b>(parts: &Parts<'b>, name: &[u8]) -> Values<'b>
     values_named(parts.buf, parts.fields, name)
 }
 
-/// The parts of a head that stands in the buffer.
+/// The parts of a head that is in the buffer.
 pub(crate) fn head_parts<'b>(
     buf: &'b [u8],
     headers: &'b [HeaderSpan],

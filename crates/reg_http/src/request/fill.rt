@@ -6,7 +6,7 @@ ghost use Rattle.reg_http.specs.Fills.{Fills};
 use crate::tally::Tally;
 use std::io::Read;
 
-/// Reads once into the buffer behind its first `filled` bytes, and gives how many came.
+/// Reads once into the buffer after its first `filled` bytes, and gives how many came.
 pub(crate) fn read_more<R: Read>(
     reader: &mut Tally<R>,
     buf: &mut [u8],

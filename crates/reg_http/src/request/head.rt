@@ -9,7 +9,7 @@ use httparse::spans::{HeaderSpan, RequestSpans, parse_request};
 use httparse::{Error, Status};
 use std::io::Read;
 
-/// Reads until a head is whole, or none can come any more. Bytes behind the head may have been read with it.
+/// Reads until a head is whole, or none can come any more. Bytes after the head may have been read with it.
 pub(crate) fn receive_head<R: Read>(
     reader: &mut Tally<R>,
     buf: &mut [u8; LONGEST_HEAD],
@@ -43,7 +43,7 @@ pub(crate) fn receive_head<R: Read>(
     HeadRead::Bad
 }
 
-/// What stands at the front of a connection.
+/// What is at the front of a connection.
 #[derive(Drop)]
 pub(crate) enum HeadRead {
     /// The connection gave no byte.
@@ -52,11 +52,11 @@ pub(crate) enum HeadRead {
     Fault,
     /// No head within the limits.
     Bad,
-    /// A head stands at the front of the buffer, and how many bytes were read.
+    /// A head is at the front of the buffer, and how many bytes were read.
     Whole(RequestSpans, usize),
 }
 
-/// The most bytes of a head, empty lines before it and the empty line behind it included.
+/// The most bytes of a head, empty lines before it and the empty line after it included.
 pub(crate) const LONGEST_HEAD: usize = 8192;
 
 /// The most fields of a head.

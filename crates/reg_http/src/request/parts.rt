@@ -4,7 +4,7 @@ ghost use Rattle.httparse.specs.Spans.{IsHeaderWithin};
 
 use httparse::spans::HeaderSpan;
 
-/// The parts of a head that are looked at, where they stand in the bytes that were read.
+/// The parts of a head that are looked at, where they are in the bytes that were read.
 #[derive(Clone, Copy)]
 pub(crate) struct Parts<'b> {
     pub(crate) method: &'b [u8],

@@ -1,9 +1,9 @@
 //! Requests and their replies, as texts and as bytes. A function that names a constant carries it to each of its
 //! points, so tables are statics.
 
-/// At an empty desk, in turn. Each line is a case: day, token (`-`: no field), the lines of the head, the body (`A` is
-/// the file, `A cut` all but its last byte, `A more` has two bytes behind it, `A bell`, `A delete` and `A quote` have
-/// other bytes in a group name), the status, the length, and the body of the reply.
+/// At an empty desk, one after the other. Each line is a case: day, token (`-`: no field), the lines of the head, the
+/// body (`A` is the file, `A cut` all but its last byte, `A more` has two bytes after it, `A bell`, `A delete` and
+/// `A quote` have other bytes in a group name), the status, the length, and the body of the reply.
 pub(crate) static AT_A_DESK: &str = r#"
 # each refusal before the next
 2024-05-01 | - | GET /v1/x HTTP/1.1 | - | 404 Not Found | 20 | {"error":"no route"}
@@ -91,7 +91,7 @@ role = "contractor"
 [[rule]]
 "#;
 
-/// The rule of the policy that it stands before.
+/// The rule of the policy that comes after it.
 pub(crate) static RULE_BEHIND: &str = "number = 50";
 
 /// At a desk whose policy has that rule.
@@ -152,7 +152,7 @@ pub(crate) static HEADS: [(&[u8], [&str; 3]); 9] = [
     ),
 ];
 
-/// Heads of 32 or 33 fields, and of 8,192 or 8,193 bytes: how long the last field is, how many of one letter stand
+/// Heads of 32 or 33 fields, and of 8,192 or 8,193 bytes: how long the last field is, how many of one letter come
 /// before it, and the reply.
 pub(crate) static LONG_HEADS: [(usize, usize, [&str; 3]); 3] = [
     (7979, 31, NO_ROUTE),
@@ -169,7 +169,7 @@ pub(crate) struct Altered {
     pub(crate) begin: usize,
 }
 
-/// The file, the file without its last byte, the file with two bytes behind it, the file with `lo`, a bell and `ca`, or
+/// The file, the file without its last byte, the file with two bytes after it, the file with `lo`, a bell and `ca`, or
 /// `lo`, a byte 7f and `ca`, or `l`, a quote, a byte 01 and a backslash, for the name in its line 26, and nothing.
 pub(crate) static BODIES: [Altered; 7] = [
     Altered {

@@ -179,7 +179,7 @@ fn is_right(
     replies_so(alloc, desk, callers, case.day, &request, case.reply)
 }
 
-/// The cases of these lines, in turn.
+/// The cases of these lines, one after the other.
 fn are_right(
     alloc: Global,
     rt: &impl Abort,
@@ -277,7 +277,7 @@ fn head_replies(alloc: Global, head: &[u8], [status, length, body]: [&'static st
     plays(alloc, Play::Head(head, status, length, body)).unwrap_or(false)
 }
 
-/// Whether that of a head with so many fields of one letter, and one behind them of so many, is this.
+/// Whether that of a head with so many fields of one letter, and one after them of so many, is this.
 fn long_head_replies(
     alloc: Global,
     fields: usize,

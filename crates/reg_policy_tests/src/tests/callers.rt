@@ -3,7 +3,7 @@ use super::joined;
 use reg_policy::{Callers, CallersError, vectors};
 use std::alloc::Global;
 
-/// What stands before a token, and behind it.
+/// What comes before a token, and after it.
 const TOKEN: &str = "[[caller]]\ntoken = \"";
 
 const WHO: &str = "\"\nfirm = \"A\"\nrole = \"b\"\n";

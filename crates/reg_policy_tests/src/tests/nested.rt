@@ -4,8 +4,8 @@ use reg_policy::{Callers, CallersError, Policy, PolicyError};
 use std::alloc::Global;
 use std::test::Fail;
 
-/// A value or a key one level deep, and what a level more adds: the beginning, what is added behind it, the middle, what is
-/// added behind that.
+/// A value or a key one level deep, and what a level more adds: the beginning, what is added after it, the middle, what
+/// is added after that.
 struct Shape {
     start: &'static str,
     open: &'static str,
@@ -42,7 +42,7 @@ static DEPTHS: [(usize, PolicyError, CallersError); 3] = [
     (80, PolicyError::Syntax, CallersError::Syntax),
 ];
 
-/// A shape with so many levels more, behind the name of an array.
+/// A shape with so many levels more, after the name of an array.
 fn nested(alloc: Global, array: &str, shape: &Shape, more: usize) -> Result<String, Fail> {
     let open = shape.open.repeat(alloc, more)?;
     let close = shape.close.repeat(alloc, more)?;

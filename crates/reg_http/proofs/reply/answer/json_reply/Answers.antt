@@ -3,7 +3,7 @@ use Rattle.std.proofs.Math.Seq.{drop-append_seam, take-append_seam}
 use Rattle.reg_http.specs.Replies.{json_kind, reply_front}
 use Rattle.reg_http.proofs.reply.answer.json_reply.Goals as goal
 
--- a text that was put behind another comes before it
+-- a text that was put after another is moved before it
 fronted : (body front both turned : List ℕ) (n : ℕ) → n ≡ length body → both ≡ body ++ front → turned ≡ drop n both ++ take n both → turned ≡ front ++ body
 fronted body front both turned n long joined turn = rw (turn, long, joined, drop-append_seam body front, take-append_seam body front) refl
 
