@@ -21,7 +21,7 @@ FRONT = (
 
 
 def largest(size, text_of, sample=1000):
-    """The longest text of text_of(1), text_of(2), .. that has at most `size` bytes; its growth is measured at
+    """The longest text of text_of(1), text_of(2), .. that has at most `size` bytes. What each step adds is measured at
     `sample`."""
     each = (len(text_of(2 * sample)) - len(text_of(sample))) / sample
     low, high = 1, int(size / each) + 1

@@ -1,6 +1,6 @@
 #!/usr/bin/env python3
-"""Measures registers that are served: the memory of an idle one, and requests a second over one and over a hundred
-behind one nginx.
+"""Measures registers that are served: the memory of an idle one, and requests a second through one nginx to one
+register and to a hundred.
 
 usage: bench/office.py PROGRAM [SECONDS]
 Prints two tables. The first has, for registers of 0, 100 and 10,000 deposits of 1 kB, the resident memory of `serve`

@@ -4,8 +4,7 @@
 usage: bench/opening.py PROGRAM [--kit KIT] [CASE..]
 A register is made by the program with one generated file; the others are that file with another name of the project,
 put in by SQLite.
-CASE is one of the names that stand in CASES; without any, all up to 100 deposits of 100 kB and 10,000 of 1 kB are
-measured.
+CASE is a name in CASES. Where none is given, all up to 100 deposits of 100 kB and 10,000 of 1 kB are measured.
 KIT is a program that opens the database PATH, its only argument, by the kit's own `Connection::open_from`.
 Printed for each: deposits, bytes of them and of the register, seconds (the shortest of some runs) and MB (1,048,576
 bytes) of `list`, and of KIT."""

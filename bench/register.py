@@ -15,7 +15,7 @@ from servers import asking, head, post, sample  # noqa: E402
 
 LISTING, EXTRACT = (head(b"/v1/projects/N1/deposits" + page, []) for page in (b"", b"/1"))
 REQUESTS = 300
-# How often requests that change nothing are asked, of the program and of the plain server in turn: the shortest counts.
+# How often requests that change nothing are sent to the program, then to the plain server: the shortest time counts.
 TURNS = 3
 MANY = 10000
 
@@ -48,7 +48,7 @@ class Place(servers.Place):
                    for name in ("register", "register-wal") if os.path.exists(self.path(name)))
 
     def asked(self, *parts):
-        """Seconds for the requests of each part, one part behind the other in one run of the program, which has opened
+        """Seconds for the requests of each part, one part after the other in one run of the program, which has opened
         the register; and the last reply."""
         with self.serve(sum(map(len, parts)), preexec_fn=self.limit) as server:
             asked = [ask(server.port, requests) for requests in parts]
@@ -161,7 +161,7 @@ def deposit(data):
 
 
 def small(number, apart=False):
-    """A small file, another one for each number, with another row of PROJ too where they stand apart."""
+    """A small file, another one for each number. Where they are `apart`, its row of PROJ is another one too."""
     text = sample("delta.ags").replace(b"FINAL", b"FINAL %d" % number)
     return text.replace(b"North bank", b"Site %d" % number) if apart else text
 

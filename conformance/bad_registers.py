@@ -8,7 +8,7 @@ way that the definition of a register names, and COUNT times at random: bytes of
 length, a row, a cell. What the tables then hold is read by Python's sqlite3 and held against the definition, spelled
 out below (`held_by`), and the program has to answer:
 - where a row or a cell was changed: `not a register` or `register version N` as the definition has it, `store failed`
-in the place of `not a register`, or the listing and the extracts that the machine of machine.py gives for the deposits
+instead of `not a register`, or the listing and the extracts that the machine of machine.py gives for the deposits
 that the tables hold;
 - where the tables themselves, or bytes, were changed: one of these three faults, or those listings and extracts; where
 sqlite3 cannot read the file, a fault, or the listing and the extracts from before the change.
@@ -192,7 +192,7 @@ def all_in(path):
 # ---- the program's answers
 
 class Place(servers.Place):
-    """A place with registers that the program made, and the answers to what is asked of a copy."""
+    """A place with registers that the program made, and what it answers over a copy of one."""
 
     patience = 60
 

@@ -170,7 +170,7 @@ class Machine:
 
 
 class Program(servers.Place):
-    """The same on the program. Answers are the bytes of its replies, and texts stand by themselves."""
+    """The same on the program. An answer is the text in its reply, or the bytes of the reply where it has no text."""
 
     patience = 20
 

@@ -4,13 +4,13 @@ behave.
 
 usage: limits.py PROGRAM [SECONDS]     the last line is 'N passed, M failed'
 
-Before that stand the seconds of each start that took more than a tenth of one.
+Above that are the seconds of each start that took more than a tenth of one.
 
-SECONDS (a hundredth) is what the slow peer waits behind each of its bytes. Peers speak to one `serve`, and behind each
-of them a listing is asked, which has to be the one from before; `serve` has to end with 0 after its K connections, with
-the statuses that belong to them. Of a thousand connections one after the other each has to be answered as the machine
-of machine.py has it, and the greatest resident memory after the last may be 64 KiB above that after the hundredth
-(VmHWM, from /proc)."""
+SECONDS (a hundredth) is what the slow peer waits after each of its bytes. Peers speak to one `serve`, and after each of
+them a listing is requested, which has to be the one from before. `serve` has to end with 0 after its K connections,
+with the statuses that belong to them. Of a thousand connections one after the other each has to be answered as the
+machine of machine.py has it, and the greatest resident memory after the last may be 64 KiB above that after the
+hundredth (VmHWM, from /proc)."""
 import os
 import shutil
 import socket
@@ -159,7 +159,7 @@ def policies(place):
 
 
 def nested(place):
-    """Texts whose values, keys or headers stand within each other: whatever the depth, a policy of that form is
+    """Texts whose values, keys or headers are within each other. Whatever the depth, a policy of that form is
     refused."""
     for depth in (79, 80, 81, 1000, 10000, 100000, LIMIT // 7):
         forms = [("arrays", b"rule = " + b"[" * depth + b"]" * depth),

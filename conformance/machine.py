@@ -379,7 +379,7 @@ def error(status, text):
 
 
 def head_of(data):
-    """(method, target, fields, what stands behind), or None where no prefix is a head."""
+    """(method, target, fields, what follows), or None where no prefix is a head."""
     line = REQUEST_LINE.match(data)
     if not line:
         return None
@@ -529,7 +529,7 @@ PLACES = {"init": 0, "check": 1, "deposit": 1, "extract": 1, "list": 0, "withdra
 
 
 class Fault(Exception):
-    """What ends a run before its answer: the text behind `groundreg: ` and the status."""
+    """What ends a run before its answer: the text after `groundreg: ` and the status."""
 
 
 class Damaged:
@@ -544,8 +544,8 @@ def ended_by(fault):
 
 
 def words_of(words):
-    """The command, its options and its further words. A byte that is no text stands in a word as Python's own stand-in
-    for it."""
+    """The command, its options and its further arguments. A byte that is no text is in an argument as Python's own
+    surrogate for it."""
     if not words or words[0] not in OPTIONS or any("\udc80" <= c <= "\udcff" for word in words for c in word):
         raise Fault("words refused", 4)
     command, rest, options, places = words[0], list(words[1:]), {}, []
@@ -594,8 +594,8 @@ def printed(answer):
 
 
 class Computer:
-    """What stands at each path (bytes, a Register, what is Damaged, or nothing), the folders that are there,
-    and what each run of the program makes of them."""
+    """What is at each path (bytes, a Register, what is Damaged, or nothing), the folders that exist, and what each run
+    of the program makes of them."""
 
     def __init__(self, folders=("",)):
         self.files = {}
@@ -622,7 +622,7 @@ class Computer:
             raise Fault("dictionary refused", 4) from None
 
     def can_open(self, path):
-        """Whether a database may be opened there: the path is no folder and stands in one."""
+        """Whether a database may be opened there: the path is no folder and is in one."""
         return os.path.basename(path) != "" and path not in self.folders and os.path.dirname(path) in self.folders
 
     def store(self, path, number=FORMAT):
@@ -647,7 +647,7 @@ class Computer:
 
     def serve(self, words, today, given, is_free=True):
         """What `serve` prints as far as it gets, with the status, and the reply to each connection. `given` are the
-        bytes of each, None for one that is broken off; whether the port is free is told."""
+        bytes of each, None for one that is broken off. `is_free`: the port is free."""
         try:
             _, options, _ = words_of(words)
             rules = self.text(options["policy"], "policy", read_policy)
@@ -813,7 +813,7 @@ def without(data, *numbers):
 
 
 def with_cell(heading, kind, cell, behind):
-    """The second file with one more cell in the row of PROJ, and a group behind it."""
+    """The second file with one more cell in the row of PROJ, and a group after it."""
     rows = lines(FILE_B)
     rows[1:5] = [row[:-2] + b',"%s"\r\n' % more for row, more in zip(rows[1:5], (heading, b"", kind, cell))]
     return b"".join(rows) + b"\r\n" + behind

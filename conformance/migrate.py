@@ -128,7 +128,7 @@ def defined(place, name):
 
 
 def migrated(place):
-    """The migration, and what is asked of the register then."""
+    """The migration, and what the register holds and answers after it."""
     schema, rows = place.read()
     place.same(["migrate", "--store=register"])
     after = place.read()

@@ -6,9 +6,10 @@ usage: peers.py PROGRAM     the last line is 'N passed, M failed'
 
 `serve` has a patience of a second or two. A peer that is silent, sends a byte each 100 ms, stops in a body, reads
 nothing of a reply of 16 MB or a byte of it each 100 ms, breaks off, sends on without end or never closes is cut in
-time, and the request that waits behind it is answered as the machine of machine.py has it. Then 200 peers come at once,
-five of them such ones, three times; the greatest resident memory (VmHWM, from /proc) may grow by 256 KiB from the first
-time to the third. A refused POST of 3 MB has to get its status 20 times of 20, by Python's http.client and by curl.
+time, and the request that waits for its end is answered as the machine of machine.py has it. Then 200 peers come at
+once, five of them such ones, three times; the greatest resident memory (VmHWM, from /proc) may grow by 256 KiB from the
+first time to the third. A refused POST of 3 MB has to get its status 20 times of 20, by Python's http.client and by
+curl.
 `samples/proxy` asks the same through nginx."""
 import collections
 import http.client
@@ -207,7 +208,7 @@ def new_place(program, folder):
 
 
 def one_by_one(place):
-    """Each kind of peer alone, and behind it a request that waits."""
+    """Each kind of peer alone, and a request that waits for its end."""
     server = place.serve(2 * len(KINDS) + 2, "--patience=1")
     data, status, want = honest(place)[0]
     for kind, line in KINDS.items():
@@ -300,7 +301,7 @@ def refused(place):
 # ---- days, failures, the log
 
 def failures(place):
-    """A store that fails ends `serve` with 5 behind the reply, where that is asked for; then the register is as it
+    """A store that fails ends `serve` with 5 after the reply, where an option says so; then the register is as it
     was."""
     data, failed = post(b"deposits", machine.FILE_B), machine.error(503, "store failed")[1]
     for more, asked, end in ((["--end-on-failure"], 1, (5, b"groundreg: store failed\n")), ([], 2, (0, b""))):

@@ -1,5 +1,5 @@
-// Preloaded before a program: refuses one growth, the call of malloc or realloc that REFUSED counts from 1, or that call
-// and all after it where REFUSED_ON is set. COUNTED names a file that is given the number of such calls at the end.
+// Preloaded before a program: refuses one allocation, the call of malloc or realloc that REFUSED counts from 1, or that
+// call and all after it where REFUSED_ON is set. COUNTED names a file that gets the number of such calls at the end.
 #include <stdio.h>
 #include <stdlib.h>
 

@@ -104,7 +104,7 @@ class Place:
         return run.stdout, run.stderr, run.returncode
 
     def right(self, *words, want=None):
-        """What a start prints that has to end with 0, and to print this if it is told."""
+        """What a start prints. It has to end with 0 and, where `want` is given, to print that."""
         out, said, status = self.run(*words)
         if status or want not in (None, out):
             raise Wrong(f"{words} ended with {status}: {out[:80]} {said[:80]}")
@@ -262,7 +262,7 @@ def received(connection):
         while piece := connection.recv(65536):
             out += piece
     except ConnectionResetError:
-        pass  # it was let go while we were still sending
+        pass  # it was closed while we were still sending
     connection.close()
     return bytes(out)
 
@@ -276,8 +276,8 @@ def reset(connection):
 
 class Site:
     """nginx with the sample site, on a port of loopback: with a certificate of the moment, this text as the map of
-    projects, and a register for all others. `changes` are pairs of texts of the site, each there once, and what stands
-    there instead."""
+    projects, and a register for all others. `changes` are pairs: a text that the site has once, and what is there
+    instead."""
 
     def __init__(self, folder, projects, other, certificate, changes=(), workers=0):
         self.folder, self.port, self.certificate = folder, free_port(), certificate

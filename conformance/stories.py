@@ -1,13 +1,13 @@
 #!/usr/bin/env python3
-"""Random stories of registers, told by the program and by the machine of machine.py side by side.
+"""Random stories of registers, run by the program and by the machine of machine.py side by side.
 
 usage: stories.py PROGRAM [COUNT [SEED [FIRST]]]      the last line is 'N passed, M failed'
 
 A story makes a folder with dictionaries, policies, callers and bodies, some of them refused, and runs the program
 there: by words, and over a socket with `serve`, raw and malformed requests among them. Statuses, standard output,
 standard error and the bytes of each reply are compared; a story ends at its first difference, which is printed. A seed
-gives the same stories each time, and `stories.py PROGRAM 1 SEED FIRST` tells story FIRST alone. Two stories are told at
-a time."""
+gives the same stories each time, and `stories.py PROGRAM 1 SEED FIRST` runs story FIRST alone. Two stories run at a
+time."""
 import datetime
 import functools
 import multiprocessing
@@ -163,7 +163,7 @@ def body(chance, names):
 # ---- words
 
 def spelling(chance, command, options, places):
-    """The words of a command: options in any order and in both spellings, before, between and behind the other
+    """The words of a command: options in any order and in both spellings, before, between and after the other
     words."""
     items = []
     for name, value in options.items():
@@ -559,7 +559,7 @@ class Story(servers.Place):
         return self.same(self.maybe_misspelt(spelling(chance, "serve", options, [])))
 
     def damages(self):
-        """Statements of another hand, each with what stands there then where it changes something."""
+        """Statements of another program, each with what is there afterwards where it changes something."""
         held = self.computer.files["s"]
         yield "UPDATE meta SET num = 7 WHERE name = 'format'", machine.Damaged(7)
         yield "UPDATE meta SET num = 0 WHERE name = 'format'; DELETE FROM steps", machine.Damaged(0)
@@ -643,7 +643,7 @@ def told(program, names, seed, number):
     story = Story(random.Random(f"{seed} {number}"), program, folder)
     now = datetime.datetime.now(datetime.timezone.utc)
     if (now.hour, now.minute) == (23, 59):
-        time.sleep(61 - now.second)  # no story is told over midnight
+        time.sleep(61 - now.second)  # no story runs over midnight
     try:
         story.tell(names)
         return number, None, story.asked

@@ -4,10 +4,10 @@ fault.
 
 usage: words.py PROGRAM     the last line is 'N passed, M failed'
 
-The lines of a scene run one after the other in a folder of its own. `|` stands between the words of a line. Among them
-`@` stands for those of OPTIONS that the line does not name, and `&` for those of them that `serve` takes. Behind `=>`
-stand the status, what is printed without its line end, and behind `!` what is said on standard error without
-`groundreg: ` before it. Of a line without `=>` the words are refused. Nothing here comes from what the program
+The lines of a scene run one after the other in a folder of its own. `|` is between the arguments of a line. Among them
+`@` stands for those of OPTIONS that the line does not name, and `&` for those of them that `serve` takes. After `=>`
+come the status and what is printed, without its line end; after `!` what is said on standard error, without
+`groundreg: ` before it. Of a line without `=>` the arguments are refused. Nothing here comes from what the program
 answered."""
 import contextlib
 import os
@@ -27,7 +27,7 @@ MINI, POLICY, CALLERS = servers.FILES["mini"], machine.POLICY.encode(), machine.
 
 
 def longer(text):
-    """A text, with spaces behind it: one byte more than is taken."""
+    """A text, with spaces after it: one byte more than is taken."""
     return text + b" " * (machine.LIMIT + 1 - len(text))
 
 
@@ -63,11 +63,11 @@ extract|@|--token=t-echo|1 => 3 unknown
 extract|@|--token=t-echo|--day=2024-06-01|1 => 0 (a)
 extract|@|999999 => 3 unknown
 list|@|--project|N 1 => 4 ! project refused
-# The embargo of a deposit without one is its day, and findings are printed as for the run without words.
+# The embargo of a deposit without one is its day, and findings are printed as by a run without arguments.
 deposit|@|--token=t-foxtrot|--day=2024-05-02|a => 0 receipt 2 2024-05-02
 deposit|@|empty => 1 2 0 -
 deposit|@|long => 4 too large
-# One who may not deposit is told so, however long the file is.
+# One who may not deposit is denied, however long the file is.
 deposit|@|--token=t-gamma|long => 2 denied 5
 check|--dictionary|mini|b => 0 clean
 check|--dictionary=mini|empty => 1 2 0 -
@@ -100,7 +100,7 @@ extract|@|--day=2024-06-01|--token=t-echo|2 => 0 (a)
 deposit|@|--embargo=2030-01-01|a => 0 receipt 1 2024-06-01
 list|@|--day=2024-06-01 => 0 2 Foxtrot 2024-06-01
 deposit|@|b => 0 receipt 3 2024-05-01
-# One who may not withdraw is told so, and another firm learns nothing.
+# One who may not withdraw is denied, and another firm learns nothing.
 withdraw|@|1 => 2 denied 0
 withdraw|@|--policy=w|--token=t-foxtrot|1 => 3 unknown
 withdraw|@|--policy=w|--token=t-foxtrot|2 => 0 withdrawn 2
@@ -210,7 +210,7 @@ list|@|--token=-t => 4 ! token refused
 check|--dictionary|mini|./a => 0 clean
 check|./gone|--dictionary|mini => 6 ! cannot read ./gone
 check|--dictionary|mini|. => 6 ! cannot read .
-# Behind a word `--` nothing is an option.
+# After an argument `--` nothing is an option.
 check|--dictionary=mini|--|a => 0 clean
 check|--dictionary=mini|--|--day => 0 clean
 check|--dictionary=mini|--|-- => 6 ! cannot read --
@@ -267,7 +267,7 @@ withdraw|@|--token=t-x|--project=N 1|07 => 4 ! token refused
 list|@|--token=|--project=N 1 => 4 ! token refused
 """
 
-# There is no register yet, which is the fault behind those.
+# There is no register yet, which is the fault after those.
 OF_REQUESTS = """
 deposit|@|--project=N 1|--day=1|gone => 4 ! project refused
 extract|@|--project=N 1|--day=1|07 => 4 ! project refused
@@ -399,7 +399,7 @@ CHANGED = [
                    (["withdraw|@|--policy=w|1"], "0 withdrawn 1"), (["list|@"], "0")]),
     ([*TO_FORMAT_1, AT_LIMIT], [(["list|@"], OF_FORMAT(1)), (MIGRATE, "0 migrated"), (["extract|@|1"], "0 (a)")]),
 ]
-# A line, a step and a withdrawal of a deposit that is not there.
+# A line, a step and a withdrawal of a deposit that does not exist.
 OF_NO_DEPOSIT = ["INSERT INTO lines VALUES (2, 0, 'PROJ', 0, x'')", "INSERT INTO steps VALUES (2, 0, 0)",
                  "INSERT INTO withdrawals VALUES (2)"]
 BEHIND_STORES = """
@@ -418,7 +418,7 @@ def lines_of(scene):
 
 
 def words_of(line):
-    """The words of a line; an option that it names anywhere, were it as a file, does not stand in for itself."""
+    """The arguments of a line. An option that it names anywhere, even as a file, is not among those of `@` and `&`."""
     words = []
     for word in line.split("|"):
         names = {"@": OPTIONS, "&": OF_SERVE}.get(word)
@@ -470,7 +470,7 @@ def refuse_stores(folder):
         for command in COMMANDS:
             folder.hold(f"{command}|--store={store}", want)
         folder.hold(f"migrate|--store={store}", migrated)
-    # Asking for a register that is not there makes no file.
+    # A command on a register that does not exist makes no file.
     folder.check("a file `gone` is made", False, os.path.exists(folder.path("gone")))
     folder.play(BEHIND_STORES)
 

@@ -1,8 +1,8 @@
-"""The command lines of README.md, run as they stand there, in their order.
+"""The command lines of README.md, run as they are there, in their order.
 
 A block that begins with ```console has them: a line `$ COMMAND`, and below it what the command prints. A line `$
-NAME=VALUE` is kept for those behind it. A command that ends with `&` goes on beside those behind it; what it prints
-meanwhile stands below what the next command itself prints."""
+NAME=VALUE` is kept for the lines after it. A command that ends with `&` goes on beside those after it; what it prints
+meanwhile is below what the next command itself prints."""
 import os
 import re
 import select
@@ -51,7 +51,7 @@ class Session:
         return as_lines(out)
 
     def run(self, command, wanted):
-        """The lines that a command prints, and behind them those of the program beside that are wanted."""
+        """The lines that a command prints, and after them those of the program beside that are wanted."""
         command = command.replace(PORT, self.port)
         if re.match(r"[A-Z]+=", command):
             self.kept += command + "\n"

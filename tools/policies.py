@@ -1,8 +1,8 @@
-"""What a policy says and what it shows, told before anything is served: the refusals and warnings of `bin/policy
+"""What a policy says and what it shows, before anything is served: the refusals and warnings of `bin/policy
 check`, and the rows of `bin/policy see`.
 
 The language of rules is that of docs/COMMANDS.md. Decisions are those of the reference model (conformance/machine.py);
-rows and their steps are looked up by key here, so that a long file is told in seconds."""
+rows and their steps are looked up by key here, so that a long file takes seconds."""
 import collections
 import datetime
 import difflib
@@ -98,7 +98,7 @@ def is_caller_value(item, key):
 
 
 def refusals(text, array, values, required, is_value):
-    """(refusal, where and what may stand there) of each fault of a text, in the order in which the program looks for
+    """(refusal, where and what may be there) of each fault of a text, in the order in which the program looks for
     them."""
     table, found = parsed(text)
     if table is None:

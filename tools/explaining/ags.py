@@ -69,7 +69,7 @@ class Row:
 
 
 class Group:
-    """The rows from a GROUP row to the next; what is not there is None."""
+    """The rows from a GROUP row to the next; what is missing is None."""
 
     def __init__(self, rows):
         self.rows, self.line = rows, rows[0].line

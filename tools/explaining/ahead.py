@@ -1,6 +1,6 @@
 """A preview of the phases after the one that has findings: what they would find, as far as that can be seen.
 
-    for phase, causes, count in preview(told): ..
+    `for phase, causes, count in preview(told): ..`
 
 Line ends, mark and encoding are put right in memory, and quotes where it is plain how. Lines that are no rows then, and
 groups without a sound header, are left out of what follows them, and so is every finding that would follow from that
@@ -67,7 +67,7 @@ def is_sound(group):
 
 
 class Preview:
-    """The file as each phase would see it, and the groups that are not there for it."""
+    """The file as each phase would see it, and the groups that it lacks then."""
 
     def __init__(self, told):
         self.standard, self.rules, self.out = told.standard, told.context.rules, []
@@ -124,7 +124,7 @@ class Preview:
         return missing in self.gone or finding.code in ("9", "18") and b"DICT" in self.gone
 
     def echoes(self, finding, words, keyless):
-        """Whether a finding of the fifth phase follows from a group that is not there, or has not its KEY headings."""
+        """Whether a finding of the fifth phase follows from a group that is missing, or lacks its KEY headings."""
         if finding.code not in ("10a", "10c", "11c"):
             return False
         group = self.file.group_at(finding.line).name

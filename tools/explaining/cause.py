@@ -63,7 +63,7 @@ TELLERS = {1: lines, 2: groups, 3: groups, 4: headings, 5: entries}
 
 
 def key_of(context, finding):
-    """What findings of one cause have alike: the phase, the code by which it is told, and more."""
+    """What findings of one cause have alike: the phase, the code under which it is explained, and more."""
     if context.kind[0] in NO_TEXT:
         return 1, "file", context.kind[0]
     phase = phase_of(context, finding)

@@ -146,7 +146,7 @@ def quotes(context, key, findings):
 # ---- where in its line a finding is
 
 def spans_of(line):
-    """The place and length of each quoted field that can be told, from the left, and where the fields end."""
+    """The place and length of each quoted field that is found, from the left, and where the fields end."""
     spans, at = [], 0
     while True:
         match = FIELD.match(line, at)

@@ -1,6 +1,6 @@
 """What explains findings, as text, JSON, SARIF or one HTML page.
 
-    text(told), every(told), as_json(told), sarif(told), html(told)"""
+    `text(told)`, `every(told)`, `as_json(told)`, `sarif(told)`, `html(told)`"""
 import html as markup
 import json
 import urllib.parse
@@ -31,7 +31,7 @@ def above(told):
 
 
 def line_shown(told, place):
-    """The line of a finding, and a mark under the place where it can be told."""
+    """The line of a finding, and a mark under its place in the line where that is known."""
     line, at, size = place
     if not line:
         return ["the file"]
