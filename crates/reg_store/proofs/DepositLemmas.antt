@@ -14,7 +14,7 @@ length_sents list = length-map list (λ d. d.sent)
 pub sents_append : (xs ys : List Deposit) → sents (xs ++ ys) ≡ sents xs ++ sents ys
 sents_append xs ys = map-append (λ d. d.sent) xs ys
 
--- what was sent of a deposit stands at its place
+-- what was sent of a deposit is at its place
 pub sent_at : (list : List Deposit) (k : ℕ) (d : Deposit) → slice_get list k ≡ Some d → slice_get (sents list) k ≡ Some d.sent
 sent_at list k d at = slice_get-map (λ (x : Deposit). x.sent) list k ∙ ap (option_map (λ (x : Deposit). x.sent)) at
 

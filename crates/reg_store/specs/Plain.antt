@@ -1,4 +1,4 @@
--- A keep in memory, by what it holds.
+-- A store in memory, by what it holds.
 use Rattle.std.specs.Prelude.{ℕ, List, map}
 use Rattle.ags_dict.specs.Entries.{Entries}
 use Rattle.reg_store.specs.declared.plain.PlainKeep.{PlainKeep}

@@ -4,7 +4,8 @@ use Rattle.std.specs.Str.{bytes_eq}
 use Rattle.reg_store.specs.declared.keep.KeptRow.{KeptRow}
 use Rattle.reg_store.specs.declared.keep.ProjectRow.{ProjectRow}
 
--- The first DATA row of group PROJ, where so many DATA rows stand before these rows, and this HEADING row is the last before them.
+-- The first DATA row of group PROJ, where there are so many DATA rows before these rows, and this HEADING row is the
+-- last before them.
 abbrev pub project_from : ℕ → List ℕ → List KeptRow → Option ProjectRow
 project_from number headings [] = None
 project_from number headings (row ∷ rows) =

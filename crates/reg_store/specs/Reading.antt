@@ -1,4 +1,4 @@
--- What the calls of a keep read of a deposit and of its file.
+-- What the calls of a store read of a deposit and of its file.
 use Rattle.std.specs.Prelude.{◌≡◌, ◌-◌, ℕ, List, Option, Some, Vec, slice_get}
 use Rattle.std.specs.declared.alloc.Global.{Global}
 use Rattle.ags_dict.specs.Entries.{Entries}

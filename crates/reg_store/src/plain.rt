@@ -1,4 +1,4 @@
-//! A keep in memory.
+//! A store in memory.
 
 ghost use Rattle.std.specs.Prelude.{◌≡◌, ◌<◌, ◌≤◌, [], IfOk, All, false, ⊤, length, map, refl};
 ghost use Rattle.reg_store.specs.Keep.{deposit_of, sent_of, IsHeadOf};
@@ -18,7 +18,7 @@ use ags_text::copy;
 use reg_policy::{Day, Name};
 use std::alloc::{AllocError, Global};
 
-/// A keep in memory. It never answers `Store`.
+/// A store in memory. It never answers `Store`.
 pub struct PlainKeep {
     kept: Vec<Kept>,
     dictionary: Dictionary,
@@ -108,7 +108,7 @@ fn copied_head(kept: &Kept) -> Result<KeptHead, AllocError>
     })
 }
 
-/// A copy of the graph. Its one refusal is want of memory.
+/// A copy of the graph. It is refused only when out of memory.
 pub fn copy_graph(alloc: Global, graph: &Graph) -> Result<Graph, AllocError>
     ensures { IfOk result (λ copied. copied ≡ graph.now) }
 {

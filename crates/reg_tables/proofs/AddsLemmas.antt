@@ -78,7 +78,7 @@ line_rows-append n at (x ∷ rows) more =
 pub taken : {X : Type 0} (rows : List X) (row : X) (at : ℕ) → at < length rows → get_or rows at row ≡ row → take (at + 1) rows ≡ take at rows ++ row ∷ []
 taken rows row at low is = let e : at + 1 ≡ suc at = omega arith in ap (λ k. take k rows) e ∙ take-suc rows at row low ∙ ap (λ r. take at rows ++ r ∷ []) is
 
--- more rows behind those that were added, which are so many
+-- more rows after those that were added, which are so many
 pub lines_joined : (n from at : ℕ) (rows more : List KeptRow) (a b c : State) → length rows ≡ at → Inside (AddsLines (line_rows n from rows)) a b → Inside (AddsLines (line_rows n (from + at) more)) b c
     → Inside (AddsLines (line_rows n from (rows ++ more))) a c
 lines_joined n from at rows more a b c len one two =
@@ -193,7 +193,7 @@ pub joined-append : (rows more : List Row) → joined (rows ++ more) ≡ joined 
 joined-append [] more = refl
 joined-append (row ∷ rows) more = ap (λ all. row ++ all) (joined-append rows more) ∙ sym (append_assoc row (joined rows) (joined more))
 
--- the values of the next place, in the place of those there
+-- the values of the next place, instead of those there
 pub values_flat : (values : List (List ValueRef)) (i : ℕ) (next : List ValueRef) (row : Row) → i < length values → bound next ≡ row
     → bound (flat_map (λ v. v) (take (i + 1) (set values i next))) ≡ bound (flat_map (λ v. v) (take i values)) ++ row
 values_flat values i next row low is =
@@ -217,7 +217,7 @@ step_values_more n at steps step old new low is before grown =
     grown ∙ ap (λ xs. xs ++ step_row n step) before
     ∙ sym (ap joined whole ∙ joined-append (step_rows n (take at steps)) (step_row n step ∷ []) ∙ ap (λ xs. joined (step_rows n (take at steps)) ++ xs) (append-nil (step_row n step)))
 
--- ---- the keep is open
+-- ---- the store is open
 
 pub opened_at : {s : State} {dictionary : Entries} {count : ℕ} → ∥ KeepsRegister s dictionary count ∥₁ → IsTrue s.is_open
 opened_at {s} {dictionary} {count} kept = ∥∥₁_elim kept (Prim.hlevel props) (λ (k : KeepsRegister s dictionary count). k.is_open)

@@ -108,7 +108,7 @@ set_zipped dictionary (e ∷ list) [] k one all its = absurd all
 set_zipped dictionary (e ∷ list) (x ∷ known) zero one all its = (its e refl, all.1)
 set_zipped dictionary (e ∷ list) (x ∷ known) (suc k) one all its = (all.0, set_zipped dictionary list known k one all.1 its)
 
--- the numbers of a project are told by the heads
+-- the heads give the numbers of a project
 told_zipped : (n : ℕ) (project : List ℕ) (dictionary : Entries) (list : List Deposit) (known : List Known) → AllZip (IsKnown dictionary) list known → numbers_from n project (map bare_of known) ≡ numbers_from n project (sents list)
 told_zipped n project dictionary [] [] all = refl
 told_zipped n project dictionary [] (x ∷ known) all = absurd all
@@ -206,7 +206,7 @@ agrees_mark old new dictionary list n one low at known digests rows graph agrees
 pub agrees_unmarked : (memory : Memory) (dictionary : Entries) (list : List Deposit) (n : ℕ) → (0 < n → n ≤ length memory.known.items → ⊥) → Agrees memory dictionary list → Agrees memory dictionary (marked n list)
 agrees_unmarked memory dictionary list n none agrees = subst (Agrees memory dictionary) (sym (marked_none n list (λ low high. none low (omega (arith, high, agrees.known.long))))) agrees
 
--- ---- for the calls of the keep
+-- ---- for the calls of the store
 
 -- where the connection is still, what is known stays so
 pub agrees_still : (old new : State) {failed : Bool} (memory : Memory) (dictionary : Entries) → (HasCleanDisk old → Agrees memory dictionary (deposits_in old.committed.trees)) → IsStill old new failed → HasCleanDisk new → failed ≡ false
@@ -221,7 +221,7 @@ agrees_noted old new memory noted dictionary n agrees quiet notes number read cl
     subst (λ (db : Database). Agrees noted dictionary (deposits_in db.trees)) (sym (quiet.same clean well).1)
     (notes.agrees dictionary (deposits_in old.committed.trees) number read (agrees (clean_before old new quiet.survives clean)))
 
--- the keep that held the list still holds it
+-- the store that held the list still holds it
 pub keeps_noted : (old new : State) {failed : Bool} (memory noted : Memory) (dictionary : Entries) (n : ℕ) {IsRead : Entries → List Sent → Type 0} → (HasCleanDisk old → ∥ KeepsRegister old dictionary (length memory.known.items) ∥₁) → IsStill old new failed
     → Notes memory noted n IsRead → HasCleanDisk new → failed ≡ false → ∥ KeepsRegister new dictionary (length noted.known.items) ∥₁
 keeps_noted old new memory noted dictionary n kept quiet notes clean well =

@@ -62,7 +62,7 @@ front_first (suc k) number headings (row ∷ rows) found h =
 pub front_project : (file : List KeptRow) (found : Option ProjectRow) (row : ProjectRow) → found ≡ Some row → found ≡ project_of (take 5 file) → Some row ≡ project_of file
 front_project file found row some is = sym (front_first 5 0 [] file row (sym is ∙ some))
 
--- ---- for the methods of the keep
+-- ---- for the methods of the store
 
 row_set : (a b : Option ProjectRow) → IsProp (a ≡ b)
 row_set a b = Prim.hlevel props

@@ -174,7 +174,7 @@ fault_is P keep.Full a is store memory = subst P (sym is) store
 fault_is P keep.Store a is store memory = subst P (sym is) store
 fault_is P keep.NoMemory a is store memory = subst P (sym is) memory
 
--- the answer is a failure of the store where the keep failed
+-- the answer is `Store` where the call failed with `Store`
 pub fault_quiet : (old new : State) (e : KeepError) (a : AdoptError) → a ≡ adopt_error e → IsStill old new (is_store e) → IsStill old new (is_store_failure a)
 fault_quiet old new keep.Full a is quiet = subst (λ (x : AdoptError). IsStill old new (is_store_failure x)) (sym is) (quiet_read old new true quiet)
 fault_quiet old new keep.Store a is quiet = subst (λ (x : AdoptError). IsStill old new (is_store_failure x)) (sym is) quiet

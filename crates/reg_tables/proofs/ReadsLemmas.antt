@@ -1,4 +1,4 @@
--- What a call that only reads leaves of a keep over a database.
+-- What a call that only reads leaves of a store over a database.
 use Rattle.std.proofs.Common.{◌≡◌, ℕ, Bool, refl, ap, subst}
 use Rattle.ags_dict.specs.Entries.{Entries}
 use Rattle.sqlite.specs.Effect.{Database}
@@ -9,7 +9,7 @@ use Rattle.reg_tables.specs.Quiet.{IsStill, clean_before}
 use Rattle.reg_tables.specs.Register.{deposits_in, LeavesBroken, LeavesList}
 
 module _ {K : Type 0} (held : K → State) (dictionary : K → Entries) (limit : ℕ) (has_failed : K → Bool) where
-  -- where the connection is still, the keep was only read
+  -- where the connection is still, the store was only read
   pub reads_still : (old new : K) (failed : Bool) → IsStill (held old) (held new) failed → dictionary new ≡ dictionary old → has_failed new ≡ failed
       → Reads (λ k. deposits_in (held k).committed.trees) dictionary (λ _. limit) has_failed (λ k. LeavesList (held k).may_leave (dictionary k)) (λ k. LeavesBroken (held k).may_leave (dictionary k)) (λ k. HasCleanDisk (held k)) old new failed
   reads_still old new failed still same failing = record {

@@ -56,7 +56,7 @@ among_either m n xs h = go (list_any (eqb m) xs) (eqb m n) refl refl (sym (list_
 
 -- ---- what an insertion leaves
 
--- the numbers in what stands at a digest
+-- the numbers in what is at a digest
 abbrev items_in : Option (Vec ℕ Global) → List ℕ
 items_in o = option_map_or (λ v. v.items) o []
 
@@ -152,7 +152,7 @@ digested_same old new list other same is are k d at = ap (is_among (k + 1)) (sam
 pub below_same : (old new : Digests) (n : ℕ) → ((digest : List ℕ) → numbers_under new digest ≡ numbers_under old digest) → AreBelow old n → AreBelow new n
 below_same old new n same below digest m h = below digest m (sym (ap (is_among m) (same digest)) ∙ h)
 
--- what stands under digests is that of the list, where the tables hold it
+-- what is under digests is that of the list, where the tables hold it
 pub digested_held : (db : Database) (digests : Digests) (list : List Sent) → IsPermutation (deposit_rows 1 list) (deposit_table db.trees) → HoldsDigests db (length list + 1) digests → AreDigested digests list
 digested_held db digests list there held k d at =
     let e : (k + 1) - 1 ≡ k = omega arith in

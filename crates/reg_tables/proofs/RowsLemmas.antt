@@ -19,7 +19,7 @@ same_list d (x ∷ xs) (y ∷ ys) e h =
 pub not_true : IsTrue false → ⊥
 not_true h = absurd cc
 
--- an element that is read at a place is the one that stands there
+-- an element that is read at a place is the one that is there
 pub read_at : {X : Type 0} (xs : List X) (k : ℕ) (d x : X) → k < length xs → get_or xs k x ≡ x → get_or xs k d ≡ x
 read_at [] k d x low is = absurd (omega (arith, low))
 read_at (y ∷ xs) zero d x low is = is

@@ -33,7 +33,8 @@ IsDigestedAt db n one = (d : Sent) → IsRowOf db n d → IsDigestedFrom d one
 abbrev pub HoldsHeads : Database → ℕ → List KeptHead → Type 0
 HoldsHeads db count heads = (list : List Sent) → IsPermutation (deposit_rows 1 list) (deposit_table db.trees) → length list ≡ count → AreHeads heads list
 
--- Where the answer is yes, a head stands behind the others, and the number under its digest; on a clean disk both are of the number's deposit.
+-- Where the answer is yes, a head is after the others, and the number under its digest; on a clean disk both are of
+-- the number's deposit.
 abbrev pub AddsHead : {E : Type 0} → Result Bool E → ℕ → Vec KeptHead Global → Vec KeptHead Global → Digests → Digests → State → State → Type 0
 AddsHead result n heads heads' digests digests' old new =
     result ≡ Ok true → (one : DigestedHead) × (heads'.items ≡ heads.items ++ one.head ∷ []) × AddsNumber digests digests' one.digest n

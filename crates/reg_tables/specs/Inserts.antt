@@ -71,7 +71,7 @@ pub record AddsFile (n : ℕ) (d : Sent) (rows : List KeptRow) (graph : List (�
   pub steps : IsMore (step_table old.trees) (step_rows n graph) (step_table new.trees)
   pub marks : new.trees 8 ≡ old.trees 8
 
--- a row's columns behind its rowid are the same whatever that is
+-- a row's columns after its rowid are the same whatever that is
 columns_5_blind : IsBlind columns_5
 columns_5_blind id [] = refl
 columns_5_blind id (x ∷ row) = refl

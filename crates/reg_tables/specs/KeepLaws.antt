@@ -1,4 +1,4 @@
--- The laws of the keep.
+-- The laws of the store.
 use Rattle.std.specs.Prelude.{◌≡◌, ℕ, ◌+◌, ◌-◌, ◌<◌, Bool, false, List, [], ◌∷◌, ◌++◌, length, All, Some, slice_get, IsTrue}
 use Rattle.std.proofs.Common.{◌≤◌, zero, suc, sym, ap, ◌∙◌, subst, refl, arith, inl, inr, ◌⊎◌}
 use Rattle.std.proofs.Math.Logic.{∥∥₁_elim, ∥∥₁_map}
@@ -111,12 +111,12 @@ counted_at {s} {dictionary} {count} h = ∥∥₁_elim h (Prim.hlevel props) (λ
 
 -- ---- the next list
 
--- all that a call which makes the list the next one makes of the keep
+-- all that a call which makes the list the next one makes of the store
 pub record HoldsNext (new : State) (dictionary : Entries) (count : ℕ) (next : List Deposit) : Type 0 where
   pub kept : ∥ KeepsRegister new dictionary count ∥₁
   pub list : deposits_in new.committed.trees ≡ next
 
--- the tables of a keep turn by this change into a register of the next list
+-- the tables of a store turn by this change into a register of the next list
 abbrev pub Turns : State → Entries → ℕ → (Database → Database → Type 0) → List Deposit → Type 0
 Turns old dictionary count Change next = KeepsRegister old dictionary count → (db : Database) → Change old.now db → IsDatabase db → IsRegister db dictionary next
 

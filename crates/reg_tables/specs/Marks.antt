@@ -18,7 +18,7 @@ use Rattle.reg_tables.specs.RegisterLaws.{sents_back}
 
 -- ---- what was sent stays
 
--- what was sent of a deposit stands at its place
+-- what was sent of a deposit is at its place
 pub sent_at : (list : List Deposit) (k : ℕ) (d : Deposit) → slice_get list k ≡ Some d → slice_get (sents list) k ≡ Some d.sent
 sent_at list k d at = slice_get-map (λ (x : Deposit). x.sent) list k ∙ ap (option_map (λ (x : Deposit). x.sent)) at
 

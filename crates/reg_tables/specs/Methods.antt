@@ -1,4 +1,4 @@
--- What the reading methods of the keep say, from what the connection shows.
+-- What the reading methods of the store say, from what the connection shows.
 use Rattle.std.specs.Prelude.{◌≡◌, ℕ, ◌+◌, ◌-◌, ◌<◌, ◌≤◌, List, [], ◌∷◌, length, map, filter, Some, Result, Ok, Err, IfOk, slice_get}
 use Rattle.std.proofs.Common.{zero, suc, sym, ap, ◌∙◌, subst, subst₂, refl, arith, get_or}
 use Rattle.std.proofs.Math.Logic.{∥∥₁_elim}

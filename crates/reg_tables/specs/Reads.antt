@@ -28,7 +28,7 @@ use Rattle.reg_tables.specs.Put.{less}
 use Rattle.reg_tables.specs.Rows.{columns_5, line_table, placed_row, placed_rows, is_of, rows_under}
 use Rattle.reg_tables.specs.Answers.{passes, shown_of, answers}
 
--- an order that is told as equal is equal
+-- an order that tests as equal is equal
 pub equal_order : (o : Ordering) → is_eq o ≡ true → o ≡ Equal
 equal_order Less h = absurd cc
 equal_order Equal h = refl

@@ -145,7 +145,7 @@ target_entries_show : (targets : List ℕ) → map (λ (o : Output). o.1) (map t
 target_entries_show [] = refl
 target_entries_show (target ∷ targets) = ap (λ all. target_cell target ∷ all) (target_entries_show targets)
 
--- behind a step from the row, the targets are above that of it
+-- after a step from the row, the targets are above that of it
 above : (row : ℕ) (p : ℕ × ℕ) (steps : List (ℕ × ℕ)) → p.0 ≡ row → AllByRecursion (IsBefore p) steps → AllByRecursion (λ target. p.1 < target) (targets_of row steps)
 above row p [] from h = tt
 above row p (step ∷ steps) from h = go (step.0 == row) refl (above row p steps from h.1)

@@ -95,8 +95,8 @@ file_steps (Some file) = map step_pair file.graph.steps
 abbrev pub meta_columns : ℕ → List ℕ → List Row
 meta_columns number text = dictionary_row text ∷ format_row number ∷ []
 
--- What both formats have: the tables hold what was sent, under the dictionary that they hold. Rows are compared by their columns, in whatever order
--- they stand; of the rowids only the number of a deposit counts.
+-- What both formats have: the tables hold what was sent, under the dictionary that they hold. Rows are compared by
+-- their columns, in whatever order they are; of the rowids only the number of a deposit counts.
 pub record HoldsSent (format : Format) (db : Database) (dictionary : Entries) (list : List Sent) : Type 0 where
   pub schema : db.schema ≡ schema_of format
   pub sound : IsDatabase db
@@ -134,13 +134,13 @@ LeavesList may_leave dictionary list = (trees : Trees) × may_leave trees × IsR
 abbrev pub LeavesBroken : (Trees → Type 0) → Entries → Type 0
 LeavesBroken may_leave dictionary = (trees : Trees) × may_leave trees × ((list : List Deposit) → IsRegister (tables trees) dictionary list → ⊥)
 
--- what a keep that has not failed keeps true of its connection
+-- what a store that has not failed keeps true of its connection
 pub record KeepsRegister (s : State) (dictionary : Entries) (count : ℕ) : Type 0 where
   pub is_open : IsTrue s.is_open
   pub settled : s.committed ≡ s.now
   pub register : IsRegister s.now dictionary (deposits_in s.committed.trees)
   pub counted : count ≡ length (deposits_in s.committed.trees)
 
--- On a clean disk the connection is that of a keep that has not failed.
+-- On a clean disk the connection is that of a store that has not failed.
 abbrev pub KeepsIfClean : State → Entries → ℕ → Type 0
 KeepsIfClean s dictionary count = HasCleanDisk s → ∥ KeepsRegister s dictionary count ∥₁

@@ -1,4 +1,4 @@
--- The rows that are so few, and so short, that they may stand in memory.
+-- The rows that are so few, and so short, that they may be in memory.
 use Rattle.std.specs.Prelude.{ℕ, ◌+◌, ◌≤◌, List, [], ◌∷◌, length}
 use Rattle.reg_store.specs.declared.keep.KeptRow.{KeptRow}
 
@@ -7,7 +7,7 @@ abbrev pub byte_count : List KeptRow → ℕ
 byte_count [] = 0
 byte_count (row ∷ rows) = (length row.group + length row.line) + byte_count rows
 
--- No more rows and bytes than these stand in memory.
+-- No more rows and bytes than these are in memory.
 pub record AreSmall (rows : List KeptRow) : Type 0 where
   pub few : length rows ≤ 4096
   pub short : byte_count rows ≤ 65536

@@ -29,7 +29,7 @@ fn stored_day(day: Day) -> u32
     day.number() as u32
 }
 
-/// Adds a checked file under a number, with its rows and steps. Want of memory is answered only where nothing changed.
+/// Adds a checked file under a number, with its rows and steps. `NoMemory` is answered only where nothing changed.
 pub(crate) fn add_checked<S: Alter>(
     alloc: Global,
     conn: &mut Connection<S>,

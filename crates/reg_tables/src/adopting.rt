@@ -31,7 +31,7 @@ pub enum AdoptError {
     /// The database failed.
     #[error("the store failed")]
     Store,
-    /// Memory is wanting.
+    /// Out of memory.
     #[error("out of memory")]
     NoMemory,
 }

@@ -33,7 +33,7 @@ pub(crate) trait Change {
         ensures survives { Survives (state_in S.Store tx.old) (state_in S.Store tx.new) (λ _. ⊥) };
 }
 
-/// Changes the tables in one transaction. Want of memory is answered only where nothing changed.
+/// Changes the tables in one transaction. `NoMemory` is answered only where nothing changed.
 #[tactic(auto, using(crate::proofs::QueryLemmas::undone_laws))]
 pub(crate) fn change_tables<S: Alter, C: Change>(
     conn: &mut Connection<S>,

@@ -63,7 +63,8 @@ fn take_each<S: Alter, G: Gather>(
     Ok(Err(KeepError::Store))
 }
 
-/// Takes each row that a query of the register shows. Want of memory is answered only where the connection is known to be open.
+/// Takes each row that a query of the register shows. `NoMemory` is answered only where the connection is known to be
+/// open.
 pub(crate) fn take_shown<S: Alter, G: Gather>(
     conn: &mut Connection<S>,
     sql: &str,

@@ -1,4 +1,4 @@
-//! Kept deposits in tables: a keep over a database of SQLite.
+//! Kept deposits in tables: a store over a database of SQLite.
 #![tactic(auto)]
 
 mod adding;

@@ -67,7 +67,7 @@ fn insert_line<S: Alter>(
     )
 }
 
-/// Puts the values of eight rows of a file there, of which the first stands at this place.
+/// Puts the values of eight rows of a file there, of which the first is at this place.
 fn put_lines<'r>(
     values: &mut [[ValueRef<'r>; 5]; TOGETHER],
     number: u32,
@@ -92,7 +92,7 @@ fn put_lines<'r>(
     Ok(())
 }
 
-/// Adds eight rows of a file, of which the first stands at this place. Nothing is committed.
+/// Adds eight rows of a file, of which the first is at this place. Nothing is committed.
 #[tactic(auto, using(crate::proofs::AddsLemmas::kept_same))]
 fn insert_eight_lines<S: Alter>(
     tx: &mut Transaction<'_, S>,
@@ -119,7 +119,7 @@ fn insert_eight_lines<S: Alter>(
     )
 }
 
-/// Adds rows of a file, of which the first stands at this place, one by one. Nothing is committed.
+/// Adds rows of a file, of which the first is at this place, one by one. Nothing is committed.
 fn insert_each_line<S: Alter>(
     tx: &mut Transaction<'_, S>,
     number: u32,

@@ -77,7 +77,7 @@ impl<S: Alter> SqlKeep<S> {
 impl SqlKeep<FileStore<File>> {
     /// The register of format 1 that the database at a path holds, as one of format 2 without a mark.
     ///
-    /// It is `migrate_from` with `Unknown`. Its one clause says that the keep has not failed. No clause says what it
+    /// It is `migrate_from` with `Unknown`. Its one clause says that the store has not failed. No clause says what it
     /// holds, or when it is refused.
     pub fn migrate(
         rt: &HostRuntime,

@@ -47,7 +47,7 @@ pub enum CreateError {
     /// The database failed: a crash leaves what it left before, or a register of no deposits where there was no table.
     #[error("the store failed")]
     Store,
-    /// Memory is wanting.
+    /// Out of memory.
     #[error("out of memory")]
     NoMemory,
 }
@@ -303,7 +303,8 @@ impl SqlKeep<FileStore<File>> {
 
     /// The register that the database at a path holds.
     ///
-    /// It is `open_from` with `Unknown`. Its one clause says that the keep has not failed. No clause says what it holds, or when it is refused.
+    /// It is `open_from` with `Unknown`. Its one clause says that the store has not failed. No clause says what it
+    /// holds, or when it is refused.
     pub fn open(
         rt: &HostRuntime,
         alloc: Global,

@@ -76,7 +76,7 @@ fn search_project<S: Alter>(
     }
 }
 
-/// What was read, or that memory is wanting.
+/// What was read, or `NoMemory`.
 fn wanting(read: Result<Option<ProjectRow>, AllocError>) -> Result<Option<ProjectRow>, KeepError>
     ensures read { IfOk result (λ found. read ≡ Ok found) }
     ensures lives { fails result ≡ false }

@@ -12,7 +12,7 @@ use reg_store::KeepError;
 use sqlite::types::ValueRef;
 use sqlite::{Alter, Connection, Error, ErrorCode, Row};
 
-/// Whether memory is wanting.
+/// Whether the error is out of memory.
 pub(crate) fn is_memory(error: &Error) -> bool
     ensures { IsTrue result ↔ (error.now ≡ Error.SqliteFailure ErrorCode.OutOfMemory) }
 {
@@ -36,7 +36,7 @@ fn is_open<S: Alter>(conn: &mut Connection<S>) -> bool
     }
 }
 
-/// Why a call failed. Want of memory is answered only where the connection is known to be open.
+/// Why a call failed. `NoMemory` is answered only where the connection is known to be open.
 #[tactic(auto, using(crate::proofs::QueryLemmas::survives_none))]
 pub(crate) fn refusal<S: Alter>(conn: &mut Connection<S>, error: &Error) -> KeepError
     requires settled { HasCleanDisk (state S.Store conn.old) → IsSettled (state S.Store conn.old) }
@@ -70,7 +70,7 @@ fn ask<S: Alter>(
     conn.query_all(sql, params)
 }
 
-/// The rows that a query of the register shows. Want of memory is answered only where the connection is known to be open.
+/// The rows that a query of the register shows. `NoMemory` is answered only where the connection is known to be open.
 pub(crate) fn query<S: Alter>(
     conn: &mut Connection<S>,
     sql: &str,

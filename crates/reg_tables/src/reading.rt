@@ -19,7 +19,7 @@ use reg_store::{KeepError, Kept, KeptRow};
 use sqlite::{Alter, Connection, Error, ErrorCode, Row, params};
 use std::alloc::Global;
 
-/// Why a row is not read: want of memory, or it is not one of a register.
+/// Why a row is not read: out of memory, or it is not one of a register.
 pub(crate) fn read_error(error: &Error) -> KeepError
     ensures refused { result ≢ KeepError.Full }
     ensures store { result ≡ KeepError.Store → error.now ≢ Error.SqliteFailure ErrorCode.OutOfMemory }

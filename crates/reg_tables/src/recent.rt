@@ -8,10 +8,10 @@ use ags_text::copy;
 use reg_store::{KeptRow, copy_graph};
 use std::alloc::{AllocError, Global};
 
-/// The most rows, and the most steps, that stand in memory.
+/// The most rows, and the most steps, that are in memory.
 const MOST_ROWS: usize = 4_096;
 
-/// The most bytes of group names and lines that stand in memory.
+/// The most bytes of group names and lines that are in memory.
 const MOST_BYTES: usize = 65_536;
 
 /// The rows of a deposit.
@@ -30,7 +30,7 @@ pub(crate) struct RecentGraph {
     ghost few: { length graph.steps ≤ 4096 },
 }
 
-/// Whether the rows are so few, and so short, that they may stand in memory.
+/// Whether the rows are so few, and so short, that they may be in memory.
 fn are_small(rows: &[KeptRow]) -> bool
     ensures { IsTrue result → AreSmall rows.now }
 {

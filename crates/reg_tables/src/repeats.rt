@@ -1,4 +1,4 @@
-//! The digests of a register's deposits, which stand in memory, and the repeats that they tell.
+//! The digests of a register's deposits, which are in memory, and the repeats that they find.
 
 ghost use Rattle.std.specs.Prelude.{◌≡◌, ◌≢◌, ◌∷◌, ◌++◌, [], ℕ, List, true, IfOk, IfErr, IfSome, OnOk, IsSome};
 ghost use Rattle.sqlite.specs.Held.{state};
@@ -31,7 +31,7 @@ impl Digests {
         }
     }
 
-    /// The numbers that stand under a digest.
+    /// The numbers under a digest.
     pub(crate) fn of(&self, digest: &[u8; 32]) -> &[u32]
         ensures { result.now ≡ numbers_under self.now digest.now }
     {
@@ -60,7 +60,7 @@ impl Digests {
         Ok(numbers)
     }
 
-    /// Puts the numbers of a digest in the place of those that stand under it. There is room.
+    /// Puts the numbers of a digest instead of those that are under it. There is room.
     pub(crate) fn note(&mut self, digest: [u8; 32], numbers: Vec<u32>)
         requires { IsSome (found_at self.old digest) }
         ensures { PutsNumbers self.old self.new digest numbers.items }

@@ -1,4 +1,4 @@
-//! A keep over a database.
+//! A store over a database.
 
 ghost use Rattle.std.specs.Prelude.{◌≡◌, ◌<◌, ◌≤◌, ◌+◌, length, false};
 ghost use Rattle.reg_store.specs.Keep.{fails, is_store as store_error};
@@ -53,7 +53,7 @@ impl<S: Alter + Drop> Drop for SqlKeep<S> {
 }
 
 impl<S: Alter> SqlKeep<S> {
-    /// The connection, whose tables are the register of this list where the keep has not failed and the disk is clean.
+    /// The connection, whose tables are the register of this list where the store has not failed and the disk is clean.
     pub fn into_connection(self) -> Connection<S>
         ensures connection { result ≡ self.connection }
         ensures kept { self.has_failed ≡ false

@@ -1,4 +1,4 @@
-//! The calls of a keep, as their answers are printed: the same over each keep.
+//! The calls of a store, as their answers are printed: the same over each store.
 
 ghost use Rattle.std.specs.Prelude.{◌≡◌, ◌<◌, ◌≤◌, false, length, IfOk, IsTrue, OnOk};
 
@@ -21,7 +21,7 @@ use sqlite::{Alter, Connection};
 use std::alloc::{AllocError, Global};
 use std::fmt::Write;
 
-/// A call of a keep.
+/// A call of a store.
 #[derive(Clone, Copy)]
 enum Call {
     /// `find` of a firm's file for a project, and `add` where there is none.
@@ -46,7 +46,7 @@ struct Case {
     want: &'static str,
 }
 
-/// What is asked of a keep, whichever it is.
+/// What is requested from a store, whichever it is.
 pub(crate) trait Ask {
     /// What is answered.
     type Answer;
@@ -55,7 +55,8 @@ pub(crate) trait Ask {
         requires { K.has_failed keep.old ≡ false };
 }
 
-/// Asks it of a keep in tables, of any store: the answer, and the connection. `SqlKeep` is shown to be a keep here alone, since that is long.
+/// Requests it from a store in tables, over any store of SQLite: the answer, and the connection. `SqlKeep` is shown to
+/// be a `Keep` here alone, since that is long.
 pub(crate) fn ask_tables<S: Alter + Drop, A: Ask>(
     alloc: Global,
     mut keep: SqlKeep<S>,
@@ -67,7 +68,7 @@ pub(crate) fn ask_tables<S: Alter + Drop, A: Ask>(
     (answer, keep.into_connection())
 }
 
-/// What is asked of the making of a register, whichever store it is in.
+/// What is requested from the making of a register, whichever store of SQLite it is in.
 pub(crate) trait AskMade {
     /// What is answered.
     type Answer;
@@ -87,7 +88,7 @@ pub(crate) fn ask_in_memory<A: AskMade>(alloc: Global, dictionary: &[u8], asked:
     asked.ask_made(alloc, SqlKeep::in_memory(alloc, dictionary))
 }
 
-/// A name of the tests. One that is none counts as want of memory, which no test expects.
+/// A name of the tests. One that is none counts as out of memory, which no test expects.
 fn name(alloc: Global, text: &str) -> Result<Name, KeepError> {
     match Name::read(alloc, text) {
         Ok(name) => Ok(name),
@@ -103,7 +104,7 @@ fn free_from() -> Result<Day, KeepError> {
     }
 }
 
-/// The number of the deposit, that of an equal one or a new one; 0 where the keep is full.
+/// The number of the deposit, that of an equal one or a new one; 0 where the store is full.
 fn take<K: Keep>(
     keep: &mut K,
     firm: &Name,
@@ -125,7 +126,8 @@ fn take<K: Keep>(
     }
 }
 
-/// Takes the file of a firm for a project. One that is too long or has findings counts as want of memory, which no test expects.
+/// Takes the file of a firm for a project. One that is too long or has findings counts as out of memory, which no test
+/// expects.
 pub(crate) fn take_file<K: Keep>(
     alloc: Global,
     keep: &mut K,
@@ -463,7 +465,7 @@ fn tell<K: Keep>(
     }
 }
 
-/// Whether a keep answers a call so.
+/// Whether a store answers a call so.
 fn is_answered<K: Keep>(alloc: Global, keep: &mut K, case: &Case) -> Result<bool, KeepError>
     requires { K.has_failed keep.old ≡ false }
     ensures { OnOk result (K.has_failed keep.new ≡ false) }
@@ -473,7 +475,8 @@ fn is_answered<K: Keep>(alloc: Global, keep: &mut K, case: &Case) -> Result<bool
     Ok(told.as_str() == case.want)
 }
 
-/// Whether a keep answers each call so, of calls that are asked in turn; else the first answer that it does not give.
+/// Whether a store answers each call so, of calls made one after the other; else the first answer that it does not
+/// give.
 fn compared<K: Keep>(alloc: Global, keep: &mut K, cases: &[Case]) -> Result<&'static str, KeepError>
     requires { K.has_failed keep.old ≡ false }
 {

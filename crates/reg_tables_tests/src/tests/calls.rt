@@ -1,4 +1,4 @@
-//! The calls that are asked in turn, over each keep.
+//! The calls that are made one after the other, over each store.
 
 ghost use Rattle.std.specs.Prelude.{◌<◌, ◌≤◌};
 
@@ -196,7 +196,7 @@ const PROJECT_OF_B: &str = "0 \"HEADING\",\"PROJ_ID\",\"PROJ_NAME\" \"DATA\",\"P
 const PROJECT_OF_OTHER_A: &str =
     "0 \"HEADING\",\"PROJ_ID\",\"PROJ_NAME\" \"DATA\",\"P7\",\"Forth bank\"";
 
-/// What is asked twice, of another deposit, and behind one that was added.
+/// What is requested twice, of another deposit, and after one that was added.
 static AGAIN: [Case; 30] = [
     Case {
         call: Call::Take("Delta", "N1", File::B),
@@ -226,7 +226,7 @@ static AGAIN: [Case; 30] = [
         call: Call::Rows(2),
         want: ROWS_OF_A,
     },
-    // The steps of one deposit stand in memory beside the rows of another.
+    // The steps of one deposit are in memory beside the rows of another.
     Case {
         call: Call::Steps(1),
         want: STEPS_OF_B,
@@ -259,7 +259,7 @@ static AGAIN: [Case; 30] = [
         call: Call::Rows(3),
         want: ROWS_OF_A,
     },
-    // The row of PROJ of one deposit, and that it has no step, stand in memory beside those of another.
+    // The row of PROJ of one deposit, and that it has no step, are in memory beside those of another.
     Case {
         call: Call::Take("Delta", "N2", File::OtherA),
         want: "4",
@@ -323,7 +323,7 @@ static AGAIN: [Case; 30] = [
     },
 ];
 
-/// The calls over a keep in memory.
+/// The calls over a store in memory.
 fn in_memory(alloc: Global, limit: u32, cases: &[Case]) -> Result<&'static str, KeepError>
     requires least { 0 < limit }
     requires most { limit ≤ 999999 }
@@ -337,7 +337,7 @@ fn in_memory(alloc: Global, limit: u32, cases: &[Case]) -> Result<&'static str, 
     }
 }
 
-/// The calls over a keep.
+/// The calls over a store.
 pub(crate) struct Compare<'a>(pub(crate) &'a [Case]);
 
 impl<'a> Ask for Compare<'a> {
@@ -379,7 +379,7 @@ fn hold(first: &'static str) -> Result<(), Fail> {
     }
 }
 
-/// Each call is answered as wanted over a keep in memory of at most so many deposits.
+/// Each call is answered as wanted over a store in memory of at most so many deposits.
 fn hold_within(alloc: Global, limit: u32, cases: &[Case]) -> Result<(), Fail>
     requires least { 0 < limit }
     requires most { limit ≤ 999999 }
@@ -387,13 +387,13 @@ fn hold_within(alloc: Global, limit: u32, cases: &[Case]) -> Result<(), Fail>
     hold(in_memory(alloc, limit, cases)?)
 }
 
-/// The same over a keep in memory of as many deposits as there may be. A test that gave the number would show what it asks in sight of
-/// all its cases.
+/// The same over a store in memory of as many deposits as there may be. A test that gave the number would show what it
+/// requests in sight of all its cases.
 fn hold_in_memory(alloc: Global, cases: &[Case]) -> Result<(), Fail> {
     hold_within(alloc, 999_999, cases)
 }
 
-/// The same over a keep in memory of one deposit.
+/// The same over a store in memory of one deposit.
 fn hold_in_one_place(alloc: Global, cases: &[Case]) -> Result<(), Fail> {
     hold_within(alloc, 1, cases)
 }

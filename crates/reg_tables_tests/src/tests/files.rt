@@ -12,7 +12,7 @@ pub(crate) enum File {
     B,
     /// B with three more rows of LNMC below its first sample: nine steps.
     LongB,
-    /// As A, with the group PROJ behind TYPE: four DATA rows stand before its row.
+    /// As A, with the group PROJ after TYPE: there are four DATA rows before its row.
     LateProject,
 }
 
@@ -26,7 +26,7 @@ const MORE_ROWS: &[u8] = b"\
 \"DATA\",\"BH1\",\"1.50\",\"S1\",\"1.70\",\"26\"\r\n\
 ";
 
-/// The groups of A, with PROJ behind TYPE.
+/// The groups of A, with PROJ after TYPE.
 const LATE_PROJECT: &[u8] = b"\
 \"GROUP\",\"TRAN\"\r\n\
 \"HEADING\",\"TRAN_ISNO\",\"TRAN_DLIM\",\"TRAN_RCON\"\r\n\

@@ -45,7 +45,7 @@ static HELD: [Case; 5] = [
     },
 ];
 
-/// Deposits A, and makes the register one of format 1. Another answer than is wanted counts as want of memory.
+/// Deposits A, and makes the register one of format 1. Another answer than is wanted counts as out of memory.
 pub(crate) fn made_first<S: Alter + Drop>(
     alloc: Global,
     keep: SqlKeep<S>,
@@ -59,7 +59,7 @@ pub(crate) fn made_first<S: Alter + Drop>(
     Ok(connection)
 }
 
-/// The connection that comes with `Version` of this number. Want of memory is handed on.
+/// The connection that comes with `Version` of this number. `NoMemory` is passed on.
 fn version<S: Alter + Drop>(
     alloc: Global,
     answered: Result<SqlKeep<S>, (AdoptError, Connection<S>)>,

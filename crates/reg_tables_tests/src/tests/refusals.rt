@@ -1,4 +1,4 @@
-//! Refusals of keeps, as they are printed.
+//! Refusals of stores, as they are printed.
 
 use ags_dict::DictError;
 use reg_store::KeepError;

@@ -136,7 +136,7 @@ fn withdrawn<S: Alter + Drop>(
     }
 }
 
-/// Whether the keep holds the list.
+/// Whether the store holds the list.
 fn holds<S: Alter + Drop>(alloc: Global, keep: SqlKeep<S>) -> (bool, Connection<S>)
     requires { keep.has_failed ≡ false }
 {
@@ -165,7 +165,7 @@ fn is_whole<S: Alter + Drop>(
     }
 }
 
-/// Whether the keep holds the list with the mark, or, where the withdrawal stopped, without it.
+/// Whether the store holds the list with the mark, or, where the withdrawal stopped, without it.
 fn is_marked<S: Alter + Drop>(
     alloc: Global,
     connection: Connection<S>,

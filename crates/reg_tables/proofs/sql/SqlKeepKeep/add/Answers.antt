@@ -83,7 +83,7 @@ crash g c =
     let new = state g.S.Store c.add_checked-added.new.conn in
     subst (λ n. Survives old new (PutsOf old (n + 1) (added g c) (kept_rows c.args.checked.now.groups) c.args.checked.now.graph.steps)) c.count-count.ensures c.add_checked-added.ensures.crash
 
--- the keep that held the list holds it with the deposit
+-- the store that held the list holds it with the deposit
 more : (g : Over) (c : goal.After-push g) → HasCleanDisk (state g.S.Store c.add_checked-added.new.conn)
     → HoldsNext (state g.S.Store c.add_checked-added.new.conn) c.args.self.now.dictionary (length (next g c)) (next g c)
 more g c clean =

@@ -53,7 +53,7 @@ turns g c clean =
     let number = c.requires.number first in
     mark_turns {old = old} c.args.n number.0 number.1 (c.requires.unmarked first)
 
--- the keep that held the list holds it with the mark
+-- the store that held the list holds it with the mark
 more : (g : Over) (c : After-mark g) → HasCleanDisk (state g.S.Store c.change_tables.new.conn)
     → HoldsNext (state g.S.Store c.change_tables.new.conn) c.args.self.now.dictionary (length (marked c.args.n (held g c))) (marked c.args.n (held g c))
 more g c clean =
