@@ -10,7 +10,7 @@ use Rattle.std.specs.declared.alloc.Global.{Global}
 use Rattle.std.specs.declared.vec.Vec.{Vec}
 use Rattle.std.proofs.lemmas.Bool.{cases_Bool, cond-true, cond-false}
 use Rattle.std.proofs.lemmas.Map.Text.{is_eq-slice_cmp}
-use Rattle.ags_dict.specs.Index.{found_at}
+use Rattle.ags_dict.specs.Index.{value_at}
 
 -- bytes that are equal by `bytes_eq` are the same
 pub same_bytes : (xs ys : List ℕ) → bytes_eq xs ys ≡ true → xs ≡ ys
@@ -39,19 +39,19 @@ by_bytes f g bs w here other cs =
 -- what a map has at cs after a change at bs
 pub held_updates : {X : Type 0} (bs : List ℕ) (m n : BTreeMap (Vec ℕ Global) X) (w : Option X)
     → UpdatesBy (λ x y. slice_cmp nat_cmp x.items y.items) (λ k. slice_cmp nat_cmp bs k.items) m n w
-    → (cs : List ℕ) → found_at n cs ≡ cond (bytes_eq bs cs) w (found_at m cs)
+    → (cs : List ℕ) → value_at n cs ≡ cond (bytes_eq bs cs) w (value_at m cs)
 held_updates bs m n w h =
-    by_bytes (found_at m) (found_at n) bs w h.1
+    by_bytes (value_at m) (value_at n) bs w h.1
     (λ cs e. other_entries _ _ _ _ h.3 _ (λ x y. (eq_by_cmp_equiv nat_list_cmp_total).congr cs x.items y.items) (λ k. apart_in_order bs cs k.items e))
 
 -- a removal and an insertion at one text
 pub held_replaced : {X : Type 0} (bs ks : List ℕ) (m between n : BTreeMap (Vec ℕ Global) X) (x : X) → ks ≡ bs
     → UpdatesBy (λ x y. slice_cmp nat_cmp x.items y.items) (λ k. slice_cmp nat_cmp bs k.items) m between None
     → UpdatesBy (λ x y. slice_cmp nat_cmp x.items y.items) (λ k. slice_cmp nat_cmp ks k.items) between n (Some x)
-    → (cs : List ℕ) → found_at n cs ≡ cond (bytes_eq bs cs) (Some x) (found_at m cs)
+    → (cs : List ℕ) → value_at n cs ≡ cond (bytes_eq bs cs) (Some x) (value_at m cs)
 held_replaced {X} bs ks m between n x same out into cs =
-    let now : found_at n cs ≡ cond (bytes_eq bs cs) (Some x) (found_at between cs) =
-    held_updates ks between n (Some x) into cs ∙ ap (λ (k : List ℕ). cond (bytes_eq k cs) (Some x) (found_at between cs)) same in
+    let now : value_at n cs ≡ cond (bytes_eq bs cs) (Some x) (value_at between cs) =
+    held_updates ks between n (Some x) into cs ∙ ap (λ (k : List ℕ). cond (bytes_eq k cs) (Some x) (value_at between cs)) same in
     elim (cases_Bool (bytes_eq bs cs)) [
       | inl y ↦ now ∙ rw y refl
       | inr e ↦ now ∙ rw e (held_updates bs m between None out cs ∙ rw e refl)

@@ -15,16 +15,16 @@ use Rattle.ags_dict.specs.declared.places.PlacesByText.{PlacesByText}
 use Rattle.ags_dict.specs.declared.places.Ranks.{Ranks}
 
 -- what a map has at a text
-abbrev pub found_at : {X : Type 0} → BTreeMap (Vec ℕ Global) X → List ℕ → Option X
-found_at held text = get_by (λ k. slice_cmp nat_cmp text k.items) held
+abbrev pub value_at : {X : Type 0} → BTreeMap (Vec ℕ Global) X → List ℕ → Option X
+value_at held text = get_by (λ k. slice_cmp nat_cmp text k.items) held
 
 -- the places that are kept for a text
 abbrev pub places_at : PlacesByText → List ℕ → List ℕ
-places_at places text = option_map_or (λ v. v.items) (found_at places.held text) []
+places_at places text = option_map_or (λ v. v.items) (value_at places.held text) []
 
 -- the place in a group's order that is kept for a heading
 abbrev pub rank_at : Ranks → List ℕ → List ℕ → Option ℕ
-rank_at ranks group heading = option_and_then (λ of_group. found_at of_group heading) (found_at ranks.held group)
+rank_at ranks group heading = option_and_then (λ of_group. value_at of_group heading) (value_at ranks.held group)
 
 -- the place is kept for the text, after those kept before, and nothing changes for other texts
 abbrev pub NotesPlace : List ℕ → ℕ → PlacesByText → PlacesByText → Type 0

@@ -6,7 +6,7 @@ ghost use Rattle.ags_dict.specs.Entries.{has_no_parent, order_of, keys_of, requi
 
 use crate::groups::GroupEntries;
 use crate::headings::HeadingEntries;
-use crate::parts::has_part;
+use crate::parts::has_separated_part;
 use std::alloc::{AllocError, Global};
 use std::marker::Model;
 
@@ -119,7 +119,7 @@ impl Dictionary {
         let entries = self.headings.of_group(self.alloc, group)?;
         let mut found = Vec::new(self.alloc);
         for entry in entries.iter() {
-            if has_part(entry.status.as_slice(), b'+', word) {
+            if has_separated_part(entry.status.as_slice(), b'+', word) {
                 found.push(entry.heading.as_slice())?;
             }
         }

@@ -11,7 +11,7 @@ use Rattle.ags_links.specs.declared.families.Family.{Family}
 use Rattle.ags_links.specs.Lookups.{Lookup}
 use Rattle.ags_links.specs.declared.placed.PlacedRow.{PlacedRow}
 use Rattle.ags_rows.specs.Collecting.{At}
-use Rattle.ags_links.specs.DataRows.{DataRow, data_rows, group_rows, row_in}
+use Rattle.ags_links.specs.DataRows.{DataRow, data_rows, data_rows_of_group, row_in}
 use Rattle.ags_links.specs.Families.{HasText, HasGroupName, HasFamily, IsFamily, AreKept, AreFamilies}
 use Rattle.ags_links.specs.Lookups.{found, Finds}
 use Rattle.ags_links.specs.Placing.{IsPlaced, row_of}
@@ -20,11 +20,11 @@ use Rattle.ags_links.proofs.RowLemmas.{one_at, at_cases}
 use Rattle.ags_rows.proofs.Lemmas.{at_map}
 
 -- the rows of one more group
-pub data_rows_next : (groups : List Group) (i : ℕ) (d : Group) → i < length groups → data_rows (contents_of (take (i + 1) groups)) ≡ data_rows (contents_of (take i groups)) ++ group_rows (group_contents (get_or groups i d))
+pub data_rows_next : (groups : List Group) (i : ℕ) (d : Group) → i < length groups → data_rows (contents_of (take (i + 1) groups)) ≡ data_rows (contents_of (take i groups)) ++ data_rows_of_group (group_contents (get_or groups i d))
 data_rows_next groups i d lt =
     ap (λ gs. data_rows (contents_of gs)) (take_more groups i d lt)
     ∙ ap data_rows (map-append group_contents (take i groups) (get_or groups i d ∷ []))
-    ∙ flat_map_push group_rows (contents_of (take i groups)) (group_contents (get_or groups i d))
+    ∙ flat_map_push data_rows_of_group (contents_of (take i groups)) (group_contents (get_or groups i d))
 
 -- each DATA row of the groups is a row of the file
 rows_counted : (groups : List Group) → length (data_rows (contents_of groups)) ≡ row_count groups
@@ -33,7 +33,7 @@ rows_counted (g ∷ groups) =
     omega (
       arith,
       rows_counted groups,
-      length-append (group_rows (group_contents g)) (data_rows (contents_of groups)),
+      length-append (data_rows_of_group (group_contents g)) (data_rows (contents_of groups)),
       length-append g.rows (flat_map (λ (h : Group). h.rows) groups),
       length-map (map fields_of g.rows) (row_in (group_contents g)),
       length-map g.rows fields_of,

@@ -4,7 +4,7 @@ use Rattle.std.proofs.lemmas.Bool.{cases_lt}
 use Rattle.std.proofs.lemmas.List.{length-append, length-map, get_or_append_left, get_or-append-add}
 use Rattle.ags_rows.specs.Contents.{Contents}
 use Rattle.ags_rows.specs.Collecting.{At}
-use Rattle.ags_links.specs.DataRows.{DataRow, IsRowOfGroup, row_in, group_rows, data_rows, rows_before}
+use Rattle.ags_links.specs.DataRows.{DataRow, IsRowOfGroup, row_in, data_rows_of_group, data_rows, rows_before}
 use Rattle.ags_links.specs.Laws.{RowsAreNumbered, RowsStandOnce, RowsBeforeAddUp}
 use Rattle.ags_links.proofs.RowLemmas.{some_at, map_at}
 use Rattle.ags_rows.proofs.Lemmas.{at_map}
@@ -31,34 +31,34 @@ row_cases xs ys n r at = elim (cases_lt n (length xs)) [
 -- ---- the rows before a group
 
 -- one group further on
-pub before_more : (g : Contents) (file : List Contents) (i : ℕ) → rows_before (g ∷ file) (suc i) ≡ length (group_rows g) + rows_before file i
-before_more g file i = length-append (group_rows g) (data_rows (take i file))
+pub before_more : (g : Contents) (file : List Contents) (i : ℕ) → rows_before (g ∷ file) (suc i) ≡ length (data_rows_of_group g) + rows_before file i
+before_more g file i = length-append (data_rows_of_group g) (data_rows (take i file))
 
 pub stands_at : (file : List Contents) (i : ℕ) (g : Contents) → At file i g → (place : ℕ) (fields : List (List ℕ)) → At g.rows place fields → At (data_rows file) (rows_before file i + place) (row_in g fields)
 stands_at [] i g at = absurd (omega (arith, at.0))
 stands_at (f ∷ file) zero g at = λ place fields there.
     let e : f ≡ g = at.1 in
     let n : place ≡ 0 + place = omega arith in
-    subst (λ (k : ℕ). At (group_rows f ++ data_rows file) k (row_in g fields)) n
-    (front_row (group_rows f) (data_rows file) place (row_in g fields) (subst (λ (x : Contents). At (group_rows x) place (row_in g fields)) (sym e) (at_map (row_in g) g.rows place fields there)))
+    subst (λ (k : ℕ). At (data_rows_of_group f ++ data_rows file) k (row_in g fields)) n
+    (front_row (data_rows_of_group f) (data_rows file) place (row_in g fields) (subst (λ (x : Contents). At (data_rows_of_group x) place (row_in g fields)) (sym e) (at_map (row_in g) g.rows place fields there)))
 stands_at (f ∷ file) (suc i) g at = λ place fields there.
-    let n : rows_before (f ∷ file) (suc i) + place ≡ length (group_rows f) + (rows_before file i + place) = omega (arith, before_more f file i) in
-    back_row (group_rows f) (data_rows file) (rows_before file i + place) (rows_before (f ∷ file) (suc i) + place) (row_in g fields) n (stands_at file i g (omega (arith, at.0), at.1) place fields there)
+    let n : rows_before (f ∷ file) (suc i) + place ≡ length (data_rows_of_group f) + (rows_before file i + place) = omega (arith, before_more f file i) in
+    back_row (data_rows_of_group f) (data_rows file) (rows_before file i + place) (rows_before (f ∷ file) (suc i) + place) (row_in g fields) n (stands_at file i g (omega (arith, at.0), at.1) place fields there)
 
 -- all rows of a group are among those of the file
 pub before_few : (file : List Contents) (i : ℕ) (g : Contents) → At file i g → rows_before file i + length g.rows ≤ length (data_rows file)
 before_few [] i g at = absurd (omega (arith, at.0))
 before_few (f ∷ file) zero g at =
-    let e : length (group_rows f) ≡ length g.rows = length-map f.rows (row_in f) ∙ ap (λ (x : Contents). length x.rows) at.1 in
+    let e : length (data_rows_of_group f) ≡ length g.rows = length-map f.rows (row_in f) ∙ ap (λ (x : Contents). length x.rows) at.1 in
     let z : rows_before (f ∷ file) 0 ≡ 0 = refl in
-    omega (arith, e, z, length-append (group_rows f) (data_rows file))
-before_few (f ∷ file) (suc i) g at = omega (arith, before_few file i g (omega (arith, at.0), at.1), before_more f file i, length-append (group_rows f) (data_rows file))
+    omega (arith, e, z, length-append (data_rows_of_group f) (data_rows file))
+before_few (f ∷ file) (suc i) g at = omega (arith, before_few file i g (omega (arith, at.0), at.1), before_more f file i, length-append (data_rows_of_group f) (data_rows file))
 
 -- the rows before the next group
 pub before_next : (file : List Contents) (i : ℕ) (g : Contents) → At file i g → rows_before file (suc i) ≡ rows_before file i + length g.rows
 before_next [] i g at = absurd (omega (arith, at.0))
 before_next (f ∷ file) zero g at =
-    let e : length (group_rows f) ≡ length g.rows = length-map f.rows (row_in f) ∙ ap (λ (x : Contents). length x.rows) at.1 in
+    let e : length (data_rows_of_group f) ≡ length g.rows = length-map f.rows (row_in f) ∙ ap (λ (x : Contents). length x.rows) at.1 in
     let z : rows_before (f ∷ file) 0 ≡ 0 = refl in
     let y : rows_before file 0 ≡ 0 = refl in
     omega (arith, e, z, y, before_more f file 0)
@@ -68,7 +68,7 @@ before_next (f ∷ file) (suc i) g at = omega (arith, before_next file i g (omeg
 
 pub row_of_group : (file : List Contents) (n : ℕ) (r : DataRow) → At (data_rows file) n r → IsRowOfGroup file n r
 row_of_group [] n r at = absurd (omega (arith, at.0))
-row_of_group (g ∷ file) n r at = elim (row_cases (group_rows g) (data_rows file) n r at) [
+row_of_group (g ∷ file) n r at = elim (row_cases (data_rows_of_group g) (data_rows file) n r at) [
   | inl here ↦ (
       let there = some_at g.rows n (omega (arith, here.0, length-map g.rows (row_in g))) in
       record {

@@ -22,12 +22,12 @@ abbrev pub row_in : Contents → List (List ℕ) → DataRow
 row_in group fields = record { group = group.name; headings = group.headings; types = group.types; fields = fields }
 
 -- the DATA rows of one group, in their order
-abbrev pub group_rows : Contents → List DataRow
-group_rows group = map (row_in group) group.rows
+abbrev pub data_rows_of_group : Contents → List DataRow
+data_rows_of_group group = map (row_in group) group.rows
 
 -- the DATA rows of a file, numbered from 0 over the whole file
 abbrev pub data_rows : List Contents → List DataRow
-data_rows contents = flat_map group_rows contents
+data_rows contents = flat_map data_rows_of_group contents
 
 -- how many DATA rows are in the groups before this place
 abbrev pub rows_before : List Contents → ℕ → ℕ

@@ -4,7 +4,7 @@ use Rattle.std.specs.Borrow.{Bor}
 use Rattle.ags_rows.specs.declared.rows.Group.{Group}
 use Rattle.ags_rows.specs.Contents.{group_contents, fields_of, field_at}
 use Rattle.ags_rows.specs.Parts.{parts_at}
-use Rattle.ags_links.specs.DataRows.{DataRow, row_in, group_rows}
+use Rattle.ags_links.specs.DataRows.{DataRow, row_in, data_rows_of_group}
 use Rattle.ags_links.specs.declared.placed.PlacedRow.{PlacedRow}
 
 -- the DATA row that is kept
@@ -18,7 +18,7 @@ IsPlaced groups kept = (kept.place < length groups) × (slice_index_or groups ke
 -- the new rows are the old ones, then the DATA rows of the group at this place of the file
 abbrev pub AddsGroupRows : List Group → ℕ → List PlacedRow → List PlacedRow → Type 0
 AddsGroupRows groups place old new = (d : Group) → map row_of new
-    ≡ map row_of old ++ group_rows (group_contents (slice_index_or groups place d))
+    ≡ map row_of old ++ data_rows_of_group (group_contents (slice_index_or groups place d))
 
 -- what is in the row at the places
 abbrev pub fields_at : List (Option ℕ) → PlacedRow → List (List ℕ)

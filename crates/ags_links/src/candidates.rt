@@ -7,7 +7,7 @@ ghost use Rattle.ags_links.specs.ParentRows.{text_at, AreNumbers, AreCandidatesF
 ghost use Rattle.ags_links.specs.Placing.{HaveEqualEntries};
 
 use crate::entry_lists::{EntryLists, leading_entries};
-use crate::families::{Family, places_of};
+use crate::families::{Family, heading_places};
 use crate::parents::ParentLinks;
 use crate::placed::{PlacedRow, field};
 use ags_dict::Dictionary;
@@ -82,7 +82,7 @@ pub(crate) fn candidates<'s>(
     }
     let start = numbers[0] as usize;
     let first = &rows[start];
-    let stood = places_of(alloc, &families[first.place].headings, &links.headings)?;
+    let stood = heading_places(alloc, &families[first.place].headings, &links.headings)?;
     let entries = leading_entries(rows, lists, links);
     let asked = field(row, places[0]);
     let mut chosen = Vec::new(alloc);

@@ -34,7 +34,7 @@ pub(crate) struct KeyedRows {
 }
 
 /// Where the names are among the headings.
-pub(crate) fn places_of(
+pub(crate) fn heading_places(
     alloc: Global,
     headings: &Places<'_>,
     names: &[&[u8]],
@@ -74,7 +74,7 @@ fn family_of<'s, 'd>(
     let headings = Places::of_cells(alloc, group.headings.as_slice())?;
     let listed = dictionary.keys(group.name.as_slice())?;
     let key_headings = Places::of(alloc, listed)?;
-    let keys = places_of(alloc, &headings, key_headings.names())?;
+    let keys = heading_places(alloc, &headings, key_headings.names())?;
     let file_set = headings.find(b"FILE_FSET");
     let links = record_links(alloc, &headings, group)?;
     Ok(Family {

@@ -12,7 +12,7 @@ ghost use Rattle.ags_links.specs.Placing.{row_of, ListsTexts};
 
 use crate::candidates::candidates;
 use crate::entry_lists::{EntryLists, entry_lists};
-use crate::families::{Family, family_at, places_of};
+use crate::families::{Family, family_at, heading_places};
 use crate::lookup::{Lookup, Span, rows_by_text, rows_with};
 use crate::placed::PlacedRow;
 use crate::texts::{names_text, push_entries};
@@ -202,7 +202,7 @@ fn rows_by_entries(
     let mut entries = Vec::new(alloc);
     for number in numbers {
         let row = &rows[*number as usize];
-        let places = places_of(alloc, &families[row.place].headings, headings)?;
+        let places = heading_places(alloc, &families[row.place].headings, headings)?;
         entries.clear();
         push_entries(&mut entries, row, &places)?;
         let text = Vec::from_slice(alloc, &entries)?;
@@ -373,7 +373,7 @@ fn link_places(
     for (place, of_group) in links.iter().enumerate() {
         let headings = &families[place].headings;
         of_groups.push(LinkPlaces {
-            places: places_of(alloc, headings, &of_group.headings)?,
+            places: heading_places(alloc, headings, &of_group.headings)?,
             lookup: first_with(texts, of_group),
         })?;
     }

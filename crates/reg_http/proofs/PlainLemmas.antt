@@ -13,7 +13,7 @@ use Rattle.ags_rows.specs.declared.code.Code.{Code}
 use Rattle.ags_rows.specs.declared.code.Code.TheVariants.{Rule1, Rule2, Rule2a, Rule2b, Rule3, Rule4, Rule5, Rule6, Rule7, Rule8, Rule9, Rule10a, Rule10b, Rule10c, Rule11a, Rule11b, Rule11c, Rule13, Rule14, Rule15, Rule16, Rule17, Rule18, Rule19, Rule19a, Rule19b, Rule20, P1, P2}
 use Rattle.reg_policy.specs.Names.{hyphen, is_name, is_name_byte}
 use Rattle.reg_policy.specs.Days.{Writes, day_text, two_digits}
-use Rattle.reg_http.specs.Bodies.{shown_byte}
+use Rattle.reg_http.specs.Bodies.{printed_byte}
 
 -- a byte that stands for itself within quotes
 abbrev IsPlain : ℕ → Type 0
@@ -96,18 +96,18 @@ code_plain P1 = refl
 code_plain P2 = refl
 
 -- what shows is no control
-shown_from : (b : ℕ) → 32 ≤ shown_byte b
+shown_from : (b : ℕ) → 32 ≤ printed_byte b
 shown_from b = grind (arith, nat_tests)
 
 -- a byte that shows, and is not escaped
-pub shown_plain : (b s : ℕ) → s ≡ shown_byte b → (s ≡ 34 → ⊥) → (s ≡ 92 → ⊥) → s ∷ [] ≡ escape_byte (shown_byte b)
+pub shown_plain : (b s : ℕ) → s ≡ printed_byte b → (s ≡ 34 → ⊥) → (s ≡ 92 → ⊥) → s ∷ [] ≡ escape_byte (printed_byte b)
 shown_plain b s is no_quote no_slash = sym (ap escape_byte (sym is) ∙ escape_byte_plain s no_quote no_slash (subst (λ k. 32 ≤ k) (sym is) (shown_from b)))
 
 -- a quote, and a backslash
-pub shown_quote : (b s : ℕ) → s ≡ shown_byte b → s ≡ 34 → 92 ∷ 34 ∷ [] ≡ escape_byte (shown_byte b)
+pub shown_quote : (b s : ℕ) → s ≡ printed_byte b → s ≡ 34 → 92 ∷ 34 ∷ [] ≡ escape_byte (printed_byte b)
 unfolding escape_byte
 shown_quote b s is quote = ap escape_byte (sym quote ∙ is)
 
-pub shown_slash : (b s : ℕ) → s ≡ shown_byte b → s ≡ 92 → 92 ∷ 92 ∷ [] ≡ escape_byte (shown_byte b)
+pub shown_slash : (b s : ℕ) → s ≡ printed_byte b → s ≡ 92 → 92 ∷ 92 ∷ [] ≡ escape_byte (printed_byte b)
 unfolding escape_byte
 shown_slash b s is slash = ap escape_byte (sym slash ∙ is)

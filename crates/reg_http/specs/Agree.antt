@@ -14,6 +14,6 @@ and_then (Ok a) next = next a
 and_then (Err r) next = Err r
 
 -- what was read is right, seen as its definition has it, unless memory was refused
-abbrev pub Agrees : {A B : Type 0} → (A → B) → Result B Refusal → Result A Refusal → Type 0
-Agrees seen right (Ok a) = right ≡ Ok (seen a)
-Agrees seen right (Err r) = is_want_of_memory r ≡ false → right ≡ Err r
+abbrev pub IsAsDefined : {A B : Type 0} → (A → B) → Result B Refusal → Result A Refusal → Type 0
+IsAsDefined seen right (Ok a) = right ≡ Ok (seen a)
+IsAsDefined seen right (Err r) = is_want_of_memory r ≡ false → right ≡ Err r

@@ -11,7 +11,7 @@ use Rattle.reg_desk.specs.Asked as requests
 use Rattle.reg_http.specs.Fields.{Few, none, one, many}
 use Rattle.reg_http.specs.Numbers.{length_in}
 use Rattle.reg_http.specs.HeadParts.{HeadParts, values_in}
-use Rattle.reg_http.specs.Queries.{Sought, deposit, check, listing, extract, withdraw, project_in, sought_in}
+use Rattle.reg_http.specs.Queries.{Sought, deposit, check, listing, extract, withdraw, project_in_path, sought_in}
 use Rattle.reg_http.specs.Routes.{FoundAt, page_in, has_body, kind_in}
 use Rattle.reg_http.specs.declared.request.route.Kind.{Kind}
 use Rattle.reg_http.specs.declared.refusal.Refusal.{Refusal}
@@ -54,7 +54,7 @@ abbrev pub ask_kind : List Credential → ℤ → HeadParts → FoundAt → Kind
 ask_kind callers day parts found kind =
     and_then (caller_in callers (values_in parts (codes "authorization"))) (λ caller.
     and_then (body_length kind parts) (λ n.
-    and_then (project_in found.project) (λ project.
+    and_then (project_in_path found.project) (λ project.
     and_then (sought_in kind found.number (raw_pairs parts.query) day) (λ sought.
     Ok (record { caller = caller; project = project; sought = sought; length = n })))))
 

@@ -19,12 +19,12 @@ abbrev pub question_mark : ℕ
 question_mark = 63
 
 -- a byte as it is printed: `?` where it does not show
-abbrev pub shown_byte : ℕ → ℕ
-shown_byte b = if nat_lt b first_shown || nat_lt last_shown b then question_mark else b
+abbrev pub printed_byte : ℕ → ℕ
+printed_byte b = if nat_lt b first_shown || nat_lt last_shown b then question_mark else b
 
 -- a subject as it is printed
 abbrev pub printed : List ℕ → List ℕ
-printed subject = map shown_byte subject
+printed subject = map printed_byte subject
 
 abbrev pub finding_data : Finding → Data
 finding_data f = object

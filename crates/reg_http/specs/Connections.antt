@@ -11,7 +11,7 @@ use Rattle.reg_desk.specs.Asked.{Asked}
 use Rattle.reg_desk.specs.Desks.{AnsweredBy}
 use Rattle.reg_http.specs.Heads.{longest_head}
 use Rattle.reg_http.specs.Serving.{ServesOne, WaitsFor, is_read, is_write}
-use Rattle.reg_http.specs.Tallies.{IsFresh, inner_of, calls_of, has_failed}
+use Rattle.reg_http.specs.Tallies.{IsFresh, tally_inner, calls_of, tally_has_failed}
 use Rattle.reg_http.specs.declared.tally.Tally.{Tally}
 use Rattle.reg_desk.specs.declared.answer.Answer.{Answer}
 use Rattle.reg_desk.specs.declared.desk.Desk.{Desk}
@@ -33,16 +33,16 @@ module _ {D R W : Type 0} (answers : D → Asked → Answer → D → Type 0)
   -- one connection: reader and writer before and after, and the desk before and after
   pub record ServesConnection (old new : Tally R × Tally W) (before after : D) (r : Result Served IoFault)
       : Type 0 where
-    pub served : IfSome (remaining (inner_of old.0)) (λ bytes. ServesOne answers callers day bytes before after
-        (contents (inner_of old.1)) (contents (inner_of new.1)) r)
+    pub served : IfSome (remaining (tally_inner old.0)) (λ bytes. ServesOne answers callers day bytes before after
+        (contents (tally_inner old.1)) (contents (tally_inner new.1)) r)
     pub untold : (bytes : List ℕ) × ServesOne answers callers day bytes before after
-        (contents (inner_of old.1)) (contents (inner_of new.1)) r
-    pub read_fault : has_failed new.0 ≡ is_read r
-    pub write_fault : has_failed new.1 ≡ is_write r
+        (contents (tally_inner old.1)) (contents (tally_inner new.1)) r
+    pub read_fault : tally_has_failed new.0 ≡ is_read r
+    pub write_fault : tally_has_failed new.1 ≡ is_write r
     pub unread : IsTrue (is_read r) → (after ≡ before) × (new.1 ≡ old.1)
-    pub silent : IfSome (remaining (inner_of old.0)) (λ bytes. bytes ≡ [] → new.1 ≡ old.1)
+    pub silent : IfSome (remaining (tally_inner old.0)) (λ bytes. bytes ≡ [] → new.1 ≡ old.1)
     pub calls : calls_of new.0 ≤ most_calls
-    pub waits : IfSome (remaining (inner_of old.0)) (λ bytes. WaitsFor callers day bytes (calls_of new.0))
+    pub waits : IfSome (remaining (tally_inner old.0)) (λ bytes. WaitsFor callers day bytes (calls_of new.0))
 
   -- one after the other, the next over the desk that the last left
   abbrev pub ServesAll : List (Tally R × Tally W) → List (Result Served IoFault) → List (Tally R × Tally W)

@@ -6,7 +6,7 @@ use Rattle.httparse.specs.declared.spans.HeaderSpan.{HeaderSpan}
 use Rattle.httparse.specs.declared.spans.RequestSpans.{RequestSpans}
 use Rattle.httparse.specs.Spans.{IsRequestAt, IsRequestWithin}
 use Rattle.std.specs.Io.KnownBytes.{Consumes}
-use Rattle.reg_http.specs.Tallies.{inner_of}
+use Rattle.reg_http.specs.Tallies.{tally_inner}
 use Rattle.reg_http.specs.declared.tally.Tally.{Tally}
 use Rattle.reg_http.specs.declared.request.head.HeadRead.{HeadRead}
 use Rattle.reg_http.specs.declared.request.head.HeadRead.TheVariants.{Empty, Fault, Bad, Whole}
@@ -59,7 +59,8 @@ ReadsHead bytes left buf headers (Whole spans filled) = Consumes (Some bytes) le
 abbrev pub ReadsHeadFrom : {R : Type 0} → ReadGhosts R → Tally R → Tally R → List ℕ → List HeaderSpan → HeadRead
     → Type 0
 ReadsHeadFrom reads old new buf headers read =
-    IfSome (reads.remaining (inner_of old)) (λ bytes. ReadsHead bytes (reads.remaining (inner_of new)) buf headers read)
+    IfSome (reads.remaining (tally_inner old))
+    (λ bytes. ReadsHead bytes (reads.remaining (tally_inner new)) buf headers read)
 
 -- the read failed
 abbrev pub is_fault : HeadRead → Bool

@@ -79,5 +79,5 @@ sought_in kinds.List number pairs day = bare listing pairs
 sought_in kinds.Extract number pairs day = extract_sought number pairs
 sought_in kinds.Withdraw number pairs day = withdraw_sought number pairs
 
-abbrev pub project_in : List ℕ → Result (List ℕ) Refusal
-project_in text = if is_name text then Ok text else Err BadParameter
+abbrev pub project_in_path : List ℕ → Result (List ℕ) Refusal
+project_in_path text = if is_name text then Ok text else Err BadParameter

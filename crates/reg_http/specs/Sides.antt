@@ -11,7 +11,7 @@ use Rattle.reg_desk.specs.declared.desk.Desk.{Desk}
 use Rattle.reg_http.specs.HeadParts.{head_parts, parts_seen}
 use Rattle.reg_http.specs.Heads.{IsHead}
 use Rattle.reg_http.specs.Serving.{ServesAsked, ServesOne, ServesRequest, Written}
-use Rattle.reg_http.specs.Tallies.{inner_of}
+use Rattle.reg_http.specs.Tallies.{tally_inner}
 use Rattle.reg_http.specs.Views.{asking_at}
 use Rattle.reg_http.specs.declared.request.ask.Ask.{Ask}
 use Rattle.reg_http.specs.declared.request.parts.Parts.{Parts}
@@ -22,28 +22,28 @@ use Rattle.reg_http.specs.declared.serve.IoFault.{IoFault}
 -- the text was written whole to the writer, and the status is given; or a first part of it, where the writer failed
 abbrev pub WrittenTo : {W : Type 0} → WriteGhosts W → Tally W → Tally W → List ℕ → ℕ → Result Served IoFault → Type 0
 WrittenTo writes old new text status r =
-    Written (writes.contents (inner_of old)) (writes.contents (inner_of new)) text status r
+    Written (writes.contents (tally_inner old)) (writes.contents (tally_inner new)) text status r
 
 module _ {K W : Type 0} {keep : KeepGhosts K} (writes : WriteGhosts W) where
   -- the desk answered the request, and that was written to the writer
   abbrev pub ServesRequestTo : Asked → Desk K keep → Desk K keep → Tally W → Tally W → Result Served IoFault → Type 0
   ServesRequestTo asked old new writer writer_after r =
       ServesRequest (AnsweredBy keep) asked old new
-      (writes.contents (inner_of writer)) (writes.contents (inner_of writer_after)) r
+      (writes.contents (tally_inner writer)) (writes.contents (tally_inner writer_after)) r
 
   -- what a head asks was served, and the reply was written to the writer; `all` is what came after the head
   abbrev pub ServesAskedTo : Ask → ℤ → List ℕ → Desk K keep → Desk K keep
       → Tally W → Tally W → Result Served IoFault → Type 0
   ServesAskedTo ask day all old new writer writer_after r =
       ServesAsked (AnsweredBy keep) (asking_at ask) day all old new
-      (writes.contents (inner_of writer)) (writes.contents (inner_of writer_after)) r
+      (writes.contents (tally_inner writer)) (writes.contents (tally_inner writer_after)) r
 
   -- the bytes of a connection were served, and the reply was written to the writer
   abbrev pub ServesOneTo : List Credential → ℤ → List ℕ → Desk K keep → Desk K keep
       → Tally W → Tally W → Result Served IoFault → Type 0
   ServesOneTo callers day bytes old new writer writer_after r =
       ServesOne (AnsweredBy keep) callers day bytes old new
-      (writes.contents (inner_of writer)) (writes.contents (inner_of writer_after)) r
+      (writes.contents (tally_inner writer)) (writes.contents (tally_inner writer_after)) r
 
   -- if these are the parts of a head, the bytes of some connection were served, and the reply was written to the writer
   abbrev pub ServesSomeHead : List Credential → ℤ → Parts → Desk K keep → Desk K keep
@@ -57,14 +57,14 @@ module _ {K R W : Type 0} {keep : KeepGhosts K} (reads : ReadGhosts R) (writes :
   abbrev pub ServesAskedFrom : Ask → ℤ → List ℕ → Tally R → Desk K keep → Desk K keep
       → Tally W → Tally W → Result Served IoFault → Type 0
   ServesAskedFrom ask day early reader old new writer writer_after r =
-      IfSome (reads.remaining (inner_of reader))
+      IfSome (reads.remaining (tally_inner reader))
       (λ left. ServesAskedTo writes ask day (early ++ left) old new writer writer_after r)
 
   -- a head of these parts was served, with what came early and what the reader still had, if contracts can name that
   abbrev pub ServesHead : List Credential → ℤ → Parts → List ℕ → Tally R → Desk K keep → Desk K keep
       → Tally W → Tally W → Result Served IoFault → Type 0
   ServesHead callers day parts early reader old new writer writer_after r =
-      IfSome (reads.remaining (inner_of reader)) (λ left. (bytes : List ℕ) (h : RequestHead)
+      IfSome (reads.remaining (tally_inner reader)) (λ left. (bytes : List ℕ) (h : RequestHead)
       → IsHead bytes h (early ++ left) → parts_seen parts ≡ head_parts h
       → ServesOneTo writes callers day bytes old new writer writer_after r)
 
@@ -72,5 +72,5 @@ module _ {K R W : Type 0} {keep : KeepGhosts K} (reads : ReadGhosts R) (writes :
   abbrev pub ServesOneFrom : List Credential → ℤ → Tally R → Desk K keep → Desk K keep
       → Tally W → Tally W → Result Served IoFault → Type 0
   ServesOneFrom callers day reader old new writer writer_after r =
-      IfSome (reads.remaining (inner_of reader))
+      IfSome (reads.remaining (tally_inner reader))
       (λ bytes. ServesOneTo writes callers day bytes old new writer writer_after r)

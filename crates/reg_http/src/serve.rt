@@ -8,7 +8,7 @@ ghost use Rattle.reg_http.specs.Rendering.{is_fixed, rendered, status_of};
 ghost use Rattle.reg_http.specs.Serving.{ServesAnswer, WaitsFor, body_reads, is_read, is_write};
 ghost use Rattle.reg_http.specs.Sides.{ServesAskedFrom, ServesAskedTo, ServesHead, ServesOneFrom, ServesOneTo};
 ghost use Rattle.reg_http.specs.Sides.{ServesRequestTo, ServesSomeHead, WrittenTo};
-ghost use Rattle.reg_http.specs.Tallies.{inner_of, calls_of, has_failed, IsFresh};
+ghost use Rattle.reg_http.specs.Tallies.{tally_inner, calls_of, tally_has_failed, IsFresh};
 
 use crate::refusal::Refusal;
 use crate::reply::answer::{answer_status, built_reply, fixed_reply};
@@ -51,12 +51,12 @@ pub fn serve_one<K: Keep, R: Read, W: Write>(
         desk.old desk.new writer.old writer.new result }
 
     // Faults are those of the two sides, each exactly.
-    ensures read_fault { has_failed reader.new ≡ is_read result }
-    ensures write_fault { has_failed writer.new ≡ is_write result }
+    ensures read_fault { tally_has_failed reader.new ≡ is_read result }
+    ensures write_fault { tally_has_failed writer.new ≡ is_write result }
     ensures unread { IsTrue (is_read result) → (desk.new ≡ desk.old) × (writer.new ≡ writer.old) }
-    ensures silent { IfSome (R.remaining (inner_of reader.old)) (λ bytes. bytes ≡ [] → writer.new ≡ writer.old) }
+    ensures silent { IfSome (R.remaining (tally_inner reader.old)) (λ bytes. bytes ≡ [] → writer.new ≡ writer.old) }
     ensures calls { calls_of reader.new ≤ most_calls }
-    ensures waits { IfSome (R.remaining (inner_of reader.old)) (λ bytes.
+    ensures waits { IfSome (R.remaining (tally_inner reader.old)) (λ bytes.
         WaitsFor callers.now day bytes (calls_of reader.new)) }
 {
     let mut buf = [0u8; LONGEST_HEAD];
@@ -109,8 +109,8 @@ fn serve_head<K: Keep, R: Read, W: Write>(
     reader: &mut Tally<R>,
     writer: &mut Tally<W>,
 ) -> Result<Served, IoFault>
-    requires reader_sound { has_failed reader.old ≡ false }
-    requires writer_sound { has_failed writer.old ≡ false }
+    requires reader_sound { tally_has_failed reader.old ≡ false }
+    requires writer_sound { tally_has_failed writer.old ≡ false }
 
     // At bytes that begin with a head of these parts.
     ensures served { ServesHead R.Read W.Write callers.now day parts.now early.now reader.old
@@ -119,8 +119,8 @@ fn serve_head<K: Keep, R: Read, W: Write>(
         desk.old desk.new writer.old writer.new result }
 
     // Faults are those of the two sides, each exactly, and a failed read changes neither desk nor writer.
-    ensures read_fault { has_failed reader.new ≡ is_read result }
-    ensures write_fault { has_failed writer.new ≡ is_write result }
+    ensures read_fault { tally_has_failed reader.new ≡ is_read result }
+    ensures write_fault { tally_has_failed writer.new ≡ is_write result }
     ensures unread { IsTrue (is_read result) → (desk.new ≡ desk.old) × (writer.new ≡ writer.old) }
 
     // How many reads are made at most.
@@ -144,8 +144,8 @@ fn serve_asked<K: Keep, R: Read, W: Write>(
     reader: &mut Tally<R>,
     writer: &mut Tally<W>,
 ) -> Result<Served, IoFault>
-    requires reader_sound { has_failed reader.old ≡ false }
-    requires writer_sound { has_failed writer.old ≡ false }
+    requires reader_sound { tally_has_failed reader.old ≡ false }
+    requires writer_sound { tally_has_failed writer.old ≡ false }
 
     // What is written and what the desk is then, by the bytes that came early and those that the reader still had.
     ensures served { ServesAskedFrom R.Read W.Write ask.now day early.now reader.old
@@ -156,8 +156,8 @@ fn serve_asked<K: Keep, R: Read, W: Write>(
         desk.old desk.new writer.old writer.new result }
 
     // Faults are those of the two sides, each exactly, and a failed read changes neither desk nor writer.
-    ensures read_fault { has_failed reader.new ≡ is_read result }
-    ensures write_fault { has_failed writer.new ≡ is_write result }
+    ensures read_fault { tally_has_failed reader.new ≡ is_read result }
+    ensures write_fault { tally_has_failed writer.new ≡ is_write result }
     ensures unread { IsTrue (is_read result) → (desk.new ≡ desk.old) × (writer.new ≡ writer.old) }
 
     // How many reads are made at most.
@@ -183,10 +183,10 @@ fn serve_request<K: Keep, W: Write>(
     request: &Request<'_>,
     writer: &mut Tally<W>,
 ) -> Result<Served, IoFault>
-    requires { has_failed writer.old ≡ false }
+    requires { tally_has_failed writer.old ≡ false }
     ensures served { ServesRequestTo W.Write (asked request.entry.now)
         desk.old desk.new writer.old writer.new result }
-    ensures write_fault { has_failed writer.new ≡ is_write result }
+    ensures write_fault { tally_has_failed writer.new ≡ is_write result }
     ensures no_read { is_read result ≡ false }
 {
     let answer = desk.answer(alloc, request);
@@ -199,10 +199,10 @@ fn serve_answer<W: Write>(
     answer: &Answer,
     writer: &mut Tally<W>,
 ) -> Result<Served, IoFault>
-    requires { has_failed writer.old ≡ false }
+    requires { tally_has_failed writer.old ≡ false }
     ensures served { ServesAnswer answer.now
-        (W.contents (inner_of writer.old)) (W.contents (inner_of writer.new)) result }
-    ensures write_fault { has_failed writer.new ≡ is_write result }
+        (W.contents (tally_inner writer.old)) (W.contents (tally_inner writer.new)) result }
+    ensures write_fault { tally_has_failed writer.new ≡ is_write result }
     ensures no_read { is_read result ≡ false }
 {
     match fixed_reply(answer) {
@@ -217,11 +217,11 @@ fn serve_built<W: Write>(
     answer: &Answer,
     writer: &mut Tally<W>,
 ) -> Result<Served, IoFault>
-    requires sound { has_failed writer.old ≡ false }
+    requires sound { tally_has_failed writer.old ≡ false }
     requires built { is_fixed answer.now ≡ false }
     ensures served { ServesAnswer answer.now
-        (W.contents (inner_of writer.old)) (W.contents (inner_of writer.new)) result }
-    ensures write_fault { has_failed writer.new ≡ is_write result }
+        (W.contents (tally_inner writer.old)) (W.contents (tally_inner writer.new)) result }
+    ensures write_fault { tally_has_failed writer.new ≡ is_write result }
     ensures no_read { is_read result ≡ false }
 {
     match built_reply(alloc, answer) {
@@ -232,9 +232,9 @@ fn serve_built<W: Write>(
 
 /// Writes the reply to a refusal.
 fn refuse<W: Write>(writer: &mut Tally<W>, refusal: Refusal) -> Result<Served, IoFault>
-    requires { has_failed writer.old ≡ false }
+    requires { tally_has_failed writer.old ≡ false }
     ensures written { WrittenTo W.Write writer.old writer.new (rendered refusal) (status_of refusal) result }
-    ensures write_fault { has_failed writer.new ≡ is_write result }
+    ensures write_fault { tally_has_failed writer.new ≡ is_write result }
     ensures no_read { is_read result ≡ false }
 {
     finish(writer, refusal.status(), refusal.reply().as_bytes())
@@ -246,9 +246,9 @@ fn finish<W: Write>(
     status: StatusCode,
     text: &[u8],
 ) -> Result<Served, IoFault>
-    requires { has_failed writer.old ≡ false }
+    requires { tally_has_failed writer.old ≡ false }
     ensures written { WrittenTo W.Write writer.old writer.new text.now status result }
-    ensures write_fault { has_failed writer.new ≡ is_write result }
+    ensures write_fault { tally_has_failed writer.new ≡ is_write result }
     ensures no_read { is_read result ≡ false }
 {
     if write_text(writer, text) {

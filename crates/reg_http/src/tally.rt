@@ -2,7 +2,7 @@
 ghost use Rattle.std.specs.Prelude.{◌≡◌, ◌||◌, is_err};
 ghost use Rattle.std.specs.Io.{ReadsAtMost, WritesAtMost};
 ghost use Rattle.std.specs.Io.KnownBytes.{Keeps, ReadConsumes, WriteAppends};
-ghost use Rattle.reg_http.specs.Tallies.{inner_of, calls_of, has_failed, IsFresh, one_call_more, is_refused};
+ghost use Rattle.reg_http.specs.Tallies.{tally_inner, calls_of, tally_has_failed, IsFresh, one_call_more, is_refused};
 
 use std::io;
 use std::io::{Read, Write};
@@ -18,7 +18,7 @@ pub struct Tally<T> {
 impl<T> Tally<T> {
     /// Over `inner`. No read or write is counted yet, and none is noted as failed.
     pub fn new(inner: T) -> Tally<T>
-        ensures inner { inner_of result ≡ inner }
+        ensures inner { tally_inner result ≡ inner }
         ensures fresh { IsFresh result }
     {
         Tally {
@@ -37,31 +37,31 @@ impl<T> Tally<T> {
 
     /// Whether a read or a write failed, or a write took no byte of some. A flush that failed is not noted.
     pub fn failed(&self) -> bool
-        ensures { result ≡ has_failed self.now }
+        ensures { result ≡ tally_has_failed self.now }
     {
         self.failed
     }
 
     fn count(&mut self)
         ensures calls { calls_of self.new ≡ one_call_more (calls_of self.old) }
-        ensures failed { has_failed self.new ≡ has_failed self.old }
-        ensures inner { inner_of self.new ≡ inner_of self.old }
+        ensures failed { tally_has_failed self.new ≡ tally_has_failed self.old }
+        ensures inner { tally_inner self.new ≡ tally_inner self.old }
     {
         self.calls = self.calls.saturating_add(1);
     }
 }
 
 impl<R: Read> Read for Tally<R> {
-    ghost use Rattle.reg_http.specs.Tallies.{inner_of};
+    ghost use Rattle.reg_http.specs.Tallies.{tally_inner};
 
-    ghost remaining = { λ t. R.remaining (inner_of t) };
+    ghost remaining = { λ t. R.remaining (tally_inner t) };
 
     fn read(&mut self, buf: &mut [u8]) -> io::Result<usize>
         ensures bound { ReadsAtMost result buf.new }
-        ensures bytes { ReadConsumes (R.remaining (inner_of self.old)) (R.remaining (inner_of self.new))
+        ensures bytes { ReadConsumes (R.remaining (tally_inner self.old)) (R.remaining (tally_inner self.new))
             result buf.new }
         ensures calls { calls_of self.new ≡ one_call_more (calls_of self.old) }
-        ensures failed { has_failed self.new ≡ (has_failed self.old || is_err result) }
+        ensures failed { tally_has_failed self.new ≡ (tally_has_failed self.old || is_err result) }
     {
         self.count();
         let result = self.inner.read(buf);
@@ -73,16 +73,16 @@ impl<R: Read> Read for Tally<R> {
 }
 
 impl<W: Write> Write for Tally<W> {
-    ghost use Rattle.reg_http.specs.Tallies.{inner_of};
+    ghost use Rattle.reg_http.specs.Tallies.{tally_inner};
 
-    ghost contents = { λ t. W.contents (inner_of t) };
+    ghost contents = { λ t. W.contents (tally_inner t) };
 
     fn write(&mut self, buf: &[u8]) -> io::Result<usize>
         ensures bound { WritesAtMost result buf.now }
-        ensures bytes { WriteAppends (W.contents (inner_of self.old)) (W.contents (inner_of self.new))
+        ensures bytes { WriteAppends (W.contents (tally_inner self.old)) (W.contents (tally_inner self.new))
             result buf.now }
         ensures calls { calls_of self.new ≡ one_call_more (calls_of self.old) }
-        ensures failed { has_failed self.new ≡ (has_failed self.old || is_refused result buf.now) }
+        ensures failed { tally_has_failed self.new ≡ (tally_has_failed self.old || is_refused result buf.now) }
     {
         self.count();
         let result = self.inner.write(buf);
@@ -97,9 +97,9 @@ impl<W: Write> Write for Tally<W> {
     }
 
     fn flush(&mut self) -> io::Result<()>
-        ensures bytes { Keeps (W.contents (inner_of self.old)) (W.contents (inner_of self.new)) }
+        ensures bytes { Keeps (W.contents (tally_inner self.old)) (W.contents (tally_inner self.new)) }
         ensures calls { calls_of self.new ≡ calls_of self.old }
-        ensures failed { has_failed self.new ≡ has_failed self.old }
+        ensures failed { tally_has_failed self.new ≡ tally_has_failed self.old }
     {
         self.inner.flush()
     }

@@ -7,7 +7,7 @@ use Rattle.sqlite.specs.Order.{Row, column}
 use Rattle.ags_rows.specs.declared.rows.Group.{Group}
 use Rattle.ags_rows.specs.declared.rows.Descriptor.TheVariants as kinds
 use Rattle.ags_rows.specs.Contents.{Contents, group_contents, contents_of}
-use Rattle.ags_links.specs.DataRows.{data_rows, group_rows as data_of}
+use Rattle.ags_links.specs.DataRows.{data_rows, data_rows_of_group as data_of}
 use Rattle.reg_store.specs.declared.keep.KeptRow.{KeptRow}
 use Rattle.reg_tables.specs.Rows.{placed_row, placed_rows}
 use Rattle.reg_store.specs.Fit.{kept_row, group_rows, kept_rows}

@@ -26,7 +26,7 @@ pub(crate) fn is_of_type(column: &Column, code: &[u8]) -> bool
 }
 
 /// What the group says of a heading.
-fn column_of<'a>(group: &'a Group<'_>, places: &Places<'_>, heading: &'a [u8]) -> Column<'a>
+fn heading_column<'a>(group: &'a Group<'_>, places: &Places<'_>, heading: &'a [u8]) -> Column<'a>
     requires { places.now ≡ group.now.headings }
     ensures heading { result.heading.now ≡ heading.now }
     ensures column { IsColumn (group_contents group.now) result }
@@ -55,7 +55,7 @@ pub(crate) fn columns<'a>(
 {
     let mut columns = Vec::new(alloc);
     for heading in headings {
-        columns.push(column_of(group, places, heading))?;
+        columns.push(heading_column(group, places, heading))?;
     }
     Ok(columns)
 }

@@ -6,7 +6,8 @@ ghost use Rattle.json.specs.Print.{escape, escape_byte};
 ghost use Rattle.serde_json.specs.Data.{Data};
 ghost use Rattle.serde_json.specs.Written.{comma_if, compact_text};
 ghost use Rattle.ags_rows.specs.FindingLists.{finding_of};
-ghost use Rattle.reg_http.specs.Bodies.{finding_data, findings_data, IsListedData, IsListingData, printed, shown_byte};
+ghost use Rattle.reg_http.specs.Bodies.{finding_data, findings_data, IsListedData, IsListingData};
+ghost use Rattle.reg_http.specs.Bodies.{printed, printed_byte};
 
 use ags_rows::{FindingList, FindingRef};
 use reg_desk::Listed;
@@ -68,7 +69,7 @@ fn write_subject(out: &mut Vec<u8>, subject: &[u8]) -> Result<(), AllocError>
 
 /// Writes a byte of a subject, within the quotes of a string.
 fn write_shown(out: &mut Vec<u8>, byte: u8) -> Result<(), AllocError>
-    ensures { OnOk result (out.new.items ≡ out.old.items ++ escape_byte (shown_byte byte)) }
+    ensures { OnOk result (out.new.items ≡ out.old.items ++ escape_byte (printed_byte byte)) }
 {
     match printed_byte(byte) {
         b'"' => out.extend_from_slice(b"\\\"")?,
@@ -80,7 +81,7 @@ fn write_shown(out: &mut Vec<u8>, byte: u8) -> Result<(), AllocError>
 
 /// A byte as it is printed: `?` stands for one that does not show.
 fn printed_byte(byte: u8) -> u8
-    ensures { result ≡ shown_byte byte }
+    ensures { result ≡ printed_byte byte }
 {
     if byte < b' ' || b'~' < byte {
         b'?'

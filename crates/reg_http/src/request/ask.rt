@@ -2,7 +2,7 @@
 ghost use Rattle.std.specs.Prelude.{◌≡◌, ◌≤◌, IfOk, option_map};
 ghost use Rattle.httparse.specs.Grammar.{RequestHead};
 ghost use Rattle.httparse.specs.Spans.{IsRequestAt, IsRequestWithin};
-ghost use Rattle.reg_http.specs.Agree.{Agrees};
+ghost use Rattle.reg_http.specs.Agree.{IsAsDefined};
 ghost use Rattle.reg_http.specs.Asks.{ask_kind, ask_of, body_length, caller_by, caller_in, token_in};
 ghost use Rattle.reg_http.specs.Fields.{few_seen};
 ghost use Rattle.reg_http.specs.Numbers.{length_in};
@@ -13,7 +13,7 @@ use crate::refusal::Refusal;
 use crate::request::fields::{Values, values_named};
 use crate::request::number::length_of;
 use crate::request::parts::Parts;
-use crate::request::query::{Seeks, project_of, read_seeks};
+use crate::request::query::{Seeks, project_in_path, read_seeks};
 use crate::request::route::{Found, Kind, find};
 use crate::text::as_text;
 use ags_rows::LIMIT;
@@ -29,7 +29,7 @@ pub(crate) fn read_ask<'b>(
     parts: &Parts<'b>,
 ) -> Result<Ask<'b>, Refusal>
     ensures limit { IfOk result (λ a. a.length ≤ LIMIT) }
-    ensures agrees { Agrees asking_at (ask_of callers.now day (parts_seen parts.now)) result }
+    ensures agrees { IsAsDefined asking_at (ask_of callers.now day (parts_seen parts.now)) result }
 {
     let found = find(alloc, parts.path)?;
     let kind = found.page.kind(parts.method)?;
@@ -55,12 +55,12 @@ fn ask_kind<'b>(
     kind: Kind,
 ) -> Result<Ask<'b>, Refusal>
     ensures limit { IfOk result (λ a. a.length ≤ LIMIT) }
-    ensures agrees { Agrees asking_at
+    ensures agrees { IsAsDefined asking_at
         (ask_kind callers.now day (parts_seen parts.now) (found_page found.now) kind) result }
 {
     let caller = caller_in(callers, values(parts, b"authorization"))?;
     let length = body_length(kind, parts)?;
-    let project = project_of(alloc, found.project)?;
+    let project = project_in_path(alloc, found.project)?;
     let seeks = read_seeks(alloc, kind, found.number, parts.query.as_bytes(), day)?;
     Ok(Ask {
         caller,
@@ -72,7 +72,7 @@ fn ask_kind<'b>(
 
 /// The caller by the Authorization fields.
 pub(crate) fn caller_in<'c>(callers: &'c Callers, values: Values<'_>) -> Result<&'c Caller, Refusal>
-    ensures { Agrees lent_caller (caller_in callers.now (few_seen values.entry)) result }
+    ensures { IsAsDefined lent_caller (caller_in callers.now (few_seen values.entry)) result }
 {
     match values {
         Values::One(value) => caller_by(callers, token_of(value)),
@@ -81,7 +81,7 @@ pub(crate) fn caller_in<'c>(callers: &'c Callers, values: Values<'_>) -> Result<
 }
 
 fn caller_by<'c>(callers: &'c Callers, token: Option<&[u8]>) -> Result<&'c Caller, Refusal>
-    ensures { Agrees lent_caller (caller_by callers.now (option_map (λ t. t.now) token.entry)) result }
+    ensures { IsAsDefined lent_caller (caller_by callers.now (option_map (λ t. t.now) token.entry)) result }
 {
     let Some(token) = token else {
         return Err(Refusal::NoCaller);

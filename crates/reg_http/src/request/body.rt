@@ -1,6 +1,6 @@
 //! The body of a request.
 ghost use Rattle.std.specs.Prelude.{◌≡◌, ◌≤◌, ◌<◌, ◌+◌, ◌++◌, ◌||◌, false, IfSome, is_none, take, Some};
-ghost use Rattle.reg_http.specs.Tallies.{inner_of, calls_of, has_failed, one_call_more};
+ghost use Rattle.reg_http.specs.Tallies.{tally_inner, calls_of, tally_has_failed, one_call_more};
 ghost use Rattle.std.specs.Io.KnownBytes.{Consumes, IsAtEnd};
 ghost use Rattle.reg_http.specs.Views.{FitsBody, ReadsBody, is_read_fault};
 
@@ -17,10 +17,10 @@ pub(crate) fn receive_body<R: Read>(
     early: &[u8],
     length: usize,
 ) -> Result<Vec<u8>, BodyFault>
-    requires { has_failed reader.old ≡ false }
-    ensures body { IfSome (R.remaining (inner_of reader.old)) (λ left. ReadsBody (early.now ++ left) length result) }
+    requires { tally_has_failed reader.old ≡ false }
+    ensures body { IfSome (R.remaining (tally_inner reader.old)) (λ left. ReadsBody (early.now ++ left) length result) }
     ensures fits { FitsBody length result }
-    ensures fault { has_failed reader.new ≡ is_read_fault result }
+    ensures fault { tally_has_failed reader.new ≡ is_read_fault result }
     ensures calls { calls_of reader.new ≤ calls_of reader.old + length + 1 }
 {
     let kept = early.len().min(length);
@@ -60,10 +60,10 @@ fn read_chunk<R: Read>(reader: &mut Tally<R>, chunk: &mut [u8; 4096], room: usiz
     requires within { room ≤ 4096 }
     ensures few { IfSome result (λ n. n ≤ room) }
     ensures taken { IfSome result (λ n.
-        Consumes (R.remaining (inner_of reader.old)) (R.remaining (inner_of reader.new)) (take n chunk.new)) }
-    ensures at_end { result ≡ Some 0 → IsAtEnd (R.remaining (inner_of reader.new)) }
+        Consumes (R.remaining (tally_inner reader.old)) (R.remaining (tally_inner reader.new)) (take n chunk.new)) }
+    ensures at_end { result ≡ Some 0 → IsAtEnd (R.remaining (tally_inner reader.new)) }
     ensures calls { calls_of reader.new ≡ one_call_more (calls_of reader.old) }
-    ensures failed { has_failed reader.new ≡ (has_failed reader.old || is_none result) }
+    ensures failed { tally_has_failed reader.new ≡ (tally_has_failed reader.old || is_none result) }
 {
     read_more(reader, &mut chunk[..room], 0)
 }

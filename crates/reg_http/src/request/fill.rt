@@ -1,6 +1,6 @@
 //! One read into the rest of a buffer.
 ghost use Rattle.std.specs.Prelude.{◌≡◌, ◌≤◌, ◌||◌, is_none, length};
-ghost use Rattle.reg_http.specs.Tallies.{inner_of, calls_of, has_failed, one_call_more};
+ghost use Rattle.reg_http.specs.Tallies.{tally_inner, calls_of, tally_has_failed, one_call_more};
 ghost use Rattle.reg_http.specs.Fills.{Fills};
 
 use crate::tally::Tally;
@@ -13,10 +13,10 @@ pub(crate) fn read_more<R: Read>(
     filled: usize,
 ) -> Option<usize>
     requires { filled ≤ length buf.old }
-    ensures filled { Fills (R.remaining (inner_of reader.old)) (R.remaining (inner_of reader.new))
+    ensures filled { Fills (R.remaining (tally_inner reader.old)) (R.remaining (tally_inner reader.new))
         buf.old buf.new filled result }
     ensures calls { calls_of reader.new ≡ one_call_more (calls_of reader.old) }
-    ensures failed { has_failed reader.new ≡ (has_failed reader.old || is_none result) }
+    ensures failed { tally_has_failed reader.new ≡ (tally_has_failed reader.old || is_none result) }
 {
     match reader.read(&mut buf[filled..]) {
         Ok(count) => Some(count),

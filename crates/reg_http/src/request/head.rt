@@ -1,6 +1,6 @@
 //! The head of a request, read piece by piece.
 ghost use Rattle.std.specs.Prelude.{◌≡◌, ◌≤◌};
-ghost use Rattle.reg_http.specs.Tallies.{calls_of, has_failed, IsFresh};
+ghost use Rattle.reg_http.specs.Tallies.{calls_of, tally_has_failed, IsFresh};
 ghost use Rattle.reg_http.specs.Heads.{ReadsHeadFrom, HoldsIfWhole, is_fault, most_read};
 
 use crate::request::fill::read_more;
@@ -18,7 +18,7 @@ pub(crate) fn receive_head<R: Read>(
     requires { IsFresh reader.old }
     ensures head { ReadsHeadFrom R.Read reader.old reader.new buf.new headers.new result }
     ensures held { HoldsIfWhole buf.new headers.new result }
-    ensures fault { has_failed reader.new ≡ is_fault result }
+    ensures fault { tally_has_failed reader.new ≡ is_fault result }
     ensures calls { calls_of reader.new ≤ most_read result }
 {
     let mut filled = 0;

@@ -27,7 +27,7 @@ pub(crate) fn deposit_number(text: &[u8]) -> Result<u32, Refusal>
     if !is_number(text, 6) || begins_with_zero(text) {
         return Err(Refusal::BadParameter);
     }
-    Ok(number_in(text) as u32)
+    Ok(number_from_digits(text) as u32)
 }
 
 fn begins_with_zero(text: &[u8]) -> bool
@@ -47,7 +47,7 @@ pub(crate) fn length_of(value: &[u8]) -> Result<usize, Refusal>
     if !is_number(value, 10) {
         return Err(Refusal::BadLength);
     }
-    let number = number_in(value);
+    let number = number_from_digits(value);
     if number > LIMIT as u64 {
         return Err(Refusal::TooLarge);
     }
@@ -68,7 +68,7 @@ fn has_digits(text: &[u8]) -> bool
 }
 
 /// The number that the digits write.
-fn number_in(text: &[u8]) -> u64
+fn number_from_digits(text: &[u8]) -> u64
     requires few { length text.now ≤ 10 }
     requires digits { list_all is_ascii_digit text.now ≡ true }
     ensures value { result ≡ number_in text.now }

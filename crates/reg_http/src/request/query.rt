@@ -6,10 +6,10 @@ ghost use Rattle.std.specs.Cow.{cow_str_bytes};
 ghost use Rattle.form_urlencoded.specs.Form.{raw_pairs, split};
 ghost use Rattle.ags_text.specs.Bytes.{comma};
 ghost use Rattle.ags_text.specs.Names.{is_group_name};
-ghost use Rattle.reg_http.specs.Agree.{Agrees, and_then, is_want_of_memory};
+ghost use Rattle.reg_http.specs.Agree.{IsAsDefined, and_then, is_want_of_memory};
 ghost use Rattle.reg_desk.specs.Asked.{names_in};
 ghost use Rattle.reg_http.specs.Numbers.{deposit_number};
-ghost use Rattle.reg_http.specs.Queries.{embargo_in, extract_in, extract_sought, groups_in, bare, project_in};
+ghost use Rattle.reg_http.specs.Queries.{embargo_in, extract_in, extract_sought, groups_in, bare, project_in_path};
 ghost use Rattle.reg_http.specs.Queries.{sought_in, decoded, value_in, value_of, withdraw_sought};
 ghost use Rattle.reg_http.specs.Views.{given_text, itself, sought_at};
 
@@ -30,7 +30,7 @@ pub(crate) fn read_seeks<'b>(
     query: &'b [u8],
     day: Day,
 ) -> Result<Seeks<'b>, Refusal>
-    ensures { Agrees sought_at (sought_in kind number.now (raw_pairs query.now) day) result }
+    ensures { IsAsDefined sought_at (sought_in kind number.now (raw_pairs query.now) day) result }
 {
     match kind {
         Kind::Deposit => seeks_deposit(alloc, query, day),
@@ -55,13 +55,14 @@ pub(crate) enum Seeks<'b> {
 }
 
 fn seeks_deposit<'b>(alloc: Global, query: &'b [u8], day: Day) -> Result<Seeks<'b>, Refusal>
-    ensures { Agrees sought_at (and_then (value_of (codes "embargo") (raw_pairs query.now)) (embargo_in day)) result }
+    ensures { IsAsDefined sought_at
+        (and_then (value_of (codes "embargo") (raw_pairs query.now)) (embargo_in day)) result }
 {
     seeks_embargo(day, value_of(alloc, query, "embargo")?)
 }
 
 fn seeks_embargo<'b>(day: Day, text: Option<CowStr<'b>>) -> Result<Seeks<'b>, Refusal>
-    ensures { Agrees sought_at (embargo_in day (given_text text.entry)) result }
+    ensures { IsAsDefined sought_at (embargo_in day (given_text text.entry)) result }
 {
     match text {
         None => Ok(Seeks::Deposit(day)),
@@ -73,7 +74,7 @@ fn seeks_embargo<'b>(day: Day, text: Option<CowStr<'b>>) -> Result<Seeks<'b>, Re
 }
 
 fn seeks_extract<'b>(alloc: Global, number: &str, query: &'b [u8]) -> Result<Seeks<'b>, Refusal>
-    ensures { Agrees sought_at (extract_sought number.now (raw_pairs query.now)) result }
+    ensures { IsAsDefined sought_at (extract_sought number.now (raw_pairs query.now)) result }
 {
     let number = deposit_number(number.as_bytes())?;
     seeks_groups(alloc, number, value_of(alloc, query, "groups")?)
@@ -84,7 +85,7 @@ fn seeks_groups<'b>(
     number: u32,
     text: Option<CowStr<'b>>,
 ) -> Result<Seeks<'b>, Refusal>
-    ensures { Agrees sought_at (extract_in number (given_text text.entry)) result }
+    ensures { IsAsDefined sought_at (extract_in number (given_text text.entry)) result }
 {
     if let Some(text) = &text {
         refuse_other_names(alloc, text.as_bytes())?;
@@ -93,14 +94,14 @@ fn seeks_groups<'b>(
 }
 
 fn seeks_withdraw<'b>(number: &str, query: &[u8]) -> Result<Seeks<'b>, Refusal>
-    ensures { Agrees sought_at (withdraw_sought number.now (raw_pairs query.now)) result }
+    ensures { IsAsDefined sought_at (withdraw_sought number.now (raw_pairs query.now)) result }
 {
     bare(query, Seeks::Withdraw(deposit_number(number.as_bytes())?))
 }
 
 /// What has no parameter: any that is given is refused.
 fn bare<'b>(query: &[u8], seeks: Seeks<'b>) -> Result<Seeks<'b>, Refusal>
-    ensures { Agrees sought_at (bare (sought_at seeks.entry) (raw_pairs query.now)) result }
+    ensures { IsAsDefined sought_at (bare (sought_at seeks.entry) (raw_pairs query.now)) result }
 {
     match raw_pairs(query).next() {
         None => Ok(seeks),
@@ -111,7 +112,7 @@ fn bare<'b>(query: &[u8], seeks: Seeks<'b>) -> Result<Seeks<'b>, Refusal>
 /// The value of the parameter of this name, if it is given.
 /// Any other parameter is refused, and a second one of this name.
 fn value_of<'b>(alloc: Global, query: &'b [u8], name: &str) -> Result<Option<CowStr<'b>>, Refusal>
-    ensures { Agrees given_text (value_of name.now (raw_pairs query.now)) result }
+    ensures { IsAsDefined given_text (value_of name.now (raw_pairs query.now)) result }
 {
     let mut pairs = raw_pairs(query);
     let Some((key, value)) = pairs.next() else {
@@ -130,7 +131,7 @@ fn value_in<'b>(
     value: &'b [u8],
     name: &str,
 ) -> Result<CowStr<'b>, Refusal>
-    ensures { Agrees cow_str_bytes (value_in key.now value.now name.now) result }
+    ensures { IsAsDefined cow_str_bytes (value_in key.now value.now name.now) result }
 {
     let key = decoded(alloc, key)?;
     if key.as_bytes() != name.as_bytes() {
@@ -141,7 +142,7 @@ fn value_in<'b>(
 
 /// A name or a value of the query: `+` and percent escapes are decoded.
 fn decoded<'b>(alloc: Global, encoded: &'b [u8]) -> Result<CowStr<'b>, Refusal>
-    ensures { Agrees cow_str_bytes (Ok (decoded encoded.now)) result }
+    ensures { IsAsDefined cow_str_bytes (Ok (decoded encoded.now)) result }
 {
     match decode(alloc, encoded) {
         Ok(text) => Ok(text),
@@ -231,8 +232,8 @@ fn are_group_names(groups: &[&[u8]]) -> bool
 }
 
 /// The project that a part of the path names.
-pub(crate) fn project_of(alloc: Global, text: &str) -> Result<Name, Refusal>
-    ensures { Agrees itself (project_in text.now) result }
+pub(crate) fn project_in_path(alloc: Global, text: &str) -> Result<Name, Refusal>
+    ensures { IsAsDefined itself (project_in_path text.now) result }
 {
     match Name::read(alloc, text) {
         Ok(name) => Ok(name),

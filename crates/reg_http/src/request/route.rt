@@ -1,7 +1,7 @@
 //! The routes of the register, with what each method asks of them.
 ghost use Rattle.std.specs.Prelude.{◌≡◌, IfOk, [], unwrap_or};
 ghost use Rattle.matchit.specs.Params.{named, AllText};
-ghost use Rattle.reg_http.specs.Agree.{Agrees};
+ghost use Rattle.reg_http.specs.Agree.{IsAsDefined};
 ghost use Rattle.reg_http.specs.Routes.{page_in, has_body, kind_in, method_of, table, taken_by};
 ghost use Rattle.reg_http.specs.Views.{found_page};
 
@@ -11,7 +11,7 @@ use std::alloc::Global;
 
 /// The page of a path.
 pub(crate) fn find<'p>(alloc: Global, path: &'p str) -> Result<Found<'p>, Refusal>
-    ensures { Agrees found_page (page_in path.now) result }
+    ensures { IsAsDefined found_page (page_in path.now) result }
 {
     match router(alloc) {
         Ok(routes) => found_in(&routes, path),
@@ -65,7 +65,7 @@ fn router(alloc: Global) -> Result<Router<Page>, InsertError>
 /// The page of a path, by the table.
 fn found_in<'p>(routes: &Router<Page>, path: &'p str) -> Result<Found<'p>, Refusal>
     requires { routes.now ≡ table }
-    ensures { Agrees found_page (page_in path.now) result }
+    ensures { IsAsDefined found_page (page_in path.now) result }
 {
     match routes.at(path) {
         Ok(found) => Ok(Found {

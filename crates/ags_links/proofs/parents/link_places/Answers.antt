@@ -24,7 +24,7 @@ loop-place-preserved c =
       λ family at.
           let is : c.index-families-place.result ≡ family = one_at c.args.families.now c.loop-place.place c.index-families-place.result family (at.0, sym c.index-families-place.is) at in
           let stood = (get_or c.args.families.now c.loop-place.place c.index-families-place.result).headings in
-          c.in_ok-places_of.ensures ∙ places_named stood c.deref.result.now ∙ ap (λ hs. map (place_in stood) (texts hs)) c.deref.ensures.value
+          c.in_ok-heading_places.ensures ∙ places_named stood c.deref.result.now ∙ ap (λ hs. map (place_in stood) (texts hs)) c.deref.ensures.value
           ∙ ap (λ (f : Family). map (place_in f.headings) (link_names c.index-links-place.result)) (sym c.index-families-place.is ∙ is),
       c.first_with.ensures,
     ))

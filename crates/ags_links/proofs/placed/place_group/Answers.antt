@@ -2,7 +2,7 @@ use Rattle.std.proofs.Common.{◌++◌, ◌∙◌, map, ap, sym}
 use Rattle.std.proofs.lemmas.List.{append-nil, map-append, take_all, get_or_default}
 use Rattle.std.proofs.lemmas.List.Elements.{All-push}
 use Rattle.ags_rows.specs.Contents.{group_contents, fields_of}
-use Rattle.ags_links.specs.DataRows.{group_rows, row_in}
+use Rattle.ags_links.specs.DataRows.{data_rows_of_group, row_in}
 use Rattle.ags_links.specs.Placing.{row_of, IsPlaced}
 use Rattle.ags_links.proofs.Growing.{mapped_more}
 use Rattle.ags_links.proofs.placed.place_group.Goals as goal
@@ -31,4 +31,4 @@ returns-clause-rows c = λ d.
     let here = c.index-groups-place.result in
     c.loop-row.invariant.rows
     ∙ ap (λ rows. start ++ map (row_in (group_contents here)) (map fields_of rows)) (take_all c.loop-row.row-index c.as_slice-row-items.result.now c.loop-row-test.false ∙ c.as_slice-row-items.ensures)
-    ∙ ap (λ group. start ++ group_rows (group_contents group)) (c.index-groups-place.is ∙ get_or_default c.args.groups.now c.args.place here d c.requires.place)
+    ∙ ap (λ group. start ++ data_rows_of_group (group_contents group)) (c.index-groups-place.is ∙ get_or_default c.args.groups.now c.args.place here d c.requires.place)

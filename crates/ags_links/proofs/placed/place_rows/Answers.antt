@@ -1,7 +1,7 @@
 use Rattle.std.proofs.Common.{◌≡◌, ◌++◌, ap, ◌∙◌, sym, get_or, map, arith}
 use Rattle.std.proofs.lemmas.List.{take_all}
 use Rattle.ags_rows.specs.Contents.{group_contents, contents_of}
-use Rattle.ags_links.specs.DataRows.{group_rows, data_rows}
+use Rattle.ags_links.specs.DataRows.{data_rows_of_group, data_rows}
 use Rattle.ags_links.specs.Placing.{row_of}
 use Rattle.ags_links.proofs.Kept.{data_rows_next, kept_counted}
 use Rattle.ags_links.proofs.RowLemmas.{some_at}
@@ -13,7 +13,7 @@ loop-place-preserved c =
     let d = (some_at groups c.loop-place.place c.loop-place-test.true).0 in
     record {
       placed = c.in_ok-place_group.ensures.placed;
-      rows = c.in_ok-place_group.ensures.rows d ∙ ap (λ l. l ++ group_rows (group_contents (get_or groups c.loop-place.place d))) c.loop-place.invariant.rows ∙ sym (data_rows_next groups c.loop-place.place d c.loop-place-test.true);
+      rows = c.in_ok-place_group.ensures.rows d ∙ ap (λ l. l ++ data_rows_of_group (group_contents (get_or groups c.loop-place.place d))) c.loop-place.invariant.rows ∙ sym (data_rows_next groups c.loop-place.place d c.loop-place-test.true);
     }
 
 pub returns-clause-few : goal.returns-clause-few

@@ -1,7 +1,7 @@
 use Rattle.std.proofs.Common.{◌≡◌, Option, Result, Ok, Err, IfSome, Bor, codes, drop, ap, subst, ◌∙◌}
 use Rattle.std.specs.Result.{result_ok}
 use Rattle.reg_policy.specs.declared.callers.Caller.{Caller}
-use Rattle.reg_http.specs.Agree.{Agrees}
+use Rattle.reg_http.specs.Agree.{IsAsDefined}
 use Rattle.reg_http.specs.Asks.{caller_in}
 use Rattle.reg_http.specs.HeadParts.{path_of, values_in}
 use Rattle.reg_http.specs.Views.{lent_caller}
@@ -10,7 +10,7 @@ use Rattle.reg_http.proofs.summary.summary_of.Goals as goal
 
 -- a caller that is named is the right one
 named_right : (right : Result Caller Refusal) (r : Result (Bor Caller) Refusal) (named : Option (Bor Caller))
-    → Agrees lent_caller right r → named ≡ result_ok r → IfSome named (λ c. right ≡ Ok c.now)
+    → IsAsDefined lent_caller right r → named ≡ result_ok r → IfSome named (λ c. right ≡ Ok c.now)
 named_right right (Ok c) named agrees is = rw is agrees
 named_right right (Err e) named agrees is = rw is tt
 

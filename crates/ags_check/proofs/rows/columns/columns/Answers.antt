@@ -21,10 +21,10 @@ loop-heading-preserved c =
     let old = c.loop-heading.columns.items in
     rw c.in_ok-push.ensures.items
     (record {
-      each = All-push (IsColumn (group_contents c.args.group.now)) old c.column_of.result c.loop-heading.invariant.each c.column_of.ensures.column;
-      heads = map-append heading_of old (c.column_of.result ∷ [])
-          ∙ ap (λ l. l ++ heading_of c.column_of.result ∷ []) c.loop-heading.invariant.heads
-          ∙ ap (λ h. texts (take i headings) ++ h ∷ []) c.column_of.ensures.heading
+      each = All-push (IsColumn (group_contents c.args.group.now)) old c.heading_column.result c.loop-heading.invariant.each c.heading_column.ensures.column;
+      heads = map-append heading_of old (c.heading_column.result ∷ [])
+          ∙ ap (λ l. l ++ heading_of c.heading_column.result ∷ []) c.loop-heading.invariant.heads
+          ∙ ap (λ h. texts (take i headings) ++ h ∷ []) c.heading_column.ensures.heading
           ∙ sym (map-append (λ (h : Bor (List ℕ)). h.now) (take i headings) (get_or headings i d ∷ [])) ∙ ap texts (sym (take_more headings i d c.loop-heading-test.true));
     })
 

@@ -9,7 +9,7 @@ use Rattle.ags_rows.specs.Parts.{has_part}
 use Rattle.ags_dict.proofs.Picked.{picked_yes, picked_no}
 use Rattle.ags_dict.proofs.Found.{filter_both}
 use Rattle.ags_dict.proofs.dictionary.Dictionary.of_status.Goals as goal
-use Rattle.ags_dict.proofs.dictionary.Dictionary.of_status.Goals.{then-has_part+in_ok-push, else-has_part}
+use Rattle.ags_dict.proofs.dictionary.Dictionary.of_status.Goals.{then-has_separated_part+in_ok-push, else-has_separated_part}
 
 abbrev has : List ℕ → HeadingEntry → Bool
 has word entry = has_part plus_sign word entry.status
@@ -18,16 +18,16 @@ pub loop-entry-preserved : goal.loop-entry-preserved
 loop-entry-preserved c =
     let values = λ (v : Vec (Bor (List ℕ)) Global). map (λ (r : Bor (List ℕ)). r.now) v.items in
     let word = c.args.word.now in
-    let asked : has word c.entry-item.result.now ≡ c.has_part.result = ap (has_part plus_sign word) (sym c.as_slice.ensures) ∙ sym c.has_part.ensures in
-    elim c.if-has_part.branch [
-      | then-has_part+in_ok-push w ↦
+    let asked : has word c.entry-item.result.now ≡ c.has_separated_part.result = ap (has_part plus_sign word) (sym c.as_slice.ensures) ∙ sym c.has_separated_part.ensures in
+    elim c.if-has_separated_part.branch [
+      | then-has_separated_part+in_ok-push w ↦
           ap values w.found-is ∙ ap (map (λ (r : Bor (List ℕ)). r.now)) w.in_ok-push.ensures.items
-          ∙ picked_yes (has word) (λ e. e.heading) c.deref-entry-items.result.now c.loop-entry.entry-index c.entry-item.result c.loop-entry.found.items w.as_slice-then-has_part.result
-          c.loop-entry-test.true c.entry-item.is (asked ∙ w.if-has_part.true) w.as_slice-then-has_part.ensures c.loop-entry.invariant
-      | else-has_part w ↦
+          ∙ picked_yes (has word) (λ e. e.heading) c.deref-entry-items.result.now c.loop-entry.entry-index c.entry-item.result c.loop-entry.found.items w.as_slice-then-has_separated_part.result
+          c.loop-entry-test.true c.entry-item.is (asked ∙ w.if-has_separated_part.true) w.as_slice-then-has_separated_part.ensures c.loop-entry.invariant
+      | else-has_separated_part w ↦
           ap values w.found-is
           ∙ picked_no (has word) (λ e. e.heading) c.deref-entry-items.result.now c.loop-entry.entry-index c.entry-item.result c.loop-entry.found.items
-          c.loop-entry-test.true c.entry-item.is (asked ∙ w.if-has_part.false) c.loop-entry.invariant
+          c.loop-entry-test.true c.entry-item.is (asked ∙ w.if-has_separated_part.false) c.loop-entry.invariant
     ]
 
 pub returns : goal.returns

@@ -1,5 +1,5 @@
 use Rattle.std.proofs.Common.{◌≡◌, ◌++◌, length, take, Some, ap, arith, rules}
-use Rattle.reg_http.specs.Tallies.{inner_of}
+use Rattle.reg_http.specs.Tallies.{tally_inner}
 use Rattle.reg_http.proofs.BodyLemmas.{HasRead-more, ReadsBody-all, ReadsBody-short}
 use Rattle.reg_http.proofs.request.body.receive_body.Goals as goal
 
@@ -16,7 +16,7 @@ reads-preserved g c =
       no_fault = search rules;
       counted = search rules;
       read =
-          HasRead-more (remaining (inner_of c.args.reader.now)) (remaining (inner_of c.reads.reader)) (remaining (inner_of c.read_chunk.new.reader)) c.args.early.now c.reads.body.items
+          HasRead-more (remaining (tally_inner c.args.reader.now)) (remaining (tally_inner c.reads.reader)) (remaining (tally_inner c.read_chunk.new.reader)) c.args.early.now c.reads.body.items
           c.extend_from_slice.new.self.items bytes c.args.length i.read c.in-Some.ensures.taken grown;
     }
 

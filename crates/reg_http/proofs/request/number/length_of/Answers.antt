@@ -14,4 +14,4 @@ too_large value number digits is more =
 
 pub returns-then-number-clause-value : goal.returns-then-number-clause-value
 returns-then-number-clause-value c =
-    too_large c.args.value.now _ (sym c.is_number.ensures ∙ c.if-not-is_number.false) c.number_in-number.ensures.value c.if-number.true
+    too_large c.args.value.now _ (sym c.is_number.ensures ∙ c.if-not-is_number.false) c.number_from_digits-number.ensures.value c.if-number.true

@@ -2,7 +2,7 @@ use Rattle.std.proofs.Common.{rules, tests}
 use Rattle.std.specs.Str.{bytes_eq}
 use Rattle.std.proofs.lemmas.Iterator.Search.{any_from_yields_List}
 use Rattle.std.proofs.lemmas.Iterator.Splits.{YieldsList-from_slice_split}
-use Rattle.ags_dict.proofs.parts.has_part.Goals as goal
+use Rattle.ags_dict.proofs.parts.has_separated_part.Goals as goal
 
 pub returns : goal.returns
 returns c =

@@ -1,6 +1,6 @@
 use Rattle.std.proofs.Common.{◌≡◌, ◌<◌, ◌^◌, take}
 use Rattle.reg_policy.specs.Days.{number_in}
-use Rattle.reg_http.proofs.request.number.number_in.Given as goal
+use Rattle.reg_http.proofs.request.number.number_from_digits.Given as goal
 
 abbrev pub invariant-loop-b : goal.invariant-loop-b
 invariant-loop-b l = record {
