@@ -16,8 +16,10 @@ is_fit_prop dictionary d = Prim.hlevel props
 -- Each deposit of the list is fit: without the truncation.
 pub fit_of : (dictionary : Entries) (list : List Sent) → ∥ All (IsFit dictionary) list ∥₁ → All (IsFit dictionary) list
 fit_of dictionary list h = λ k d low.
-    let fact : IsFit dictionary (slice_index_or list k d) = ∥∥₁_elim h (is_fit_prop dictionary (slice_index_or list k d)) (λ all. all k d low) in fact
+    let fact : IsFit dictionary (slice_index_or list k d) =
+    ∥∥₁_elim h (is_fit_prop dictionary (slice_index_or list k d)) (λ all. all k d low) in fact
 
 -- There are no more deposits than the limit.
-pub few_of : (kept : List Kept) (limit : ℕ) → length kept ≤ limit → limit ≤ 999999 → (length (map deposit_of kept) ≤ limit) × (limit ≤ 999999)
+pub few_of : (kept : List Kept) (limit : ℕ) → length kept ≤ limit → limit ≤ 999999
+    → (length (map deposit_of kept) ≤ limit) × (limit ≤ 999999)
 few_of kept limit within few = (omega (arith, within, length-map kept deposit_of), few)

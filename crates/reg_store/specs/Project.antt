@@ -10,10 +10,13 @@ abbrev pub project_from : ℕ → List ℕ → List KeptRow → Option ProjectRo
 project_from number headings [] = None
 project_from number headings (row ∷ rows) =
     if row.kind == 1 then project_from number row.line rows
-    else (if row.kind == 4 then (if bytes_eq row.group (codes "PROJ") then Some (record { number = number; headings = headings; line = row.line }) else project_from (number + 1) headings rows)
+    else (if row.kind == 4 then (if bytes_eq row.group (codes "PROJ")
+    then Some (record { number = number; headings = headings; line = row.line })
+    else project_from (number + 1) headings rows)
     else project_from number headings rows)
 
--- The row of PROJ of a file, from the rows that are kept of it: its first DATA row of group PROJ, which is its only one where it has no finding (Rule 13).
+-- The row of PROJ of a file, from the rows that are kept of it: its first DATA row of group PROJ, which is its only one
+-- where it has no finding (Rule 13).
 abbrev pub project_of : List KeptRow → Option ProjectRow
 project_of rows = project_from 0 [] rows
 

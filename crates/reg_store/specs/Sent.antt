@@ -3,7 +3,8 @@ use Rattle.std.specs.Prelude.{ℕ, ℤ, ◌+◌, ◌&&◌, Bool, List, [], ◌�
 use Rattle.std.specs.Str.{bytes_eq}
 use Rattle.std.specs.List.{position_from}
 
--- What was sent of a deposit: the firm that sent it, its project, the first day (from 1970-01-01) on which it is no longer under embargo, and its bytes.
+-- What was sent of a deposit: the firm that sent it, its project, the first day (from 1970-01-01) on which it is no
+-- longer under embargo, and its bytes.
 pub record Sent : Type 0 where
   pub firm : List ℕ
   pub project : List ℕ
@@ -21,4 +22,5 @@ number_of firm project bytes list = position_from (is_repeat firm project bytes)
 -- The numbers of a project's deposits, rising, where the first of the list has the number n.
 abbrev pub numbers_from : ℕ → List ℕ → List Sent → List ℕ
 numbers_from n project [] = []
-numbers_from n project (d ∷ more) = if bytes_eq d.project project then n ∷ numbers_from (n + 1) project more else numbers_from (n + 1) project more
+numbers_from n project (d ∷ more) =
+    if bytes_eq d.project project then n ∷ numbers_from (n + 1) project more else numbers_from (n + 1) project more
