@@ -1,5 +1,6 @@
 -- The digests of a register's deposits, which are in memory, and the deposits that are equal to one.
-use Rattle.std.specs.Prelude.{◌≡◌, ℕ, ◌+◌, ◌<◌, Bool, true, false, eqb, if◌then◌else◌, List, [], ◌∷◌, ◌++◌, filter, Option, Some, slice_get}
+use Rattle.std.specs.Prelude.{◌≡◌, ℕ, ◌+◌, ◌<◌, Bool, true, false, eqb, if◌then◌else◌, List, [], ◌∷◌, ◌++◌, filter}
+use Rattle.std.specs.Prelude.{Option, Some, slice_get}
 use Rattle.std.specs.List.{list_any}
 use Rattle.std.specs.Option.{option_map_or}
 use Rattle.std.specs.Ordering.{nat_cmp}
@@ -38,7 +39,8 @@ is_among n numbers = list_any (eqb n) numbers
 
 -- These numbers are under a digest, and each other digest has what it had.
 abbrev pub PutsNumbers : Digests → Digests → List ℕ → List ℕ → Type 0
-PutsNumbers old new digest numbers = (other : List ℕ) → numbers_under new other ≡ (if bytes_eq digest other then numbers else numbers_under old other)
+PutsNumbers old new digest numbers =
+    (other : List ℕ) → numbers_under new other ≡ (if bytes_eq digest other then numbers else numbers_under old other)
 
 -- One number more is under a digest, and each other digest has what it had.
 abbrev pub AddsNumber : Digests → Digests → List ℕ → ℕ → Type 0
@@ -46,7 +48,8 @@ AddsNumber old new digest number = PutsNumbers old new digest (numbers_under old
 
 -- Each deposit's number, from 1, is under its digest.
 abbrev pub AreDigested : Digests → List Sent → Type 0
-AreDigested digests list = (k : ℕ) (d : Sent) → slice_get list k ≡ Some d → is_among (k + 1) (numbers_under digests (own_digest d)) ≡ true
+AreDigested digests list =
+    (k : ℕ) (d : Sent) → slice_get list k ≡ Some d → is_among (k + 1) (numbers_under digests (own_digest d)) ≡ true
 
 -- The numbers under a digest are from 1 on, below this one.
 abbrev pub AreBelow : Digests → ℕ → Type 0
@@ -58,7 +61,8 @@ IsRowOf db n d = filter (has_number n) (deposit_table db.trees) ≡ given_deposi
 
 -- Each deposit of a number below this one is under its digest.
 abbrev pub HoldsDigests : Database → ℕ → Digests → Type 0
-HoldsDigests db n digests = (m : ℕ) → 0 < m → m < n → (d : Sent) → IsRowOf db m d → is_among m (numbers_under digests (own_digest d)) ≡ true
+HoldsDigests db n digests =
+    (m : ℕ) → 0 < m → m < n → (d : Sent) → IsRowOf db m d → is_among m (numbers_under digests (own_digest d)) ≡ true
 
 -- The deposit of the number is equal.
 abbrev pub HasEqual : Database → List ℕ → List ℕ → List ℕ → ℕ → Type 0
@@ -66,7 +70,8 @@ HasEqual db firm project bytes n = (d : Sent) × IsRowOf db n d × (is_repeat fi
 
 -- No deposit of these numbers is equal.
 abbrev pub HasNoEqual : Database → List ℕ → List ℕ → List ℕ → List ℕ → Type 0
-HasNoEqual db numbers firm project bytes = (n : ℕ) → is_among n numbers ≡ true → (d : Sent) → IsRowOf db n d → is_repeat firm project bytes d ≡ false
+HasNoEqual db numbers firm project bytes =
+    (n : ℕ) → is_among n numbers ≡ true → (d : Sent) → IsRowOf db n d → is_repeat firm project bytes d ≡ false
 
 -- No deposit of these numbers is equal to this one.
 abbrev pub IsNew : Database → List ℕ → Sent → Type 0

@@ -13,7 +13,8 @@ use Rattle.reg_tables.specs.Commits.{Changes, Makes}
 
 -- what is filed, as a deposit
 abbrev pub filed_deposit : Filed → Sent
-filed_deposit filed = record { firm = filed.firm.now; project = filed.project.now; embargo = pos filed.embargo; bytes = filed.body.now }
+filed_deposit filed =
+    record { firm = filed.firm.now; project = filed.project.now; embargo = pos filed.embargo; bytes = filed.body.now }
 
 -- The deposit is added under its number.
 abbrev pub AddsRow : Filed → Database → Database → Type 0
@@ -26,9 +27,11 @@ AddsFiled filed = AddsFile filed.number (filed_deposit filed) filed.rows.now fil
 -- On a clean disk, if the call was no error, a checked file is added as a deposit under this number.
 abbrev pub AddsChecked : {A E : Type 0} → Result A E → ℕ → List ℕ → List ℕ → ℤ → CheckedFile → State → State → Type 0
 AddsChecked result n firm project embargo file =
-    Changes result (Makes (AddsFile n (deposit_from firm project embargo file.bytes) (kept_rows file.groups) file.graph.steps))
+    Changes result
+    (Makes (AddsFile n (deposit_from firm project embargo file.bytes) (kept_rows file.groups) file.graph.steps))
 
 -- No fault is forgotten, and a crash leaves what it left before, or the database with such a deposit.
 abbrev pub SurvivesAdding : ℕ → List ℕ → List ℕ → ℤ → CheckedFile → State → State → Type 0
 SurvivesAdding n firm project embargo file old new =
-    Survives old new (PutsOf old n (deposit_from firm project embargo file.bytes) (kept_rows file.groups) file.graph.steps)
+    Survives old new
+    (PutsOf old n (deposit_from firm project embargo file.bytes) (kept_rows file.groups) file.graph.steps)

@@ -1,5 +1,6 @@
 -- The foreign keys leave no rows of a deposit that is missing.
-use Rattle.std.proofs.Common.{◌≡◌, ◌⊎◌, inl, inr, ℕ, pos, List, [], ◌∷◌, map, filter, drop, Bool, true, false, ◌&&◌, ◌||◌, if◌then◌else◌, refl, sym, ap, ◌∙◌}
+use Rattle.std.proofs.Common.{◌≡◌, ◌⊎◌, inl, inr, ℕ, pos, List, [], ◌∷◌, map, filter, drop, Bool, true, false, ◌&&◌}
+use Rattle.std.proofs.Common.{◌||◌, if◌then◌else◌, refl, sym, ap, ◌∙◌}
 use Rattle.std.specs.List.{AllByRecursion, list_any}
 use Rattle.std.specs.Ordering.{is_eq}
 use Rattle.sqlite.specs.declared.types.Value.{Value}
@@ -23,12 +24,14 @@ use Rattle.reg_tables.specs.Rows.{columns_3, columns_5, deposit_table, is_of, ro
 use Rattle.reg_tables.specs.Tables.{lines, steps, register_schema, schema_of}
 
 -- a row of lines has a row of deposits with its number
-pub has_deposit : (trees : Trees) (r : Row) → passes ForeignKey register_schema trees lines r ≡ true → (((is_null (column r 1) || false) || list_any (λ p. equal Binary (column p 1) (column r 1) && true) (trees 2)) && true) ≡ true
+pub has_deposit : (trees : Trees) (r : Row) → passes ForeignKey register_schema trees lines r ≡ true → (((is_null
+    (column r 1) || false) || list_any (λ p. equal Binary (column p 1) (column r 1) && true) (trees 2)) && true) ≡ true
 unfolding same_name first_key joined
 has_deposit trees r h = h
 
 -- a row of steps has a row of deposits with its number
-pub step_has_deposit : (trees : Trees) (r : Row) → passes ForeignKey register_schema trees steps r ≡ true → (((is_null (column r 1) || false) || list_any (λ p. equal Binary (column p 1) (column r 1) && true) (trees 2)) && true) ≡ true
+pub step_has_deposit : (trees : Trees) (r : Row) → passes ForeignKey register_schema trees steps r ≡ true → (((is_null
+    (column r 1) || false) || list_any (λ p. equal Binary (column p 1) (column r 1) && true) (trees 2)) && true) ≡ true
 unfolding same_name first_key joined
 step_has_deposit trees r h = h
 
@@ -80,50 +83,70 @@ is_null_or (Words a) = inr refl
 is_null_or (Bytes a) = inr refl
 
 -- a value that does not equal n is not equal to one that does
-apart_from : (u v : Value) (n : ℕ) → is_eq (value_cmp v (Int (pos n))) ≡ true → is_eq (value_cmp u (Int (pos n))) ≡ false → equal Binary u v ≡ false
+apart_from : (u v : Value) (n : ℕ) → is_eq (value_cmp v (Int (pos n))) ≡ true
+    → is_eq (value_cmp u (Int (pos n))) ≡ false → equal Binary u v ≡ false
 apart_from u v n is differ = go (is_null_or u)
   where
     tested : (b : Bool) → is_eq (value_cmp u v) ≡ b → b ≡ false
-    tested true e = absurd (let same = value_cmp_total.congr u v (Int (pos n)) (equal_order _ e) in let both = sym is ∙ ap is_eq (sym same) ∙ differ in cc)
+    tested true e = absurd (let same = value_cmp_total.congr u v (Int (pos n)) (equal_order _ e) in
+        let both = sym is ∙ ap is_eq (sym same) ∙ differ in cc)
     tested false e = refl
 
     go : (u ≡ Null) ⊎ (is_null u ≡ false) → equal Binary u v ≡ false
     go (inl e) = rw e (null_left v)
     go (inr e) = eq_both u v e (not_null v n is) ∙ tested (is_eq (value_cmp u v)) refl
 
-no_parent : (n : ℕ) (v : Value) (rows : List Row) → is_eq (value_cmp v (Int (pos n))) ≡ true → filter (has_number n) (map columns_5 rows) ≡ [] → list_any (λ p. equal Binary (column p 1) v && true) rows ≡ false
+no_parent : (n : ℕ) (v : Value) (rows : List Row) → is_eq (value_cmp v (Int (pos n))) ≡ true
+    → filter (has_number n) (map columns_5 rows) ≡ [] → list_any (λ p. equal Binary (column p 1) v && true) rows ≡ false
 no_parent n v [] is none = refl
 no_parent n v (p ∷ rows) is none = go (no_parent n v rows is) (has_number n (columns_5 p)) refl none
   where
-    go : (filter (has_number n) (map columns_5 rows) ≡ [] → list_any (λ p. equal Binary (column p 1) v && true) rows ≡ false) → (b : Bool) → has_number n (columns_5 p) ≡ b → (if b then columns_5 p ∷ filter (has_number n) (map columns_5 rows) else filter (has_number n) (map columns_5 rows)) ≡ [] → list_any (λ p. equal Binary (column p 1) v && true) (p ∷ rows) ≡ false
+    go : (filter (has_number n) (map columns_5 rows) ≡ [] → list_any (λ p. equal Binary (column p 1) v && true) rows
+        ≡ false) → (b : Bool) → has_number n (columns_5 p) ≡ b → (if b then columns_5 p
+        ∷ filter (has_number n) (map columns_5 rows) else filter (has_number n) (map columns_5 rows)) ≡ []
+        → list_any (λ p. equal Binary (column p 1) v && true) (p ∷ rows) ≡ false
     go more true e h = absurd cc
     go more false e h = rw (apart_from (column p 1) v n is e) (more h)
 
 -- no row of lines has a number that no deposit has
-pub no_lines : (trees : Trees) (n : ℕ) (rows : List Row) → filter (has_number n) (deposit_table trees) ≡ [] → AllByRecursion (λ r. passes ForeignKey register_schema trees lines r ≡ true) rows → rows_under n (map columns_5 rows) ≡ []
+pub no_lines : (trees : Trees) (n : ℕ) (rows : List Row) → filter (has_number n) (deposit_table trees) ≡ []
+    → AllByRecursion (λ r. passes ForeignKey register_schema trees lines r ≡ true) rows
+    → rows_under n (map columns_5 rows) ≡ []
 no_lines trees n [] none keyed = refl
 no_lines trees n (r ∷ rows) none keyed = go (no_lines trees n rows none keyed.1) (is_of n (columns_5 r)) refl
   where
-    go : rows_under n (map columns_5 rows) ≡ [] → (b : Bool) → is_of n (columns_5 r) ≡ b → map (drop 1) (if b then columns_5 r ∷ filter (is_of n) (map columns_5 rows) else filter (is_of n) (map columns_5 rows)) ≡ []
-    go more true e = absurd (let held = rw (not_null (column r 1) n e, no_parent n (column r 1) (trees 2) e none) at (has_deposit trees r keyed.0) in cc)
+    go : rows_under n (map columns_5 rows) ≡ [] → (b : Bool) → is_of n (columns_5 r) ≡ b → map (drop 1)
+        (if b then columns_5 r ∷ filter (is_of n) (map columns_5 rows) else filter (is_of n) (map columns_5 rows)) ≡ []
+    go more true e = absurd (let held = rw (
+      not_null (column r 1) n e,
+      no_parent n (column r 1) (trees 2) e none,
+    ) at (has_deposit trees r keyed.0) in cc)
     go more false e = more
 
 -- no row of steps has a number that no deposit has
-pub no_steps : (trees : Trees) (n : ℕ) (rows : List Row) → filter (has_number n) (deposit_table trees) ≡ [] → AllByRecursion (λ r. passes ForeignKey register_schema trees steps r ≡ true) rows → rows_under n (map columns_3 rows) ≡ []
+pub no_steps : (trees : Trees) (n : ℕ) (rows : List Row) → filter (has_number n) (deposit_table trees) ≡ []
+    → AllByRecursion (λ r. passes ForeignKey register_schema trees steps r ≡ true) rows
+    → rows_under n (map columns_3 rows) ≡ []
 no_steps trees n [] none keyed = refl
 no_steps trees n (r ∷ rows) none keyed = go (no_steps trees n rows none keyed.1) (is_of n (columns_3 r)) refl
   where
-    go : rows_under n (map columns_3 rows) ≡ [] → (b : Bool) → is_of n (columns_3 r) ≡ b → map (drop 1) (if b then columns_3 r ∷ filter (is_of n) (map columns_3 rows) else filter (is_of n) (map columns_3 rows)) ≡ []
-    go more true e = absurd (let held = rw (not_null (column r 1) n e, no_parent n (column r 1) (trees 2) e none) at (step_has_deposit trees r keyed.0) in cc)
+    go : rows_under n (map columns_3 rows) ≡ [] → (b : Bool) → is_of n (columns_3 r) ≡ b → map (drop 1)
+        (if b then columns_3 r ∷ filter (is_of n) (map columns_3 rows) else filter (is_of n) (map columns_3 rows)) ≡ []
+    go more true e = absurd (let held = rw (
+      not_null (column r 1) n e,
+      no_parent n (column r 1) (trees 2) e none,
+    ) at (step_has_deposit trees r keyed.0) in cc)
     go more false e = more
 
 -- the rows of lines, and those of steps, have their rows of deposits, in either format
-pub keyed_lines : (format : Format) (trees : Trees) → IsSound (schema_of format) trees → AllByRecursion (λ r. passes ForeignKey register_schema trees lines r ≡ true) (trees 4)
+pub keyed_lines : (format : Format) (trees : Trees) → IsSound (schema_of format) trees
+    → AllByRecursion (λ r. passes ForeignKey register_schema trees lines r ≡ true) (trees 4)
 unfolding same_name first_key joined
 keyed_lines First trees sound = (sound.obeys.rules ForeignKey).1.1.0
 keyed_lines Second trees sound = (sound.obeys.rules ForeignKey).1.1.0
 
-pub keyed_steps : (format : Format) (trees : Trees) → IsSound (schema_of format) trees → AllByRecursion (λ r. passes ForeignKey register_schema trees steps r ≡ true) (trees 6)
+pub keyed_steps : (format : Format) (trees : Trees) → IsSound (schema_of format) trees
+    → AllByRecursion (λ r. passes ForeignKey register_schema trees steps r ≡ true) (trees 6)
 unfolding same_name first_key joined
 keyed_steps First trees sound = (sound.obeys.rules ForeignKey).1.1.1.0
 keyed_steps Second trees sound = (sound.obeys.rules ForeignKey).1.1.1.0

@@ -19,4 +19,5 @@ StartsWithMeta schema = (more : List Table) × (schema.tables ≡ meta ∷ more)
 
 -- The first table is meta, and it has such a row.
 abbrev pub HasFormat : Database → ℤ → Type 0
-HasFormat db n = StartsWithMeta db.schema × ((row : Row) × Contains (map columns_3 (db.trees 0)) row × IsFormatRow n row)
+HasFormat db n =
+    StartsWithMeta db.schema × ((row : Row) × Contains (map columns_3 (db.trees 0)) row × IsFormatRow n row)

@@ -31,11 +31,14 @@ IsDigestedAt db n one = (d : Sent) → IsRowOf db n d → IsDigestedFrom d one
 
 -- The heads are those of the deposits in the tables, of which there are so many.
 abbrev pub HoldsHeads : Database → ℕ → List KeptHead → Type 0
-HoldsHeads db count heads = (list : List Sent) → IsPermutation (deposit_rows 1 list) (deposit_table db.trees) → length list ≡ count → AreHeads heads list
+HoldsHeads db count heads = (list : List Sent) → IsPermutation (deposit_rows 1 list) (deposit_table db.trees)
+    → length list ≡ count → AreHeads heads list
 
 -- Where the answer is yes, a head is after the others, and the number under its digest; on a clean disk both are of
 -- the number's deposit.
-abbrev pub AddsHead : {E : Type 0} → Result Bool E → ℕ → Vec KeptHead Global → Vec KeptHead Global → Digests → Digests → State → State → Type 0
+abbrev pub AddsHead : {E : Type 0} → Result Bool E → ℕ → Vec KeptHead Global → Vec KeptHead Global → Digests → Digests
+    → State → State → Type 0
 AddsHead result n heads heads' digests digests' old new =
-    result ≡ Ok true → (one : DigestedHead) × (heads'.items ≡ heads.items ++ one.head ∷ []) × AddsNumber digests digests' one.digest n
+    result ≡ Ok true
+    → (one : DigestedHead) × (heads'.items ≡ heads.items ++ one.head ∷ []) × AddsNumber digests digests' one.digest n
     × (HasCleanDisk new → IsDigestedAt old.now n one)

@@ -12,13 +12,15 @@ use Rattle.reg_tables.specs.Creates.{LeavesEmpty}
 abbrev pub AreDictionary : List ℕ → Type 0
 AreDictionary bytes = (entries : Entries) × IsDictionary bytes entries
 
--- The bytes are refused with just this error; or they are a dictionary, and the database is refused; or memory was, which says nothing of them.
+-- The bytes are refused with just this error; or they are a dictionary, and the database is refused; or memory was,
+-- which says nothing of them.
 abbrev pub RefusesBytes : List ℕ → CreateError → Type 0
 RefusesBytes bytes (Dictionary error) = ReadsDictionary bytes (Err error) × (error ≢ dict.NoMemory)
 RefusesBytes bytes NotEmpty = AreDictionary bytes
 RefusesBytes bytes Store = AreDictionary bytes
 RefusesBytes bytes NoMemory = Unit {0}
 
--- No fault is forgotten, and a crash leaves what it left before; or, where the refusal is `Store` and there was no table, a register of no deposits.
+-- No fault is forgotten, and a crash leaves what it left before; or, where the refusal is `Store` and there was no
+-- table, a register of no deposits.
 abbrev pub SurvivesRefusal : CreateError → List ℕ → State → State → Type 0
 SurvivesRefusal error bytes old new = Survives old new (λ trees. (error ≡ Store) × LeavesEmpty old bytes trees)

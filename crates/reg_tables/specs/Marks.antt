@@ -1,5 +1,6 @@
 -- The marks of deposits as rows: they are read back, and there may be one more.
-use Rattle.std.proofs.Common.{◌≡◌, ℕ, zero, suc, ◌+◌, ◌-◌, ◌<◌, ◌≤◌, List, [], ◌∷◌, ◌++◌, map, length, Bool, true, false, Option, Some, None, slice_get, refl, sym, ap, subst, ◌∙◌, arith}
+use Rattle.std.proofs.Common.{◌≡◌, ℕ, zero, suc, ◌+◌, ◌-◌, ◌<◌, ◌≤◌, List, [], ◌∷◌, ◌++◌, map, length, Bool, true}
+use Rattle.std.proofs.Common.{false, Option, Some, None, slice_get, refl, sym, ap, subst, ◌∙◌, arith}
 use Rattle.std.specs.Prelude.{option_map}
 use Rattle.std.specs.List.{list_any}
 use Rattle.std.specs.List.Sorted.{IsPermutation}
@@ -19,16 +20,20 @@ use Rattle.reg_tables.specs.RegisterLaws.{sents_back}
 -- ---- what was sent stays
 
 -- what was sent of a deposit is at its place
-pub sent_at : (list : List Deposit) (k : ℕ) (d : Deposit) → slice_get list k ≡ Some d → slice_get (sents list) k ≡ Some d.sent
+pub sent_at : (list : List Deposit) (k : ℕ) (d : Deposit) → slice_get list k ≡ Some d
+    → slice_get (sents list) k ≡ Some d.sent
 sent_at list k d at = slice_get-map (λ (x : Deposit). x.sent) list k ∙ ap (option_map (λ (x : Deposit). x.sent)) at
 
-some_sent : (o : Option Deposit) (sent : Sent) → option_map (λ (x : Deposit). x.sent) o ≡ Some sent → (d : Deposit) × (o ≡ Some d) × (d.sent ≡ sent)
+some_sent : (o : Option Deposit) (sent : Sent) → option_map (λ (x : Deposit). x.sent) o ≡ Some sent
+    → (d : Deposit) × (o ≡ Some d) × (d.sent ≡ sent)
 some_sent None sent h = absurd cc
 some_sent (Some d) sent h = (d, refl, cc)
 
 -- what was sent at a place is that of the deposit there
-pub deposit_there : (list : List Deposit) (k : ℕ) (sent : Sent) → slice_get (sents list) k ≡ Some sent → (d : Deposit) × (slice_get list k ≡ Some d) × (d.sent ≡ sent)
-deposit_there list k sent at = some_sent (slice_get list k) sent (sym (slice_get-map (λ (x : Deposit). x.sent) list k) ∙ at)
+pub deposit_there : (list : List Deposit) (k : ℕ) (sent : Sent) → slice_get (sents list) k ≡ Some sent
+    → (d : Deposit) × (slice_get list k ≡ Some d) × (d.sent ≡ sent)
+deposit_there list k sent at =
+    some_sent (slice_get list k) sent (sym (slice_get-map (λ (x : Deposit). x.sent) list k) ∙ at)
 
 pub long_sents : (list : List Deposit) → length (sents list) ≡ length list
 long_sents list = length-map list (λ d. d.sent)
@@ -38,10 +43,12 @@ long_sents list = length-map list (λ d. d.sent)
 -- no mark before the first
 none_marked : (m n : ℕ) (marks : List Bool) → n < m → list_any (is_of n) (mark_rows m marks) ≡ false
 none_marked m n [] low = refl
-none_marked m n (true ∷ marks) low = rw (apart_at m n (λ e. absurd (omega (arith, e, low)))) (none_marked (m + 1) n marks (omega (arith, low)))
+none_marked m n (true ∷ marks) low =
+    rw (apart_at m n (λ e. absurd (omega (arith, e, low)))) (none_marked (m + 1) n marks (omega (arith, low)))
 none_marked m n (false ∷ marks) low = none_marked (m + 1) n marks (omega (arith, low))
 
-mark_at : (m k : ℕ) (marks : List Bool) (b : Bool) → slice_get marks k ≡ Some b → list_any (is_of (m + k)) (mark_rows m marks) ≡ b
+mark_at : (m k : ℕ) (marks : List Bool) (b : Bool) → slice_get marks k ≡ Some b
+    → list_any (is_of (m + k)) (mark_rows m marks) ≡ b
 mark_at m k [] b at = absurd cc
 mark_at m zero (true ∷ marks) b at =
     let e : m + 0 ≡ m = omega arith in
@@ -50,7 +57,8 @@ mark_at m zero (true ∷ marks) b at =
 mark_at m zero (false ∷ marks) b at = let is : false ≡ b = cc in none_marked (m + 1) (m + 0) marks (omega arith) ∙ is
 mark_at m (suc k) (true ∷ marks) b at =
     let e : (m + 1) + k ≡ m + suc k = omega arith in
-    rw (apart_at m (m + suc k) (λ same. absurd (omega (arith, same)))) (subst (λ j. list_any (is_of j) (mark_rows (m + 1) marks) ≡ b) e (mark_at (m + 1) k marks b at))
+    rw (apart_at m (m + suc k) (λ same. absurd (omega (arith, same))))
+    (subst (λ j. list_any (is_of j) (mark_rows (m + 1) marks) ≡ b) e (mark_at (m + 1) k marks b at))
 mark_at m (suc k) (false ∷ marks) b at =
     let e : (m + 1) + k ≡ m + suc k = omega arith in
     subst (λ j. list_any (is_of j) (mark_rows (m + 1) marks) ≡ b) e (mark_at (m + 1) k marks b at)
@@ -58,22 +66,31 @@ mark_at m (suc k) (false ∷ marks) b at =
 deposit_as : (d : Deposit) (b : Bool) → b ≡ d.withdrawn → record { sent = d.sent; withdrawn = b } ≡ d
 deposit_as d b is = let make : Bool → Deposit = λ x. record { sent = d.sent; withdrawn = x } in ap make is
 
-marked_back : (n : ℕ) (rows : List Row) (list : List Deposit) → ((k : ℕ) (b : Bool) → slice_get (marks_of list) k ≡ Some b → list_any (is_of (n + k)) rows ≡ b) → with_marks n rows (sents list) ≡ list
+marked_back : (n : ℕ) (rows : List Row) (list : List Deposit) → ((k : ℕ) (b : Bool)
+    → slice_get (marks_of list) k ≡ Some b → list_any (is_of (n + k)) rows ≡ b) → with_marks n rows (sents list) ≡ list
 marked_back n rows [] each = refl
 marked_back n rows (d ∷ list) each =
     let e : n + 0 ≡ n = omega arith in
-    let first : list_any (is_of n) rows ≡ d.withdrawn = subst (λ j. list_any (is_of j) rows ≡ d.withdrawn) e (each 0 d.withdrawn refl) in
-    let more = marked_back (n + 1) rows list (λ k b at. (let s : n + suc k ≡ (n + 1) + k = omega arith in subst (λ j. list_any (is_of j) rows ≡ b) s (each (suc k) b at))) in
-    ap (λ (x : Deposit). x ∷ with_marks (n + 1) rows (sents list)) (deposit_as d _ first) ∙ ap (λ (all : List Deposit). d ∷ all) more
+    let first : list_any (is_of n) rows ≡ d.withdrawn =
+    subst (λ j. list_any (is_of j) rows ≡ d.withdrawn) e (each 0 d.withdrawn refl) in
+    let more = marked_back (n + 1) rows list (λ k b at. (let s : n + suc k ≡ (n + 1) + k = omega arith in
+    subst (λ j. list_any (is_of j) rows ≡ b) s (each (suc k) b at))) in
+    ap (λ (x : Deposit). x ∷ with_marks (n + 1) rows (sents list)) (deposit_as d _ first)
+    ∙ ap (λ (all : List Deposit). d ∷ all) more
 
 -- a table that holds the marks of a list says which deposits they mark
-pub marks_back : (list : List Deposit) (rows : List Row) → IsPermutation (mark_rows 1 (marks_of list)) rows → with_marks 1 rows (sents list) ≡ list
-marks_back list rows are = marked_back 1 rows list (λ k b at. sym (list_any-IsPermutation (is_of (1 + k)) _ _ are) ∙ mark_at 1 k (marks_of list) b at)
+pub marks_back : (list : List Deposit) (rows : List Row) → IsPermutation (mark_rows 1 (marks_of list)) rows
+    → with_marks 1 rows (sents list) ≡ list
+marks_back list rows are = marked_back 1 rows list (λ k b at. sym (list_any-IsPermutation (is_of (1 + k)) _ _ are)
+    ∙ mark_at 1 k (marks_of list) b at)
 
 -- so do tables that hold a list
-pub tables_back : (trees : Trees) (list : List Deposit) → IsPermutation (deposit_rows 1 (sents list)) (deposit_table trees) → IsPermutation (mark_rows 1 (marks_of list)) (mark_table Second trees) → deposits_in trees ≡ list
+pub tables_back : (trees : Trees) (list : List Deposit)
+    → IsPermutation (deposit_rows 1 (sents list)) (deposit_table trees)
+    → IsPermutation (mark_rows 1 (marks_of list)) (mark_table Second trees) → deposits_in trees ≡ list
 unfolding deposits_in
-tables_back trees list sent marks = ap (with_marks 1 (mark_table Second trees)) (sents_back trees (sents list) sent) ∙ marks_back list (mark_table Second trees) marks
+tables_back trees list sent marks = ap (with_marks 1 (mark_table Second trees)) (sents_back trees (sents list) sent)
+    ∙ marks_back list (mark_table Second trees) marks
 
 -- ---- a list without marks
 
@@ -92,12 +109,14 @@ paired [] marks = []
 paired (d ∷ list) [] = []
 paired (d ∷ list) (mark ∷ marks) = record { sent = d; withdrawn = mark } ∷ paired list marks
 
-pub sents_paired : (list : List Sent) (marks : List Bool) → length marks ≡ length list → sents (paired list marks) ≡ list
+pub sents_paired : (list : List Sent) (marks : List Bool) → length marks ≡ length list
+    → sents (paired list marks) ≡ list
 sents_paired [] marks long = refl
 sents_paired (d ∷ list) [] long = absurd (omega (arith, long))
 sents_paired (d ∷ list) (mark ∷ marks) long = ap (λ more. d ∷ more) (sents_paired list marks (omega (arith, long)))
 
-pub marks_paired : (list : List Sent) (marks : List Bool) → length marks ≡ length list → marks_of (paired list marks) ≡ marks
+pub marks_paired : (list : List Sent) (marks : List Bool) → length marks ≡ length list
+    → marks_of (paired list marks) ≡ marks
 marks_paired [] [] long = refl
 marks_paired [] (mark ∷ marks) long = absurd (omega (arith, long))
 marks_paired (d ∷ list) [] long = absurd (omega (arith, long))
@@ -115,7 +134,8 @@ pub marked_none : (n : ℕ) (list : List Deposit) → (0 < n → n ≤ length li
 marked_none n [] none = refl
 marked_none zero (d ∷ list) none = refl
 marked_none (suc zero) (d ∷ list) none = absurd (none (omega arith) (omega arith))
-marked_none (suc (suc n)) (d ∷ list) none = ap (λ more. d ∷ more) (marked_none (suc n) list (λ low high. none (omega arith) (omega (arith, high))))
+marked_none (suc (suc n)) (d ∷ list) none =
+    ap (λ more. d ∷ more) (marked_none (suc n) list (λ low high. none (omega arith) (omega (arith, high))))
 
 -- ---- a deposit more, and a mark more
 
@@ -124,13 +144,17 @@ push_false n [] = refl
 push_false n (true ∷ marks) = ap (λ more. mark_row n ∷ more) (push_false (n + 1) marks)
 push_false n (false ∷ marks) = push_false (n + 1) marks
 
-pub marks_push : (list : List Deposit) (d : Sent) → mark_rows 1 (marks_of (list ++ unmarked d ∷ [])) ≡ mark_rows 1 (marks_of list)
-marks_push list d = ap (mark_rows 1) (map-append (λ (x : Deposit). x.withdrawn) list (unmarked d ∷ [])) ∙ push_false 1 (marks_of list)
+pub marks_push : (list : List Deposit) (d : Sent)
+    → mark_rows 1 (marks_of (list ++ unmarked d ∷ [])) ≡ mark_rows 1 (marks_of list)
+marks_push list d =
+    ap (mark_rows 1) (map-append (λ (x : Deposit). x.withdrawn) list (unmarked d ∷ [])) ∙ push_false 1 (marks_of list)
 
 pub sents_push : (list : List Deposit) (d : Sent) → sents (list ++ unmarked d ∷ []) ≡ sents list ++ d ∷ []
 sents_push list d = map-append (λ (x : Deposit). x.sent) list (unmarked d ∷ [])
 
-more_marks : (m k : ℕ) (list : List Deposit) (d : Deposit) → slice_get list k ≡ Some d → d.withdrawn ≡ false → IsPermutation (mark_rows m (marks_of list) ++ mark_row (m + k) ∷ []) (mark_rows m (marks_of (marked (suc k) list)))
+more_marks : (m k : ℕ) (list : List Deposit) (d : Deposit) → slice_get list k ≡ Some d
+    → d.withdrawn ≡ false → IsPermutation (mark_rows m (marks_of list) ++ mark_row (m + k) ∷ [])
+    (mark_rows m (marks_of (marked (suc k) list)))
 more_marks m k [] d at none = absurd cc
 more_marks m zero (x ∷ list) d at none =
     let same : x ≡ d = cc in
@@ -138,22 +162,28 @@ more_marks m zero (x ∷ list) d at none =
     let e : m + 0 ≡ m = omega arith in
     let rest = mark_rows (m + 1) (marks_of list) in
     subst (λ b. IsPermutation (mark_rows m (b ∷ marks_of list) ++ mark_row (m + 0) ∷ []) (mark_row m ∷ rest)) (sym bare)
-    (subst (λ j. IsPermutation (rest ++ mark_row j ∷ []) (mark_row m ∷ rest)) (sym e) (IsPermutation-to_front rest (mark_row m)))
+    (subst (λ j. IsPermutation (rest ++ mark_row j ∷ []) (mark_row m ∷ rest)) (sym e)
+    (IsPermutation-to_front rest (mark_row m)))
 more_marks m (suc k) (x ∷ list) d at none =
     let e : (m + 1) + k ≡ m + suc k = omega arith in
     let rest = mark_rows (m + 1) (marks_of list) in
     let more = mark_rows (m + 1) (marks_of (marked (suc k) list)) in
     go x.withdrawn (subst (λ j. IsPermutation (rest ++ mark_row j ∷ []) more) e (more_marks (m + 1) k list d at none))
   where
-    go : (b : Bool) → IsPermutation (mark_rows (m + 1) (marks_of list) ++ mark_row (m + suc k) ∷ []) (mark_rows (m + 1) (marks_of (marked (suc k) list)))
-        → IsPermutation (mark_rows m (b ∷ marks_of list) ++ mark_row (m + suc k) ∷ []) (mark_rows m (b ∷ marks_of (marked (suc k) list)))
+    go : (b : Bool) → IsPermutation (mark_rows (m + 1) (marks_of list) ++ mark_row (m + suc k) ∷ [])
+        (mark_rows (m + 1) (marks_of (marked (suc k) list)))
+        → IsPermutation (mark_rows m (b ∷ marks_of list) ++ mark_row (m + suc k) ∷ [])
+        (mark_rows m (b ∷ marks_of (marked (suc k) list)))
     go true later = IsPermutation-cons (mark_row m) _ _ later
     go false later = later
 
 -- the marks of a list with one deposit marked are those of the list, and that one
-pub mark_more : (n : ℕ) (list : List Deposit) (d : Deposit) → 0 < n → slice_get list (n - 1) ≡ Some d → d.withdrawn ≡ false → IsPermutation (mark_rows 1 (marks_of list) ++ mark_row n ∷ []) (mark_rows 1 (marks_of (marked n list)))
+pub mark_more : (n : ℕ) (list : List Deposit) (d : Deposit) → 0 < n → slice_get list (n - 1) ≡ Some d → d.withdrawn
+    ≡ false → IsPermutation (mark_rows 1 (marks_of list) ++ mark_row n ∷ []) (mark_rows 1 (marks_of (marked n list)))
 mark_more n list d low at none =
     let e : suc (n - 1) ≡ n = omega (arith, low) in
     let f : 1 + (n - 1) ≡ n = omega (arith, low) in
-    subst (λ j. IsPermutation (mark_rows 1 (marks_of list) ++ mark_row n ∷ []) (mark_rows 1 (marks_of (marked j list)))) e
-    (subst (λ j. IsPermutation (mark_rows 1 (marks_of list) ++ mark_row j ∷ []) (mark_rows 1 (marks_of (marked (suc (n - 1)) list)))) f (more_marks 1 (n - 1) list d at none))
+    subst
+    (λ j. IsPermutation (mark_rows 1 (marks_of list) ++ mark_row n ∷ []) (mark_rows 1 (marks_of (marked j list)))) e
+    (subst (λ j. IsPermutation (mark_rows 1 (marks_of list) ++ mark_row j ∷ [])
+    (mark_rows 1 (marks_of (marked (suc (n - 1)) list)))) f (more_marks 1 (n - 1) list d at none))

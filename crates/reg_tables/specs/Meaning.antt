@@ -20,8 +20,12 @@ use Rattle.sqlite.specs.Command.TheVariants.{Insert, Update, Select, CreateTable
 use Rattle.sqlite_tied.specs.Compute.{everything}
 use Rattle.sqlite.specs.Listing.{understood, reads_listing}
 use Rattle.sqlite.proofs.Callers.{IsPlain, command_of, statement_of}
-use Rattle.reg_tables.specs.Tables.{HasTables, meta, deposits, lines, steps, withdrawals, no_schema, first_schema, register_schema}
-use Rattle.reg_tables.specs.Texts.{create_meta, create_deposits, create_lines, create_steps, create_withdrawals, fill_meta, raise_format, insert_deposit, insert_line, insert_step, insert_mark, insert_eight_lines, insert_eight_steps, select_deposit, select_lines, select_steps, select_front, select_targets, select_all_numbers, select_marks, select_meta}
+use Rattle.reg_tables.specs.Tables.{HasTables, meta, deposits, lines, steps, withdrawals, no_schema, first_schema}
+use Rattle.reg_tables.specs.Tables.{register_schema}
+use Rattle.reg_tables.specs.Texts.{create_meta, create_deposits, create_lines, create_steps, create_withdrawals}
+use Rattle.reg_tables.specs.Texts.{fill_meta, raise_format, insert_deposit, insert_line, insert_step, insert_mark}
+use Rattle.reg_tables.specs.Texts.{insert_eight_lines, insert_eight_steps, select_deposit, select_lines, select_steps}
+use Rattle.reg_tables.specs.Texts.{select_front, select_targets, select_all_numbers, select_marks, select_meta}
 
 -- ---- the tables
 
@@ -63,30 +67,41 @@ pub schema_is : created first_schema (record withdrawals { tree = 0 }) ≡ regis
 unfolding understood everything
 schema_is = refl
 
-pub meta_text : (command_of (understood no_schema create_meta) ≡ CreateTable) × (statement_of create_meta (understood no_schema create_meta) ≡ create_meta) × IsPlain (understood no_schema create_meta)
+pub meta_text : (command_of (understood no_schema create_meta) ≡ CreateTable)
+    × (statement_of create_meta (understood no_schema create_meta) ≡ create_meta)
+    × IsPlain (understood no_schema create_meta)
 unfolding understood everything
 meta_text = (refl, refl, (refl, refl))
 
-pub deposits_text : (command_of (understood with_meta create_deposits) ≡ CreateTable) × (statement_of create_deposits (understood with_meta create_deposits) ≡ create_deposits) × IsPlain (understood with_meta create_deposits)
+pub deposits_text : (command_of (understood with_meta create_deposits) ≡ CreateTable)
+    × (statement_of create_deposits (understood with_meta create_deposits) ≡ create_deposits)
+    × IsPlain (understood with_meta create_deposits)
 unfolding understood everything
 deposits_text = (refl, refl, (refl, refl))
 
-pub lines_text : (command_of (understood with_deposits create_lines) ≡ CreateTable) × (statement_of create_lines (understood with_deposits create_lines) ≡ create_lines) × IsPlain (understood with_deposits create_lines)
+pub lines_text : (command_of (understood with_deposits create_lines) ≡ CreateTable)
+    × (statement_of create_lines (understood with_deposits create_lines) ≡ create_lines)
+    × IsPlain (understood with_deposits create_lines)
 unfolding understood everything
 lines_text = (refl, refl, (refl, refl))
 
-pub steps_text : (command_of (understood with_lines create_steps) ≡ CreateTable) × (statement_of create_steps (understood with_lines create_steps) ≡ create_steps) × IsPlain (understood with_lines create_steps)
+pub steps_text : (command_of (understood with_lines create_steps) ≡ CreateTable)
+    × (statement_of create_steps (understood with_lines create_steps) ≡ create_steps)
+    × IsPlain (understood with_lines create_steps)
 unfolding understood everything
 steps_text = (refl, refl, (refl, refl))
 
-pub withdrawals_text : (command_of (understood first_schema create_withdrawals) ≡ CreateTable) × (statement_of create_withdrawals (understood first_schema create_withdrawals) ≡ create_withdrawals) × IsPlain (understood first_schema create_withdrawals)
+pub withdrawals_text : (command_of (understood first_schema create_withdrawals) ≡ CreateTable)
+    × (statement_of create_withdrawals (understood first_schema create_withdrawals) ≡ create_withdrawals)
+    × IsPlain (understood first_schema create_withdrawals)
 unfolding understood everything
 withdrawals_text = (refl, refl, (refl, refl))
 
 -- ---- the inserts
 
 abbrev pub fill_terms : List Term
-fill_terms = lit Null ∷ lit (Words (codes "format")) ∷ lit (Int (pos 2)) ∷ lit (Bytes []) ∷ lit Null ∷ lit (Words (codes "dictionary")) ∷ lit (Int (pos 0)) ∷ col 0 0 ∷ []
+fill_terms = lit Null ∷ lit (Words (codes "format")) ∷ lit (Int (pos 2)) ∷ lit (Bytes []) ∷ lit Null
+    ∷ lit (Words (codes "dictionary")) ∷ lit (Int (pos 0)) ∷ col 0 0 ∷ []
 
 pub fill_is : command_of (understood register_schema fill_meta) ≡ Insert 0 (Values fill_terms 4)
 unfolding understood everything
@@ -201,7 +216,8 @@ rising t = (t, record { collation = Binary; descending = false })
 
 -- under this schema, the text asks this query of the tables
 abbrev pub AsksIn : Schema → List ℕ → Query → List (List ℕ) → Type 0
-AsksIn schema text q names = (command_of (understood schema text) ≡ plainly q names) × IsPlain (understood schema text) × (reads_listing schema text ≡ false)
+AsksIn schema text q names = (command_of (understood schema text) ≡ plainly q names) × IsPlain (understood schema text)
+    × (reads_listing schema text ≡ false)
 
 -- under each schema that begins with the tables of a register, the text changes nothing
 abbrev pub IsPlainText : List ℕ → Type 0
@@ -209,68 +225,86 @@ IsPlainText text = (schema : Schema) → HasTables schema → IsPlain (understoo
 
 -- Under each schema that begins with the tables of a register, the text asks this query, and reads nothing else.
 abbrev pub Asks : List ℕ → Query → List (List ℕ) → Type 0
-Asks text q names = ((schema : Schema) → HasTables schema → command_of (understood schema text) ≡ plainly q names) × IsPlainText text × ((schema : Schema) → HasTables schema → reads_listing schema text ≡ false)
+Asks text q names = ((schema : Schema) → HasTables schema → command_of (understood schema text) ≡ plainly q names)
+    × IsPlainText text × ((schema : Schema) → HasTables schema → reads_listing schema text ≡ false)
 
 -- the tables of a register, and more
 abbrev with_more : List Table → List Index → List View → Schema
-with_more more indexes views = record { tables = meta ∷ deposits ∷ lines ∷ steps ∷ more; indexes = indexes; views = views }
+with_more more indexes views =
+    record { tables = meta ∷ deposits ∷ lines ∷ steps ∷ more; indexes = indexes; views = views }
 
-asks : (text : List ℕ) (q : Query) (names : List (List ℕ)) → ((more : List Table) (indexes : List Index) (views : List View) → AsksIn (with_more more indexes views) text q names) → Asks text q names
-asks text q names each = (λ schema has. (at schema has).0, λ schema has. (at schema has).1, λ schema has. (at schema has).2)
+asks : (text : List ℕ) (q : Query) (names : List (List ℕ)) → ((more : List Table) (indexes : List Index)
+    (views : List View) → AsksIn (with_more more indexes views) text q names) → Asks text q names
+asks text q names each =
+    (λ schema has. (at schema has).0, λ schema has. (at schema has).1, λ schema has. (at schema has).2)
   where
     at : (schema : Schema) → HasTables schema → AsksIn schema text q names
     at schema has =
-        let same : with_more has.0 schema.indexes schema.views ≡ schema = λ i. record { tables = sym has.1 i; indexes = schema.indexes; views = schema.views } in
+        let same : with_more has.0 schema.indexes schema.views ≡ schema =
+        λ i. record { tables = sym has.1 i; indexes = schema.indexes; views = schema.views } in
         subst (λ s. AsksIn s text q names) same (each has.0 schema.indexes schema.views)
 
 abbrev pub by_number : Query
-by_number = query (inner 2 end) (op2 (Compare Eq Binary) (col 1 1) (col 0 0) ∷ []) (col 1 1 ∷ col 1 2 ∷ col 1 3 ∷ col 1 4 ∷ col 1 5 ∷ []) []
+by_number = query (inner 2 end) (op2 (Compare Eq Binary) (col 1 1) (col 0 0) ∷ [])
+    (col 1 1 ∷ col 1 2 ∷ col 1 3 ∷ col 1 4 ∷ col 1 5 ∷ []) []
 
-pub deposit_read : Asks select_deposit by_number (codes "number" ∷ codes "firm" ∷ codes "project" ∷ codes "embargo" ∷ codes "body" ∷ [])
+pub deposit_read : Asks select_deposit by_number
+    (codes "number" ∷ codes "firm" ∷ codes "project" ∷ codes "embargo" ∷ codes "body" ∷ [])
 unfolding understood everything
-deposit_read = asks select_deposit by_number (codes "number" ∷ codes "firm" ∷ codes "project" ∷ codes "embargo" ∷ codes "body" ∷ []) (λ more indexes views. (refl, (refl, refl), refl))
+deposit_read = asks select_deposit by_number (codes "number" ∷ codes "firm" ∷ codes "project" ∷ codes "embargo"
+    ∷ codes "body" ∷ []) (λ more indexes views. (refl, (refl, refl), refl))
 
 abbrev pub lines_of_deposit : Query
-lines_of_deposit = query (inner 4 end) (op2 (Compare Eq Binary) (col 1 1) (col 0 0) ∷ []) (col 1 2 ∷ col 1 3 ∷ col 1 4 ∷ col 1 5 ∷ []) (rising (col 1 2) ∷ [])
+lines_of_deposit = query (inner 4 end) (op2 (Compare Eq Binary) (col 1 1) (col 0 0) ∷ [])
+    (col 1 2 ∷ col 1 3 ∷ col 1 4 ∷ col 1 5 ∷ []) (rising (col 1 2) ∷ [])
 
 pub lines_read : Asks select_lines lines_of_deposit (codes "seq" ∷ codes "grp" ∷ codes "kind" ∷ codes "line" ∷ [])
 unfolding understood everything
-lines_read = asks select_lines lines_of_deposit (codes "seq" ∷ codes "grp" ∷ codes "kind" ∷ codes "line" ∷ []) (λ more indexes views. (refl, (refl, refl), refl))
+lines_read = asks select_lines lines_of_deposit (codes "seq" ∷ codes "grp" ∷ codes "kind" ∷ codes "line" ∷ [])
+    (λ more indexes views. (refl, (refl, refl), refl))
 
 abbrev pub steps_of_deposit : Query
-steps_of_deposit = query (inner 6 end) (op2 (Compare Eq Binary) (col 1 1) (col 0 0) ∷ []) (col 1 2 ∷ col 1 3 ∷ []) (rising (col 1 2) ∷ rising (col 1 3) ∷ [])
+steps_of_deposit = query (inner 6 end) (op2 (Compare Eq Binary) (col 1 1) (col 0 0) ∷ []) (col 1 2 ∷ col 1 3 ∷ [])
+    (rising (col 1 2) ∷ rising (col 1 3) ∷ [])
 
 pub steps_read : Asks select_steps steps_of_deposit (codes "child" ∷ codes "target" ∷ [])
 unfolding understood everything
-steps_read = asks select_steps steps_of_deposit (codes "child" ∷ codes "target" ∷ []) (λ more indexes views. (refl, (refl, refl), refl))
+steps_read = asks select_steps steps_of_deposit (codes "child" ∷ codes "target" ∷ [])
+    (λ more indexes views. (refl, (refl, refl), refl))
 
 abbrev pub front_of_deposit : Query
-front_of_deposit = query (inner 4 end) (op2 (Compare Eq Binary) (col 1 1) (col 0 0) ∷ op2 (Compare Lt Binary) (col 1 2) (lit (Int (pos 5))) ∷ []) (col 1 2 ∷ col 1 3 ∷ col 1 4 ∷ col 1 5 ∷ []) (rising (col 1 2) ∷ [])
+front_of_deposit = query (inner 4 end) (op2 (Compare Eq Binary) (col 1 1) (col 0 0) ∷ op2 (Compare Lt Binary) (col 1 2)
+    (lit (Int (pos 5))) ∷ []) (col 1 2 ∷ col 1 3 ∷ col 1 4 ∷ col 1 5 ∷ []) (rising (col 1 2) ∷ [])
 
 pub front_read : Asks select_front front_of_deposit (codes "seq" ∷ codes "grp" ∷ codes "kind" ∷ codes "line" ∷ [])
 unfolding understood everything
-front_read = asks select_front front_of_deposit (codes "seq" ∷ codes "grp" ∷ codes "kind" ∷ codes "line" ∷ []) (λ more indexes views. (refl, (refl, refl), refl))
+front_read = asks select_front front_of_deposit (codes "seq" ∷ codes "grp" ∷ codes "kind" ∷ codes "line" ∷ [])
+    (λ more indexes views. (refl, (refl, refl), refl))
 
 abbrev pub targets_of_row : Query
-targets_of_row = query (inner 6 end) (op2 (Compare Eq Binary) (col 1 1) (col 0 0) ∷ op2 (Compare Eq Binary) (col 1 2) (col 0 1) ∷ []) (col 1 3 ∷ []) (rising (col 1 3) ∷ [])
+targets_of_row = query (inner 6 end) (op2 (Compare Eq Binary) (col 1 1) (col 0 0)
+    ∷ op2 (Compare Eq Binary) (col 1 2) (col 0 1) ∷ []) (col 1 3 ∷ []) (rising (col 1 3) ∷ [])
 
 pub targets_read : Asks select_targets targets_of_row (codes "target" ∷ [])
 unfolding understood everything
-targets_read = asks select_targets targets_of_row (codes "target" ∷ []) (λ more indexes views. (refl, (refl, refl), refl))
+targets_read =
+    asks select_targets targets_of_row (codes "target" ∷ []) (λ more indexes views. (refl, (refl, refl), refl))
 
 abbrev pub all_numbers : Query
 all_numbers = query (inner 2 end) [] (col 1 1 ∷ []) (rising (col 1 1) ∷ [])
 
 pub all_numbers_read : Asks select_all_numbers all_numbers (codes "number" ∷ [])
 unfolding understood everything
-all_numbers_read = asks select_all_numbers all_numbers (codes "number" ∷ []) (λ more indexes views. (refl, (refl, refl), refl))
+all_numbers_read =
+    asks select_all_numbers all_numbers (codes "number" ∷ []) (λ more indexes views. (refl, (refl, refl), refl))
 
 abbrev pub all_meta : Query
 all_meta = query (inner 0 end) [] (col 1 1 ∷ col 1 2 ∷ col 1 3 ∷ []) (rising (col 1 1) ∷ [])
 
 pub all_meta_read : Asks select_meta all_meta (codes "name" ∷ codes "num" ∷ codes "body" ∷ [])
 unfolding understood everything
-all_meta_read = asks select_meta all_meta (codes "name" ∷ codes "num" ∷ codes "body" ∷ []) (λ more indexes views. (refl, (refl, refl), refl))
+all_meta_read = asks select_meta all_meta (codes "name" ∷ codes "num" ∷ codes "body" ∷ [])
+    (λ more indexes views. (refl, (refl, refl), refl))
 
 abbrev pub all_marks : Query
 all_marks = query (inner 8 end) [] (col 1 0 ∷ []) (rising (col 1 0) ∷ [])
@@ -283,9 +317,11 @@ all_marks_read = (refl, (refl, refl), refl)
 
 -- the row `format` of meta, by its rowid, with the number 2
 abbrev pub format_raised : Query
-format_raised = query (inner 0 end) (op2 (Compare Eq Binary) (col 1 1) (lit (Words (codes "format"))) ∷ []) (col 1 0 ∷ col 1 0 ∷ col 1 1 ∷ lit (Int (pos 2)) ∷ col 1 3 ∷ []) []
+format_raised = query (inner 0 end) (op2 (Compare Eq Binary) (col 1 1) (lit (Words (codes "format"))) ∷ [])
+    (col 1 0 ∷ col 1 0 ∷ col 1 1 ∷ lit (Int (pos 2)) ∷ col 1 3 ∷ []) []
 
-pub raise_is : command_of (understood register_schema raise_format) ≡ Update 0 (record { lets = []; body = format_raised })
+pub raise_is : command_of (understood register_schema raise_format)
+    ≡ Update 0 (record { lets = []; body = format_raised })
 unfolding understood everything
 raise_is = refl
 

@@ -1,5 +1,6 @@
 -- What is known of the deposits without the tables, and that it agrees with the list of deposits.
-use Rattle.std.specs.Prelude.{◌≡◌, ◌<◌, ◌≤◌, ◌+◌, ℕ, Bool, List, [], ◌∷◌, ◌++◌, length, IsSome, Some, None, slice_get, vec_len, vec_capacity}
+use Rattle.std.specs.Prelude.{◌≡◌, ◌<◌, ◌≤◌, ◌+◌, ℕ, Bool, List, [], ◌∷◌, ◌++◌, length, IsSome, Some, None, slice_get}
+use Rattle.std.specs.Prelude.{vec_len, vec_capacity}
 use Rattle.std.specs.Option.{ForSome}
 use Rattle.ags_dict.specs.Entries.{Entries}
 use Rattle.ags_check.specs.Findings.{CheckedFile}
@@ -51,13 +52,15 @@ pub record IsKnown (dictionary : Entries) (d : Deposit) (one : Known) : Type 0 w
 -- Of each deposit this is known, in the order of the list.
 pub record AreKnown (dictionary : Entries) (list : List Deposit) (known : List Known) : Type 0 where
   pub long : length known ≡ length list
-  pub each : (k : ℕ) (d : Deposit) (one : Known) → slice_get list k ≡ Some d → slice_get known k ≡ Some one → IsKnown dictionary d one
+  pub each : (k : ℕ) (d : Deposit) (one : Known) → slice_get list k ≡ Some d → slice_get known k ≡ Some one
+      → IsKnown dictionary d one
 
 -- A deposit has the number.
 abbrev pub IsNumberOf : ℕ → List Deposit → Type 0
 IsNumberOf n list = (0 < n) × (n ≤ length list)
 
--- What is known agrees with the list: of each deposit, of each digest, and of the deposits whose rows and steps were read last.
+-- What is known agrees with the list: of each deposit, of each digest, and of the deposits whose rows and steps were
+-- read last.
 pub record Agrees (memory : Memory) (dictionary : Entries) (list : List Deposit) : Type 0 where
   pub known : AreKnown dictionary list memory.known.items
   pub digests : AreDigested memory.digests (sents list)
@@ -69,13 +72,16 @@ pub record Agrees (memory : Memory) (dictionary : Entries) (list : List Deposit)
 
 -- The tables are a register of this dictionary and of a list that is as long as what is known, which agrees with it.
 pub record Recalls (db : Database) (dictionary : Entries) (memory : Memory) : Type 0 where
-  pub register : ∥ ((list : List Deposit) × IsRegister db dictionary list × (length list ≡ length memory.known.items)) ∥₁
+  pub register : ∥ ((list : List Deposit) × IsRegister db dictionary list
+      × (length list ≡ length memory.known.items)) ∥₁
   pub agrees : Agrees memory dictionary (deposits_in db.trees)
 
--- As many deposits are known, and what agreed with a list still does, if this is so of it and the number is one of its deposits.
+-- As many deposits are known, and what agreed with a list still does, if this is so of it and the number is one of its
+-- deposits.
 pub record Notes (old new : Memory) (n : ℕ) (IsRead : Entries → List Sent → Type 0) : Type 0 where
   pub long : length new.known.items ≡ length old.known.items
-  pub agrees : (dictionary : Entries) (list : List Deposit) → IsNumberOf n list → IsRead dictionary (sents list) → Agrees old dictionary list → Agrees new dictionary list
+  pub agrees : (dictionary : Entries) (list : List Deposit) → IsNumberOf n list → IsRead dictionary (sents list)
+      → Agrees old dictionary list → Agrees new dictionary list
 
 -- There is room for one deposit more.
 pub record HasRoom (memory : Memory) (coming : Coming) : Type 0 where
@@ -86,4 +92,5 @@ pub record HasRoom (memory : Memory) (coming : Coming) : Type 0 where
 pub record IsComing (memory : Memory) (d : Sent) (coming : Coming) : Type 0 where
   pub known : coming.known ≡ new_known (head_of d)
   pub digest : coming.digest ≡ own_digest d
-  pub numbers : coming.numbers.items ≡ numbers_under memory.digests (own_digest d) ++ (length memory.known.items + 1) ∷ []
+  pub numbers : coming.numbers.items
+      ≡ numbers_under memory.digests (own_digest d) ++ (length memory.known.items + 1) ∷ []

@@ -1,4 +1,5 @@
--- What the opening of a register in files says of what the files held. The image stands for that: their bytes as they were opened.
+-- What the opening of a register in files says of what the files held. The image stands for that: their bytes as they
+-- were opened.
 use Rattle.std.specs.Prelude.{◌≡◌, ◌≢◌, List, Err}
 use Rattle.sqlite.specs.Recovery.{Image}
 use Rattle.sqlite.specs.Schema.{Schema}
@@ -14,7 +15,8 @@ use Rattle.reg_tables.specs.Tables.{no_schema}
 use Rattle.reg_tables.specs.Register.{IsRegister, deposits_in}
 use Rattle.reg_tables.specs.Adoption.{Adopts}
 
--- An open finds these tables: those that the files recover to, or none where the files hold nothing; a database that the files hold is no other.
+-- An open finds these tables: those that the files recover to, or none where the files hold nothing; a database that
+-- the files hold is no other.
 pub record FindsTables (image : Image) (trees : Trees) : Type 0 where
   pub found : AreFoundIn image trees
   pub only : (held : Trees) → HoldsDatabase image held → trees ≡ held

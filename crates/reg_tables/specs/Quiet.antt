@@ -65,23 +65,40 @@ quiet_read old new failed quiet = record {
 
 -- no call, no change
 pub quiet_none : (s : State) (failed : Bool) → s.in_transaction ≡ false → IsStill s s failed
-quiet_none s failed idle = record { idle = idle; is_open = λ clean _. refl; same = λ clean _. (refl, refl); still = λ clean o. (o, refl, refl); survives = record { clean = omega arith; shield = λ is. is; counts = omega arith; limit = refl; closes = λ clean o. inl o; crash = λ clean db may. inl may } }
+quiet_none s failed idle = record {
+  idle = idle;
+  is_open = λ clean _. refl;
+  same = λ clean _. (refl, refl);
+  still = λ clean o. (o, refl, refl);
+  survives = record {
+    clean = omega arith;
+    shield = λ is. is;
+    counts = omega arith;
+    limit = refl;
+    closes = λ clean o. inl o;
+    crash = λ clean db may. inl may;
+  };
+}
 
 pub quiet_then : (a b c : State) (failed : Bool) → IsStill a b false → IsStill b c failed → IsStill a c failed
 quiet_then a b c failed one two = record {
   idle = two.idle;
   is_open = λ clean well. two.is_open clean well ∙ one.is_open (clean_before b c two.survives clean) refl;
   same = λ clean well.
-      (let early = clean_before b c two.survives clean in let first = one.same early refl in let next = two.same clean well in (next.0 ∙ first.0, next.1 ∙ first.1));
+      (let early = clean_before b c two.survives clean in let first = one.same early refl in
+      let next = two.same clean well in (next.0 ∙ first.0, next.1 ∙ first.1));
   still = λ clean o.
-      (let next = two.still clean o in let first = one.still (clean_before b c two.survives clean) next.0 in (first.0, next.1 ∙ first.1, next.2 ∙ first.2));
+      (let next = two.still clean o in let first = one.still (clean_before b c two.survives clean) next.0 in
+      (first.0, next.1 ∙ first.1, next.2 ∙ first.2));
   survives = survives_then a b c _ _ (λ _. ⊥) (λ _ db none. none) (λ _ db none. none) one.survives two.survives;
 }
 
 pub idle_then : (a b : State) → IsIdle a → IsStill a b false → IsIdle b
 idle_then a b idle quiet = record {
   idle = quiet.idle;
-  schema = λ clean. subst (λ (db : Database). HasTables db.schema) (sym (quiet.same clean refl).0) (idle.schema (clean_before a b quiet.survives clean));
+  schema = λ clean. subst (λ (db : Database). HasTables db.schema) (sym (quiet.same clean refl).0)
+      (idle.schema (clean_before a b quiet.survives clean));
   settled = λ clean is_open.
-      (let same = quiet.same clean refl in same.1 ∙ idle.settled (clean_before a b quiet.survives clean) (subst IsTrue (quiet.is_open clean refl) is_open) ∙ sym same.0);
+      (let same = quiet.same clean refl in same.1 ∙ idle.settled (clean_before a b quiet.survives clean)
+      (subst IsTrue (quiet.is_open clean refl) is_open) ∙ sym same.0);
 }

@@ -1,5 +1,7 @@
 -- What the query for the steps of a deposit reads, and what the readers of lines and steps give back.
-use Rattle.std.proofs.Common.{◌≡◌, ℕ, ◌+◌, pos, negsuc, List, [], ◌∷◌, map, filter, Bool, true, false, if◌then◌else◌, Ok, Err, Result, IfOk, refl, sym, ap, subst, subst₂, ◌∙◌, arith, Less, Equal, inl, inr, drop}
+use Rattle.std.proofs.Common.{◌≡◌, ℕ, ◌+◌, pos, negsuc, List, [], ◌∷◌, map, filter, Bool, true, false, if◌then◌else◌}
+use Rattle.std.proofs.Common.{Ok, Err, Result, IfOk, refl, sym, ap, subst, subst₂, ◌∙◌, arith, Less, Equal, inl, inr}
+use Rattle.std.proofs.Common.{drop}
 use Rattle.std.specs.List.Sorted.{IsPermutation}
 use Rattle.std.specs.Ordering.{ordering_then}
 use Rattle.std.proofs.lemmas.Cmp.{on_total}
@@ -39,12 +41,15 @@ show_step n = shown_of 6 steps_of_deposit.filter steps_of_deposit.project steps_
 test_step_is : (n : ℕ) (r : Row) → test_step n r ≡ is_of n (columns_3 r)
 test_step_is n r = and_true _ ∙ eq_int (column r 1) n
 
-steps_selected : (n : ℕ) (rows : List Row) → map (show_step n) (filter (test_step n) rows) ≡ map by_pair (rows_under n (map columns_3 rows))
+steps_selected : (n : ℕ) (rows : List Row)
+    → map (show_step n) (filter (test_step n) rows) ≡ map by_pair (rows_under n (map columns_3 rows))
 steps_selected n [] = refl
 steps_selected n (r ∷ rows) = rw (test_step_is n r) (go (is_of n (columns_3 r)) (steps_selected n rows))
   where
     go : (b : Bool) → map (show_step n) (filter (test_step n) rows) ≡ map by_pair (rows_under n (map columns_3 rows))
-        → map (show_step n) (if b then r ∷ filter (test_step n) rows else filter (test_step n) rows) ≡ map by_pair (map (drop 1) (if b then columns_3 r ∷ filter (is_of n) (map columns_3 rows) else filter (is_of n) (map columns_3 rows)))
+        → map (show_step n) (if b then r ∷ filter (test_step n) rows else filter (test_step n) rows)
+        ≡ map by_pair (map (drop 1) (if b then columns_3 r ∷ filter (is_of n) (map columns_3 rows)
+        else filter (is_of n) (map columns_3 rows)))
     go true h = ap (λ all. show_step n r ∷ all) h
     go false h = h
 
@@ -63,37 +68,55 @@ tied : (m n : ℕ) → m ≡ n → value_cmp (Int (pos m)) (Int (pos n)) ≡ Equ
 tied m n e = value_cmp-Int (pos m) (pos n) ∙ grind (arith, ints, nat_tests)
 
 step_below : (p q : ℕ × ℕ) → IsBefore p q → output_cmp steps_of_deposit (step_entry p) (step_entry q) ≡ Less
-step_below p q (inl h) = ap (λ o. ordering_then o (ordering_then (value_cmp (Int (pos p.1)) (Int (pos q.1))) Equal)) (less p.0 q.0 h)
-step_below p q (inr h) = ap (λ o. ordering_then o (ordering_then (value_cmp (Int (pos p.1)) (Int (pos q.1))) Equal)) (tied p.0 q.0 h.0) ∙ ap (λ o. ordering_then o Equal) (less p.1 q.1 h.1)
+step_below p q (inl h) =
+    ap (λ o. ordering_then o (ordering_then (value_cmp (Int (pos p.1)) (Int (pos q.1))) Equal)) (less p.0 q.0 h)
+step_below p q (inr h) = ap (λ o. ordering_then o (ordering_then (value_cmp (Int (pos p.1)) (Int (pos q.1))) Equal))
+    (tied p.0 q.0 h.0) ∙ ap (λ o. ordering_then o Equal) (less p.1 q.1 h.1)
 
-steps_rise : (steps : List (ℕ × ℕ)) → IsAscending IsBefore steps → IsAscending (λ a b. output_cmp steps_of_deposit a b ≡ Less) (map step_entry steps)
-steps_rise steps h = ascending-map (λ a b. output_cmp steps_of_deposit a b ≡ Less) step_entry steps (ascending_weaker IsBefore (λ p q. output_cmp steps_of_deposit (step_entry p) (step_entry q) ≡ Less) (λ p q before. step_below p q before) steps h)
+steps_rise : (steps : List (ℕ × ℕ)) → IsAscending IsBefore steps
+    → IsAscending (λ a b. output_cmp steps_of_deposit a b ≡ Less) (map step_entry steps)
+steps_rise steps h =
+    ascending-map (λ a b. output_cmp steps_of_deposit a b ≡ Less) step_entry steps (ascending_weaker IsBefore (λ p q.
+    output_cmp steps_of_deposit (step_entry p) (step_entry q) ≡ Less) (λ p q before. step_below p q before) steps h)
 
 -- where the table holds rising steps under the number, the query shows them in their order
-pub reads_steps : (old new : State) (n : ℕ) (steps : List (ℕ × ℕ)) (rows : List Row) → HasTables old.now.schema → IsAscending IsBefore steps → IsPermutation (map step_pair steps) (rows_under n (step_table old.now.trees))
+pub reads_steps : (old new : State) (n : ℕ) (steps : List (ℕ × ℕ)) (rows : List Row) → HasTables old.now.schema
+    → IsAscending IsBefore steps → IsPermutation (map step_pair steps) (rows_under n (step_table old.now.trees))
     → Shown select_steps (Int (pos n) ∷ []) old new rows → rows ≡ map step_pair steps
 reads_steps old new n steps rows has up holds h =
-    let a = answers select_steps 6 steps_of_deposit.filter steps_of_deposit.project steps_of_deposit.order _ steps_read old new (Int (pos n) ∷ []) rows refl has h in
-    let same : IsPermutation (map by_pair (rows_under n (step_table old.now.trees))) a.ordered = subst (λ all. IsPermutation all a.ordered) (steps_selected n (old.now.trees 6)) a.same in
-    let mine : IsPermutation (map step_entry steps) a.ordered = subst (λ all. IsPermutation all a.ordered) (steps_are_entries steps) (IsPermutation-trans _ _ _ (IsPermutation-map by_pair _ _ holds) same) in
-    let ordered : a.ordered ≡ map step_entry steps = sorted_unique (output_cmp steps_of_deposit) (on_total (λ (o : Output). o.0) (key_cmp_total (map (λ k. k.1) steps_of_deposit.order) 0)) (map step_entry steps) a.ordered (steps_rise steps up) mine a.sorted in
+    let a = answers select_steps 6 steps_of_deposit.filter steps_of_deposit.project steps_of_deposit.order _ steps_read
+    old new (Int (pos n) ∷ []) rows refl has h in
+    let same : IsPermutation (map by_pair (rows_under n (step_table old.now.trees))) a.ordered =
+    subst (λ all. IsPermutation all a.ordered) (steps_selected n (old.now.trees 6)) a.same in
+    let mine : IsPermutation (map step_entry steps) a.ordered = subst (λ all. IsPermutation all a.ordered)
+    (steps_are_entries steps) (IsPermutation-trans _ _ _ (IsPermutation-map by_pair _ _ holds) same) in
+    let ordered : a.ordered ≡ map step_entry steps = sorted_unique (output_cmp steps_of_deposit)
+    (on_total (λ (o : Output). o.0) (key_cmp_total (map (λ k. k.1) steps_of_deposit.order) 0))
+    (map step_entry steps) a.ordered (steps_rise steps up) mine a.sorted in
     a.shown ∙ ap (map (λ (o : Output). o.1)) ordered ∙ step_entries_show steps
 
-steps_shown : (n : ℕ) (rows : List Row) → map (λ (o : Output). o.1) (map by_pair (rows_under n (map columns_3 rows))) ≡ rows_under n (map columns_3 rows)
+steps_shown : (n : ℕ) (rows : List Row)
+    → map (λ (o : Output). o.1) (map by_pair (rows_under n (map columns_3 rows))) ≡ rows_under n (map columns_3 rows)
 steps_shown n [] = refl
 steps_shown n (r ∷ rows) = go (is_of n (columns_3 r)) (steps_shown n rows)
   where
-    go : (b : Bool) → map (λ (o : Output). o.1) (map by_pair (rows_under n (map columns_3 rows))) ≡ rows_under n (map columns_3 rows)
-        → map (λ (o : Output). o.1) (map by_pair (map (drop 1) (if b then columns_3 r ∷ filter (is_of n) (map columns_3 rows) else filter (is_of n) (map columns_3 rows))))
-        ≡ map (drop 1) (if b then columns_3 r ∷ filter (is_of n) (map columns_3 rows) else filter (is_of n) (map columns_3 rows))
+    go : (b : Bool) → map (λ (o : Output). o.1) (map by_pair (rows_under n (map columns_3 rows)))
+        ≡ rows_under n (map columns_3 rows)
+        → map (λ (o : Output). o.1) (map by_pair (map (drop 1)
+        (if b then columns_3 r ∷ filter (is_of n) (map columns_3 rows) else filter (is_of n) (map columns_3 rows))))
+        ≡ map (drop 1) (if b then columns_3 r ∷ filter (is_of n) (map columns_3 rows)
+        else filter (is_of n) (map columns_3 rows))
     go true h = ap (λ all. drop 1 (columns_3 r) ∷ all) h
     go false h = h
 
 -- Where the query shows these rows, the table holds them under the number, and no others.
-pub holds_steps : (old new : State) (n : ℕ) (rows : List Row) → HasTables old.now.schema → Shown select_steps (Int (pos n) ∷ []) old new rows → IsPermutation rows (rows_under n (step_table old.now.trees))
+pub holds_steps : (old new : State) (n : ℕ) (rows : List Row) → HasTables old.now.schema
+    → Shown select_steps (Int (pos n) ∷ []) old new rows → IsPermutation rows (rows_under n (step_table old.now.trees))
 holds_steps old new n rows has h =
-    let a = answers select_steps 6 steps_of_deposit.filter steps_of_deposit.project steps_of_deposit.order _ steps_read old new (Int (pos n) ∷ []) rows refl has h in
-    let same : IsPermutation (map by_pair (rows_under n (step_table old.now.trees))) a.ordered = subst (λ all. IsPermutation all a.ordered) (steps_selected n (old.now.trees 6)) a.same in
+    let a = answers select_steps 6 steps_of_deposit.filter steps_of_deposit.project steps_of_deposit.order _ steps_read
+    old new (Int (pos n) ∷ []) rows refl has h in
+    let same : IsPermutation (map by_pair (rows_under n (step_table old.now.trees))) a.ordered =
+    subst (λ all. IsPermutation all a.ordered) (steps_selected n (old.now.trees 6)) a.same in
     let second = IsPermutation-map (λ (o : Output). o.1) _ _ same in
     IsPermutation-sym _ _ (subst₂ IsPermutation (steps_shown n (old.now.trees 6)) (sym a.shown) second)
 

@@ -1,5 +1,6 @@
 -- A register in tables, and what a connection keeps.
-use Rattle.std.specs.Prelude.{◌≡◌, ℕ, zero, suc, ℤ, ◌+◌, ◌≤◌, pos, Bool, true, false, find, unwrap_or, List, [], ◌∷◌, map, length, IsTrue, Option, Some, None, slice_get}
+use Rattle.std.specs.Prelude.{◌≡◌, ℕ, zero, suc, ℤ, ◌+◌, ◌≤◌, pos, Bool, true, false, find, unwrap_or, List, [], ◌∷◌}
+use Rattle.std.specs.Prelude.{map, length, IsTrue, Option, Some, None, slice_get}
 use Rattle.std.specs.List.{AllByRecursion, AllZip, list_any}
 use Rattle.std.specs.Ordering.{is_eq}
 use Rattle.std.specs.List.Sorted.{IsPermutation}
@@ -18,7 +19,8 @@ use Rattle.reg_store.specs.Deposit.{Deposit, sents}
 use Rattle.reg_tables.specs.declared.format.Format.{Format}
 use Rattle.reg_tables.specs.declared.format.Format.TheVariants.{First, Second}
 use Rattle.reg_tables.specs.Tables.{number_of, register_schema, schema_of}
-use Rattle.reg_tables.specs.Rows.{columns_3, deposit_table, dictionary_row, format_row, is_of, line_table, mark_column, mark_row, step_table, placed_rows, step_pair, rows_under}
+use Rattle.reg_tables.specs.Rows.{columns_3, deposit_table, dictionary_row, format_row, is_of, line_table, mark_column}
+use Rattle.reg_tables.specs.Rows.{mark_row, step_table, placed_rows, step_pair, rows_under}
 use Rattle.reg_store.specs.Fit.{IsFileOf, IsNamed, kept_rows}
 use Rattle.reg_store.specs.Apart.{AreApart}
 
@@ -27,7 +29,8 @@ use Rattle.reg_store.specs.Apart.{AreApart}
 -- the deposits as rows, numbered from n
 abbrev pub deposit_rows : ℕ → List Sent → List Row
 deposit_rows n [] = []
-deposit_rows n (d ∷ more) = (Int (pos n) ∷ Words d.firm ∷ Words d.project ∷ Int d.embargo ∷ Bytes d.bytes ∷ []) ∷ deposit_rows (n + 1) more
+deposit_rows n (d ∷ more) =
+    (Int (pos n) ∷ Words d.firm ∷ Words d.project ∷ Int d.embargo ∷ Bytes d.bytes ∷ []) ∷ deposit_rows (n + 1) more
 
 -- the number in a value, and 0 in any other
 abbrev pub integer_in : Value → ℤ
@@ -36,7 +39,12 @@ integer_in _ = pos 0
 
 -- a row of deposits, by its columns
 abbrev pub deposit_in : Row → Sent
-deposit_in c = record { firm = bytes (column c 1); project = bytes (column c 2); embargo = integer_in (column c 3); bytes = bytes (column c 4) }
+deposit_in c = record {
+  firm = bytes (column c 1);
+  project = bytes (column c 2);
+  embargo = integer_in (column c 3);
+  bytes = bytes (column c 4);
+}
 
 -- the row has the number
 abbrev pub has_number : ℕ → Row → Bool
@@ -75,7 +83,8 @@ mark_table Second trees = map mark_column (trees 8)
 -- what was sent, numbered from n, each with its mark among these
 abbrev pub with_marks : ℕ → List Row → List Sent → List Deposit
 with_marks n marks [] = []
-with_marks n marks (d ∷ more) = record { sent = d; withdrawn = list_any (is_of n) marks } ∷ with_marks (n + 1) marks more
+with_marks n marks (d ∷ more) =
+    record { sent = d; withdrawn = list_any (is_of n) marks } ∷ with_marks (n + 1) marks more
 
 -- what the tables of format 2 say
 unfoldable pub deposits_in : Trees → List Deposit
@@ -132,7 +141,8 @@ LeavesList may_leave dictionary list = (trees : Trees) × may_leave trees × IsR
 
 -- a crash may leave tables that are a register of no list
 abbrev pub LeavesBroken : (Trees → Type 0) → Entries → Type 0
-LeavesBroken may_leave dictionary = (trees : Trees) × may_leave trees × ((list : List Deposit) → IsRegister (tables trees) dictionary list → ⊥)
+LeavesBroken may_leave dictionary =
+    (trees : Trees) × may_leave trees × ((list : List Deposit) → IsRegister (tables trees) dictionary list → ⊥)
 
 -- what a store that has not failed keeps true of its connection
 pub record KeepsRegister (s : State) (dictionary : Entries) (count : ℕ) : Type 0 where

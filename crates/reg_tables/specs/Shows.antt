@@ -1,5 +1,6 @@
 -- What the query for one deposit answers.
-use Rattle.std.proofs.Common.{◌≡◌, ℕ, zero, suc, ◌+◌, ◌<◌, ◌-◌, pos, List, [], ◌∷◌, filter, Some, Ok, Err, Result, IfOk, slice_get, ap, subst, subst₂, arith}
+use Rattle.std.proofs.Common.{◌≡◌, ℕ, zero, suc, ◌+◌, ◌<◌, ◌-◌, pos, List, [], ◌∷◌, filter, Some, Ok, Err, Result, IfOk}
+use Rattle.std.proofs.Common.{slice_get, ap, subst, subst₂, arith}
 use Rattle.std.specs.List.Sorted.{IsPermutation}
 use Rattle.sqlite.specs.declared.types.Value.TheVariants.{Int}
 use Rattle.sqlite.specs.Order.{Row}
@@ -17,7 +18,8 @@ use Rattle.reg_tables.specs.Pushes.{equal_at, apart_at}
 use Rattle.reg_tables.specs.Adopts.{shows_deposit}
 
 -- among the rows of a list one has the number of a deposit
-pub row_at : (m k : ℕ) (list : List Sent) (d : Sent) → slice_get list k ≡ Some d → filter (has_number (m + k)) (deposit_rows m list) ≡ given_deposit (m + k) d ∷ []
+pub row_at : (m k : ℕ) (list : List Sent) (d : Sent) → slice_get list k ≡ Some d
+    → filter (has_number (m + k)) (deposit_rows m list) ≡ given_deposit (m + k) d ∷ []
 row_at m k [] d at = absurd cc
 row_at m zero (x ∷ list) d at =
     let e : m ≡ m + 0 = omega arith in
@@ -26,17 +28,22 @@ row_at m zero (x ∷ list) d at =
     (rw (equal_at m) (ap (λ more. given_deposit m x ∷ more) (none_before m (m + 1) list (omega arith))))
 row_at m (suc k) (x ∷ list) d at =
     let e : (m + 1) + k ≡ m + suc k = omega arith in
-    rw (apart_at m (m + suc k) (λ same. absurd (omega (arith, same)))) (subst (λ (n : ℕ). filter (has_number n) (deposit_rows (m + 1) list) ≡ given_deposit n d ∷ []) e (row_at (m + 1) k list d at))
+    rw (apart_at m (m + suc k) (λ same. absurd (omega (arith, same)))) (subst (λ (n : ℕ).
+    filter (has_number n) (deposit_rows (m + 1) list) ≡ given_deposit n d ∷ []) e (row_at (m + 1) k list d at))
 
-pub row_of_number : (n : ℕ) (list : List Sent) (table : List Row) (d : Sent) → 0 < n → IsPermutation (deposit_rows 1 list) table → slice_get list (n - 1) ≡ Some d → filter (has_number n) table ≡ given_deposit n d ∷ []
+pub row_of_number : (n : ℕ) (list : List Sent) (table : List Row) (d : Sent) → 0 < n → IsPermutation
+    (deposit_rows 1 list) table → slice_get list (n - 1) ≡ Some d → filter (has_number n) table ≡ given_deposit n d ∷ []
 row_of_number n list table d low are at =
     let e : 1 + (n - 1) ≡ n = omega (arith, low) in
-    let one : filter (has_number n) (deposit_rows 1 list) ≡ given_deposit n d ∷ [] = subst (λ (m : ℕ). filter (has_number m) (deposit_rows 1 list) ≡ given_deposit m d ∷ []) e (row_at 1 (n - 1) list d at) in
-    one_permutation _ _ (subst (λ rows. IsPermutation rows (filter (has_number n) table)) one (IsPermutation-filter (has_number n) _ _ are))
+    let one : filter (has_number n) (deposit_rows 1 list) ≡ given_deposit n d ∷ [] = subst
+    (λ (m : ℕ). filter (has_number m) (deposit_rows 1 list) ≡ given_deposit m d ∷ []) e (row_at 1 (n - 1) list d at) in
+    one_permutation _ _
+    (subst (λ rows. IsPermutation rows (filter (has_number n) table)) one (IsPermutation-filter (has_number n) _ _ are))
 
 -- ---- a deposit
 
-pub deposit_by : {X : Type 0} (items : X → List Row) (old new : State) (r : Result X KeepError) (n : ℕ) → HasTables old.now.schema → IfOk r (λ x. Shown select_deposit (Int (pos n) ∷ []) old new (items x))
+pub deposit_by : {X : Type 0} (items : X → List Row) (old new : State) (r : Result X KeepError) (n : ℕ)
+    → HasTables old.now.schema → IfOk r (λ x. Shown select_deposit (Int (pos n) ∷ []) old new (items x))
     → IfOk r (λ x. IsPermutation (items x) (filter (has_number n) (deposit_table old.now.trees)))
 deposit_by items old new (Ok x) n has h = shows_deposit old new n (items x) has h
 deposit_by items old new (Err e) n has h = tt

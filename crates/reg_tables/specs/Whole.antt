@@ -1,5 +1,7 @@
 -- What `adopt` finds out of a deposit, and of all: as much as makes a register.
-use Rattle.std.proofs.Common.{◌≡◌, ℕ, zero, suc, ◌+◌, ◌-◌, ◌<◌, ◌≤◌, Bool, true, false, List, [], ◌∷◌, ◌++◌, map, filter, take, length, Option, Some, None, slice_get, refl, sym, ap, subst, subst₂, ◌∙◌, arith}
+use Rattle.std.proofs.Common.{◌≡◌, ℕ, zero, suc, ◌+◌, ◌-◌, ◌<◌, ◌≤◌, Bool, true, false, List, [], ◌∷◌, ◌++◌, map}
+use Rattle.std.proofs.Common.{filter, take, length, Option, Some, None, slice_get, refl, sym, ap, subst, subst₂, ◌∙◌}
+use Rattle.std.proofs.Common.{arith}
 use Rattle.std.proofs.Math.Logic.{∥∥₁_map, ∥∥₁_elim}
 use Rattle.std.proofs.Props.{props}
 use Rattle.std.specs.List.{AllByRecursion, AllZip}
@@ -16,7 +18,8 @@ use Rattle.reg_tables.specs.Tables.{number_of, schema_of}
 use Rattle.reg_store.specs.Fit.{IsFileOf, IsNamed, kept_rows}
 use Rattle.reg_store.specs.ApartLaws.{apart_all, apart_pair}
 use Rattle.reg_tables.specs.Digests.{IsFirst}
-use Rattle.reg_tables.specs.Rows.{deposit_table, given_deposit, columns_3, line_table, step_table, rows_under, placed_rows, step_pair}
+use Rattle.reg_tables.specs.Rows.{deposit_table, given_deposit, columns_3, line_table, step_table, rows_under}
+use Rattle.reg_tables.specs.Rows.{placed_rows, step_pair}
 use Rattle.reg_tables.specs.Register.{deposit_rows, has_number, meta_columns, file_lines, file_steps, HoldsSent}
 use Rattle.reg_tables.specs.Shows.{row_of_number}
 use Rattle.reg_tables.specs.Adopts.{number_rows, id_of, IsRead, adopts}
@@ -39,7 +42,8 @@ pub record HoldsBody (db : Database) (dictionary : Entries) (n : ℕ) (d : Sent)
   pub lines : HoldsLines db n (kept_rows file.groups)
   pub steps : HoldsSteps db n file.graph.steps
 
--- The deposit of a number is whole: its row is the only one, with names and a day; its bytes have no finding; its lines and steps are there; and no deposit of a smaller number is equal.
+-- The deposit of a number is whole: its row is the only one, with names and a day; its bytes have no finding; its lines
+-- and steps are there; and no deposit of a smaller number is equal.
 pub record IsWhole (db : Database) (dictionary : Entries) (n : ℕ) : Type 0 where
   pub deposit : Sent
   pub row : filter (has_number n) (deposit_table db.trees) ≡ given_deposit n deposit ∷ []
@@ -50,7 +54,8 @@ pub record IsWhole (db : Database) (dictionary : Entries) (n : ℕ) : Type 0 whe
 -- The numbers of the deposits are those from 1 to the count, which is at most 999,999; or they are not.
 abbrev pub Counts : Database → Option ℕ → Type 0
 Counts db (Some count) = (count ≤ 999999) × IsPermutation (number_rows 1 count) (map id_of (deposit_table db.trees))
-Counts db None = (list : List Sent) → length list ≤ 999999 → IsPermutation (deposit_rows 1 list) (deposit_table db.trees) → ⊥
+Counts db None =
+    (list : List Sent) → length list ≤ 999999 → IsPermutation (deposit_rows 1 list) (deposit_table db.trees) → ⊥
 
 -- Every deposit is whole.
 abbrev pub AreWhole : Database → Entries → ℕ → Type 0
@@ -65,7 +70,8 @@ pub record HasMeta (number : ℕ) (db : Database) (dictionary : Entries) : Type 
 
 -- ---- a register has whole deposits
 
-pub whole_at : {format : Format} (db : Database) (dictionary : Entries) (list : List Sent) → HoldsSent format db dictionary list → AreWhole db dictionary (length list)
+pub whole_at : {format : Format} (db : Database) (dictionary : Entries) (list : List Sent)
+    → HoldsSent format db dictionary list → AreWhole db dictionary (length list)
 whole_at db dictionary list r k low =
     let found = slice_get_in list k low in
     let d = found.0 in
@@ -84,11 +90,14 @@ whole_at db dictionary list r k low =
       };
       alone = λ m above below x row.
           (let there = slice_get_in list (m - 1) (omega (arith, above, below, low)) in
-          let one : there.0 ≡ x = same_deposit m there.0 x _ (row_of_number m list (deposit_table db.trees) there.0 above r.deposits there.1) row in
-          subst (λ (y : Sent). is_repeat d.firm d.project d.bytes y ≡ false) one (apart_pair list (m - 1) k d there.0 r.apart (omega (arith, above, below)) there.1 found.1));
+          let one : there.0 ≡ x = same_deposit m there.0 x _
+          (row_of_number m list (deposit_table db.trees) there.0 above r.deposits there.1) row in
+          subst (λ (y : Sent). is_repeat d.firm d.project d.bytes y ≡ false) one
+          (apart_pair list (m - 1) k d there.0 r.apart (omega (arith, above, below)) there.1 found.1));
     }
   where
-    named_at : (list : List Sent) (k : ℕ) (d : Sent) → AllByRecursion IsNamed list → slice_get list k ≡ Some d → IsNamed d
+    named_at : (list : List Sent) (k : ℕ) (d : Sent) → AllByRecursion IsNamed list
+        → slice_get list k ≡ Some d → IsNamed d
     named_at [] k d all at = absurd cc
     named_at (x ∷ list) zero d all at = let same : x ≡ d = cc in subst IsNamed same all.0
     named_at (x ∷ list) (suc k) d all at = named_at list k d all.1 at
@@ -96,31 +105,49 @@ whole_at db dictionary list r k low =
 -- ---- whole deposits make a register
 
 -- a list of what there is of each number below the count
-abbrev list_by : {X : Type 0} (P : ℕ → Type 0) (get : (k : ℕ) → P k → X) (count : ℕ) → ((k : ℕ) → k < count → P k) → List X
+abbrev list_by : {X : Type 0} (P : ℕ → Type 0) (get : (k : ℕ) → P k → X) (count : ℕ)
+    → ((k : ℕ) → k < count → P k) → List X
 list_by P get zero all = []
-list_by P get (suc count) all = get 0 (all 0 (omega arith)) ∷ list_by (λ k. P (suc k)) (λ k. get (suc k)) count (λ k low. all (suc k) (omega (arith, low)))
+list_by P get (suc count) all = get 0 (all 0 (omega arith))
+    ∷ list_by (λ k. P (suc k)) (λ k. get (suc k)) count (λ k low. all (suc k) (omega (arith, low)))
 
-list_long : {X : Type 0} (P : ℕ → Type 0) (get : (k : ℕ) → P k → X) (count : ℕ) (all : (k : ℕ) → k < count → P k) → length (list_by P get count all) ≡ count
+list_long : {X : Type 0} (P : ℕ → Type 0) (get : (k : ℕ) → P k → X) (count : ℕ) (all : (k : ℕ) → k < count → P k)
+    → length (list_by P get count all) ≡ count
 list_long P get zero all = refl
-list_long P get (suc count) all = ap suc (list_long (λ k. P (suc k)) (λ k. get (suc k)) count (λ k low. all (suc k) (omega (arith, low))))
+list_long P get (suc count) all =
+    ap suc (list_long (λ k. P (suc k)) (λ k. get (suc k)) count (λ k low. all (suc k) (omega (arith, low))))
 
-list_at : {X : Type 0} (P : ℕ → Type 0) (get : (k : ℕ) → P k → X) (count : ℕ) (all : (k : ℕ) → k < count → P k) (k : ℕ) (x : X) → slice_get (list_by P get count all) k ≡ Some x → (p : P k) × (get k p ≡ x)
+list_at : {X : Type 0} (P : ℕ → Type 0) (get : (k : ℕ) → P k → X) (count : ℕ) (all : (k : ℕ) → k < count → P k) (k : ℕ)
+    (x : X) → slice_get (list_by P get count all) k ≡ Some x → (p : P k) × (get k p ≡ x)
 list_at P get zero all k x at = absurd cc
 list_at P get (suc count) all zero x at = (all 0 (omega arith), cc)
-list_at P get (suc count) all (suc k) x at = list_at (λ j. P (suc j)) (λ j. get (suc j)) count (λ j low. all (suc j) (omega (arith, low))) k x at
+list_at P get (suc count) all (suc k) x at =
+    list_at (λ j. P (suc j)) (λ j. get (suc j)) count (λ j low. all (suc j) (omega (arith, low))) k x at
 
-list_zip : {X Y : Type 0} (R : X → Y → Type 0) (P : ℕ → Type 0) (get : (k : ℕ) → P k → X) (got : (k : ℕ) → P k → Y) (count : ℕ) (all : (k : ℕ) → k < count → P k) → ((k : ℕ) (p : P k) → R (get k p) (got k p)) → AllZip R (list_by P get count all) (list_by P got count all)
+list_zip : {X Y : Type 0} (R : X → Y → Type 0) (P : ℕ → Type 0) (get : (k : ℕ) → P k → X) (got : (k : ℕ) → P k → Y)
+    (count : ℕ) (all : (k : ℕ) → k < count → P k) → ((k : ℕ) (p : P k) → R (get k p) (got k p))
+    → AllZip R (list_by P get count all) (list_by P got count all)
 list_zip R P get got zero all each = tt
-list_zip R P get got (suc count) all each = (each 0 (all 0 (omega arith)), list_zip R (λ k. P (suc k)) (λ k. get (suc k)) (λ k. got (suc k)) count (λ k low. all (suc k) (omega (arith, low))) (λ k. each (suc k)))
+list_zip R P get got (suc count) all each = (
+  each 0 (all 0 (omega arith)),
+  list_zip R (λ k. P (suc k))
+      (λ k. get (suc k)) (λ k. got (suc k)) count (λ k low. all (suc k) (omega (arith, low))) (λ k. each (suc k)),
+)
 
-list_all_of : {X : Type 0} (R : X → Type 0) (P : ℕ → Type 0) (get : (k : ℕ) → P k → X) (count : ℕ) (all : (k : ℕ) → k < count → P k) → ((k : ℕ) (p : P k) → R (get k p)) → AllByRecursion R (list_by P get count all)
+list_all_of : {X : Type 0} (R : X → Type 0) (P : ℕ → Type 0) (get : (k : ℕ) → P k → X) (count : ℕ)
+    (all : (k : ℕ) → k < count → P k) → ((k : ℕ) (p : P k) → R (get k p)) → AllByRecursion R (list_by P get count all)
 list_all_of R P get zero all each = tt
-list_all_of R P get (suc count) all each = (each 0 (all 0 (omega arith)), list_all_of R (λ k. P (suc k)) (λ k. get (suc k)) count (λ k low. all (suc k) (omega (arith, low))) (λ k. each (suc k)))
+list_all_of R P get (suc count) all each = (
+  each 0 (all 0 (omega arith)),
+  list_all_of R (λ k. P (suc k))
+      (λ k. get (suc k)) count (λ k low. all (suc k) (omega (arith, low))) (λ k. each (suc k)),
+)
 
 -- what is there of each number, is there of all
 pub of_all : (P : ℕ → Type 0) (count : ℕ) → ((k : ℕ) → k < count → ∥ P k ∥₁) → ∥ ((k : ℕ) → k < count → P k) ∥₁
 of_all P zero each = let none : (k : ℕ) → k < 0 → P k = λ k low. absurd (omega (arith, low)) in ∣ none ∣₁
-of_all P (suc count) each = both (each 0 (omega arith)) (of_all (λ k. P (suc k)) count (λ k low. each (suc k) (omega (arith, low))))
+of_all P (suc count) each =
+    both (each 0 (omega arith)) (of_all (λ k. P (suc k)) count (λ k low. each (suc k) (omega (arith, low))))
   where
     join : P 0 → ((k : ℕ) → k < count → P (suc k)) → (k : ℕ) → k < suc count → P k
     join first rest zero low = first
@@ -129,9 +156,11 @@ of_all P (suc count) each = both (each 0 (omega arith)) (of_all (λ k. P (suc k)
     both : ∥ P 0 ∥₁ → ∥ ((k : ℕ) → k < count → P (suc k)) ∥₁ → ∥ ((k : ℕ) → k < suc count → P k) ∥₁
     both first rest = ∥∥₁_elim first (Prim.hlevel props) (λ one. ∥∥₁_map rest (λ more. join one more))
 
-pub adopts_whole : (format : Format) (db : Database) (dictionary : Entries) (count : ℕ) → db.schema ≡ schema_of format → IsDatabase db → HasMeta (number_of format) db dictionary → Counts db (Some count) → AreWhole db dictionary count
+pub adopts_whole : (format : Format) (db : Database) (dictionary : Entries) (count : ℕ) → db.schema ≡ schema_of format
+    → IsDatabase db → HasMeta (number_of format) db dictionary → Counts db (Some count) → AreWhole db dictionary count
     → (list : List Sent) × HoldsSent format db dictionary list × (length list ≡ count)
-adopts_whole format db dictionary count schema sound meta counts all = (list, adopts format db dictionary list read, long)
+adopts_whole format db dictionary count schema sound meta counts all =
+    (list, adopts format db dictionary list read, long)
   where
     P : ℕ → Type 0
     P k = IsWhole db dictionary (k + 1)
@@ -151,16 +180,19 @@ adopts_whole format db dictionary count schema sound meta counts all = (list, ad
     numbers : IsPermutation (number_rows 1 (length list)) (map id_of table)
     numbers = subst (λ n. IsPermutation (number_rows 1 n) (map id_of table)) (sym long) counts.1
 
-    rows : (k : ℕ) (d : Sent) → slice_get list k ≡ Some d → filter (has_number (1 + k)) table ≡ given_deposit (1 + k) d ∷ []
+    rows : (k : ℕ) (d : Sent) → slice_get list k ≡ Some d
+        → filter (has_number (1 + k)) table ≡ given_deposit (1 + k) d ∷ []
     rows k d at =
         let it = list_at P (λ k p. p.deposit) count all k d at in
         let e : k + 1 ≡ 1 + k = omega arith in
         subst₂ (λ (n : ℕ) (x : Sent). filter (has_number n) table ≡ given_deposit n x ∷ []) e it.1 it.0.row
 
-    earlier : (j k : ℕ) (d x : Sent) → j < k → slice_get list j ≡ Some x → slice_get list k ≡ Some d → is_repeat d.firm d.project d.bytes x ≡ false
+    earlier : (j k : ℕ) (d x : Sent) → j < k → slice_get list j ≡ Some x → slice_get list k ≡ Some d
+        → is_repeat d.firm d.project d.bytes x ≡ false
     earlier j k d x low first second =
         let it = list_at P (λ k p. p.deposit) count all k d second in
-        subst (λ (y : Sent). is_repeat y.firm y.project y.bytes x ≡ false) it.1 (it.0.alone (1 + j) (omega arith) (omega (arith, low)) x (rows j x first))
+        subst (λ (y : Sent). is_repeat y.firm y.project y.bytes x ≡ false) it.1
+        (it.0.alone (1 + j) (omega arith) (omega (arith, low)) x (rows j x first))
 
     read : IsRead format db dictionary list
     read = record {
@@ -177,6 +209,9 @@ adopts_whole format db dictionary count schema sound meta counts all = (list, ad
       named = list_all_of IsNamed P (λ k p. p.deposit) count all (λ k p. p.named);
       apart = apart_all list earlier;
       few = subst (λ (n : ℕ). n ≤ 999999) (sym long) counts.0;
-      lines = λ k file at. (let it = list_at P (λ k p. p.body.file) count all k file at in subst (λ (f : CheckedFile). IsPermutation (placed_rows 0 (kept_rows f.groups)) (rows_under (k + 1) (line_table db.trees))) it.1 it.0.body.lines);
-      steps = λ k file at. (let it = list_at P (λ k p. p.body.file) count all k file at in subst (λ (f : CheckedFile). IsPermutation (map step_pair f.graph.steps) (rows_under (k + 1) (step_table db.trees))) it.1 it.0.body.steps);
+      lines = λ k file at. (let it = list_at P (λ k p. p.body.file) count all k file at in
+          subst (λ (f : CheckedFile). IsPermutation (placed_rows 0 (kept_rows f.groups))
+          (rows_under (k + 1) (line_table db.trees))) it.1 it.0.body.lines);
+      steps = λ k file at. (let it = list_at P (λ k p. p.body.file) count all k file at in subst (λ (f : CheckedFile).
+          IsPermutation (map step_pair f.graph.steps) (rows_under (k + 1) (step_table db.trees))) it.1 it.0.body.steps);
     }

@@ -27,6 +27,7 @@ use crate::format::Format;
 use crate::gathering::take_shown;
 use crate::heads::{DigestedHead, into_head};
 use crate::lines::few_rows;
+use crate::progress::Progress;
 use crate::queries::query;
 use crate::readers::read_deposit;
 use crate::reading::{meta_rows, numbered_rows};
@@ -342,13 +343,14 @@ fn holds_deposit<S: Alter>(
 }
 
 /// Whether the deposits from 1 to the count are whole. Their heads and digests are put into the lists.
-pub(crate) fn holds_deposits<S: Alter>(
+pub(crate) fn holds_deposits<S: Alter, P: Progress>(
     conn: &mut Connection<S>,
     alloc: Global,
     dictionary: &Dictionary,
     count: u32,
     heads: &mut Vec<KeptHead>,
     digests: &mut Digests,
+    progress: &mut P,
 ) -> Result<bool, KeepError>
     requires idle { IsIdle (state S.Store conn.old) }
     requires none { heads.old.items ≡ [] }
@@ -372,9 +374,10 @@ pub(crate) fn holds_deposits<S: Alter>(
     // What is left in either case.
     ensures quiet { IsStill (state S.Store conn.old) (state S.Store conn.new) (fails result) }
 {
+    progress.checked(0, count);
     for at in 0..count {
         match holds_deposit(conn, alloc, dictionary, at + 1, heads, digests) {
-            Ok(true) => {}
+            Ok(true) => progress.checked(at + 1, count),
             Ok(false) => return Ok(false),
             Err(error) => return Err(error),
         }
@@ -384,12 +387,13 @@ pub(crate) fn holds_deposits<S: Alter>(
 
 /// How many deposits the register has, if the tables are one, whatever the marks are. Its tables are those of a format, and the dictionary is that of
 /// its meta; heads and digests are put into the lists.
-fn find_register<S: Alter>(
+fn find_register<S: Alter, P: Progress>(
     conn: &mut Connection<S>,
     alloc: Global,
     dictionary: &Dictionary,
     heads: &mut Vec<KeptHead>,
     digests: &mut Digests,
+    progress: &mut P,
 ) -> Result<u32, AdoptError>
     requires idle { IsIdle (state S.Store conn.old) }
     requires sound { HasCleanDisk (state S.Store conn.old) → IsDatabase (state S.Store conn.old).now }
@@ -423,7 +427,7 @@ fn find_register<S: Alter>(
         Ok(None) => return Err(AdoptError::NotRegister),
         Err(error) => return Err(AdoptError::from(error)),
     };
-    match holds_deposits(conn, alloc, dictionary, count, heads, digests) {
+    match holds_deposits(conn, alloc, dictionary, count, heads, digests, progress) {
         Ok(true) => Ok(count),
         Ok(false) => Err(AdoptError::NotRegister),
         Err(error) => Err(AdoptError::from(error)),
@@ -450,12 +454,13 @@ fn find_dictionary<S: Alter>(
 
 /// The dictionary of the register and how many deposits it has, if the tables are one of the format, whatever the marks are. Heads and digests are put
 /// into the lists.
-pub(crate) fn examine<S: Alter>(
+pub(crate) fn examine<S: Alter, P: Progress>(
     conn: &mut Connection<S>,
     alloc: Global,
     format: Format,
     heads: &mut Vec<KeptHead>,
     digests: &mut Digests,
+    progress: &mut P,
 ) -> Result<(Dictionary, u32), AdoptError>
     requires idle { IsIdle (state S.Store conn.old) }
     requires schema { HasCleanDisk (state S.Store conn.old) → (state S.Store conn.old).now.schema ≡ schema_of format }
@@ -484,7 +489,7 @@ pub(crate) fn examine<S: Alter>(
         Err(error) => return Err(error),
     };
     let _schema = conn.schema();
-    match find_register(conn, alloc, &dictionary, heads, digests) {
+    match find_register(conn, alloc, &dictionary, heads, digests, progress) {
         Ok(count) => Ok((dictionary, count)),
         Err(error) => Err(error),
     }

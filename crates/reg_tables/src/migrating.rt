@@ -20,6 +20,7 @@ use crate::examining::examine;
 use crate::format::Format;
 use crate::memory::Memory;
 use crate::opening::{close_file, connect};
+use crate::progress::{NoProgress, Progress};
 use crate::raising::SecondFormat;
 use crate::repeats::Digests;
 use crate::sql::SqlKeep;
@@ -42,7 +43,7 @@ impl<S: Alter> SqlKeep<S> {
     /// whole and with the same list.
     pub fn migrate_in(
         alloc: Global,
-        mut connection: Connection<S>,
+        connection: Connection<S>,
     ) -> Result<SqlKeep<S>, (MigrateError, Connection<S>)>
         // The register at success, and what a crash may leave.
         ensures migrated { IfOk result (λ k. MigratesRegister k.dictionary
@@ -61,7 +62,33 @@ impl<S: Alter> SqlKeep<S> {
         ensures left { IfErr result (λ e. SurvivesRefusedMigration e.0
             (state S.Store connection) (state S.Store e.1)) }
     {
-        match migrate_tables(&mut connection, alloc) {
+        SqlKeep::migrate_with(alloc, connection, &mut NoProgress)
+    }
+
+    /// As `migrate_in`. `progress` takes note of the deposits that are checked; no clause says so.
+    fn migrate_with<P: Progress>(
+        alloc: Global,
+        mut connection: Connection<S>,
+        progress: &mut P,
+    ) -> Result<SqlKeep<S>, (MigrateError, Connection<S>)>
+        // The register at success, and what a crash may leave.
+        ensures migrated { IfOk result (λ k. MigratesRegister k.dictionary
+            (state S.Store connection) (state S.Store k.connection)) }
+        ensures working { IfOk result (λ k. k.has_failed ≡ false) }
+        ensures made { IfOk result (λ k. SurvivesMigration (state S.Store connection) (state S.Store k.connection)) }
+
+        // Each refusal, by what the database was.
+        ensures refused { IfErr result (λ e. HasCleanDisk (state S.Store e.1)
+            → Adopts First (state S.Store connection).now (Err e.0)) }
+
+        // The connection that comes with a refusal, and what a crash may leave.
+        ensures same { IfErr result (λ e. is_store_failure e.0 ≡ false
+            → StaysIfClean (state S.Store connection) (state S.Store e.1)) }
+        ensures still { IfErr result (λ e. StaysIfOpen (state S.Store connection) (state S.Store e.1)) }
+        ensures left { IfErr result (λ e. SurvivesRefusedMigration e.0
+            (state S.Store connection) (state S.Store e.1)) }
+    {
+        match migrate_tables(&mut connection, alloc, progress) {
             Ok((dictionary, memory)) => Ok(SqlKeep {
                 connection,
                 dictionary,
@@ -86,7 +113,7 @@ impl SqlKeep<FileStore<File>> {
     ) -> Result<SqlKeep<FileStore<File>>, MigrateError>
         ensures working { IfOk result (λ k. k.has_failed ≡ false) }
     {
-        match SqlKeep::migrate_from(rt, alloc, path, Unknown) {
+        match SqlKeep::migrate_from(rt, alloc, path, Unknown, &mut NoProgress) {
             Ok(keep) => Ok(keep),
             Err((error, connection)) => {
                 close_file(None, connection);
@@ -101,12 +128,13 @@ impl<F: Start> SqlKeep<FileStore<FileFrom<F>>> {
     /// held.
     ///
     /// A file that cannot be opened is `Store`, or `NoMemory`; every other refusal comes with the connection that was
-    /// opened.
-    pub fn migrate_from(
+    /// opened. `progress` takes note of the deposits that are checked; no clause says so.
+    pub fn migrate_from<P: Progress>(
         rt: &HostRuntime,
         alloc: Global,
         path: &str,
         start: F,
+        progress: &mut P,
     ) -> Result<
         SqlKeep<FileStore<FileFrom<F>>>,
         (MigrateError, Option<Connection<FileStore<FileFrom<F>>>>),
@@ -122,7 +150,7 @@ impl<F: Start> SqlKeep<FileStore<FileFrom<F>>> {
             → IfSome e.1 (λ c. HasCleanDisk (file_state c) → IsTrue (file_state c).is_open)) }
     {
         match connect(rt, path, start) {
-            Ok(connection) => match SqlKeep::migrate_in(alloc, connection) {
+            Ok(connection) => match SqlKeep::migrate_with(alloc, connection, progress) {
                 Ok(keep) => Ok(keep),
                 Err((error, connection)) => Err((error, Some(connection))),
             },
@@ -133,9 +161,10 @@ impl<F: Start> SqlKeep<FileStore<FileFrom<F>>> {
 }
 
 /// Makes a register of format 1 one of format 2. Its dictionary, and what is known of its deposits.
-fn migrate_tables<S: Alter>(
+fn migrate_tables<S: Alter, P: Progress>(
     conn: &mut Connection<S>,
     alloc: Global,
+    progress: &mut P,
 ) -> Result<(Dictionary, Memory), AdoptError>
     // The register at success.
     ensures mode { OnOk result (conn.new.in_transaction ≡ false) }
@@ -160,7 +189,7 @@ fn migrate_tables<S: Alter>(
         Ok(()) => {}
         Err(error) => return Err(error),
     }
-    let known = match recall_first(conn, alloc) {
+    let known = match recall_first(conn, alloc, progress) {
         Ok(known) => known,
         Err(error) => return Err(error),
     };
@@ -171,9 +200,10 @@ fn migrate_tables<S: Alter>(
 }
 
 /// The dictionary of a register of format 1 and what is known of its deposits, if the tables are one.
-fn recall_first<S: Alter>(
+fn recall_first<S: Alter, P: Progress>(
     conn: &mut Connection<S>,
     alloc: Global,
+    progress: &mut P,
 ) -> Result<(Dictionary, Memory), AdoptError>
     requires idle { IsIdle (state S.Store conn.old) }
     requires schema { HasCleanDisk (state S.Store conn.old) → (state S.Store conn.old).now.schema ≡ first_schema }
@@ -187,7 +217,14 @@ fn recall_first<S: Alter>(
 {
     let mut heads = Vec::new(alloc);
     let mut digests = Digests::new(alloc);
-    let (dictionary, count) = match examine(conn, alloc, Format::First, &mut heads, &mut digests) {
+    let (dictionary, count) = match examine(
+        conn,
+        alloc,
+        Format::First,
+        &mut heads,
+        &mut digests,
+        progress,
+    ) {
         Ok(found) => found,
         Err(error) => return Err(error),
     };

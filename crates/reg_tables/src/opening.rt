@@ -23,6 +23,7 @@ use crate::change::change_tables;
 use crate::creating::NewTables;
 use crate::format::Format;
 use crate::memory::Memory;
+use crate::progress::{NoProgress, Progress};
 use crate::reading::read_error;
 use crate::recall::recall;
 use crate::schema::is_vacant;
@@ -200,7 +201,32 @@ impl<S: Alter> SqlKeep<S> {
     /// before.
     pub fn adopt(
         alloc: Global,
+        connection: Connection<S>,
+    ) -> Result<SqlKeep<S>, (AdoptError, Connection<S>)>
+        // The register at success, and what a crash may leave.
+        ensures adopted { IfOk result (λ k. AdoptsRegister k.dictionary
+            (state S.Store connection) (state S.Store k.connection)) }
+        ensures working { IfOk result (λ k. k.has_failed ≡ false) }
+        ensures quiet { IfOk result (λ k. Survives (state S.Store connection) (state S.Store k.connection) (λ _. ⊥)) }
+
+        // Each refusal, by what the database was.
+        ensures refused { IfErr result (λ e. HasCleanDisk (state S.Store e.1)
+            → Adopts Second (state S.Store connection).now (Err e.0)) }
+
+        // The connection that comes with a refusal, and what a crash may leave.
+        ensures same { IfErr result (λ e. is_store_failure e.0 ≡ false
+            → StaysIfClean (state S.Store connection) (state S.Store e.1)) }
+        ensures still { IfErr result (λ e. StaysIfOpen (state S.Store connection) (state S.Store e.1)) }
+        ensures left { IfErr result (λ e. Survives (state S.Store connection) (state S.Store e.1) (λ _. ⊥)) }
+    {
+        SqlKeep::adopt_with(alloc, connection, &mut NoProgress)
+    }
+
+    /// As `adopt`. `progress` takes note of the deposits that are checked; no clause says so.
+    pub fn adopt_with<P: Progress>(
+        alloc: Global,
         mut connection: Connection<S>,
+        progress: &mut P,
     ) -> Result<SqlKeep<S>, (AdoptError, Connection<S>)>
         // The register at success, and what a crash may leave.
         ensures adopted { IfOk result (λ k. AdoptsRegister k.dictionary
@@ -222,7 +248,7 @@ impl<S: Alter> SqlKeep<S> {
             Ok(()) => {}
             Err(error) => return Err((error, connection)),
         }
-        match recall(&mut connection, alloc) {
+        match recall(&mut connection, alloc, progress) {
             Ok((dictionary, memory)) => Ok(SqlKeep {
                 connection,
                 dictionary,
@@ -312,7 +338,7 @@ impl SqlKeep<FileStore<File>> {
     ) -> Result<SqlKeep<FileStore<File>>, AdoptError>
         ensures working { IfOk result (λ k. k.has_failed ≡ false) }
     {
-        match SqlKeep::open_from(rt, alloc, path, Unknown) {
+        match SqlKeep::open_from(rt, alloc, path, Unknown, &mut NoProgress) {
             Ok(keep) => Ok(keep),
             Err((error, connection)) => {
                 close_file(None, connection);
@@ -394,12 +420,14 @@ impl<F: Start> SqlKeep<FileStore<FileFrom<F>>> {
 
     /// The register that the database at a path holds, where `F` stands for what its files held.
     ///
-    /// A file that cannot be opened is `Store`, or `NoMemory`; every other refusal comes with the connection that was opened.
-    pub fn open_from(
+    /// A file that cannot be opened is `Store`, or `NoMemory`; every other refusal comes with the connection that was
+    /// opened. `progress` takes note of the deposits that are checked; no clause says so.
+    pub fn open_from<P: Progress>(
         rt: &HostRuntime,
         alloc: Global,
         path: &str,
         start: F,
+        progress: &mut P,
     ) -> Result<
         SqlKeep<FileStore<FileFrom<F>>>,
         (AdoptError, Option<Connection<FileStore<FileFrom<F>>>>),
@@ -415,7 +443,7 @@ impl<F: Start> SqlKeep<FileStore<FileFrom<F>>> {
             → IfSome e.1 (λ c. HasCleanDisk (file_state c) → IsTrue (file_state c).is_open)) }
     {
         match connect(rt, path, start) {
-            Ok(connection) => match SqlKeep::adopt(alloc, connection) {
+            Ok(connection) => match SqlKeep::adopt_with(alloc, connection, progress) {
                 Ok(keep) => Ok(keep),
                 Err((error, connection)) => Err((error, Some(connection))),
             },

@@ -14,15 +14,17 @@ use crate::examining::examine;
 use crate::format::Format;
 use crate::marks::find_marks;
 use crate::memory::Memory;
+use crate::progress::Progress;
 use crate::repeats::Digests;
 use ags_dict::Dictionary;
 use sqlite::{Alter, Connection};
 use std::alloc::Global;
 
 /// The dictionary of the register and what is known of its deposits, if the tables are a register.
-pub(crate) fn recall<S: Alter>(
+pub(crate) fn recall<S: Alter, P: Progress>(
     conn: &mut Connection<S>,
     alloc: Global,
+    progress: &mut P,
 ) -> Result<(Dictionary, Memory), AdoptError>
     requires idle { IsIdle (state S.Store conn.old) }
     requires schema { HasCleanDisk (state S.Store conn.old) → (state S.Store conn.old).now.schema ≡ register_schema }
@@ -40,7 +42,14 @@ pub(crate) fn recall<S: Alter>(
 {
     let mut heads = Vec::new(alloc);
     let mut digests = Digests::new(alloc);
-    let (dictionary, count) = match examine(conn, alloc, Format::Second, &mut heads, &mut digests) {
+    let (dictionary, count) = match examine(
+        conn,
+        alloc,
+        Format::Second,
+        &mut heads,
+        &mut digests,
+        progress,
+    ) {
         Ok(found) => found,
         Err(error) => return Err(error),
     };

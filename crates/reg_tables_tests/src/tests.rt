@@ -5,6 +5,7 @@ ghost use Rattle.std.specs.Prelude.{◌≡◌, ◌<◌, ◌≤◌, false, length
 mod calls;
 mod files;
 mod migrating;
+mod progress;
 mod refusals;
 mod stops;
 

@@ -5,6 +5,8 @@ use Rattle.sqlite.proofs.Callers.{survives_begin}
 use Rattle.reg_tables.specs.Commits.{Makes}
 use Rattle.reg_tables.specs.KeepLaws.{ChangesOf}
 use Rattle.reg_tables.proofs.AddsLemmas.{change_left}
+use Rattle.reg_tables.proofs.change.commit.Given.{Over}
+use Rattle.reg_tables.proofs.change.commit.Goals.{After-commit}
 use Rattle.reg_tables.proofs.change.commit.Goals as goal
 
 pub returns-clause-made : goal.returns-clause-made
@@ -17,28 +19,22 @@ returns-clause-made g c clean =
     let made = rw c.transaction-tx.ensures.begun at (c.in_ok-make.ensures.made early).change in
     subst (λ h. P (state g.S.Store h).now) same (subst P (sym (c.in_ok-commit.ensures.ok late).1.now_is) made)
 
+-- what a crash may leave once the commit was tried
+left : (g : Over) (c : After-commit g) → Survives (state g.S.Store c.args.conn.now) (state g.S.Store c.commit.new.self.0)
+    (ChangesOf (g.C.Change.makes c.args.change.now) (state g.S.Store c.args.conn.now))
+left g c =
+    let last = state g.S.Store c.make.new.tx.conn.now in
+    let begun = c.transaction-tx.ensures.begun in
+    let inside = survives_begin g.S.Store c.args.conn.now last _ (rw begun at c.make.ensures.survives) in
+    let made = λ (clean : HasCleanDisk last). rw begun at (c.in_ok-make.ensures.made clean).change in
+    change_left (g.C.Change.makes c.args.change.now) _ last _ inside made c.commit.ensures.survives
+
 pub returns-clause-crash : goal.returns-clause-crash
 returns-clause-crash g c =
-    let old = c.args.conn.now in
-    let last = c.make.new.tx.conn.now in
-    let end = c.commit.new.self.0 in
-    let begun = c.transaction-tx.ensures.begun in
-    let Change = g.C.Change.makes c.args.change.now in
-    let same : end ≡ c.conn-2-1.given.0 = search rules in
-    let inside = survives_begin g.S.Store old (state g.S.Store last) _ (rw begun at c.make.ensures.survives) in
-    let made = λ (clean : HasCleanDisk (state g.S.Store last)). rw begun at (c.in_ok-make.ensures.made clean).change in
-    subst (λ h. Survives (state g.S.Store old) (state g.S.Store h) (ChangesOf Change (state g.S.Store old))) same
-    (change_left Change (state g.S.Store old) (state g.S.Store last) (state g.S.Store end) inside made c.commit.ensures.survives)
+    let same : c.commit.new.self.0 ≡ c.conn-2-1.given.0 = search rules in
+    rw same at (left g (goal.at.returns-clause-crash g c).After-commit)
 
 pub returns-in_err-commit-clause-crash : goal.returns-in_err-commit-clause-crash
 returns-in_err-commit-clause-crash g c =
-    let old = c.args.conn.now in
-    let last = c.make.new.tx.conn.now in
-    let end = c.commit.new.self.0 in
-    let begun = c.transaction-tx.ensures.begun in
-    let Change = g.C.Change.makes c.args.change.now in
-    let same : end ≡ c.conn-2-1.given.0 = search rules in
-    let inside = survives_begin g.S.Store old (state g.S.Store last) _ (rw begun at c.make.ensures.survives) in
-    let made = λ (clean : HasCleanDisk (state g.S.Store last)). rw begun at (c.in_ok-make.ensures.made clean).change in
-    subst (λ h. Survives (state g.S.Store old) (state g.S.Store h) (ChangesOf Change (state g.S.Store old))) same
-    (change_left Change (state g.S.Store old) (state g.S.Store last) (state g.S.Store end) inside made c.commit.ensures.survives)
+    let same : c.commit.new.self.0 ≡ c.conn-2-1.given.0 = search rules in
+    rw same at (left g (goal.at.returns-in_err-commit-clause-crash g c).After-commit)

@@ -4,7 +4,7 @@ use Rattle.sqlite.specs.Held.{state}
 use Rattle.reg_tables.specs.KeepLaws.{adopted_keeps}
 use Rattle.reg_tables.specs.Memory.{Agrees}
 use Rattle.reg_tables.specs.Register.{deposits_in}
-use Rattle.reg_tables.proofs.sql.SqlKeep.migrate_in.Goals as goal
+use Rattle.reg_tables.proofs.sql.SqlKeep.migrate_with.Goals as goal
 
 pub invariant_of-result : goal.invariant_of-result
 invariant_of-result g c =

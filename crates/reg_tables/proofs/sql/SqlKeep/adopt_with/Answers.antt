@@ -8,7 +8,7 @@ use Rattle.reg_tables.specs.KeepLaws.{adopted_keeps, adopted_list}
 use Rattle.reg_tables.specs.Memory.{Agrees}
 use Rattle.reg_tables.specs.Quiet.{clean_before}
 use Rattle.reg_tables.specs.Register.{IsRegister, deposits_in}
-use Rattle.reg_tables.proofs.sql.SqlKeep.adopt.Goals as goal
+use Rattle.reg_tables.proofs.sql.SqlKeep.adopt_with.Goals as goal
 
 pub invariant_of-result : goal.invariant_of-result
 invariant_of-result g c =
