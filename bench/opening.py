@@ -35,6 +35,8 @@ CASES = {
     "flat_256": (files.flat, 1_000_000, 256, 1),
     "deep_512": (files.deep, 1_000_000, 512, 1),
     "flat_512": (files.flat, 1_000_000, 512, 1),
+    "deep_640": (files.deep, 1_000_000, 640, 1),
+    "deep_704": (files.deep, 1_000_000, 704, 1),
 }
 ALONE = ("flat_1", "deep_1", "flat_4", "deep_4", "hundred", "many")
 NAME = "North bank"
