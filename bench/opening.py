@@ -35,6 +35,7 @@ CASES = {
     "flat_256": (files.flat, 1_000_000, 256, 1),
     "deep_512": (files.deep, 1_000_000, 512, 1),
     "flat_512": (files.flat, 1_000_000, 512, 1),
+    "deep_576": (files.deep, 1_000_000, 576, 1),
     "deep_640": (files.deep, 1_000_000, 640, 1),
     "deep_704": (files.deep, 1_000_000, 704, 1),
 }
