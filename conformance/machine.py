@@ -518,12 +518,11 @@ def logged(callers, data, status, text):
 
 # ---- the command line
 
-OPTIONS = {"init": "store dictionary", "check": "dictionary",
-           "deposit": "store policy callers token project day embargo",
-           "extract": "store policy callers token project day groups", "list": "store policy callers token project day",
-           "withdraw": "store policy callers token project day", "migrate": "store",
-           "serve": "store policy callers port connections day day-by-clock patience end-on-failure log"}
-FLAGS = {"day-by-clock", "end-on-failure"}
+ASKING = "store policy callers token project day progress"
+OPTIONS = {"init": "store dictionary", "check": "dictionary", "deposit": ASKING + " embargo",
+           "extract": ASKING + " groups", "list": ASKING, "withdraw": ASKING, "migrate": "store progress",
+           "serve": "store policy callers port connections day day-by-clock patience end-on-failure log progress"}
+FLAGS = {"day-by-clock", "end-on-failure", "progress"}
 MAY_LACK = {"day", "embargo", "groups", "patience", "log", *FLAGS}
 PLACES = {"init": 0, "check": 1, "deposit": 1, "extract": 1, "list": 0, "withdraw": 1, "migrate": 0, "serve": 0}
 
