@@ -14,8 +14,8 @@ use Rattle.reg_tables.specs.Tables.{HasTables}
 use Rattle.reg_tables.specs.Texts.{select_lines, select_steps}
 use Rattle.reg_tables.specs.Rows.{placed_rows, step_pair}
 use Rattle.reg_tables.specs.Methods.{HoldsLines, HoldsSteps}
-use Rattle.reg_tables.specs.Reads.{holds_lines, reads_lines}
-use Rattle.reg_tables.specs.ReadsSteps.{holds_steps, reads_steps}
+use Rattle.reg_tables.proofs.ReadsLaws.{holds_lines, reads_lines}
+use Rattle.reg_tables.proofs.ReadsStepsLaws.{holds_steps, reads_steps}
 use Rattle.reg_tables.specs.Whole.{Compares, Tests}
 use Rattle.reg_tables.proofs.ExamineLemmas.{tests_rows}
 use Rattle.reg_tables.proofs.RowsLemmas.{places_long}

@@ -11,12 +11,15 @@ use Rattle.sqlite.proofs.StateLemmas.{survives_weaker}
 use Rattle.ags_rows.specs.declared.TheConstants.{READABLE}
 use Rattle.reg_tables.specs.Tables.{first_schema, no_schema}
 use Rattle.reg_tables.specs.Texts.{create_meta, create_deposits, create_lines, create_steps, create_withdrawals, fill_meta}
-use Rattle.reg_tables.specs.Inserts.{fills_meta}
+use Rattle.reg_tables.proofs.InsertsLaws.{fills_meta}
 use Rattle.reg_tables.specs.Commits.{Makes}
 use Rattle.reg_tables.specs.Inside.{Inside, Ran}
 use Rattle.reg_tables.specs.KeepLaws.{ChangesOf}
 use Rattle.reg_tables.specs.Making.{AreDictionary}
-use Rattle.reg_tables.specs.Creates.{HasFirst, HasFour, IsEmptyRegister, IsNewRegister, MakesWithdrawals, makes_meta, makes_deposits, makes_lines, makes_steps, makes_withdrawals, all_five, first_two, last_two, filled, new_left, SurvivesMaking}
+use Rattle.reg_tables.specs.Creates.{HasFirst, HasFour, IsEmptyRegister, IsNewRegister, MakesWithdrawals}
+use Rattle.reg_tables.specs.Creates.{SurvivesMaking}
+use Rattle.reg_tables.proofs.CreatesLaws.{makes_meta, makes_deposits, makes_lines, makes_steps, makes_withdrawals}
+use Rattle.reg_tables.proofs.CreatesLaws.{all_five, first_two, last_two, filled, new_left}
 use Rattle.reg_tables.proofs.ExamineLemmas.{one_dictionary}
 
 pub first_ran : (a b c : State) → a.now.schema ≡ no_schema → Ran create_meta [] a b → Ran create_deposits [] b c → Inside (λ _ db. HasFirst db) a c

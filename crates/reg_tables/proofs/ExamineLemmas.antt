@@ -36,7 +36,8 @@ use Rattle.reg_tables.specs.Register.{HoldsSent, deposit_rows, has_number, integ
 use Rattle.reg_tables.specs.RegisterLaws.{rows-length}
 use Rattle.reg_tables.specs.Digests.{AreBelow, HasEqual, HasNoEqual, HoldsDigests, IsFirst, IsNew, is_among, numbers_under, own_digest}
 use Rattle.reg_tables.specs.Heads.{IsDigestedAt, head_of}
-use Rattle.reg_tables.specs.Methods.{HoldsLines, HoldsSteps, same_deposit}
+use Rattle.reg_tables.specs.Methods.{HoldsLines, HoldsSteps}
+use Rattle.reg_tables.proofs.MethodsLaws.{same_deposit}
 use Rattle.reg_tables.proofs.RepeatsLemmas.{false_if, same_digest}
 use Rattle.reg_tables.specs.declared.adopting.AdoptError.{AdoptError}
 use Rattle.reg_tables.specs.declared.adopting.AdoptError.TheVariants.{NotRegister, Version, Store, NoMemory}
@@ -44,7 +45,8 @@ use Rattle.reg_tables.specs.Formats.{HasFormat, IsFormatRow}
 use Rattle.reg_tables.specs.Adoption.{Adopts, CountsDeposits, Examines, HasNoOtherFormat, MetaOf, ReadsMeta}
 use Rattle.reg_tables.proofs.RowsLemmas.{numbers_long}
 use Rattle.reg_tables.specs.Adopts.{id_of, number_rows}
-use Rattle.reg_tables.specs.Whole.{AreWhole, Counts, HasMeta, HoldsBody, IsWhole, Tests, adopts_whole, of_all, whole_at}
+use Rattle.reg_tables.specs.Whole.{AreWhole, Counts, HasMeta, HoldsBody, IsWhole, Tests}
+use Rattle.reg_tables.proofs.WholeLaws.{adopts_whole, of_all, whole_at}
 use Rattle.reg_tables.proofs.FormatLemmas.{tables_first}
 
 -- the rows that are shown are the table's, and are these where the table holds these

@@ -19,8 +19,8 @@ use Rattle.reg_tables.specs.declared.format.Format.{Format}
 use Rattle.reg_tables.specs.Tables.{HasTables, format_tables, number_of, schema_of}
 use Rattle.reg_tables.specs.Tables as tables
 use Rattle.reg_tables.specs.Texts.{select_meta}
-use Rattle.reg_tables.specs.Meaning.{all_meta, plainly}
-use Rattle.reg_tables.specs.Answers.{answered, passes, shown_of}
+use Rattle.reg_tables.proofs.MeaningLaws.{all_meta, plainly}
+use Rattle.reg_tables.proofs.AnswersLaws.{answered, passes, shown_of}
 use Rattle.reg_tables.specs.Rows.{columns_3}
 use Rattle.reg_tables.specs.Formats.{IsFormatRow, StartsWithMeta}
 use Rattle.reg_tables.specs.Quiet.{IsAsBefore}

@@ -18,9 +18,10 @@ use Rattle.reg_tables.specs.Rows.{deposit_table}
 use Rattle.reg_tables.specs.Register.{deposit_rows, deposits_in, KeepsRegister}
 use Rattle.reg_tables.specs.Digests.{IsRowOf}
 use Rattle.reg_tables.specs.Heads.{AreHeads, HoldsHeads, head_of}
-use Rattle.reg_tables.specs.Methods.{slice_get_in}
-use Rattle.reg_tables.specs.Quiet.{IsStill, clean_before}
-use Rattle.reg_tables.specs.Shows.{row_of_number}
+use Rattle.reg_tables.proofs.MethodsLaws.{slice_get_in}
+use Rattle.reg_tables.specs.Quiet.{IsStill}
+use Rattle.reg_tables.proofs.QuietLaws.{clean_before}
+use Rattle.reg_tables.proofs.ShowsLaws.{row_of_number}
 
 -- one deposit more, one head more
 pub heads_push : (heads : List KeptHead) (list more : List Sent) (d : Sent) → AreHeads heads list → more ≡ list ++ d ∷ [] → AreHeads (heads ++ head_of d ∷ []) more

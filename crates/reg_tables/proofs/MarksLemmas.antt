@@ -9,7 +9,7 @@ use Rattle.sqlite.specs.Effect.{Database}
 use Rattle.reg_tables.specs.Found.{AreMarksInOrder}
 use Rattle.reg_tables.specs.declared.format.Format.TheVariants.{Second}
 use Rattle.reg_tables.specs.Adoption.{HoldsMarks}
-use Rattle.reg_tables.specs.Methods.{slice_get_in}
+use Rattle.reg_tables.proofs.MethodsLaws.{slice_get_in}
 use Rattle.reg_tables.specs.Register.{integer_in, mark_rows, mark_table}
 use Rattle.reg_tables.specs.Rows.{mark_row}
 

@@ -24,11 +24,13 @@ use Rattle.reg_tables.specs.declared.recent.RecentGraph.{RecentGraph}
 use Rattle.reg_tables.specs.declared.recent.RecentRows.{RecentRows}
 use Rattle.reg_tables.specs.Digests.{AddsNumber, AreBelow, AreDigested, PutsNumbers, numbers_under, own_digest}
 use Rattle.reg_tables.specs.Heads.{head_of}
-use Rattle.reg_tables.specs.KeepLaws.{keeps_quiet}
+use Rattle.reg_tables.proofs.KeepLaws.{keeps_quiet}
 use Rattle.reg_tables.specs.Memory.{Agrees, AreKnown, IsComing, IsKnown, IsNumberOf, Notes, bare_of, marked_known, new_known, with_mark}
-use Rattle.reg_tables.specs.Quiet.{IsStill, clean_before}
+use Rattle.reg_tables.specs.Quiet.{IsStill}
+use Rattle.reg_tables.proofs.QuietLaws.{clean_before}
 use Rattle.reg_tables.specs.Register.{KeepsRegister, deposits_in, marks_of}
-use Rattle.reg_tables.specs.Marks.{deposit_there, length_marked, long_sents, marked_none, sents_push}
+use Rattle.reg_tables.proofs.MarksLaws.{deposit_there, length_marked, marked_none, sents_push}
+use Rattle.reg_tables.specs.Marks.{long_sents}
 use Rattle.reg_tables.proofs.RepeatsLemmas.{below_more, below_same, digested_push, digested_same}
 
 -- ---- what is known of each deposit

@@ -39,13 +39,14 @@ use Rattle.reg_store.specs.Keep.{is_store}
 use Rattle.reg_tables.specs.Commits.{Makes}
 use Rattle.reg_tables.specs.declared.adopting.AdoptError.TheVariants.{Store}
 use Rattle.reg_tables.specs.Adoption.{adopt_error}
-use Rattle.reg_tables.specs.Quiet.{IsStill, clean_before}
+use Rattle.reg_tables.specs.Quiet.{IsStill}
+use Rattle.reg_tables.proofs.QuietLaws.{clean_before}
 use Rattle.reg_tables.specs.declared.format.Format.TheVariants.{First, Second}
-use Rattle.reg_tables.specs.Creates.{makes_withdrawals}
-use Rattle.reg_tables.specs.Inserts.{same_value, went}
+use Rattle.reg_tables.proofs.CreatesLaws.{makes_withdrawals}
+use Rattle.reg_tables.proofs.InsertsLaws.{same_value, went}
 use Rattle.reg_tables.specs.Inside.{Inside, Ran}
-use Rattle.reg_tables.specs.Marks.{none_withdrawn, sents_unmarked}
-use Rattle.reg_tables.specs.Meaning.{format_raised, raise_is, raise_plain}
+use Rattle.reg_tables.proofs.MarksLaws.{none_withdrawn, sents_unmarked}
+use Rattle.reg_tables.proofs.MeaningLaws.{format_raised, raise_is, raise_plain}
 use Rattle.reg_tables.specs.KeepLaws.{ChangesOf}
 use Rattle.reg_tables.specs.declared.memory.Memory.{Memory}
 use Rattle.reg_tables.specs.declared.repeats.Digests.{Digests}
@@ -58,7 +59,8 @@ use Rattle.reg_tables.specs.Register.{deposit_rows, deposits_in, file_lines, fil
 use Rattle.reg_tables.specs.RegisterLaws.{sents_back}
 use Rattle.reg_tables.specs.Rows.{columns_3, columns_5, dictionary_row, mark_column, rows_under}
 use Rattle.reg_tables.specs.Tables.{first_schema, meta, register_schema}
-use Rattle.reg_tables.specs.Turns.{read_back, unmarked_register}
+use Rattle.reg_tables.specs.Turns.{read_back}
+use Rattle.reg_tables.proofs.TurnsLaws.{unmarked_register}
 use Rattle.reg_tables.specs.Texts.{create_withdrawals, raise_format, select_meta}
 use Rattle.reg_tables.proofs.FormatLemmas.{asks_meta}
 use Rattle.reg_tables.proofs.OpenLemmas.{found_tables}

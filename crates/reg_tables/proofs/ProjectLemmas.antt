@@ -25,9 +25,10 @@ use Rattle.reg_store.specs.Fit.{IsFileOf, kept_rows}
 use Rattle.reg_tables.specs.Rows.{line_table, step_table, placed_rows, step_pair, rows_under}
 use Rattle.reg_tables.specs.Register.{deposits_in, KeepsRegister}
 use Rattle.reg_store.specs.Project.{project_from, project_of, targets_of}
-use Rattle.reg_tables.specs.ReadsProject.{reads_front, reads_targets, same_targets, target_cell}
-use Rattle.reg_tables.specs.ReadsSteps.{same_places}
-use Rattle.reg_tables.specs.Methods.{held_file, same_file, graph_ascends}
+use Rattle.reg_tables.proofs.ReadsProjectLaws.{reads_front, reads_targets, same_targets}
+use Rattle.reg_tables.specs.ReadsProject.{target_cell}
+use Rattle.reg_tables.proofs.ReadsStepsLaws.{same_places}
+use Rattle.reg_tables.proofs.MethodsLaws.{held_file, same_file, graph_ascends}
 
 -- ---- what is shown
 

@@ -22,7 +22,8 @@ use Rattle.reg_store.specs.Keep.{is_store}
 use Rattle.reg_tables.specs.declared.adopting.AdoptError.{AdoptError}
 use Rattle.reg_tables.specs.declared.adopting.AdoptError.TheVariants.{NoMemory, Store}
 use Rattle.reg_tables.specs.Adoption.{adopt_error, is_store_failure}
-use Rattle.reg_tables.specs.Quiet.{IsAsBefore, IsStill, clean_before, quiet_read}
+use Rattle.reg_tables.specs.Quiet.{IsAsBefore, IsStill}
+use Rattle.reg_tables.proofs.QuietLaws.{clean_before, quiet_read}
 
 pub plain_at : (sql : List ℕ) (s : State) → IsPlainText sql → HasTables s.now.schema → IsPlain (understood s.now.schema sql)
 plain_at sql s plain has = plain s.now.schema has

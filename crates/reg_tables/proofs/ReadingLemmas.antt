@@ -16,10 +16,11 @@ use Rattle.reg_store.specs.Keep.{sent_of}
 use Rattle.reg_tables.specs.Rows.{given_deposit, line_table, step_table, placed_rows, step_pair, rows_under}
 use Rattle.ags_links.specs.Walks.{StepGraph}
 use Rattle.reg_store.specs.Fit.{kept_rows}
-use Rattle.reg_tables.specs.DataCount.{is_shown_data, counted, counted_shown}
+use Rattle.reg_tables.specs.DataCount.{is_shown_data}
+use Rattle.reg_tables.proofs.DataCountLaws.{counted, counted_shown}
 use Rattle.reg_tables.specs.Methods.{HasRows, HasSteps}
-use Rattle.reg_tables.specs.Reads.{holds_lines, reads_lines}
-use Rattle.reg_tables.specs.ReadsSteps.{holds_steps, reads_steps, same_places, same_pairs}
+use Rattle.reg_tables.proofs.ReadsLaws.{holds_lines, reads_lines}
+use Rattle.reg_tables.proofs.ReadsStepsLaws.{holds_steps, reads_steps, same_places, same_pairs}
 
 pub kept_from : (n : ℕ) (rows found : List Row) (r : Result Kept KeepError) → IsPermutation rows found → IfOk r (λ kept. rows ≡ given_deposit n (sent_of kept) ∷ []) → IfOk r (λ kept. found ≡ given_deposit n (sent_of kept) ∷ [])
 kept_from n rows found (Ok kept) same read = one_permutation (given_deposit n (sent_of kept)) found (subst (λ all. IsPermutation all found) read same)

@@ -4,8 +4,9 @@ use Rattle.ags_dict.specs.Entries.{Entries}
 use Rattle.sqlite.specs.Effect.{Database}
 use Rattle.sqlite.specs.State.{State, HasCleanDisk}
 use Rattle.reg_store.specs.Keep.{Reads}
-use Rattle.reg_tables.specs.KeepLaws.{crash_same, whole_same}
-use Rattle.reg_tables.specs.Quiet.{IsStill, clean_before}
+use Rattle.reg_tables.proofs.KeepLaws.{crash_same, whole_same}
+use Rattle.reg_tables.specs.Quiet.{IsStill}
+use Rattle.reg_tables.proofs.QuietLaws.{clean_before}
 use Rattle.reg_tables.specs.Register.{deposits_in, LeavesBroken, LeavesList}
 
 module _ {K : Type 0} (held : K → State) (dictionary : K → Entries) (limit : ℕ) (has_failed : K → Bool) where

@@ -18,7 +18,8 @@ use Rattle.reg_tables.specs.declared.repeats.Digests.{Digests}
 use Rattle.reg_tables.specs.Adoption.{Adopts, FindsMarks, HoldsMarks}
 use Rattle.reg_tables.specs.Digests.{AreBelow, AreDigested, HoldsDigests}
 use Rattle.reg_tables.specs.Heads.{AreHeads, HoldsHeads, head_of}
-use Rattle.reg_tables.specs.Marks.{long_sents, marks_paired, paired, sents_paired}
+use Rattle.reg_tables.specs.Marks.{long_sents}
+use Rattle.reg_tables.proofs.MarksLaws.{marks_paired, paired, sents_paired}
 use Rattle.reg_tables.specs.Memory.{Agrees, Recalls}
 use Rattle.reg_tables.specs.Register.{HoldsSent, IsRegister, deposit_rows, deposits_in, mark_rows, mark_table, marks_of}
 use Rattle.reg_tables.specs.RegisterLaws.{rows-length}

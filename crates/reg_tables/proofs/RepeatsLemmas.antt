@@ -28,11 +28,12 @@ use Rattle.reg_store.specs.Sent.{Sent, is_repeat, number_of}
 use Rattle.reg_store.specs.Deposit.{sents}
 use Rattle.reg_tables.specs.Digests.{AddsNumber, AreBelow, AreDigested, HasEqual, HasNoEqual, HoldsDigests, IsRowOf, digest_of, is_among, numbers_under, own_digest}
 use Rattle.reg_tables.specs.Marks.{long_sents}
-use Rattle.reg_tables.specs.Methods.{same_deposit, slice_get_in}
-use Rattle.reg_tables.specs.Quiet.{IsStill, clean_before}
+use Rattle.reg_tables.proofs.MethodsLaws.{same_deposit, slice_get_in}
+use Rattle.reg_tables.specs.Quiet.{IsStill}
+use Rattle.reg_tables.proofs.QuietLaws.{clean_before}
 use Rattle.reg_tables.specs.Register.{deposit_rows, deposits_in, KeepsRegister}
 use Rattle.reg_tables.specs.Rows.{deposit_table}
-use Rattle.reg_tables.specs.Shows.{row_of_number}
+use Rattle.reg_tables.proofs.ShowsLaws.{row_of_number}
 
 -- ---- a number more at the end of a list
 

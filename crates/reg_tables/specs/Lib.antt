@@ -2,7 +2,6 @@ pub mod Tables
 pub mod Texts
 pub mod Meaning
 pub mod Rows
-pub mod Put
 pub mod Inserts
 pub mod Inside
 pub mod Filed
@@ -17,12 +16,7 @@ pub mod Digests
 pub mod Heads
 pub mod KeepLaws
 pub mod Creates
-pub mod Answers
-pub mod Reads
 pub mod Adopts
-pub mod Foreign
-pub mod Shows
-pub mod ReadsSteps
 pub mod ReadsProject
 pub mod Methods
 pub mod DataCount
@@ -30,7 +24,6 @@ pub mod Small
 pub mod Memory
 pub mod Found
 pub mod Formats
-pub mod Ordered
 pub mod Schemas
 pub mod Whole
 pub mod Adoption

@@ -14,7 +14,7 @@ use sqlite::{Alter, Connection};
 use std::alloc::Global;
 
 /// The steps that are kept of a deposit, between its DATA rows.
-#[tactic(auto, using(crate::specs::Quiet::quiet_then, crate::specs::Quiet::quiet_read, crate::specs::Quiet::idle_then))]
+#[tactic(auto, using(crate::proofs::QuietLaws::quiet_then, crate::proofs::QuietLaws::quiet_read, crate::proofs::QuietLaws::idle_then))]
 pub(crate) fn read_graph<S: Alter>(
     conn: &mut Connection<S>,
     alloc: Global,

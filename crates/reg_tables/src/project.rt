@@ -89,7 +89,7 @@ fn wanting(read: Result<Option<ProjectRow>, AllocError>) -> Result<Option<Projec
 }
 
 /// The row of PROJ of a deposit. Where PROJ is the first group of its file no other row is read than the first ones.
-#[tactic(auto, using(crate::specs::Quiet::quiet_then, crate::specs::Quiet::quiet_read, crate::specs::Quiet::idle_then))]
+#[tactic(auto, using(crate::proofs::QuietLaws::quiet_then, crate::proofs::QuietLaws::quiet_read, crate::proofs::QuietLaws::idle_then))]
 pub(crate) fn find_project<S: Alter>(
     conn: &mut Connection<S>,
     alloc: Global,

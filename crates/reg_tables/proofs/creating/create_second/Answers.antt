@@ -1,5 +1,5 @@
 use Rattle.std.proofs.lemmas.Result.{on_ok_weaker}
-use Rattle.reg_tables.specs.Quiet.{clean_before}
+use Rattle.reg_tables.proofs.QuietLaws.{clean_before}
 use Rattle.reg_tables.proofs.CreateLemmas.{second_ran}
 use Rattle.reg_tables.proofs.creating.create_second.Goals as goal
 

@@ -1,7 +1,7 @@
 use Rattle.std.proofs.Common.{◌+◌, Some, Err, refl, subst}
 use Rattle.sqlite.specs.Effect.{Database}
 use Rattle.sqlite.specs.Held.{state}
-use Rattle.reg_tables.specs.Quiet.{clean_before, idle_then, quiet_then}
+use Rattle.reg_tables.proofs.QuietLaws.{clean_before, idle_then, quiet_then}
 use Rattle.reg_tables.specs.Adoption.{CountsDeposits, Examines, InEachFormat}
 use Rattle.reg_tables.specs.Digests.{HoldsDigests}
 use Rattle.reg_tables.specs.Heads.{HoldsHeads}

@@ -1,6 +1,6 @@
 use Rattle.std.proofs.Common.{rules, ◌≡◌}
 use Rattle.sqlite.specs.Held.{state}
-use Rattle.reg_tables.specs.Quiet.{clean_before}
+use Rattle.reg_tables.proofs.QuietLaws.{clean_before}
 use Rattle.reg_tables.specs.Tables.{number_of}
 use Rattle.reg_tables.proofs.ExamineLemmas.{meta_of}
 use Rattle.reg_tables.proofs.examining.find_dictionary.Goals as goal

@@ -3,7 +3,7 @@ use Rattle.sqlite.specs.Effect.{Database}
 use Rattle.sqlite.specs.State.{State}
 use Rattle.sqlite.specs.Held.{state}
 use Rattle.reg_tables.specs.Adoption.{Examines}
-use Rattle.reg_tables.specs.Quiet.{clean_before, idle_then, quiet_then}
+use Rattle.reg_tables.proofs.QuietLaws.{clean_before, idle_then, quiet_then}
 use Rattle.reg_tables.specs.Whole.{AreWhole, Counts, Tests}
 use Rattle.reg_tables.specs.Digests.{HoldsDigests}
 use Rattle.reg_tables.specs.Heads.{HoldsHeads}

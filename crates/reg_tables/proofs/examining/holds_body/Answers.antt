@@ -3,7 +3,7 @@ use Rattle.sqlite.specs.Held.{state}
 use Rattle.ags_check.specs.Findings.{Findings}
 use Rattle.reg_store.specs.Keep.{sent_of}
 use Rattle.reg_store.specs.Fit.{IsFileOf}
-use Rattle.reg_tables.specs.Quiet.{quiet_none}
+use Rattle.reg_tables.proofs.QuietLaws.{quiet_none}
 use Rattle.reg_tables.proofs.ExamineLemmas.{body_tests, no_body, no_file}
 use Rattle.reg_tables.proofs.examining.holds_body.Goals as goal
 

@@ -3,8 +3,8 @@ use Rattle.sqlite.specs.Tree.{IsAscending}
 use Rattle.sqlite.specs.Held.{state}
 use Rattle.ags_links.specs.Steps.{IsBefore}
 use Rattle.reg_store.specs.Fit.{kept_rows}
-use Rattle.reg_tables.specs.Methods.{graph_ascends}
-use Rattle.reg_tables.specs.Quiet.{quiet_none}
+use Rattle.reg_tables.proofs.MethodsLaws.{graph_ascends}
+use Rattle.reg_tables.proofs.QuietLaws.{quiet_none}
 use Rattle.reg_tables.proofs.ExamineLemmas.{file_tests}
 use Rattle.reg_tables.proofs.examining.holds_checked.Goals as goal
 

@@ -4,7 +4,7 @@ use Rattle.sqlite.specs.Effect.{Database}
 use Rattle.sqlite.specs.Held.{state}
 use Rattle.reg_tables.specs.Digests.{AreBelow, HoldsDigests}
 use Rattle.reg_tables.specs.Heads.{IsDigestedAt, head_of}
-use Rattle.reg_tables.specs.Quiet.{clean_before, idle_then, quiet_none, quiet_then}
+use Rattle.reg_tables.proofs.QuietLaws.{clean_before, idle_then, quiet_none, quiet_then}
 use Rattle.reg_tables.specs.Whole.{IsWhole}
 use Rattle.reg_tables.proofs.ExamineLemmas.{tests_all, tests_false, tests_true, whole_more, whole_not}
 use Rattle.reg_tables.proofs.HeadsLemmas.{heads_read, taken_all}

@@ -3,7 +3,7 @@ use Rattle.sqlite.specs.Effect.{Database}
 use Rattle.sqlite.specs.Held.{state}
 use Rattle.std.specs.List.Sorted.{IsPermutation}
 use Rattle.reg_tables.specs.Rows.{rows_under, step_table, step_pair}
-use Rattle.reg_tables.specs.Quiet.{clean_before, idle_then, quiet_then}
+use Rattle.reg_tables.proofs.QuietLaws.{clean_before, idle_then, quiet_then}
 use Rattle.reg_tables.proofs.ExamineLemmas.{tests_false, tests_first, tests_later, tests_true}
 use Rattle.reg_tables.proofs.examining.holds_file.Goals as goal
 

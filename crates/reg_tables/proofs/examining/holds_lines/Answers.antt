@@ -1,7 +1,7 @@
 use Rattle.std.proofs.Common.{rules, arith, ◌≡◌, subst}
 use Rattle.sqlite.specs.State.{HasCleanDisk}
 use Rattle.sqlite.specs.Held.{state}
-use Rattle.reg_tables.specs.Meaning.{lines_read}
+use Rattle.reg_tables.proofs.MeaningLaws.{lines_read}
 use Rattle.reg_tables.specs.Rows.{placed_rows}
 use Rattle.reg_tables.specs.Whole.{Compares}
 use Rattle.reg_tables.proofs.CompareLemmas.{lines_told}

@@ -1,7 +1,7 @@
 use Rattle.std.proofs.Common.{rules, arith, ◌≡◌, map, subst}
 use Rattle.sqlite.specs.State.{HasCleanDisk}
 use Rattle.sqlite.specs.Held.{state}
-use Rattle.reg_tables.specs.Meaning.{steps_read}
+use Rattle.reg_tables.proofs.MeaningLaws.{steps_read}
 use Rattle.reg_tables.specs.Rows.{step_pair}
 use Rattle.reg_tables.specs.Whole.{Compares}
 use Rattle.reg_tables.proofs.CompareLemmas.{steps_told}

@@ -2,7 +2,7 @@ use Rattle.std.proofs.Common.{rules, ◌≡◌, refl, ◌∷◌, []}
 use Rattle.sqlite.specs.Held.{state}
 use Rattle.reg_store.specs.Keep.{sent_of}
 use Rattle.reg_tables.specs.Rows.{given_deposit}
-use Rattle.reg_tables.specs.Quiet.{clean_before, idle_then, quiet_then}
+use Rattle.reg_tables.proofs.QuietLaws.{clean_before, idle_then, quiet_then}
 use Rattle.reg_tables.proofs.ExamineLemmas.{whole_tests, only_shown, tests_none, head_shown}
 use Rattle.reg_tables.proofs.examining.whole_head.Goals as goal
 

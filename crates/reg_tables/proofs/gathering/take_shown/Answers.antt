@@ -1,5 +1,5 @@
 use Rattle.sqlite.specs.Held.{state}
-use Rattle.reg_tables.specs.Quiet.{quiet_read}
+use Rattle.reg_tables.proofs.QuietLaws.{quiet_read}
 use Rattle.reg_tables.proofs.QueryLemmas.{ok_quiet, refused_quiet, settled_then}
 use Rattle.reg_tables.proofs.gathering.take_shown.Goals as goal
 

@@ -4,7 +4,7 @@ use Rattle.sqlite.specs.State.{HasCleanDisk}
 use Rattle.sqlite.specs.Held.{state}
 use Rattle.sqlite.specs.Values.{bound}
 use Rattle.reg_tables.specs.Rows.{joined, step_rows}
-use Rattle.reg_tables.specs.Inserts.{puts_eight_steps}
+use Rattle.reg_tables.proofs.InsertsLaws.{puts_eight_steps}
 use Rattle.reg_tables.proofs.lines.insert_eight_steps.Goals as goal
 
 pub returns-clause-put : goal.returns-clause-put

@@ -2,7 +2,7 @@ use Rattle.std.proofs.Common.{rules, arith, ◌≡◌}
 use Rattle.std.proofs.lemmas.Result.{on_ok_weaker}
 use Rattle.sqlite.specs.State.{HasCleanDisk}
 use Rattle.sqlite.specs.Held.{state}
-use Rattle.reg_tables.specs.Inserts.{puts_line}
+use Rattle.reg_tables.proofs.InsertsLaws.{puts_line}
 use Rattle.reg_tables.proofs.lines.insert_line.Goals as goal
 
 pub returns-clause-put : goal.returns-clause-put

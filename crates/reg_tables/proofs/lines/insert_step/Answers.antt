@@ -2,7 +2,7 @@ use Rattle.std.proofs.Common.{arith}
 use Rattle.std.proofs.lemmas.Result.{on_ok_weaker}
 use Rattle.sqlite.specs.State.{HasCleanDisk}
 use Rattle.sqlite.specs.Held.{state}
-use Rattle.reg_tables.specs.Inserts.{puts_step}
+use Rattle.reg_tables.proofs.InsertsLaws.{puts_step}
 use Rattle.reg_tables.proofs.lines.insert_step.Goals as goal
 
 pub returns-clause-put : goal.returns-clause-put

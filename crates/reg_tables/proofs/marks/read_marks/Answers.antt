@@ -4,8 +4,8 @@ use Rattle.sqlite.specs.Listing.{understood}
 use Rattle.sqlite.specs.State.{HasCleanDisk}
 use Rattle.sqlite.specs.Held.{state}
 use Rattle.sqlite.proofs.Callers.{IsPlain}
-use Rattle.reg_tables.specs.Meaning.{all_marks_read}
-use Rattle.reg_tables.specs.Ordered.{marks_by}
+use Rattle.reg_tables.proofs.MeaningLaws.{all_marks_read}
+use Rattle.reg_tables.proofs.OrderedLaws.{marks_by}
 use Rattle.reg_tables.specs.Texts.{select_marks}
 use Rattle.reg_tables.proofs.marks.read_marks.Goals as goal
 

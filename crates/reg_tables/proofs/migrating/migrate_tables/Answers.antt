@@ -6,7 +6,7 @@ use Rattle.reg_tables.specs.declared.adopting.AdoptError.TheVariants.{Store}
 use Rattle.reg_tables.specs.declared.format.Format.TheVariants.{First}
 use Rattle.reg_tables.specs.Adoption.{Adopts}
 use Rattle.reg_tables.specs.Migrates.{IsMigrated, Migrates}
-use Rattle.reg_tables.specs.Quiet.{clean_before}
+use Rattle.reg_tables.proofs.QuietLaws.{clean_before}
 use Rattle.reg_tables.proofs.MigrateLemmas.{migrated_list, migrates_then, recalled_then, refused_then}
 use Rattle.reg_tables.proofs.migrating.migrate_tables.Goals as goal
 

@@ -3,7 +3,7 @@ use Rattle.sqlite.specs.Held.{state}
 use Rattle.sqlite.proofs.StateLemmas.{survives_weaker}
 use Rattle.reg_store.specs.declared.keep.KeepError.TheVariants.{NoMemory}
 use Rattle.reg_store.specs.Keep.{is_store}
-use Rattle.reg_tables.specs.Creates.{new_empty}
+use Rattle.reg_tables.proofs.CreatesLaws.{new_empty}
 use Rattle.reg_tables.specs.Tables.{no_schema}
 use Rattle.reg_tables.proofs.CreateLemmas.{making_left}
 use Rattle.reg_tables.proofs.QueryLemmas.{survives_same}

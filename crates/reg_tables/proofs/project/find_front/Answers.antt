@@ -1,7 +1,7 @@
 use Rattle.std.proofs.Common.{arith}
 use Rattle.sqlite.specs.State.{HasCleanDisk}
 use Rattle.sqlite.specs.Held.{state}
-use Rattle.reg_tables.specs.Meaning.{front_read}
+use Rattle.reg_tables.proofs.MeaningLaws.{front_read}
 use Rattle.reg_tables.proofs.ProjectLemmas.{front_lines}
 use Rattle.reg_tables.proofs.project.find_front.Goals as goal
 

@@ -1,7 +1,7 @@
 use Rattle.std.proofs.Common.{arith}
 use Rattle.sqlite.specs.State.{HasCleanDisk}
 use Rattle.sqlite.specs.Held.{state}
-use Rattle.reg_tables.specs.Meaning.{targets_read}
+use Rattle.reg_tables.proofs.MeaningLaws.{targets_read}
 use Rattle.reg_tables.proofs.ProjectLemmas.{targets_shown}
 use Rattle.reg_tables.proofs.project.find_targets.Goals as goal
 

@@ -1,7 +1,7 @@
 use Rattle.std.proofs.Common.{arith}
 use Rattle.sqlite.specs.State.{HasCleanDisk}
 use Rattle.sqlite.specs.Held.{state}
-use Rattle.reg_tables.specs.Meaning.{lines_read}
+use Rattle.reg_tables.proofs.MeaningLaws.{lines_read}
 use Rattle.reg_tables.proofs.ReadingLemmas.{data_read}
 use Rattle.reg_tables.proofs.reading.find_data.Goals as goal
 

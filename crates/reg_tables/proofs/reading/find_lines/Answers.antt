@@ -1,7 +1,7 @@
 use Rattle.std.proofs.Common.{arith}
 use Rattle.sqlite.specs.State.{HasCleanDisk}
 use Rattle.sqlite.specs.Held.{state}
-use Rattle.reg_tables.specs.Meaning.{lines_read as lines_text}
+use Rattle.reg_tables.proofs.MeaningLaws.{lines_read as lines_text}
 use Rattle.reg_tables.proofs.ReadingLemmas.{lines_read, lines_held}
 use Rattle.reg_tables.proofs.reading.find_lines.Goals as goal
 

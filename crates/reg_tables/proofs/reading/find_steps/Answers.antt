@@ -1,7 +1,7 @@
 use Rattle.std.proofs.Common.{arith}
 use Rattle.sqlite.specs.State.{HasCleanDisk}
 use Rattle.sqlite.specs.Held.{state}
-use Rattle.reg_tables.specs.Meaning.{steps_read as steps_text}
+use Rattle.reg_tables.proofs.MeaningLaws.{steps_read as steps_text}
 use Rattle.reg_tables.proofs.ReadingLemmas.{steps_read, steps_held}
 use Rattle.reg_tables.proofs.reading.find_steps.Goals as goal
 

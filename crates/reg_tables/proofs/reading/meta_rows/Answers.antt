@@ -1,8 +1,8 @@
 use Rattle.std.proofs.Common.{arith}
 use Rattle.sqlite.specs.State.{HasCleanDisk}
 use Rattle.sqlite.specs.Held.{state}
-use Rattle.reg_tables.specs.Meaning.{all_meta_read}
-use Rattle.reg_tables.specs.Ordered.{meta_by, meta_found_by}
+use Rattle.reg_tables.proofs.MeaningLaws.{all_meta_read}
+use Rattle.reg_tables.proofs.OrderedLaws.{meta_by, meta_found_by}
 use Rattle.reg_tables.proofs.reading.meta_rows.Goals as goal
 
 pub query-requires-clause-plain : goal.query-requires-clause-plain

@@ -1,8 +1,8 @@
 use Rattle.std.proofs.Common.{arith}
 use Rattle.sqlite.specs.State.{HasCleanDisk}
 use Rattle.sqlite.specs.Held.{state}
-use Rattle.reg_tables.specs.Meaning.{deposit_read}
-use Rattle.reg_tables.specs.Shows.{deposit_by}
+use Rattle.reg_tables.proofs.MeaningLaws.{deposit_read}
+use Rattle.reg_tables.proofs.ShowsLaws.{deposit_by}
 use Rattle.reg_tables.proofs.reading.numbered_rows.Goals as goal
 
 pub query-requires-clause-plain : goal.query-requires-clause-plain

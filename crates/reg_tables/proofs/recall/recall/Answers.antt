@@ -3,7 +3,7 @@ use Rattle.sqlite.specs.Effect.{Database}
 use Rattle.sqlite.specs.Held.{state}
 use Rattle.reg_tables.specs.declared.format.Format.TheVariants.{Second}
 use Rattle.reg_tables.specs.Adoption.{FindsMarks, HoldsMarks}
-use Rattle.reg_tables.specs.Quiet.{clean_before}
+use Rattle.reg_tables.proofs.QuietLaws.{clean_before}
 use Rattle.reg_tables.proofs.ExamineLemmas.{refused_sent}
 use Rattle.reg_tables.proofs.RecallLemmas.{recalled, refused_marks}
 use Rattle.reg_tables.proofs.recall.recall.Goals as goal

@@ -1,6 +1,6 @@
 use Rattle.std.proofs.Common.{rules, ◌≡◌, false, true, refl}
 use Rattle.sqlite.specs.Held.{state}
-use Rattle.reg_tables.specs.Quiet.{clean_before, idle_then, quiet_none, quiet_then}
+use Rattle.reg_tables.proofs.QuietLaws.{clean_before, idle_then, quiet_none, quiet_then}
 use Rattle.reg_tables.proofs.RepeatsLemmas.{equal_by, no_more_by, none_yet}
 use Rattle.reg_tables.proofs.repeats.find_equal.Goals as goal
 

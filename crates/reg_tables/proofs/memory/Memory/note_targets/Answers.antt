@@ -5,7 +5,7 @@ use Rattle.reg_store.specs.Deposit.{sents}
 use Rattle.reg_store.specs.Keep.{OfDeposit}
 use Rattle.reg_store.specs.Reading.{HasTargets}
 use Rattle.reg_tables.specs.Memory.{HasNoTarget}
-use Rattle.reg_tables.specs.Marks.{sent_at}
+use Rattle.reg_tables.proofs.MarksLaws.{sent_at}
 use Rattle.reg_tables.proofs.MemoryLemmas.{known_here, known_set}
 use Rattle.reg_tables.proofs.memory.Memory.note_targets.Goals as goal
 

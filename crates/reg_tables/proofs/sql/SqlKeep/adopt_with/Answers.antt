@@ -4,9 +4,9 @@ use Rattle.sqlite.specs.State.{HasCleanDisk}
 use Rattle.sqlite.specs.Held.{state}
 use Rattle.reg_tables.specs.declared.format.Format.TheVariants.{Second}
 use Rattle.reg_tables.specs.Adoption.{Adopts}
-use Rattle.reg_tables.specs.KeepLaws.{adopted_keeps, adopted_list}
+use Rattle.reg_tables.proofs.KeepLaws.{adopted_keeps, adopted_list}
 use Rattle.reg_tables.specs.Memory.{Agrees}
-use Rattle.reg_tables.specs.Quiet.{clean_before}
+use Rattle.reg_tables.proofs.QuietLaws.{clean_before}
 use Rattle.reg_tables.specs.Register.{IsRegister, deposits_in}
 use Rattle.reg_tables.proofs.sql.SqlKeep.adopt_with.Goals as goal
 

@@ -7,13 +7,15 @@ use Rattle.reg_store.specs.Deposit.{Deposit, sents, unmarked}
 use Rattle.reg_store.specs.Sent.{Sent}
 use Rattle.reg_store.specs.Keep.{is_store}
 use Rattle.reg_store.specs.Fit.{IsFileOf, kept_rows}
-use Rattle.reg_tables.specs.Quiet.{clean_before}
+use Rattle.reg_tables.proofs.QuietLaws.{clean_before}
 use Rattle.reg_tables.specs.Rows.{deposit_from}
 use Rattle.reg_tables.specs.Inserts.{AddsFile}
 use Rattle.reg_tables.specs.Memory.{Agrees, IsComing}
 use Rattle.reg_tables.specs.Register.{KeepsRegister, deposits_in}
-use Rattle.reg_tables.specs.RegisterLaws.{IsReady}
-use Rattle.reg_tables.specs.KeepLaws.{ChangesOf, HoldsNext, PutsOf, Turns, counted_at, crash_at, idle_at, keeps_same, next_at, put_turns, schema_at, settled_of, whole_next}
+use Rattle.reg_tables.proofs.RegisterLaws.{IsReady}
+use Rattle.reg_tables.specs.KeepLaws.{ChangesOf, PutsOf}
+use Rattle.reg_tables.proofs.KeepLaws.{HoldsNext, Turns, counted_at, crash_at, idle_at, keeps_same, next_at, put_turns}
+use Rattle.reg_tables.proofs.KeepLaws.{schema_at, settled_of, whole_next}
 use Rattle.reg_tables.proofs.AddsLemmas.{opened_at}
 use Rattle.reg_tables.proofs.sql.SqlKeepKeep.add.Given.{Over}
 use Rattle.reg_tables.proofs.sql.SqlKeepKeep.add.Goals as goal

@@ -4,10 +4,11 @@ use Rattle.reg_store.specs.declared.keep.KeepError.{KeepError}
 use Rattle.reg_store.specs.declared.keep.Kept.{Kept}
 use Rattle.reg_store.specs.Keep.{fails, sent_of}
 use Rattle.reg_tables.specs.Digests.{IsRowOf}
-use Rattle.reg_tables.specs.Quiet.{IsStill, clean_before}
+use Rattle.reg_tables.specs.Quiet.{IsStill}
+use Rattle.reg_tables.proofs.QuietLaws.{clean_before}
 use Rattle.reg_tables.specs.Register.{deposits_in}
-use Rattle.reg_tables.specs.KeepLaws.{idle_at, keeps_quiet}
-use Rattle.reg_tables.specs.Methods.{deposit_read_at}
+use Rattle.reg_tables.proofs.KeepLaws.{idle_at, keeps_quiet}
+use Rattle.reg_tables.proofs.MethodsLaws.{deposit_read_at}
 use Rattle.reg_tables.proofs.MemoryLemmas.{agrees_still}
 use Rattle.reg_tables.proofs.ReadsLemmas.{reads_still}
 use Rattle.reg_tables.proofs.sql.SqlKeepKeep.deposit.Goals as goal

@@ -1,7 +1,7 @@
 use Rattle.std.proofs.Common.{refl}
 use Rattle.std.proofs.lemmas.Result.{IfOk-weaker}
 use Rattle.sqlite.specs.Held.{state}
-use Rattle.reg_tables.specs.Quiet.{quiet_none}
+use Rattle.reg_tables.proofs.QuietLaws.{quiet_none}
 use Rattle.reg_tables.specs.Register.{deposits_in}
 use Rattle.reg_tables.proofs.ReadsLemmas.{reads_still}
 use Rattle.reg_tables.proofs.sql.SqlKeepKeep.head.Goals as goal

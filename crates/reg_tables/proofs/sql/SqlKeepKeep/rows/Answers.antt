@@ -1,8 +1,8 @@
 use Rattle.std.proofs.Common.{refl, sym, ◌∙◌}
 use Rattle.sqlite.specs.Held.{state}
-use Rattle.reg_tables.specs.Quiet.{clean_before}
-use Rattle.reg_tables.specs.KeepLaws.{idle_at}
-use Rattle.reg_tables.specs.Methods.{rows_at}
+use Rattle.reg_tables.proofs.QuietLaws.{clean_before}
+use Rattle.reg_tables.proofs.KeepLaws.{idle_at}
+use Rattle.reg_tables.proofs.MethodsLaws.{rows_at}
 use Rattle.reg_tables.specs.Register.{deposits_in}
 use Rattle.reg_tables.proofs.MemoryLemmas.{agrees_noted, keeps_noted}
 use Rattle.reg_tables.proofs.ReadsLemmas.{reads_still}

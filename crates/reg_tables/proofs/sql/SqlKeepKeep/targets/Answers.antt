@@ -1,7 +1,7 @@
 use Rattle.std.proofs.Common.{◌≡◌, [], refl, rules, sym, ◌∙◌}
 use Rattle.sqlite.specs.Held.{state}
-use Rattle.reg_tables.specs.Quiet.{clean_before}
-use Rattle.reg_tables.specs.KeepLaws.{idle_at}
+use Rattle.reg_tables.proofs.QuietLaws.{clean_before}
+use Rattle.reg_tables.proofs.KeepLaws.{idle_at}
 use Rattle.reg_tables.proofs.ProjectLemmas.{targets_at}
 use Rattle.reg_tables.specs.Register.{deposits_in}
 use Rattle.reg_tables.proofs.MemoryLemmas.{agrees_noted, keeps_noted}

@@ -5,10 +5,11 @@ use Rattle.sqlite.specs.Held.{state}
 use Rattle.reg_store.specs.Deposit.{Deposit, marked}
 use Rattle.reg_store.specs.Keep.{is_store}
 use Rattle.reg_tables.specs.Inserts.{AddsMark}
-use Rattle.reg_tables.specs.KeepLaws.{HoldsNext, Turns, counted_at, crash_at, keeps_same, mark_turns, next_at, schema_at, settled_of, whole_next}
-use Rattle.reg_tables.specs.Marks.{length_marked}
+use Rattle.reg_tables.proofs.KeepLaws.{HoldsNext, Turns, counted_at, crash_at, keeps_same, mark_turns, next_at}
+use Rattle.reg_tables.proofs.KeepLaws.{schema_at, settled_of, whole_next}
+use Rattle.reg_tables.proofs.MarksLaws.{length_marked}
 use Rattle.reg_tables.specs.Memory.{Agrees}
-use Rattle.reg_tables.specs.Quiet.{clean_before}
+use Rattle.reg_tables.proofs.QuietLaws.{clean_before}
 use Rattle.reg_tables.specs.Register.{KeepsRegister, deposits_in}
 use Rattle.reg_tables.proofs.sql.SqlKeepKeep.withdraw.Given.{Over}
 use Rattle.reg_tables.proofs.sql.SqlKeepKeep.withdraw.Goals.{After-mark}

@@ -3,7 +3,7 @@ use Rattle.std.proofs.lemmas.Result.{on_ok_weaker}
 use Rattle.sqlite.specs.State.{HasCleanDisk}
 use Rattle.sqlite.specs.Held.{state}
 use Rattle.reg_tables.specs.Filed.{filed_deposit}
-use Rattle.reg_tables.specs.Inserts.{puts_deposit}
+use Rattle.reg_tables.proofs.InsertsLaws.{puts_deposit}
 use Rattle.reg_tables.proofs.statements.Filed.insert_row.Goals as goal
 
 pub returns-clause-put : goal.returns-clause-put

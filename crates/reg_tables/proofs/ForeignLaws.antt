@@ -8,17 +8,16 @@ use Rattle.sqlite.specs.declared.types.Value.TheVariants.{Null, Int, Real, Text 
 use Rattle.sqlite.specs.Order.{Row, column, value_cmp}
 use Rattle.sqlite.specs.Tree.{Trees}
 use Rattle.sqlite.specs.Collation.TheVariants.{Binary}
-use Rattle.sqlite.specs.Ops.{is_null}
+use Rattle.sqlite.specs.Ops.{is_null, binary}
 use Rattle.sqlite_catalog.specs.Listing.{IsSound}
 use Rattle.sqlite_schema.specs.declared.schema.Constraint.TheVariants.{ForeignKey}
 use Rattle.sqlite_schema.specs.Rules.{equal, passes}
 use Rattle.sqlite_schema.specs.Names.{same_name}
 use Rattle.sqlite_value.specs.Keys.{first_key, joined}
 use Rattle.sqlite_value.proofs.OrderLemmas.{value_cmp_total}
-use Rattle.sqlite.specs.Ops.{binary}
 use Rattle.reg_tables.specs.declared.format.Format.{Format}
 use Rattle.reg_tables.specs.declared.format.Format.TheVariants.{First, Second}
-use Rattle.reg_tables.specs.Reads.{equal_order, truth_is}
+use Rattle.reg_tables.proofs.ReadsLaws.{equal_order, truth_is}
 use Rattle.reg_tables.specs.Register.{has_number}
 use Rattle.reg_tables.specs.Rows.{columns_3, columns_5, deposit_table, is_of, rows_under}
 use Rattle.reg_tables.specs.Tables.{lines, steps, register_schema, schema_of}

@@ -1,7 +1,6 @@
 -- What the query for the steps of a deposit reads, and what the readers of lines and steps give back.
 use Rattle.std.proofs.Common.{◌≡◌, ℕ, ◌+◌, pos, negsuc, List, [], ◌∷◌, map, filter, Bool, true, false, if◌then◌else◌}
-use Rattle.std.proofs.Common.{Ok, Err, Result, IfOk, refl, sym, ap, subst, subst₂, ◌∙◌, arith, Less, Equal, inl, inr}
-use Rattle.std.proofs.Common.{drop}
+use Rattle.std.proofs.Common.{refl, sym, ap, subst, subst₂, ◌∙◌, arith, Less, Equal, inl, inr, drop}
 use Rattle.std.specs.List.Sorted.{IsPermutation}
 use Rattle.std.specs.Ordering.{ordering_then}
 use Rattle.std.proofs.lemmas.Cmp.{on_total}
@@ -20,14 +19,13 @@ use Rattle.sqlite_keyed.proofs.SortLemmas.{sorted_unique}
 use Rattle.sqlite_keyed.proofs.ListLemmas.{ascending-map, ascending_weaker}
 use Rattle.ags_links.specs.Steps.{IsBefore}
 use Rattle.reg_store.specs.declared.keep.KeptRow.{KeptRow}
-use Rattle.reg_store.specs.declared.keep.KeepError.{KeepError}
 use Rattle.reg_tables.specs.Tables.{HasTables}
-use Rattle.reg_tables.specs.Texts.{select_steps, select_lines}
-use Rattle.reg_tables.specs.Meaning.{steps_of_deposit, steps_read}
-use Rattle.reg_tables.specs.Put.{less}
-use Rattle.reg_tables.specs.Rows.{columns_3, step_table, line_table, step_pair, placed_rows, is_of, rows_under}
-use Rattle.reg_tables.specs.Answers.{passes, shown_of, answers}
-use Rattle.reg_tables.specs.Reads.{and_true, eq_int, reads_lines, holds_lines}
+use Rattle.reg_tables.specs.Texts.{select_steps}
+use Rattle.reg_tables.proofs.MeaningLaws.{steps_of_deposit, steps_read}
+use Rattle.reg_tables.proofs.PutLaws.{less}
+use Rattle.reg_tables.specs.Rows.{columns_3, step_table, step_pair, placed_rows, is_of, rows_under}
+use Rattle.reg_tables.proofs.AnswersLaws.{passes, shown_of, answers}
+use Rattle.reg_tables.proofs.ReadsLaws.{and_true, eq_int}
 
 abbrev by_pair : Row → Output
 by_pair c = (column c 0 ∷ column c 1 ∷ [], column c 0 ∷ column c 1 ∷ [])

@@ -24,10 +24,10 @@ use Rattle.sqlite_keyed.proofs.SortLemmas.{sorted_unique}
 use Rattle.reg_store.specs.declared.keep.KeptRow.{KeptRow}
 use Rattle.reg_tables.specs.Tables.{HasTables}
 use Rattle.reg_tables.specs.Texts.{select_lines}
-use Rattle.reg_tables.specs.Meaning.{lines_of_deposit, lines_read}
-use Rattle.reg_tables.specs.Put.{less}
+use Rattle.reg_tables.proofs.MeaningLaws.{lines_of_deposit, lines_read}
+use Rattle.reg_tables.proofs.PutLaws.{less}
 use Rattle.reg_tables.specs.Rows.{columns_5, line_table, placed_row, placed_rows, is_of, rows_under}
-use Rattle.reg_tables.specs.Answers.{passes, shown_of, answers}
+use Rattle.reg_tables.proofs.AnswersLaws.{passes, shown_of, answers}
 
 -- an order that tests as equal is equal
 pub equal_order : (o : Ordering) → is_eq o ≡ true → o ≡ Equal

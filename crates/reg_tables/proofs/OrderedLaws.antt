@@ -21,13 +21,15 @@ use Rattle.reg_store.specs.Sent.{Sent}
 use Rattle.reg_tables.specs.declared.format.Format.TheVariants.{Second}
 use Rattle.reg_tables.specs.Tables.{HasTables, register_schema}
 use Rattle.reg_tables.specs.Texts.{select_all_numbers, select_marks, select_meta}
-use Rattle.reg_tables.specs.Meaning.{all_marks, all_marks_read, all_numbers, all_numbers_read, all_meta, all_meta_read}
-use Rattle.reg_tables.specs.Put.{less}
+use Rattle.reg_tables.proofs.MeaningLaws.{all_marks, all_marks_read, all_numbers, all_numbers_read, all_meta}
+use Rattle.reg_tables.proofs.MeaningLaws.{all_meta_read}
+use Rattle.reg_tables.proofs.PutLaws.{less}
 use Rattle.reg_tables.specs.Rows.{columns_3, columns_5, deposit_table, mark_column, mark_row}
 use Rattle.reg_tables.specs.Register.{deposit_rows, mark_rows, mark_table, meta_columns}
-use Rattle.reg_tables.specs.Answers.{Selects, answered, passes, shown_of, answers}
+use Rattle.reg_tables.proofs.AnswersLaws.{Selects, answered, passes, shown_of, answers}
 use Rattle.reg_tables.specs.Found.{AreMarksInOrder}
-use Rattle.reg_tables.specs.Adopts.{by_id, id_of, number_rows, shows_meta, shows_numbers}
+use Rattle.reg_tables.proofs.AdoptsLaws.{by_id, shows_meta, shows_numbers}
+use Rattle.reg_tables.specs.Adopts.{id_of, number_rows}
 
 -- ---- the numbers
 

@@ -15,7 +15,7 @@ use Rattle.reg_tables.specs.Rows.{deposit_table, given_deposit}
 use Rattle.reg_tables.specs.Register.{deposit_rows, has_number}
 use Rattle.reg_tables.specs.RegisterLaws.{none_before}
 use Rattle.reg_tables.specs.Pushes.{equal_at, apart_at}
-use Rattle.reg_tables.specs.Adopts.{shows_deposit}
+use Rattle.reg_tables.proofs.AdoptsLaws.{shows_deposit}
 
 -- among the rows of a list one has the number of a deposit
 pub row_at : (m k : ℕ) (list : List Sent) (d : Sent) → slice_get list k ≡ Some d

@@ -14,7 +14,7 @@ use Rattle.sqlite.specs.Effect.{Database, Answers as Asked}
 use Rattle.sqlite.specs.State.{State, Shown}
 use Rattle.sqlite.proofs.Callers.{reads_as}
 use Rattle.reg_tables.specs.Tables.{HasTables}
-use Rattle.reg_tables.specs.Meaning.{query, Asks}
+use Rattle.reg_tables.proofs.MeaningLaws.{query, Asks}
 
 -- a row passes the query's test
 abbrev pub passes : List Term → Row → Row → Bool

@@ -1,0 +1,253 @@
+-- Lemmas on the definitions of specs/Inserts.antt.
+use Rattle.std.proofs.Common.{◌≡◌, ◌≢◌, ◌⊎◌, inl, inr, ℕ, ◌+◌, ◌/◌, drop, pos, List, [], ◌∷◌, ◌++◌, map, length, Option}
+use Rattle.std.proofs.Common.{Some, None, slice_get, Ok, Err, Result, refl, sym, ap, subst, ◌∙◌, arith}
+use Rattle.std.specs.List.{AllByRecursion}
+use Rattle.std.specs.List.Sorted.{IsPermutation}
+use Rattle.sqlite.specs.declared.types.Value.TheVariants.{Null, Blob as Bytes}
+use Rattle.sqlite.specs.Order.{Row}
+use Rattle.sqlite.specs.Term.{Term}
+use Rattle.sqlite.specs.Source.TheVariants.{Values}
+use Rattle.sqlite.specs.Command.TheVariants.{Insert}
+use Rattle.sqlite.specs.Edit.{edit_of}
+use Rattle.sqlite.specs.Rowids.TheVariants.{Chosen}
+use Rattle.sqlite.specs.Does.{Tally, Does, AtPlace, OnRows}
+use Rattle.sqlite.specs.Effect.{Database, value_rows}
+use Rattle.sqlite.specs.Rows.{Written, stamped}
+use Rattle.sqlite.specs.Tree.{Trees}
+use Rattle.sqlite_rules.specs.Cast.{cast_row}
+use Rattle.sqlite_rules.specs.Edit.{put_all}
+use Rattle.sqlite_rules.specs.Action.{works}
+use Rattle.sqlite_schema.specs.declared.schema.Column.{Column}
+use Rattle.sqlite_schema.specs.declared.schema.Reference.{Reference}
+use Rattle.sqlite_schema.specs.declared.schema.Table.{Table}
+use Rattle.sqlite_value.specs.declared.keys.Order.{Order}
+use Rattle.sqlite_rules.specs.Action as action
+use Rattle.sqlite_schema.specs.declared.schema.Keys.TheVariants.{Enforced}
+use Rattle.sqlite.specs.Listing.{understood}
+use Rattle.sqlite.specs.State.{State, mode_of, Executes}
+use Rattle.sqlite.proofs.Callers.{IsPlain, command_of, statement_of, runs_as, one_step}
+use Rattle.reg_store.specs.declared.keep.KeptRow.{KeptRow}
+use Rattle.reg_store.specs.Sent.{Sent}
+use Rattle.reg_tables.specs.Tables.{simple, meta, deposits, lines, steps, withdrawals, register_schema}
+use Rattle.reg_tables.specs.Texts.{insert_deposit, insert_line, insert_step, insert_mark, insert_eight_lines}
+use Rattle.reg_tables.specs.Texts.{insert_eight_steps, fill_meta}
+use Rattle.reg_tables.proofs.MeaningLaws.{deposit_terms, deposit_is, deposit_plain, line_terms, line_is, line_plain}
+use Rattle.reg_tables.proofs.MeaningLaws.{step_terms, step_is, step_plain, mark_terms, mark_is, mark_plain}
+use Rattle.reg_tables.proofs.MeaningLaws.{eight_line_terms, eight_lines_are, eight_lines_plain, eight_step_terms}
+use Rattle.reg_tables.proofs.MeaningLaws.{eight_steps_are, eight_steps_plain, fill_terms, fill_is, fill_plain}
+use Rattle.reg_tables.specs.Rows.{columns_5, columns_3, joined, line_row, line_rows, step_row, step_rows, given_deposit}
+use Rattle.reg_tables.specs.Rows.{mark_column, mark_row, meta_rows}
+use Rattle.reg_tables.proofs.PutLaws.{cast_int, IsBlind, AreSeen, seen_blind, all_seen}
+use Rattle.reg_tables.specs.Inserts.{Adds, AddsDeposit, AddsLines, AddsSteps, AddsMark}
+
+pub same_value : {B E : Type 0} {a b : B} → ◌≡◌ {A = Result B E} (Ok a) (Ok b) → a ≡ b
+same_value e = cc
+
+pub went : {B E R : Type 0} {b : B} {Stops : E → Type 0} → ((stop : E) × Stops stop × (Ok b ≡ Err stop)) ⊎ R → R
+went (inl stopped) = absurd (let e = stopped.2 in cc)
+went (inr on) = on
+
+abbrev pub FillsMeta : List ℕ → Database → Database → Type 0
+FillsMeta dictionary = Adds 0 columns_3 (meta_rows 2 dictionary)
+
+-- a row's columns after its rowid are the same whatever that is
+columns_5_blind : IsBlind columns_5
+columns_5_blind id [] = refl
+columns_5_blind id (x ∷ row) = refl
+
+columns_3_blind : IsBlind columns_3
+columns_3_blind id [] = refl
+columns_3_blind id (x ∷ row) = refl
+
+-- the rows that an insert is given, and how the table takes them
+abbrev sources : Table → ℕ → List Term → Row → List Row
+sources table width terms params = value_rows (stamped table params) width (length terms / width) terms
+
+abbrev taken_as : Table → ℕ → List Term → Row → List Row
+taken_as table width terms params = map (λ row. cast_row table (drop 0 row)) (sources table width terms params)
+
+-- no foreign key acts on what is put
+abbrev IsLone : Table → ℕ → List Term → Row → Type 0
+IsLone table width terms params =
+    (db : Trees) → works register_schema Enforced 0 table.tree []
+    (edit_of db table [] Chosen 0 (sources table width terms params)).news ≡ []
+
+-- what holds of each list of eight
+by_eight : {X : Type 0} (P : List X → Type 0) → ((a b c d e f g i : X) → P (a ∷ b ∷ c ∷ d ∷ e ∷ f ∷ g ∷ i ∷ []))
+    → (xs : List X) → length xs ≡ 8 → P xs
+by_eight P all (a ∷ b ∷ c ∷ d ∷ e ∷ f ∷ g ∷ i ∷ []) eight = all a b c d e f g i
+by_eight P all [] eight = absurd (omega arith)
+by_eight P all (a ∷ []) eight = absurd (omega arith)
+by_eight P all (a ∷ b ∷ []) eight = absurd (omega arith)
+by_eight P all (a ∷ b ∷ c ∷ []) eight = absurd (omega arith)
+by_eight P all (a ∷ b ∷ c ∷ d ∷ []) eight = absurd (omega arith)
+by_eight P all (a ∷ b ∷ c ∷ d ∷ e ∷ []) eight = absurd (omega arith)
+by_eight P all (a ∷ b ∷ c ∷ d ∷ e ∷ f ∷ []) eight = absurd (omega arith)
+by_eight P all (a ∷ b ∷ c ∷ d ∷ e ∷ f ∷ g ∷ []) eight = absurd (omega arith)
+by_eight P all (a ∷ b ∷ c ∷ d ∷ e ∷ f ∷ g ∷ i ∷ j ∷ more) eight = absurd (omega arith)
+
+-- What an insert puts in a table, where no foreign key acts on it.
+puts : (at : ℕ) (name : List ℕ) (tree : ℕ) (columns : List Column) (alias : Option ℕ) (key : List ℕ)
+    (uniques : List (List ℕ)) (orders : List Order) (references : List Reference)
+    → slice_get register_schema.tables at ≡ Some (simple name tree columns alias key uniques orders references)
+    → (see : Row → Row) (width : ℕ) (sql : List ℕ) (terms : List Term) → command_of (understood register_schema sql)
+    ≡ Insert at (Values terms width) → IsPlain (understood register_schema sql)
+    → (params : Row) → IsLone (simple name tree columns alias key uniques orders references) width terms params
+    → AreSeen see (taken_as (simple name tree columns alias key uniques orders references) width terms params)
+    → (more : List Row)
+    → map see (taken_as (simple name tree columns alias key uniques orders references) width terms params) ≡ more
+    → (old new : State) (count : ℕ) → old.now.schema ≡ register_schema → Executes sql params old new (Ok count)
+    → Adds tree see more old.now new.now
+puts at name tree columns alias key uniques orders references here see width sql terms is plain params lone same_seen
+    more seen_as old new count has h =
+    let table = simple name tree columns alias key uniques orders references in
+    let db = old.now.trees in
+    let command = Insert at (Values terms width) in
+    let w = runs_as sql params old new register_schema has command is plain count h in
+    let text = statement_of sql (understood register_schema sql) in
+    let mode = mode_of old in
+    let known = subst (λ s. Does old.step_limit mode params (record old.now { schema = s }) text None command
+    (Ok (w.tally, new.now))) has w.changed in
+    let done =
+    went (subst (λ o. AtPlace (λ t. OnRows (record {
+      limit = old.step_limit;
+      keys = mode.keys;
+      schema = register_schema;
+      table = t;
+      params = params;
+    }) mode None command db) o (Ok (w.tally, new.now))) here known) in
+    let now = ap (λ (p : Tally × Database). p.1) (same_value (went (went done.2).2).2) in
+    let given = went done.1 in
+    let written = went (went given.2).2 in
+    let counted = went written.2 in
+    let trees : done.0.trees ≡ written.0 =
+    ap (λ (it : Written). it.trees) (same_value counted.2) ∙ same_value counted.1 in
+    let same : new.now.trees ≡ written.0 = ap (λ (d : Database). d.trees) now ∙ trees in
+    let edit = edit_of db table [] Chosen 0 (sources table width terms params) in
+    let wrote : action.Writes register_schema Enforced db edit (Ok written.0) = subst (λ all.
+    action.Writes register_schema Enforced db (edit_of db table [] Chosen 0 all) (Ok written.0)) given.1.1 written.1 in
+    let step = one_step register_schema Enforced db written.0 edit (lone db) wrote in
+    let seen = subst (λ rows. IsPermutation (map see (db tree) ++ rows) (map see (put_all (db tree) edit.news))) seen_as
+    (all_seen see (db tree) (taken_as table width terms params) same_seen step.fresh) in
+    record {
+      schema = ap (λ (d : Database). d.schema) now;
+      sound = w.sound;
+      rows = subst (λ rows. IsPermutation (map see (db tree) ++ more) (map see rows))
+          (sym (ap (λ (t : Trees). t tree) same ∙ step.rows)) seen;
+      others = subst (λ (t : Trees). AllByRecursion (λ k. k.tree ≢ tree → t k.tree ≡ db k.tree) register_schema.tables)
+          (sym same) step.tables;
+    }
+
+puts_lines : (sql : List ℕ) (terms : List Term)
+    → command_of (understood register_schema sql) ≡ Insert 2 (Values terms 6) → IsPlain (understood register_schema sql)
+    → (params : Row) → IsLone lines 6 terms params → (more : List Row)
+    → map columns_5 (taken_as lines 6 terms params) ≡ more
+    → (old new : State) (count : ℕ) → old.now.schema ≡ register_schema → Executes sql params old new (Ok count)
+    → AddsLines more old.now new.now
+puts_lines sql terms is plain params lone =
+    puts 2 lines.name lines.tree lines.columns lines.key lines.primary lines.uniques lines.orders lines.references refl
+    columns_5 6 sql terms is plain params lone (seen_blind columns_5 columns_5_blind _)
+
+puts_steps : (sql : List ℕ) (terms : List Term)
+    → command_of (understood register_schema sql) ≡ Insert 3 (Values terms 4) → IsPlain (understood register_schema sql)
+    → (params : Row) → IsLone steps 4 terms params → (more : List Row)
+    → map columns_3 (taken_as steps 4 terms params) ≡ more
+    → (old new : State) (count : ℕ) → old.now.schema ≡ register_schema → Executes sql params old new (Ok count)
+    → AddsSteps more old.now new.now
+puts_steps sql terms is plain params lone =
+    puts 3 steps.name steps.tree steps.columns steps.key steps.primary steps.uniques steps.orders steps.references refl
+    columns_3 4 sql terms is plain params lone (seen_blind columns_3 columns_3_blind _)
+
+-- a row of a file, as the table takes it
+line_taken : (n at : ℕ) (row : KeptRow) → columns_5 (cast_row lines (Null ∷ line_row n at row)) ≡ line_row n at row
+line_taken n at row = rw (cast_int (pos n), cast_int (pos at), cast_int (pos row.kind))
+
+lines_taken : (n at : ℕ) (rows : List KeptRow) → map columns_5
+    (map (λ row. cast_row lines (drop 0 row)) (map (λ row. Null ∷ row) (line_rows n at rows))) ≡ line_rows n at rows
+lines_taken n at [] = refl
+lines_taken n at (row ∷ rows) = ap (λ x. x ∷ map columns_5
+    (map (λ r. cast_row lines (drop 0 r)) (map (λ r. Null ∷ r) (line_rows n (at + 1) rows)))) (line_taken n at row)
+    ∙ ap (λ xs. line_row n at row ∷ xs) (lines_taken n (at + 1) rows)
+
+pub puts_line : (old new : State) (n at : ℕ) (row : KeptRow) (count : ℕ) → old.now.schema ≡ register_schema
+    → Executes insert_line (line_row n at row) old new (Ok count) → AddsLines (line_row n at row ∷ []) old.now new.now
+puts_line old new n at row count has h =
+    puts_lines insert_line line_terms line_is line_plain (line_row n at row) (λ db. refl) (line_row n at row ∷ [])
+    (lines_taken n at (row ∷ [])) old new count has h
+
+pub puts_eight_lines : (old new : State) (n at : ℕ) (rows : List KeptRow) (count : ℕ) → length rows ≡ 8
+    → old.now.schema ≡ register_schema → Executes insert_eight_lines (joined (line_rows n at rows)) old new (Ok count)
+    → AddsLines (line_rows n at rows) old.now new.now
+puts_eight_lines old new n at rows count eight has = by_eight (λ all. Executes insert_eight_lines
+    (joined (line_rows n at all)) old new (Ok count) → AddsLines (line_rows n at all) old.now new.now)
+    (λ a b c d e f g i.
+    let all = a ∷ b ∷ c ∷ d ∷ e ∷ f ∷ g ∷ i ∷ [] in
+    puts_lines insert_eight_lines eight_line_terms eight_lines_are eight_lines_plain (joined (line_rows n at all))
+    (λ db. refl) (line_rows n at all) (lines_taken n at all) old new count has)
+    rows eight
+
+-- a step, as the table takes it
+step_taken : (n : ℕ) (step : ℕ × ℕ) → columns_3 (cast_row steps (Null ∷ step_row n step)) ≡ step_row n step
+step_taken n step = rw (cast_int (pos n), cast_int (pos step.0), cast_int (pos step.1))
+
+steps_taken : (n : ℕ) (graph : List (ℕ × ℕ)) → map columns_3
+    (map (λ row. cast_row steps (drop 0 row)) (map (λ row. Null ∷ row) (step_rows n graph))) ≡ step_rows n graph
+steps_taken n [] = refl
+steps_taken n (step ∷ graph) = ap (λ x. x ∷ map columns_3
+    (map (λ r. cast_row steps (drop 0 r)) (map (λ r. Null ∷ r) (step_rows n graph)))) (step_taken n step)
+    ∙ ap (λ xs. step_row n step ∷ xs) (steps_taken n graph)
+
+pub puts_step : (old new : State) (n : ℕ) (step : ℕ × ℕ) (count : ℕ) → old.now.schema ≡ register_schema
+    → Executes insert_step (step_row n step) old new (Ok count) → AddsSteps (step_row n step ∷ []) old.now new.now
+puts_step old new n step count has h =
+    puts_steps insert_step step_terms step_is step_plain (step_row n step) (λ db. refl) (step_row n step ∷ [])
+    (steps_taken n (step ∷ [])) old new count has h
+
+pub puts_eight_steps : (old new : State) (n : ℕ) (graph : List (ℕ × ℕ)) (count : ℕ) → length graph ≡ 8
+    → old.now.schema ≡ register_schema → Executes insert_eight_steps (joined (step_rows n graph)) old new (Ok count)
+    → AddsSteps (step_rows n graph) old.now new.now
+puts_eight_steps old new n graph count eight has = by_eight (λ all. Executes insert_eight_steps
+    (joined (step_rows n all)) old new (Ok count) → AddsSteps (step_rows n all) old.now new.now)
+    (λ a b c d e f g i.
+    let all = a ∷ b ∷ c ∷ d ∷ e ∷ f ∷ g ∷ i ∷ [] in
+    puts_steps insert_eight_steps eight_step_terms eight_steps_are eight_steps_plain (joined (step_rows n all))
+    (λ db. refl) (step_rows n all) (steps_taken n all) old new count has)
+    graph eight
+
+deposit_taken : (n : ℕ) (d : Sent) → map columns_5
+    (map (λ row. cast_row deposits (drop 0 row)) ((Null ∷ given_deposit n d) ∷ [])) ≡ given_deposit n d ∷ []
+deposit_taken n d = rw (cast_int (pos n), cast_int d.embargo) refl
+
+pub puts_deposit : (old new : State) (n : ℕ) (d : Sent) (count : ℕ) → old.now.schema ≡ register_schema
+    → Executes insert_deposit (given_deposit n d) old new (Ok count) → AddsDeposit n d old.now new.now
+puts_deposit old new n d count =
+    puts 1 deposits.name deposits.tree deposits.columns deposits.key deposits.primary deposits.uniques deposits.orders
+    deposits.references refl columns_5 6 insert_deposit deposit_terms deposit_is deposit_plain
+    (given_deposit n d) (λ db. refl) (seen_blind columns_5 columns_5_blind
+    (taken_as deposits 6 deposit_terms (given_deposit n d))) (given_deposit n d ∷ []) (deposit_taken n d) old new count
+
+meta_taken : (dictionary : List ℕ)
+    → map columns_3 (taken_as meta 4 fill_terms (Bytes dictionary ∷ [])) ≡ meta_rows 2 dictionary
+meta_taken dictionary = rw (cast_int (pos 2), cast_int (pos 0)) refl
+
+pub fills_meta : (old new : State) (dictionary : List ℕ) (count : ℕ) → old.now.schema ≡ register_schema
+    → Executes fill_meta (Bytes dictionary ∷ []) old new (Ok count) → FillsMeta dictionary old.now new.now
+fills_meta old new dictionary count =
+    puts 0 meta.name meta.tree meta.columns meta.key meta.primary meta.uniques meta.orders meta.references refl
+    columns_3 4 fill_meta fill_terms fill_is fill_plain
+    (Bytes dictionary ∷ []) (λ db. refl) (seen_blind columns_3 columns_3_blind
+    (taken_as meta 4 fill_terms (Bytes dictionary ∷ []))) (meta_rows 2 dictionary) (meta_taken dictionary) old new count
+
+-- the number is that of the row itself
+mark_taken : (n : ℕ) → map mark_column (taken_as withdrawals 2 mark_terms (mark_row n)) ≡ mark_row n ∷ []
+mark_taken n = rw (cast_int (pos n)) refl
+
+mark_seen : (n : ℕ) → AreSeen mark_column (taken_as withdrawals 2 mark_terms (mark_row n))
+mark_seen n = rw (cast_int (pos n)) ((λ rows. refl), tt)
+
+pub puts_mark : (old new : State) (n : ℕ) (count : ℕ) → old.now.schema ≡ register_schema
+    → Executes insert_mark (mark_row n) old new (Ok count) → AddsMark n old.now new.now
+puts_mark old new n count =
+    puts 4 withdrawals.name withdrawals.tree withdrawals.columns withdrawals.key withdrawals.primary withdrawals.uniques
+    withdrawals.orders withdrawals.references refl mark_column 2 insert_mark mark_terms mark_is mark_plain
+    (mark_row n) (λ db. refl) (mark_seen n) (mark_row n ∷ []) (mark_taken n) old new count

@@ -1,0 +1,320 @@
+-- Lemmas on the definitions of specs/Meaning.antt.
+use Rattle.std.specs.Prelude.{false, [], ◌∷◌, None, Ok, codes, List, ℕ, pos, negsuc, ◌≡◌, refl}
+use Rattle.std.proofs.Common.{sym, subst}
+use Rattle.sqlite.specs.Table.{Table}
+use Rattle.sqlite_schema.specs.declared.schema.Index.{Index}
+use Rattle.sqlite_schema.specs.declared.schema.View.{View}
+use Rattle.sqlite.specs.Compile.{table_defined_by}
+use Rattle.sqlite.specs.Change.{created}
+use Rattle.sqlite.specs.Schema.{Schema}
+use Rattle.sqlite.specs.Term.{Term, lit, col, op2}
+use Rattle.sqlite_sql.specs.declared.ops.BinaryOp.TheVariants.{Compare}
+use Rattle.sqlite_sql.specs.declared.ops.CompareOp.TheVariants.{Eq, Lt}
+use Rattle.sqlite.specs.Collation.TheVariants.{Binary}
+use Rattle.sqlite.specs.Query.{Query, Join, inner, end}
+use Rattle.sqlite_value.specs.declared.keys.Key.{Key}
+use Rattle.sqlite.specs.declared.types.Value.TheVariants.{Null, Int, Text as Words, Blob as Bytes}
+use Rattle.sqlite.specs.Source.TheVariants.{Values}
+use Rattle.sqlite.specs.Command.{Command}
+use Rattle.sqlite.specs.Command.TheVariants.{Insert, Update, Select, CreateTable}
+use Rattle.sqlite_tied.specs.Compute.{everything}
+use Rattle.sqlite.specs.Listing.{understood, reads_listing}
+use Rattle.sqlite.proofs.Callers.{IsPlain, command_of, statement_of}
+use Rattle.reg_tables.specs.Tables.{HasTables, meta, deposits, lines, steps, withdrawals, no_schema, first_schema}
+use Rattle.reg_tables.specs.Tables.{register_schema}
+use Rattle.reg_tables.specs.Texts.{create_meta, create_deposits, create_lines, create_steps, create_withdrawals}
+use Rattle.reg_tables.specs.Texts.{fill_meta, raise_format, insert_deposit, insert_line, insert_step, insert_mark}
+use Rattle.reg_tables.specs.Texts.{insert_eight_lines, insert_eight_steps, select_deposit, select_lines, select_steps}
+use Rattle.reg_tables.specs.Texts.{select_front, select_targets, select_all_numbers, select_marks, select_meta}
+use Rattle.reg_tables.specs.Meaning.{with_meta, with_deposits, IsPlainText}
+
+-- ---- the tables
+
+pub meta_is : table_defined_by create_meta ≡ Ok meta
+unfolding understood everything
+meta_is = refl
+
+pub deposits_is : table_defined_by create_deposits ≡ Ok (record deposits { tree = 0 })
+unfolding understood everything
+deposits_is = refl
+
+pub lines_is : table_defined_by create_lines ≡ Ok (record lines { tree = 0 })
+unfolding understood everything
+lines_is = refl
+
+pub steps_is : table_defined_by create_steps ≡ Ok (record steps { tree = 0 })
+unfolding understood everything
+steps_is = refl
+
+pub withdrawals_is : table_defined_by create_withdrawals ≡ Ok (record withdrawals { tree = 0 })
+unfolding understood everything
+withdrawals_is = refl
+
+abbrev pub with_lines : Schema
+with_lines = created with_deposits (record lines { tree = 0 })
+
+pub first_is : created with_lines (record steps { tree = 0 }) ≡ first_schema
+unfolding understood everything
+first_is = refl
+
+pub schema_is : created first_schema (record withdrawals { tree = 0 }) ≡ register_schema
+unfolding understood everything
+schema_is = refl
+
+pub meta_text : (command_of (understood no_schema create_meta) ≡ CreateTable)
+    × (statement_of create_meta (understood no_schema create_meta) ≡ create_meta)
+    × IsPlain (understood no_schema create_meta)
+unfolding understood everything
+meta_text = (refl, refl, (refl, refl))
+
+pub deposits_text : (command_of (understood with_meta create_deposits) ≡ CreateTable)
+    × (statement_of create_deposits (understood with_meta create_deposits) ≡ create_deposits)
+    × IsPlain (understood with_meta create_deposits)
+unfolding understood everything
+deposits_text = (refl, refl, (refl, refl))
+
+pub lines_text : (command_of (understood with_deposits create_lines) ≡ CreateTable)
+    × (statement_of create_lines (understood with_deposits create_lines) ≡ create_lines)
+    × IsPlain (understood with_deposits create_lines)
+unfolding understood everything
+lines_text = (refl, refl, (refl, refl))
+
+pub steps_text : (command_of (understood with_lines create_steps) ≡ CreateTable)
+    × (statement_of create_steps (understood with_lines create_steps) ≡ create_steps)
+    × IsPlain (understood with_lines create_steps)
+unfolding understood everything
+steps_text = (refl, refl, (refl, refl))
+
+pub withdrawals_text : (command_of (understood first_schema create_withdrawals) ≡ CreateTable)
+    × (statement_of create_withdrawals (understood first_schema create_withdrawals) ≡ create_withdrawals)
+    × IsPlain (understood first_schema create_withdrawals)
+unfolding understood everything
+withdrawals_text = (refl, refl, (refl, refl))
+
+-- ---- the inserts
+
+abbrev pub fill_terms : List Term
+fill_terms = lit Null ∷ lit (Words (codes "format")) ∷ lit (Int (pos 2)) ∷ lit (Bytes []) ∷ lit Null
+    ∷ lit (Words (codes "dictionary")) ∷ lit (Int (pos 0)) ∷ col 0 0 ∷ []
+
+pub fill_is : command_of (understood register_schema fill_meta) ≡ Insert 0 (Values fill_terms 4)
+unfolding understood everything
+fill_is = refl
+
+pub fill_plain : IsPlain (understood register_schema fill_meta)
+unfolding understood everything
+fill_plain = (refl, refl)
+
+abbrev pub deposit_terms : List Term
+deposit_terms = lit Null ∷ col 0 0 ∷ col 0 1 ∷ col 0 2 ∷ col 0 3 ∷ col 0 4 ∷ []
+
+pub deposit_is : command_of (understood register_schema insert_deposit) ≡ Insert 1 (Values deposit_terms 6)
+unfolding understood everything
+deposit_is = refl
+
+pub deposit_plain : IsPlain (understood register_schema insert_deposit)
+unfolding understood everything
+deposit_plain = (refl, refl)
+
+abbrev pub line_terms : List Term
+line_terms = lit Null ∷ col 0 0 ∷ col 0 1 ∷ col 0 2 ∷ col 0 3 ∷ col 0 4 ∷ []
+
+pub line_is : command_of (understood register_schema insert_line) ≡ Insert 2 (Values line_terms 6)
+unfolding understood everything
+line_is = refl
+
+pub line_plain : IsPlain (understood register_schema insert_line)
+unfolding understood everything
+line_plain = (refl, refl)
+
+abbrev pub step_terms : List Term
+step_terms = lit Null ∷ col 0 0 ∷ col 0 1 ∷ col 0 2 ∷ []
+
+pub step_is : command_of (understood register_schema insert_step) ≡ Insert 3 (Values step_terms 4)
+unfolding understood everything
+step_is = refl
+
+pub step_plain : IsPlain (understood register_schema insert_step)
+unfolding understood everything
+step_plain = (refl, refl)
+
+abbrev pub mark_terms : List Term
+mark_terms = col 0 0 ∷ lit Null ∷ []
+
+pub mark_is : command_of (understood register_schema insert_mark) ≡ Insert 4 (Values mark_terms 2)
+unfolding understood everything
+mark_is = refl
+
+pub mark_plain : IsPlain (understood register_schema insert_mark)
+unfolding understood everything
+mark_plain = (refl, refl)
+
+abbrev pub eight_line_terms : List Term
+eight_line_terms =
+    lit Null ∷ col 0 0 ∷ col 0 1 ∷ col 0 2 ∷ col 0 3 ∷ col 0 4 ∷
+    lit Null ∷ col 0 5 ∷ col 0 6 ∷ col 0 7 ∷ col 0 8 ∷ col 0 9 ∷
+    lit Null ∷ col 0 10 ∷ col 0 11 ∷ col 0 12 ∷ col 0 13 ∷ col 0 14 ∷
+    lit Null ∷ col 0 15 ∷ col 0 16 ∷ col 0 17 ∷ col 0 18 ∷ col 0 19 ∷
+    lit Null ∷ col 0 20 ∷ col 0 21 ∷ col 0 22 ∷ col 0 23 ∷ col 0 24 ∷
+    lit Null ∷ col 0 25 ∷ col 0 26 ∷ col 0 27 ∷ col 0 28 ∷ col 0 29 ∷
+    lit Null ∷ col 0 30 ∷ col 0 31 ∷ col 0 32 ∷ col 0 33 ∷ col 0 34 ∷
+    lit Null ∷ col 0 35 ∷ col 0 36 ∷ col 0 37 ∷ col 0 38 ∷ col 0 39 ∷ []
+
+pub eight_lines_are : command_of (understood register_schema insert_eight_lines) ≡ Insert 2 (Values eight_line_terms 6)
+unfolding understood everything
+eight_lines_are = refl
+
+pub eight_lines_plain : IsPlain (understood register_schema insert_eight_lines)
+unfolding understood everything
+eight_lines_plain = (refl, refl)
+
+abbrev pub eight_step_terms : List Term
+eight_step_terms =
+    lit Null ∷ col 0 0 ∷ col 0 1 ∷ col 0 2 ∷
+    lit Null ∷ col 0 3 ∷ col 0 4 ∷ col 0 5 ∷
+    lit Null ∷ col 0 6 ∷ col 0 7 ∷ col 0 8 ∷
+    lit Null ∷ col 0 9 ∷ col 0 10 ∷ col 0 11 ∷
+    lit Null ∷ col 0 12 ∷ col 0 13 ∷ col 0 14 ∷
+    lit Null ∷ col 0 15 ∷ col 0 16 ∷ col 0 17 ∷
+    lit Null ∷ col 0 18 ∷ col 0 19 ∷ col 0 20 ∷
+    lit Null ∷ col 0 21 ∷ col 0 22 ∷ col 0 23 ∷ []
+
+pub eight_steps_are : command_of (understood register_schema insert_eight_steps) ≡ Insert 3 (Values eight_step_terms 4)
+unfolding understood everything
+eight_steps_are = refl
+
+pub eight_steps_plain : IsPlain (understood register_schema insert_eight_steps)
+unfolding understood everything
+eight_steps_plain = (refl, refl)
+
+-- ---- the queries
+
+abbrev pub query : Join → List Term → List Term → List (Term × Key) → Query
+query from filter project order = record {
+  from = from;
+  filter = filter;
+  group = None;
+  project = project;
+  distinct = false;
+  collations = [];
+  order = order;
+  limit = lit (Int (negsuc 0));
+  offset = lit (Int (pos 0));
+}
+
+abbrev pub plainly : Query → List (List ℕ) → Command
+plainly q names = Select (record { lets = []; body = q }) names
+
+abbrev pub rising : Term → Term × Key
+rising t = (t, record { collation = Binary; descending = false })
+
+-- under this schema, the text asks this query of the tables
+abbrev pub AsksIn : Schema → List ℕ → Query → List (List ℕ) → Type 0
+AsksIn schema text q names = (command_of (understood schema text) ≡ plainly q names) × IsPlain (understood schema text)
+    × (reads_listing schema text ≡ false)
+
+-- Under each schema that begins with the tables of a register, the text asks this query, and reads nothing else.
+abbrev pub Asks : List ℕ → Query → List (List ℕ) → Type 0
+Asks text q names = ((schema : Schema) → HasTables schema → command_of (understood schema text) ≡ plainly q names)
+    × IsPlainText text × ((schema : Schema) → HasTables schema → reads_listing schema text ≡ false)
+
+-- the tables of a register, and more
+abbrev with_more : List Table → List Index → List View → Schema
+with_more more indexes views =
+    record { tables = meta ∷ deposits ∷ lines ∷ steps ∷ more; indexes = indexes; views = views }
+
+asks : (text : List ℕ) (q : Query) (names : List (List ℕ)) → ((more : List Table) (indexes : List Index)
+    (views : List View) → AsksIn (with_more more indexes views) text q names) → Asks text q names
+asks text q names each =
+    (λ schema has. (at schema has).0, λ schema has. (at schema has).1, λ schema has. (at schema has).2)
+  where
+    at : (schema : Schema) → HasTables schema → AsksIn schema text q names
+    at schema has =
+        let same : with_more has.0 schema.indexes schema.views ≡ schema =
+        λ i. record { tables = sym has.1 i; indexes = schema.indexes; views = schema.views } in
+        subst (λ s. AsksIn s text q names) same (each has.0 schema.indexes schema.views)
+
+abbrev pub by_number : Query
+by_number = query (inner 2 end) (op2 (Compare Eq Binary) (col 1 1) (col 0 0) ∷ [])
+    (col 1 1 ∷ col 1 2 ∷ col 1 3 ∷ col 1 4 ∷ col 1 5 ∷ []) []
+
+pub deposit_read : Asks select_deposit by_number
+    (codes "number" ∷ codes "firm" ∷ codes "project" ∷ codes "embargo" ∷ codes "body" ∷ [])
+unfolding understood everything
+deposit_read = asks select_deposit by_number (codes "number" ∷ codes "firm" ∷ codes "project" ∷ codes "embargo"
+    ∷ codes "body" ∷ []) (λ more indexes views. (refl, (refl, refl), refl))
+
+abbrev pub lines_of_deposit : Query
+lines_of_deposit = query (inner 4 end) (op2 (Compare Eq Binary) (col 1 1) (col 0 0) ∷ [])
+    (col 1 2 ∷ col 1 3 ∷ col 1 4 ∷ col 1 5 ∷ []) (rising (col 1 2) ∷ [])
+
+pub lines_read : Asks select_lines lines_of_deposit (codes "seq" ∷ codes "grp" ∷ codes "kind" ∷ codes "line" ∷ [])
+unfolding understood everything
+lines_read = asks select_lines lines_of_deposit (codes "seq" ∷ codes "grp" ∷ codes "kind" ∷ codes "line" ∷ [])
+    (λ more indexes views. (refl, (refl, refl), refl))
+
+abbrev pub steps_of_deposit : Query
+steps_of_deposit = query (inner 6 end) (op2 (Compare Eq Binary) (col 1 1) (col 0 0) ∷ []) (col 1 2 ∷ col 1 3 ∷ [])
+    (rising (col 1 2) ∷ rising (col 1 3) ∷ [])
+
+pub steps_read : Asks select_steps steps_of_deposit (codes "child" ∷ codes "target" ∷ [])
+unfolding understood everything
+steps_read = asks select_steps steps_of_deposit (codes "child" ∷ codes "target" ∷ [])
+    (λ more indexes views. (refl, (refl, refl), refl))
+
+abbrev pub front_of_deposit : Query
+front_of_deposit = query (inner 4 end) (op2 (Compare Eq Binary) (col 1 1) (col 0 0) ∷ op2 (Compare Lt Binary) (col 1 2)
+    (lit (Int (pos 5))) ∷ []) (col 1 2 ∷ col 1 3 ∷ col 1 4 ∷ col 1 5 ∷ []) (rising (col 1 2) ∷ [])
+
+pub front_read : Asks select_front front_of_deposit (codes "seq" ∷ codes "grp" ∷ codes "kind" ∷ codes "line" ∷ [])
+unfolding understood everything
+front_read = asks select_front front_of_deposit (codes "seq" ∷ codes "grp" ∷ codes "kind" ∷ codes "line" ∷ [])
+    (λ more indexes views. (refl, (refl, refl), refl))
+
+abbrev pub targets_of_row : Query
+targets_of_row = query (inner 6 end) (op2 (Compare Eq Binary) (col 1 1) (col 0 0)
+    ∷ op2 (Compare Eq Binary) (col 1 2) (col 0 1) ∷ []) (col 1 3 ∷ []) (rising (col 1 3) ∷ [])
+
+pub targets_read : Asks select_targets targets_of_row (codes "target" ∷ [])
+unfolding understood everything
+targets_read =
+    asks select_targets targets_of_row (codes "target" ∷ []) (λ more indexes views. (refl, (refl, refl), refl))
+
+abbrev pub all_numbers : Query
+all_numbers = query (inner 2 end) [] (col 1 1 ∷ []) (rising (col 1 1) ∷ [])
+
+pub all_numbers_read : Asks select_all_numbers all_numbers (codes "number" ∷ [])
+unfolding understood everything
+all_numbers_read =
+    asks select_all_numbers all_numbers (codes "number" ∷ []) (λ more indexes views. (refl, (refl, refl), refl))
+
+abbrev pub all_meta : Query
+all_meta = query (inner 0 end) [] (col 1 1 ∷ col 1 2 ∷ col 1 3 ∷ []) (rising (col 1 1) ∷ [])
+
+pub all_meta_read : Asks select_meta all_meta (codes "name" ∷ codes "num" ∷ codes "body" ∷ [])
+unfolding understood everything
+all_meta_read = asks select_meta all_meta (codes "name" ∷ codes "num" ∷ codes "body" ∷ [])
+    (λ more indexes views. (refl, (refl, refl), refl))
+
+abbrev pub all_marks : Query
+all_marks = query (inner 8 end) [] (col 1 0 ∷ []) (rising (col 1 0) ∷ [])
+
+pub all_marks_read : AsksIn register_schema select_marks all_marks (codes "deposit" ∷ [])
+unfolding understood everything
+all_marks_read = (refl, (refl, refl), refl)
+
+-- ---- the update
+
+-- the row `format` of meta, by its rowid, with the number 2
+abbrev pub format_raised : Query
+format_raised = query (inner 0 end) (op2 (Compare Eq Binary) (col 1 1) (lit (Words (codes "format"))) ∷ [])
+    (col 1 0 ∷ col 1 0 ∷ col 1 1 ∷ lit (Int (pos 2)) ∷ col 1 3 ∷ []) []
+
+pub raise_is : command_of (understood register_schema raise_format)
+    ≡ Update 0 (record { lets = []; body = format_raised })
+unfolding understood everything
+raise_is = refl
+
+pub raise_plain : IsPlain (understood register_schema raise_format)
+unfolding understood everything
+raise_plain = (refl, refl)

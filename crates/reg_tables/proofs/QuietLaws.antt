@@ -1,0 +1,63 @@
+-- Lemmas on the definitions of specs/Quiet.antt.
+use Rattle.std.specs.Prelude.{◌≡◌, Bool, false, IsTrue}
+use Rattle.std.proofs.Common.{sym, subst, ◌∙◌, refl, arith, inl}
+use Rattle.sqlite.specs.Tree.{Trees}
+use Rattle.sqlite.specs.Effect.{Database}
+use Rattle.sqlite.specs.State.{State, HasCleanDisk, Survives}
+use Rattle.sqlite.proofs.StateLemmas.{survives_then}
+use Rattle.reg_tables.specs.Tables.{HasTables}
+use Rattle.reg_tables.specs.Quiet.{IsIdle, IsStill}
+
+-- a store that is sound after a call was sound before it
+pub clean_before : {P : Trees → Type 0} (old new : State) → Survives old new P → HasCleanDisk new → HasCleanDisk old
+clean_before old new survives clean = omega (arith, survives.clean)
+
+-- what is read of the rows changes nothing more
+pub quiet_read : (old new : State) (failed : Bool) → IsStill old new false → IsStill old new failed
+quiet_read old new failed quiet = record {
+  idle = quiet.idle;
+  is_open = λ clean _. quiet.is_open clean refl;
+  same = λ clean _. quiet.same clean refl;
+  still = quiet.still;
+  survives = quiet.survives;
+}
+
+-- no call, no change
+pub quiet_none : (s : State) (failed : Bool) → s.in_transaction ≡ false → IsStill s s failed
+quiet_none s failed idle = record {
+  idle = idle;
+  is_open = λ clean _. refl;
+  same = λ clean _. (refl, refl);
+  still = λ clean o. (o, refl, refl);
+  survives = record {
+    clean = omega arith;
+    shield = λ is. is;
+    counts = omega arith;
+    limit = refl;
+    closes = λ clean o. inl o;
+    crash = λ clean db may. inl may;
+  };
+}
+
+pub quiet_then : (a b c : State) (failed : Bool) → IsStill a b false → IsStill b c failed → IsStill a c failed
+quiet_then a b c failed one two = record {
+  idle = two.idle;
+  is_open = λ clean well. two.is_open clean well ∙ one.is_open (clean_before b c two.survives clean) refl;
+  same = λ clean well.
+      (let early = clean_before b c two.survives clean in let first = one.same early refl in
+      let next = two.same clean well in (next.0 ∙ first.0, next.1 ∙ first.1));
+  still = λ clean o.
+      (let next = two.still clean o in let first = one.still (clean_before b c two.survives clean) next.0 in
+      (first.0, next.1 ∙ first.1, next.2 ∙ first.2));
+  survives = survives_then a b c _ _ (λ _. ⊥) (λ _ db none. none) (λ _ db none. none) one.survives two.survives;
+}
+
+pub idle_then : (a b : State) → IsIdle a → IsStill a b false → IsIdle b
+idle_then a b idle quiet = record {
+  idle = quiet.idle;
+  schema = λ clean. subst (λ (db : Database). HasTables db.schema) (sym (quiet.same clean refl).0)
+      (idle.schema (clean_before a b quiet.survives clean));
+  settled = λ clean is_open.
+      (let same = quiet.same clean refl in same.1 ∙ idle.settled (clean_before a b quiet.survives clean)
+      (subst IsTrue (quiet.is_open clean refl) is_open) ∙ sym same.0);
+}
