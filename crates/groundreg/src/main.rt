@@ -3,12 +3,12 @@
 
 use jiff::Zoned;
 use jiff::tz::TimeZone;
-use reg_app::run_words;
+use reg_app::{Machine, run_words};
 use reg_cli::{Fault, Watched};
 use reg_policy::Day;
 use sqlite::{Start, Unknown};
 use std::env;
-use std::io::{ErrorKind, Read, Write};
+use std::io::{ErrorKind, IsTerminal, Read, Write};
 use std::process::ExitCode;
 
 /// The arguments that the program is started with, its name first. One that is not UTF-8 refuses them all.
@@ -28,26 +28,33 @@ fn today(rt: &HostRuntime) -> Option<Day> {
 
 /// Runs the program over its three streams, of any types: what names the types of the real ones is kept short. `F`
 /// stands for what the files of a store held.
-fn run_program<F: Start, R: Read + Drop, W: Write + Drop, E: Write + Drop>(
+fn run_program<F: Start, R: Read + Drop, W: Write + Drop, E: Write + IsTerminal + Drop>(
     rt: &HostRuntime,
     start: F,
     input: R,
     out: W,
     err: E,
 ) -> u8 {
+    let is_terminal = err.is_terminal();
     let mut input = Watched::new(input);
     let mut out = Watched::new(out);
     let mut err = Watched::new(err);
     match words_given(rt) {
-        Ok(words) => run_words(
-            rt,
-            start,
-            words.as_slice(),
-            today(rt),
-            &mut input,
-            &mut out,
-            &mut err,
-        ),
+        Ok(words) => {
+            let machine = Machine {
+                start,
+                today: today(rt),
+                is_terminal,
+            };
+            run_words(
+                rt,
+                machine,
+                words.as_slice(),
+                &mut input,
+                &mut out,
+                &mut err,
+            )
+        }
         Err(fault) => fault.tell(&mut err),
     }
 }

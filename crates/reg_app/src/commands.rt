@@ -4,8 +4,11 @@ ghost use Rattle.std.specs.Prelude.{◌≡◌, ◌≤◌, false, length};
 ghost use Rattle.reg_cli.specs.Checking.{ChecksInput};
 ghost use Rattle.reg_cli.specs.Streams.{HaveNotFailed, has_failed};
 
+use crate::progress::ProgressLines;
 use crate::serving::{Serving, serve_desk, serve_register};
-use crate::stores::{create_store, make_private, migrate_store, not_made, open_store};
+use crate::stores::{
+    RegisterFile, create_store, make_private, migrate_store, not_made, open_store,
+};
 use reg_cli::{
     Action, Asker, Fault, Refusal, Session, Watched, Words, ask_deposit, ask_extract, ask_list,
     ask_withdraw, check_given, day_or, dictionary_in, read_path, read_rights, read_words,
@@ -21,15 +24,14 @@ use std::alloc::Global;
 use std::convert::AsStr;
 use std::fs::File;
 use std::io::{Read, Write};
+use std::time::Clock;
 
 /// Runs the program on its arguments. The first is its name; without others it checks the file that the input
-/// carries. `today` is what the clock tells, if it tells a day, and `F` stands for what the files of a store held. No
-/// clause says what is done with further arguments, or with `today`.
+/// carries. No clause says what is done with further arguments, or with what the machine says.
 pub fn run_words<F: Start, S: AsStr, R: Read, W: Write, E: Write>(
     rt: &HostRuntime,
-    start: F,
+    machine: Machine<F>,
     words: &[S],
-    today: Option<Day>,
     input: &mut Watched<R>,
     out: &mut Watched<W>,
     err: &mut Watched<E>,
@@ -46,19 +48,28 @@ pub fn run_words<F: Start, S: AsStr, R: Read, W: Write, E: Write>(
         Ok(words) => words,
         Err(fault) => return fault.tell(err),
     };
-    match run_command(rt, alloc, start, words, today, out, err) {
+    match run_command(rt, alloc, machine, words, out, err) {
         Ok(status) => status,
         Err(refusal) => refusal.tell(err),
     }
+}
+
+/// What the machine says of a run. `F` stands for what the files of a store held.
+#[derive(Drop)]
+pub struct Machine<F> {
+    pub start: F,
+    /// The day that the clock tells, if it tells one.
+    pub today: Option<Day>,
+    /// Whether standard error is a terminal.
+    pub is_terminal: bool,
 }
 
 /// Does what the arguments ask.
 fn run_command<'w, F: Start, W: Write, E: Write>(
     rt: &HostRuntime,
     alloc: Global,
-    start: F,
+    machine: Machine<F>,
     words: Words<'w>,
-    today: Option<Day>,
     out: &mut Watched<W>,
     err: &mut Watched<E>,
 ) -> Result<u8, Refusal<'w>>
@@ -66,11 +77,14 @@ fn run_command<'w, F: Start, W: Write, E: Write>(
     requires err { has_failed err.old ≡ false }
 {
     match words {
-        Words::Init { store, dictionary } => init(rt, alloc, start, store, dictionary, out),
-        Words::Migrate { store } => migrate(rt, alloc, start, store, out),
+        Words::Init { store, dictionary } => init(rt, alloc, machine.start, store, dictionary, out),
+        Words::Migrate {
+            store,
+            shows_progress,
+        } => migrate(rt, alloc, machine, store, shows_progress, out, err),
         Words::Check { dictionary, file } => check_file(rt, alloc, dictionary, file, out, err),
-        Words::Ask(asker, action) => ask_register(rt, alloc, start, &asker, &action, today, out),
-        Words::Serve(service) => serve_register(rt, alloc, start, &service, today, out),
+        Words::Ask(asker, action) => ask_register(rt, alloc, machine, &asker, &action, out, err),
+        Words::Serve(service) => serve_register(rt, alloc, machine, &service, out, err),
     }
 }
 
@@ -94,14 +108,22 @@ fn init<'w, F: Start, W: Write>(
 }
 
 /// Makes a register of format 1 one of format 2.
-fn migrate<'w, F: Start, W: Write>(
+fn migrate<'w, F: Start, W: Write, E: Write>(
     rt: &HostRuntime,
     alloc: Global,
-    start: F,
+    machine: Machine<F>,
     store: &'w str,
+    shows_progress: bool,
     out: &mut Watched<W>,
+    err: &mut Watched<E>,
 ) -> Result<u8, Refusal<'w>> {
-    migrate_store(rt, alloc, start, store)?.close();
+    let is_wanted = machine.is_terminal || shows_progress;
+    let mut lines = ProgressLines::new(alloc, rt, err, is_wanted);
+    let file = RegisterFile {
+        start: machine.start,
+        path: store,
+    };
+    migrate_store(rt, alloc, file, &mut lines)?.close();
     Ok(tell(out, b"migrated\n", 0))
 }
 
@@ -122,19 +144,25 @@ fn check_file<'w, W: Write, E: Write>(
 }
 
 /// Asks a register.
-fn ask_register<'w, F: Start, W: Write>(
+fn ask_register<'w, F: Start, W: Write, E: Write>(
     rt: &HostRuntime,
     alloc: Global,
-    start: F,
+    machine: Machine<F>,
     asker: &Asker<'w>,
     action: &Action<'w>,
-    today: Option<Day>,
     out: &mut Watched<W>,
+    err: &mut Watched<E>,
 ) -> Result<u8, Refusal<'w>> {
     let (policy, callers) = read_rights(rt, alloc, asker.policy, asker.callers)?;
-    let session = session_of(alloc, &callers, asker, today)?;
+    let session = session_of(alloc, &callers, asker, machine.today)?;
     let task = task_of(rt, alloc, &session, action)?;
-    use_store(rt, alloc, start, asker.store, policy, &task, out)
+    let is_wanted = machine.is_terminal || asker.shows_progress;
+    let mut lines = ProgressLines::new(alloc, rt, err, is_wanted);
+    let file = RegisterFile {
+        start: machine.start,
+        path: asker.store,
+    };
+    use_store(rt, alloc, file, policy, &task, out, &mut lines)
 }
 
 /// What is done with a register once it is open.
@@ -204,19 +232,19 @@ fn number_given(text: &str) -> Result<u32, Fault> {
     number_of_deposit(text.as_bytes()).ok_or(Fault::NumberRefused)
 }
 
-/// Opens the register in the file at a path, and does with it what is asked. Each command that opens one comes here.
+/// Opens the register in a file, and does with it what is asked. Each command that opens one comes here, but `migrate`.
 /// Where the type of a store is named, the proof that it is one is long. So the proof is there twice: once over
 /// `FileStore`, and once over any `Alter`.
-pub(crate) fn use_store<'w, F: Start, W: Write>(
+pub(crate) fn use_store<'w, F: Start, C: Clock, W: Write, E: Write>(
     rt: &HostRuntime,
     alloc: Global,
-    start: F,
-    store: &'w str,
+    file: RegisterFile<'w, F>,
     policy: Policy,
     task: &StoreTask<'_>,
     out: &mut Watched<W>,
+    lines: &mut ProgressLines<'_, '_, C, E>,
 ) -> Result<u8, Refusal<'w>> {
-    let keep = open_store(rt, alloc, start, store)?;
+    let keep = open_store(rt, alloc, file, lines)?;
     let (done, keep) = use_tables(rt, alloc, keep, policy, task, out);
     keep.close();
     done

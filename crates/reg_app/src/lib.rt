@@ -1,7 +1,8 @@
 //! What the program `groundreg` does: the commands of a register, and without arguments the check of standard input.
 //!
-//! Arguments, streams and the day are passed in. So contracts say what is printed, what is said of a fault and the
-//! status of a run, over readers and writers whose bytes they can name. What names no store and no socket is `reg_cli`.
+//! Arguments, streams and what the machine says of a run are passed in. So contracts say what is printed, what is said
+//! of a fault and the status of a run, over readers and writers whose bytes they can name. What names no store and no
+//! socket is `reg_cli`.
 #![tactic(auto)]
 
 mod commands;
@@ -9,11 +10,13 @@ mod connection;
 mod front;
 mod log;
 mod moment;
+mod progress;
 mod refusal;
 mod serving;
 mod stores;
 mod timed;
 
-pub use commands::run_words;
+pub use commands::{Machine, run_words};
 pub use log::Log;
+pub use progress::ProgressLines;
 pub use serving::{Serving, serve_on};

@@ -1,8 +1,10 @@
 //! A register that is served over connections.
 
-use crate::commands::{StoreTask, use_store};
+use crate::commands::{Machine, StoreTask, use_store};
 use crate::connection::serve_next;
 use crate::log::Log;
+use crate::progress::ProgressLines;
+use crate::stores::RegisterFile;
 use itoa::Buffer;
 use reg_cli::{Fault, Refusal, Service, StreamFailed, Watched, day_or, read_rights};
 use reg_desk::Desk;
@@ -64,30 +66,36 @@ fn print_line<W: Write>(out: &mut Watched<W>, status: Option<u16>) -> Result<(),
 }
 
 /// Opens the register, listens, and serves.
-pub(crate) fn serve_register<'w, F: Start, W: Write>(
+pub(crate) fn serve_register<'w, F: Start, W: Write, E: Write>(
     rt: &HostRuntime,
     alloc: Global,
-    start: F,
+    machine: Machine<F>,
     service: &Service<'w>,
-    today: Option<Day>,
     out: &mut Watched<W>,
+    err: &mut Watched<E>,
 ) -> Result<u8, Refusal<'w>> {
     let (policy, callers) = read_rights(rt, alloc, service.policy, service.callers)?;
     let serving = Serving {
         callers: &callers,
-        day: given_day(service, today)?,
+        day: given_day(service, machine.today)?,
         patience: Duration::from_secs(u64::from(service.patience)),
         connections: service.connections,
         ends_on_failure: service.ends_on_failure,
     };
-    let file = open_log(rt, service.log)?;
-    let log = file.as_ref();
+    let log_file = open_log(rt, service.log)?;
+    let log = log_file.as_ref();
     let task = StoreTask::Serve {
         serving: &serving,
         port: service.port,
         log,
     };
-    use_store(rt, alloc, start, service.store, policy, &task, out)
+    let is_wanted = machine.is_terminal || service.shows_progress;
+    let mut lines = ProgressLines::new(alloc, rt, err, is_wanted);
+    let file = RegisterFile {
+        start: machine.start,
+        path: service.store,
+    };
+    use_store(rt, alloc, file, policy, &task, out, &mut lines)
 }
 
 /// The day of the requests, if it is not that of the clock.

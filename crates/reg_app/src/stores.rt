@@ -7,6 +7,7 @@ ghost use Rattle.reg_tables.specs.Making.{RefusesBytes};
 ghost use Rattle.reg_tables.specs.Migrates.{MigratesFiles};
 ghost use Rattle.reg_tables.specs.Opened.{AdoptsFiles};
 
+use crate::progress::ProgressLines;
 use crate::refusal::adopting;
 use ags_rows::READABLE;
 use reg_cli::{Fault, Refusal};
@@ -16,9 +17,10 @@ use std::alloc::Global;
 use std::convert::AsStr;
 use std::fs;
 use std::fs::OpenOptions;
-use std::io::ErrorKind;
+use std::io::{ErrorKind, Write};
 use std::os::unix::fs::OpenOptionsExt;
 use std::path::Path;
+use std::time::Clock;
 
 /// Makes an empty register at a path, and closes it. What names the type of a store in a file is kept short: it is
 /// written out at each point of a function that holds one.
@@ -61,38 +63,49 @@ pub(crate) fn make_private(rt: &HostRuntime, store: &str) {
         .open(rt, store);
 }
 
-/// The register in the file at a path, where `F` stands for what its files held.
-pub(crate) fn open_store<'w, F: Start>(
+/// The file of a register, and the log beside it. `F` stands for what they held.
+#[derive(Drop)]
+pub(crate) struct RegisterFile<'w, F> {
+    pub(crate) start: F,
+    pub(crate) path: &'w str,
+}
+
+/// The register in a file.
+pub(crate) fn open_store<'w, F: Start, C: Clock, E: Write>(
     rt: &HostRuntime,
     alloc: Global,
-    start: F,
-    store: &'w str,
+    file: RegisterFile<'w, F>,
+    lines: &mut ProgressLines<'_, '_, C, E>,
 ) -> Result<SqlKeep<FileStore<FileFrom<F>>>, Refusal<'w>>
     ensures adopted { IfOk result (λ k. AdoptsFiles (image_at F.Start) k.dictionary (file_state k.connection)) }
     ensures working { IfOk result (λ k. k.has_failed ≡ false) }
 {
-    if is_absent(rt, store) {
+    let RegisterFile { start, path } = file;
+    if is_absent(rt, path) {
         return Err(Refusal::Plain(Fault::NotRegister));
     }
-    match SqlKeep::open_from(rt, alloc, store, start) {
+    say_size(rt, alloc, path, lines);
+    match SqlKeep::open_from(rt, alloc, path, start, lines) {
         Ok(keep) => Ok(keep),
         Err((error, _connection)) => Err(adopting(error)),
     }
 }
 
-/// The register of format 1 in the file at a path, made one of format 2, where `F` stands for what its files held.
-pub(crate) fn migrate_store<'w, F: Start>(
+/// The register of format 1 in a file, made one of format 2.
+pub(crate) fn migrate_store<'w, F: Start, C: Clock, E: Write>(
     rt: &HostRuntime,
     alloc: Global,
-    start: F,
-    store: &'w str,
+    file: RegisterFile<'w, F>,
+    lines: &mut ProgressLines<'_, '_, C, E>,
 ) -> Result<SqlKeep<FileStore<FileFrom<F>>>, Refusal<'w>>
     ensures { IfOk result (λ k. MigratesFiles (image_at F.Start) k.dictionary (file_state k.connection)) }
 {
-    if is_absent(rt, store) {
+    let RegisterFile { start, path } = file;
+    if is_absent(rt, path) {
         return Err(Refusal::Plain(Fault::NotRegister));
     }
-    match SqlKeep::migrate_from(rt, alloc, store, start) {
+    say_size(rt, alloc, path, lines);
+    match SqlKeep::migrate_from(rt, alloc, path, start, lines) {
         Ok(keep) => Ok(keep),
         Err((error, _connection)) => Err(adopting(error)),
     }
@@ -112,5 +125,36 @@ fn has_folder(rt: &HostRuntime, path: &str) -> bool {
         Some(folder) if folder.as_str().is_empty() => true,
         Some(folder) => matches!(fs::metadata(rt, folder), Ok(found) if found.is_dir()),
         None => false,
+    }
+}
+
+/// Says how many bytes the register in the file at a path has, if the file is there.
+fn say_size<C: Clock, E: Write>(
+    rt: &HostRuntime,
+    alloc: Global,
+    path: &str,
+    lines: &mut ProgressLines<'_, '_, C, E>,
+) {
+    if !lines.is_wanted() {
+        return;
+    }
+    if let Some(bytes) = register_bytes(rt, alloc, path) {
+        lines.say_bytes(bytes);
+    }
+}
+
+/// The bytes of the file at a path and of the log beside it.
+fn register_bytes(rt: &HostRuntime, alloc: Global, path: &str) -> Option<u64> {
+    let file = file_bytes(rt, path)?;
+    let log = format!(in alloc; "{path}-wal").ok()?;
+    let logged = file_bytes(rt, log.as_str()).unwrap_or(0);
+    Some(file.saturating_add(logged))
+}
+
+/// The bytes of the file at a path, if there is one.
+fn file_bytes(rt: &HostRuntime, path: &str) -> Option<u64> {
+    match fs::metadata(rt, path) {
+        Ok(found) if found.is_file() => Some(found.len()),
+        _ => None,
     }
 }

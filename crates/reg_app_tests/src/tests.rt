@@ -1,6 +1,7 @@
 mod answers;
 mod checks;
 mod connections;
+mod progress;
 
 use ags_rows::vectors::FILE_A;
 use reg_cli::{Watched, run_without_words};

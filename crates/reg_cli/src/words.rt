@@ -23,9 +23,18 @@ pub fn read_words<'w, S: AsStr>(alloc: Global, words: &'w [S]) -> Result<Words<'
 /// A command with the texts that its arguments give.
 #[derive(Clone, Copy)]
 pub enum Words<'w> {
-    Init { store: &'w str, dictionary: &'w str },
-    Migrate { store: &'w str },
-    Check { dictionary: &'w str, file: &'w str },
+    Init {
+        store: &'w str,
+        dictionary: &'w str,
+    },
+    Migrate {
+        store: &'w str,
+        shows_progress: bool,
+    },
+    Check {
+        dictionary: &'w str,
+        file: &'w str,
+    },
     Ask(Asker<'w>, Action<'w>),
     Serve(Service<'w>),
 }
@@ -56,6 +65,8 @@ pub struct Asker<'w> {
     pub token: &'w str,
     pub project: &'w str,
     pub day: Option<&'w str>,
+    /// Whether the progress of the start is shown, whatever standard error is.
+    pub shows_progress: bool,
 }
 
 /// What `serve` serves, as it was given.
@@ -79,6 +90,8 @@ pub struct Service<'w> {
     pub ends_on_failure: bool,
     /// The file to which a line is appended for each connection.
     pub log: Option<&'w str>,
+    /// Whether the progress of the start is shown, whatever standard error is.
+    pub shows_progress: bool,
 }
 
 /// A command's name, the arguments that other commands have too, and its own.
@@ -124,7 +137,7 @@ static FORMS: [Form; 8] = [
         name: "migrate",
         task: Task::Migrate,
         shared: &[],
-        own: &[Word::Required("store")],
+        own: &[Word::Required("store"), Word::Flag("progress")],
     },
     Form {
         name: "check",
@@ -171,6 +184,7 @@ static FORMS: [Form; 8] = [
             Word::Optional("patience"),
             Word::Flag("end-on-failure"),
             Word::Optional("log"),
+            Word::Flag("progress"),
         ],
     },
 ];
@@ -183,6 +197,7 @@ const ASKER: &[Word] = &[
     Word::Required("token"),
     Word::Required("project"),
     Word::Optional("day"),
+    Word::Flag("progress"),
 ];
 
 /// The form of the command that has this name.
@@ -265,6 +280,7 @@ fn init_words<'w>(given: &ArgMatches<'w>) -> Option<Words<'w>> {
 fn migrate_words<'w>(given: &ArgMatches<'w>) -> Option<Words<'w>> {
     Some(Words::Migrate {
         store: text(given, "store")?,
+        shows_progress: given.get_flag("progress"),
     })
 }
 
@@ -306,6 +322,7 @@ fn asker_in<'w>(given: &ArgMatches<'w>) -> Option<Asker<'w>> {
         token: text(given, "token")?,
         project: text(given, "project")?,
         day: text(given, "day"),
+        shows_progress: given.get_flag("progress"),
     })
 }
 
@@ -326,6 +343,7 @@ fn service_in<'w>(given: &ArgMatches<'w>) -> Option<Service<'w>> {
         patience: patience_in(given)?,
         ends_on_failure: given.get_flag("end-on-failure"),
         log: text(given, "log"),
+        shows_progress: given.get_flag("progress"),
     })
 }
 

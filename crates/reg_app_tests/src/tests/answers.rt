@@ -21,6 +21,7 @@ static DELTA: Asker<'static> = Asker {
     token: "t-delta",
     project: "N1",
     day: Some("2024-05-01"),
+    shows_progress: false,
 };
 
 /// What is asked, of a deposit by its file or by its number.
