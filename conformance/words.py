@@ -11,8 +11,10 @@ come the status and what is printed, without its line end; after `!` what is sai
 answered."""
 import contextlib
 import os
+import re
 import socket
 import sqlite3
+import subprocess
 import sys
 import tempfile
 sys.dont_write_bytecode = True
@@ -145,6 +147,8 @@ migrate|--store=s|--dictionary=mini
 migrate|--store=s|--policy=q
 migrate|--store=s|--day=2024-05-01
 migrate|--store=s|--help
+migrate|--store=s|--progress=yes
+migrate|--store=s|--progress|--progress
 migrated|--store=s
 help
 --help
@@ -157,6 +161,7 @@ init|--store=s
 init|--store=s|--dictionary=mini|more
 init|--store=s|--store=s|--dictionary=mini
 init|--store=s|--dictionary=mini|--day=2024-05-01
+init|--store=s|--dictionary=mini|--progress
 init|--store|--dictionary|mini
 --store=s|init|--dictionary=mini
 --|init|--store=s|--dictionary=mini
@@ -166,6 +171,7 @@ check|--dictionary=mini
 check|--dictionary=mini|a|b
 check|--dictionary=mini|--
 check|--dictionary=mini|a|--|b
+check|--dictionary=mini|--progress|a
 check|a
 check|a|--|--dictionary=mini
 deposit|@
@@ -175,6 +181,8 @@ list|@|--groups=LOCA
 list|@|1
 list|@|--token
 list|@|--day|-1
+list|@|--progress=1
+list|@|--progress|--progress
 list|--store=s|--policy=q|--callers=c|--token=t-delta
 extract|@
 extract|@|--embargo=2024-06-01|1
@@ -196,6 +204,7 @@ serve|&|--port=80|--connections=1|--day-by-clock=yes
 serve|&|--port=80|--connections=1|--end-on-failure=yes
 serve|&|--port=80|--connections=1|--end-on-failure|--end-on-failure
 serve|&|--port=80|--connections=1|--log
+serve|&|--port=80|--connections=1|--progress=
 list|@|--patience=30
 list|@|--log=l
 """
@@ -328,6 +337,34 @@ serve|&|--port=PORT|--connections=1|--patience=1|--end-on-failure|--log=l => 6 !
 serve|--end-on-failure|--day-by-clock|&|--port=PORT|--patience|3600|--connections=1 => 6 ! cannot listen
 """
 
+# Starts that open a register, s with one deposit, file a, or try to: the line, the register, and the fault that is
+# reported, if there is one.
+STARTS = [
+    ("list|@", "s", ""),
+    ("deposit|@|a", "s", ""),
+    ("extract|@|1", "s", ""),
+    ("extract|@|2", "s", ""),
+    ("deposit|@|--token=t-gamma|a", "s", ""),
+    ("withdraw|@|--policy=w|1", "s", ""),
+    ("serve|&|--port=PORT|--connections=1", "s", "cannot listen"),
+    ("migrate|--store=s", "s", "register version 2"),
+    ("list|@|--store=junk", "junk", "store failed"),
+    ("list|@|--store=empty", "empty", "not a register"),
+]
+# Faults that come before a register is opened, and registers that are no file: nothing is said of their size.
+UNOPENED = """
+list|@|--progress|--token=t-x => 4 ! token refused
+deposit|@|--progress|gone => 6 ! cannot read gone
+serve|&|--progress|--port=80|--connections=1|--log=none/l => 6 ! cannot write none/l
+list|--progress|@|--store=gone => 4 ! not a register
+withdraw|@|--store=.|1|--progress => 5 ! store failed
+migrate|--progress|--store=gone/s => 5 ! store failed
+# After `--` it is no flag.
+deposit|@|--|--progress => 6 ! cannot read --progress
+"""
+# A line of the deposits that are checked, which a start of more than a second has.
+CHECKED = re.compile(rb"[0-9]+ of [0-9]+ deposits checked, [0-9]+ seconds left\n")
+
 # The commands that open a register of format 2, each with all its words.
 COMMANDS = ("deposit|@|a", "extract|@|1", "list|@", "withdraw|@|1", "serve|&|--port=80|--connections=1")
 NOT_ONE, FAILED, OF_FORMAT = "4 ! not a register", "5 ! store failed", "4 ! register version {}".format
@@ -439,6 +476,43 @@ class Folder(servers.Place):
             return told + " ! " + said[len(b"groundreg: "):-1].decode("latin-1")
         return told + said.decode("latin-1")
 
+    def run_saying(self, said, words):
+        """Standard output and status of a start whose standard error is this file."""
+        run = subprocess.run([self.program, *words], cwd=self.folder, stdin=subprocess.DEVNULL, stdout=subprocess.PIPE,
+                             stderr=said, timeout=self.patience)
+        return run.stdout, run.returncode
+
+    def run_at_terminal(self, words):
+        """Standard output, what a terminal gets on standard error, and status of a start."""
+        ours, its = os.openpty()
+        try:
+            out, status = self.run_saying(its, words)
+        finally:
+            os.close(its)
+        said = b""
+        with contextlib.suppress(OSError):  # which is how a terminal ends
+            while piece := os.read(ours, 4096):
+                said += piece
+        os.close(ours)
+        return out, said.replace(b"\r\n", b"\n"), status
+
+    def size_line(self, store):
+        """What is said before a register is opened: the bytes of its file and its log."""
+        paths = [self.path(store), self.path(store + "-wal")]
+        return b"reading %d bytes\n" % sum(os.path.getsize(path) for path in paths if os.path.exists(path))
+
+    def show_start(self, line, store, fault):
+        """A start says nothing of its progress, says it with the flag, and at a terminal without the flag."""
+        words, told = words_of(line), b"groundreg: %s\n" % fault.encode() if fault else b""
+        out, said, status = self.run(*words)
+        self.check(f"{line}: without a terminal", told, said)
+        for name, start in (("--progress", lambda: self.run(*words, "--progress")),
+                            ("a terminal", lambda: self.run_at_terminal(words))):
+            size = self.size_line(store)
+            got, shown, ended = start()
+            self.check(f"{line}: {name}", size + told, CHECKED.sub(b"", shown))
+            self.check(f"{line}: {name}, answer", (out, status), (got, ended))
+
     def hold(self, line, want):
         self.check(line, want, self.answer(words_of(line)))
 
@@ -492,6 +566,23 @@ def refuse_port(folder):
         folder.play(PORT_TAKEN.replace("PORT", str(taken.getsockname()[1])))
 
 
+def show_progress(folder):
+    folder.play(BEFORE_STORES + UNOPENED)
+    with socket.create_server(("127.0.0.1", 0)) as taken:
+        for line, store, fault in STARTS:
+            folder.show_start(line.replace("PORT", str(taken.getsockname()[1])), store, fault)
+    for statement in TO_FORMAT_1:
+        folder.change("s", *statement)
+    size = folder.size_line("s")
+    out, said, status = folder.run("migrate", "--progress", "--store=s")
+    folder.check("a migration", (b"migrated\n", size, 0), (out, CHECKED.sub(b"", said), status))
+    # A line that cannot be written is no failure; a fault that cannot be reported is one.
+    with open("/dev/full", "wb") as full:
+        for line, want in (("list|@|--progress", (b"1 Delta 2024-05-01\n", 0)),
+                           ("list|@|--progress|--store=junk", (b"", 6))):
+            folder.check(f"{line}: standard error is full", want, folder.run_saying(full, words_of(line)))
+
+
 def make_private(folder):
     folder.play("init|--store=s|--dictionary=mini => 0 created\n"
                 "serve|&|--log=l|--port=80|--connections=1|--store=empty => 4 ! not a register")
@@ -503,7 +594,7 @@ def main():
     passed = failed = 0
     plays = [lambda folder, scene=scene: folder.play(scene) for scene in SCENES]
     plays.append(lambda folder: folder.hold("", REFUSED))  # an empty word is no line
-    plays += [refuse_stores, refuse_changed, refuse_port, make_private]
+    plays += [refuse_stores, refuse_changed, refuse_port, show_progress, make_private]
     for play in plays:
         with tempfile.TemporaryDirectory() as path:
             folder = Folder(sys.argv[1], path, files=FILES)
