@@ -3,6 +3,7 @@ program answer, and the claims of its part "What hides and what does not".
 
 The tables after a block, up to the next one, are those of its policy. The rules of samples/empty.toml are in each."""
 import collections
+import copy
 import os
 import re
 import sqlite3
@@ -101,7 +102,11 @@ def cell(register, rules, caller, row, column):
     """What the model answers, as the page writes it."""
     number, day = int(row["Deposit"]), row.get("Day", DAY)
     project = register.deposits[number - 1]["project"]
-    if column in ("deposit", "check", "withdraw"):
+    if column == "withdraw":
+        # A state is left as it was: what is withdrawn here is not withdrawn in the next row.
+        kind, *told = copy.deepcopy(register).withdraw(rules, caller, project, number, day)
+        return "yes" if kind == "withdrawn" else " ".join([kind, *map(str, told)])
+    if column in ("deposit", "check"):
         effect, rule = machine.decide(rules, caller, project, column, day)
         return "yes" if effect == "permit" else f"denied {rule}"
     if column == "list":
@@ -128,7 +133,7 @@ def model_cases():
             got = {column: cell(register, rules, people[row["Caller"]], row, column) for column in answered}
             yield f"{pattern.name}: {row}", {column: row[column] for column in answered}, got
     failing = sum(pattern.fails for pattern in patterns)
-    yield "patterns, and forms that fail", (len(patterns), failing), (13, 2)
+    yield "patterns, and forms that fail", (len(patterns), failing), (14, 2)
 
 
 def program_cases(program, folder):
@@ -152,6 +157,13 @@ def program_cases(program, folder):
             kind, *told = register.extract(rules, caller, project, number, [], day)
             text = told[0] if kind == "text" else " ".join([kind, *map(str, told)]).encode() + b"\n"
             yield f"the program's extract: {pattern.name}: {row}", (status, out), (STATUSES[kind], text)
+            if "withdraw" in row:
+                built.copy("empty", "register")
+                out, _, status = built.run(*servers.asking("withdraw", str(number), token=caller["token"],
+                                                           project=project, day=day))
+                want = (0, f"withdrawn {number}\n") if row["withdraw"] == "yes" else (
+                    STATUSES[row["withdraw"].split(" ")[0]], row["withdraw"] + "\n")
+                yield f"the program's withdrawal: {pattern.name}: {row}", (status, out.decode()), want
     yield "steps of each deposit", steps_by_deposit(built.path("empty")), steps_of(register)
 
 
@@ -184,7 +196,27 @@ def claims():
         for column in ("deposit", "check", "list", "LOCA"):
             got, want = (cell(register, rules, people[firm], row, column) for rules in (policy[ONE], empty))
             yield f"{firm} without a part, as by the empty register: {column}", got, want
+    yield from placed(None)
     yield from deposited(policy[OWNER], people["Delta"], people["Harbour"])
+
+
+def placed(standard):
+    """Where the pattern for a consultant is in samples/policy.toml: what an embargo and a hidden sample still hide."""
+    block = "".join(block for _, block, _, _, _ in PARTS.findall(read("docs/POLICY.md")) if 'value = "FINAL"' in block
+                    and 'role = "consultant"' in block)
+    data = read("samples/office/statuses.ags", "rb").replace(b'"S1"', b'"S9"')
+    register = machine.Register(standard)
+    register.deposits.append(machine.unmarked("Delta", "N1", "2024-06-01", data))
+    echo = {"firm": "Echo", "role": "consultant"}
+    for first, early, samples in ((51, "BH1", "S9"), (71, "unknown", "S9"), (76, "unknown", "no row")):
+        numbers = iter(range(first, first + 3))
+        moved = re.sub(r"(?<=number = )\d+", lambda _, numbers=numbers: str(next(numbers)), block)
+        rules = machine.read_policy(joined(read("samples/policy.toml"), moved))
+        row = {"Deposit": "1"}
+        yield f"the consultant's rules from {first}, under the embargo", cell(
+            register, rules, echo, {**row, "Day": "2024-05-15"}, "LOCA"), early
+        yield f"the consultant's rules from {first}", cell(register, rules, echo, row, "LOCA"), "BH1"
+        yield f"the consultant's rules from {first}, the sample S9", cell(register, rules, echo, row, "SAMP"), samples
 
 
 def deposited(rules, delta, harbour):

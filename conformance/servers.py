@@ -276,14 +276,15 @@ def reset(connection):
 
 class Site:
     """nginx with the sample site, on a port of loopback: with a certificate of the moment, this text as the map of
-    projects, and a register for all others. `changes` are pairs: a text that the site has once, and what is there
-    instead."""
+    projects (None: no map), and a register for all others. `changes` are pairs: a text that the site has once, and
+    what is there instead."""
 
     def __init__(self, folder, projects, other, certificate, changes=(), workers=0):
         self.folder, self.port, self.certificate = folder, free_port(), certificate
         os.makedirs(folder, exist_ok=True)
-        with open(os.path.join(folder, "projects.map"), "w", encoding="utf-8") as file:
-            file.write(projects)
+        if projects is not None:
+            with open(os.path.join(folder, "projects.map"), "w", encoding="utf-8") as file:
+                file.write(projects)
         self.configure(other, changes, workers)
         self.process = subprocess.Popen(["nginx", "-p", folder, "-c", f"{folder}/nginx.conf"],
                                         stderr=subprocess.DEVNULL)
@@ -292,9 +293,9 @@ class Site:
     def configure(self, other, changes, workers):
         """Writes the site and nginx's own configuration, which includes it."""
         text = sample("nginx/groundreg.conf").decode()
-        for old, new in [("/etc/groundreg/projects.map", f"{self.folder}/projects.map"),
-                         ("/etc/ssl/register.crt", f"{self.certificate}.crt"),
-                         ("/etc/ssl/register.key", f"{self.certificate}.key"),
+        for old, new in [("/etc/groundreg/projects.ma[p]", f"{self.folder}/projects.ma[p]"),
+                         ("/etc/ssl/register.crt;", f"{self.certificate}.crt;"),
+                         ("/etc/ssl/register.key;", f"{self.certificate}.key;"),
                          ("/etc/ssl/certs/ca-certificates.crt", f"{self.certificate}.crt"),
                          ("listen 443 ssl;", f"listen 127.0.0.1:{self.port} ssl;"),
                          ("http://127.0.0.1:8017;", f"http://127.0.0.1:{other};"), *changes]:

@@ -35,6 +35,12 @@ POLICY_VALUES = {"number": "a whole number from 1 to 9999", "effect": "permit or
 CALLER_VALUES = {"token": "1 to 64 characters from ! to ~", "firm": NAME, "role": NAME}
 
 
+def ordinal(number):
+    """`1st`, `2nd`, `3rd`, `11th`."""
+    last = "th" if number % 100 in (11, 12, 13) else {1: "st", 2: "nd", 3: "rd"}.get(number % 10, "th")
+    return f"{number}{last}"
+
+
 class Places:
     """The lines of the tables of an array, and of their keys, as far as the text tells them."""
 
@@ -42,9 +48,12 @@ class Places:
         self.array, self.lines = array, text.splitlines()
         self.tables = [n for n, line in enumerate(self.lines, 1) if re.match(rf"\s*\[\[\s*{array}\s*\]\]", line)]
 
-    def of(self, index, key=None):
-        """`line 12, rule 3, key verb`; without a line where the tables are written in another form."""
-        told = f"{self.array} {index + 1}" + (f", key {key}" if key else "")
+    def of(self, index, item, key=None):
+        """`line 12, the 3rd rule (number 30), key verb`; without a line where the tables are written in another form,
+        and without a number where the rule has none."""
+        number = item.get("number") if self.array == "rule" and isinstance(item, dict) else None
+        numbered = f" (number {number})" if isinstance(number, int) and not isinstance(number, bool) else ""
+        told = f"the {ordinal(index + 1)} {self.array}{numbered}" + (f", key {key}" if key else "")
         if index >= len(self.tables):
             return told
         begin = self.tables[index]
@@ -109,12 +118,13 @@ def refusals(text, array, values, required, is_value):
         found.append(("BadValue", f"key {array}: an array of tables, each begun by [[{array}]]"))
     for index, item in enumerate(tables_of(table, array)):
         if not isinstance(item, dict):
-            found.append(("BadValue", f"{places.of(index)}: a table, begun by [[{array}]]"))
+            found.append(("BadValue", f"{places.of(index, item)}: a table, begun by [[{array}]]"))
             continue
-        found += [("UnknownKey", f"{places.of(index, key)}: {nearest(key, values, 'keys are ' + ', '.join(values))}")
+        keys = "keys are " + ", ".join(values)
+        found += [("UnknownKey", f"{places.of(index, item, key)}: {nearest(key, values, keys)}")
                   for key in item if key not in values]
         wanted = [key for key in values if (key in item or key in required) and not is_value(item, key)]
-        found += [("BadValue", f"{places.of(index, key)}: {values[key]}") for key in wanted]
+        found += [("BadValue", f"{places.of(index, item, key)}: {values[key]}") for key in wanted]
     items = [(index, item) for index, item in enumerate(tables_of(table, array)) if isinstance(item, dict)]
     found += twice_or_falling(items, places, array)
     return sorted(found, key=lambda one: ORDER.index(one[0]))
@@ -127,12 +137,12 @@ def twice_or_falling(items, places, array):
         number, token = item.get("number"), item.get("token")
         if array == "rule" and isinstance(number, int):
             if greatest is not None and number <= greatest:
-                found.append(("Order",
-                              f"{places.of(index, 'number')}: a number above {greatest}, that of the rule before it"))
+                found.append(("Order", f"{places.of(index, item, 'number')}: a number above {greatest},"
+                                       " that of the rule before it"))
             greatest = number
         if array == "caller" and isinstance(token, str):
             if token in seen:
-                found.append(("DuplicateToken", f"{places.of(index, 'token')}: a token that no other caller has"))
+                found.append(("DuplicateToken", f"{places.of(index, item, 'token')}: a token that no other caller has"))
             seen.add(token)
     return found
 

@@ -23,6 +23,21 @@ function fault(text) {
   byId("fault").textContent = text;
 }
 
+/** `1 row`, `2 rows`. */
+const counted = (number, noun) => `${number} ${noun}${number === 1 ? "" : "s"}`;
+
+/** A failure whose message is the sentence for whoever uses the page. */
+class Failure extends Error {}
+
+// Each step of the page is a promise that nobody waits for. So this one place says what any of them failed of.
+window.addEventListener("unhandledrejection", (event) => {
+  event.preventDefault();
+  const why = event.reason;
+  byId("progress").hidden = byId("progress-label").hidden = true;
+  tell("");
+  fault(why instanceof Failure ? why.message : `This page failed (${why?.message ?? why}). Load it again, then send a deposit again: it is not kept twice.`);
+});
+
 /** Clears what was told before, and says what is under way. */
 function begin(text, result) {
   fault("");
@@ -131,7 +146,14 @@ function takesFiles(dropId, inputId, take) {
   });
 }
 
-const bytesOf = async (file) => new Uint8Array(await file.arrayBuffer());
+/** The bytes of a chosen file. The browser refuses to read one that was changed or removed since. */
+async function bytesOf(file) {
+  try {
+    return new Uint8Array(await file.arrayBuffer());
+  } catch {
+    throw new Failure("The file has changed since it was chosen, or cannot be read. Choose it again.");
+  }
+}
 
 // ---- findings
 
@@ -180,11 +202,11 @@ async function showFindings(result, findings, bytes) {
   const filter = make("select", { id: `${result}-filter`, change: () => { for (const part of parts) part.hidden = filter.value !== "" && part.dataset.code !== filter.value; } },
     make("option", { value: "" }, "all rules"), ...[...by].map(([code, each]) => make("option", { value: code }, `${code} ${ruleOf(code).title} (${each.length})`)));
   byId(result).replaceChildren(
-    make("p", { class: "findings" }, `${findings.length} ${findings.length === 1 ? "finding" : "findings"} of ${by.size} ${by.size === 1 ? "rule" : "rules"}. Fix them and check again: later phases are looked at only then.`),
+    make("p", { class: "findings" }, `${counted(findings.length, "finding")} of ${counted(by.size, "rule")}. Fix them and check again: later phases are looked at only then.`),
     make("div", { class: "actions" }, make("label", { for: filter.id }, "Show"), filter,
       make("button", { type: "button", class: "plain", click: () => save("findings.csv", "text/csv", [findingsAsCsv(findings, lines)]) }, "Save as CSV")),
     ...parts);
-  tell(`${findings.length} findings.`);
+  tell(`${counted(findings.length, "finding")}.`);
 }
 
 // ---- check
@@ -220,7 +242,7 @@ function showReceipt(name, told) {
   const text = `receipt ${told.number} ${told.embargo}`;
   const copy = make("button", { type: "button", class: "plain", click: async () => { await navigator.clipboard.writeText(text).catch(() => {}); tell("The receipt is copied."); } }, "Copy the receipt");
   byId("deposit-result").replaceChildren(
-    make("p", { class: "receipt" }, `${name} is deposit ${told.number}, under embargo until ${told.embargo}.`), make("p", {}, make("code", { class: "receipt-text" }, text)), copy);
+    make("p", { class: "receipt" }, `${name} is deposit ${told.number}, free from ${told.embargo}.`), make("p", {}, make("code", { class: "receipt-text" }, text)), copy);
   tell(`Deposit ${told.number}.`);
 }
 
@@ -255,7 +277,8 @@ byId("deposit-form").addEventListener("submit", (event) => {
 
 // ---- deposits
 
-const COLUMNS = [["number", "Number"], ["firm", "Firm"], ["embargo", "Embargo until"]];
+const COLUMNS = [["number", "Number"], ["firm", "Firm"], ["embargo", "Free from"]];
+const GROUPS_FORM = "Groups in capitals, with commas: LOCA,SAMP";
 let listed = { deposits: [], by: "number", falls: false };
 
 const today = () => new Date().toISOString().slice(0, 10);
@@ -300,12 +323,12 @@ async function withdraw(each) {
 }
 
 function depositRow(each) {
-  const state = each.embargo > today() ? "running" : "past";
-  const groups = make("input", { type: "text", id: `groups-${each.number}`, size: "12", pattern: "[A-Z0-9]{1,4}(,[A-Z0-9]{1,4})*", title: "groups, joined by commas", placeholder: "all groups", autocomplete: "off" });
+  const state = each.embargo > today() ? " (under embargo)" : "";
+  const groups = make("input", { type: "text", id: `groups-${each.number}`, size: "12", title: GROUPS_FORM, placeholder: "all groups", autocomplete: "off" });
   return make("tr", {},
-    make("td", {}, String(each.number)), make("td", {}, each.firm), make("td", {}, `${each.embargo} (${state})`),
+    make("td", {}, String(each.number)), make("td", {}, each.firm), make("td", {}, `${each.embargo}${state}`),
     make("td", {}, make("div", { class: "actions" }, make("label", { for: groups.id, class: "hint" }, "Groups"), groups,
-      make("button", { type: "button", "data-extract": String(each.number), click: () => draw(each.number, groups.value) }, `Extract of ${each.number}`),
+      make("button", { type: "button", "data-extract": String(each.number), click: () => draw(each.number, groups) }, `Extract of ${each.number}`),
       ...(mayWithdraw ? [withdrawButton(each)] : []))));
 }
 
@@ -314,8 +337,9 @@ function showDeposits() {
   const sorted = [...listed.deposits].sort((a, b) => way * (a[listed.by] < b[listed.by] ? -1 : a[listed.by] > b[listed.by] ? 1 : a.number - b.number));
   const head = COLUMNS.map(([key, name]) => make("th", { scope: "col", "aria-sort": listed.by === key ? (listed.falls ? "descending" : "ascending") : "none" },
     make("button", { type: "button", "data-key": key, click: () => sortBy(key) }, name)));
-  byId("deposits-result").replaceChildren(make("div", { class: "scroll", tabindex: "0", role: "region", "aria-label": "Deposits" },
-    make("table", {}, make("caption", {}, `${sorted.length} deposits that you see`), make("thead", {}, make("tr", {}, ...head, make("th", { scope: "col" }, "Extract"))), make("tbody", {}, ...sorted.map(depositRow)))));
+  const hint = mayWithdraw && sorted.length ? [make("p", { class: "hint" }, "Withdraw: own deposits only.")] : [];
+  byId("deposits-result").replaceChildren(...hint, make("div", { class: "scroll", tabindex: "0", role: "region", "aria-label": "Deposits" },
+    make("table", {}, make("caption", {}, `${counted(sorted.length, "deposit")} that you see`), make("thead", {}, make("tr", {}, ...head, make("th", { scope: "col" }, "Extract"))), make("tbody", {}, ...sorted.map(depositRow)))));
 }
 
 /** Shows the deposits, and gives whether the register told them. */
@@ -332,7 +356,7 @@ async function list() {
   }
   listed = { deposits: reply.told.deposits, by: "number", falls: false };
   showDeposits();
-  tell(`${listed.deposits.length} deposits.`);
+  tell(`${counted(listed.deposits.length, "deposit")}.`);
   return true;
 }
 
@@ -342,7 +366,7 @@ byId("list").addEventListener("click", list);
 function groupTable(group) {
   const head = group.headings.map((heading, at) => make("th", { scope: "col" }, heading, group.units[at] ? ` (${group.units[at]})` : ""));
   const rows = group.rows.slice(0, MOST_ROWS).map((row) => make("tr", {}, ...row.map((entry) => make("td", {}, entry))));
-  const note = group.rows.length > MOST_ROWS ? `The first ${MOST_ROWS} of ${group.rows.length} rows; the saved file has all.` : `${group.rows.length} rows`;
+  const note = group.rows.length > MOST_ROWS ? `The first ${MOST_ROWS} of ${group.rows.length} rows; the saved file has all.` : counted(group.rows.length, "row");
   return make("div", { class: "scroll", tabindex: "0", role: "region", "aria-label": `Rows of ${group.name}` },
     make("table", {}, make("caption", {}, note), make("thead", {}, make("tr", {}, ...head)), make("tbody", {}, ...rows)));
 }
@@ -370,14 +394,21 @@ function showExtract(number, bytes) {
     make("button", { type: "button", id: "save", click: () => save(`deposit-${number}.ags`, "text/plain", [bytes]) }, "Save the file"),
     make("div", { role: "tablist", "aria-label": "Groups" }, ...buttons), shown);
   if (groups.length) pick(buttons[0], groups[0]);
-  tell(`The extract of deposit ${number} has ${groups.length} groups.`);
+  tell(`The extract of deposit ${number} has ${counted(groups.length, "group")}.`);
 }
 
-async function draw(number, groups) {
+async function draw(number, field) {
   const asked = register();
   if (!asked) return;
+  const groups = field.value.split(",").map((name) => name.trim()).filter((name) => name);
+  if (!groups.every((name) => /^[A-Z0-9]{1,4}$/.test(name))) {
+    tell("");
+    fault(`${GROUPS_FORM}.`);
+    field.focus();
+    return;
+  }
   begin(`Drawing the extract of deposit ${number} ..`, "extract-result");
-  const reply = await asked.extract(number, groups.split(",").map((name) => name.trim()).filter((name) => name));
+  const reply = await asked.extract(number, groups);
   tell("");
   if (reply.status === 200) showExtract(number, reply.bytes);
   else fault(sentenceFor(reply));

@@ -373,10 +373,11 @@ def of_headings():
            "2 DATA rows;lines 5 and 6")
     yield ("no_transmission", without("TRAN"),
            1, 1, ("14", 0, "TRAN"),
-           "The file has no group TRAN")
+           "The file has no group TRAN;Headings of TRAN: TRAN_ISNO, TRAN_DATE, TRAN_PROD, TRAN_AGS, TRAN_RECV,"
+           " TRAN_DLIM and TRAN_RCON.;KEY headings: TRAN_ISNO.")
     yield ("no_units", without("UNIT"),
            1, 1, ("15", 0, "UNIT"),
-           "The file has no group UNIT")
+           "The file has no group UNIT;Headings of UNIT: UNIT_UNIT and UNIT_DESC.;KEY headings: UNIT_UNIT.")
     yield ("delimiter_of_two_characters", put('"4.1","|","+"', '"4.1","||","+"'),
            1, 1, ("11a", 11, "TRAN_DLIM"),
            'TRAN_DLIM is "||";one character')
@@ -501,7 +502,8 @@ def of_links():
             ("link_with_too_few_keys", "SAMP|BH101|1.50",
              'too few keys;3 KEY headings (LOCA_ID, SAMP_TOP, SAMP_REF);the link gives 2 entries;"SAMP|BH101|1.50|S9" '
              f'for line {SAMP + 4}'),
-            ("link_with_too_many_keys", "SAMP|BH101|1.50|S9|U", "too many keys;3 KEY headings;4 entries"),
+            ("link_with_too_many_keys", "SAMP|BH101|1.50|S9|U", "too many keys;3 KEY headings;4 entries;"
+             "Give the group and all its KEY entries, in this order: SAMP|LOCA_ID|SAMP_TOP|SAMP_REF"),
             ("link_of_other_decimals", "SAMP|BH101|1.5|S9",
              f'line {SAMP + 4} of SAMP differs in SAMP_TOP;"1.5" in the link and "1.50" there;the same number'),
             ("link_with_spaces", "SAMP|BH101|1.50| S9", "differs in SAMP_REF;a space at its start"),
@@ -509,6 +511,8 @@ def of_links():
              'cut at "|";":" between its entries;"SAMP|BH101|1.50|S9"'),
             ("link_to_a_group_that_is_not_there", "CORE|BH101|1.50|2.00", 'the file has no group "CORE"'),
             ("link_without_its_group", "BH101|1.50|S9", "names no row"),
+            ("link_to_a_borehole_that_is_not_there", "SAMP|BH7|9.00|S7",
+             "no SAMP row has LOCA_ID=BH7;in this order: SAMP|LOCA_ID|SAMP_TOP|SAMP_REF, of a row that is there"),
             ("link_of_two_parts", "SAMP|BH101|1.50|S9+SAMP|BH102|2.20|S2",
              f'The part "SAMP|BH102|2.20|S2";line {SAMP + 6} of SAMP differs in SAMP_REF')):
         yield (name, put('"2024-05-02","SAMP|BH101|1.50|S9"', f'"2024-05-02","{new}"'),

@@ -203,7 +203,8 @@ def link(context, key, findings):
         return ags.shown(part), *wrong_count(context, here, name, given)
     row = nearest_row(context, name, tuple(given))
     if row is None:
-        return ags.shown(part), [here + f": no {ags.shown(name)} row has {texts.pairs(keys[:1], given[:1])}."], None
+        return (ags.shown(part), [here + f": no {ags.shown(name)} row has {texts.pairs(keys[:1], given[:1])}."],
+                form_of_link(context, name) + ", of a row that is there; or add the row.")
     target = context.file.by_name[name].entries(row, keys)
     said = [here + f": line {row.line} of {ags.shown(name)} differs in "
                    f"{texts.names(h for h, a, b in zip(keys, given, target) if a != b)}."]
@@ -216,6 +217,12 @@ def link(context, key, findings):
     return ags.shown(part), said[:4], f"Write {texts.value(right)}, if that row is meant, or add the row."
 
 
+def form_of_link(context, name):
+    """What a link to a row of a group is made of."""
+    form = context.listed.delimiter.join([name, *context.words.keys(name)])
+    return f"Give the group and all its KEY entries, in this order: {ags.shown(form)}"
+
+
 def wrong_count(context, here, name, given):
     """A link with too few or too many entries: what is said, and how it is fixed."""
     keys, delimiter, few = (context.words.keys(name), context.listed.delimiter,
@@ -223,7 +230,7 @@ def wrong_count(context, here, name, given):
     said = [f"{here}: too {'few' if few else 'many'} keys. {ags.shown(name)} has "
             f"{texts.count(len(keys), 'KEY heading')} ({', '.join(map(ags.shown, keys))}), and the link gives "
             f"{texts.count(len(given), 'entry')}."]
-    fix = f"Give all KEY entries: {ags.shown(delimiter.join([name, *keys]))}"
+    fix = form_of_link(context, name)
     if not few:
         return (said + [f"Is the delimiter {texts.value(delimiter)} within an entry? Such a row cannot be linked to."],
                 fix)

@@ -147,6 +147,8 @@ def missing_row(context, group, name, missing, also):
     if example is not None and b"HEADING" not in missing:
         spelled = texts.clipped(texts.row(missing[0], example))
         fix = f"Add the row, with {texts.count(items, 'item')}, one for each heading: {spelled}"
+        if missing[0] == b"TYPE":
+            fix += " (X takes any text: write the real types, as ID, 2DP, RL or PA)."
     return words, [here] + also, fix
 
 

@@ -66,7 +66,8 @@ def unknown_names(context, key, findings):
     if others:
         here.append(f"The built-in dictionary does not have {texts.count(len(others), 'heading')} of this file: "
                     f"{texts.names(others)}.")
-    fix = "Check under the dictionary that has them: groundreg check --dictionary DICT.ags FILE"
+    fix = ("Check under the dictionary that has them, as the published one: "
+           "bin/groundreg check --dictionary DICT.ags FILE")
     return texts.names(strange or others), here + [edition(context)], fix
 
 
@@ -195,14 +196,25 @@ def one_row(context, key, findings):
     if findings[0].line == 0:
         near = next((other for other in context.file.by_name if other.upper() == name and other != name), None)
         here = [f"The file has no group {ags.shown(name)}, with {WANTED[name]}."]
-        return ags.shown(name), here + ([f"It has {ags.shown(near)}."] if near
-                                        else []), f"Add the group {ags.shown(name)}, with {WANTED[name]}."
+        if near:
+            here.append(f"It has {ags.shown(near)}.")
+        else:
+            here += headings_of(context, name)
+        return ags.shown(name), here, f"Add the group {ags.shown(name)}, with {WANTED[name]}."
     rows = context.file.by_name[name].data
     here = [f"{ags.shown(name)} has {texts.count(len(rows), 'DATA row')}, from line {rows[0].line} to line "
             f"{rows[-1].line}; it has one."]
     if any(row.items == rows[0].items for row in rows[1:]):
         here.append("One of them is the same as the first.")
     return ags.shown(name), here, f"Keep one of {texts.lines(row.line for row in rows)}, and take the others out."
+
+
+def headings_of(context, name):
+    """The headings of a group in the order of the dictionary, and which of them are KEY and REQUIRED."""
+    words = context.words
+    lists = ((f"Headings of {ags.shown(name)}", words.order(name)), ("KEY headings", words.keys(name)),
+             ("REQUIRED headings", words.required(name)))
+    return [f"{what}: {texts.names(given, 20)}." for what, given in lists if given]
 
 
 def own_name(context, key, findings):
