@@ -1,13 +1,14 @@
 #!/usr/bin/env python3
-"""Random files without findings, policies and days, and what the machine of machine.py, or the program, makes of them.
+"""Random files without findings, policies and days, and what the reference model (machine.py) or the program makes of
+them.
 
 usage: bodies.py [COUNT [SEED [PROGRAM]]]     the last line is 'N passed, M failed'
 
 Of each of COUNT bodies, with record links, rings and file sets, under a policy and for a caller of its own, it tries on
-the machine, or on the program where one is named: what is drawn is a file without findings, by reference.py; the
+the model, or on the program where one is named: what is drawn is a file without findings, by reference.py; the
 extract of an extract that is shown whole is the same bytes; and where hidden rows alone are changed, the listing and
 every extract are the same. A seed gives the same bodies each time. The program deposits by words, in a register file of
-its own for each body, and lists and draws over `serve`, a connection each. What it answers is compared with the machine
+its own for each body, and lists and draws over `serve`, a connection each. What it answers is compared with the model
 too."""
 import random
 import shutil
@@ -159,9 +160,9 @@ def held(text, deposit):
     return register
 
 
-class Machine:
-    """Registers of one deposit each on the machine, and what it answers: a listing, then an extract for each list of
-    groups."""
+class Model:
+    """Registers of one deposit each on the reference model, and what it answers: a listing, then an extract for each
+    list of groups."""
 
     def seen_of(self, text, deposit, policy_text, caller, day, asked):
         register, rules = held(text, deposit), machine.read_policy(policy_text)
@@ -212,8 +213,8 @@ def turn(chance, counts, side):
     wrong = []
     if isinstance(side, Program) and answers != [
             ("text", a[1]) if a[0] == "text" else ("reply", machine.reply(a)[1])
-            for a in Machine().seen_of(text, deposit, policy_text, caller, day, asked)]:
-        wrong.append("another answer than the machine's")
+            for a in Model().seen_of(text, deposit, policy_text, caller, day, asked)]:
+        wrong.append("another answer than the model's")
     texts = [answer for answer in answers[1:] if answer[0] == "text"]
     counts["extracts"] += len(texts)
     for answer in dict.fromkeys(texts):
@@ -240,7 +241,7 @@ def main():
     chance = random.Random(int(sys.argv[2]) if len(sys.argv) > 2 else 1)
     counts, passed, failed = {"extracts": 0, "pairs": 0}, 0, 0
     folder = tempfile.mkdtemp(prefix="bodies")
-    side = Program(sys.argv[3], folder) if len(sys.argv) > 3 else Machine()
+    side = Program(sys.argv[3], folder) if len(sys.argv) > 3 else Model()
     for _ in range(count):
         wrong, text = turn(chance, counts, side)
         passed += not wrong

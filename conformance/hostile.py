@@ -1,6 +1,6 @@
 #!/usr/bin/env python3
 """Hostile input: files, policies, callers, dictionaries, heads and bodies of requests, changed at random, and what the
-program and the machine of machine.py answer to each.
+program and the reference model (machine.py) answer to each.
 
 usage: hostile.py PROGRAM [COUNT [SEED [KIND[:FIRST]..]]]     the last line is 'N passed, M failed'
 
@@ -12,7 +12,7 @@ compared. A start that ends by a signal, 101, 134 or 139, or not within a minute
 same turns each time; `hostile.py PROGRAM 1 SEED policy:17` does turn 17 alone. What was answered is counted, so that a
 reader sees what the changes reach.
 
-A policy or callers that the program takes and Python's tomllib does not is tried on the machine once more, spelled in
+A policy or callers that the program takes and Python's tomllib does not is tried on the model once more, spelled in
 TOML 1.0 (`older_toml`): the program reads TOML 1.1."""
 import collections
 import os
@@ -163,10 +163,10 @@ def older_toml(text):
     return "".join(out)
 
 
-# ---- the program and the machine side by side
+# ---- the program and the model side by side
 
 class Side(servers.Place):
-    """A place with a register of three deposits, known to the program and to the machine."""
+    """A place with a register of three deposits, known to the program and to the model."""
 
     patience = 60
 

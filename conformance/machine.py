@@ -1,6 +1,6 @@
 #!/usr/bin/env python3
-"""The register as a machine, written apart from the product and straight from its definitions: slow, plain, nothing
-kept twice.
+"""The reference model of a register, written apart from the product and straight from its definitions: slow, plain,
+nothing kept twice.
 
 It has the policy and the callers, what a caller may see of a file, the extract, the five requests with the state that
 each leaves, a request as it is read from the bytes of a connection with the bytes of its reply, the command line, and
@@ -916,7 +916,7 @@ def head(line, token=None, *fields):
 
 
 def examples():
-    """(name, what the machine gives, what the specification gives)"""
+    """(name, what the model gives, what the specification gives)"""
     rules, by = read_policy(POLICY), read_callers(CALLERS)
     delta, gamma, foxtrot, echo = (by["t-" + firm] for firm in ("delta", "gamma", "foxtrot", "echo"))
     june, may = "2024-06-01", "2024-05-31"

@@ -1,6 +1,6 @@
 #!/usr/bin/env python3
 """A register of format 1, which an earlier program made: every command refuses it, `migrate` makes it format 2, and
-then it lists and extracts what it held, as the machine of machine.py has it.
+then it lists and extracts what it held, as the reference model (machine.py) has it.
 
 usage: migrate.py PROGRAM [COUNT [SEED]]     the last line is 'N passed, M failed'
 
@@ -39,7 +39,7 @@ DEPOSITS = [
 
 
 class Place(servers.Place):
-    """A place with the register, and the machine's own picture of it."""
+    """A place with the register, and the model's own picture of it."""
 
     patience = 120
 
@@ -64,7 +64,7 @@ class Place(servers.Place):
         register.deposits, register.format = list(self.before), 1
 
     def same(self, words):
-        """Compares a start of the program with the machine."""
+        """Compares a start of the program with the model."""
         self.check(" ".join(words), self.computer.run(words, servers.now()[:10]), self.run(*words))
 
     def read(self):

@@ -1,5 +1,5 @@
 #!/usr/bin/env python3
-"""Random stories of registers, run by the program and by the machine of machine.py side by side.
+"""Random stories of registers, run by the program and by the reference model (machine.py) side by side.
 
 usage: stories.py PROGRAM [COUNT [SEED [FIRST]]]      the last line is 'N passed, M failed'
 
@@ -41,7 +41,7 @@ BAD_NUMBERS = ["0", "007", "1000000", "x", "", "+1", "1.0", " 1", "1 "]
 
 
 class Differs(Exception):
-    """The program answered otherwise than the machine: what was asked, what the machine answers, what came."""
+    """The program answered otherwise than the model: what was asked, what the model answers, what came."""
 
 
 # ---- policies, callers, dictionaries, bodies
@@ -345,7 +345,7 @@ def register_like(other, deposits, number=machine.FORMAT):
 
 
 class Story(servers.Place):
-    """A place of which each start is compared with the machine's. Paths are relative to its folder."""
+    """A place of which each start is compared with the model's. Paths are relative to its folder."""
 
     patience = 60
 

@@ -1,4 +1,4 @@
--- Answers that memory and store let the desk give are a run of the machine.
+-- Answers for which neither memory nor the store gave out are a run of the reference model.
 use Rattle.std.proofs.Common.{◌≡◌, true, List, [], ◌∷◌, refl}
 use Rattle.std.specs.List.{AllByRecursion}
 use Rattle.reg_store.specs.Deposit.{Deposit}

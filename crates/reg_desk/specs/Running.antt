@@ -16,9 +16,9 @@ use Rattle.reg_desk.specs.Serving.{is_failed, IsAnswer, IsAfter, terms_at}
 abbrev pub AreFailed : List Asked → List Answer → Type 0
 AreFailed requests answers = AllZip (λ request answer. answer ≡ StoreFailed) requests answers
 
--- One answer for each request. Up to the first StoreFailed each is the machine's reply with its next state, or NoMemory
--- with the state unchanged; from there on all are StoreFailed. `last` is the state before the first StoreFailed, or at
--- the end.
+-- One answer for each request. Up to the first StoreFailed each is the reply of the reference model with its next
+-- state, or NoMemory with the state unchanged; from there on all are StoreFailed. `last` is the state before the first
+-- StoreFailed, or at the end.
 abbrev pub AreAnswers : Terms → List Deposit → List Asked → List Answer → List Deposit → Type 0
 AreAnswers terms state [] [] last = last ≡ state
 AreAnswers terms state (request ∷ requests) (answer ∷ answers) last =

@@ -270,7 +270,7 @@ fn is_listed(answer: &Answer, held: bool) -> bool {
     is_listing(answer, if held { &ONE } else { &[] })
 }
 
-/// 0 where an answer is the machine's, 1 where it is out of memory, and else 2.
+/// 0 where an answer is that of the reference model, 1 where it is out of memory, and else 2.
 fn fault_of(answer: &Answer, right: bool) -> u32 {
     if right {
         0
@@ -374,7 +374,7 @@ fn two_requests<'a>(
     ]
 }
 
-/// Whether memory is refused to one answer or run at most, and each other is the machine's.
+/// Whether memory is refused to one answer or run at most, and each other is that of the reference model.
 pub fn is_refused_once<K: Keep>(
     alloc: Global,
     desk: &mut Desk<K>,
