@@ -57,7 +57,7 @@ class Place(servers.Place):
 
 
 def noting(note):
-    """The words of GNU time that notes the greatest resident memory."""
+    """The arguments of GNU time that notes the greatest resident memory."""
     return ["/usr/bin/time", "-q", "-f", "%M", "-o", note.name]
 
 

@@ -252,7 +252,7 @@ class Place(servers.Place):
         connection.close()
 
     def asked(self, name):
-        """What the program answers of a register: the listing by words, and where there is one the extracts over
+        """What the program answers of a register: the listing by command line, and where there is one the extracts over
         `serve`."""
         answers = [self.run(*asking("list", store=name))]
         return answers + self.served(name) if answers[0][2] == 0 else answers
@@ -557,8 +557,8 @@ def files_by_hand(place):
                              ("put together, with its old log", whole, log),
                              ("with a log of zeros", file, bytes(len(log))),
                              ("with a log of text", file, b"no log\n" * 99),
-                             ("with more behind its file", file + b"x" * 4096, log),
-                             ("with more behind its log", file, log + log),
+                             ("with more after its file", file + b"x" * 4096, log),
+                             ("with more after its log", file, log + log),
                              ("of text", b"no database\n" * 99), ("of zeros", bytes(8192)),
                              ("with its header alone", whole[:100]), ("with its first page alone", whole[:4096])]:
             put(*parts)

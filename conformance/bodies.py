@@ -7,9 +7,9 @@ usage: bodies.py [COUNT [SEED [PROGRAM]]]     the last line is 'N passed, M fail
 Of each of COUNT bodies, with record links, rings and file sets, under a policy and for a caller of its own, it tries on
 the model, or on the program where one is named: what is drawn is a file without findings, by reference.py; the
 extract of an extract that is shown whole is the same bytes; and where hidden rows alone are changed, the listing and
-every extract are the same. A seed gives the same bodies each time. The program deposits by words, in a register file of
-its own for each body, and lists and draws over `serve`, a connection each. What it answers is compared with the model
-too."""
+every extract are the same. A seed gives the same bodies each time. The program deposits by command line, in a register
+file of its own for each body, and lists and draws over `serve`, a connection each. What it answers is compared with the
+model too."""
 import random
 import shutil
 import sys

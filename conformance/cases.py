@@ -113,7 +113,7 @@ CASES = [
     ("2b_unit_row_left_out", 2, at(BASE, 42, None), ["2b 42 -"]),
     ("2b_heading_row_twice", 2, at(BASE, 41, '"HEADING","LOCA_ID"\r\n"HEADING","LOCA_ID"'), ["2b 42 -"]),
     ("2b_ends_with_a_unit_row", 2, at(at(BASE, 44, None), 43, None), ["2b 42 -"]),
-    ("2b_second_type_row_behind_data", 2, BASE + b'"TYPE","ID"\r\n', ["2b 45 -"]),
+    ("2b_second_type_row_after_data", 2, BASE + b'"TYPE","ID"\r\n', ["2b 45 -"]),
     ("4_group_row_of_two_items", 2, at(BASE, 40, '"GROUP","LOCA",""'), ["4 40 -"]),
     ("4_group_row_without_item", 2, at(BASE, 40, '"GROUP"'), ["4 40 -"]),
     # ---- phase 3

@@ -6,11 +6,11 @@ usage: hostile.py PROGRAM [COUNT [SEED [KIND[:FIRST]..]]]     the last line is '
 
 Of each KIND (file, policy, callers, dictionary, head, body; all where none is named) COUNT texts are made of sound
 ones: bytes changed, put in, taken out, cut off or doubled, words and lines of the format exchanged, up to eight times.
-Each file, policy, callers and dictionary is one start of the program by words; heads and bodies are connections to
-`serve`, fifty to a start, and each is one turn. Statuses, standard output, standard error and each byte of a reply are
-compared. A start that ends by a signal, 101, 134 or 139, or not within a minute, is said to be one. A seed gives the
-same turns each time; `hostile.py PROGRAM 1 SEED policy:17` does turn 17 alone. What was answered is counted, so that a
-reader sees what the changes reach.
+Each file, policy, callers and dictionary is one start of the program by command line; heads and bodies are connections
+to `serve`, fifty to a start, and each is one turn. Statuses, standard output, standard error and each byte of a reply
+are compared. A start that ends by a signal, 101, 134 or 139, or not within a minute, is said to be one. A seed gives
+the same turns each time; `hostile.py PROGRAM 1 SEED policy:17` does turn 17 alone. What was answered is counted, so
+that a reader sees what the changes reach.
 
 A policy or callers that the program takes and Python's tomllib does not is tried on the model once more, spelled in
 TOML 1.0 (`older_toml`): the program reads TOML 1.1."""
@@ -223,7 +223,7 @@ def said(answer):
 
 
 def start_of_line(chance, side, files):
-    """The words of a request by words over a fresh copy of the register, or over the register where nothing is
+    """The arguments of a request over a fresh copy of the register, or over the register where nothing is
     deposited."""
     command = chance.choice(["list", "extract", "extract", "deposit", "withdraw"])
     store = "first"

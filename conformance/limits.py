@@ -285,14 +285,14 @@ def heads():
     short = post(b"check", filled(machine.FILE_A, LIMIT - 1), length=LIMIT)
     yield "a body one byte short", short, *refusal(400, "short body")
     for name, number, fields, more, want in [
-        ("the most bytes behind it", b"999999", [b"Content-Length: %d" % LIMIT], b"x" * LIMIT, refusal(404, "unknown")),
+        ("the most bytes after it", b"999999", [b"Content-Length: %d" % LIMIT], b"x" * LIMIT, refusal(404, "unknown")),
         ("a length of 9,999,999,999", b"999999", [b"Content-Length: 9999999999"], b"", refusal(404, "unknown")),
         ("a number of seven digits", b"1000000", [], b"", unread),
         ("2,500 percent signs", b"1?" + b"%41" * 2500, [], b"", unread),
     ]:
         yield f"a withdrawal with {name}", head(page + b"/" + number, fields, b"DELETE") + more, *want
-    behind = post(b"check", filled(machine.FILE_A, LIMIT), length=543)
-    yield "a body with the most bytes behind it", behind, *clean
+    longest = post(b"check", filled(machine.FILE_A, LIMIT), length=543)
+    yield "a body with the most bytes after it", longest, *clean
 
 
 def served(place):
@@ -314,8 +314,8 @@ def peers(place, seconds):
     before = server.ask(LISTING)
     place.check("a listing", "200", server.line("200"))
 
-    def behind(name):
-        place.check(f"the listing behind {name}", (before, "200"), (server.ask(LISTING), server.line("200")))
+    def after(name):
+        place.check(f"the listing after {name}", (before, "200"), (server.ask(LISTING), server.line("200")))
     slow, waiting = server.connect(), server.connect()
     sent(waiting, LISTING, False)
     begun = time.monotonic()
@@ -332,7 +332,7 @@ def peers(place, seconds):
     waiting = server.connect()
     sent(waiting, LISTING, False)
     deaf.close()
-    place.check("a peer that never reads, and lets go", "fault", server.line("fault"))
+    place.check("a peer that never reads, and closes", "fault", server.line("fault"))
     place.check("the peer that waited meanwhile", (before, "200"), (received(waiting), server.line("200")))
     for name, away in (("a reset", servers.reset), ("an end", socket.socket.close), ("an end of one side", None)):
         for cut in cuts:
@@ -347,8 +347,8 @@ def peers(place, seconds):
                 status, want = machine.serve(machine.Register(), [], machine.read_callers(machine.CALLERS), DAY, data)
                 got = (received(connection), server.line(str(status)))
                 got = "0" if got == (want, str(status)) else got
-            place.check(f"{name} behind {cut} bytes", True, got in ("fault", "0", "400"))
-            behind(f"{name} behind {cut} bytes")
+            place.check(f"{name} after {cut} bytes", True, got in ("fault", "0", "400"))
+            after(f"{name} after {cut} bytes")
     reader = server.connect(4096)
     sent(reader, LISTING, False)
     slowly = b""

@@ -811,11 +811,11 @@ def without(data, *numbers):
     return b"".join(line for n, line in enumerate(lines(data), 1) if n not in numbers)
 
 
-def with_cell(heading, kind, cell, behind):
+def with_cell(heading, kind, cell, last_group):
     """The second file with one more cell in the row of PROJ, and a group after it."""
     rows = lines(FILE_B)
     rows[1:5] = [row[:-2] + b',"%s"\r\n' % more for row, more in zip(rows[1:5], (heading, b"", kind, cell))]
-    return b"".join(rows) + b"\r\n" + behind
+    return b"".join(rows) + b"\r\n" + last_group
 
 
 # its dictionary, with a heading of record links for PROJ
@@ -1190,7 +1190,7 @@ def runs():
 
 
 def migrations(computer, today):
-    """Withdrawals by words, and a register of format 1, which every command refuses but the one that migrates it."""
+    """Withdrawals by command line, and a register of format 1, which every command but `migrate` refuses."""
     computer.files["w"] = WITHDRAWING.encode()
     asking = [f"--{word}" for word in ("store=s", "callers=c", "project=N1", "day=2024-06-01")]
     withdraw = ["withdraw", *asking, "1", "--policy=w", "--token"]

@@ -217,7 +217,7 @@ def one_by_one(place):
         thread.start()
         time.sleep(0.2)
         begun = time.monotonic()
-        place.check(f"the request behind a peer that is {kind.__name__}", want, answered(server.connect, data))
+        place.check(f"the request after a peer that is {kind.__name__}", want, answered(server.connect, data))
         taken = time.monotonic() - begun
         place.check(f"the seconds that it waits ({taken:.2f})", True, taken < 1 + SLACK)
         place.check(f"the lines of both, {kind.__name__}", [line, str(status)],

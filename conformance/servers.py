@@ -93,7 +93,7 @@ class Place:
             print(f"{name}\n  wanted {want!r:.600}\n  got    {got!r:.600}", flush=True)
 
     def start(self, *words, under=(), **more):
-        """A start that goes on; `under` are the words of a program that starts it, `more` is of subprocess."""
+        """A start that goes on; `under` are the arguments of a program that starts it, `more` is of subprocess."""
         return subprocess.Popen([*under, self.program, *words], cwd=self.folder, stdin=subprocess.DEVNULL,
                                 stdout=subprocess.PIPE, stderr=subprocess.PIPE, **more)
 
@@ -121,7 +121,7 @@ class Place:
 
 
 def asking(command, *more, **other):
-    """The words of a command that asks a register; `other` are the options that are not as usual."""
+    """The arguments of a command that asks a register; `other` are the options that are not as usual."""
     options = {"store": "register", "policy": "policy", "callers": "callers", "token": "t-delta", "project": "N1",
                "day": DAY}
     return [command, *(f"--{name}={value}" for name, value in {**options, **other}.items()), *more]

@@ -4,10 +4,10 @@
 usage: stories.py PROGRAM [COUNT [SEED [FIRST]]]      the last line is 'N passed, M failed'
 
 A story makes a folder with dictionaries, policies, callers and bodies, some of them refused, and runs the program
-there: by words, and over a socket with `serve`, raw and malformed requests among them. Statuses, standard output,
-standard error and the bytes of each reply are compared; a story ends at its first difference, which is printed. A seed
-gives the same stories each time, and `stories.py PROGRAM 1 SEED FIRST` runs story FIRST alone. Two stories run at a
-time."""
+there: by command line, and over a socket with `serve`, raw and malformed requests among them. Statuses, standard
+output, standard error and the bytes of each reply are compared; a story ends at its first difference, which is
+printed. A seed gives the same stories each time, and `stories.py PROGRAM 1 SEED FIRST` runs story FIRST alone. Two
+stories run at a time."""
 import datetime
 import functools
 import multiprocessing
@@ -160,11 +160,11 @@ def body(chance, names):
     return data if kind == 9 else compare.change(data if kind == 10 else bodies.body(chance), chance)
 
 
-# ---- words
+# ---- arguments
 
 def spelling(chance, command, options, places):
-    """The words of a command: options in any order and in both spellings, before, between and after the other
-    words."""
+    """The arguments of a command: options in any order and in both spellings, before, between and after the other
+    arguments."""
     items = []
     for name, value in options.items():
         if value is None:
@@ -179,7 +179,7 @@ def spelling(chance, command, options, places):
 
 
 def misspelt(chance, words):
-    """The words with one thing wrong."""
+    """The arguments with one thing wrong."""
     words = list(words)
     k = chance.randrange(len(words))
     kind = chance.randrange(8)
@@ -475,7 +475,7 @@ class Story(servers.Place):
         return len(self.computer.files["s"].deposits)
 
     def by_words(self):
-        """One run by words."""
+        """One run by command line."""
         chance = self.chance
         usual = ["deposit", "deposit", "list", "extract", "extract", "withdraw"]
         command = chance.choice([*usual, "check", "init", "migrate", "nothing"] if self.count() else ["deposit"])

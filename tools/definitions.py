@@ -212,7 +212,7 @@ class AnttReader:
             if indent <= self.base:
                 self.take_code(number, lines, text)
             elif self.item.kind != "lemma":
-                raise self.source.error(number, "a definition goes on behind an empty line")
+                raise self.source.error(number, "a definition goes on after an empty line")
             self.comment = []
 
     def take_code(self, number, lines, text):

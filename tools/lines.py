@@ -98,4 +98,4 @@ def answers(text, folder):
             yield command, wanted, None
         else:
             yield command, [line.replace(PORT, session.port) for line in wanted], session.run(command, wanted)
-    yield "(behind the last line)", [], session.end()
+    yield "(after the last line)", [], session.end()

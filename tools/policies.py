@@ -204,7 +204,7 @@ def never_matches(rule, words):
     return None
 
 
-def is_behind(rule, earlier):
+def decides_before(rule, earlier):
     """The first earlier rule that decides all that this one could, or None."""
     own, (first, last) = keys_set(rule), days_of(rule)
 
@@ -258,7 +258,7 @@ def rule_warnings(rules, callers, words):
     for index, rule in enumerate(rules):
         told = [never_matches(rule, words),
                 *(misspelt(rule, key, rules, callers) for key in ("firm", "role", "project"))]
-        earlier = is_behind(rule, rules[:index])
+        earlier = decides_before(rule, rules[:index])
         told.append(earlier and f"is never reached: rule {earlier['number']} decides all that it could")
         told += [still_served(rule, rules, callers), hides_by_value(rule)]
         yield from ((rule["number"], text) for text in told if text)
