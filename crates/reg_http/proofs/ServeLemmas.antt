@@ -12,7 +12,7 @@ use Rattle.httparse.specs.declared.spans.HeaderSpan.{HeaderSpan}
 use Rattle.httparse.specs.declared.spans.RequestSpans.{RequestSpans}
 use Rattle.httparse.specs.Spans.{IsRequestAt}
 use Rattle.reg_policy.specs.declared.callers.Credential.{Credential}
-use Rattle.reg_http.specs.Agree.{is_want_of_memory}
+use Rattle.reg_http.specs.Agree.{is_out_of_memory}
 use Rattle.reg_http.specs.Asks.{Asking, ask_of, asked_of}
 use Rattle.reg_desk.specs.Asked.{Asked}
 use Rattle.reg_http.specs.Heads.{HasNoHead, HoldsHead, IsHead, longest_head}
@@ -37,7 +37,7 @@ Appends-none None = tt
 Appends-none (Some xs) = sym (append-nil xs)
 
 -- the one refusal when out of memory
-memory_is : (r : Refusal) → is_want_of_memory r ≡ true → OutOfMemory ≡ r
+memory_is : (r : Refusal) → is_out_of_memory r ≡ true → OutOfMemory ≡ r
 memory_is BadHead e = cc
 memory_is NoRoute e = cc
 memory_is Method e = cc
@@ -86,8 +86,8 @@ head_of bytes left buf headers spans filled held small split =
 module _ {D : Type 0} (answers : D → Asked → Answer → D → Type 0) (callers : List Credential) (day : ℤ) where
   -- a refusal at a head, or out of memory
   at_head : (bytes : List ℕ) (d : D) (u w : Option (List ℕ)) (r : Refusal) (result : Result Served IoFault) (h : RequestHead) (rest : List ℕ)
-      → IsHead bytes h rest → (is_want_of_memory r ≡ false → ask_of callers day (head_parts h) ≡ Err r) → Written u w (rendered r) (status_of r) result
-      → (is_want_of_memory r ≡ true) ⊎ (is_want_of_memory r ≡ false) → ServesOne answers callers day bytes d d u w result
+      → IsHead bytes h rest → (is_out_of_memory r ≡ false → ask_of callers day (head_parts h) ≡ Err r) → Written u w (rendered r) (status_of r) result
+      → (is_out_of_memory r ≡ true) ⊎ (is_out_of_memory r ≡ false) → ServesOne answers callers day bytes d d u w result
   at_head bytes d u w r (Err fault.Read) h rest head agrees written memory = tt
   at_head bytes d u w r (Ok s) h rest head agrees written (inl memory) =
       let P : Refusal → Type 0 = λ x. Exchange answers callers day bytes d d (rendered x) (status_of x) in
@@ -102,12 +102,12 @@ module _ {D : Type 0} (answers : D → Asked → Answer → D → Type 0) (calle
 
   -- a refusal of what was read of a head
   pub refused_at : (left : Option (List ℕ)) (early : List ℕ) (parts : HeadParts) (d : D) (u w : Option (List ℕ)) (r : Refusal) (result : Result Served IoFault)
-      → (is_want_of_memory r ≡ false → ask_of callers day parts ≡ Err r) → Written u w (rendered r) (status_of r) result
+      → (is_out_of_memory r ≡ false → ask_of callers day parts ≡ Err r) → Written u w (rendered r) (status_of r) result
       → IfSome left (λ more. (bytes : List ℕ) (h : RequestHead) → IsHead bytes h (early ++ more) → parts ≡ head_parts h
       → ServesOne answers callers day bytes d d u w result)
   refused_at None early parts d u w r result agrees written = tt
   refused_at (Some more) early parts d u w r result agrees written = λ bytes h head same.
-      at_head bytes d u w r result h (early ++ more) head (λ e. ap (ask_of callers day) (sym same) ∙ agrees e) written (cases_Bool (is_want_of_memory r))
+      at_head bytes d u w r result h (early ++ more) head (λ e. ap (ask_of callers day) (sym same) ∙ agrees e) written (cases_Bool (is_out_of_memory r))
 
   -- the request at a head, and its body
   serve_body : (bytes all : List ℕ) (old new : D) (u w : Option (List ℕ)) (h : RequestHead) (a : Asking) (result : Result Served IoFault)
@@ -150,26 +150,26 @@ head_before bytes rest all h head = record { reads = (head.reads.0, refl); short
 
 module _ {D : Type 0} (answers : D → Asked → Answer → D → Type 0) (callers : List Credential) (day : ℤ) where
   -- no head was read
-  pub untold_bad : (d : D) (u w : Option (List ℕ)) (result : Result Served IoFault) → Written u w (rendered BadHead) (status_of BadHead) result
+  pub unnamed_bad : (d : D) (u w : Option (List ℕ)) (result : Result Served IoFault) → Written u w (rendered BadHead) (status_of BadHead) result
       → (bytes : List ℕ) × ServesOne answers callers day bytes d d u w result
-  untold_bad d u w result written =
+  unnamed_bad d u w result written =
       let one : List ℕ = 0 ∷ [] in
       (one, serve_refused answers callers day one d u w BadHead result (reading.bad_head (omega arith) (none_at_one 0)) written)
 
   -- a head was read, and refused
-  pub untold_refused : (parts : HeadParts) (d : D) (u w : Option (List ℕ)) (r : Refusal) (result : Result Served IoFault)
-      → (is_want_of_memory r ≡ false → ask_of callers day parts ≡ Err r) → Written u w (rendered r) (status_of r) result
+  pub unnamed_refused : (parts : HeadParts) (d : D) (u w : Option (List ℕ)) (r : Refusal) (result : Result Served IoFault)
+      → (is_out_of_memory r ≡ false → ask_of callers day parts ≡ Err r) → Written u w (rendered r) (status_of r) result
       → (bytes rest : List ℕ) (h : RequestHead) → IsHead bytes h rest → parts ≡ head_parts h
       → (all : List ℕ) × ServesOne answers callers day all d d u w result
-  untold_refused parts d u w r result agrees written = λ bytes rest h head same.
-      (bytes, at_head answers callers day bytes d u w r result h rest head (λ e. ap (ask_of callers day) (sym same) ∙ agrees e) written (cases_Bool (is_want_of_memory r)))
+  unnamed_refused parts d u w r result agrees written = λ bytes rest h head same.
+      (bytes, at_head answers callers day bytes d u w r result h rest head (λ e. ap (ask_of callers day) (sym same) ∙ agrees e) written (cases_Bool (is_out_of_memory r)))
 
   -- a head was read, and what it asks was served
-  pub untold_asked : (parts : HeadParts) (d e : D) (u w : Option (List ℕ)) (a : Asking) (result : Result Served IoFault)
+  pub unnamed_asked : (parts : HeadParts) (d e : D) (u w : Option (List ℕ)) (a : Asking) (result : Result Served IoFault)
       → ask_of callers day parts ≡ Ok a → (all : List ℕ) × ServesAsked answers a day all d e u w result
       → (bytes rest : List ℕ) (h : RequestHead) → IsHead bytes h rest → parts ≡ head_parts h
       → (all : List ℕ) × ServesOne answers callers day all d e u w result
-  untold_asked parts d e u w a result asks (all, way) = λ bytes rest h head same. (
+  unnamed_asked parts d e u w a result asks (all, way) = λ bytes rest h head same. (
     print_request h ++ all,
     serve_result answers callers day (print_request h ++ all) all d e u w h a result
         (head_before bytes rest all h head) (ap (ask_of callers day) (sym same) ∙ asks) way,
@@ -213,18 +213,18 @@ module _ {D : Type 0} (answers : D → Asked → Answer → D → Type 0) where
   serve_read (Some rest) early a day body request d e u w (Err fault.Read) reads is way ok = tt
 
 -- the desk was asked with a body of that length
-pub untold_read : {D : Type 0} (answers : D → Asked → Answer → D → Type 0) (a : Asking) (day : ℤ) (body : List ℕ) (request : Asked) (d e : D) (u w : Option (List ℕ))
+pub unnamed_read : {D : Type 0} (answers : D → Asked → Answer → D → Type 0) (a : Asking) (day : ℤ) (body : List ℕ) (request : Asked) (d e : D) (u w : Option (List ℕ))
     (result : Result Served IoFault) → length body ≡ a.length → request ≡ asked_of a body day → ServesRequest answers request d e u w result → is_read result ≡ false
     → (all : List ℕ) × ServesAsked answers a day all d e u w result
-untold_read answers a day body request d e u w (Ok s) long is way ok =
+unnamed_read answers a day body request d e u w (Ok s) long is way ok =
     let P : Asked → Type 0 = λ q. ServesRequest answers q d e u w (Ok s) in
     let whole = take_all a.length body (omega arith) in
     (body, inl (omega arith, subst P (is ∙ ap (λ t. asked_of a t day) (sym whole)) way))
-untold_read answers a day body request d e u w (Err fault.Write) long is way ok =
+unnamed_read answers a day body request d e u w (Err fault.Write) long is way ok =
     let P : Asked → Type 0 = λ q. ServesRequest answers q d e u w (Err fault.Write) in
     let whole = take_all a.length body (omega arith) in
     (body, inl (omega arith, subst P (is ∙ ap (λ t. asked_of a t day) (sym whole)) way))
-untold_read answers a day body request d e u w (Err fault.Read) long is way ok = (body, tt)
+unnamed_read answers a day body request d e u w (Err fault.Read) long is way ok = (body, tt)
 
 -- the body ended early, and that was written
 pub short_asked : {D : Type 0} (answers : D → Asked → Answer → D → Type 0) (left : Option (List ℕ)) (early : List ℕ) (a : Asking) (day : ℤ) (d : D) (u w : Option (List ℕ)) (result : Result Served IoFault)
@@ -247,15 +247,15 @@ module _ {D : Type 0} (answers : D → Asked → Answer → D → Type 0) (a : A
   spent_asked None early result written = tt
   spent_asked (Some rest) early result written = spent (early ++ rest) result written
 
-  pub untold_spent : (result : Result Served IoFault) → Written u w (rendered OutOfMemory) (status_of OutOfMemory) result → (all : List ℕ) × ServesAsked answers a day all d d u w result
-  untold_spent result written = ([], spent [] result written)
+  pub unnamed_spent : (result : Result Served IoFault) → Written u w (rendered OutOfMemory) (status_of OutOfMemory) result → (all : List ℕ) × ServesAsked answers a day all d d u w result
+  unnamed_spent result written = ([], spent [] result written)
 
   -- a body ended early, and that was written
-  pub untold_short : (result : Result Served IoFault) → 0 < a.length → Written u w (rendered ShortBody) (status_of ShortBody) result
+  pub unnamed_short : (result : Result Served IoFault) → 0 < a.length → Written u w (rendered ShortBody) (status_of ShortBody) result
       → (all : List ℕ) × ServesAsked answers a day all d d u w result
-  untold_short (Ok s) some written = ([], inr (inl (some, refl, written)))
-  untold_short (Err fault.Write) some written = ([], inr (inl (some, refl, written)))
-  untold_short (Err fault.Read) some written = ([], tt)
+  unnamed_short (Ok s) some written = ([], inr (inl (some, refl, written)))
+  unnamed_short (Err fault.Write) some written = ([], inr (inl (some, refl, written)))
+  unnamed_short (Err fault.Read) some written = ([], tt)
 
 -- the reply to an answer was written
 pub serve_reply : (answer : Answer) (text given : List ℕ) (status : ℕ) (u w : Option (List ℕ)) (r : Result Served IoFault) → IsRendered answer text → given ≡ text

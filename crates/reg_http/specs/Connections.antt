@@ -35,7 +35,7 @@ module _ {D R W : Type 0} (answers : D → Asked → Answer → D → Type 0)
       : Type 0 where
     pub served : IfSome (remaining (tally_inner old.0)) (λ bytes. ServesOne answers callers day bytes before after
         (contents (tally_inner old.1)) (contents (tally_inner new.1)) r)
-    pub untold : (bytes : List ℕ) × ServesOne answers callers day bytes before after
+    pub unnamed : (bytes : List ℕ) × ServesOne answers callers day bytes before after
         (contents (tally_inner old.1)) (contents (tally_inner new.1)) r
     pub read_fault : tally_has_failed new.0 ≡ is_read r
     pub write_fault : tally_has_failed new.1 ≡ is_write r

@@ -46,8 +46,8 @@ pub fn serve_one<K: Keep, R: Read, W: Write>(
     ensures served { ServesOneFrom R.Read W.Write callers.now day reader.old
         desk.old desk.new writer.old writer.new result }
 
-    // The same of some bytes, where the reader does not tell its own: the desk was asked once at most.
-    ensures untold { (bytes : List ℕ) × ServesOneTo W.Write callers.now day bytes
+    // The same of some bytes, where contracts cannot name the reader's own: the desk was called once at most.
+    ensures unnamed { (bytes : List ℕ) × ServesOneTo W.Write callers.now day bytes
         desk.old desk.new writer.old writer.new result }
 
     // Faults are those of the two sides, each exactly.
@@ -115,7 +115,7 @@ fn serve_head<K: Keep, R: Read, W: Write>(
     // At bytes that begin with a head of these parts.
     ensures served { ServesHead R.Read W.Write callers.now day parts.now early.now reader.old
         desk.old desk.new writer.old writer.new result }
-    ensures untold { ServesSomeHead W.Write callers.now day parts.now
+    ensures unnamed { ServesSomeHead W.Write callers.now day parts.now
         desk.old desk.new writer.old writer.new result }
 
     // Faults are those of the two sides, each exactly, and a failed read changes neither desk nor writer.
@@ -151,8 +151,8 @@ fn serve_asked<K: Keep, R: Read, W: Write>(
     ensures served { ServesAskedFrom R.Read W.Write ask.now day early.now reader.old
         desk.old desk.new writer.old writer.new result }
 
-    // The same of some bytes, where the reader does not tell its own.
-    ensures untold { (all : List ℕ) × ServesAskedTo W.Write ask.now day all
+    // The same of some bytes, where contracts cannot name the reader's own.
+    ensures unnamed { (all : List ℕ) × ServesAskedTo W.Write ask.now day all
         desk.old desk.new writer.old writer.new result }
 
     // Faults are those of the two sides, each exactly, and a failed read changes neither desk nor writer.

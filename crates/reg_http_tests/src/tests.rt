@@ -185,7 +185,7 @@ Connection: close\r\n\
 
 /// Whether memory ran out for a deposit, from the status and what was written; none where it is neither that nor the
 /// receipt.
-fn was_wanting(served: &Result<Served, IoFault>, written: &[u8]) -> Option<bool> {
+fn ran_out_of_memory(served: &Result<Served, IoFault>, written: &[u8]) -> Option<bool> {
     if has_status(served, 503) && written == OUT_OF_MEMORY {
         Some(true)
     } else if has_status(served, 200) && written == RECEIPT {
@@ -213,7 +213,7 @@ fn deposits(
         DEPOSIT.chain(FILE_A),
         &mut written,
     );
-    was_wanting(&served, &written)
+    ran_out_of_memory(&served, &written)
 }
 
 /// For how many of three equal deposits memory ran out.
@@ -225,8 +225,8 @@ fn deposits_thrice(
 ) -> Option<u32> {
     let mut refused = 0u32;
     for _ in 0..3 {
-        let wanting = deposits(alloc, desk, callers, day)?;
-        refused = refused.saturating_add(u32::from(wanting));
+        let ran_out = deposits(alloc, desk, callers, day)?;
+        refused = refused.saturating_add(u32::from(ran_out));
     }
     Some(refused)
 }
@@ -242,7 +242,7 @@ fn are_at_most(counted: Option<u32>, refused: u32) -> bool {
 
 /// How many allocations fail: one where `conformance/refused_tests` makes it fail, else none. None where the one that
 /// fails is in this function.
-fn growths_refused(rt: &HostRuntime) -> Option<u32> {
+fn allocations_refused(rt: &HostRuntime) -> Option<u32> {
     match env::var(rt, "REFUSED") {
         Ok(number) if number.as_str() != "0" => Some(1),
         Ok(_) | Err(VarError::NotPresent) => Some(0),
@@ -254,7 +254,7 @@ fn growths_refused(rt: &HostRuntime) -> Option<u32> {
 /// then answered 503, and each other as ever. Where memory is refused before, nothing is asked.
 #[test]
 fn memory_is_refused_once(rt: HostRuntime) {
-    if let Some(refused) = growths_refused(&rt) {
+    if let Some(refused) = allocations_refused(&rt) {
         assert!(rt; plays(rt.alloc(), Play::Deposits(refused)).unwrap_or(true));
     }
 }
@@ -291,21 +291,21 @@ const RECEIPT_ALONE: Expects = Expects {
 };
 
 /// How many of these answers say out of memory; none where one is neither that nor as ever.
-fn count_wanting(results: &[Result<Served, IoFault>]) -> Option<u32> {
-    let mut wanting = 0u32;
+fn count_out_of_memory(results: &[Result<Served, IoFault>]) -> Option<u32> {
+    let mut count = 0u32;
     for served in results {
         if has_status(served, 503) {
-            wanting = wanting.saturating_add(1);
+            count = count.saturating_add(1);
         } else if !has_status(served, 200) {
             return None;
         }
     }
-    Some(wanting)
+    Some(count)
 }
 
 /// How often memory ran out while two equal deposits were served in a list; none where an answer is neither as ever nor
 /// out of memory, or where the list was refused whole and something is held that was not.
-fn list_wanting(
+fn list_out_of_memory(
     alloc: Global,
     desk: &mut Desk<PlainKeep>,
     callers: &Callers,
@@ -323,7 +323,7 @@ fn list_wanting(
     ];
     let held = desk.keep().count();
     match serve_list(alloc, desk, callers, day, &mut connections) {
-        Ok(results) if results.len() == 2 => count_wanting(&results),
+        Ok(results) if results.len() == 2 => count_out_of_memory(&results),
         Err(_) if desk.keep().count() == held => Some(1),
         _ => None,
     }
@@ -336,8 +336,8 @@ fn lists_twice(
     callers: &Callers,
     day: Day,
 ) -> Option<u32> {
-    let first = list_wanting(alloc, desk, callers, day)?;
-    let second = list_wanting(alloc, desk, callers, day)?;
+    let first = list_out_of_memory(alloc, desk, callers, day)?;
+    let second = list_out_of_memory(alloc, desk, callers, day)?;
     Some(first.saturating_add(second))
 }
 
@@ -346,7 +346,7 @@ fn lists_twice(
 /// as ever.
 #[test]
 fn memory_is_refused_once_in_a_list(rt: HostRuntime) {
-    if let Some(refused) = growths_refused(&rt) {
+    if let Some(refused) = allocations_refused(&rt) {
         assert!(rt; plays(rt.alloc(), Play::Lists(refused)).unwrap_or(true));
     }
 }

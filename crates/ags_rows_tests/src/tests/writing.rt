@@ -348,7 +348,7 @@ fn are_cells_or_nothing(alloc: Global, cells: Vec<Cell<'static>>) -> bool {
 
 /// `conformance/refused_tests` runs this once for each allocation, which fails in that run.
 #[test]
-fn unchanged_on_want_of_memory(rt: HostRuntime) {
+fn unchanged_when_out_of_memory(rt: HostRuntime) {
     assert!(rt; is_field_or_nothing(rt.alloc()));
     if let Ok(cells) = cells_of(rt.alloc(), BOREHOLE) {
         assert!(rt; are_cells_or_nothing(rt.alloc(), cells));

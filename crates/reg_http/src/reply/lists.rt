@@ -49,7 +49,7 @@ const FINDING_BYTES: usize = 46;
 fn write_finding(out: &mut Vec<u8>, finding: FindingRef<'_>) -> Result<(), AllocError>
     ensures { OnOk result (out.new.items ≡ out.old.items ++ compact_text (finding_data (finding_of finding.entry))) }
 {
-    write_behind(out, b"{\"code\":\"", finding.code.text())?;
+    write_both(out, b"{\"code\":\"", finding.code.text())?;
     out.extend_from_slice(b"\",\"line\":")?;
     write_number(out, finding.line)?;
     out.extend_from_slice(b",\"subject\":\"")?;
@@ -117,8 +117,8 @@ fn write_listed(out: &mut Vec<u8>, listed: &Listed) -> Result<(), AllocError>
 {
     let day = listed.embargo.text();
     let firm = listed.firm.text();
-    write_behind(out, b"{\"embargo\":\"", &day)?;
-    write_behind(out, b"\",\"firm\":\"", firm.as_bytes())?;
+    write_both(out, b"{\"embargo\":\"", &day)?;
+    write_both(out, b"\",\"firm\":\"", firm.as_bytes())?;
     out.extend_from_slice(b"\",\"number\":")?;
     write_number(out, listed.number)?;
     out.extend_from_slice(b"}")
@@ -135,7 +135,7 @@ fn write_comma(out: &mut Vec<u8>, place: usize) -> Result<(), AllocError>
 }
 
 /// Writes a text, after the one that comes before it.
-fn write_behind(out: &mut Vec<u8>, before: &[u8], text: &[u8]) -> Result<(), AllocError>
+fn write_both(out: &mut Vec<u8>, before: &[u8], text: &[u8]) -> Result<(), AllocError>
     ensures { OnOk result (out.new.items ≡ out.old.items ++ before.now ++ text.now) }
 {
     out.extend_from_slice(before)?;

@@ -6,7 +6,7 @@ ghost use Rattle.std.specs.Cow.{cow_str_bytes};
 ghost use Rattle.form_urlencoded.specs.Form.{raw_pairs, split};
 ghost use Rattle.ags_text.specs.Bytes.{comma};
 ghost use Rattle.ags_text.specs.Names.{is_group_name};
-ghost use Rattle.reg_http.specs.Agree.{IsAsDefined, and_then, is_want_of_memory};
+ghost use Rattle.reg_http.specs.Agree.{IsAsDefined, and_then, is_out_of_memory};
 ghost use Rattle.reg_desk.specs.Asked.{names_in};
 ghost use Rattle.reg_http.specs.Numbers.{deposit_number};
 ghost use Rattle.reg_http.specs.Queries.{embargo_in, extract_in, extract_sought, groups_in, bare, project_in_path};
@@ -153,8 +153,8 @@ fn decoded<'b>(alloc: Global, encoded: &'b [u8]) -> Result<CowStr<'b>, Refusal>
 /// Refuses a text that lists what is no group.
 fn refuse_other_names(alloc: Global, text: &[u8]) -> Result<(), Refusal>
     ensures fine { OnOk result (list_all is_group_name (groups_in text.now) ≡ true) }
-    ensures refused { IfErr result (λ refusal. is_want_of_memory refusal ≡ false → refusal ≡ Refusal.BadParameter) }
-    ensures cause { IfErr result (λ refusal. is_want_of_memory refusal ≡ false
+    ensures refused { IfErr result (λ refusal. is_out_of_memory refusal ≡ false → refusal ≡ Refusal.BadParameter) }
+    ensures cause { IfErr result (λ refusal. is_out_of_memory refusal ≡ false
         → list_all is_group_name (groups_in text.now) ≡ false) }
 {
     let Ok(groups) = groups_of(alloc, text) else {

@@ -92,7 +92,7 @@ role = "contractor"
 "#;
 
 /// The rule of the policy that comes after it.
-pub(crate) static RULE_BEHIND: &str = "number = 50";
+pub(crate) static RULE_AFTER: &str = "number = 50";
 
 /// At a desk whose policy has that rule.
 pub(crate) static AT_A_WITHDRAWING_DESK: &str = r#"

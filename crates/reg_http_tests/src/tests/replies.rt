@@ -3,7 +3,7 @@ ghost use Rattle.std.specs.Prelude.{◌<◌, ◌≤◌};
 
 use super::cases::{
     AT_A_DESK, AT_A_FULL_DESK, AT_A_WIDE_DESK, AT_A_WITHDRAWING_DESK, Altered, BODIES, HEADS,
-    LONG_HEADS, RULE_BEHIND, WIDE_HEADING, WITHDRAWALS,
+    LONG_HEADS, RULE_AFTER, WIDE_HEADING, WITHDRAWALS,
 };
 use super::{Play, answers, desk_under, known_callers, plays};
 use ags_rows::vectors::{FILE_A, MINI};
@@ -234,16 +234,16 @@ fn are_right_by(
     rt: &impl Abort,
     callers: &Callers,
     rule: &str,
-    behind: &str,
+    next_rule: &str,
     cases: &str,
 ) -> Result<(), AllocError> {
-    let Some((front, back)) = POLICY.split_once(behind) else {
+    let Some((front, back)) = POLICY.split_once(next_rule) else {
         return Err(AllocError);
     };
     let mut policy = String::new(alloc);
     policy.push_str(front)?;
     policy.push_str(rule)?;
-    policy.push_str(behind)?;
+    policy.push_str(next_rule)?;
     policy.push_str(back)?;
     are_right_at(alloc, rt, callers, &policy, MINI, 999_999, cases)
 }
@@ -257,7 +257,7 @@ fn tables_are_right(alloc: Global, rt: &impl Abort, callers: &Callers) -> Result
         rt,
         callers,
         WITHDRAWALS,
-        RULE_BEHIND,
+        RULE_AFTER,
         AT_A_WITHDRAWING_DESK,
     )?;
     are_right_under(alloc, rt, callers, WIDE_HEADING, AT_A_WIDE_DESK)
