@@ -14,7 +14,7 @@ use Rattle.ags_check.specs.RowRules.{unit_over, type_over, RepeatsKey, data_entr
 use Rattle.ags_check.specs.Keeping.{KeepsOnlyRow, KeepsHeader, KeepsHeaders, KeepsEntry, KeepsRow, KeepsRows}
 use Rattle.ags_check.specs.Findings.{IsClear}
 use Rattle.ags_rows.proofs.Lemmas.{at_map, contains_at}
-use Rattle.ags_check.proofs.Numbering.{group_stands}
+use Rattle.ags_check.proofs.Numbering.{group_rows}
 
 contents_contain : (groups : List Group) (k : ℕ) (g : Group) → At groups k g → Contains (contents_of groups) (group_contents g)
 contents_contain groups k g at = contains_at (contents_of groups) k (group_contents g) (at_map group_contents groups k g at)
@@ -100,7 +100,7 @@ rows_of_clear entries groups keeps k g at f (inr (inl n)) =
     let row = contains_at (group_contents g).rows n.0 (fields_of n.1) (at_map fields_of g.rows n.0 n.1 n.2) in
     let number = rows_before (contents_of groups) k + n.0 in
     data_clear entries (contents_of groups) g number n.1 (keeps.rows (group_contents g) there (fields_of n.1) row)
-    (keeps.keys number (row_in (group_contents g) (fields_of n.1)) (group_stands groups k g at n.0 n.1 n.2)) f n.3
+    (keeps.keys number (row_in (group_contents g) (fields_of n.1)) (group_rows groups k g at n.0 n.1 n.2)) f n.3
 rows_of_clear entries groups keeps k g at f (inr (inr n)) = n
 
 pub rows_clear : (entries : Entries) (groups : List Group) → KeepsRows entries (contents_of groups) → IsClear (StandsInEntries entries groups)

@@ -6,14 +6,14 @@ use Rattle.ags_rows.specs.Collecting.{At}
 use Rattle.ags_rows.specs.Contents.{group_contents, contents_of, fields_of}
 use Rattle.ags_links.specs.DataRows.{data_rows, rows_before}
 use Rattle.ags_links.proofs.Lemmas as numbers
-use Rattle.ags_check.specs.Columns.{RowsStand}
+use Rattle.ags_check.specs.Columns.{HaveRowsOf}
 use Rattle.ags_rows.proofs.Lemmas.{at_map}
 
 contents_stand : (groups : List Group) (i : ℕ) (group : Group) → At groups i group → At (contents_of groups) i (group_contents group)
 contents_stand groups i group at = at_map group_contents groups i group at
 
-pub group_stands : (groups : List Group) (i : ℕ) (group : Group) → At groups i group → RowsStand (data_rows (contents_of groups)) (rows_before (contents_of groups) i) group
-group_stands groups i group at = λ place row there.
+pub group_rows : (groups : List Group) (i : ℕ) (group : Group) → At groups i group → HaveRowsOf (data_rows (contents_of groups)) (rows_before (contents_of groups) i) group
+group_rows groups i group at = λ place row there.
     numbers.stands_at (contents_of groups) i (group_contents group) (contents_stand groups i group at) place (fields_of row)
     (at_map fields_of group.rows place row there)
 

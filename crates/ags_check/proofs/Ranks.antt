@@ -5,7 +5,7 @@ use Rattle.std.proofs.lemmas.Option.{none-some, same_Some}
 use Rattle.ags_rows.specs.Collecting.{At}
 use Rattle.ags_rows.proofs.Lemmas.{before_or_at, at_same}
 use Rattle.ags_rows.specs.Contents.{place_in}
-use Rattle.ags_check.specs.HeaderSteps.{later, is_behind, IsLatest, IsOvertaken}
+use Rattle.ags_check.specs.HeaderSteps.{later, is_before_latest, IsLatest, IsOvertaken}
 
 pub latest_none : (rank : List ℕ → Option ℕ) (names : List (List ℕ)) → IsLatest rank names 0 None
 latest_none rank names = λ place name lt at. absurd (omega (arith, lt))
@@ -50,21 +50,21 @@ pub latest_more : (rank : List ℕ → Option ℕ) (names : List (List ℕ)) (i 
     → IsLatest rank names i latest → IsLatest rank names (i + 1) (later latest (rank name))
 latest_more rank names i name latest at h = latest_next rank names i name latest (rank name) at refl h
 
-behind_then : (order names : List (List ℕ)) (i : ℕ) (name : List ℕ) (latest this : Option ℕ) → place_in order name ≡ this
-    → IsLatest (place_in order) names i latest → is_behind this latest ≡ true → IsOvertaken order names i name
-behind_then order names i name latest None e h b = absurd (true≢false (sym b))
-behind_then order names i name None (Some r) e h b = absurd (true≢false (sym b))
-behind_then order names i name (Some l) (Some r) e h b = (h.1.0, h.1.1, h.1.2, h.1.3, (r, l, e, h.1.4, ltb-true r l b))
+before_then : (order names : List (List ℕ)) (i : ℕ) (name : List ℕ) (latest this : Option ℕ) → place_in order name ≡ this
+    → IsLatest (place_in order) names i latest → is_before_latest this latest ≡ true → IsOvertaken order names i name
+before_then order names i name latest None e h b = absurd (true≢false (sym b))
+before_then order names i name None (Some r) e h b = absurd (true≢false (sym b))
+before_then order names i name (Some l) (Some r) e h b = (h.1.0, h.1.1, h.1.2, h.1.3, (r, l, e, h.1.4, ltb-true r l b))
 
 -- a name whose place is before the latest one is overtaken
-pub behind_overtaken : (order names : List (List ℕ)) (i : ℕ) (name : List ℕ) (latest : Option ℕ)
-    → IsLatest (place_in order) names i latest → is_behind (place_in order name) latest ≡ true → IsOvertaken order names i name
-behind_overtaken order names i name latest h b = behind_then order names i name latest (place_in order name) refl h b
+pub before_overtaken : (order names : List (List ℕ)) (i : ℕ) (name : List ℕ) (latest : Option ℕ)
+    → IsLatest (place_in order) names i latest → is_before_latest (place_in order name) latest ≡ true → IsOvertaken order names i name
+before_overtaken order names i name latest h b = before_then order names i name latest (place_in order name) refl h b
 
 -- and only such a name is
-pub overtaken_behind : (order names : List (List ℕ)) (i : ℕ) (name : List ℕ) (latest : Option ℕ)
-    → IsLatest (place_in order) names i latest → IsOvertaken order names i name → is_behind (place_in order name) latest ≡ true
-overtaken_behind order names i name None h o = absurd (none-some o.4.1 (sym (h o.0 o.1 o.2 o.3) ∙ o.4.3))
-overtaken_behind order names i name (Some l) h o =
+pub overtaken_before : (order names : List (List ℕ)) (i : ℕ) (name : List ℕ) (latest : Option ℕ)
+    → IsLatest (place_in order) names i latest → IsOvertaken order names i name → is_before_latest (place_in order name) latest ≡ true
+overtaken_before order names i name None h o = absurd (none-some o.4.1 (sym (h o.0 o.1 o.2 o.3) ∙ o.4.3))
+overtaken_before order names i name (Some l) h o =
     let le : o.4.1 ≤ l = h.0 o.0 o.1 o.4.1 o.2 o.3 o.4.3 in
-    ap (λ (p : Option ℕ). is_behind p (Some l)) o.4.2 ∙ lt-ltb o.4.0 l (omega (arith, le, o.4.4))
+    ap (λ (p : Option ℕ). is_before_latest p (Some l)) o.4.2 ∙ lt-ltb o.4.0 l (omega (arith, le, o.4.4))

@@ -47,6 +47,6 @@ pub record IsOutline (group : Group) (entries : Entries) (own_columns required_c
   pub is_data : of_data ≡ not (is_definition group.name)
 
 -- the DATA rows of the group are among these, from number `first` on
-abbrev pub RowsStand : List DataRow → ℕ → Group → Type 0
-RowsStand rows first group =
+abbrev pub HaveRowsOf : List DataRow → ℕ → Group → Type 0
+HaveRowsOf rows first group =
     (place : ℕ) (row : Row) → At group.rows place row → At rows (first + place) (headed_row group row)

@@ -53,10 +53,10 @@ later (Some place) None = Some place
 later (Some place) (Some other) = Some (max place other)
 
 -- whether a place is before the latest one so far
-abbrev pub is_behind : Option ℕ → Option ℕ → Bool
-is_behind None latest = false
-is_behind (Some place) None = false
-is_behind (Some place) (Some latest) = nat_lt place latest
+abbrev pub is_before_latest : Option ℕ → Option ℕ → Bool
+is_before_latest None latest = false
+is_before_latest (Some place) None = false
+is_before_latest (Some place) (Some latest) = nat_lt place latest
 
 -- the latest place of the names before the end, none where none has a place
 abbrev pub IsLatest : (List ℕ → Option ℕ) → List (List ℕ) → ℕ → Option ℕ → Type 0

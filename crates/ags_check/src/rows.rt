@@ -5,7 +5,7 @@ ghost use Rattle.ags_rows.specs.Findings.{AreExactly};
 ghost use Rattle.ags_rows.specs.Collecting.{At, Adds, OneOf};
 ghost use Rattle.ags_rows.specs.Contents.{contents_of};
 ghost use Rattle.ags_links.specs.Indexing.{rows_in};
-ghost use Rattle.ags_check.specs.Columns.{RowsStand};
+ghost use Rattle.ags_check.specs.Columns.{HaveRowsOf};
 ghost use Rattle.ags_check.specs.RowRules.{headed_row, StandsInEntries};
 ghost use Rattle.ags_check.specs.RowSteps.{InDataRow, InDataRows, InGroupRows, InFileSet};
 
@@ -80,7 +80,7 @@ fn note_data_rows<'a>(
     first: u32,
     findings: &mut NotedFindings,
 ) -> Result<(), AllocError>
-    requires rows { RowsStand (rows_in index.now) first outline.now.group }
+    requires rows { HaveRowsOf (rows_in index.now) first outline.now.group }
     requires few { first + length outline.now.group.rows < 2 ^ 32 }
     requires listed { listed.now ≡ index.now.contents }
     requires entries { outline.now.entries ≡ index.now.entries }
@@ -103,7 +103,7 @@ fn note_group_entries<'a>(
     first: u32,
     findings: &mut NotedFindings,
 ) -> Result<(), AllocError>
-    requires rows { RowsStand (rows_in index.now) first group.now }
+    requires rows { HaveRowsOf (rows_in index.now) first group.now }
     requires few { first + length group.now.rows < 2 ^ 32 }
     requires listed { listed.now ≡ index.now.contents }
     requires entries { dictionary.now ≡ index.now.entries }

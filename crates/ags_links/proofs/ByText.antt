@@ -17,7 +17,7 @@ use Rattle.std.proofs.lemmas.Map.Text.{is_eq-slice_cmp}
 use Rattle.std.proofs.lemmas.Slice.Eq.{bytes_eq-Decides}
 use Rattle.std.proofs.Math.Seq.{drop-nil, take-nil}
 use Rattle.ags_links.specs.declared.lookup.Span.{Span}
-use Rattle.ags_links.specs.Lookups.{Lookup, found, pairs_of, stands_before, rows_between, AreInOrder, IsEnd, IsBegin, IsBoundary, IsSpanOf}
+use Rattle.ags_links.specs.Lookups.{Lookup, found, pairs_of, comes_before, rows_between, AreInOrder, IsEnd, IsBegin, IsBoundary, IsSpanOf}
 
 abbrev pub Pair : Type 0
 Pair = Vec ℕ Global × ℕ
@@ -141,29 +141,29 @@ module _ (pairs : List Pair) (text : List ℕ) (sorted : AreInOrder pairs) where
   chain : (a b c : List ℕ) → is_lt (order a b) ≡ false → is_lt (order b c) ≡ false → is_lt (order a c) ≡ false
   chain = (ranks_by nat_list_cmp_total (λ a. a)).chain
 
-  parted_before : IsPartitionedBy (stands_before false text) pairs
-  parted_before i j d le lt h = by_bool (stands_before false text (get_or pairs i d)) (λ f. true≢false (sym h ∙ chain (key (get_or pairs j d)) (key (get_or pairs i d)) text (up i j d le lt) f))
+  parted_before : IsPartitionedBy (comes_before false text) pairs
+  parted_before i j d le lt h = by_bool (comes_before false text (get_or pairs i d)) (λ f. true≢false (sym h ∙ chain (key (get_or pairs j d)) (key (get_or pairs i d)) text (up i j d le lt) f))
 
   upto_is : (a : List ℕ) → is_le (order a text) ≡ not (is_lt (order text a))
   upto_is a = ap is_le (nat_list_cmp_total.antisymm a text) ∙ le_is (order text a)
 
-  parted_upto : IsPartitionedBy (stands_before true text) pairs
+  parted_upto : IsPartitionedBy (comes_before true text) pairs
   parted_upto i j d le lt h =
       let a = key (get_or pairs i d) in
       let b = key (get_or pairs j d) in
       upto_is a ∙ ap not (chain text b a (not_true (is_lt (order text b)) (sym (upto_is b) ∙ h)) (up i j d le lt))
 
-  pub parted : (upto : Bool) → IsPartitionedBy (stands_before upto text) pairs
+  pub parted : (upto : Bool) → IsPartitionedBy (comes_before upto text) pairs
   parted true = parted_upto
   parted false = parted_before
 
-  -- `stands_before` holds of the last below a place, and not of the one at it
+  -- `comes_before` holds of the last below a place, and not of the one at it
   pub boundary_here : (upto : Bool) (place : ℕ) → place ≤ length pairs → IsEnd upto text pairs place → IsBegin upto text pairs place → IsBoundary upto text pairs place
   boundary_here upto place le low high = (
     le,
     (
       λ k d a b. parted upto k (place - 1) d (omega (arith, b)) (omega (arith, b, le)) (low d (omega (arith, b))),
-      λ k d a b. by_false (stands_before upto text (get_or pairs k d)) (λ h. true≢false (sym (parted upto place k d a b h) ∙ high d (omega (arith, a, b)))),
+      λ k d a b. by_false (comes_before upto text (get_or pairs k d)) (λ h. true≢false (sym (parted upto place k d a b h) ∙ high d (omega (arith, a, b)))),
     ),
   )
 

@@ -5,7 +5,7 @@ use Rattle.std.proofs.lemmas.List.{length-append, length-map, get_or_append_left
 use Rattle.ags_rows.specs.Contents.{Contents}
 use Rattle.ags_rows.specs.Collecting.{At}
 use Rattle.ags_links.specs.DataRows.{DataRow, IsRowOfGroup, row_in, data_rows_of_group, data_rows, rows_before}
-use Rattle.ags_links.specs.Laws.{RowsAreNumbered, RowsStandOnce, RowsBeforeAddUp}
+use Rattle.ags_links.specs.Laws.{RowsAreNumbered, RowNumbersAreUnique, RowsBeforeAddUp}
 use Rattle.ags_links.proofs.RowLemmas.{some_at, map_at}
 use Rattle.ags_rows.proofs.Lemmas.{at_map}
 
@@ -117,8 +117,8 @@ never_earlier : (file : List Contents) (n : ℕ) (row other : DataRow) (here : I
 never_earlier file n row other here there le =
     omega (arith, here.number, there.number, here.of_group.0, before_next file here.group_place here.group here.of_file, before_rises file (suc here.group_place) there.group_place le)
 
-pub rows_stand_once : RowsStandOnce
-rows_stand_once file n row other here there = elim (cases_lt here.group_place there.group_place) [
+pub row_numbers_are_unique : RowNumbersAreUnique
+row_numbers_are_unique file n row other here there = elim (cases_lt here.group_place there.group_place) [
   | inl lt ↦ absurd (never_earlier file n row other here there (omega (arith, lt)))
   | inr le ↦ (elim (cases_lt there.group_place here.group_place) [
     | inl lt ↦ absurd (never_earlier file n other row there here (omega (arith, lt)))

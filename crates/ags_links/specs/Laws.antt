@@ -12,8 +12,8 @@ abbrev pub RowsAreNumbered : Type 0
 RowsAreNumbered = (file : List Contents) (n : ℕ) (row : DataRow) → At (data_rows file) n row ↔ IsRowOfGroup file n row
 
 -- The number of a DATA row is that of one row alone: one group has it, at one place.
-abbrev pub RowsStandOnce : Type 0
-RowsStandOnce =
+abbrev pub RowNumbersAreUnique : Type 0
+RowNumbersAreUnique =
     (file : List Contents) (n : ℕ) (row other : DataRow)
     (here : IsRowOfGroup file n row) (there : IsRowOfGroup file n other)
     → (here.group_place ≡ there.group_place) × (here.place ≡ there.place)

@@ -30,25 +30,25 @@ pub record AreByText (pairs : List (Vec ℕ Global × ℕ)) (rows : List ℕ) : 
   pub alone : rows ≡ map (λ p. p.1) pairs
 
 -- the pair is before those of the text; where these count, not after them
-abbrev pub stands_before : Bool → List ℕ → Vec ℕ Global × ℕ → Bool
-stands_before false text p = is_lt (slice_cmp nat_cmp p.0.items text)
-stands_before true text p = is_le (slice_cmp nat_cmp p.0.items text)
+abbrev pub comes_before : Bool → List ℕ → Vec ℕ Global × ℕ → Bool
+comes_before false text p = is_lt (slice_cmp nat_cmp p.0.items text)
+comes_before true text p = is_le (slice_cmp nat_cmp p.0.items text)
 
--- `stands_before` holds of the last below the place, if there is one
+-- `comes_before` holds of the last below the place, if there is one
 abbrev pub IsEnd : Bool → List ℕ → List (Vec ℕ Global × ℕ) → ℕ → Type 0
 IsEnd upto text pairs place =
-    (d : Vec ℕ Global × ℕ) → 0 < place → stands_before upto text (slice_index_or pairs (place - 1) d) ≡ true
+    (d : Vec ℕ Global × ℕ) → 0 < place → comes_before upto text (slice_index_or pairs (place - 1) d) ≡ true
 
 -- it does not hold of the one at the place, if there is one
 abbrev pub IsBegin : Bool → List ℕ → List (Vec ℕ Global × ℕ) → ℕ → Type 0
 IsBegin upto text pairs place =
-    (d : Vec ℕ Global × ℕ) → place < length pairs → stands_before upto text (slice_index_or pairs place d) ≡ false
+    (d : Vec ℕ Global × ℕ) → place < length pairs → comes_before upto text (slice_index_or pairs place d) ≡ false
 
--- `stands_before` holds of those below the place, and of no others
+-- `comes_before` holds of those below the place, and of no others
 abbrev pub IsBoundary : Bool → List ℕ → List (Vec ℕ Global × ℕ) → ℕ → Type 0
 IsBoundary upto text pairs place =
     (place ≤ length pairs)
-    × IsPartitionPoint (λ p. stands_before upto text p ≡ true) (λ p. stands_before upto text p ≡ false) pairs place
+    × IsPartitionPoint (λ p. comes_before upto text p ≡ true) (λ p. comes_before upto text p ≡ false) pairs place
 
 -- the rows of the pairs from one place to another
 abbrev pub rows_between : Lookup → ℕ → ℕ → List ℕ

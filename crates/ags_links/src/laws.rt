@@ -1,6 +1,6 @@
 //! Laws over the definitions alone.
 
-ghost use Rattle.ags_links.specs.Laws.{RowsAreNumbered, RowsStandOnce, RowsBeforeAddUp, DefinitionsHaveNoStep, OneGraph, GraphsWalkAsFiles};
+ghost use Rattle.ags_links.specs.Laws.{RowsAreNumbered, RowNumbersAreUnique, RowsBeforeAddUp, DefinitionsHaveNoStep, OneGraph, GraphsWalkAsFiles};
 
 /// Each number of a DATA row is that of one row of one group, and back.
 pub fn rows_are_numbered()
@@ -8,8 +8,8 @@ pub fn rows_are_numbered()
 {}
 
 /// The number of a DATA row is that of one row alone: one group has it, at one place.
-pub fn rows_stand_once()
-    ensures { RowsStandOnce }
+pub fn row_numbers_are_unique()
+    ensures { RowNumbersAreUnique }
 {}
 
 /// The rows before the next group are those before this one, and its own; all of them are rows of the file.

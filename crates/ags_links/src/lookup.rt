@@ -1,7 +1,7 @@
 //! The index: from a text to the rows that have it.
 
 ghost use Rattle.std.specs.Prelude.{◌≡◌, ◌<◌, ◌≤◌, ℕ, List, Contains, IfOk, IsTrue, length, map};
-ghost use Rattle.ags_links.specs.Lookups.{found, pairs_of, stands_before, rows_between, AreInOrder, HasOneText, AreFirstWith, IsEnd, IsBegin, IsBoundary, IsWithin, IsSpanOf};
+ghost use Rattle.ags_links.specs.Lookups.{found, pairs_of, comes_before, rows_between, AreInOrder, HasOneText, AreFirstWith, IsEnd, IsBegin, IsBoundary, IsWithin, IsSpanOf};
 
 use std::alloc::{AllocError, Global};
 use std::marker::Model;
@@ -47,30 +47,30 @@ pub(crate) fn rows_by_text(alloc: Global, pairs: Vec<(Vec<u8>, u32)>) -> Result<
 }
 
 /// Whether the pair is before those of the text, or, up to these, not after them.
-fn stands_before(pair: &(Vec<u8>, u32), text: &[u8], upto: bool) -> bool
-    ensures { result ≡ stands_before upto text.now pair.now }
+fn comes_before(pair: &(Vec<u8>, u32), text: &[u8], upto: bool) -> bool
+    ensures { result ≡ comes_before upto text.now pair.now }
 {
     let order = pair.0.as_slice().cmp(text);
     if upto { order.is_le() } else { order.is_lt() }
 }
 
-/// Whether `stands_before` holds of the last pair below the place, if there is one.
+/// Whether `comes_before` holds of the last pair below the place, if there is one.
 fn may_end(pairs: &[(Vec<u8>, u32)], place: usize, text: &[u8], upto: bool) -> bool
     requires { place ≤ length pairs.now }
     ensures { IsTrue result → IsEnd upto text.now pairs.now place }
 {
-    place == 0 || stands_before(&pairs[place - 1], text, upto)
+    place == 0 || comes_before(&pairs[place - 1], text, upto)
 }
 
-/// Whether `stands_before` does not hold of the pair at the place, if there is one.
+/// Whether `comes_before` does not hold of the pair at the place, if there is one.
 fn may_begin(pairs: &[(Vec<u8>, u32)], place: usize, text: &[u8], upto: bool) -> bool
     requires { place ≤ length pairs.now }
     ensures { IsTrue result → IsBegin upto text.now pairs.now place }
 {
-    place == pairs.len() || !stands_before(&pairs[place], text, upto)
+    place == pairs.len() || !comes_before(&pairs[place], text, upto)
 }
 
-/// The end of the pairs that `stands_before` holds of. A place that is near is tried first.
+/// The end of the pairs that `comes_before` holds of. A place that is near is tried first.
 fn boundary(pairs: &[(Vec<u8>, u32)], near: usize, text: &[u8], upto: bool) -> usize
     requires { AreInOrder pairs.now }
     ensures { IsBoundary upto text.now pairs.now result }
@@ -81,7 +81,7 @@ fn boundary(pairs: &[(Vec<u8>, u32)], near: usize, text: &[u8], upto: bool) -> u
     {
         near
     } else {
-        pairs.partition_point(|pair| stands_before(pair, text, upto))
+        pairs.partition_point(|pair| comes_before(pair, text, upto))
     }
 }
 

@@ -9,7 +9,7 @@ use Rattle.std.proofs.lemmas.Map.Made.{AllPairs-from_IsDistinct}
 use Rattle.ags_text.specs.Bytes.{ascii_end, carriage_return, line_feed}
 use Rattle.ags_text.specs.Names.{is_group_name, is_heading_name}
 use Rattle.ags_rows.specs.Contents.{Contents}
-use Rattle.ags_rows.specs.Writing.{IsPlainByte, ArePlain, StandOnce, AreUnder, AreHeadings, IsWellFormedGroup, IsWellFormed, group_names}
+use Rattle.ags_rows.specs.Writing.{IsPlainByte, ArePlain, AreDistinct, AreUnder, AreHeadings, IsWellFormedGroup, IsWellFormed, group_names}
 use Rattle.ags_rows.proofs.Repeats.{not_is}
 
 -- ---- the tests
@@ -24,15 +24,15 @@ abbrev is_filled : {X : Type 0} → List X → Bool
 is_filled [] = false
 is_filled (x ∷ xs) = true
 
-abbrev stand_once : List (List ℕ) → Bool
-stand_once [] = true
-stand_once (text ∷ texts) = list_all (λ later. not (bytes_eq text later)) texts && stand_once texts
+abbrev are_distinct : List (List ℕ) → Bool
+are_distinct [] = true
+are_distinct (text ∷ texts) = list_all (λ later. not (bytes_eq text later)) texts && are_distinct texts
 
 abbrev are_under : List (List ℕ) → List (List ℕ) → Bool
 are_under headings fields = nat_eq (length fields) (length headings) && are_plain fields
 
 abbrev are_headings : List (List ℕ) → Bool
-are_headings headings = is_filled headings && (list_all is_heading_name headings && stand_once headings)
+are_headings headings = is_filled headings && (list_all is_heading_name headings && are_distinct headings)
 
 abbrev is_well_formed_group : Contents → Bool
 is_well_formed_group group =
@@ -41,7 +41,7 @@ is_well_formed_group group =
     && (is_filled group.rows && list_all (are_under group.headings) group.rows))
 
 abbrev pub is_well_formed : List Contents → Bool
-is_well_formed groups = is_filled groups && (list_all is_well_formed_group groups && stand_once (group_names groups))
+is_well_formed groups = is_filled groups && (list_all is_well_formed_group groups && are_distinct (group_names groups))
 
 -- ---- what they say
 
@@ -68,16 +68,16 @@ filled : {X : Type 0} (xs : List X) → is_filled xs ≡ true → xs ≢ []
 filled [] e = absurd cc
 filled (x ∷ xs) e = λ none. absurd cc
 
-distinct : (texts : List (List ℕ)) → stand_once texts ≡ true → IsDistinct bytes_eq texts
+distinct : (texts : List (List ℕ)) → are_distinct texts ≡ true → IsDistinct bytes_eq texts
 unfolding IsDistinct
 distinct [] e = tt
 distinct (text ∷ texts) e =
-    let parts = and_parts (list_all (λ later. not (bytes_eq text later)) texts) (stand_once texts) e in (
+    let parts = and_parts (list_all (λ later. not (bytes_eq text later)) texts) (are_distinct texts) e in (
       all_by_test (λ later. bytes_eq text later ≡ false) (λ later. not (bytes_eq text later)) (λ later apart. not_is (bytes_eq text later) apart) texts parts.0,
       distinct texts parts.1,
     )
 
-once : (texts : List (List ℕ)) → stand_once texts ≡ true → StandOnce texts
+once : (texts : List (List ℕ)) → are_distinct texts ≡ true → AreDistinct texts
 once texts e = AllPairs-from_IsDistinct bytes_eq-Decides texts (distinct texts e)
 
 under : (headings fields : List (List ℕ)) → are_under headings fields ≡ true → AreUnder headings fields
@@ -87,8 +87,8 @@ under headings fields e =
 
 headings_formed : (headings : List (List ℕ)) → are_headings headings ≡ true → AreHeadings headings
 headings_formed headings e =
-    let parts = and_parts (is_filled headings) (list_all is_heading_name headings && stand_once headings) e in
-    let rest = and_parts (list_all is_heading_name headings) (stand_once headings) parts.1 in
+    let parts = and_parts (is_filled headings) (list_all is_heading_name headings && are_distinct headings) e in
+    let rest = and_parts (list_all is_heading_name headings) (are_distinct headings) parts.1 in
     record {
       some = filled headings parts.0;
       named = all_by_test (λ h. is_heading_name h ≡ true) is_heading_name (λ h is. is) headings rest.0;
@@ -114,8 +114,8 @@ group_formed group e =
 -- contents that pass the tests are well formed
 pub formed_by_test : (groups : List Contents) → is_well_formed groups ≡ true → IsWellFormed groups
 formed_by_test groups e =
-    let parts = and_parts (is_filled groups) (list_all is_well_formed_group groups && stand_once (group_names groups)) e in
-    let rest = and_parts (list_all is_well_formed_group groups) (stand_once (group_names groups)) parts.1 in
+    let parts = and_parts (is_filled groups) (list_all is_well_formed_group groups && are_distinct (group_names groups)) e in
+    let rest = and_parts (list_all is_well_formed_group groups) (are_distinct (group_names groups)) parts.1 in
     record {
       some = filled groups parts.0;
       each = all_by_test IsWellFormedGroup is_well_formed_group group_formed groups rest.0;

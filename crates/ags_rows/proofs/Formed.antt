@@ -11,7 +11,7 @@ use Rattle.ags_rows.specs.Collecting.{At, finding_at, OneOf}
 use Rattle.ags_rows.specs.Stands.{shape_rules, StandsInGroups}
 use Rattle.ags_rows.specs.Parsing.{StandsInName, StandsInHeadings}
 use Rattle.ags_rows.specs.Contents.{contents_of, fields_of, group_contents}
-use Rattle.ags_rows.specs.Writing.{ArePlain, IsPlainGroup, AreUnder, AreHeadings, StandOnce, group_names, IsWellFormedGroup, IsWellFormed}
+use Rattle.ags_rows.specs.Writing.{ArePlain, IsPlainGroup, AreUnder, AreHeadings, AreDistinct, group_names, IsWellFormedGroup, IsWellFormed}
 use Rattle.ags_rows.proofs.Written.{all_at}
 use Rattle.ags_rows.proofs.AtPlaces.{at_map, at_mapped}
 use Rattle.ags_rows.proofs.WellFormed.{all_from_at, once_apart, once_from}
@@ -40,7 +40,7 @@ shape_clear g w f (inr (inr (inr (inr (inl n))))) =
     n.3.0 under.count
 shape_clear g w f (inr (inr (inr (inr (inr n))))) = n
 
-name_clear : (groups : List Group) (k : ℕ) (g : Group) → At groups k g → IsWellFormedGroup (group_contents g) → StandOnce (scanned_names groups) → (f : Finding) → StandsInName g.line Rule19 P1 is_group_name (scanned_names groups) k g.name f → ⊥
+name_clear : (groups : List Group) (k : ℕ) (g : Group) → At groups k g → IsWellFormedGroup (group_contents g) → AreDistinct (scanned_names groups) → (f : Finding) → StandsInName g.line Rule19 P1 is_group_name (scanned_names groups) k g.name f → ⊥
 name_clear groups k g at w once f (inl n) = not_both (is_group_name g.name) w.name n.0
 name_clear groups k g at w once f (inr (inl n)) = once_apart (scanned_names groups) n.0.0 k g.name g.name once n.0.1 n.0.2 (at_map (λ (x : Group). x.name) groups k g at) refl
 name_clear groups k g at w once f (inr (inr n)) = n
@@ -56,7 +56,7 @@ headings_clear g w f h =
 pub formed_clear : (groups : List Group) → IsWellFormed (contents_of groups) → (f : Finding) → StandsInGroups groups f → ⊥
 formed_clear groups w f h =
     let group = all_at IsWellFormedGroup (contents_of groups) h.0 (group_contents h.1) w.each (at_map group_contents groups h.0 h.1 h.2) in
-    let once = subst StandOnce (same_names groups) w.names_once in
+    let once = subst AreDistinct (same_names groups) w.names_once in
     elim h.3 [
       | inl n ↦ shape_clear h.1 group f n
       | inr (inl n) ↦ name_clear groups h.0 h.1 h.2 group once f n
@@ -111,7 +111,7 @@ group_formed groups clear k g at plain = record {
   rows = rows_formed groups clear k g at plain.rows;
 }
 
-names_formed : (groups : List Group) → Clear groups → StandOnce (scanned_names groups)
+names_formed : (groups : List Group) → Clear groups → AreDistinct (scanned_names groups)
 names_formed groups clear =
     once_from (scanned_names groups) (λ i j x y lt a b e.
     let group = at_mapped (λ (g : Group). g.name) groups j y b in
@@ -124,7 +124,7 @@ clear_formed groups some plain clear = record {
   each = all_from_at IsWellFormedGroup (contents_of groups) (λ k c here.
       let group = at_mapped group_contents groups k c here in
       subst IsWellFormedGroup group.2 (group_formed groups clear k group.0 group.1 (all_at IsPlainGroup (contents_of groups) k (group_contents group.0) plain (at_map group_contents groups k group.0 group.1))));
-  names_once = subst StandOnce (sym (same_names groups)) (names_formed groups clear);
+  names_once = subst AreDistinct (sym (same_names groups)) (names_formed groups clear);
 } where
   some_contents : (groups : List Group) → groups ≢ [] → contents_of groups ≢ []
   some_contents [] ne e = ne refl

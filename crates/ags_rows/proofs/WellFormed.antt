@@ -20,7 +20,7 @@ use Rattle.ags_rows.specs.Stands.{StandsInLines, StandsInOrder, StandsInGroups}
 use Rattle.ags_rows.specs.Findings.{FirstFound, FileGroups}
 use Rattle.ags_rows.specs.Parsing.{later_phases}
 use Rattle.ags_rows.specs.Contents.{contents_of, fields_of}
-use Rattle.ags_rows.specs.Writing.{IsPlainByte, ArePlain, IsPlainGroup, StandOnce}
+use Rattle.ags_rows.specs.Writing.{IsPlainByte, ArePlain, IsPlainGroup, AreDistinct}
 use Rattle.ags_rows.proofs.AtPlaces.{at_read, at_from_read, at_later}
 
 -- ---- lists whose elements have a property
@@ -137,11 +137,11 @@ contents_plain (g ∷ groups) h =
 
 -- ---- texts that occur once
 
-pub once_apart : (texts : List (List ℕ)) (i j : ℕ) (x y : List ℕ) → StandOnce texts → i < j → At texts i x → At texts j y → x ≡ y → ⊥
+pub once_apart : (texts : List (List ℕ)) (i j : ℕ) (x y : List ℕ) → AreDistinct texts → i < j → At texts i x → At texts j y → x ≡ y → ⊥
 once_apart texts i j x y once lt a b e =
     once i j x lt b.0 (a.1 ∙ e ∙ sym (at_read texts j y x b))
 
-pub once_from : (texts : List (List ℕ)) → ((i j : ℕ) (x y : List ℕ) → i < j → At texts i x → At texts j y → x ≡ y → ⊥) → StandOnce texts
+pub once_from : (texts : List (List ℕ)) → ((i j : ℕ) (x y : List ℕ) → i < j → At texts i x → At texts j y → x ≡ y → ⊥) → AreDistinct texts
 once_from texts apart i j d lt below e =
     apart i j (get_or texts i d) (get_or texts j d) lt (at_from_read texts i _ d (omega (arith, lt, below)) refl) (at_from_read texts j _ d below refl) e
 

@@ -21,7 +21,7 @@ use Rattle.ags_rows.specs.Order.{may_follow, OutOfPlace}
 use Rattle.ags_rows.specs.Groups.{as_file_row, rows_of}
 use Rattle.ags_rows.specs.Collecting.{At, OneOf}
 use Rattle.ags_rows.specs.Stands.{line_rules, StandsInLines, StandsInOrder}
-use Rattle.ags_rows.specs.Parsing.{IsFirstLine, MayStandBehind}
+use Rattle.ags_rows.specs.Parsing.{IsFirstLine, RestMayFollow}
 use Rattle.ags_rows.specs.Contents.{Contents, group_contents}
 use Rattle.ags_rows.specs.Writing.{written_row, group_lines, empty_line, written_lines, text_of, written_file, IsPlainByte, ArePlain, IsPlainGroup, IsWellFormedGroup, IsWellFormed}
 use Rattle.ags_text.specs.Names.{is_capital, is_digit, is_group_name, is_heading_name}
@@ -280,26 +280,26 @@ contents_written n (g ∷ gs) =
 
 -- ---- rows in order break nothing
 
-follows : (d : Descriptor) (rows : List FileRow) → MayStandBehind d rows → (k : ℕ) (a b : FileRow) → At rows k a → At rows (suc k) b → may_follow a.descriptor b.descriptor ≡ true
+follows : (d : Descriptor) (rows : List FileRow) → RestMayFollow d rows → (k : ℕ) (a b : FileRow) → At rows k a → At rows (suc k) b → may_follow a.descriptor b.descriptor ≡ true
 follows d [] m k a b p q = absurd (omega (arith, p.0))
 follows d (x ∷ []) m k a b p q = absurd (omega (arith, q.0))
 follows d (x ∷ y ∷ rows) m zero a b p q =
     subst (λ (z : FileRow). may_follow z.descriptor b.descriptor ≡ true) p.1 (subst (λ (z : FileRow). may_follow x.descriptor z.descriptor ≡ true) q.1 m.2.0)
 follows d (x ∷ y ∷ rows) m (suc k) a b p q = follows x.descriptor (y ∷ rows) m.2 k a b (at_earlier x (y ∷ rows) k a p) (at_earlier x (y ∷ rows) (suc k) b q)
 
-ends_whole : (d : Descriptor) (rows : List FileRow) → MayStandBehind d rows → (k : ℕ) (a : FileRow) → At rows k a → k + 1 ≡ length rows → may_follow a.descriptor kinds.Group ≡ true
+ends_whole : (d : Descriptor) (rows : List FileRow) → RestMayFollow d rows → (k : ℕ) (a : FileRow) → At rows k a → k + 1 ≡ length rows → may_follow a.descriptor kinds.Group ≡ true
 ends_whole d [] m k a p e = absurd (omega (arith, p.0))
 ends_whole d (x ∷ []) m zero a p e = subst (λ (r : FileRow). may_follow r.descriptor kinds.Group ≡ true) p.1 m.2
 ends_whole d (x ∷ []) m (suc k) a p e = absurd (omega (arith, p.0))
 ends_whole d (x ∷ y ∷ rows) m zero a p e = absurd (omega (arith, e))
 ends_whole d (x ∷ y ∷ rows) m (suc k) a p e = ends_whole x.descriptor (y ∷ rows) m.2 k a (at_earlier x (y ∷ rows) k a p) (omega (arith, e))
 
-named : (d : Descriptor) (rows : List FileRow) → MayStandBehind d rows → (k : ℕ) (a : FileRow) → At rows k a → a.descriptor ≡ kinds.Group → length a.items ≡ 1
+named : (d : Descriptor) (rows : List FileRow) → RestMayFollow d rows → (k : ℕ) (a : FileRow) → At rows k a → a.descriptor ≡ kinds.Group → length a.items ≡ 1
 named d [] m k a p e = absurd (omega (arith, p.0))
 named d (x ∷ rows) m zero a p e = subst (λ (r : FileRow). r.descriptor ≡ kinds.Group → length r.items ≡ 1) p.1 m.1 e
 named d (x ∷ rows) m (suc k) a p e = named x.descriptor rows m.2 k a (at_earlier x rows k a p) e
 
-place_clear : (x : FileRow) (rows : List FileRow) → x.descriptor ≡ kinds.Group → MayStandBehind kinds.Type (x ∷ rows) → (place : ℕ) (row : FileRow) → At (x ∷ rows) place row → OutOfPlace (x ∷ rows) place row → ⊥
+place_clear : (x : FileRow) (rows : List FileRow) → x.descriptor ≡ kinds.Group → RestMayFollow kinds.Type (x ∷ rows) → (place : ℕ) (row : FileRow) → At (x ∷ rows) place row → OutOfPlace (x ∷ rows) place row → ⊥
 place_clear x rows first m place row at (inl h) =
     let here : At (x ∷ rows) 0 row = subst (λ (k : ℕ). At (x ∷ rows) k row) h.0 at in
     h.1 (subst (λ (r : FileRow). r.descriptor ≡ kinds.Group) here.1 first)
@@ -310,7 +310,7 @@ place_clear x rows first m place row at (inr (inl h)) =
 place_clear x rows first m place row at (inr (inr h)) =
     let z : true ≡ false = sym (ends_whole kinds.Type (x ∷ rows) m place row at h.0) ∙ h.1 in cc
 
-order_clear : (x : FileRow) (rows : List FileRow) → x.descriptor ≡ kinds.Group → MayStandBehind kinds.Type (x ∷ rows) → (f : Finding) → StandsInOrder (x ∷ rows) f → ⊥
+order_clear : (x : FileRow) (rows : List FileRow) → x.descriptor ≡ kinds.Group → RestMayFollow kinds.Type (x ∷ rows) → (f : Finding) → StandsInOrder (x ∷ rows) f → ⊥
 order_clear x rows first m f (inl h) = let z : x ∷ rows ≡ [] = h.0 in cc
 order_clear x rows first m f (inr (inl h)) = elim h.3 [
   | inl k ↦ place_clear x rows first m h.0 h.1 h.2 k.0

@@ -65,8 +65,8 @@ pub record IsPlainGroup (group : Contents) : Type 0 where
   pub rows : AllByRecursion ArePlain group.rows
 
 -- no text occurs twice
-abbrev pub StandOnce : List (List ℕ) → Type 0
-StandOnce texts = AllPairs (λ text later. text ≢ later) texts
+abbrev pub AreDistinct : List (List ℕ) → Type 0
+AreDistinct texts = AllPairs (λ text later. text ≢ later) texts
 
 -- as many fields as there are headings, of bytes that can be written
 pub record AreUnder (headings fields : List (List ℕ)) : Type 0 where
@@ -77,7 +77,7 @@ pub record AreUnder (headings fields : List (List ℕ)) : Type 0 where
 pub record AreHeadings (headings : List (List ℕ)) : Type 0 where
   pub some : headings ≢ []
   pub named : AllByRecursion (λ heading. is_heading_name heading ≡ true) headings
-  pub once : StandOnce headings
+  pub once : AreDistinct headings
 
 -- Rules 2, 4, 19: a right name, headings, and a DATA row; each row has as many fields as there are headings.
 pub record IsWellFormedGroup (group : Contents) : Type 0 where
@@ -96,7 +96,7 @@ group_names groups = map (λ group. group.name) groups
 pub record IsWellFormed (groups : List Contents) : Type 0 where
   pub some : groups ≢ []
   pub each : AllByRecursion IsWellFormedGroup groups
-  pub names_once : StandOnce (group_names groups)
+  pub names_once : AreDistinct (group_names groups)
 
 -- the new bytes are the old ones and more
 abbrev pub IsLonger : List ℕ → List ℕ → Type 0

@@ -94,7 +94,7 @@ refused P Q BadValue h f = f h
 refused P Q NoMemory h f = h
 
 -- the same of what a `?` hands on
-pub handed_on : {A B : Type 0} (P : A → Type 0) (Q : B → Type 0) (e : ReadError) (r : Result B ReadError) (Same : ReadError → Type 0) → IsErrAnd r Same
+pub passed_on : {A B : Type 0} (P : A → Type 0) (Q : B → Type 0) (e : ReadError) (r : Result B ReadError) (Same : ReadError → Type 0) → IsErrAnd r Same
     → ((f : ReadError) → Same f → f ≡ e) → Gives P (Err e) → (((a : A) → ¬ (P a)) → (b : B) → ¬ (Q b)) → Gives Q r
-handed_on P Q e (Ok b) Same h is bad without = absurd h
-handed_on P Q e (Err f) Same h is bad without = rw (is f h) (refused P Q e bad without)
+passed_on P Q e (Ok b) Same h is bad without = absurd h
+passed_on P Q e (Err f) Same h is bad without = rw (is f h) (refused P Q e bad without)

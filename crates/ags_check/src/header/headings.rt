@@ -5,7 +5,7 @@ ghost use Rattle.ags_rows.specs.declared.code.Code.TheVariants.{Rule7, Rule10a, 
 ghost use Rattle.ags_rows.specs.Collecting.{Adds};
 ghost use Rattle.ags_dict.specs.Entries.{keys_of, required_of};
 ghost use Rattle.ags_check.specs.Header.{BeginsWithName};
-ghost use Rattle.ags_check.specs.HeaderSteps.{later, is_behind, IsMisnamedBy, AtAbsent, AtUnknown, AtMisplaced, AtMisnamed};
+ghost use Rattle.ags_check.specs.HeaderSteps.{later, is_before_latest, IsMisnamedBy, AtAbsent, AtUnknown, AtMisplaced, AtMisnamed};
 
 use ags_dict::Dictionary;
 use ags_rows::{Code, NotedFindings, Places};
@@ -92,8 +92,8 @@ fn later(one: Option<usize>, other: Option<usize>) -> Option<usize>
 }
 
 /// Whether a place is before the latest one so far.
-fn is_behind(place: Option<usize>, latest: Option<usize>) -> bool
-    ensures { result ≡ is_behind place latest }
+fn is_before_latest(place: Option<usize>, latest: Option<usize>) -> bool
+    ensures { result ≡ is_before_latest place latest }
 {
     match (place, latest) {
         (Some(place), Some(latest)) => place < latest,
@@ -115,7 +115,7 @@ pub(crate) fn note_misplaced(
     let mut latest = None;
     for heading in headings {
         let place = dictionary.place_in_order(group, heading);
-        if is_behind(place, latest) {
+        if is_before_latest(place, latest) {
             findings.note(line, Code::Rule7, heading)?;
         }
         latest = later(latest, place);
@@ -124,7 +124,7 @@ pub(crate) fn note_misplaced(
 }
 
 /// What comes after the front of a text, if the text begins with it.
-fn behind<'t>(text: &'t [u8], front: &[u8]) -> Option<&'t [u8]>
+fn after_front<'t>(text: &'t [u8], front: &[u8]) -> Option<&'t [u8]>
     ensures { MatchOption result ((rest : List ℕ) → text.now ≡ front.now ++ rest → ⊥)
         (λ rest. text.now ≡ front.now ++ rest.now) }
 {
@@ -135,8 +135,8 @@ fn behind<'t>(text: &'t [u8], front: &[u8]) -> Option<&'t [u8]>
 fn begins_with_name(heading: &[u8], group: &[u8]) -> bool
     ensures { IsTrue result ↔ BeginsWithName group.now heading.now }
 {
-    match behind(heading, group) {
-        Some(rest) => behind(rest, b"_").is_some(),
+    match after_front(heading, group) {
+        Some(rest) => after_front(rest, b"_").is_some(),
         None => false,
     }
 }

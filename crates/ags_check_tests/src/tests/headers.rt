@@ -60,7 +60,7 @@ const UNKNOWN: &[Case] = &[
         want: "18 27 LOCA_XTRA;",
     },
     Case {
-        name: "the file's DICT has it, behind the standard headings",
+        name: "the file's DICT has it, after the standard headings",
         file: Base::A,
         edits: &[Edit {
             first: 27,

@@ -27,9 +27,9 @@ const FILES: &[u8] = b"\
 fn replaced(alloc: Global, file: &[u8], old: &[u8], new: &[u8]) -> Result<Vec<u8>, AllocError> {
     let mut text = Vec::new(alloc);
     for (place, byte) in file.iter().enumerate() {
-        if let Some(behind) = file[place..].strip_prefix(old) {
+        if let Some(rest) = file[place..].strip_prefix(old) {
             text.extend_from_slice(new)?;
-            text.extend_from_slice(behind)?;
+            text.extend_from_slice(rest)?;
             return Ok(text);
         }
         text.push(*byte)?;

@@ -57,13 +57,13 @@ static WHOLE: [Want; 8] = [
 /// What they are answered once it has failed.
 static FAILED: [Want; 8] = [Want::Says("store failed"); 8];
 
-/// How many answers come before the first that the store failed; none where one of them is not that of a whole run, or one from
-/// there on is another.
+/// How many answers come before the first that the store failed; none where one of them is not that of a whole run, or
+/// one from there on is another.
 fn answered_before(alloc: Global, answers: &[Answer]) -> Option<usize> {
     let before = count_wanted(alloc, answers, &WHOLE).ok()?;
-    let behind = answers.get(before..)?;
-    match count_wanted(alloc, behind, &FAILED) {
-        Ok(failed) if failed == behind.len() => Some(before),
+    let rest = answers.get(before..)?;
+    match count_wanted(alloc, rest, &FAILED) {
+        Ok(failed) if failed == rest.len() => Some(before),
         _ => None,
     }
 }

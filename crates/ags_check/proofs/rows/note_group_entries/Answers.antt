@@ -3,14 +3,14 @@ use Rattle.ags_rows.specs.Collecting.{Adds, Among, OneOf}
 use Rattle.ags_rows.specs.Contents.{Contents}
 use Rattle.ags_rows.proofs.Lemmas.{two_rules}
 use Rattle.ags_links.specs.Indexing.{rows_in}
-use Rattle.ags_check.specs.Columns.{Outlined, RowsStand}
+use Rattle.ags_check.specs.Columns.{Outlined, HaveRowsOf}
 use Rattle.ags_check.specs.Placing.{InSome}
 use Rattle.ags_check.specs.RowRules.{unit_and_type_rules, data_row_rules}
 use Rattle.std.proofs.lemmas.Result.{on_ok_weaker}
 use Rattle.ags_check.proofs.rows.note_group_entries.Goals as goal
 
 pub note_data_rows-requires-clause-rows : goal.note_data_rows-requires-clause-rows
-note_data_rows-requires-clause-rows c = subst (λ (v : Outlined). RowsStand (rows_in c.args.index.now) c.args.first v.group) (sym c.in_ok-outline.ensures) c.requires.rows
+note_data_rows-requires-clause-rows c = subst (λ (v : Outlined). HaveRowsOf (rows_in c.args.index.now) c.args.first v.group) (sym c.in_ok-outline.ensures) c.requires.rows
 
 pub returns : goal.returns
 returns c =

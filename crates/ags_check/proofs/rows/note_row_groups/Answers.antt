@@ -5,17 +5,17 @@ use Rattle.ags_rows.specs.Contents.{Contents, contents_of}
 use Rattle.ags_rows.proofs.Lemmas.{among_more, among_all}
 use Rattle.ags_dict.specs.Entries.{Entries}
 use Rattle.ags_links.specs.DataRows.{data_rows, rows_before}
-use Rattle.ags_check.specs.Columns.{RowsStand}
+use Rattle.ags_check.specs.Columns.{HaveRowsOf}
 use Rattle.ags_check.specs.RowRules.{entry_rules_of}
-use Rattle.ags_check.proofs.Numbering.{group_stands, group_few, group_next}
+use Rattle.ags_check.proofs.Numbering.{group_rows, group_few, group_next}
 use Rattle.ags_check.proofs.rows.note_row_groups.Goals as goal
 
 -- the rows of the group at a place are numbered from a number on, as the index has them
 stands : (groups : List Group) (contents : List Contents) (i first : ℕ) (group : Group) → contents ≡ contents_of groups → first ≡ rows_before (contents_of groups) i → At groups i group
-    → RowsStand (data_rows contents) first group
+    → HaveRowsOf (data_rows contents) first group
 stands groups contents i first group same is at =
-    subst (λ (c : List Contents). RowsStand (data_rows c) first group) (sym same)
-    (subst (λ (n : ℕ). RowsStand (data_rows (contents_of groups)) n group) (sym is) (group_stands groups i group at))
+    subst (λ (c : List Contents). HaveRowsOf (data_rows c) first group) (sym same)
+    (subst (λ (n : ℕ). HaveRowsOf (data_rows (contents_of groups)) n group) (sym is) (group_rows groups i group at))
 
 few : (groups : List Group) (contents : List Contents) (i first : ℕ) (group : Group) → contents ≡ contents_of groups → first ≡ rows_before (contents_of groups) i → At groups i group
     → first + length group.rows ≤ length (data_rows contents)
