@@ -1,12 +1,12 @@
 -- Why a store holds no register that can be opened, or migrated.
 use Rattle.reg_cli.specs.declared.fault.Fault.TheVariants as faults
-use Rattle.reg_cli.specs.declared.refusal.Refusal.{Refusal}
-use Rattle.reg_cli.specs.declared.refusal.Refusal.TheVariants.{Plain, Version}
+use Rattle.reg_cli.specs.declared.failure.Failure.{Failure}
+use Rattle.reg_cli.specs.declared.failure.Failure.TheVariants.{Plain, Version}
 use Rattle.reg_tables.specs.declared.adopting.AdoptError.{AdoptError}
 use Rattle.reg_tables.specs.declared.adopting.AdoptError.TheVariants as adopts
 
 -- what is refused for it
-abbrev pub adopting : AdoptError → Refusal
+abbrev pub adopting : AdoptError → Failure
 adopting adopts.NotRegister = Plain faults.NotRegister
 adopting (adopts.Version number) = Version number
 adopting adopts.Store = Plain faults.StoreFailed

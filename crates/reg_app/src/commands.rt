@@ -10,7 +10,7 @@ use crate::stores::{
     RegisterFile, create_store, make_private, migrate_store, not_made, open_store,
 };
 use reg_cli::{
-    Action, Asker, Fault, Refusal, Session, Watched, Words, ask_deposit, ask_extract, ask_list,
+    Action, Asker, Failure, Fault, Session, Watched, Words, ask_deposit, ask_extract, ask_list,
     ask_withdraw, check_given, day_or, dictionary_in, read_path, read_rights, read_words,
     run_without_words, session_of, tell,
 };
@@ -50,7 +50,7 @@ pub fn run_words<F: Start, S: AsStr, R: Read, W: Write, E: Write>(
     };
     match run_command(rt, alloc, machine, words, out, err) {
         Ok(status) => status,
-        Err(refusal) => refusal.tell(err),
+        Err(failure) => failure.tell(err),
     }
 }
 
@@ -72,7 +72,7 @@ fn run_command<'w, F: Start, W: Write, E: Write>(
     words: Words<'w>,
     out: &mut Watched<W>,
     err: &mut Watched<E>,
-) -> Result<u8, Refusal<'w>>
+) -> Result<u8, Failure<'w>>
     requires out { has_failed out.old ≡ false }
     requires err { has_failed err.old ≡ false }
 {
@@ -96,7 +96,7 @@ fn init<'w, F: Start, W: Write>(
     store: &'w str,
     dictionary: &'w str,
     out: &mut Watched<W>,
-) -> Result<u8, Refusal<'w>> {
+) -> Result<u8, Failure<'w>> {
     let bytes = read_path(rt, alloc, dictionary)?;
     // Bytes that are no dictionary make no file.
     dictionary_in(alloc, &bytes)?;
@@ -116,7 +116,7 @@ fn migrate<'w, F: Start, W: Write, E: Write>(
     shows_progress: bool,
     out: &mut Watched<W>,
     err: &mut Watched<E>,
-) -> Result<u8, Refusal<'w>> {
+) -> Result<u8, Failure<'w>> {
     let is_wanted = machine.is_terminal || shows_progress;
     let mut lines = ProgressLines::new(alloc, rt, err, is_wanted);
     let file = RegisterFile {
@@ -135,7 +135,7 @@ fn check_file<'w, W: Write, E: Write>(
     file: &'w str,
     out: &mut Watched<W>,
     err: &mut Watched<E>,
-) -> Result<u8, Refusal<'w>>
+) -> Result<u8, Failure<'w>>
     requires out { has_failed out.old ≡ false }
     requires err { has_failed err.old ≡ false }
 {
@@ -152,7 +152,7 @@ fn ask_register<'w, F: Start, W: Write, E: Write>(
     action: &Action<'w>,
     out: &mut Watched<W>,
     err: &mut Watched<E>,
-) -> Result<u8, Refusal<'w>> {
+) -> Result<u8, Failure<'w>> {
     let (policy, callers) = read_rights(rt, alloc, asker.policy, asker.callers)?;
     let session = session_of(alloc, &callers, asker, machine.today)?;
     let task = task_of(rt, alloc, &session, action)?;
@@ -198,7 +198,7 @@ fn task_of<'t, 'w: 't>(
     alloc: Global,
     session: &'t Session<'t>,
     action: &Action<'w>,
-) -> Result<StoreTask<'t>, Refusal<'w>> {
+) -> Result<StoreTask<'t>, Failure<'w>> {
     match action {
         Action::Deposit { embargo, file } => Ok(StoreTask::Deposit {
             session,
@@ -243,7 +243,7 @@ pub(crate) fn use_store<'w, F: Start, C: Clock, W: Write, E: Write>(
     task: &StoreTask<'_>,
     out: &mut Watched<W>,
     lines: &mut ProgressLines<'_, '_, C, E>,
-) -> Result<u8, Refusal<'w>> {
+) -> Result<u8, Failure<'w>> {
     let keep = open_store(rt, alloc, file, lines)?;
     let (done, keep) = use_tables(rt, alloc, keep, policy, task, out);
     keep.close();
@@ -258,7 +258,7 @@ fn use_tables<'w, S: Alter, W: Write>(
     policy: Policy,
     task: &StoreTask<'_>,
     out: &mut Watched<W>,
-) -> (Result<u8, Refusal<'w>>, SqlKeep<S>)
+) -> (Result<u8, Failure<'w>>, SqlKeep<S>)
     requires { keep.has_failed ≡ false }
 {
     use_keep(rt, alloc, keep, policy, task, out)
@@ -272,7 +272,7 @@ fn use_keep<'w, K: Keep, W: Write>(
     policy: Policy,
     task: &StoreTask<'_>,
     out: &mut Watched<W>,
-) -> (Result<u8, Refusal<'w>>, K)
+) -> (Result<u8, Failure<'w>>, K)
     requires { K.has_failed keep ≡ false }
 {
     let mut desk = Desk::new(keep, policy);
@@ -287,7 +287,7 @@ fn do_task<'w, K: Keep, W: Write>(
     desk: &mut Desk<K>,
     task: &StoreTask<'_>,
     out: &mut Watched<W>,
-) -> Result<u8, Refusal<'w>> {
+) -> Result<u8, Failure<'w>> {
     match task {
         StoreTask::Deposit {
             session,

@@ -7,11 +7,11 @@
 
 mod commands;
 mod connection;
+mod failure;
 mod front;
 mod log;
 mod moment;
 mod progress;
-mod refusal;
 mod serving;
 mod stores;
 mod timed;

@@ -6,7 +6,7 @@ use crate::log::Log;
 use crate::progress::ProgressLines;
 use crate::stores::RegisterFile;
 use itoa::Buffer;
-use reg_cli::{Fault, Refusal, Service, StreamFailed, Watched, day_or, read_rights};
+use reg_cli::{Failure, Fault, Service, StreamFailed, Watched, day_or, read_rights};
 use reg_desk::Desk;
 use reg_policy::{Callers, Day};
 use reg_store::Keep;
@@ -73,7 +73,7 @@ pub(crate) fn serve_register<'w, F: Start, W: Write, E: Write>(
     service: &Service<'w>,
     out: &mut Watched<W>,
     err: &mut Watched<E>,
-) -> Result<u8, Refusal<'w>> {
+) -> Result<u8, Failure<'w>> {
     let (policy, callers) = read_rights(rt, alloc, service.policy, service.callers)?;
     let serving = Serving {
         callers: &callers,
@@ -107,7 +107,7 @@ fn given_day(service: &Service<'_>, today: Option<Day>) -> Result<Option<Day>, F
 }
 
 /// The file to which the log is appended. One that is made may be read by its owner alone.
-fn open_log<'w>(rt: &HostRuntime, path: Option<&'w str>) -> Result<Option<File>, Refusal<'w>> {
+fn open_log<'w>(rt: &HostRuntime, path: Option<&'w str>) -> Result<Option<File>, Failure<'w>> {
     let Some(path) = path else {
         return Ok(None);
     };
@@ -118,7 +118,7 @@ fn open_log<'w>(rt: &HostRuntime, path: Option<&'w str>) -> Result<Option<File>,
         .open(rt, path);
     match opened {
         Ok(file) => Ok(Some(file)),
-        Err(_) => Err(Refusal::CannotWrite(path)),
+        Err(_) => Err(Failure::CannotWrite(path)),
     }
 }
 
@@ -131,9 +131,9 @@ pub(crate) fn serve_desk<'w, K: Keep, W: Write>(
     port: u16,
     log: Option<&File>,
     out: &mut Watched<W>,
-) -> Result<u8, Refusal<'w>> {
+) -> Result<u8, Failure<'w>> {
     let Ok(listener) = TcpListener::bind(rt, ("127.0.0.1", port)) else {
-        return Err(Refusal::CannotListen);
+        return Err(Failure::CannotListen);
     };
     let mut log = match log {
         Some(file) => Some(Log::new(alloc, file)?),

@@ -7,10 +7,10 @@ ghost use Rattle.reg_tables.specs.Making.{RefusesBytes};
 ghost use Rattle.reg_tables.specs.Migrates.{MigratesFiles};
 ghost use Rattle.reg_tables.specs.Opened.{AdoptsFiles};
 
+use crate::failure::adopting;
 use crate::progress::ProgressLines;
-use crate::refusal::adopting;
 use ags_rows::READABLE;
-use reg_cli::{Fault, Refusal};
+use reg_cli::{Failure, Fault};
 use reg_tables::{CreateError, SqlKeep};
 use sqlite::{FileFrom, FileStore, Start};
 use std::alloc::Global;
@@ -44,8 +44,8 @@ pub(crate) fn create_store<F: Start>(
 }
 
 /// Why no register was made.
-pub(crate) fn not_made<'w>(error: CreateError) -> Refusal<'w> {
-    Refusal::Plain(match error {
+pub(crate) fn not_made<'w>(error: CreateError) -> Failure<'w> {
+    Failure::Plain(match error {
         CreateError::Dictionary(_) => Fault::DictionaryRefused,
         CreateError::NotEmpty => Fault::StoreNotEmpty,
         CreateError::Store => Fault::StoreFailed,
@@ -76,13 +76,13 @@ pub(crate) fn open_store<'w, F: Start, C: Clock, E: Write>(
     alloc: Global,
     file: RegisterFile<'w, F>,
     lines: &mut ProgressLines<'_, '_, C, E>,
-) -> Result<SqlKeep<FileStore<FileFrom<F>>>, Refusal<'w>>
+) -> Result<SqlKeep<FileStore<FileFrom<F>>>, Failure<'w>>
     ensures adopted { IfOk result (λ k. AdoptsFiles (image_at F.Start) k.dictionary (file_state k.connection)) }
     ensures working { IfOk result (λ k. k.has_failed ≡ false) }
 {
     let RegisterFile { start, path } = file;
     if is_absent(rt, path) {
-        return Err(Refusal::Plain(Fault::NotRegister));
+        return Err(Failure::Plain(Fault::NotRegister));
     }
     say_size(rt, alloc, path, lines);
     match SqlKeep::open_from(rt, alloc, path, start, lines) {
@@ -97,12 +97,12 @@ pub(crate) fn migrate_store<'w, F: Start, C: Clock, E: Write>(
     alloc: Global,
     file: RegisterFile<'w, F>,
     lines: &mut ProgressLines<'_, '_, C, E>,
-) -> Result<SqlKeep<FileStore<FileFrom<F>>>, Refusal<'w>>
+) -> Result<SqlKeep<FileStore<FileFrom<F>>>, Failure<'w>>
     ensures { IfOk result (λ k. MigratesFiles (image_at F.Start) k.dictionary (file_state k.connection)) }
 {
     let RegisterFile { start, path } = file;
     if is_absent(rt, path) {
-        return Err(Refusal::Plain(Fault::NotRegister));
+        return Err(Failure::Plain(Fault::NotRegister));
     }
     say_size(rt, alloc, path, lines);
     match SqlKeep::migrate_from(rt, alloc, path, start, lines) {

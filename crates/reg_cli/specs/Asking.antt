@@ -10,21 +10,21 @@ use Rattle.reg_cli.specs.Faults.{TellsTo}
 use Rattle.reg_cli.specs.Printing.{IsPrinted, exit_status}
 use Rattle.reg_cli.specs.Streams.{has_failed, inner_of}
 use Rattle.reg_cli.specs.declared.fault.Fault.TheVariants.{NoMemory}
-use Rattle.reg_cli.specs.declared.refusal.Refusal.{Refusal}
-use Rattle.reg_cli.specs.declared.refusal.Refusal.TheVariants.{Plain}
+use Rattle.reg_cli.specs.declared.failure.Failure.{Failure}
+use Rattle.reg_cli.specs.declared.failure.Failure.TheVariants.{Plain}
 use Rattle.reg_cli.specs.declared.watched.Watched.{Watched}
 
 module _ {W : Type 0} (writer : WriteGhosts W) where
   -- the answer was printed, or the writer failed, and the run ends with its status; or there was no memory for its text
-  abbrev pub PrintsAnswer : Answer → Watched W → Watched W → Result ℕ Refusal → Type 0
+  abbrev pub PrintsAnswer : Answer → Watched W → Watched W → Result ℕ Failure → Type 0
   PrintsAnswer answer old new (Ok ended) =
       (text : List ℕ) × IsPrinted answer text × TellsTo writer old new text (exit_status answer) ended
-  PrintsAnswer answer old new (Err refusal) =
-      (refusal ≡ Plain NoMemory)
+  PrintsAnswer answer old new (Err failure) =
+      (failure ≡ Plain NoMemory)
       × (writer.contents (inner_of new) ≡ writer.contents (inner_of old)) × (has_failed new ≡ has_failed old)
 
 module _ {K W : Type 0} {keep : KeepGhosts K} (writer : WriteGhosts W) where
   -- the desk was asked this once, and its answer was printed
-  abbrev pub AsksDesk : Asked → Desk K keep → Desk K keep → Watched W → Watched W → Result ℕ Refusal → Type 0
+  abbrev pub AsksDesk : Asked → Desk K keep → Desk K keep → Watched W → Watched W → Result ℕ Failure → Type 0
   AsksDesk request old new out out_after result =
       (answer : Answer) × AnsweredBy keep old request answer new × PrintsAnswer writer answer out out_after result

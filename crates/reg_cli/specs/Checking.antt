@@ -12,7 +12,7 @@ use Rattle.reg_cli.specs.Faults.{fault_status}
 use Rattle.reg_cli.specs.Reading.{TakesAtMost}
 use Rattle.reg_cli.specs.Streams.{has_failed, inner_of}
 use Rattle.reg_cli.specs.declared.fault.Fault.TheVariants.{Stream}
-use Rattle.reg_cli.specs.declared.refusal.Refusal.{Refusal}
+use Rattle.reg_cli.specs.declared.failure.Failure.{Failure}
 use Rattle.reg_cli.specs.declared.watched.Watched.{Watched}
 
 module _ {R W E : Type 0} (reader : ReadGhosts R) (writer : WriteGhosts W) (errors : WriteGhosts E) where
@@ -33,9 +33,9 @@ module _ {R W E : Type 0} (reader : ReadGhosts R) (writer : WriteGhosts W) (erro
 
 module _ {W E : Type 0} (writer : WriteGhosts W) (errors : WriteGhosts E) where
   -- The bytes of a file were read, and the run answers on them under the dictionary that the text is.
-  abbrev pub ChecksUnder : List ℕ → Result (Vec ℕ Global) Refusal → Watched W → Watched W → Watched E → Watched E → ℕ
+  abbrev pub ChecksUnder : List ℕ → Result (Vec ℕ Global) Failure → Watched W → Watched W → Watched E → Watched E → ℕ
       → Type 0
   ChecksUnder dictionary (Ok bytes) out out_after err err_after status =
       (entries : Entries) × IsDictionary dictionary entries
       × AnswersOnBytes writer errors entries bytes.items out out_after err err_after status
-  ChecksUnder dictionary (Err refusal) out out_after err err_after status = ⊥
+  ChecksUnder dictionary (Err failure) out out_after err err_after status = ⊥

@@ -4,7 +4,7 @@ pub mod Faults
 pub mod Reading
 pub mod Writing
 pub mod Answers
-pub mod Refusals
+pub mod Failures
 pub mod Checking
 pub mod Printing
 pub mod Asking

@@ -12,12 +12,12 @@ first_printed = 32
 abbrev pub last_printed : ℕ
 last_printed = 126
 
--- what stands for each other byte
-abbrev pub question_mark : ℕ
-question_mark = 63
+-- what is printed for each other byte: `?`
+abbrev pub placeholder : ℕ
+placeholder = 63
 
 abbrev pub shown_byte : ℕ → ℕ
-shown_byte byte = if nat_le first_printed byte && nat_le byte last_printed then byte else question_mark
+shown_byte byte = if nat_le first_printed byte && nat_le byte last_printed then byte else placeholder
 
 -- a subject as it is printed: `-` where it is empty
 abbrev pub shown_subject : List ℕ → List ℕ

@@ -4,8 +4,8 @@ ghost use Rattle.reg_desk.specs.Asked.{asked, names_in};
 ghost use Rattle.reg_cli.specs.Asking.{AsksDesk};
 ghost use Rattle.reg_cli.specs.Sessions.{deposit_request, extract_request, listing_request, withdrawal_request};
 
+use crate::failure::Failure;
 use crate::printing::answer_report;
-use crate::refusal::Refusal;
 use crate::session::Session;
 use crate::watched::Watched;
 use reg_desk::{Desk, Request};
@@ -23,7 +23,7 @@ pub fn ask_deposit<'w, K: Keep, W: Write>(
     embargo: Day,
     bytes: &[u8],
     out: &mut Watched<W>,
-) -> Result<u8, Refusal<'w>>
+) -> Result<u8, Failure<'w>>
     ensures { AsksDesk W.Write (deposit_request session.now embargo bytes.now)
         desk.old desk.new out.old out.new result }
 {
@@ -43,7 +43,7 @@ pub fn ask_list<'w, K: Keep, W: Write>(
     desk: &mut Desk<K>,
     session: &Session<'_>,
     out: &mut Watched<W>,
-) -> Result<u8, Refusal<'w>>
+) -> Result<u8, Failure<'w>>
     ensures { AsksDesk W.Write (listing_request session.now) desk.old desk.new out.old out.new result }
 {
     let request = Request::List {
@@ -63,7 +63,7 @@ pub fn ask_extract<'w, K: Keep, W: Write>(
     number: u32,
     groups: &[&[u8]],
     out: &mut Watched<W>,
-) -> Result<u8, Refusal<'w>>
+) -> Result<u8, Failure<'w>>
     ensures { AsksDesk W.Write (extract_request session.now number (names_in groups.now))
         desk.old desk.new out.old out.new result }
 {
@@ -85,7 +85,7 @@ pub fn ask_withdraw<'w, K: Keep, W: Write>(
     session: &Session<'_>,
     number: u32,
     out: &mut Watched<W>,
-) -> Result<u8, Refusal<'w>>
+) -> Result<u8, Failure<'w>>
     ensures { AsksDesk W.Write (withdrawal_request session.now number) desk.old desk.new out.old out.new result }
 {
     let request = Request::Withdraw {
@@ -103,7 +103,7 @@ fn ask_desk<'w, K: Keep, W: Write>(
     desk: &mut Desk<K>,
     request: &Request<'_>,
     out: &mut Watched<W>,
-) -> Result<u8, Refusal<'w>>
+) -> Result<u8, Failure<'w>>
     ensures { AsksDesk W.Write (asked request.entry.now) desk.old desk.new out.old out.new result }
 {
     let answer = desk.answer(alloc, request);

@@ -9,10 +9,10 @@ ghost use Rattle.reg_cli.specs.Faults.{is_stream_fault};
 ghost use Rattle.reg_cli.specs.Reading.{TakesAtMost};
 ghost use Rattle.reg_cli.specs.Streams.{HaveNotFailed, has_failed};
 
+use crate::failure::Failure;
 use crate::fault::Fault;
 use crate::files::dictionary_in;
 use crate::input::read_file;
-use crate::refusal::Refusal;
 use crate::report::{Report, findings_report};
 use crate::watched::Watched;
 use ags_check::{CheckError, check};
@@ -111,10 +111,10 @@ fn findings_of(
 pub fn check_given<'w, W: Write, E: Write>(
     alloc: Global,
     dictionary: &[u8],
-    file: Result<Vec<u8>, Refusal<'w>>,
+    file: Result<Vec<u8>, Failure<'w>>,
     out: &mut Watched<W>,
     err: &mut Watched<E>,
-) -> Result<u8, Refusal<'w>>
+) -> Result<u8, Failure<'w>>
     requires out { has_failed out.old ≡ false }
     requires err { has_failed err.old ≡ false }
     ensures { IfOk result (λ status. ChecksUnder W.Write E.Write dictionary.now file.entry

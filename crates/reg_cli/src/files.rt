@@ -5,8 +5,8 @@ ghost use Rattle.ags_dict.specs.Reading.{IsDictionary};
 ghost use Rattle.reg_policy.specs.Callers.{HasCallers};
 ghost use Rattle.reg_policy.specs.Rules.{HasRules};
 
+use crate::failure::Failure;
 use crate::fault::Fault;
-use crate::refusal::Refusal;
 use ags_dict::{DictError, Dictionary};
 use ags_rows::LIMIT;
 use reg_policy::{Callers, CallersError, Policy, PolicyError};
@@ -21,13 +21,13 @@ pub fn read_rights<'w>(
     alloc: Global,
     policy: &'w str,
     callers: &'w str,
-) -> Result<(Policy, Callers), Refusal<'w>> {
+) -> Result<(Policy, Callers), Failure<'w>> {
     let policy = read_policy(rt, alloc, policy)?;
     Ok((policy, read_callers(rt, alloc, callers)?))
 }
 
 /// The policy in the file at a path.
-fn read_policy<'w>(rt: &HostRuntime, alloc: Global, path: &'w str) -> Result<Policy, Refusal<'w>> {
+fn read_policy<'w>(rt: &HostRuntime, alloc: Global, path: &'w str) -> Result<Policy, Failure<'w>> {
     let bytes = read_path(rt, alloc, path)?;
     Ok(policy_in(alloc, &bytes)?)
 }
@@ -37,7 +37,7 @@ fn read_callers<'w>(
     rt: &HostRuntime,
     alloc: Global,
     path: &'w str,
-) -> Result<Callers, Refusal<'w>> {
+) -> Result<Callers, Failure<'w>> {
     let bytes = read_path(rt, alloc, path)?;
     Ok(callers_in(alloc, &bytes)?)
 }
@@ -100,7 +100,7 @@ pub fn read_path<'w>(
     rt: &HostRuntime,
     alloc: Global,
     path: &'w str,
-) -> Result<Vec<u8>, Refusal<'w>> {
+) -> Result<Vec<u8>, Failure<'w>> {
     let file = match fs::open(rt, path) {
         Ok(file) => file,
         Err(error) => return Err(unread(path, error)),
@@ -113,9 +113,9 @@ pub fn read_path<'w>(
 }
 
 /// Why the file at a path is not read.
-fn unread<'w>(path: &'w str, error: io::Error) -> Refusal<'w> {
+fn unread<'w>(path: &'w str, error: io::Error) -> Failure<'w> {
     match error.kind() {
-        ErrorKind::OutOfMemory => Refusal::Plain(Fault::NoMemory),
-        _ => Refusal::CannotRead(path),
+        ErrorKind::OutOfMemory => Failure::Plain(Fault::NoMemory),
+        _ => Failure::CannotRead(path),
     }
 }

@@ -9,11 +9,11 @@
 
 mod asking;
 mod check;
+mod failure;
 mod fault;
 mod files;
 mod input;
 mod printing;
-mod refusal;
 mod report;
 mod session;
 mod watched;
@@ -21,9 +21,9 @@ mod words;
 
 pub use asking::{ask_deposit, ask_extract, ask_list, ask_withdraw};
 pub use check::{check_given, check_stream, run_without_words};
+pub use failure::Failure;
 pub use fault::{Fault, tell};
 pub use files::{dictionary_in, read_path, read_rights};
-pub use refusal::Refusal;
 pub use report::{Report, findings_report};
 pub use session::{Session, day_or, session_of};
 pub use watched::{StreamFailed, Watched};

@@ -1,7 +1,7 @@
 use Rattle.std.proofs.Common.{subst}
 use Rattle.reg_cli.specs.Faults.{Tells}
-use Rattle.reg_cli.specs.Refusals.{unwritten_text}
-use Rattle.reg_cli.proofs.refusal.tell_unwritten.Goals as goal
+use Rattle.reg_cli.specs.Failures.{unwritten_text}
+use Rattle.reg_cli.proofs.failure.tell_unwritten.Goals as goal
 
 pub returns : goal.returns
 returns g c =

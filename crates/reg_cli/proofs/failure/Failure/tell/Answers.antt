@@ -1,7 +1,7 @@
 use Rattle.std.proofs.Common.{rules, subst, to_z-of_z, w64}
 use Rattle.reg_cli.specs.Faults.{Tells}
-use Rattle.reg_cli.specs.Refusals.{version_text}
-use Rattle.reg_cli.proofs.refusal.Refusal.tell.Goals as goal
+use Rattle.reg_cli.specs.Failures.{version_text}
+use Rattle.reg_cli.proofs.failure.Failure.tell.Goals as goal
 
 pub returns-in-Version : goal.returns-in-Version
 returns-in-Version g c = rw c.in-Version.is

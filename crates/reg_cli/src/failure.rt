@@ -2,9 +2,9 @@
 
 ghost use Rattle.std.specs.Prelude.{◌≡◌};
 ghost use Rattle.reg_cli.specs.Faults.{TellsTo};
-ghost use Rattle.reg_cli.specs.Refusals.{TellsRefusal, unread_text, unwritten_text, version_text};
+ghost use Rattle.reg_cli.specs.Failures.{TellsFailure, unread_text, unwritten_text, version_text};
 ghost use Rattle.reg_cli.specs.declared.fault.Fault.TheVariants.{NoMemory};
-ghost use Rattle.reg_cli.specs.declared.refusal.Refusal.TheVariants.{Plain};
+ghost use Rattle.reg_cli.specs.declared.failure.Failure.TheVariants.{Plain};
 
 use crate::fault::{Fault, tell, tell_line};
 use crate::watched::Watched;
@@ -14,7 +14,7 @@ use std::io::Write;
 
 /// Why a command has no answer.
 #[derive(Clone, Copy, Debug, PartialEq, Eq)]
-pub enum Refusal<'w> {
+pub enum Failure<'w> {
     /// A fault whose text is the same each time.
     Plain(Fault),
     /// The file that this argument names can not be read.
@@ -27,33 +27,33 @@ pub enum Refusal<'w> {
     CannotListen,
 }
 
-impl<'w> From<Fault> for Refusal<'w> {
-    ghost from_gives = { λ fault refusal. refusal ≡ Plain fault };
+impl<'w> From<Fault> for Failure<'w> {
+    ghost from_gives = { λ fault failure. failure ≡ Plain fault };
 
-    fn from(fault: Fault) -> Refusal<'w> {
-        Refusal::Plain(fault)
+    fn from(fault: Fault) -> Failure<'w> {
+        Failure::Plain(fault)
     }
 }
 
-impl<'w> From<AllocError> for Refusal<'w> {
-    ghost from_gives = { λ _ refusal. refusal ≡ Plain NoMemory };
+impl<'w> From<AllocError> for Failure<'w> {
+    ghost from_gives = { λ _ failure. failure ≡ Plain NoMemory };
 
-    fn from(_refused: AllocError) -> Refusal<'w> {
-        Refusal::Plain(Fault::NoMemory)
+    fn from(_refused: AllocError) -> Failure<'w> {
+        Failure::Plain(Fault::NoMemory)
     }
 }
 
-impl<'w> Refusal<'w> {
+impl<'w> Failure<'w> {
     /// Says it on standard error, and gives the status that the run ends with.
     pub fn tell<E: Write>(&self, err: &mut Watched<E>) -> u8
-        ensures { TellsRefusal E.Write self.now err.old err.new result }
+        ensures { TellsFailure E.Write self.now err.old err.new result }
     {
         match self {
-            Refusal::Plain(fault) => fault.tell(err),
-            Refusal::CannotRead(path) => tell_unread(err, path),
-            Refusal::CannotWrite(path) => tell_unwritten(err, path),
-            Refusal::Version(number) => tell_version(err, *number),
-            Refusal::CannotListen => tell(err, b"groundreg: cannot listen\n", 6),
+            Failure::Plain(fault) => fault.tell(err),
+            Failure::CannotRead(path) => tell_unread(err, path),
+            Failure::CannotWrite(path) => tell_unwritten(err, path),
+            Failure::Version(number) => tell_version(err, *number),
+            Failure::CannotListen => tell(err, b"groundreg: cannot listen\n", 6),
         }
     }
 }

@@ -1,7 +1,7 @@
 use Rattle.std.proofs.Common.{◌++◌, codes, ap, subst, to_z-of_z, ◌∙◌}
 use Rattle.std.specs.Fmt.{signed_decimal}
 use Rattle.reg_cli.specs.Faults.{Tells}
-use Rattle.reg_cli.proofs.refusal.tell_version.Goals as goal
+use Rattle.reg_cli.proofs.failure.tell_version.Goals as goal
 
 pub returns : goal.returns
 returns g c =

@@ -1,7 +1,7 @@
 use Rattle.std.proofs.Common.{subst}
 use Rattle.reg_cli.specs.Faults.{Tells}
-use Rattle.reg_cli.specs.Refusals.{unread_text}
-use Rattle.reg_cli.proofs.refusal.tell_unread.Goals as goal
+use Rattle.reg_cli.specs.Failures.{unread_text}
+use Rattle.reg_cli.proofs.failure.tell_unread.Goals as goal
 
 pub returns : goal.returns
 returns g c =
