@@ -12,7 +12,7 @@ use Rattle.ags_rows.specs.Codes.{code_text}
 use Rattle.ags_rows.specs.declared.code.Code.{Code}
 use Rattle.ags_rows.specs.declared.code.Code.TheVariants.{Rule1, Rule2, Rule2a, Rule2b, Rule3, Rule4, Rule5, Rule6, Rule7, Rule8, Rule9, Rule10a, Rule10b, Rule10c, Rule11a, Rule11b, Rule11c, Rule13, Rule14, Rule15, Rule16, Rule17, Rule18, Rule19, Rule19a, Rule19b, Rule20, P1, P2}
 use Rattle.reg_policy.specs.Names.{hyphen, is_name, is_name_byte}
-use Rattle.reg_policy.specs.Days.{Writes, day_text, two_digits}
+use Rattle.reg_policy.specs.Days.{Writes, day_text, two_digit_text}
 use Rattle.reg_http.specs.Bodies.{printed_byte}
 
 -- a byte that stands for itself within quotes
@@ -38,7 +38,7 @@ digit_plain : (k : ℕ) → k < 10 → IsPlain (zero_digit + k)
 digit_plain k small = escape_byte_plain (zero_digit + k) (λ e. omega (arith, e)) (λ e. omega (arith, e)) (omega arith)
 
 -- two digits, before what stands for itself
-digits_plain : (n : ℕ) (rest : List ℕ) → n < 100 → escape rest ≡ rest → escape (two_digits n ++ rest) ≡ two_digits n ++ rest
+digits_plain : (n : ℕ) (rest : List ℕ) → n < 100 → escape rest ≡ rest → escape (two_digit_text n ++ rest) ≡ two_digit_text n ++ rest
 digits_plain n rest small plain =
     ap₂ (λ (a t : List ℕ). a ++ t) (digit_plain (n / 10) (omega arith)) (ap₂ (λ (a t : List ℕ). a ++ t) (digit_plain (n % 10) (omega arith)) plain)
 
@@ -49,11 +49,11 @@ dash_plain rest plain = ap (λ t. hyphen ∷ t) plain
 
 text_plain : (year month day : ℕ) → year < 10000 → month < 100 → day < 100 → escape (day_text year month day) ≡ day_text year month day
 text_plain year month day small_year small_month small_day =
-    let last = dash_plain (two_digits day) (digits_plain day [] small_day refl) in
-    let later = dash_plain (two_digits month ++ hyphen ∷ two_digits day) (digits_plain month (hyphen ∷ two_digits day) small_month last) in
+    let last = dash_plain (two_digit_text day) (digits_plain day [] small_day refl) in
+    let later = dash_plain (two_digit_text month ++ hyphen ∷ two_digit_text day) (digits_plain month (hyphen ∷ two_digit_text day) small_month last) in
     let short : year / 100 < 100 = omega arith in
-    digits_plain (year / 100) (two_digits (year % 100) ++ hyphen ∷ two_digits month ++ hyphen ∷ two_digits day) short
-    (digits_plain (year % 100) (hyphen ∷ two_digits month ++ hyphen ∷ two_digits day) (omega arith) later)
+    digits_plain (year / 100) (two_digit_text (year % 100) ++ hyphen ∷ two_digit_text month ++ hyphen ∷ two_digit_text day) short
+    (digits_plain (year % 100) (hyphen ∷ two_digit_text month ++ hyphen ∷ two_digit_text day) (omega arith) later)
 
 -- the text of a day
 pub day_plain : (day : List ℕ) (n : ℤ) → Writes day n → escape day ≡ day

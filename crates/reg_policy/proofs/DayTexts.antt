@@ -12,7 +12,7 @@ use Rattle.jiff_core.specs.Calendar.{IsCivilDate, day_count, days_from_civil}
 use Rattle.jiff_core.proofs.CalendarLemmas.{day_count-day, day_count-lt_month, day_count-lt_year, days_from_civil-day_count, days_in_month_bounds}
 use Rattle.ags_text.specs.Bytes.{ascii_end, zero_digit}
 use Rattle.reg_policy.specs.Names.{hyphen}
-use Rattle.reg_policy.specs.Days.{OneTextOfDay, Writes, day_text, two_digits}
+use Rattle.reg_policy.specs.Days.{OneTextOfDay, Writes, day_text, two_digit_text}
 
 abbrev IsAsciiByte : ℕ → Type 0
 IsAsciiByte b = b < ascii_end
@@ -30,12 +30,12 @@ digits_are_ascii n rest small more =
 
 text_is_ascii : (year month day : ℕ) → year < 10000 → month < 100 → day < 100 → All IsAsciiByte (day_text year month day)
 text_is_ascii year month day small_year small_month small_day =
-    let last : All IsAsciiByte (hyphen ∷ two_digits day) =
-    All-cons IsAsciiByte hyphen (two_digits day) dash_is_ascii (digits_are_ascii day [] small_day (All-nil IsAsciiByte)) in
-    let later : All IsAsciiByte (hyphen ∷ two_digits month ++ hyphen ∷ two_digits day) =
-    All-cons IsAsciiByte hyphen (two_digits month ++ hyphen ∷ two_digits day) dash_is_ascii (digits_are_ascii month (hyphen ∷ two_digits day) small_month last) in
-    digits_are_ascii (year / 100) (two_digits (year % 100) ++ hyphen ∷ two_digits month ++ hyphen ∷ two_digits day) (omega arith)
-    (digits_are_ascii (year % 100) (hyphen ∷ two_digits month ++ hyphen ∷ two_digits day) (omega arith) later)
+    let last : All IsAsciiByte (hyphen ∷ two_digit_text day) =
+    All-cons IsAsciiByte hyphen (two_digit_text day) dash_is_ascii (digits_are_ascii day [] small_day (All-nil IsAsciiByte)) in
+    let later : All IsAsciiByte (hyphen ∷ two_digit_text month ++ hyphen ∷ two_digit_text day) =
+    All-cons IsAsciiByte hyphen (two_digit_text month ++ hyphen ∷ two_digit_text day) dash_is_ascii (digits_are_ascii month (hyphen ∷ two_digit_text day) small_month last) in
+    digits_are_ascii (year / 100) (two_digit_text (year % 100) ++ hyphen ∷ two_digit_text month ++ hyphen ∷ two_digit_text day) (omega arith)
+    (digits_are_ascii (year % 100) (hyphen ∷ two_digit_text month ++ hyphen ∷ two_digit_text day) (omega arith) later)
 
 -- what writes a day is text
 pub Writes-utf8 : (text : List ℕ) (n : ℤ) → Writes text n → IsUtf8 text

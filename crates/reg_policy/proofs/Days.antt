@@ -10,7 +10,7 @@ use Rattle.jiff_core.specs.Calendar.{days_from_civil, IsCivilDate}
 use Rattle.jiff_core.proofs.CalendarLemmas.{days_in_month_bounds, day_count-lt_year, day_count-epoch, days_from_civil-day_count}
 use Rattle.std.proofs.lemmas.Slice.Eq.{bytes_eq-Decides}
 use Rattle.std.specs.Str.{bytes_eq}
-use Rattle.reg_policy.specs.Days.{year_text, number_in, is_date, day_number_of, day_of, two_digits, day_text, is_day_number, IsDateOf, HasDate, IsWritten, Writes}
+use Rattle.reg_policy.specs.Days.{year_text, number_in, is_date, day_number_of, day_of, two_digit_text, day_text, is_day_number, IsDateOf, HasDate, IsWritten, Writes}
 
 -- the number of a day
 abbrev pub IsDayNumber : ℤ → Type 0
@@ -134,8 +134,8 @@ ten_of (a ∷ b ∷ c ∷ d ∷ e ∷ f ∷ g ∷ h ∷ i ∷ j ∷ []) len = re
 ten_of (a ∷ b ∷ c ∷ d ∷ e ∷ f ∷ g ∷ h ∷ i ∷ j ∷ k ∷ rest) len = absurd (omega arith)
 
 pub parts_are : (t : List ℕ) (c y m d : ℕ) → length t ≡ 10 → get_or t 4 0 ≡ 45 → get_or t 7 0 ≡ 45 → c < 100 → y < 100 → m < 100 → d < 100
-    → two_digits c ≡ get_or t 0 0 ∷ get_or t 1 0 ∷ [] → two_digits y ≡ get_or t 2 0 ∷ get_or t 3 0 ∷ []
-    → two_digits m ≡ get_or t 5 0 ∷ get_or t 6 0 ∷ [] → two_digits d ≡ get_or t 8 0 ∷ get_or t 9 0 ∷ []
+    → two_digit_text c ≡ get_or t 0 0 ∷ get_or t 1 0 ∷ [] → two_digit_text y ≡ get_or t 2 0 ∷ get_or t 3 0 ∷ []
+    → two_digit_text m ≡ get_or t 5 0 ∷ get_or t 6 0 ∷ [] → two_digit_text d ≡ get_or t 8 0 ∷ get_or t 9 0 ∷ []
     → Parts t (Some (100 * c + y, m, d))
 parts_are t c y m d len e4 e7 hc hy hm hd tc ty tm td y2 m2 d2 =
     let year = 100 * c + y in
@@ -162,7 +162,7 @@ parts_are t c y m d len e4 e7 hc hy hm hd tc ty tm td y2 m2 d2 =
 four-digits : (n : ℕ) → n < 10000 → number_in (year_text n) ≡ n
 four-digits n small = omega arith
 
-two-digits : (n : ℕ) → n < 100 → number_in (two_digits n) ≡ n
+two-digits : (n : ℕ) → n < 100 → number_in (two_digit_text n) ≡ n
 two-digits n small = omega arith
 
 -- the calendar's test

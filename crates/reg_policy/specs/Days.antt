@@ -12,16 +12,16 @@ abbrev pub is_day_number : ℤ → Bool
 is_day_number n = int_le (pos 0) n && int_le n (pos 2_932_896)
 
 -- the two digits of a number below 100
-abbrev pub two_digits : ℕ → List ℕ
-two_digits n = (zero_digit + n / 10) ∷ (zero_digit + n % 10) ∷ []
+abbrev pub two_digit_text : ℕ → List ℕ
+two_digit_text n = (zero_digit + n / 10) ∷ (zero_digit + n % 10) ∷ []
 
 -- the four digits of a year
 abbrev pub year_text : ℕ → List ℕ
-year_text n = two_digits (n / 100) ++ two_digits (n % 100)
+year_text n = two_digit_text (n / 100) ++ two_digit_text (n % 100)
 
 -- `yyyy-mm-dd`
 abbrev pub day_text : ℕ → ℕ → ℕ → List ℕ
-day_text year month day = year_text year ++ hyphen ∷ two_digits month ++ hyphen ∷ two_digits day
+day_text year month day = year_text year ++ hyphen ∷ two_digit_text month ++ hyphen ∷ two_digit_text day
 
 -- the calendar has the date, and gives it that number
 abbrev pub IsDateOf : ℕ → ℕ → ℕ → ℤ → Type 0

@@ -1,7 +1,7 @@
 //! Days from 1970-01-01 to 9999-12-31.
 ghost use Rattle.std.specs.Prelude.{◌≡◌, ◌≢◌, ◌↔◌, ◌<◌, ℤ, ℕ, [], ◌∷◌, Some, IsNone, IsSome, IfSome, IsTrue, IsUtf8};
 ghost use Rattle.jiff.specs.Words.{IsEpochDay};
-ghost use Rattle.reg_policy.specs.Days.{HasDate, IsDateOf, IsWritten, Writes, day_of, is_day_number, two_digits};
+ghost use Rattle.reg_policy.specs.Days.{HasDate, IsDateOf, IsWritten, Writes, day_of, is_day_number, two_digit_text};
 
 use jiff::civil::Date;
 use jiff_core::civil;
@@ -120,8 +120,8 @@ fn day_number(year: u16, month: u8, day: u8) -> Option<i32>
 
 /// The number that two digits write.
 fn number_of_digits(tens: u8, ones: u8) -> Option<u8>
-    ensures some { IfSome result (λ n. (n < 100) × (two_digits n ≡ tens ∷ ones ∷ [])) }
-    ensures none { IsNone result → (n : ℕ) → n < 100 → two_digits n ≢ tens ∷ ones ∷ [] }
+    ensures some { IfSome result (λ n. (n < 100) × (two_digit_text n ≡ tens ∷ ones ∷ [])) }
+    ensures none { IsNone result → (n : ℕ) → n < 100 → two_digit_text n ≢ tens ∷ ones ∷ [] }
 {
     if tens.is_ascii_digit() && ones.is_ascii_digit() {
         Some(10 * (tens - b'0') + (ones - b'0'))
@@ -133,7 +133,7 @@ fn number_of_digits(tens: u8, ones: u8) -> Option<u8>
 /// The two digits of a number.
 fn digit_pair(number: u8) -> [u8; 2]
     requires { number < 100 }
-    ensures { result ≡ two_digits number }
+    ensures { result ≡ two_digit_text number }
 {
     [b'0' + number / 10, b'0' + number % 10]
 }
