@@ -54,14 +54,6 @@ first_entry names places x y place placed has =
     (name.0, name.1, same_at (entry_of (row_of x)) (field_at (row_of y).fields) names places 0 name.0 place same name.1 placed)
 
 module _ (rows : List DataRow) (numbers : List ℕ) (headings : List (List ℕ)) (text : List ℕ) where
-  -- all are chosen
-  pub chosen_whole : (chosen : List ℕ) → chosen ≡ numbers → IsStrictlyIncreasing numbers → AreCandidates rows numbers headings text chosen
-  chosen_whole chosen e rises = subst (AreCandidates rows numbers headings text) (sym e) (record {
-    rising = rises;
-    among = λ n h. h;
-    all = λ n s h row has. h;
-  })
-
   pub none_chosen : (chosen : List ℕ) → chosen ≡ [] → AreCandidates rows [] headings text chosen
   none_chosen chosen e = record {
     rising = subst IsStrictlyIncreasing (sym e) rising_nil;

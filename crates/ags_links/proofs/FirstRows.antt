@@ -96,14 +96,6 @@ module _ (pairs : List Pair) (sorted : AreInOrder pairs) where
       let not_below : below here last ≡ false = up (k - 1) k d (omega arith) lt in
       other (sym ((bytes_eq-Decides (key here) (key last)).0 (sym (tied last here) ∙ no_lt (below last here) (below here last) not_above not_below)))
 
-  pub led_start : (lookup : Lookup) (count : ℕ) (firsts : List ℕ) → length firsts ≡ count → Led lookup pairs count 0 0 firsts
-  led_start lookup count firsts size = record {
-    size = size;
-    behind = omega arith;
-    lead = λ d lt. absurd (omega (arith, lt));
-    done = λ text n h. absurd (omega (arith, h.1));
-  }
-
   module _ (lookup : Lookup) (is : pairs_of pairs ≡ lookup) (once : HasOneText lookup) (count k first : ℕ) (firsts : List ℕ) (d : Pair) (lt : k < length pairs) (led : Led lookup pairs count k first firsts) where
     abbrev here : Pair
     here = get_or pairs k d

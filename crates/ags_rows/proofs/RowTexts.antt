@@ -1,6 +1,6 @@
 -- The rows of a file by their texts: those of kind DATA, and how many there are.
 use Rattle.std.proofs.Common.{◌≡◌, ℕ, ◌+◌, ◌≤◌, List, [], ◌∷◌, ◌++◌, length, map, filter, flat_map, refl, sym, ap, ◌∙◌, arith}
-use Rattle.std.proofs.lemmas.List.{length-append, length-map, map-append}
+use Rattle.std.proofs.lemmas.List.{length-append, length-map}
 use Rattle.std.proofs.lemmas.List.Elements.{filter-append}
 use Rattle.ags_rows.specs.declared.rows.Descriptor.TheVariants as kinds
 use Rattle.ags_rows.specs.declared.rows.Group.{Group}
@@ -15,16 +15,6 @@ use Rattle.ags_rows.specs.Laws.{RowsAreTheirTexts, RowsWithinBytes}
 use Rattle.ags_rows.proofs.FewRows.{rows_within}
 use Rattle.ags_rows.proofs.Loosely.{loose_groups}
 use Rattle.ags_rows.proofs.Texts.{with_rows}
-
--- what is made of what is made of each DATA row
-pub map_each_data_row : {X Y : Type 0} (f : X → Y) (made : Contents → List (List ℕ) → X) (contents : List Contents) → map f (each_data_row made contents) ≡ each_data_row (λ group fields. f (made group fields)) contents
-map_each_data_row f made [] = refl
-map_each_data_row f made (group ∷ contents) =
-    map-append f (map (made group) group.rows) (each_data_row made contents) ∙ ap (λ front. front ++ map f (each_data_row made contents)) (twice group.rows)
-    ∙ ap (λ back. map (λ fields. f (made group fields)) group.rows ++ back) (map_each_data_row f made contents) where
-      twice : (rows : List (List (List ℕ))) → map f (map (made group) rows) ≡ map (λ fields. f (made group fields)) rows
-      twice [] = refl
-      twice (row ∷ rows) = ap (λ more. f (made group row) ∷ more) (twice rows)
 
 -- ---- the lines that are written
 

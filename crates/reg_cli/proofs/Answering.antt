@@ -1,5 +1,5 @@
 -- From what is reported to the answer of a run.
-use Rattle.std.proofs.Common.{ap, length, ◌≡◌, ◌≤◌, ◌∷◌, ◌↔◌, ◌||◌, ℕ, Bool, true, false, IsTrue, inl, inr, ◌⊎◌, [], List, Option, None, Some, Ok, Err, IfSome, refl, sym, subst, ◌∙◌, arith, rules}
+use Rattle.std.proofs.Common.{ap, length, ◌≡◌, ◌≤◌, ◌↔◌, ◌||◌, ℕ, Bool, true, false, IsTrue, inl, inr, ◌⊎◌, [], List, Option, None, Some, Ok, Err, IfSome, refl, sym, subst, ◌∙◌, arith, rules}
 use Rattle.reg_cli.specs.declared.fault.Fault.{Fault}
 use Rattle.reg_cli.specs.declared.fault.Fault.TheVariants.{TooLarge, NoMemory, Stream}
 use Rattle.ags_rows.specs.declared.TheConstants.{LIMIT}
@@ -91,11 +91,6 @@ fault_answers entries (Some bytes) out err err_after fault in_failed out_failed 
 pub no_memory_on : (entries : Entries) (known : Option (List ℕ)) (fault : Fault) → fault ≡ NoMemory → IfSome known (λ bytes. ReportsOn entries bytes (Err fault))
 no_memory_on entries None fault is = tt
 no_memory_on entries (Some bytes) fault is = subst (λ f. ReportsOn entries bytes (Err f)) (sym is) tt
-
--- a report ends with 0 or 1
-pub report_status : (found : List Finding) → (report_of found).status ≤ 1
-report_status [] = omega arith
-report_status (first ∷ more) = omega arith
 
 -- no stream failed, and the status is another
 none_failed : (a b c : Bool) (ended : ℕ) → a ≡ false → b ≡ false → c ≡ false → ended ≤ 5 → (ended ≡ fault_status Stream) ↔ IsTrue (a || (b || c))

@@ -5,7 +5,6 @@ use Rattle.std.proofs.Math.Seq.{take-append_seam}
 use Rattle.std.specs.Prelude.{IfSome, Vec}
 use Rattle.std.specs.declared.alloc.Global.{Global}
 use Rattle.std.specs.Io.KnownBytes.{Consumes, IsAtEnd}
-use Rattle.reg_http.specs.Fills.{FillsMore}
 use Rattle.reg_http.specs.Views.{ReadsBody}
 use Rattle.reg_http.specs.declared.request.body.BodyFault.TheVariants as fault
 use Rattle.reg_http.proofs.FillLemmas.{Consumes-then}
@@ -16,15 +15,6 @@ pub record HasRead (old new : Option (List ℕ)) (early : List ℕ) (n : ℕ) (f
   pub more : List ℕ
   pub front_is : front ≡ take n early ++ more
   pub taken : Consumes old new more
-
--- one read more
-pub HasRead-Adds : (u v w : Option (List ℕ)) (early before after : List ℕ) (n filled count : ℕ) → HasRead u v early n (take filled before)
-    → FillsMore v w before after filled count → HasRead u w early n (take (filled + count) after)
-HasRead-Adds u v w early before after n filled count read adds = record {
-  more = read.more ++ adds.more;
-  front_is = adds.grown ∙ ap (λ t. t ++ adds.more) read.front_is ∙ append_assoc (take n early) read.more adds.more;
-  taken = Consumes-then u v w read.more adds.more read.taken adds.taken;
-}
 
 -- no byte is the empty list
 no_bytes : (xs : List ℕ) → length xs ≡ 0 → xs ≡ []

@@ -1,10 +1,10 @@
 -- When the bytes of a connection have a head within the limits, and when they have none.
 use Rattle.std.proofs.Common.{◌≡◌, ℕ, ◌≤◌, List, [], ◌∷◌, ◌++◌, length, take, drop, map, Option, Some, None, sym, ap, ◌∙◌, arith, length-append}
-use Rattle.std.proofs.lemmas.List.{take-append-le, append-nil, take-append-drop, length-take-le, length-map}
+use Rattle.std.proofs.lemmas.List.{take-append-le, take-append-drop, length-take-le, length-map}
 use Rattle.std.proofs.Math.Seq.{take-append_seam}
 use Rattle.std.specs.Io.KnownBytes.{Consumes}
-use Rattle.httparse.specs.Grammar.{RequestHead, print_request, print_blank, print_version, print_end, print_section, HasNoRequest, NeverHasRequest}
-use Rattle.httparse.specs.Spans.{RequestOverflows, IsRequestAt, IsRequestWithin, header_bytes, name_and_value}
+use Rattle.httparse.specs.Grammar.{RequestHead, print_request, print_blank, print_version, print_end, print_section}
+use Rattle.httparse.specs.Spans.{IsRequestAt, IsRequestWithin, header_bytes, name_and_value}
 use Rattle.httparse.specs.declared.spans.HeaderSpan.{HeaderSpan}
 use Rattle.httparse.specs.declared.spans.RequestSpans.{RequestSpans}
 use Rattle.httparse.proofs.GrammarLemmas.{print_request-append}
@@ -32,25 +32,6 @@ none_at_one b h rest head =
     let more = length-append h.method (32 ∷ (h.target ++ 32 ∷ after)) in
     let last = length-append h.target (32 ∷ after) in
     absurd (omega arith)
-
--- an unfinished head is none
-pub none_if_partial : (bytes : List ℕ) → HasNoRequest bytes → HasNoFewRequest bytes
-none_if_partial bytes none h rest reads = absurd (none h rest reads)
-
--- a head with more fields than the room is none
-pub none_if_full : (bytes : List ℕ) → RequestOverflows 32 bytes → HasNoFewRequest bytes
-none_if_full bytes over h rest reads = over [] h rest (rw append-nil reads)
-
--- all the bytes were read
-pub none_at_end : (bytes : List ℕ) → HasNoFewRequest bytes → HasNoHead bytes
-none_at_end bytes none h rest head =
-    let many = none h rest head.reads in
-    let few = head.few in
-    omega arith
-
--- no bytes that may follow make a head
-pub none_ever : (bytes front rest : List ℕ) → bytes ≡ front ++ rest → NeverHasRequest front → HasNoHead bytes
-none_ever bytes front rest split never h q head = never rest h q (rw (← split) head.reads)
 
 -- what fits in the front is in the front
 cut : (front rest p q : List ℕ) → front ++ rest ≡ p ++ q → length p ≤ length front → front ≡ p ++ drop (length p) front

@@ -1,9 +1,8 @@
 -- The test of each relation of a rule, and the decision of a list of rules.
-use Rattle.std.proofs.Common.{◌≡◌, ◌⊎◌, ℕ, zero, suc, ◌+◌, ◌<◌, List, [], ◌∷◌, length, drop, get_or, Bool, true, false, cond, ◌&&◌, is_none, Option, Some, None, ℤ, ◌≤ℤ◌, int_le, Decides, refl, sym, ap, ◌∙◌, inl, inr, arith, negsuc, pos}
+use Rattle.std.proofs.Common.{◌≡◌, ◌⊎◌, ℕ, zero, suc, List, [], ◌∷◌, Bool, true, false, ◌&&◌, is_none, Option, Some, None, ℤ, ◌≤ℤ◌, int_le, Decides, refl, sym, ap, inl, inr, arith, negsuc, pos}
 use Rattle.std.proofs.lemmas.Bool.{false≢true, cases_Bool, leb-true, le-leb}
 use Rattle.std.proofs.lemmas.Int.{ints}
 use Rattle.std.proofs.lemmas.Bool.Decides.{Decides-and, Decides-like, Decides-or, not_from_Decides}
-use Rattle.std.proofs.lemmas.List.{at_drop_more}
 use Rattle.std.proofs.lemmas.List.Elements.{All-cons, All-nil}
 use Rattle.std.proofs.lemmas.Slice.Eq.{bytes_eq-Decides}
 use Rattle.std.specs.Bool.{beq}
@@ -107,12 +106,6 @@ matches-Decides r s =
     Decides-like _ (λ h. (h.0.0.0, h.0.0.1, h.0.0.2, h.0.0.3, h.0.1, h.1)) (λ h. (((h.0, h.1, h.2, h.3), h.4), h.5))
     (Decides-and _ _ (Decides-and _ _ (four-Decides _ _ _ _ (is_met-Decides bytes_eq bytes_eq-Decides r.firm s.firm) (is_met-Decides bytes_eq bytes_eq-Decides r.role s.role)
     (is_met-Decides bytes_eq bytes_eq-Decides r.project s.project) (is_met-Decides (sameb the_verbs) verb-Decides r.verb s.verb)) (is_row_met-Decides r s.row)) (is_in_period-Decides r.period s.day))
-
--- one turn of the search for the first rule that matches
-pub decision_turn : (rules : List Rule) (s : Question) (i : ℕ) (r : Rule) (b : Bool) → i < length rules → r ≡ get_or rules i r → b ≡ matches r s
-    → decision_of (drop i rules) s ≡ cond b (effect_of r.effect r.number) (decision_of (drop (i + 1) rules) s)
-decision_turn rules s i r b low is test =
-    at_drop_more (λ x. decision_of x s) rules i r low ∙ rw (← is, test)
 
 -- the decision is that of the first rule that matches
 decided_more : (r : Rule) (rules : List Rule) (s : Question) (d : Decision) → ¬ (Matches r s) → IsFirstMatch rules s d → IsFirstMatch (r ∷ rules) s d

@@ -1,7 +1,7 @@
 -- Deposits and their marks, place by place.
-use Rattle.std.proofs.Common.{◌≡◌, ◌≢◌, ℕ, zero, suc, ◌-◌, ◌<◌, List, [], ◌∷◌, ◌++◌, Bool, true, length, Option, Some, None, slice_get, refl, sym, ap, ◌∙◌, arith}
+use Rattle.std.proofs.Common.{◌≡◌, ℕ, zero, suc, ◌-◌, ◌<◌, List, [], ◌∷◌, Bool, true, length, Option, Some, None, slice_get, refl, sym, ap, ◌∙◌, arith}
 use Rattle.std.specs.Prelude.{option_map}
-use Rattle.std.proofs.lemmas.List.{length-map, map-append}
+use Rattle.std.proofs.lemmas.List.{length-map}
 use Rattle.std.proofs.lemmas.Option.{slice_get-map}
 use Rattle.reg_store.specs.Sent.{Sent}
 use Rattle.reg_store.specs.Deposit.{Deposit, sents, mark, marked}
@@ -10,9 +10,6 @@ use Rattle.reg_store.specs.Deposit.{Deposit, sents, mark, marked}
 
 pub length_sents : (list : List Deposit) → length (sents list) ≡ length list
 length_sents list = length-map list (λ d. d.sent)
-
-pub sents_append : (xs ys : List Deposit) → sents (xs ++ ys) ≡ sents xs ++ sents ys
-sents_append xs ys = map-append (λ d. d.sent) xs ys
 
 -- what was sent of a deposit is at its place
 pub sent_at : (list : List Deposit) (k : ℕ) (d : Deposit) → slice_get list k ≡ Some d → slice_get (sents list) k ≡ Some d.sent
@@ -38,21 +35,6 @@ marked_place : (list : List Deposit) (k : ℕ) (d : Deposit) → slice_get list 
 marked_place [] k d at = absurd cc
 marked_place (x ∷ more) zero d at = let same : x ≡ d = cc in ap (λ (y : Deposit). Some (mark y)) same
 marked_place (x ∷ more) (suc k) d at = marked_place more k d at
-
--- the deposit with its mark
-pub marked_here : (list : List Deposit) (n : ℕ) (d : Deposit) → 0 < n → slice_get list (n - 1) ≡ Some d → slice_get (marked n list) (n - 1) ≡ Some (mark d)
-marked_here list n d low at =
-    let number : suc (n - 1) ≡ n = omega (arith, low) in
-    ap (λ (m : ℕ). slice_get (marked m list) (n - 1)) (sym number) ∙ marked_place list (n - 1) d at
-
--- each other deposit is as before
-pub marked_other : (list : List Deposit) (n k : ℕ) → n ≢ suc k → slice_get (marked n list) k ≡ slice_get list k
-marked_other [] n k other = refl
-marked_other (x ∷ more) zero k other = refl
-marked_other (x ∷ more) (suc zero) zero other = absurd (other refl)
-marked_other (x ∷ more) (suc zero) (suc k) other = refl
-marked_other (x ∷ more) (suc (suc n)) zero other = refl
-marked_other (x ∷ more) (suc (suc n)) (suc k) other = marked_other more (suc n) k (λ same. other (ap suc same))
 
 mark_again : (d : Deposit) → d.withdrawn ≡ true → mark d ≡ d
 mark_again d h = let make : Bool → Deposit = λ b. record { sent = d.sent; withdrawn = b } in ap make (sym h)

@@ -1,4 +1,3 @@
-use Rattle.ags_rows.specs.declared.scanning.RowsError.TheVariants as RowsError
 use Rattle.ags_rows.specs.declared.TheConstants.{READABLE}
 use Rattle.ags_rows.specs.Groups.{Groups}
 use Rattle.ags_rows.proofs.FewRows.{counted_within}

@@ -1,5 +1,4 @@
 use Rattle.std.proofs.lemmas.Result.{IfOk-weaker}
-use Rattle.ags_rows.specs.declared.scanning.RowsError.TheVariants as RowsError
 use Rattle.ags_rows.specs.declared.TheConstants.{READABLE}
 use Rattle.ags_rows.specs.Stands.{StandsInLinesLoosely}
 use Rattle.ags_rows.proofs.FirstPhase.{few_rows, found_later, groups_later}
