@@ -1,8 +1,9 @@
-//! The worked examples: what no clause says. Where memory wants, no answer is the wanted one.
+//! The worked examples: what no clause says. Without memory no answer is the expected one.
 mod callers;
 mod decisions;
 mod nested;
 mod policies;
+mod rows;
 
 use reg_policy::{CallersError, Day, Name, NameError, PolicyError};
 use std::alloc::{AllocError, Global};
