@@ -439,7 +439,7 @@ CHANGED = [
 # A line, a step and a withdrawal of a deposit that does not exist.
 OF_NO_DEPOSIT = ["INSERT INTO lines VALUES (2, 0, 'PROJ', 0, x'')", "INSERT INTO steps VALUES (2, 0, 0)",
                  "INSERT INTO withdrawals VALUES (2)"]
-BEHIND_STORES = """
+AFTER_STORES = """
 init|--store=junk|--dictionary=mini => 5 ! store failed
 init|--store=gone/s|--dictionary=mini => 5 ! store failed
 init|--store=empty|--dictionary=mini => 0 created
@@ -546,7 +546,7 @@ def refuse_stores(folder):
         folder.hold(f"migrate|--store={store}", migrated)
     # A command on a register that does not exist makes no file.
     folder.check("a file `gone` is made", False, os.path.exists(folder.path("gone")))
-    folder.play(BEHIND_STORES)
+    folder.play(AFTER_STORES)
 
 
 def refuse_changed(folder):

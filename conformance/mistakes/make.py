@@ -509,9 +509,9 @@ def of_links():
             ("link_with_spaces", "SAMP|BH101|1.50| S9", "differs in SAMP_REF;a space at its start"),
             ("link_with_another_delimiter", "SAMP:BH101:1.50:S9",
              'cut at "|";":" between its entries;"SAMP|BH101|1.50|S9"'),
-            ("link_to_a_group_that_is_not_there", "CORE|BH101|1.50|2.00", 'the file has no group "CORE"'),
+            ("link_to_a_missing_group", "CORE|BH101|1.50|2.00", 'the file has no group "CORE"'),
             ("link_without_its_group", "BH101|1.50|S9", "names no row"),
-            ("link_to_a_borehole_that_is_not_there", "SAMP|BH7|9.00|S7",
+            ("link_to_a_missing_borehole", "SAMP|BH7|9.00|S7",
              "no SAMP row has LOCA_ID=BH7;in this order: SAMP|LOCA_ID|SAMP_TOP|SAMP_REF, of a row that is there"),
             ("link_of_two_parts", "SAMP|BH101|1.50|S9+SAMP|BH102|2.20|S2",
              f'The part "SAMP|BH102|2.20|S2";line {SAMP + 6} of SAMP differs in SAMP_REF')):

@@ -60,7 +60,7 @@ def characters(text):
     return [(one, times[one], first[one], spelling(one)) for one in sorted(times, key=lambda one: (-times[one], one))]
 
 
-def character_told(one):
+def character_line(one):
     character, times, line, right = one
     name = unicodedata.name(character, "no name").lower()
     write = ("take it out" if right == "" else "write a space" if right == " " else f"write {right}" if right

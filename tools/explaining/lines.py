@@ -45,12 +45,12 @@ def tell(context, key, findings):
 
 def beyond_ascii(context, key, findings):
     text, encoding = kinds.decoded(context.file.data)
-    told = kinds.characters(text.removeprefix("\ufeff"))
-    few = told[:kinds.MOST_CHARACTERS]
+    found = kinds.characters(text.removeprefix("\ufeff"))
+    few = found[:kinds.MOST_CHARACTERS]
     here = [f"{texts.count(len(findings), 'line')} with characters beyond ASCII (read as {encoding})."]
-    here += [kinds.character_told(one) + "." for one in few]
-    if len(told) > len(few):
-        here.append(f"{len(told) - len(few):,} more characters.")
+    here += [kinds.character_line(one) + "." for one in few]
+    if len(found) > len(few):
+        here.append(f"{len(found) - len(few):,} more characters.")
     if context.file.has_mark and encoding == "UTF-8" and "\ufeff" in text[1:]:
         here.append("One mark EF BB BF is passed over at the start of the file alone.")
     codepage = "WINDOWS-1252" if encoding == "Windows-1252" else "UTF-8"

@@ -163,16 +163,16 @@ fn write_fails(alloc: Global, calls: usize) -> bool {
 }
 
 /// Whether a run ended so whose write or flush of a fault failed, or none.
-fn has_told(ran: &Ran, failed: bool) -> bool {
+fn has_reported(ran: &Ran, failed: bool) -> bool {
     let ended = if failed { 6 } else { 4 };
     (ran.status == ended) & ran.err.has(failed, b"groundreg: too large\n") & !ran.out.failed
 }
 
 /// Whether a run is right whose write or flush of a fault after `calls` others fails: that takes six.
-fn word_fails(alloc: Global, calls: usize) -> bool {
+fn report_fails(alloc: Global, calls: usize) -> bool {
     let mut input = io::repeat(b' ');
     let ran = run_failing(alloc, &mut input, 5, 0, calls);
-    has_told(&ran, calls < 6)
+    has_reported(&ran, calls < 6)
 }
 
 #[test]
@@ -181,6 +181,6 @@ fn each_call_fails_once(rt: HostRuntime) {
     for calls in 0..20 {
         assert!(rt; read_fails(alloc, calls));
         assert!(rt; write_fails(alloc, calls));
-        assert!(rt; word_fails(alloc, calls));
+        assert!(rt; report_fails(alloc, calls));
     }
 }

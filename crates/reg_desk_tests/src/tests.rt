@@ -19,7 +19,7 @@ use ags_rows::READABLE;
 use ags_rows::vectors::MINI;
 use bodies::{LENGTHS, bytes_of};
 use examples::{CHANGED, EXAMPLES, LONG, MOST};
-use laws::tells;
+use laws::answers_after_deposit;
 use memory::is_refused_once;
 use policies::{Added, WITHDRAWALS, policy_with};
 use refusing::Refusing;
@@ -131,7 +131,7 @@ pub enum Play {
     /// Six runs are asked, where withdrawals are permitted and memory may be refused once.
     Runs,
     /// Four requests are asked after a deposit of this body.
-    Told(&'static Body),
+    AfterDeposit(&'static Body),
 }
 
 /// Whether a step for this project is answered as it should be.
@@ -194,7 +194,7 @@ fn answers<K: Keep>(
     match play {
         Play::Steps(steps) | Play::Under(_, steps) => hold(alloc, desk, callers, project, steps),
         Play::Runs => Ok(is_refused_once(alloc, desk, callers, project)),
-        Play::Told(body) => tells(alloc, desk, callers, project, body),
+        Play::AfterDeposit(body) => answers_after_deposit(alloc, desk, callers, project, body),
     }
 }
 

@@ -3,7 +3,7 @@ use Rattle.std.proofs.Common.{◌≡◌, ℕ, ℤ, List, [], length, take, Resul
 use Rattle.httparse.specs.Grammar.{RequestHead}
 use Rattle.httparse.proofs.GrammarLemmas.{request_unique}
 use Rattle.reg_policy.specs.declared.callers.Credential.{Credential}
-use Rattle.reg_http.specs.Asks.{Asking, ask_of, asked_of}
+use Rattle.reg_http.specs.Asks.{Asking, ask_of, asked_with}
 use Rattle.reg_http.specs.Heads.{IsHead}
 use Rattle.reg_http.specs.HeadParts.{head_parts}
 use Rattle.reg_http.specs.Reading.{HasOneReading, Heard, ReadAs, bad_head, refusal, refused, request, short_body, silent, whole}
@@ -67,7 +67,7 @@ module _ (callers : List Credential) (day : ℤ) (bytes : List ℕ) where
   one_reading_of a b (whole h rest c x p l) (whole k more d y q m) =
       let same = same_ask h k rest more (Ok c) (Ok d) x y p q in
       let askings : c ≡ d = (let e = same.0 in cc) in
-      ap request (ap (λ (n : Asking). asked_of n (take n.length rest) day) askings ∙ ap (λ t. asked_of d (take d.length t) day) same.1)
+      ap request (ap (λ (n : Asking). asked_with n (take n.length rest) day) askings ∙ ap (λ t. asked_with d (take d.length t) day) same.1)
 
 -- the law
 pub one_reading : HasOneReading

@@ -13,7 +13,7 @@ use Rattle.httparse.specs.declared.spans.RequestSpans.{RequestSpans}
 use Rattle.httparse.specs.Spans.{IsRequestAt}
 use Rattle.reg_policy.specs.declared.callers.Credential.{Credential}
 use Rattle.reg_http.specs.Agree.{is_out_of_memory}
-use Rattle.reg_http.specs.Asks.{Asking, ask_of, asked_of}
+use Rattle.reg_http.specs.Asks.{Asking, ask_of, asked_with}
 use Rattle.reg_desk.specs.Asked.{Asked}
 use Rattle.reg_http.specs.Heads.{HasNoHead, HoldsHead, IsHead, longest_head}
 use Rattle.reg_http.specs.HeadParts.{HeadParts, head_parts}
@@ -112,7 +112,7 @@ module _ {D : Type 0} (answers : D → Asked → Answer → D → Type 0) (calle
   -- the request at a head, and its body
   serve_body : (bytes all : List ℕ) (old new : D) (u w : Option (List ℕ)) (h : RequestHead) (a : Asking) (result : Result Served IoFault)
       → IsHead bytes h all → ask_of callers day (head_parts h) ≡ Ok a
-      → (((a.length ≤ length all) × ServesRequest answers (asked_of a (take a.length all) day) old new u w result)
+      → (((a.length ≤ length all) × ServesRequest answers (asked_with a (take a.length all) day) old new u w result)
       ⊎ (((length all < a.length) × (new ≡ old) × Written u w (rendered ShortBody) (status_of ShortBody) result)
       ⊎ ((new ≡ old) × Written u w (rendered OutOfMemory) (status_of OutOfMemory) result)))
       → (text : List ℕ) × (status : ℕ) × Exchange answers callers day bytes old new text status × Written u w text status result
@@ -200,30 +200,30 @@ of_whole P (Some bytes) (Some more) buf headers spans filled early parts held sm
 module _ {D : Type 0} (answers : D → Asked → Answer → D → Type 0) where
   -- the desk was asked with the body
   pub serve_read : (left : Option (List ℕ)) (early : List ℕ) (a : Asking) (day : ℤ) (body : Vec ℕ Global) (request : Asked) (d e : D) (u w : Option (List ℕ)) (result : Result Served IoFault)
-      → IfSome left (λ rest. ReadsBody (early ++ rest) a.length (Ok body)) → request ≡ asked_of a body.items day
+      → IfSome left (λ rest. ReadsBody (early ++ rest) a.length (Ok body)) → request ≡ asked_with a body.items day
       → ServesRequest answers request d e u w result → is_read result ≡ false
       → IfSome left (λ rest. ServesAsked answers a day (early ++ rest) d e u w result)
   serve_read None early a day body request d e u w result reads is way ok = tt
   serve_read (Some rest) early a day body request d e u w (Ok s) reads is way ok =
       let P : Asked → Type 0 = λ q. ServesRequest answers q d e u w (Ok s) in
-      inl (reads.0, subst P (is ∙ ap (λ t. asked_of a t day) reads.1) way)
+      inl (reads.0, subst P (is ∙ ap (λ t. asked_with a t day) reads.1) way)
   serve_read (Some rest) early a day body request d e u w (Err fault.Write) reads is way ok =
       let P : Asked → Type 0 = λ q. ServesRequest answers q d e u w (Err fault.Write) in
-      inl (reads.0, subst P (is ∙ ap (λ t. asked_of a t day) reads.1) way)
+      inl (reads.0, subst P (is ∙ ap (λ t. asked_with a t day) reads.1) way)
   serve_read (Some rest) early a day body request d e u w (Err fault.Read) reads is way ok = tt
 
 -- the desk was asked with a body of that length
 pub unnamed_read : {D : Type 0} (answers : D → Asked → Answer → D → Type 0) (a : Asking) (day : ℤ) (body : List ℕ) (request : Asked) (d e : D) (u w : Option (List ℕ))
-    (result : Result Served IoFault) → length body ≡ a.length → request ≡ asked_of a body day → ServesRequest answers request d e u w result → is_read result ≡ false
+    (result : Result Served IoFault) → length body ≡ a.length → request ≡ asked_with a body day → ServesRequest answers request d e u w result → is_read result ≡ false
     → (all : List ℕ) × ServesAsked answers a day all d e u w result
 unnamed_read answers a day body request d e u w (Ok s) long is way ok =
     let P : Asked → Type 0 = λ q. ServesRequest answers q d e u w (Ok s) in
     let whole = take_all a.length body (omega arith) in
-    (body, inl (omega arith, subst P (is ∙ ap (λ t. asked_of a t day) (sym whole)) way))
+    (body, inl (omega arith, subst P (is ∙ ap (λ t. asked_with a t day) (sym whole)) way))
 unnamed_read answers a day body request d e u w (Err fault.Write) long is way ok =
     let P : Asked → Type 0 = λ q. ServesRequest answers q d e u w (Err fault.Write) in
     let whole = take_all a.length body (omega arith) in
-    (body, inl (omega arith, subst P (is ∙ ap (λ t. asked_of a t day) (sym whole)) way))
+    (body, inl (omega arith, subst P (is ∙ ap (λ t. asked_with a t day) (sym whole)) way))
 unnamed_read answers a day body request d e u w (Err fault.Read) long is way ok = (body, tt)
 
 -- the body ended early, and that was written

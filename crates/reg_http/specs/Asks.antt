@@ -73,5 +73,5 @@ asked_by listing a body day = requests.listing a.caller a.project day
 asked_by (extract number groups) a body day = requests.extract a.caller a.project number groups day
 asked_by (withdraw number) a body day = requests.withdraw a.caller a.project number day
 
-abbrev pub asked_of : Asking → List ℕ → ℤ → Asked
-asked_of a body day = asked_by a.sought a body day
+abbrev pub asked_with : Asking → List ℕ → ℤ → Asked
+asked_with a body day = asked_by a.sought a body day

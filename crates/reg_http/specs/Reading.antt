@@ -2,7 +2,7 @@
 use Rattle.std.specs.Prelude.{◌≡◌, ℕ, ℤ, ◌≤◌, ◌<◌, List, [], length, take, Ok, Err}
 use Rattle.httparse.specs.Grammar.{RequestHead}
 use Rattle.reg_policy.specs.declared.callers.Credential.{Credential}
-use Rattle.reg_http.specs.Asks.{Asking, ask_of, asked_of}
+use Rattle.reg_http.specs.Asks.{Asking, ask_of, asked_with}
 use Rattle.reg_desk.specs.Asked.{Asked}
 use Rattle.reg_http.specs.Heads.{IsHead, HasNoHead}
 use Rattle.reg_http.specs.HeadParts.{head_parts}
@@ -27,7 +27,7 @@ pub data ReadAs (callers : List Credential) (day : ℤ) (bytes : List ℕ) : Hea
       → length rest < a.length → ReadAs callers day bytes (refusal ShortBody)
   whole : (h : RequestHead) (rest : List ℕ) (a : Asking) → IsHead bytes h rest
       → ask_of callers day (head_parts h) ≡ Ok a
-      → a.length ≤ length rest → ReadAs callers day bytes (request (asked_of a (take a.length rest) day))
+      → a.length ≤ length rest → ReadAs callers day bytes (request (asked_with a (take a.length rest) day))
 
 -- Bytes are read as at most one thing.
 abbrev pub HasOneReading : Type 0

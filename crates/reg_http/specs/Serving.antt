@@ -4,7 +4,7 @@ use Rattle.std.specs.Prelude.{Ok, Err, ⊤}
 use Rattle.std.specs.Io.KnownBytes.{Appends}
 use Rattle.httparse.specs.Grammar.{RequestHead}
 use Rattle.reg_policy.specs.declared.callers.Credential.{Credential}
-use Rattle.reg_http.specs.Asks.{Asking, ask_of, asked_of}
+use Rattle.reg_http.specs.Asks.{Asking, ask_of, asked_with}
 use Rattle.reg_desk.specs.Asked.{Asked}
 use Rattle.reg_http.specs.Heads.{HasNoHead, IsHead, longest_head}
 use Rattle.reg_http.specs.HeadParts.{head_parts}
@@ -51,7 +51,7 @@ abbrev pub ServesAsked : {D : Type 0} → (D → Asked → Answer → D → Type
     → Option (List ℕ) → Option (List ℕ) → Result Served IoFault → Type 0
 ServesAsked answers a day all old new before after (Err fault.Read) = ⊤
 ServesAsked answers a day all old new before after r =
-    ((a.length ≤ length all) × ServesRequest answers (asked_of a (take a.length all) day) old new before after r)
+    ((a.length ≤ length all) × ServesRequest answers (asked_with a (take a.length all) day) old new before after r)
     ⊎ ((length all < a.length) × (new ≡ old) × Written before after (rendered ShortBody) (status_of ShortBody) r)
     ⊎ ((new ≡ old) × Written before after (rendered OutOfMemory) (status_of OutOfMemory) r)
 

@@ -1,6 +1,6 @@
 //! What a connection asks: the request that is put to the desk.
 ghost use Rattle.std.specs.Prelude.{◌≡◌, IfOk};
-ghost use Rattle.reg_http.specs.Asks.{asked_of};
+ghost use Rattle.reg_http.specs.Asks.{asked_with};
 ghost use Rattle.reg_desk.specs.Asked.{asked, names_in};
 ghost use Rattle.reg_http.specs.Views.{asking_at, groups_sought};
 
@@ -28,7 +28,7 @@ pub(crate) fn request_of<'a>(
     day: Day,
 ) -> Request<'a>
     requires { names_in groups.now ≡ groups_sought ask.now.seeks }
-    ensures { asked result ≡ asked_of (asking_at ask.now) body.now day }
+    ensures { asked result ≡ asked_with (asking_at ask.now) body.now day }
 {
     let caller = ask.caller;
     let project = &ask.project;

@@ -30,7 +30,7 @@ use std::io::{Read, Write};
 
 /// Serves one connection: reads a request, calls the desk, and writes the reply. Reader and writer are fresh.
 /// Over a reader whose bytes contracts can name, at most 8,192 reads are made where the head is refused.
-/// A reply is one write where the writer takes it: `connections_in_turn` tests it, and no clause says so.
+/// A reply is one write where the writer takes it: `connections_one_after_the_other` tests it, and no clause says so.
 pub fn serve_one<K: Keep, R: Read, W: Write>(
     alloc: Global,
     desk: &mut Desk<K>,

@@ -100,7 +100,7 @@ enum Play<'a> {
     /// Two lists of two equal deposits, and how many allocations fail.
     Lists(u32),
     /// A list of a deposit, nothing, and the same deposit.
-    Turns,
+    Connections,
     /// Deposits over readers that fail.
     Reads,
     /// This head, and the status, the length and the body of its reply.
@@ -121,7 +121,7 @@ fn is_played(
         Play::Silence => answers(alloc, desk, callers, day, b"", 0, b""),
         Play::Deposits(refused) => are_at_most(deposits_thrice(alloc, desk, callers, day), refused),
         Play::Lists(refused) => are_at_most(lists_twice(alloc, desk, callers, day), refused),
-        Play::Turns => serves_in_turn(alloc, desk, callers, day),
+        Play::Connections => serves_one_after_the_other(alloc, desk, callers, day),
         Play::Reads => reads_deposit(alloc, desk, callers, day),
         Play::Head(head, status, length, body) => {
             replies_on(alloc, desk, callers, day, head, [status, length, body]).unwrap_or(false)
@@ -352,7 +352,7 @@ fn memory_is_refused_once_in_a_list(rt: HostRuntime) {
 }
 
 /// Whether these are three answers: the first and the last have status 200, and the second 0.
-fn are_in_turn(results: &[Result<Served, IoFault>]) -> bool {
+fn are_three_answers(results: &[Result<Served, IoFault>]) -> bool {
     match results {
         [first, second, third] => {
             has_status(first, 200) && has_status(second, 0) && has_status(third, 200)
@@ -368,7 +368,12 @@ fn are_written_once<R, W>(connections: &[(Tally<R>, Tally<W>); 3]) -> bool {
 }
 
 /// Whether a deposit, nothing, and the same deposit are served in a list, each reply in one write.
-fn serves_in_turn(alloc: Global, desk: &mut Desk<PlainKeep>, callers: &Callers, day: Day) -> bool {
+fn serves_one_after_the_other(
+    alloc: Global,
+    desk: &mut Desk<PlainKeep>,
+    callers: &Callers,
+    day: Day,
+) -> bool {
     let nothing = b"".as_slice();
     let mut connections = [
         (Tally::new(DEPOSIT.chain(FILE_A)), Tally::new(RECEIPT_ALONE)),
@@ -379,12 +384,12 @@ fn serves_in_turn(alloc: Global, desk: &mut Desk<PlainKeep>, callers: &Callers, 
         (Tally::new(DEPOSIT.chain(FILE_A)), Tally::new(RECEIPT_ALONE)),
     ];
     match serve_list(alloc, desk, callers, day, &mut connections) {
-        Ok(results) => are_in_turn(&results) && are_written_once(&connections),
+        Ok(results) => are_three_answers(&results) && are_written_once(&connections),
         Err(_) => false,
     }
 }
 
 #[test]
-fn connections_in_turn(rt: HostRuntime) {
-    assert!(rt; plays(rt.alloc(), Play::Turns).unwrap_or(false));
+fn connections_one_after_the_other(rt: HostRuntime) {
+    assert!(rt; plays(rt.alloc(), Play::Connections).unwrap_or(false));
 }

@@ -51,20 +51,20 @@ fn four_of<'a>(
 }
 
 /// What they are answered.
-static TOLD: [Want; 4] = [LISTED, SECOND, Want::Gives(B_SHOWN), Want::Gives(A)];
+static ANSWERS: [Want; 4] = [LISTED, SECOND, Want::Gives(B_SHOWN), Want::Gives(A)];
 
 /// Whether four requests, one after the other, are answered so.
-fn tells_each<K: Keep>(
+fn answers_each<K: Keep>(
     alloc: Global,
     desk: &mut Desk<K>,
     requests: &[Request],
 ) -> Result<bool, AllocError> {
     let answers = desk.run(alloc, requests)?;
-    Ok(answers.len() == 4 && count_wanted(alloc, &answers, &TOLD)? == 4)
+    Ok(answers.len() == 4 && count_wanted(alloc, &answers, &ANSWERS)? == 4)
 }
 
 /// Whether those four requests are.
-fn tells_four<K: Keep>(
+fn answers_four<K: Keep>(
     alloc: Global,
     desk: &mut Desk<K>,
     callers: &Callers,
@@ -72,14 +72,14 @@ fn tells_four<K: Keep>(
 ) -> Result<bool, AllocError> {
     match two_of(callers, b"t-echo", b"t-foxtrot") {
         Some((echo, foxtrot, day)) => {
-            tells_each(alloc, desk, &four_of(echo, foxtrot, project, day))
+            answers_each(alloc, desk, &four_of(echo, foxtrot, project, day))
         }
         None => Ok(false),
     }
 }
 
 /// Whether they are once Delta has a receipt for this body.
-pub fn tells<K: Keep>(
+pub fn answers_after_deposit<K: Keep>(
     alloc: Global,
     desk: &mut Desk<K>,
     callers: &Callers,
@@ -88,7 +88,7 @@ pub fn tells<K: Keep>(
 ) -> Result<bool, AllocError> {
     let step = Step("t-delta", UNTIL, Ask::Deposit(*body, UNTIL), FIRST);
     match holds(alloc, desk, callers, project, &step) {
-        Ok(true) => tells_four(alloc, desk, callers, project),
+        Ok(true) => answers_four(alloc, desk, callers, project),
         other => other,
     }
 }
@@ -98,8 +98,8 @@ static BODIES: [Body; 4] = [B, B_WETTER, B_TESTED, B_SHOWN];
 
 /// `no_leak`: these bodies have no finding; Echo is shown the same of each, and no request brings any of them.
 #[test]
-fn hidden_rows_are_not_told(rt: HostRuntime) {
+fn hidden_rows_are_not_revealed(rt: HostRuntime) {
     for body in &BODIES {
-        plays_twice(rt.alloc(), &rt, Play::Told(body));
+        plays_twice(rt.alloc(), &rt, Play::AfterDeposit(body));
     }
 }

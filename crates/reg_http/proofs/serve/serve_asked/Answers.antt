@@ -1,5 +1,5 @@
 use Rattle.std.proofs.Common.{[], ap, ◌∙◌}
-use Rattle.reg_http.specs.Asks.{asked_of}
+use Rattle.reg_http.specs.Asks.{asked_with}
 use Rattle.reg_desk.specs.Desks.{AnsweredBy}
 use Rattle.reg_http.specs.Views.{asking_at}
 use Rattle.reg_http.proofs.ServeLemmas.{nothing_said, serve_read, short_asked, spent_asked, unnamed_read, unnamed_short, unnamed_spent}
@@ -7,13 +7,13 @@ use Rattle.reg_http.proofs.serve.serve_asked.Goals as goal
 
 pub returns-clause-served : goal.returns-clause-served
 returns-clause-served g c =
-    let request = c.request_of-request.ensures ∙ ap (λ t. asked_of (asking_at c.args.ask.now) t c.args.day) c.deref.ensures.value in
+    let request = c.request_of-request.ensures ∙ ap (λ t. asked_with (asking_at c.args.ask.now) t c.args.day) c.deref.ensures.value in
     serve_read (AnsweredBy g.K.Keep) _ _ _ _ c.in-Ok.body _ c.args.desk.now c.serve_request.new.desk _ _ _
     c.in-Ok.ensures.body request c.serve_request.ensures.served c.serve_request.ensures.no_read
 
 pub returns-clause-unnamed : goal.returns-clause-unnamed
 returns-clause-unnamed g c =
-    let request = c.request_of-request.ensures ∙ ap (λ t. asked_of (asking_at c.args.ask.now) t c.args.day) c.deref.ensures.value in
+    let request = c.request_of-request.ensures ∙ ap (λ t. asked_with (asking_at c.args.ask.now) t c.args.day) c.deref.ensures.value in
     unnamed_read (AnsweredBy g.K.Keep) _ _ c.in-Ok.body.items _ c.args.desk.now c.serve_request.new.desk _ _ _
     c.in-Ok.ensures.fits request c.serve_request.ensures.served c.serve_request.ensures.no_read
 
