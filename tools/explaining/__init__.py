@@ -1,9 +1,9 @@
 """Findings explained: what causes them, what is missing, and how a file is fixed.
 
     `findings, others = read_findings(b"2a 5 -\\n")`         the program's lines, or the JSON of HTTP
-    `told = explain(data, findings)`                         or `explain(data, findings, dictionary=bytes)`
-    `told.causes()`                                          groups, each with what is wrong here and its fix
-    `report.text(told)`, `report.as_json(told)`, `report.sarif(told)`, `report.html(told)`
+    `explained = explain(data, findings)`                    or `explain(data, findings, dictionary=bytes)`
+    `explained.causes()`                                     groups, each with what is wrong here and its fix
+    `report.text(explained)`, `report.as_json(explained)`, `report.sarif(explained)`, `report.html(explained)`
 
 It is built on conformance/reference.py and on the texts of docs/RULES.md."""
 import json

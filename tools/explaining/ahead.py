@@ -1,6 +1,6 @@
 """A preview of the phases after the one that has findings: what they would find, as far as that can be seen.
 
-    `for phase, causes, count in preview(told): ..`
+    `for phase, causes, count in preview(explained): ..`
 
 Line ends, mark and encoding are put right in memory, and quotes where it is plain how. Lines that are no rows then, and
 groups without a sound header, are left out of what follows them, and so is every finding that would follow from that
@@ -69,10 +69,10 @@ def is_sound(group):
 class Preview:
     """The file as each phase would see it, and the groups that it lacks then."""
 
-    def __init__(self, told):
-        self.standard, self.rules, self.out = told.standard, told.context.rules, []
-        self.gone, self.lists, self.shown_from = set(), set(), (told.phase or 0) + 1
-        self.file = ags.File(kinds.put_right(told.file))
+    def __init__(self, explained):
+        self.standard, self.rules, self.out = explained.standard, explained.context.rules, []
+        self.gone, self.lists, self.shown_from = set(), set(), (explained.phase or 0) + 1
+        self.file = ags.File(kinds.put_right(explained.file))
         self.run()
 
     def note(self, phase, found):
@@ -133,10 +133,10 @@ class Preview:
             or finding.code == "11c" and bool(keyless | self.gone)
 
 
-def preview(told):
+def preview(explained):
     """(phase, its causes' number, the first of them, the findings' number) of each later phase with findings, and how
     many lines were left out."""
-    seen = Preview(told)
+    seen = Preview(explained)
     out = []
     for phase, given, found in seen.out:
         grouped = cause.grouped(given, found)

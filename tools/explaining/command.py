@@ -30,16 +30,16 @@ def bytes_of(path):
         return file.read()
 
 
-def lines_of(told, asked, others):
+def lines_of(explained, asked, others):
     """What is printed."""
     if asked.json:
-        return [report.as_json(told, asked.ahead)] if told.findings else ['{"causes": []}']
+        return [report.as_json(explained, asked.ahead)] if explained.findings else ['{"causes": []}']
     if asked.sarif:
-        return [report.sarif(told)]
+        return [report.sarif(explained)]
     out = list(others) + [ADVICE[line] for line in others if line in ADVICE]
-    if told.findings:
-        out += report.every(told) if asked.all else report.text(told)
-    return out + (report.preview(told) if asked.ahead and told.findings else [])
+    if explained.findings:
+        out += report.every(explained) if asked.all else report.text(explained)
+    return out + (report.preview(explained) if asked.ahead and explained.findings else [])
 
 
 def write_page(path, page):
@@ -58,11 +58,11 @@ def main(given):
         dictionary = bytes_of(asked.dictionary) if asked.dictionary else None
         data = bytes_of(asked.file)
         findings, others = read_findings(sys.stdin.buffer.read())
-        told = explain(data, findings, dictionary, asked.file)
+        explained = explain(data, findings, dictionary, asked.file)
         if asked.html:
-            write_page(asked.html, report.html(told) if findings else report.page_of(others))
+            write_page(asked.html, report.html(explained) if findings else report.page_of(others))
             return 0
-        print("\n".join(lines_of(told, asked, others)))
+        print("\n".join(lines_of(explained, asked, others)))
         sys.stdout.flush()
     except ags.NoDictionary as fault:
         print(f"explain: dictionary refused: {fault}", file=sys.stderr)
