@@ -154,8 +154,8 @@ one_key_text rows entries lookup finds n text other h k =
 some_first : (numbers : List ℕ) (n : ℕ) → Contains numbers n → 0 < length numbers
 some_first numbers n h = omega (arith, h.1)
 
-pub firsts_stand : (rows : List DataRow) (entries : Entries) (lookup : Lookup) (firsts : List ℕ) → Finds lookup (rows_keyed rows entries) → length firsts ≡ length rows → AreFirstWith lookup firsts → AreFirstsOfKeys rows entries firsts
-firsts_stand rows entries lookup firsts finds size first = (size, λ n lt. at n lt) where
+pub firsts_hold : (rows : List DataRow) (entries : Entries) (lookup : Lookup) (firsts : List ℕ) → Finds lookup (rows_keyed rows entries) → length firsts ≡ length rows → AreFirstWith lookup firsts → AreFirstsOfKeys rows entries firsts
+firsts_hold rows entries lookup firsts finds size first = (size, λ n lt. at n lt) where
   at : (n : ℕ) → n < length rows → IsFirstOfKey rows entries n (get_or firsts n 0)
   at n lt =
       let row = some_at rows n lt in

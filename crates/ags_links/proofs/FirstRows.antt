@@ -17,7 +17,7 @@ use Rattle.ags_links.proofs.Members.{contains_head, contains_cons}
 -- up to pair k each row has its first row; the pair at `first` is the first of the text of the pair before k
 pub record Led (lookup : Lookup) (pairs : List Pair) (count k first : ℕ) (firsts : List ℕ) : Type 0 where
   pub size : length firsts ≡ count
-  pub behind : first ≤ k
+  pub not_after : first ≤ k
   pub lead : (d : Pair) → 0 < k → (key (get_or pairs first d) ≡ key (get_or pairs (k - 1) d)) × ((get_or pairs first d).1 ≡ get_or (found lookup (key (get_or pairs (k - 1) d))) 0 0)
   pub done : (text : List ℕ) (n : ℕ) → Contains (found (pairs_of (take k pairs)) text) n → get_or firsts n 0 ≡ get_or (found lookup text) 0 0
 
@@ -47,8 +47,8 @@ none_found (p ∷ ps) text others = elim (cases_Bool (bytes_eq (key p) text)) [
   rest = filter (λ (x : List ℕ × ℕ). bytes_eq x.0 text) (pairs_of ps)
 
 -- the first pair of a text is first among those found
-first_stands : (pairs : List Pair) (k : ℕ) (d : Pair) → k < length pairs → ((p : Pair) → Contains (take k pairs) p → key p ≢ key (get_or pairs k d)) → get_or (found (pairs_of pairs) (key (get_or pairs k d))) 0 0 ≡ (get_or pairs k d).1
-first_stands pairs k d lt others =
+first_holds : (pairs : List Pair) (k : ℕ) (d : Pair) → k < length pairs → ((p : Pair) → Contains (take k pairs) p → key p ≢ key (get_or pairs k d)) → get_or (found (pairs_of pairs) (key (get_or pairs k d))) 0 0 ≡ (get_or pairs k d).1
+first_holds pairs k d lt others =
     let p = get_or pairs k d in
     ap (λ ps. get_or (found (pairs_of ps) (key p)) 0 0) (sym (take-append-drop k pairs))
     ∙ ap (λ l. get_or l 0 0) (found_append (take k pairs) (drop k pairs) (key p))
@@ -105,7 +105,7 @@ module _ (pairs : List Pair) (sorted : AreInOrder pairs) where
     head = get_or (found lookup (key here)) 0 0
 
     head_is : ((p : Pair) → Contains (take k pairs) p → key p ≢ key here) → here.1 ≡ head
-    head_is others = sym (first_stands pairs k d lt others) ∙ ap (λ l. get_or (found l (key here)) 0 0) is
+    head_is others = sym (first_holds pairs k d lt others) ∙ ap (λ l. get_or (found l (key here)) 0 0) is
 
     -- pair k begins a text
     pub begun : key (get_or pairs first d) ≢ key here → here.1 ≡ head
@@ -121,12 +121,12 @@ module _ (pairs : List Pair) (sorted : AreInOrder pairs) where
       | inr none ↦ ap (λ i. (get_or pairs i d).1) (here_is none) ∙ head_is (λ p h. absurd (omega (arith, h.1, length-take-le k pairs (omega (arith, lt)), none)))
     ] where
       here_is : k ≤ 0 → first ≡ k
-      here_is none = omega (arith, none, led.behind)
+      here_is none = omega (arith, none, led.not_after)
 
     pub led_next : (next : ℕ) → next ≤ k → key (get_or pairs next d) ≡ key here → (get_or pairs next d).1 ≡ head → here.1 < count → Led lookup pairs count (k + 1) next (set firsts here.1 (get_or pairs next d).1)
     led_next next le same row few = record {
       size = length-set firsts here.1 (get_or pairs next d).1 ∙ led.size;
-      behind = omega (arith, le);
+      not_after = omega (arith, le);
       lead = λ e some. (
         ap key (get_or_default pairs next e d (omega (arith, le, lt))) ∙ same ∙ sym (ap key (last e)),
         ap (λ (p : Pair). p.1) (get_or_default pairs next e d (omega (arith, le, lt))) ∙ row ∙ ap (λ t. get_or (found lookup t) 0 0) (sym (ap key (last e))),
@@ -180,7 +180,7 @@ module _ (pairs : List Pair) (sorted : AreInOrder pairs) where
           (led_next k (omega arith) refl (begun (λ same. true≢false (sym ((bytes_eq-Decides (key (get_or pairs first d)) (key x)).1 (same ∙ ap key is_x)) ∙ begins.1))) here_few)
       | inr stays ↦
           let same : key (get_or pairs first d) ≡ key here = (bytes_eq-Decides (key (get_or pairs first d)) (key x)).0 stays.1 ∙ ap key (sym is_x) in
-          subst (λ n. Led lookup pairs count (k + 1) n (set firsts here.1 (get_or pairs n d).1)) (sym stays.0) (led_next first led.behind same (goes_on same) here_few)
+          subst (λ n. Led lookup pairs count (k + 1) n (set firsts here.1 (get_or pairs n d).1)) (sym stays.0) (led_next first led.not_after same (goes_on same) here_few)
     ])) where
       here_few : here.1 < count
       here_few = subst (λ (z : Pair). z.1 < count) (sym is_x) few

@@ -7,7 +7,7 @@ pub use Rattle.ags_links.proofs.RowLemmas.{one_at, some_at, map_at}
 pub use Rattle.ags_links.proofs.Heading.{placed, place_of, at_place}
 pub use Rattle.ags_links.proofs.Cutting.{parts_cut, part_left}
 -- DATA rows are numbered over a file: each number is one row of one group, and the rows before a group are counted.
-pub use Rattle.ags_links.proofs.Numbering.{front_row, back_row, row_cases, row_of_group, row_of, row_among, stands_at, before_few, before_next}
+pub use Rattle.ags_links.proofs.Numbering.{front_row, back_row, row_cases, row_of_group, row_of, row_among, row_at_place, before_few, before_next}
 -- Walks along steps.
 pub use Rattle.ags_links.proofs.WalkLemmas.{reach_itself, reach_first, reach_then, reached_more, reached_itself}
 -- The graph of a file: there is one, it is walked as the file's steps are, and no step leaves a row of a definition group.

@@ -34,16 +34,16 @@ row_cases xs ys n r at = elim (cases_lt n (length xs)) [
 pub before_more : (g : Contents) (file : List Contents) (i : ℕ) → rows_before (g ∷ file) (suc i) ≡ length (data_rows_of_group g) + rows_before file i
 before_more g file i = length-append (data_rows_of_group g) (data_rows (take i file))
 
-pub stands_at : (file : List Contents) (i : ℕ) (g : Contents) → At file i g → (place : ℕ) (fields : List (List ℕ)) → At g.rows place fields → At (data_rows file) (rows_before file i + place) (row_in g fields)
-stands_at [] i g at = absurd (omega (arith, at.0))
-stands_at (f ∷ file) zero g at = λ place fields there.
+pub row_at_place : (file : List Contents) (i : ℕ) (g : Contents) → At file i g → (place : ℕ) (fields : List (List ℕ)) → At g.rows place fields → At (data_rows file) (rows_before file i + place) (row_in g fields)
+row_at_place [] i g at = absurd (omega (arith, at.0))
+row_at_place (f ∷ file) zero g at = λ place fields there.
     let e : f ≡ g = at.1 in
     let n : place ≡ 0 + place = omega arith in
     subst (λ (k : ℕ). At (data_rows_of_group f ++ data_rows file) k (row_in g fields)) n
     (front_row (data_rows_of_group f) (data_rows file) place (row_in g fields) (subst (λ (x : Contents). At (data_rows_of_group x) place (row_in g fields)) (sym e) (at_map (row_in g) g.rows place fields there)))
-stands_at (f ∷ file) (suc i) g at = λ place fields there.
+row_at_place (f ∷ file) (suc i) g at = λ place fields there.
     let n : rows_before (f ∷ file) (suc i) + place ≡ length (data_rows_of_group f) + (rows_before file i + place) = omega (arith, before_more f file i) in
-    back_row (data_rows_of_group f) (data_rows file) (rows_before file i + place) (rows_before (f ∷ file) (suc i) + place) (row_in g fields) n (stands_at file i g (omega (arith, at.0), at.1) place fields there)
+    back_row (data_rows_of_group f) (data_rows file) (rows_before file i + place) (rows_before (f ∷ file) (suc i) + place) (row_in g fields) n (row_at_place file i g (omega (arith, at.0), at.1) place fields there)
 
 -- all rows of a group are among those of the file
 pub before_few : (file : List Contents) (i : ℕ) (g : Contents) → At file i g → rows_before file i + length g.rows ≤ length (data_rows file)
@@ -100,7 +100,7 @@ row_of_group (g ∷ file) n r at = elim (row_cases (data_rows_of_group g) (data_
 row_of_file : (file : List Contents) (n : ℕ) (r : DataRow) → IsRowOfGroup file n r → At (data_rows file) n r
 row_of_file file n r p =
     subst (λ (k : ℕ). At (data_rows file) k r) (sym p.number)
-    (subst (At (data_rows file) (rows_before file p.group_place + p.place)) p.same (stands_at file p.group_place p.group p.of_file p.place p.fields p.of_group))
+    (subst (At (data_rows file) (rows_before file p.group_place + p.place)) p.same (row_at_place file p.group_place p.group p.of_file p.place p.fields p.of_group))
 
 pub rows_are_numbered : RowsAreNumbered
 rows_are_numbered file n row = (row_of_group file n row, row_of_file file n row)
@@ -140,4 +140,4 @@ pub row_of : (file : List Contents) (r : DataRow) → Contains (data_rows file) 
 row_of file r h = (h.0, row_of_group file h.0 r (h.1, h.2))
 
 pub row_among : (file : List Contents) (g : Contents) (fields : List (List ℕ)) → Contains file g → Contains g.rows fields → Contains (data_rows file) (row_in g fields)
-row_among file g fields group row = let there = stands_at file group.0 g (group.1, group.2) row.0 fields (row.1, row.2) in (rows_before file group.0 + row.0, there.0, there.1)
+row_among file g fields group row = let there = row_at_place file group.0 g (group.1, group.2) row.0 fields (row.1, row.2) in (rows_before file group.0 + row.0, there.0, there.1)

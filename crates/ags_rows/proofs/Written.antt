@@ -26,7 +26,7 @@ use Rattle.ags_rows.specs.Contents.{Contents, group_contents}
 use Rattle.ags_rows.specs.Writing.{written_row, group_lines, empty_line, written_lines, text_of, written_file, IsPlainByte, ArePlain, IsPlainGroup, IsWellFormedGroup, IsWellFormed}
 use Rattle.ags_text.specs.Names.{is_capital, is_digit, is_group_name, is_heading_name}
 use Rattle.ags_rows.proofs.Fields.{same_fields, line_spells}
-use Rattle.ags_rows.proofs.Cuts.{type_ends, groups_behind}
+use Rattle.ags_rows.proofs.Cuts.{type_ends, groups_after}
 use Rattle.ags_rows.proofs.AtPlaces.{at_earlier}
 use Rattle.ags_rows.proofs.Cutting.{AreCut, lines_from_cut}
 use Rattle.ags_rows.proofs.Breaking.{blank_clear, row_clear, blank_no_row, rows_join}
@@ -327,7 +327,7 @@ lines_clear gs plain f h = clean_breaks_none (h.0 + 1) h.1 (all_at IsClean (writ
 pub rows_clear : (gs : List Contents) → gs ≢ [] → (f : Finding) → StandsInOrder (flat_map rows_of (groups_from 1 gs)) f → ⊥
 unfolding groups_from
 rows_clear [] some f h = some refl
-rows_clear (g ∷ gs) some f h = order_clear _ _ refl (groups_behind (groups_from 1 (g ∷ gs)) kinds.Type type_ends []) f h
+rows_clear (g ∷ gs) some f h = order_clear _ _ refl (groups_after (groups_from 1 (g ∷ gs)) kinds.Type type_ends []) f h
 
 -- ---- the text of a file that is written
 

@@ -48,8 +48,8 @@ note {line} {code} {subject} {Fact} none = either Fact (λ x. elim x [
 ])
 
 -- what is listed by itself is listed after others
-adds_behind : {Stands : Finding → Type 0} (front more : List Finding) → Adds Stands [] more → Adds Stands front (front ++ more)
-adds_behind front more x = record { more = x.more; joined = ap (λ (l : List Finding). front ++ l) x.joined; only = x.only; all = x.all }
+adds_after : {Stands : Finding → Type 0} (front more : List Finding) → Adds Stands [] more → Adds Stands front (front ++ more)
+adds_after front more x = record { more = x.more; joined = ap (λ (l : List Finding). front ++ l) x.joined; only = x.only; all = x.all }
 
 abbrev AllListed : List (Finding → Type 0) → Type 0
 AllListed [] = Unit {0}
@@ -57,7 +57,7 @@ AllListed (Stands ∷ rules) = Listed Stands × AllListed rules
 
 listed_rules : (rules : List (Finding → Type 0)) → AllListed rules → Listed (OneOf rules)
 listed_rules [] all none = none [] (one_none [])
-listed_rules (Stands ∷ rules) all none = all.0 (λ a x. listed_rules rules all.1 (λ b y. none (a ++ b) (one_more Stands rules [] a (a ++ b) x (adds_behind a b y))))
+listed_rules (Stands ∷ rules) all none = all.0 (λ a x. listed_rules rules all.1 (λ b y. none (a ++ b) (one_more Stands rules [] a (a ++ b) x (adds_after a b y))))
 
 nowhere : {X A : Type 0} (place : ℕ) (x : X) → At [] place x → A
 nowhere place x at = absurd (omega (arith, at.0))
@@ -66,7 +66,7 @@ listed_among : {X : Type 0} (xs : List X) (Stands : ℕ → X → Finding → Ty
 listed_among [] Stands each none = none [] (adds_none [] (λ f h. nowhere h.0 h.1 h.2))
 listed_among {X} (x ∷ xs) Stands each none =
     each 0 x (λ a first. listed_among xs (λ place. Stands (suc place)) (λ place. each (suc place)) (λ b rest.
-    none (a ++ b) (adds_both [] a (a ++ b) first (adds_behind a b rest) (λ f h. (0, x, (omega arith, refl), h)) (λ f h. (suc h.0, h.1, at_later x xs h.0 h.1 h.2, h.3)) cases)))
+    none (a ++ b) (adds_both [] a (a ++ b) first (adds_after a b rest) (λ f h. (0, x, (omega arith, refl), h)) (λ f h. (suc h.0, h.1, at_later x xs h.0 h.1 h.2, h.3)) cases)))
   where
     cases : (f : Finding) → Among (x ∷ xs) Stands f → Stands 0 x f ⊎ Among xs (λ place. Stands (suc place)) f
     cases f (zero, y, at, h) = inl (subst (λ (z : X). Stands 0 z f) (sym at.1) h)

@@ -20,11 +20,11 @@ abbrev Rows : Type 0
 Rows = RowsOf (RouteOf Page)
 
 -- what the routes have after the project: from its slash on, and after its slash
-abbrev behind : Rows
-behind = (codes "check", check_route) ∷ (codes "deposits/" ++ param_token ∷ [], deposit_route) ∷ (codes "deposits", deposits_route) ∷ []
+abbrev after_project : Rows
+after_project = (codes "check", check_route) ∷ (codes "deposits/" ++ param_token ∷ [], deposit_route) ∷ (codes "deposits", deposits_route) ∷ []
 
 abbrev below : Rows
-below = with_token slash behind
+below = with_token slash after_project
 
 abbrev front_bytes : List ℕ
 front_bytes = codes "/v1/projects/"
@@ -85,8 +85,8 @@ abbrev AreBytes : List ℕ → Type 0
 AreBytes p = (k : ℕ) → get_or p k 0 < 256
 
 -- what comes after bytes is bytes
-bytes_behind : (w q : List ℕ) → AreBytes (w ++ q) → AreBytes q
-bytes_behind w q bytes k = omega (arith, get_or-append-add w q k 0, bytes (length w + k))
+bytes_after : (w q : List ℕ) → AreBytes (w ++ q) → AreBytes q
+bytes_after w q bytes k = omega (arith, get_or-append-add w q k 0, bytes (length w + k))
 
 abbrev last_rows : Rows
 last_rows = (slash ∷ param_token ∷ [], deposit_route) ∷ ([], deposits_route) ∷ []
@@ -109,25 +109,25 @@ last_ends (y ∷ p) r bytes e = ⊎_elim
     (cases_eq slash y)
 
 -- after the project
-ends_of : (q : List ℕ) (r : RouteOf Page) → AreBytes q → seek 0 behind q ≡ Some r → Ends q r
-ends_of [] r bytes e = none-some r (sym (seek_end behind) ∙ e)
+ends_of : (q : List ℕ) (r : RouteOf Page) → AreBytes q → seek 0 after_project q ≡ Some r → Ends q r
+ends_of [] r bytes e = none-some r (sym (seek_end after_project) ∙ e)
 ends_of (y ∷ p) r bytes e = ⊎_elim check_here other_than_check (cases_eq 99 y)
   where
-    stepped : seek 0 (step y behind) p ≡ Some r
-    stepped = sym (seek_plain behind y p refl refl) ∙ e
+    stepped : seek 0 (step y after_project) p ≡ Some r
+    stepped = sym (seek_plain after_project y p refl refl) ∙ e
 
     check_here : 99 ≡ y → Ends (y ∷ p) r
     check_here same =
-        let here : seek 0 (with_tokens (codes "heck") (([], check_route) ∷ [])) p ≡ Some r = ap (λ z. seek 0 (step z behind) p) same ∙ stepped in
+        let here : seek 0 (with_tokens (codes "heck") (([], check_route) ∷ [])) p ≡ Some r = ap (λ z. seek 0 (step z after_project) p) same ∙ stepped in
         let more = begins (codes "heck") (([], check_route) ∷ []) p r refl here in
         inl (seek_here check_route r more.0 more.2)
 
     deposits_here : 100 ≡ y → Ends (y ∷ p) r
     deposits_here same =
-        let here : seek 0 (with_tokens (codes "eposits") last_rows) p ≡ Some r = ap (λ z. seek 0 (step z behind) p) same ∙ stepped in
+        let here : seek 0 (with_tokens (codes "eposits") last_rows) p ≡ Some r = ap (λ z. seek 0 (step z after_project) p) same ∙ stepped in
         let more = begins (codes "eposits") last_rows p r refl here in
-        let next : AreBytes p = bytes_behind (y ∷ []) p bytes in
-        let bytes_of : AreBytes more.0 = bytes_behind (codes "eposits") more.0 (subst AreBytes more.1 next) in
+        let next : AreBytes p = bytes_after (y ∷ []) p bytes in
+        let bytes_of : AreBytes more.0 = bytes_after (codes "eposits") more.0 (subst AreBytes more.1 next) in
         ⊎_elim (λ is. inr (inl is))
         (λ found. inr (inr (found.0, found.1, ap (λ z. z ∷ p) (sym same) ∙ ap (λ t. 100 ∷ t) (more.1 ∙ ap (λ t. codes "eposits" ++ t) found.2))))
         (last_ends more.0 r bytes_of more.2)
@@ -135,7 +135,7 @@ ends_of (y ∷ p) r bytes e = ⊎_elim check_here other_than_check (cases_eq 99 
     other_than_check : (99 ≡ y → ⊥) → Ends (y ∷ p) r
     other_than_check no_check = ⊎_elim deposits_here
         (λ no_deposits.
-        let none : step y behind ≡ [] = rw (ne_eqb 99 y no_check, ne_eqb 100 y no_deposits) refl in
+        let none : step y after_project ≡ [] = rw (ne_eqb 99 y no_check, ne_eqb 100 y no_deposits) refl in
         none-some r (sym (seek_none 0 p) ∙ ap (λ s. seek 0 s p) (sym none) ∙ stepped))
         (cases_eq 100 y)
 
@@ -214,18 +214,18 @@ pub parts_are_text : (path : List ℕ) (r : RouteOf Page) → IsUtf8 path → Ar
 parts_are_text path r text bytes e =
     let front = begins front_bytes (with_token param_token below) path r refl e in
     let q : List ℕ = front.0 in
-    let rest : AreBytes q = bytes_behind front_bytes q (subst AreBytes front.1 bytes) in
+    let rest : AreBytes q = bytes_after front_bytes q (subst AreBytes front.1 bytes) in
     let project = project_step q r (seek_wild below q r (rest 0) front.2) in
     let n : ℕ = length (segment q) - 1 in
-    let behind_project = begins one_slash behind (drop n q) r refl project.1 in
+    let rest_of_project = begins one_slash after_project (drop n q) r refl project.1 in
     let is_q : drop 13 path ≡ q = ap (drop 13) front.1 in
     let sum : length path ≡ 13 + length q = ap length front.1 ∙ length-append front_bytes q in
     let end : project_end path ≡ 13 + n = ap (λ t. 13 + length (segment t) - 1) is_q ∙ omega (arith, project.0) in
     let left : length (drop n q) ≡ length q - n = length-drop n q in
-    let some : length (drop n q) ≡ suc (length behind_project.0) = ap length behind_project.1 in
+    let some : length (drop n q) ≡ suc (length rest_of_project.0) = ap length rest_of_project.1 in
     let before : get_or path 12 0 ≡ slash = ap (λ t. get_or t 12 0) front.1 in
     let at_end : get_or path (13 + n) 0 ≡ slash =
-    ap (λ t. get_or t (13 + n) 0) front.1 ∙ get_or-append-add front_bytes q n 0 ∙ sym (get_or-drop-at n q) ∙ ap (λ t. get_or t 0 0) behind_project.1 in
+    ap (λ t. get_or t (13 + n) 0) front.1 ∙ get_or-append-add front_bytes q n 0 ∙ sym (get_or-drop-at n q) ∙ ap (λ t. get_or t 0 0) rest_of_project.1 in
     let cut : Cuts path = record {
       text = text;
       long = omega arith;
@@ -237,16 +237,16 @@ parts_are_text path r text bytes e =
     (⊎_elim
     (λ is. subst (λ s. AllText (taken s path)) (sym is) (deposits_text path cut))
     (λ found.
-    let is_behind : drop n q ≡ slash ∷ (codes "deposits/" ++ found.1) = behind_project.1 ∙ ap (λ t. slash ∷ t) found.2 in
-    let count = ap length is_behind in
+    let rest_is : drop n q ≡ slash ∷ (codes "deposits/" ++ found.1) = rest_of_project.1 ∙ ap (λ t. slash ∷ t) found.2 in
+    let count = ap length rest_is in
     let more = length-append (codes "deposits/") found.1 in
     let fits : project_end path + 10 ≤ length path = omega arith in
     let at_slash : get_or path (13 + (n + 9)) 0 ≡ slash =
-    ap (λ t. get_or t (13 + (n + 9)) 0) front.1 ∙ get_or-append-add front_bytes q (n + 9) 0 ∙ sym (get_or-drop n q 9 0) ∙ ap (λ t. get_or t 9 0) is_behind in
+    ap (λ t. get_or t (13 + (n + 9)) 0) front.1 ∙ get_or-append-add front_bytes q (n + 9) 0 ∙ sym (get_or-drop n q 9 0) ∙ ap (λ t. get_or t 9 0) rest_is in
     let next : 13 + (n + 9) + 1 ≡ project_end path + 10 = omega arith in
     let boundary = subst (IsCharBoundary path) next (IsCharBoundary-after_ascii path (13 + (n + 9)) text (omega arith) (omega arith)) in
     subst (λ s. AllText (taken s path)) (sym found.0) (deposit_text path cut fits boundary)))
-    (ends_of behind_project.0 r (bytes_behind one_slash behind_project.0 (subst AreBytes behind_project.1 (λ k. omega (arith, get_or-drop n q k 0, rest (n + k))))) behind_project.2)
+    (ends_of rest_of_project.0 r (bytes_after one_slash rest_of_project.0 (subst AreBytes rest_of_project.1 (λ k. omega (arith, get_or-drop n q k 0, rest (n + k))))) rest_of_project.2)
   where
     get_or-drop-at : (m : ℕ) (l : List ℕ) → get_or (drop m l) 0 0 ≡ get_or l m 0
     get_or-drop-at m l = get_or-drop m l 0 0 ∙ ap (λ k. get_or l k 0) (omega arith)

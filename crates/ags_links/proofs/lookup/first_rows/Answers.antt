@@ -31,12 +31,12 @@ loop-place-preserved c =
     let row : Contains (found (pairs_of pairs) (key x)) x.1 = subst (λ (z : Pair). Contains (found (pairs_of pairs) (key z)) z.1) here (row_found pairs k x lt) in
     let few : x.1 < c.args.count = c.requires.few (key x) x.1 (subst (λ l. Contains (found l (key x)) x.1) is row) in
     let tested : c.ne.result ≡ not (bytes_eq (key (get_or pairs c.loop-place.first x)) (key x)) =
-    c.ne.ensures ∙ ap (λ (z : Pair). not (bytes_eq (key z) (key x))) (get_or_default pairs c.loop-place.first f x (omega (arith, lt, c.loop-place.invariant.behind))) in
+    c.ne.ensures ∙ ap (λ (z : Pair). not (bytes_eq (key z) (key x))) (get_or_default pairs c.loop-place.first f x (omega (arith, lt, c.loop-place.invariant.not_after))) in
     elim c.if-ne.branch [
       | then-ne w ↦ led_step pairs sorted c.args.lookup.now is c.requires.once c.args.count k c.loop-place.first c.loop-place.firsts.items x lt c.loop-place.invariant x (get_or pairs c.if-ne.first y) c.if-ne.first here
           (get_or_default pairs c.if-ne.first x y (omega (arith, w.first-is, lt))) few (inl (w.first-is, tells_not (bytes_eq (key (get_or pairs c.loop-place.first x)) (key x)) (sym tested ∙ w.if-ne.true)))
       | else-ne w ↦ led_step pairs sorted c.args.lookup.now is c.requires.once c.args.count k c.loop-place.first c.loop-place.firsts.items x lt c.loop-place.invariant x (get_or pairs c.if-ne.first y) c.if-ne.first here
-          (get_or_default pairs c.if-ne.first x y (omega (arith, w.first-is, lt, c.loop-place.invariant.behind))) few (inr (w.first-is, tells (bytes_eq (key (get_or pairs c.loop-place.first x)) (key x)) (sym tested ∙ w.if-ne.false)))
+          (get_or_default pairs c.if-ne.first x y (omega (arith, w.first-is, lt, c.loop-place.invariant.not_after))) few (inr (w.first-is, tells (bytes_eq (key (get_or pairs c.loop-place.first x)) (key x)) (sym tested ∙ w.if-ne.false)))
     ]
 
 pub returns-clause-firsts : goal.returns-clause-firsts
