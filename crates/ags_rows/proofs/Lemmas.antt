@@ -9,7 +9,7 @@ pub use Rattle.ags_rows.proofs.Collecting.{adds_none, adds_both, adds_same, adds
 pub use Rattle.ags_rows.proofs.WellFormed.{clear_first}
 -- A text is cut into lines from the left, rows into groups, and two findings that compare as equal are one.
 pub use Rattle.ags_rows.proofs.Cuts.{some_groups}
-pub use Rattle.ags_rows.proofs.Cutting.{feed_found, feed_none, line_none, line_lf, line_crlf, line_falls, lines_from_cut, AreCut}
+pub use Rattle.ags_rows.proofs.Cutting.{byte_found, byte_none, line_none, line_lf, line_crlf, line_falls, lines_from_cut, AreCut}
 pub use Rattle.ags_rows.proofs.Files.{finding_exact}
 -- A file has one cutting into rows and groups, and one list of findings.
 pub use Rattle.ags_rows.proofs.Once.{same_file, one_grouping, one_loose_grouping, one_first_found, one_loose_list}

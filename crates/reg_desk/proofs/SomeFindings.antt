@@ -20,7 +20,7 @@ use Rattle.ags_rows.specs.Lines.{TextLine, after_byte_order_mark}
 use Rattle.ags_rows.specs.Parsing.{IsFirstLine}
 use Rattle.ags_rows.specs.Rows.{RowsFrom}
 use Rattle.ags_rows.specs.Stands.{line_rules, row_rules, shape_rules, name_rules, heading_rules, group_rules, StandsInLines, StandsInGroups}
-use Rattle.ags_rows.proofs.Lemmas.{contains_at, at_contained, at_later, at_earlier, none_is, is_one, one_is, adds_none, adds_both, adds_same, adds_found, adds_clear, one_none, one_more, listed_all, none_listed, some_groups, feed_found, feed_none, line_none, line_lf, line_crlf, line_falls, lines_from_cut, AreCut, finding_exact}
+use Rattle.ags_rows.proofs.Lemmas.{contains_at, at_contained, at_later, at_earlier, none_is, is_one, one_is, adds_none, adds_both, adds_same, adds_found, adds_clear, one_none, one_more, listed_all, none_listed, some_groups, byte_found, byte_none, line_none, line_lf, line_crlf, line_falls, lines_from_cut, AreCut, finding_exact}
 use Rattle.ags_dict.specs.Entries.{Entries, extended, order_of, keys_of, required_of, has_group}
 use Rattle.ags_check.specs.Findings.{Findings, dictionary_phases}
 use Rattle.ags_check.specs.Header.{StandsInDictionary, file_rules, group_header_rules, heading_row_rules, tran_and_proj_rules, unknown_code}
@@ -254,9 +254,9 @@ first_line : (text : List ℕ) → 0 < length text → ((line : TextLine) (rest 
 first_line text some none = by (position (λ b. eqb b 10) text) refl
   where
     by : (o : Option ℕ) → position (λ b. eqb b 10) text ≡ o → ⊥
-    by None e = none _ [] (line_none text (feed_none text e) some)
+    by None e = none _ [] (line_none text (byte_none 10 text e) some)
     by (Some i) e =
-        let at = feed_found text i e in
+        let at = byte_found 10 text i e in
         either ((content : List ℕ) × (take i text ≡ content ++ 13 ∷ [])) (λ x. elim x [
           | inl h ↦ none _ _ (line_crlf text h.0 i at h.1)
           | inr never ↦ none _ _ (line_lf text i at (λ front e. never (front, e)))
