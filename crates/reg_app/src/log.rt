@@ -2,6 +2,7 @@
 ghost use Rattle.std.specs.Prelude.{◌<◌};
 
 use crate::connection::Outcome;
+use crate::front::Front;
 use crate::moment::Moment;
 use itoa::Buffer;
 use reg_cli::{Fault, Watched};
@@ -21,7 +22,7 @@ pub struct Log<W> {
 }
 
 impl<W: Write + Drop> Log<W> {
-    /// Over a writer. The memory of the longest line is taken here, so that no line fails for want of it.
+    /// Over a writer. The memory of the longest line is taken here, so that no line is refused when out of memory.
     pub fn new(alloc: Global, out: W) -> Result<Log<W>, AllocError> {
         Ok(Log {
             out: Watched::new(out),
@@ -31,12 +32,17 @@ impl<W: Write + Drop> Log<W> {
 
     /// Appends the line of a connection, and has it passed on: time, firm and role, method and path, status, bytes in
     /// and out, milliseconds. What is not known is `-`. No token is in it, since it has no field and no query.
-    pub(crate) fn append(&mut self, callers: &Callers, outcome: &Outcome) -> Result<(), Fault> {
+    pub(crate) fn append(
+        &mut self,
+        callers: &Callers,
+        outcome: &Outcome,
+        front: &Front,
+    ) -> Result<(), Fault> {
         self.line.clear();
         push_moment(&mut self.line, outcome.moment)?;
-        push_summary(&mut self.line, summary_of(callers, outcome.front.bytes()))?;
+        push_summary(&mut self.line, summary_of(callers, front.bytes()))?;
         push_outcome(&mut self.line, outcome.status)?;
-        push_number(&mut self.line, outcome.front.count())?;
+        push_number(&mut self.line, front.count())?;
         push_number(&mut self.line, outcome.sent)?;
         push_number(&mut self.line, outcome.millis)?;
         self.line.extend_from_slice(b"\n")?;
