@@ -22,7 +22,7 @@ pub struct Log<W> {
 }
 
 impl<W: Write + Drop> Log<W> {
-    /// Over a writer. The memory of the longest line is taken here, so that no line is refused when out of memory.
+    /// Over a writer. The memory of the longest line is taken here, so that no later line needs any.
     pub fn new(alloc: Global, out: W) -> Result<Log<W>, AllocError> {
         Ok(Log {
             out: Watched::new(out),
