@@ -1,11 +1,10 @@
 -- What is known of the deposits, as it is looked up, noted and grows with the list.
-use Rattle.std.proofs.Common.{zero, suc, ◌≡◌, ℕ, ◌+◌, ◌-◌, ◌<◌, ◌≤◌, Bool, true, false, List, [], ◌∷◌, ◌++◌, get_or, length, map, take, if◌then◌else◌, Option, Some, None, IfSome, slice_get, refl, sym, ap, subst, subst₂, ◌∙◌, arith}
+use Rattle.std.proofs.Common.{zero, suc, ◌≡◌, ℕ, ◌+◌, ◌-◌, ◌<◌, ◌≤◌, Bool, true, false, List, [], ◌∷◌, ◌++◌, get_or, length, map, take, if◌then◌else◌, Some, slice_get, refl, sym, ap, subst, subst₂, ◌∙◌, arith}
 use Rattle.std.proofs.Math.ListN.{set}
 use Rattle.std.proofs.lemmas.List.{length_push, take_all}
 use Rattle.std.proofs.lemmas.Option.{slice_get_read}
 use Rattle.std.proofs.lemmas.Slice.Zip.{AllZip-long}
 use Rattle.std.specs.List.{AllZip}
-use Rattle.std.specs.Option.{ForSome}
 use Rattle.std.specs.Str.{bytes_eq}
 use Rattle.sqlite.specs.Effect.{Database}
 use Rattle.sqlite.specs.State.{State, HasCleanDisk}
@@ -19,13 +18,11 @@ use Rattle.reg_store.specs.Deposit.{Deposit, marked, sents, sents_marked, unmark
 use Rattle.reg_tables.specs.declared.memory.Coming.{Coming}
 use Rattle.reg_tables.specs.declared.memory.Known.{Known}
 use Rattle.reg_tables.specs.declared.memory.Memory.{Memory}
-use Rattle.reg_tables.specs.declared.repeats.Digests.{Digests}
-use Rattle.reg_tables.specs.declared.recent.RecentGraph.{RecentGraph}
-use Rattle.reg_tables.specs.declared.recent.RecentRows.{RecentRows}
+use Rattle.reg_tables.specs.declared.memory.digests.Digests.{Digests}
 use Rattle.reg_tables.specs.Digests.{AddsNumber, AreBelow, AreDigested, PutsNumbers, numbers_under, own_digest}
 use Rattle.reg_tables.specs.Heads.{head_of}
 use Rattle.reg_tables.proofs.KeepLaws.{keeps_quiet}
-use Rattle.reg_tables.specs.Memory.{Agrees, AreKnown, IsComing, IsKnown, IsNumberOf, Notes, bare_of, marked_known, new_known, with_mark}
+use Rattle.reg_tables.specs.Memory.{Agrees, AreKnown, IsComing, IsKnown, IsNumberOf, Remembers, bare_of, marked_known, new_known, with_mark}
 use Rattle.reg_tables.specs.Quiet.{IsStill}
 use Rattle.reg_tables.proofs.QuietLaws.{clean_before}
 use Rattle.reg_tables.specs.Register.{KeepsRegister, deposits_in, marks_of}
@@ -218,13 +215,13 @@ agrees_still old new memory dictionary agrees quiet clean well =
 
 -- what was read is noted
 pub agrees_noted : (old new : State) {failed : Bool} (memory noted : Memory) (dictionary : Entries) (n : ℕ) {IsRead : Entries → List Sent → Type 0} → (HasCleanDisk old → Agrees memory dictionary (deposits_in old.committed.trees)) → IsStill old new failed
-    → Notes memory noted n IsRead → IsNumberOf n (deposits_in old.committed.trees) → IsRead dictionary (sents (deposits_in old.committed.trees)) → HasCleanDisk new → failed ≡ false → Agrees noted dictionary (deposits_in new.committed.trees)
+    → Remembers memory noted n IsRead → IsNumberOf n (deposits_in old.committed.trees) → IsRead dictionary (sents (deposits_in old.committed.trees)) → HasCleanDisk new → failed ≡ false → Agrees noted dictionary (deposits_in new.committed.trees)
 agrees_noted old new memory noted dictionary n agrees quiet notes number read clean well =
     subst (λ (db : Database). Agrees noted dictionary (deposits_in db.trees)) (sym (quiet.same clean well).1)
     (notes.agrees dictionary (deposits_in old.committed.trees) number read (agrees (clean_before old new quiet.survives clean)))
 
 -- the store that held the list still holds it
 pub keeps_noted : (old new : State) {failed : Bool} (memory noted : Memory) (dictionary : Entries) (n : ℕ) {IsRead : Entries → List Sent → Type 0} → (HasCleanDisk old → ∥ KeepsRegister old dictionary (length memory.known.items) ∥₁) → IsStill old new failed
-    → Notes memory noted n IsRead → HasCleanDisk new → failed ≡ false → ∥ KeepsRegister new dictionary (length noted.known.items) ∥₁
+    → Remembers memory noted n IsRead → HasCleanDisk new → failed ≡ false → ∥ KeepsRegister new dictionary (length noted.known.items) ∥₁
 keeps_noted old new memory noted dictionary n kept quiet notes clean well =
     subst (λ count. ∥ KeepsRegister new dictionary count ∥₁) (sym notes.long) (keeps_quiet old new kept quiet clean well)

@@ -10,11 +10,11 @@ use Rattle.ags_dict.specs.Entries.{Entries}
 use Rattle.reg_store.specs.declared.keep.KeptHead.{KeptHead}
 use Rattle.reg_store.specs.Deposit.{Deposit, sents}
 use Rattle.reg_store.specs.Sent.{Sent}
-use Rattle.reg_tables.specs.declared.adopting.AdoptError.{AdoptError}
-use Rattle.reg_tables.specs.declared.adopting.AdoptError.TheVariants.{NotRegister, Version, Store, NoMemory}
-use Rattle.reg_tables.specs.declared.format.Format.TheVariants.{Second}
+use Rattle.reg_tables.specs.declared.error.AdoptError.{AdoptError}
+use Rattle.reg_tables.specs.declared.error.AdoptError.TheVariants.{NotRegister, Version, Store, NoMemory}
+use Rattle.reg_tables.specs.declared.schema.format.Format.TheVariants.{Second}
 use Rattle.reg_tables.specs.declared.memory.Memory.{Memory}
-use Rattle.reg_tables.specs.declared.repeats.Digests.{Digests}
+use Rattle.reg_tables.specs.declared.memory.digests.Digests.{Digests}
 use Rattle.reg_tables.specs.Adoption.{Adopts, FindsMarks, HoldsMarks}
 use Rattle.reg_tables.specs.Digests.{AreBelow, AreDigested, HoldsDigests}
 use Rattle.reg_tables.specs.Heads.{AreHeads, HoldsHeads, head_of}

@@ -18,10 +18,10 @@ use Rattle.std.proofs.lemmas.List.{take_more}
 use Rattle.std.proofs.lemmas.List.Folds.{list_any-append}
 use Rattle.std.proofs.lemmas.Slice.Eq.{bytes_eq-Decides}
 use Rattle.sqlite.specs.Effect.{Database}
-use Rattle.sqlite.specs.State.{State, HasCleanDisk}
+use Rattle.sqlite.specs.State.{State}
 use Rattle.ags_dict.specs.Entries.{Entries}
 use Rattle.reg_store.specs.declared.keep.KeepError.{KeepError}
-use Rattle.reg_tables.specs.declared.repeats.Digests.{Digests}
+use Rattle.reg_tables.specs.declared.memory.digests.Digests.{Digests}
 use Rattle.reg_store.specs.Apart.{AreApart}
 use Rattle.reg_store.specs.ApartLaws.{none_at, parts_of}
 use Rattle.reg_store.specs.Sent.{Sent, is_repeat, number_of}
@@ -29,8 +29,6 @@ use Rattle.reg_store.specs.Deposit.{sents}
 use Rattle.reg_tables.specs.Digests.{AddsNumber, AreBelow, AreDigested, HasEqual, HasNoEqual, HoldsDigests, IsRowOf, digest_of, is_among, numbers_under, own_digest}
 use Rattle.reg_tables.specs.Marks.{long_sents}
 use Rattle.reg_tables.proofs.MethodsLaws.{same_deposit, slice_get_in}
-use Rattle.reg_tables.specs.Quiet.{IsStill}
-use Rattle.reg_tables.proofs.QuietLaws.{clean_before}
 use Rattle.reg_tables.specs.Register.{deposit_rows, deposits_in, KeepsRegister}
 use Rattle.reg_tables.specs.Rows.{deposit_table}
 use Rattle.reg_tables.proofs.ShowsLaws.{row_of_number}

@@ -12,7 +12,7 @@ use Rattle.ags_check.specs.Findings.{CheckedFile}
 use Rattle.reg_store.specs.Fit.{kept_rows}
 use Rattle.reg_store.specs.Sent.{Sent}
 use Rattle.reg_store.specs.Deposit.{Deposit, marked, sents, sents_marked, unmarked}
-use Rattle.reg_tables.specs.declared.format.Format.TheVariants.{First, Second}
+use Rattle.reg_tables.specs.declared.schema.format.Format.TheVariants.{First, Second}
 use Rattle.reg_tables.specs.Rows.{columns_3, columns_5, mark_column, mark_row, rows_under}
 use Rattle.reg_tables.specs.Inserts.{AddsFile, AddsMark}
 use Rattle.reg_tables.specs.Marks.{long_sents}
