@@ -134,7 +134,7 @@ head_shown (Ok (Some one)) db n kept rows found read its = λ d row.
     let same : kept ≡ d = same_deposit n kept d rows read alone in
     (its.0 ∙ ap head_of same, its.1 ∙ ap own_digest same))
 
--- what is found under the digest tells whether a deposit is new
+-- what is found under the digest shows whether a deposit is new
 pub new_tests : (db : Database) (numbers : List ℕ) (d : Sent) → HasNoEqual db numbers d.firm d.project d.bytes → Tests true (IsNew db numbers d)
 new_tests db numbers d none = record { yes = λ e. ∣ none ∣₁; no = λ e. absurd cc }
 

@@ -108,12 +108,12 @@ set_zipped dictionary (e ∷ list) (x ∷ known) zero one all its = (its e refl,
 set_zipped dictionary (e ∷ list) (x ∷ known) (suc k) one all its = (all.0, set_zipped dictionary list known k one all.1 its)
 
 -- the heads give the numbers of a project
-told_zipped : (n : ℕ) (project : List ℕ) (dictionary : Entries) (list : List Deposit) (known : List Known) → AllZip (IsKnown dictionary) list known → numbers_from n project (map bare_of known) ≡ numbers_from n project (sents list)
-told_zipped n project dictionary [] [] all = refl
-told_zipped n project dictionary [] (x ∷ known) all = absurd all
-told_zipped n project dictionary (d ∷ list) [] all = absurd all
-told_zipped n project dictionary (d ∷ list) (x ∷ known) all =
-    rw (ap (λ (h : KeptHead). h.project) all.0.head) (go (bytes_eq d.sent.project project) (told_zipped (n + 1) project dictionary list known all.1))
+numbers_zipped : (n : ℕ) (project : List ℕ) (dictionary : Entries) (list : List Deposit) (known : List Known) → AllZip (IsKnown dictionary) list known → numbers_from n project (map bare_of known) ≡ numbers_from n project (sents list)
+numbers_zipped n project dictionary [] [] all = refl
+numbers_zipped n project dictionary [] (x ∷ known) all = absurd all
+numbers_zipped n project dictionary (d ∷ list) [] all = absurd all
+numbers_zipped n project dictionary (d ∷ list) (x ∷ known) all =
+    rw (ap (λ (h : KeptHead). h.project) all.0.head) (go (bytes_eq d.sent.project project) (numbers_zipped (n + 1) project dictionary list known all.1))
   where
     go : (b : Bool) → numbers_from (n + 1) project (map bare_of known) ≡ numbers_from (n + 1) project (sents list)
         → (if b then n ∷ numbers_from (n + 1) project (map bare_of known) else numbers_from (n + 1) project (map bare_of known))
@@ -127,8 +127,8 @@ known_new dictionary list = unzipped dictionary list _ (new_zipped dictionary li
 pub known_set : (dictionary : Entries) (list : List Deposit) (known : List Known) (k : ℕ) (one : Known) → AreKnown dictionary list known → ((d : Deposit) → slice_get list k ≡ Some d → IsKnown dictionary d one) → AreKnown dictionary list (set known k one)
 known_set dictionary list known k one are its = unzipped dictionary list _ (set_zipped dictionary list known k one (zipped dictionary list known are) its)
 
-pub numbers_told : (n : ℕ) (project : List ℕ) (dictionary : Entries) (list : List Deposit) (known : List Known) → AreKnown dictionary list known → numbers_from n project (map bare_of known) ≡ numbers_from n project (sents list)
-numbers_told n project dictionary list known are = told_zipped n project dictionary list known (zipped dictionary list known are)
+pub numbers_held : (n : ℕ) (project : List ℕ) (dictionary : Entries) (list : List Deposit) (known : List Known) → AreKnown dictionary list known → numbers_from n project (map bare_of known) ≡ numbers_from n project (sents list)
+numbers_held n project dictionary list known are = numbers_zipped n project dictionary list known (zipped dictionary list known are)
 
 -- ---- one deposit more
 

@@ -59,8 +59,8 @@ use Rattle.reg_tables.specs.Register.{deposit_rows, deposits_in, file_lines, fil
 use Rattle.reg_tables.specs.RegisterLaws.{sents_back}
 use Rattle.reg_tables.specs.Rows.{columns_3, columns_5, dictionary_row, mark_column, rows_under}
 use Rattle.reg_tables.specs.Tables.{meta, register_schema}
-use Rattle.reg_tables.specs.Turns.{read_back}
-use Rattle.reg_tables.proofs.TurnsLaws.{unmarked_register}
+use Rattle.reg_tables.specs.ReadBack.{read_back}
+use Rattle.reg_tables.proofs.ReadBackLaws.{unmarked_register}
 use Rattle.reg_tables.specs.Texts.{raise_format, select_meta}
 use Rattle.reg_tables.proofs.FormatLemmas.{asks_meta}
 use Rattle.reg_tables.proofs.OpenLemmas.{found_tables}

@@ -23,7 +23,7 @@ use Rattle.reg_tables.proofs.MarksLaws.{marks_paired, paired, sents_paired}
 use Rattle.reg_tables.specs.Memory.{Agrees, Recalls}
 use Rattle.reg_tables.specs.Register.{HoldsSent, IsRegister, deposit_rows, deposits_in, mark_rows, mark_table, marks_of}
 use Rattle.reg_tables.specs.RegisterLaws.{rows-length}
-use Rattle.reg_tables.specs.Turns.{read_back}
+use Rattle.reg_tables.specs.ReadBack.{read_back}
 use Rattle.reg_tables.specs.Rows.{deposit_table}
 use Rattle.reg_tables.proofs.ExamineLemmas.{one_format_in, register_meta}
 use Rattle.reg_tables.proofs.RepeatsLemmas.{digested_held}

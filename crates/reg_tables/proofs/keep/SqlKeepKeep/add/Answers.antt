@@ -14,7 +14,7 @@ use Rattle.reg_tables.specs.Memory.{Agrees, IsComing}
 use Rattle.reg_tables.specs.Register.{KeepsRegister, deposits_in}
 use Rattle.reg_tables.proofs.RegisterLaws.{IsReady}
 use Rattle.reg_tables.specs.KeepLaws.{ChangesOf, PutsOf}
-use Rattle.reg_tables.proofs.KeepLaws.{HoldsNext, Turns, counted_at, crash_at, idle_at, keeps_same, next_at, put_turns}
+use Rattle.reg_tables.proofs.KeepLaws.{HoldsNext, BecomesNext, counted_at, crash_at, idle_at, keeps_same, next_at, put_next}
 use Rattle.reg_tables.proofs.KeepLaws.{schema_at, settled_of, whole_next}
 use Rattle.reg_tables.proofs.AddsLemmas.{opened_at}
 use Rattle.reg_tables.proofs.keep.SqlKeepKeep.add.Given.{Over}
@@ -70,14 +70,14 @@ next g c = held g c ++ unmarked (added g c) ∷ []
 abbrev Change : (g : Over) → goal.After-push g → Database → Database → Type 0
 Change g c = AddsFile (length c.args.self.now.memory.known.items + 1) (added g c) (kept_rows c.args.checked.now.groups) c.args.checked.now.graph.steps
 
-turns : (g : Over) (c : goal.After-push g) → HasCleanDisk (state g.S.Store c.add_checked-added.new.conn)
-    → Turns (state g.S.Store c.args.self.now.connection) c.args.self.now.dictionary (length c.args.self.now.memory.known.items) (Change g c) (next g c)
-turns g c clean =
+becomes : (g : Over) (c : goal.After-push g) → HasCleanDisk (state g.S.Store c.add_checked-added.new.conn)
+    → BecomesNext (state g.S.Store c.args.self.now.connection) c.args.self.now.dictionary (length c.args.self.now.memory.known.items) (Change g c) (next g c)
+becomes g c clean =
     let first = clean_before (state g.S.Store c.args.self.now.connection) (state g.S.Store c.add_checked-added.new.conn) c.add_checked-added.ensures.crash clean in
     let low : length c.args.self.now.memory.known.items < 999999 = omega (arith, c.count-count.ensures) in
     let fit : IsFileOf c.args.self.now.dictionary (added g c) c.args.checked.now = record { given = c.requires.dictionary; bytes = refl; clean = c.bytes.ensures.clean; short = c.requires.short } in
     let ready : IsReady c.args.self.now.dictionary (sents (held g c)) (added g c) c.args.checked.now = record { its = fit; named = c.add_checked-added.ensures.fit; fresh = c.requires.fresh first } in
-    put_turns {old = state g.S.Store c.args.self.now.connection} (added g c) c.args.checked.now low ready
+    put_next {old = state g.S.Store c.args.self.now.connection} (added g c) c.args.checked.now low ready
 
 crash : (g : Over) (c : goal.After-push g) → Survives (state g.S.Store c.args.self.now.connection) (state g.S.Store c.add_checked-added.new.conn) (ChangesOf (Change g c) (state g.S.Store c.args.self.now.connection))
 crash g c =
@@ -94,7 +94,7 @@ more g c clean =
     let new = state g.S.Store c.add_checked-added.new.conn in
     let first = clean_before old new c.add_checked-added.ensures.crash clean in
     let put = subst (λ n. AddsFile (n + 1) (added g c) (kept_rows c.args.checked.now.groups) c.args.checked.now.graph.steps old.now new.now) c.count-count.ensures (c.in-Ok-added.ensures.put clean).change in
-    next_at {old = old} {new = new} (Change g c) (next g c) (keep.kept c.requires.working first) (turns g c clean) put (c.in-Ok-added.ensures.put clean).sound (c.in-Ok-added.ensures.settled clean) (c.in-Ok-added.ensures.open clean refl)
+    next_at {old = old} {new = new} (Change g c) (next g c) (keep.kept c.requires.working first) (becomes g c clean) put (c.in-Ok-added.ensures.put clean).sound (c.in-Ok-added.ensures.settled clean) (c.in-Ok-added.ensures.open clean refl)
 
 -- it counts one more
 counts : (g : Over) (c : goal.After-push g) → HasCleanDisk (state g.S.Store c.add_checked-added.new.conn) → length (next g c) ≡ length c.args.self.now.memory.known.items + 1
@@ -137,8 +137,8 @@ returns-in-Ok-added g c =
         failing = c.requires.working;
         added = λ clean. (more g base clean).list;
         refused = λ clean well. tt;
-        crash = λ clean. crash_at {old = old} {new = new} (Change g base) (next g base) (keep.kept c.requires.working (before clean)) (turns g base clean) (crash g base) clean;
-        whole = λ clean. whole_next {old = old} {new = new} (Change g base) (next g base) (keep.kept c.requires.working (before clean)) (turns g base clean) (crash g base) clean;
+        crash = λ clean. crash_at {old = old} {new = new} (Change g base) (next g base) (keep.kept c.requires.working (before clean)) (becomes g base clean) (crash g base) clean;
+        whole = λ clean. whole_next {old = old} {new = new} (Change g base) (next g base) (keep.kept c.requires.working (before clean)) (becomes g base clean) (crash g base) clean;
       };
     }
 
@@ -155,7 +155,7 @@ returns-in-Err-clause-leaves g c =
     let before = λ (clean : HasCleanDisk new). clean_before old new c.add_checked-added.ensures.crash clean in
     let fit : IsFileOf keep.dictionary d file = record { given = c.requires.dictionary; bytes = refl; clean = c.bytes.ensures.clean; short = c.requires.short } in
     let ready = λ (clean : HasCleanDisk new). (let is : IsReady keep.dictionary (sents list) d file = record { its = fit; named = c.add_checked-added.ensures.fit; fresh = c.requires.fresh (before clean) } in is) in
-    let turns = λ (clean : HasCleanDisk new). put_turns {old = old} d file low (ready clean) in
+    let becomes = λ (clean : HasCleanDisk new). put_next {old = old} d file low (ready clean) in
     let Change = AddsFile (count + 1) d (kept_rows file.groups) file.graph.steps in
     let crash = subst (λ n. Survives old new (PutsOf old (n + 1) d (kept_rows file.groups) file.graph.steps)) c.count-count.ensures c.add_checked-added.ensures.crash in
     record {
@@ -165,8 +165,8 @@ returns-in-Err-clause-leaves g c =
       failing = c.is_store_error-self.ensures;
       added = λ clean. tt;
       refused = λ clean well. ap (λ (db : Database). deposits_in db.trees) (c.in-Err.ensures.undone clean well).1;
-      crash = λ clean. crash_at {old = old} {new = new} Change (list ++ unmarked d ∷ []) (keep.kept c.requires.working (before clean)) (turns clean) crash clean;
-      whole = λ clean. whole_next {old = old} {new = new} Change (list ++ unmarked d ∷ []) (keep.kept c.requires.working (before clean)) (turns clean) crash clean;
+      crash = λ clean. crash_at {old = old} {new = new} Change (list ++ unmarked d ∷ []) (keep.kept c.requires.working (before clean)) (becomes clean) crash clean;
+      whole = λ clean. whole_next {old = old} {new = new} Change (list ++ unmarked d ∷ []) (keep.kept c.requires.working (before clean)) (becomes clean) crash clean;
     }
 
 pub returns-then-count-ge-MOST-clause-full : goal.returns-then-count-ge-MOST-clause-full

@@ -4,7 +4,7 @@ use Rattle.reg_tables.specs.Digests.{AreBelow, digest_of, numbers_under}
 use Rattle.reg_tables.proofs.QuietLaws.{clean_before}
 use Rattle.reg_tables.proofs.KeepLaws.{counted_at, idle_at, keeps_quiet}
 use Rattle.reg_tables.proofs.MemoryLemmas.{agrees_still}
-use Rattle.reg_tables.proofs.RepeatsLemmas.{repeat_told}
+use Rattle.reg_tables.proofs.RepeatsLemmas.{repeat_found}
 use Rattle.reg_tables.proofs.ReadsLemmas.{reads_still}
 use Rattle.reg_tables.proofs.keep.SqlKeepKeep.find.Goals as goal
 
@@ -34,6 +34,6 @@ returns-clause-found g c clean =
     let kept = keep.kept c.requires.working first in
     let agrees = keep.agrees c.requires.working first in
     let own : c.numbers_of-numbers.result.now ≡ numbers_under keep.memory.digests (digest_of c.args.firm.now c.args.project.now c.args.bytes.now) = c.numbers_of-numbers.ensures ∙ ap (numbers_under keep.memory.digests) c.digest_of-digest.ensures in
-    repeat_told {s = old} c.args.firm.now c.args.project.now c.args.bytes.now keep.memory.digests c.numbers_of-numbers.result.now c.read_equal-found.result kept own
+    repeat_found {s = old} c.args.firm.now c.args.project.now c.args.bytes.now keep.memory.digests c.numbers_of-numbers.result.now c.read_equal-found.result kept own
     (subst (λ n. AreBelow keep.memory.digests (n + 1)) (sym (counted_at {s = old} kept)) agrees.below) agrees.digests
     (c.read_equal-found.ensures.equal clean) c.read_equal-found.ensures.among (c.read_equal-found.ensures.none clean)

@@ -5,7 +5,7 @@ use Rattle.sqlite.specs.Held.{state}
 use Rattle.reg_store.specs.Deposit.{Deposit, marked}
 use Rattle.reg_store.specs.Keep.{is_store}
 use Rattle.reg_tables.specs.Inserts.{AddsMark}
-use Rattle.reg_tables.proofs.KeepLaws.{HoldsNext, Turns, counted_at, crash_at, keeps_same, mark_turns, next_at}
+use Rattle.reg_tables.proofs.KeepLaws.{HoldsNext, BecomesNext, counted_at, crash_at, keeps_same, mark_next, next_at}
 use Rattle.reg_tables.proofs.KeepLaws.{schema_at, settled_of, whole_next}
 use Rattle.reg_tables.proofs.MarksLaws.{length_marked}
 use Rattle.reg_tables.specs.Memory.{Agrees}
@@ -46,13 +46,13 @@ invariant_of-self-in-Err-clause-agrees g c works clean =
 abbrev held : (g : Over) → After-mark g → List Deposit
 held g c = deposits_in (state g.S.Store c.args.self.now.connection).committed.trees
 
-turns : (g : Over) (c : After-mark g) → HasCleanDisk (state g.S.Store c.change_tables.new.conn)
-    → Turns (state g.S.Store c.args.self.now.connection) c.args.self.now.dictionary (length c.args.self.now.memory.known.items) (AddsMark c.args.n) (marked c.args.n (held g c))
-turns g c clean =
+becomes : (g : Over) (c : After-mark g) → HasCleanDisk (state g.S.Store c.change_tables.new.conn)
+    → BecomesNext (state g.S.Store c.args.self.now.connection) c.args.self.now.dictionary (length c.args.self.now.memory.known.items) (AddsMark c.args.n) (marked c.args.n (held g c))
+becomes g c clean =
     let old = state g.S.Store c.args.self.now.connection in
     let first = clean_before old (state g.S.Store c.change_tables.new.conn) c.change_tables.ensures.crash clean in
     let number = c.requires.number first in
-    mark_turns {old = old} c.args.n number.0 number.1 (c.requires.unmarked first)
+    mark_next {old = old} c.args.n number.0 number.1 (c.requires.unmarked first)
 
 -- the store that held the list holds it with the mark
 more : (g : Over) (c : After-mark g) → HasCleanDisk (state g.S.Store c.change_tables.new.conn)
@@ -63,7 +63,7 @@ more g c clean =
     let new = state g.S.Store c.change_tables.new.conn in
     let first = clean_before old new c.change_tables.ensures.crash clean in
     let put = c.in-Ok.ensures.made clean in
-    next_at {old = old} {new = new} (AddsMark c.args.n) (marked c.args.n (held g c)) (keep.kept c.requires.working first) (turns g c clean) put.change put.sound (c.in-Ok.ensures.settled clean) (c.in-Ok.ensures.open clean refl)
+    next_at {old = old} {new = new} (AddsMark c.args.n) (marked c.args.n (held g c)) (keep.kept c.requires.working first) (becomes g c clean) put.change put.sound (c.in-Ok.ensures.settled clean) (c.in-Ok.ensures.open clean refl)
 
 pub invariant_of-self-clause-kept : goal.invariant_of-self-clause-kept
 invariant_of-self-clause-kept g c works clean =
@@ -94,8 +94,8 @@ returns-in-Ok-clause-leaves g c =
       failing = c.requires.working;
       added = λ clean. (more g c.before clean).list;
       refused = λ clean well. tt;
-      crash = λ clean. crash_at {old = old} {new = new} (AddsMark c.args.n) next (keep.kept c.requires.working (before clean)) (turns g c.before clean) c.change_tables.ensures.crash clean;
-      whole = λ clean. whole_next {old = old} {new = new} (AddsMark c.args.n) next (keep.kept c.requires.working (before clean)) (turns g c.before clean) c.change_tables.ensures.crash clean;
+      crash = λ clean. crash_at {old = old} {new = new} (AddsMark c.args.n) next (keep.kept c.requires.working (before clean)) (becomes g c.before clean) c.change_tables.ensures.crash clean;
+      whole = λ clean. whole_next {old = old} {new = new} (AddsMark c.args.n) next (keep.kept c.requires.working (before clean)) (becomes g c.before clean) c.change_tables.ensures.crash clean;
     }
 
 pub returns-in-Err-clause-leaves : goal.returns-in-Err-clause-leaves
@@ -105,7 +105,7 @@ returns-in-Err-clause-leaves g c =
     let new = state g.S.Store c.change_tables.new.conn in
     let next = marked c.args.n (deposits_in old.committed.trees) in
     let before = λ (clean : HasCleanDisk new). clean_before old new c.change_tables.ensures.crash clean in
-    let turns = λ (clean : HasCleanDisk new). mark_turns {old = old} {dictionary = keep.dictionary} {count = length keep.memory.known.items} c.args.n (c.requires.number (before clean)).0 (c.requires.number (before clean)).1 (c.requires.unmarked (before clean)) in
+    let becomes = λ (clean : HasCleanDisk new). mark_next {old = old} {dictionary = keep.dictionary} {count = length keep.memory.known.items} c.args.n (c.requires.number (before clean)).0 (c.requires.number (before clean)).1 (c.requires.unmarked (before clean)) in
     record {
       sound = before;
       same_dictionary = refl;
@@ -113,6 +113,6 @@ returns-in-Err-clause-leaves g c =
       failing = c.is_store_error-self.ensures;
       added = λ clean. tt;
       refused = λ clean well. ap (λ (db : Database). deposits_in db.trees) (c.in-Err.ensures.undone clean well).1;
-      crash = λ clean. crash_at {old = old} {new = new} (AddsMark c.args.n) next (keep.kept c.requires.working (before clean)) (turns clean) c.change_tables.ensures.crash clean;
-      whole = λ clean. whole_next {old = old} {new = new} (AddsMark c.args.n) next (keep.kept c.requires.working (before clean)) (turns clean) c.change_tables.ensures.crash clean;
+      crash = λ clean. crash_at {old = old} {new = new} (AddsMark c.args.n) next (keep.kept c.requires.working (before clean)) (becomes clean) c.change_tables.ensures.crash clean;
+      whole = λ clean. whole_next {old = old} {new = new} (AddsMark c.args.n) next (keep.kept c.requires.working (before clean)) (becomes clean) c.change_tables.ensures.crash clean;
     }
