@@ -2,8 +2,8 @@
 use Rattle.reg_cli.specs.declared.fault.Fault.TheVariants as faults
 use Rattle.reg_cli.specs.declared.failure.Failure.{Failure}
 use Rattle.reg_cli.specs.declared.failure.Failure.TheVariants.{Plain, Version}
-use Rattle.reg_tables.specs.declared.adopting.AdoptError.{AdoptError}
-use Rattle.reg_tables.specs.declared.adopting.AdoptError.TheVariants as adopts
+use Rattle.reg_tables.specs.declared.error.AdoptError.{AdoptError}
+use Rattle.reg_tables.specs.declared.error.AdoptError.TheVariants as adopts
 
 -- what is refused for it
 abbrev pub adopting : AdoptError → Failure

@@ -7,11 +7,11 @@ use Rattle.std.proofs.lemmas.Bool.{eq-eqb}
 use Rattle.std.proofs.lemmas.List.{map-append, length-take-le, take_all, take_more_set}
 use Rattle.std.specs.List.{AllByRecursion, flat_map}
 use Rattle.std.specs.List.Sorted.{IsPermutation}
-use Rattle.std.proofs.lemmas.List.Sorted.{IsPermutation-refl, IsPermutation-trans, IsPermutation-append_left}
+use Rattle.std.proofs.lemmas.List.Sorted.{IsPermutation-trans, IsPermutation-append_left}
 use Rattle.sqlite.specs.Order.{Row}
 use Rattle.sqlite.specs.Table.{Table}
 use Rattle.sqlite.specs.Tree.{Trees}
-use Rattle.sqlite.specs.Effect.{Database, IsDatabase}
+use Rattle.sqlite.specs.Effect.{Database}
 use Rattle.std.proofs.Math.ListN.{set}
 use Rattle.std.proofs.lemmas.Grind.{flat_map-append}
 use Rattle.sqlite.specs.Values.{bound}
@@ -24,14 +24,11 @@ use Rattle.reg_store.specs.declared.keep.KeptRow.{KeptRow}
 use Rattle.reg_tables.specs.Tables.{register_schema}
 use Rattle.reg_store.specs.Sent.{Sent}
 use Rattle.reg_tables.specs.Rows.{columns_5, columns_3, given_deposit, joined, line_row, line_rows, step_row, step_rows, IsMore}
-use Rattle.reg_tables.specs.Inserts.{Adds, AddsDeposit, AddsLines, AddsSteps, AddsFile}
+use Rattle.reg_tables.specs.Inserts.{AddsTo, AddsDeposit, AddsLines, AddsSteps, AddsFile}
 use Rattle.reg_tables.specs.Commits.{Makes}
 use Rattle.reg_tables.specs.Inside.{Inside}
 use Rattle.reg_tables.specs.KeepLaws.{ChangesOf}
 use Rattle.reg_tables.specs.Register.{KeepsRegister}
-
-pub more_none : (old : List Row) → IsMore old [] old
-more_none old = subst (λ rows. IsPermutation rows old) (sym (append-nil old)) (IsPermutation-refl old)
 
 pub more_then : (old xs mid ys new : List Row) → IsMore old xs mid → IsMore mid ys new → IsMore old (xs ++ ys) new
 more_then old xs mid ys new a b = subst (λ rows. IsPermutation rows new) (append_assoc old xs ys) (IsPermutation-trans _ _ _ (IsPermutation-append_left ys _ _ a) b)
@@ -40,23 +37,11 @@ more_then old xs mid ys new a b = subst (λ rows. IsPermutation rows new) (appen
 abbrev AsBefore : ℕ → Trees → Trees → List Table → Type 0
 AsBefore tree old new = AllByRecursion (λ t. t.tree ≢ tree → new t.tree ≡ old t.tree)
 
-none_changed : (tree : ℕ) (trees : Trees) (tables : List Table) → AsBefore tree trees trees tables
-none_changed tree trees [] = tt
-none_changed tree trees (t ∷ tables) = ((λ _. refl), none_changed tree trees tables)
-
 still_as_before : (tree : ℕ) (a b c : Trees) (tables : List Table) → AsBefore tree a b tables → AsBefore tree b c tables → AsBefore tree a c tables
 still_as_before tree a b c [] one two = tt
 still_as_before tree a b c (t ∷ tables) one two = ((λ apart. two.0 apart ∙ one.0 apart), still_as_before tree a b c tables one.1 two.1)
 
-pub adds_none : (tree : ℕ) (see : Row → Row) (s : State) → s.now.schema ≡ register_schema → IsDatabase s.now → IsTrue s.in_transaction → IsTrue s.is_open → Inside (Adds tree see []) s s
-adds_none tree see s has sound inside is_open = record {
-  change = record { schema = has; sound = sound; rows = more_none _; others = none_changed tree s.now.trees register_schema.tables };
-  goes_on = inside;
-  is_open = is_open;
-  committed = refl;
-}
-
-pub adds_then : (tree : ℕ) (see : Row → Row) (xs ys : List Row) (a b c : State) → Inside (Adds tree see xs) a b → Inside (Adds tree see ys) b c → Inside (Adds tree see (xs ++ ys)) a c
+pub adds_then : (tree : ℕ) (see : Row → Row) (xs ys : List Row) (a b c : State) → Inside (AddsTo tree see xs) a b → Inside (AddsTo tree see ys) b c → Inside (AddsTo tree see (xs ++ ys)) a c
 adds_then tree see xs ys a b c one two = record {
   change = record {
     schema = two.change.schema;

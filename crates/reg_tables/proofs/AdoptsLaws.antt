@@ -14,7 +14,7 @@ use Rattle.sqlite.specs.State.{State, Shown}
 use Rattle.sqlite_value.proofs.OrderLemmas.{value_cmp_total}
 use Rattle.sqlite_keyed.proofs.ListLemmas.{filter-map, filter-filter, IsPermutation-filter}
 use Rattle.reg_store.specs.Sent.{Sent}
-use Rattle.reg_tables.specs.Tables.{HasTables, number_of, schema_of}
+use Rattle.reg_tables.specs.Tables.{HasTables, format_number, schema_of}
 use Rattle.reg_tables.specs.Texts.{select_all_numbers, select_deposit, select_meta}
 use Rattle.reg_tables.proofs.MeaningLaws.{all_numbers, all_numbers_read, by_number, deposit_read, all_meta}
 use Rattle.reg_tables.proofs.MeaningLaws.{all_meta_read}
@@ -35,7 +35,7 @@ use Rattle.reg_tables.proofs.AnswersLaws.{passes, shown_of, answers}
 use Rattle.reg_tables.proofs.ReadsLaws.{and_true, equal_order, eq_int}
 use Rattle.reg_tables.proofs.ForeignLaws.{keyed_lines, keyed_steps, no_lines, no_steps}
 use Rattle.sqlite_catalog.specs.Listing.{IsSound}
-use Rattle.reg_tables.specs.declared.format.Format.{Format}
+use Rattle.reg_tables.specs.declared.schema.format.Format.{Format}
 use Rattle.reg_tables.specs.Adopts.{id_of, number_rows}
 
 -- ---- what the queries show_number
@@ -162,7 +162,7 @@ pub record IsRead (format : Format) (db : Database) (dictionary : Entries) (list
   pub text : List ℕ
   pub short : length text ≤ READABLE
   pub reads : IsDictionary text dictionary
-  pub meta : IsPermutation (meta_columns (number_of format) text) (map columns_3 (db.trees 0))
+  pub meta : IsPermutation (meta_columns (format_number format) text) (map columns_3 (db.trees 0))
   pub numbers : IsPermutation (number_rows 1 (length list)) (map id_of (deposit_table db.trees))
   pub deposits : (k : ℕ) (d : Sent) → slice_get list k ≡ Some d
       → filter (has_number (1 + k)) (deposit_table db.trees) ≡ given_deposit (1 + k) d ∷ []

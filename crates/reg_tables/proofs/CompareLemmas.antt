@@ -38,11 +38,11 @@ compares_next mine rows row at is low here held was = record {
   no = λ e. absurd (let clash : true ≡ false = sym held ∙ e in cc);
 }
 
-behind : (rows more : List Row) (row : Row) (k : ℕ) → k ≡ length rows → get_or (rows ++ row ∷ more) k [] ≡ row
-behind [] more row zero e = refl
-behind [] more row (suc k) e = absurd (omega (arith, e))
-behind (x ∷ rows) more row zero e = absurd (omega (arith, e))
-behind (x ∷ rows) more row (suc k) e = behind rows more row k (omega (arith, e))
+end_of_rows : (rows more : List Row) (row : Row) (k : ℕ) → k ≡ length rows → get_or (rows ++ row ∷ more) k [] ≡ row
+end_of_rows [] more row zero e = refl
+end_of_rows [] more row (suc k) e = absurd (omega (arith, e))
+end_of_rows (x ∷ rows) more row zero e = absurd (omega (arith, e))
+end_of_rows (x ∷ rows) more row (suc k) e = end_of_rows rows more row k (omega (arith, e))
 
 longer : (rows more : List Row) (row : Row) → length rows < length (rows ++ row ∷ more)
 longer [] more row = omega arith
@@ -56,26 +56,26 @@ compares_other mine rows row at is other held was = record {
       (let first = was.yes held in
       let long : at ≡ length rows = sym (ap length first.1 ∙ length-take-le at mine first.0) in
       let all : rows ++ row ∷ more ≡ mine = sym (one_more rows more row) ∙ whole in
-      other (omega (arith, long, longer rows more row, ap length all)) (ap (λ xs. get_or xs at []) (sym all) ∙ behind rows more row at long));
+      other (omega (arith, long, longer rows more row, ap length all)) (ap (λ xs. get_or xs at []) (sym all) ∙ end_of_rows rows more row at long));
 }
 
 -- All came, and no more, where the count is that of the list.
-told : (mine rows : List Row) (at n : ℕ) (is : Bool) → n ≡ length mine → Compares mine at is rows → (IsTrue (is && (at == n)) → rows ≡ mine) × (rows ≡ mine → IsTrue (is && (at == n)))
-told mine rows at n false long it = (λ e. absurd cc, λ same. absurd (it.no refl [] (append-nil rows ∙ same)))
-told mine rows at n true long it =
+all_compared : (mine rows : List Row) (at n : ℕ) (is : Bool) → n ≡ length mine → Compares mine at is rows → (IsTrue (is && (at == n)) → rows ≡ mine) × (rows ≡ mine → IsTrue (is && (at == n)))
+all_compared mine rows at n false long it = (λ e. absurd cc, λ same. absurd (it.no refl [] (append-nil rows ∙ same)))
+all_compared mine rows at n true long it =
     let first = it.yes refl in (
       λ e. (let end : at ≡ n = eqb-true at n e in first.1 ∙ take_all at mine (omega (arith, end, long))),
       λ same. eq-eqb at n (sym (length-take-le at mine first.0) ∙ sym (ap length first.1) ∙ ap length same ∙ sym long),
     )
 
-pub lines_told : (old new : State) (n : ℕ) (lines : List KeptRow) (at : ℕ) (is result : Bool) → HasTables old.now.schema
+pub lines_compared : (old new : State) (n : ℕ) (lines : List KeptRow) (at : ℕ) (is result : Bool) → HasTables old.now.schema
     → (rows : List Row) × Shown select_lines (Int (pos n) ∷ []) old new rows × Compares (placed_rows 0 lines) at is rows → result ≡ (is && (at == length lines)) → Tests result (HoldsLines old.now n lines)
-lines_told old new n lines at is result has shown same =
-    let test = told (placed_rows 0 lines) shown.0 at (length lines) is (sym (places_long 0 lines)) shown.2 in
+lines_compared old new n lines at is result has shown same =
+    let test = all_compared (placed_rows 0 lines) shown.0 at (length lines) is (sym (places_long 0 lines)) shown.2 in
     subst (λ b. Tests b (HoldsLines old.now n lines)) (sym same) (tests_rows _ shown.0 (placed_rows 0 lines) _ test (holds_lines old new n shown.0 has shown.1) (λ are. reads_lines old new n lines shown.0 has are shown.1))
 
-pub steps_told : (old new : State) (n : ℕ) (steps : List (ℕ × ℕ)) (at : ℕ) (is result : Bool) → HasTables old.now.schema → IsAscending IsBefore steps
+pub steps_compared : (old new : State) (n : ℕ) (steps : List (ℕ × ℕ)) (at : ℕ) (is result : Bool) → HasTables old.now.schema → IsAscending IsBefore steps
     → (rows : List Row) × Shown select_steps (Int (pos n) ∷ []) old new rows × Compares (map step_pair steps) at is rows → result ≡ (is && (at == length steps)) → Tests result (HoldsSteps old.now n steps)
-steps_told old new n steps at is result has up shown same =
-    let test = told (map step_pair steps) shown.0 at (length steps) is (sym (length-map steps step_pair)) shown.2 in
+steps_compared old new n steps at is result has up shown same =
+    let test = all_compared (map step_pair steps) shown.0 at (length steps) is (sym (length-map steps step_pair)) shown.2 in
     subst (λ b. Tests b (HoldsSteps old.now n steps)) (sym same) (tests_rows _ shown.0 (map step_pair steps) _ test (holds_steps old new n shown.0 has shown.1) (λ are. reads_steps old new n steps shown.0 has up are shown.1))

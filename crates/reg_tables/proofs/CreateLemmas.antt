@@ -5,7 +5,7 @@ use Rattle.sqlite.specs.Effect.{Database}
 use Rattle.ags_dict.specs.Entries.{Entries}
 use Rattle.ags_dict.specs.Reading.{IsDictionary}
 use Rattle.reg_tables.specs.Register.{deposits_in, IsRegister, KeepsRegister, tables}
-use Rattle.reg_tables.specs.Turns.{read_back}
+use Rattle.reg_tables.specs.ReadBack.{read_back}
 use Rattle.sqlite.specs.State.{State, Survives}
 use Rattle.sqlite.proofs.StateLemmas.{survives_weaker}
 use Rattle.ags_rows.specs.declared.TheConstants.{READABLE}

@@ -7,7 +7,6 @@ use Rattle.std.specs.Prelude.{ℤ, pos, codes, Contains}
 use Rattle.std.proofs.lemmas.Bool.{cases_lt}
 use Rattle.std.proofs.lemmas.List.{length-map}
 use Rattle.std.proofs.lemmas.List.Sorted.{IsPermutation-sym, IsPermutation-map, Contains-permutation, length_permutation}
-use Rattle.sqlite.specs.declared.types.Value.TheVariants.{Int, Text as Words, Blob as Bytes}
 use Rattle.sqlite.specs.Order.{Row, bytes, column}
 use Rattle.sqlite.proofs.Callers.{one_permutation}
 use Rattle.sqlite.specs.Effect.{Database, IsDatabase}
@@ -22,16 +21,16 @@ use Rattle.ags_dict.specs.Entries.{Entries}
 use Rattle.ags_check.specs.Findings.{CheckedFile, Findings}
 use Rattle.ags_check.proofs.Lemmas.{one_clean_file, one_list}
 use Rattle.reg_store.specs.declared.keep.KeepError.{KeepError}
-use Rattle.reg_tables.specs.declared.heads.DigestedHead.{DigestedHead}
-use Rattle.reg_tables.specs.declared.repeats.Digests.{Digests}
+use Rattle.reg_tables.specs.declared.open.head.DigestedHead.{DigestedHead}
+use Rattle.reg_tables.specs.declared.memory.digests.Digests.{Digests}
 use Rattle.reg_store.specs.declared.keep.KeptRow.{KeptRow}
 use Rattle.reg_store.specs.Sent.{Sent, is_repeat}
 use Rattle.reg_store.specs.Fit.{IsFileOf, IsNamed, kept_rows}
 use Rattle.reg_tables.specs.Rows.{columns_3, deposit_table, dictionary_row, format_row, given_deposit}
 use Rattle.reg_store.specs.Deposit.{sents}
-use Rattle.reg_tables.specs.declared.format.Format.{Format}
+use Rattle.reg_tables.specs.declared.schema.format.Format.{Format}
 use Rattle.reg_tables.specs.Found.{AreMetaByName}
-use Rattle.reg_tables.specs.Tables.{HasTables, number_of, schema_of}
+use Rattle.reg_tables.specs.Tables.{HasTables, format_number, schema_of}
 use Rattle.reg_tables.specs.Register.{HoldsSent, deposit_rows, has_number, integer_in, meta_columns}
 use Rattle.reg_tables.specs.RegisterLaws.{rows-length}
 use Rattle.reg_tables.specs.Digests.{AreBelow, HasEqual, HasNoEqual, HoldsDigests, IsFirst, IsNew, is_among, numbers_under, own_digest}
@@ -39,9 +38,9 @@ use Rattle.reg_tables.specs.Heads.{IsDigestedAt, head_of}
 use Rattle.reg_tables.specs.Methods.{HoldsLines, HoldsSteps}
 use Rattle.reg_tables.proofs.MethodsLaws.{same_deposit}
 use Rattle.reg_tables.proofs.RepeatsLemmas.{false_if, same_digest}
-use Rattle.reg_tables.specs.declared.adopting.AdoptError.{AdoptError}
-use Rattle.reg_tables.specs.declared.adopting.AdoptError.TheVariants.{NotRegister, Version, Store, NoMemory}
-use Rattle.reg_tables.specs.Formats.{HasFormat, IsFormatRow}
+use Rattle.reg_tables.specs.declared.error.AdoptError.{AdoptError}
+use Rattle.reg_tables.specs.declared.error.AdoptError.TheVariants.{NotRegister, Version, Store, NoMemory}
+use Rattle.reg_tables.specs.Formats.{IsFormatRow}
 use Rattle.reg_tables.specs.Adoption.{Adopts, CountsDeposits, Examines, HasNoOtherFormat, MetaOf, ReadsMeta}
 use Rattle.reg_tables.proofs.RowsLemmas.{numbers_long}
 use Rattle.reg_tables.specs.Adopts.{id_of, number_rows}
@@ -135,7 +134,7 @@ head_shown (Ok (Some one)) db n kept rows found read its = λ d row.
     let same : kept ≡ d = same_deposit n kept d rows read alone in
     (its.0 ∙ ap head_of same, its.1 ∙ ap own_digest same))
 
--- what is found under the digest tells whether a deposit is new
+-- what is found under the digest shows whether a deposit is new
 pub new_tests : (db : Database) (numbers : List ℕ) (d : Sent) → HasNoEqual db numbers d.firm d.project d.bytes → Tests true (IsNew db numbers d)
 new_tests db numbers d none = record { yes = λ e. ∣ none ∣₁; no = λ e. absurd cc }
 
@@ -229,12 +228,12 @@ meta_of number (Err NotRegister) db rows schema all found reads =
 meta_of number (Err Store) db rows schema all found reads = tt
 meta_of number (Err NoMemory) db rows schema all found reads = tt
 
-pub register_meta : (format : Format) (db : Database) (dictionary : Entries) (list : List Sent) → HoldsSent format db dictionary list → HasMeta (number_of format) db dictionary
+pub register_meta : (format : Format) (db : Database) (dictionary : Entries) (list : List Sent) → HoldsSent format db dictionary list → HasMeta (format_number format) db dictionary
 register_meta format db dictionary list r = record { text = r.text; short = r.short; reads = r.reads; meta = r.meta }
 
 -- ---- a register is found
 
-pub finds_whole : (format : Format) (db : Database) (dictionary : Entries) (count : ℕ) → db.schema ≡ schema_of format → IsDatabase db → HasMeta (number_of format) db dictionary → Counts db (Some count) → ∥ AreWhole db dictionary count ∥₁
+pub finds_whole : (format : Format) (db : Database) (dictionary : Entries) (count : ℕ) → db.schema ≡ schema_of format → IsDatabase db → HasMeta (format_number format) db dictionary → Counts db (Some count) → ∥ AreWhole db dictionary count ∥₁
     → CountsDeposits format db dictionary (Some count)
 finds_whole format db dictionary count schema sound meta counts all = ∥∥₁_map all (λ whole. adopts_whole format db dictionary count schema sound meta counts whole)
 
@@ -246,14 +245,14 @@ finds_none format db dictionary count counts none list r =
     let same : length list ≡ count = sym listed ∙ rows in
     none (subst (AreWhole db dictionary) same (whole_at {format = format} db dictionary list r))
 
-pub meta_examines : (format : Format) (r : Result Entries AdoptError) (db : Database) (e : AdoptError) → r ≡ Err e → MetaOf (number_of format) db r → Examines format db (Err e)
+pub meta_examines : (format : Format) (r : Result Entries AdoptError) (db : Database) (e : AdoptError) → r ≡ Err e → MetaOf (format_number format) db r → Examines format db (Err e)
 meta_examines format (Ok dictionary) db e same meta = absurd cc
-meta_examines format (Err x) db e same meta = go e (subst (λ (y : AdoptError). MetaOf (number_of format) db (Err y)) is meta)
+meta_examines format (Err x) db e same meta = go e (subst (λ (y : AdoptError). MetaOf (format_number format) db (Err y)) is meta)
   where
     is : x ≡ e
     is = cc
 
-    go : (y : AdoptError) → MetaOf (number_of format) db (Err y) → Examines format db (Err y)
+    go : (y : AdoptError) → MetaOf (format_number format) db (Err y) → Examines format db (Err y)
     go (Version n) m = m
     go NotRegister m = (m.0, λ dictionary list r. m.1 dictionary (register_meta format db dictionary list r))
     go Store m = tt
@@ -285,10 +284,10 @@ one_meta number db a b x y =
     let text : x.text ≡ y.text = its_text number x.text y.text (two_rows number y.text _ there) in
     one_dictionary y.text a b (subst (λ (t : List ℕ). IsDictionary t a) text x.reads) y.reads
 
-pub none_examines : (format : Format) (db : Database) (dictionary : Entries) → HasMeta (number_of format) db dictionary → CountsDeposits format db dictionary None → Examines format db (Err NotRegister)
+pub none_examines : (format : Format) (db : Database) (dictionary : Entries) → HasMeta (format_number format) db dictionary → CountsDeposits format db dictionary None → Examines format db (Err NotRegister)
 none_examines format db dictionary meta none = (
-  one_format_in (number_of format) db dictionary meta,
-  λ other list r. none list (subst (λ (d : Entries). HoldsSent format db d list) (one_meta (number_of format) db other dictionary (register_meta format db other list r) meta) r),
+  one_format_in (format_number format) db dictionary meta,
+  λ other list r. none list (subst (λ (d : Entries). HoldsSent format db d list) (one_meta (format_number format) db other dictionary (register_meta format db other list r) meta) r),
 )
 
 -- ---- what was sent, and the marks

@@ -15,8 +15,8 @@ use Rattle.sqlite_schema.specs.Rules.{equal, passes}
 use Rattle.sqlite_schema.specs.Names.{same_name}
 use Rattle.sqlite_value.specs.Keys.{first_key, joined}
 use Rattle.sqlite_value.proofs.OrderLemmas.{value_cmp_total}
-use Rattle.reg_tables.specs.declared.format.Format.{Format}
-use Rattle.reg_tables.specs.declared.format.Format.TheVariants.{First, Second}
+use Rattle.reg_tables.specs.declared.schema.format.Format.{Format}
+use Rattle.reg_tables.specs.declared.schema.format.Format.TheVariants.{First, Second}
 use Rattle.reg_tables.proofs.ReadsLaws.{equal_order, truth_is}
 use Rattle.reg_tables.specs.Register.{has_number}
 use Rattle.reg_tables.specs.Rows.{columns_3, columns_5, deposit_table, is_of, rows_under}

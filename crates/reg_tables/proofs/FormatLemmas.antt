@@ -15,8 +15,8 @@ use Rattle.sqlite_tied.specs.Compute.{everything}
 use Rattle.sqlite.specs.Listing.{understood, reads_listing}
 use Rattle.sqlite.proofs.StateLemmas.{survives_weaker}
 use Rattle.sqlite.proofs.Callers.{IsPlain, command_of, never_commits, reads_as}
-use Rattle.reg_tables.specs.declared.format.Format.{Format}
-use Rattle.reg_tables.specs.Tables.{HasTables, format_tables, number_of, schema_of}
+use Rattle.reg_tables.specs.declared.schema.format.Format.{Format}
+use Rattle.reg_tables.specs.Tables.{HasTables, format_tables, format_number, schema_of}
 use Rattle.reg_tables.specs.Tables as tables
 use Rattle.reg_tables.specs.Texts.{select_meta}
 use Rattle.reg_tables.proofs.MeaningLaws.{all_meta, plainly}
@@ -24,7 +24,7 @@ use Rattle.reg_tables.proofs.AnswersLaws.{answered, passes, shown_of}
 use Rattle.reg_tables.specs.Rows.{columns_3}
 use Rattle.reg_tables.specs.Formats.{IsFormatRow, StartsWithMeta}
 use Rattle.reg_tables.specs.Quiet.{IsAsBefore}
-use Rattle.reg_tables.specs.declared.adopting.AdoptError.TheVariants.{NotRegister, Version}
+use Rattle.reg_tables.specs.declared.error.AdoptError.TheVariants.{NotRegister, Version}
 use Rattle.reg_tables.specs.Adoption.{Adopts}
 use Rattle.reg_tables.proofs.QueryLemmas.{fails_keeps, shown_same}
 
@@ -89,10 +89,10 @@ module _ (old new : State) (first : StartsWithMeta old.now.schema) where
 pub refused_unstarted : (format : Format) (db : Database) → (StartsWithMeta db.schema → ⊥) → Adopts format db (Err NotRegister)
 refused_unstarted format db none = (λ n has. absurd (none has.0), λ dictionary list r. absurd (none (tables_first db.schema (format_tables format db.schema r.holds.schema))))
 
-pub refused_format : (format : Format) (db : Database) (rows : List Row) (n : ℤ) → StartsWithMeta db.schema → IsPermutation rows (map columns_3 (db.trees 0)) → (n ≢ pos (number_of format)) × ((row : Row) × Contains rows row × IsFormatRow n row)
+pub refused_format : (format : Format) (db : Database) (rows : List Row) (n : ℤ) → StartsWithMeta db.schema → IsPermutation rows (map columns_3 (db.trees 0)) → (n ≢ pos (format_number format)) × ((row : Row) × Contains rows row × IsFormatRow n row)
     → Adopts format db (Err (Version n))
 refused_format format db rows n first all found = (found.0, (first, (found.1.0, Contains-permutation _ _ _ all found.1.1, found.1.2)))
 
-pub refused_tables : (format : Format) (db : Database) (rows : List Row) → db.schema ≢ schema_of format → IsPermutation rows (map columns_3 (db.trees 0)) → ((n : ℤ) (row : Row) → Contains rows row → IsFormatRow n row → n ≡ pos (number_of format))
+pub refused_tables : (format : Format) (db : Database) (rows : List Row) → db.schema ≢ schema_of format → IsPermutation rows (map columns_3 (db.trees 0)) → ((n : ℤ) (row : Row) → Contains rows row → IsFormatRow n row → n ≡ pos (format_number format))
     → Adopts format db (Err NotRegister)
 refused_tables format db rows other all none = (λ n has. none n has.1.0 (Contains-permutation _ _ _ (IsPermutation-sym _ _ all) has.1.1) has.1.2, λ dictionary list r. absurd (other r.holds.schema))

@@ -1,26 +1,16 @@
 -- The heads of a register's deposits, as they are read, grow and are looked up.
-use Rattle.std.proofs.Common.{◌≡◌, ℕ, zero, suc, ◌+◌, ◌-◌, ◌<◌, Bool, true, false, List, [], ◌∷◌, ◌++◌, map, take, length, if◌then◌else◌, Option, Some, None, slice_get, Result, Ok, Err, IfOk, refl, sym, ap, subst, ◌∙◌, arith}
+use Rattle.std.proofs.Common.{◌≡◌, ℕ, zero, suc, ◌+◌, ◌-◌, ◌<◌, List, [], ◌∷◌, ◌++◌, map, take, length, if◌then◌else◌, Some, slice_get, refl, sym, ap, subst, ◌∙◌, arith}
 use Rattle.std.proofs.Math.Logic.{∥∥₁_elim}
-use Rattle.std.proofs.Props.{props}
-use Rattle.std.specs.Str.{bytes_eq}
-use Rattle.std.specs.Option.{option_map}
 use Rattle.std.specs.List.Sorted.{IsPermutation}
 use Rattle.std.proofs.lemmas.List.{map-append}
-use Rattle.std.proofs.lemmas.Option.{slice_get-map}
-use Rattle.ags_dict.specs.Entries.{Entries}
 use Rattle.sqlite.specs.Effect.{Database}
-use Rattle.sqlite.specs.State.{State, HasCleanDisk}
 use Rattle.reg_store.specs.declared.keep.KeptHead.{KeptHead}
-use Rattle.reg_store.specs.declared.keep.KeepError.{KeepError}
-use Rattle.reg_store.specs.Sent.{Sent, numbers_from}
-use Rattle.reg_store.specs.Keep.{IsHeadOf}
+use Rattle.reg_store.specs.Sent.{Sent}
 use Rattle.reg_tables.specs.Rows.{deposit_table}
-use Rattle.reg_tables.specs.Register.{deposit_rows, deposits_in, KeepsRegister}
+use Rattle.reg_tables.specs.Register.{deposit_rows}
 use Rattle.reg_tables.specs.Digests.{IsRowOf}
-use Rattle.reg_tables.specs.Heads.{AreHeads, HoldsHeads, head_of}
+use Rattle.reg_tables.specs.Heads.{AreHeads, head_of}
 use Rattle.reg_tables.proofs.MethodsLaws.{slice_get_in}
-use Rattle.reg_tables.specs.Quiet.{IsStill}
-use Rattle.reg_tables.proofs.QuietLaws.{clean_before}
 use Rattle.reg_tables.proofs.ShowsLaws.{row_of_number}
 
 -- one deposit more, one head more

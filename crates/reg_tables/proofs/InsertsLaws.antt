@@ -38,7 +38,7 @@ use Rattle.reg_tables.proofs.MeaningLaws.{eight_steps_are, eight_steps_plain, fi
 use Rattle.reg_tables.specs.Rows.{columns_5, columns_3, joined, line_row, line_rows, step_row, step_rows, given_deposit}
 use Rattle.reg_tables.specs.Rows.{mark_column, mark_row, meta_rows}
 use Rattle.reg_tables.proofs.PutLaws.{cast_int, IsBlind, AreSeen, seen_blind, all_seen}
-use Rattle.reg_tables.specs.Inserts.{Adds, AddsDeposit, AddsLines, AddsSteps, AddsMark}
+use Rattle.reg_tables.specs.Inserts.{AddsTo, AddsDeposit, AddsLines, AddsSteps, AddsMark}
 
 pub same_value : {B E : Type 0} {a b : B} → ◌≡◌ {A = Result B E} (Ok a) (Ok b) → a ≡ b
 same_value e = cc
@@ -48,7 +48,7 @@ went (inl stopped) = absurd (let e = stopped.2 in cc)
 went (inr on) = on
 
 abbrev pub FillsMeta : List ℕ → Database → Database → Type 0
-FillsMeta dictionary = Adds 0 columns_3 (meta_rows 2 dictionary)
+FillsMeta dictionary = AddsTo 0 columns_3 (meta_rows 2 dictionary)
 
 -- a row's columns after its rowid are the same whatever that is
 columns_5_blind : IsBlind columns_5
@@ -97,7 +97,7 @@ puts : (at : ℕ) (name : List ℕ) (tree : ℕ) (columns : List Column) (alias 
     → (more : List Row)
     → map see (taken_as (simple name tree columns alias key uniques orders references) width terms params) ≡ more
     → (old new : State) (count : ℕ) → old.now.schema ≡ register_schema → Executes sql params old new (Ok count)
-    → Adds tree see more old.now new.now
+    → AddsTo tree see more old.now new.now
 puts at name tree columns alias key uniques orders references here see width sql terms is plain params lone same_seen
     more seen_as old new count has h =
     let table = simple name tree columns alias key uniques orders references in

@@ -19,8 +19,8 @@ use Rattle.reg_tables.proofs.MethodsLaws.{slice_get_in}
 use Rattle.reg_store.specs.Fit.{kept_rows}
 use Rattle.reg_tables.specs.Register.{deposits_in, LeavesBroken, LeavesList, KeepsRegister, IsRegister, tables}
 use Rattle.reg_tables.proofs.RegisterLaws.{IsReady}
-use Rattle.reg_tables.specs.Turns.{read_back}
-use Rattle.reg_tables.proofs.TurnsLaws.{register_mark, register_push}
+use Rattle.reg_tables.specs.ReadBack.{read_back}
+use Rattle.reg_tables.proofs.ReadBackLaws.{register_mark, register_push}
 use Rattle.reg_tables.specs.Quiet.{IsIdle, IsStill}
 use Rattle.reg_tables.proofs.QuietLaws.{clean_before}
 use Rattle.reg_tables.specs.KeepLaws.{under_schema, ChangesOf}
@@ -81,76 +81,76 @@ pub record HoldsNext (new : State) (dictionary : Entries) (count : ℕ) (next : 
   pub kept : ∥ KeepsRegister new dictionary count ∥₁
   pub list : deposits_in new.committed.trees ≡ next
 
--- the tables of a store turn by this change into a register of the next list
-abbrev pub Turns : State → Entries → ℕ → (Database → Database → Type 0) → List Deposit → Type 0
-Turns old dictionary count Change next = KeepsRegister old dictionary count → (db : Database) → Change old.now db
+-- the tables of a store become by this change a register of the next list
+abbrev pub BecomesNext : State → Entries → ℕ → (Database → Database → Type 0) → List Deposit → Type 0
+BecomesNext old dictionary count Change next = KeepsRegister old dictionary count → (db : Database) → Change old.now db
     → IsDatabase db → IsRegister db dictionary next
 
 pub next_at : {old new : State} {dictionary : Entries} {count : ℕ} (Change : Database → Database → Type 0)
-    (next : List Deposit) → ∥ KeepsRegister old dictionary count ∥₁ → Turns old dictionary count Change next
+    (next : List Deposit) → ∥ KeepsRegister old dictionary count ∥₁ → BecomesNext old dictionary count Change next
     → Change old.now new.now → IsDatabase new.now → new.committed ≡ new.now → IsTrue new.is_open
     → HoldsNext new dictionary (length next) next
-next_at {old} {new} {dictionary} {count} Change next h turns change sound settled is_open =
+next_at {old} {new} {dictionary} {count} Change next h becomes change sound settled is_open =
     record { kept = ∥∥₁_map h keep; list = ∥∥₁_elim h (list_set _ _) read }
   where
     read : KeepsRegister old dictionary count → deposits_in new.committed.trees ≡ next
     read k =
-        ap (λ (db : Database). deposits_in db.trees) settled ∙ read_back new.now next (turns k new.now change sound)
+        ap (λ (db : Database). deposits_in db.trees) settled ∙ read_back new.now next (becomes k new.now change sound)
 
     keep : KeepsRegister old dictionary count → KeepsRegister new dictionary (length next)
     keep k = record {
       is_open = is_open;
       settled = settled;
       register = subst (IsRegister new.now dictionary)
-          (sym (read k)) (turns k new.now change sound);
+          (sym (read k)) (becomes k new.now change sound);
       counted = ap length (sym (read k));
     }
 
 -- a crash leaves the list from before, or the next one
 pub crash_at : {old new : State} {dictionary : Entries} {count : ℕ} (Change : Database → Database → Type 0)
-    (next : List Deposit) → ∥ KeepsRegister old dictionary count ∥₁ → Turns old dictionary count Change next
+    (next : List Deposit) → ∥ KeepsRegister old dictionary count ∥₁ → BecomesNext old dictionary count Change next
     → Survives old new (ChangesOf Change old) → HasCleanDisk new → (list : List Deposit)
     → LeavesList new.may_leave dictionary list → LeavesList old.may_leave dictionary list ⊎ (list ≡ next)
-crash_at {old} {new} {dictionary} {count} Change next h turns survives clean list left =
+crash_at {old} {new} {dictionary} {count} Change next h becomes survives clean list left =
     go (survives.crash clean left.0 left.1)
   where
     go : old.may_leave left.0 ⊎ ChangesOf Change old left.0 → LeavesList old.may_leave dictionary list ⊎ (list ≡ next)
     go (inl may) = inl (left.0, may, left.2)
     go (inr put) = inr (∥∥₁_elim h (list_set _ _) (λ (k : KeepsRegister old dictionary count).
         sym (read_back (tables left.0) list left.2) ∙ ap deposits_in put.3
-        ∙ read_back put.0 next (turns k put.0 put.1 put.2)))
+        ∙ read_back put.0 next (becomes k put.0 put.1 put.2)))
 
 -- and it leaves a register, whole
 pub whole_next : {old new : State} {dictionary : Entries} {count : ℕ} (Change : Database → Database → Type 0)
-    (next : List Deposit) → ∥ KeepsRegister old dictionary count ∥₁ → Turns old dictionary count Change next
+    (next : List Deposit) → ∥ KeepsRegister old dictionary count ∥₁ → BecomesNext old dictionary count Change next
     → Survives old new (ChangesOf Change old) → HasCleanDisk new → LeavesBroken new.may_leave dictionary
     → LeavesBroken old.may_leave dictionary
-whole_next {old} {new} {dictionary} {count} Change next h turns survives clean left =
+whole_next {old} {new} {dictionary} {count} Change next h becomes survives clean left =
     go (survives.crash clean left.0 left.1)
   where
     none : (put : ChangesOf Change old left.0) → KeepsRegister old dictionary count → ⊥
     none put k = left.2 next (subst (λ t. IsRegister (tables t) dictionary next) (sym put.3)
-        (under_schema put.0 dictionary next (turns k put.0 put.1 put.2)))
+        (under_schema put.0 dictionary next (becomes k put.0 put.1 put.2)))
 
     go : old.may_leave left.0 ⊎ ChangesOf Change old left.0 → LeavesBroken old.may_leave dictionary
     go (inl may) = (left.0, may, left.2)
     go (inr put) = absurd (∥∥₁_elim h (Prim.hlevel props) (none put))
 
-pub put_turns : {old : State} {dictionary : Entries} {count : ℕ} (d : Sent) (file : CheckedFile) → count < 999999
+pub put_next : {old : State} {dictionary : Entries} {count : ℕ} (d : Sent) (file : CheckedFile) → count < 999999
     → IsReady dictionary (sents (deposits_in old.committed.trees)) d file
-    → Turns old dictionary count (AddsFile (count + 1) d (kept_rows file.groups) file.graph.steps)
+    → BecomesNext old dictionary count (AddsFile (count + 1) d (kept_rows file.groups) file.graph.steps)
     (deposits_in old.committed.trees ++ unmarked d ∷ [])
-put_turns {old} {dictionary} {count} d file low ready k db put sound = register_push dictionary old.now db
+put_next {old} {dictionary} {count} d file low ready k db put sound = register_push dictionary old.now db
     (deposits_in old.committed.trees) d file count k.register k.counted low put sound ready
 
 -- deposit n of the list has no mark
 abbrev pub IsUnmarked : ℕ → List Deposit → Type 0
 IsUnmarked n list = (d : Deposit) → slice_get list (n - 1) ≡ Some d → d.withdrawn ≡ false
 
-pub mark_turns : {old : State} {dictionary : Entries} {count : ℕ} (n : ℕ) → 0 < n
+pub mark_next : {old : State} {dictionary : Entries} {count : ℕ} (n : ℕ) → 0 < n
     → n ≤ length (deposits_in old.committed.trees) → IsUnmarked n (deposits_in old.committed.trees)
-    → Turns old dictionary count (AddsMark n) (marked n (deposits_in old.committed.trees))
-mark_turns {old} {dictionary} {count} n low high bare k db put sound =
+    → BecomesNext old dictionary count (AddsMark n) (marked n (deposits_in old.committed.trees))
+mark_next {old} {dictionary} {count} n low high bare k db put sound =
     let list = deposits_in old.committed.trees in
     let d = slice_get_in list (n - 1) (omega (arith, low, high)) in
     register_mark dictionary old.now db list n d.0 k.register low d.1 (bare d.0 d.1) put

@@ -17,7 +17,7 @@ pub mod ReadsProjectLaws
 pub mod ReadsStepsLaws
 pub mod RegisterLaws
 pub mod ShowsLaws
-pub mod TurnsLaws
+pub mod ReadBackLaws
 pub mod WholeLaws
 pub mod AddsLemmas
 pub mod QueryLemmas

@@ -1,16 +1,9 @@
 -- Marks are found in rows that rise.
-use Rattle.std.proofs.Common.{◌≡◌, ◌≢◌, ℕ, ℤ, zero, suc, ◌+◌, ◌<◌, ◌≤◌, pos, List, [], ◌∷◌, ◌++◌, Bool, true, false, drop, length, Some, slice_get, append_assoc, append-nil, inl, inr, refl, sym, ap, subst, ◌∙◌, arith}
-use Rattle.std.specs.List.Sorted.{IsPermutation}
-use Rattle.std.proofs.lemmas.Bool.{cases_lt}
-use Rattle.std.proofs.lemmas.List.{drop_all, length_push}
-use Rattle.sqlite.specs.declared.types.Value.TheVariants.{Int}
+use Rattle.std.proofs.Common.{◌≡◌, ℕ, ℤ, zero, suc, ◌+◌, ◌<◌, ◌≤◌, pos, List, [], ◌∷◌, ◌++◌, Bool, true, false, drop, length, Some, slice_get, append_assoc, append-nil, refl, sym, ap, subst, ◌∙◌, arith}
+use Rattle.std.proofs.lemmas.List.{length_push}
 use Rattle.sqlite.specs.Order.{Row, column}
-use Rattle.sqlite.specs.Effect.{Database}
-use Rattle.reg_tables.specs.Found.{AreMarksInOrder}
-use Rattle.reg_tables.specs.declared.format.Format.TheVariants.{Second}
-use Rattle.reg_tables.specs.Adoption.{HoldsMarks}
 use Rattle.reg_tables.proofs.MethodsLaws.{slice_get_in}
-use Rattle.reg_tables.specs.Register.{integer_in, mark_rows, mark_table}
+use Rattle.reg_tables.specs.Register.{integer_in, mark_rows}
 use Rattle.reg_tables.specs.Rows.{mark_row}
 
 -- the number in a row of marks

@@ -1,11 +1,10 @@
 -- What is known of the deposits, as it is looked up, noted and grows with the list.
-use Rattle.std.proofs.Common.{zero, suc, ◌≡◌, ℕ, ◌+◌, ◌-◌, ◌<◌, ◌≤◌, Bool, true, false, List, [], ◌∷◌, ◌++◌, get_or, length, map, take, if◌then◌else◌, Option, Some, None, IfSome, slice_get, refl, sym, ap, subst, subst₂, ◌∙◌, arith}
+use Rattle.std.proofs.Common.{zero, suc, ◌≡◌, ℕ, ◌+◌, ◌-◌, ◌<◌, ◌≤◌, Bool, true, false, List, [], ◌∷◌, ◌++◌, get_or, length, map, take, if◌then◌else◌, Some, slice_get, refl, sym, ap, subst, subst₂, ◌∙◌, arith}
 use Rattle.std.proofs.Math.ListN.{set}
 use Rattle.std.proofs.lemmas.List.{length_push, take_all}
 use Rattle.std.proofs.lemmas.Option.{slice_get_read}
 use Rattle.std.proofs.lemmas.Slice.Zip.{AllZip-long}
 use Rattle.std.specs.List.{AllZip}
-use Rattle.std.specs.Option.{ForSome}
 use Rattle.std.specs.Str.{bytes_eq}
 use Rattle.sqlite.specs.Effect.{Database}
 use Rattle.sqlite.specs.State.{State, HasCleanDisk}
@@ -19,13 +18,11 @@ use Rattle.reg_store.specs.Deposit.{Deposit, marked, sents, sents_marked, unmark
 use Rattle.reg_tables.specs.declared.memory.Coming.{Coming}
 use Rattle.reg_tables.specs.declared.memory.Known.{Known}
 use Rattle.reg_tables.specs.declared.memory.Memory.{Memory}
-use Rattle.reg_tables.specs.declared.repeats.Digests.{Digests}
-use Rattle.reg_tables.specs.declared.recent.RecentGraph.{RecentGraph}
-use Rattle.reg_tables.specs.declared.recent.RecentRows.{RecentRows}
+use Rattle.reg_tables.specs.declared.memory.digests.Digests.{Digests}
 use Rattle.reg_tables.specs.Digests.{AddsNumber, AreBelow, AreDigested, PutsNumbers, numbers_under, own_digest}
 use Rattle.reg_tables.specs.Heads.{head_of}
 use Rattle.reg_tables.proofs.KeepLaws.{keeps_quiet}
-use Rattle.reg_tables.specs.Memory.{Agrees, AreKnown, IsComing, IsKnown, IsNumberOf, Notes, bare_of, marked_known, new_known, with_mark}
+use Rattle.reg_tables.specs.Memory.{Agrees, AreKnown, IsComing, IsKnown, IsNumberOf, Remembers, bare_of, marked_known, new_known, with_mark}
 use Rattle.reg_tables.specs.Quiet.{IsStill}
 use Rattle.reg_tables.proofs.QuietLaws.{clean_before}
 use Rattle.reg_tables.specs.Register.{KeepsRegister, deposits_in, marks_of}
@@ -111,12 +108,12 @@ set_zipped dictionary (e ∷ list) (x ∷ known) zero one all its = (its e refl,
 set_zipped dictionary (e ∷ list) (x ∷ known) (suc k) one all its = (all.0, set_zipped dictionary list known k one all.1 its)
 
 -- the heads give the numbers of a project
-told_zipped : (n : ℕ) (project : List ℕ) (dictionary : Entries) (list : List Deposit) (known : List Known) → AllZip (IsKnown dictionary) list known → numbers_from n project (map bare_of known) ≡ numbers_from n project (sents list)
-told_zipped n project dictionary [] [] all = refl
-told_zipped n project dictionary [] (x ∷ known) all = absurd all
-told_zipped n project dictionary (d ∷ list) [] all = absurd all
-told_zipped n project dictionary (d ∷ list) (x ∷ known) all =
-    rw (ap (λ (h : KeptHead). h.project) all.0.head) (go (bytes_eq d.sent.project project) (told_zipped (n + 1) project dictionary list known all.1))
+numbers_zipped : (n : ℕ) (project : List ℕ) (dictionary : Entries) (list : List Deposit) (known : List Known) → AllZip (IsKnown dictionary) list known → numbers_from n project (map bare_of known) ≡ numbers_from n project (sents list)
+numbers_zipped n project dictionary [] [] all = refl
+numbers_zipped n project dictionary [] (x ∷ known) all = absurd all
+numbers_zipped n project dictionary (d ∷ list) [] all = absurd all
+numbers_zipped n project dictionary (d ∷ list) (x ∷ known) all =
+    rw (ap (λ (h : KeptHead). h.project) all.0.head) (go (bytes_eq d.sent.project project) (numbers_zipped (n + 1) project dictionary list known all.1))
   where
     go : (b : Bool) → numbers_from (n + 1) project (map bare_of known) ≡ numbers_from (n + 1) project (sents list)
         → (if b then n ∷ numbers_from (n + 1) project (map bare_of known) else numbers_from (n + 1) project (map bare_of known))
@@ -130,8 +127,8 @@ known_new dictionary list = unzipped dictionary list _ (new_zipped dictionary li
 pub known_set : (dictionary : Entries) (list : List Deposit) (known : List Known) (k : ℕ) (one : Known) → AreKnown dictionary list known → ((d : Deposit) → slice_get list k ≡ Some d → IsKnown dictionary d one) → AreKnown dictionary list (set known k one)
 known_set dictionary list known k one are its = unzipped dictionary list _ (set_zipped dictionary list known k one (zipped dictionary list known are) its)
 
-pub numbers_told : (n : ℕ) (project : List ℕ) (dictionary : Entries) (list : List Deposit) (known : List Known) → AreKnown dictionary list known → numbers_from n project (map bare_of known) ≡ numbers_from n project (sents list)
-numbers_told n project dictionary list known are = told_zipped n project dictionary list known (zipped dictionary list known are)
+pub numbers_held : (n : ℕ) (project : List ℕ) (dictionary : Entries) (list : List Deposit) (known : List Known) → AreKnown dictionary list known → numbers_from n project (map bare_of known) ≡ numbers_from n project (sents list)
+numbers_held n project dictionary list known are = numbers_zipped n project dictionary list known (zipped dictionary list known are)
 
 -- ---- one deposit more
 
@@ -218,13 +215,13 @@ agrees_still old new memory dictionary agrees quiet clean well =
 
 -- what was read is noted
 pub agrees_noted : (old new : State) {failed : Bool} (memory noted : Memory) (dictionary : Entries) (n : ℕ) {IsRead : Entries → List Sent → Type 0} → (HasCleanDisk old → Agrees memory dictionary (deposits_in old.committed.trees)) → IsStill old new failed
-    → Notes memory noted n IsRead → IsNumberOf n (deposits_in old.committed.trees) → IsRead dictionary (sents (deposits_in old.committed.trees)) → HasCleanDisk new → failed ≡ false → Agrees noted dictionary (deposits_in new.committed.trees)
+    → Remembers memory noted n IsRead → IsNumberOf n (deposits_in old.committed.trees) → IsRead dictionary (sents (deposits_in old.committed.trees)) → HasCleanDisk new → failed ≡ false → Agrees noted dictionary (deposits_in new.committed.trees)
 agrees_noted old new memory noted dictionary n agrees quiet notes number read clean well =
     subst (λ (db : Database). Agrees noted dictionary (deposits_in db.trees)) (sym (quiet.same clean well).1)
     (notes.agrees dictionary (deposits_in old.committed.trees) number read (agrees (clean_before old new quiet.survives clean)))
 
 -- the store that held the list still holds it
 pub keeps_noted : (old new : State) {failed : Bool} (memory noted : Memory) (dictionary : Entries) (n : ℕ) {IsRead : Entries → List Sent → Type 0} → (HasCleanDisk old → ∥ KeepsRegister old dictionary (length memory.known.items) ∥₁) → IsStill old new failed
-    → Notes memory noted n IsRead → HasCleanDisk new → failed ≡ false → ∥ KeepsRegister new dictionary (length noted.known.items) ∥₁
+    → Remembers memory noted n IsRead → HasCleanDisk new → failed ≡ false → ∥ KeepsRegister new dictionary (length noted.known.items) ∥₁
 keeps_noted old new memory noted dictionary n kept quiet notes clean well =
     subst (λ count. ∥ KeepsRegister new dictionary count ∥₁) (sym notes.long) (keeps_quiet old new kept quiet clean well)

@@ -37,19 +37,19 @@ use Rattle.reg_store.specs.declared.keep.KeepError.{KeepError}
 use Rattle.reg_store.specs.declared.keep.KeepError.TheVariants as keep
 use Rattle.reg_store.specs.Keep.{is_store}
 use Rattle.reg_tables.specs.Commits.{Makes}
-use Rattle.reg_tables.specs.declared.adopting.AdoptError.TheVariants.{Store}
+use Rattle.reg_tables.specs.declared.error.AdoptError.TheVariants.{Store}
 use Rattle.reg_tables.specs.Adoption.{adopt_error}
 use Rattle.reg_tables.specs.Quiet.{IsStill}
 use Rattle.reg_tables.proofs.QuietLaws.{clean_before}
-use Rattle.reg_tables.specs.declared.format.Format.TheVariants.{First, Second}
-use Rattle.reg_tables.proofs.CreatesLaws.{makes_withdrawals}
+use Rattle.reg_tables.specs.declared.schema.format.Format.TheVariants.{First, Second}
+use Rattle.reg_tables.specs.Creates.{MakesWithdrawals}
 use Rattle.reg_tables.proofs.InsertsLaws.{same_value, went}
 use Rattle.reg_tables.specs.Inside.{Inside, Ran}
 use Rattle.reg_tables.proofs.MarksLaws.{none_withdrawn, sents_unmarked}
 use Rattle.reg_tables.proofs.MeaningLaws.{format_raised, raise_is, raise_plain}
 use Rattle.reg_tables.specs.KeepLaws.{ChangesOf}
 use Rattle.reg_tables.specs.declared.memory.Memory.{Memory}
-use Rattle.reg_tables.specs.declared.repeats.Digests.{Digests}
+use Rattle.reg_tables.specs.declared.memory.digests.Digests.{Digests}
 use Rattle.reg_tables.specs.Digests.{AreBelow, AreDigested, HoldsDigests}
 use Rattle.reg_tables.specs.Formats.{StartsWithMeta}
 use Rattle.reg_tables.specs.Heads.{AreHeads, HoldsHeads, head_of}
@@ -58,10 +58,10 @@ use Rattle.reg_tables.specs.Migrates.{AddsWithdrawals, FindsFirst, HoldsFirst, I
 use Rattle.reg_tables.specs.Register.{deposit_rows, deposits_in, file_lines, file_steps, HoldsSent, IsRegister, IsRegisterOf, marks_of, meta_columns, sents_in, tables}
 use Rattle.reg_tables.specs.RegisterLaws.{sents_back}
 use Rattle.reg_tables.specs.Rows.{columns_3, columns_5, dictionary_row, mark_column, rows_under}
-use Rattle.reg_tables.specs.Tables.{first_schema, meta, register_schema}
-use Rattle.reg_tables.specs.Turns.{read_back}
-use Rattle.reg_tables.proofs.TurnsLaws.{unmarked_register}
-use Rattle.reg_tables.specs.Texts.{create_withdrawals, raise_format, select_meta}
+use Rattle.reg_tables.specs.Tables.{meta, register_schema}
+use Rattle.reg_tables.specs.ReadBack.{read_back}
+use Rattle.reg_tables.proofs.ReadBackLaws.{unmarked_register}
+use Rattle.reg_tables.specs.Texts.{raise_format, select_meta}
 use Rattle.reg_tables.proofs.FormatLemmas.{asks_meta}
 use Rattle.reg_tables.proofs.OpenLemmas.{found_tables}
 use Rattle.reg_tables.proofs.QueryLemmas.{shown_same}
@@ -101,9 +101,9 @@ changes_meta old new count has h =
       others = subst (λ (t : Trees). AllByRecursion (λ k. k.tree ≢ 0 → t k.tree ≡ db k.tree) register_schema.tables) (sym same) step.tables;
     }
 
-pub changes_tables : (a b c : State) → a.now.schema ≡ first_schema → Ran create_withdrawals [] a b → Ran raise_format [] b c → Inside AddsWithdrawals a c
-changes_tables a b c has one two =
-    let made = makes_withdrawals a b one.count has one.ran in
+pub changes_tables : (a b c : State) → Inside MakesWithdrawals a b → Ran raise_format [] b c → Inside AddsWithdrawals a c
+changes_tables a b c one two =
+    let made = one.change in
     let raised = changes_meta b c two.count made.schema two.ran in
     record {
       change = record {

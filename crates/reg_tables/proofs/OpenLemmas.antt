@@ -8,9 +8,9 @@ use Rattle.sqlite.specs.State.{State, Opens, IsLive}
 use Rattle.sqlite.specs.Files.{AreFoundIn}
 use Rattle.sqlite.specs.Start.{FindsIn}
 use Rattle.ags_dict.specs.Entries.{Entries}
-use Rattle.reg_tables.specs.declared.adopting.AdoptError.{AdoptError}
+use Rattle.reg_tables.specs.declared.error.AdoptError.{AdoptError}
 use Rattle.reg_store.specs.Deposit.{Deposit}
-use Rattle.reg_tables.specs.declared.format.Format.{Format}
+use Rattle.reg_tables.specs.declared.schema.format.Format.{Format}
 use Rattle.reg_tables.specs.Register.{IsRegister}
 use Rattle.reg_tables.specs.Adoption.{Adopts}
 use Rattle.reg_tables.specs.Opened.{FindsTables, FindsSchema, HoldsRegister, RefusesFiles}

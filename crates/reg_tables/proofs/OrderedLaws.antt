@@ -18,7 +18,7 @@ use Rattle.sqlite_sql.proofs.QueryLemmas.{key_cmp_total}
 use Rattle.sqlite_keyed.proofs.SortLemmas.{sorted_unique}
 use Rattle.reg_store.specs.declared.keep.KeepError.{KeepError}
 use Rattle.reg_store.specs.Sent.{Sent}
-use Rattle.reg_tables.specs.declared.format.Format.TheVariants.{Second}
+use Rattle.reg_tables.specs.declared.schema.format.Format.TheVariants.{Second}
 use Rattle.reg_tables.specs.Tables.{HasTables, register_schema}
 use Rattle.reg_tables.specs.Texts.{select_all_numbers, select_marks, select_meta}
 use Rattle.reg_tables.proofs.MeaningLaws.{all_marks, all_marks_read, all_numbers, all_numbers_read, all_meta}

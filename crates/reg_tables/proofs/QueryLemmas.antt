@@ -19,8 +19,8 @@ use Rattle.reg_tables.specs.Found.{OnlyReads}
 use Rattle.reg_store.specs.declared.keep.KeepError.{KeepError}
 use Rattle.reg_store.specs.declared.keep.KeepError.TheVariants as keep
 use Rattle.reg_store.specs.Keep.{is_store}
-use Rattle.reg_tables.specs.declared.adopting.AdoptError.{AdoptError}
-use Rattle.reg_tables.specs.declared.adopting.AdoptError.TheVariants.{NoMemory, Store}
+use Rattle.reg_tables.specs.declared.error.AdoptError.{AdoptError}
+use Rattle.reg_tables.specs.declared.error.AdoptError.TheVariants.{NoMemory, Store}
 use Rattle.reg_tables.specs.Adoption.{adopt_error, is_store_failure}
 use Rattle.reg_tables.specs.Quiet.{IsAsBefore, IsStill}
 use Rattle.reg_tables.proofs.QuietLaws.{clean_before, quiet_read}

@@ -14,11 +14,10 @@ use Rattle.reg_store.specs.declared.keep.KeptRow.{KeptRow}
 use Rattle.reg_store.specs.declared.keep.KeepError.{KeepError}
 use Rattle.reg_store.specs.Keep.{sent_of}
 use Rattle.reg_tables.specs.Rows.{given_deposit, line_table, step_table, placed_rows, step_pair, rows_under}
-use Rattle.ags_links.specs.Walks.{StepGraph}
 use Rattle.reg_store.specs.Fit.{kept_rows}
 use Rattle.reg_tables.specs.DataCount.{is_shown_data}
 use Rattle.reg_tables.proofs.DataCountLaws.{counted, counted_shown}
-use Rattle.reg_tables.specs.Methods.{HasRows, HasSteps}
+use Rattle.reg_tables.specs.Methods.{HasRows}
 use Rattle.reg_tables.proofs.ReadsLaws.{holds_lines, reads_lines}
 use Rattle.reg_tables.proofs.ReadsStepsLaws.{holds_steps, reads_steps, same_places, same_pairs}
 

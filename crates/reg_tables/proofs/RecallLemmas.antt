@@ -10,11 +10,11 @@ use Rattle.ags_dict.specs.Entries.{Entries}
 use Rattle.reg_store.specs.declared.keep.KeptHead.{KeptHead}
 use Rattle.reg_store.specs.Deposit.{Deposit, sents}
 use Rattle.reg_store.specs.Sent.{Sent}
-use Rattle.reg_tables.specs.declared.adopting.AdoptError.{AdoptError}
-use Rattle.reg_tables.specs.declared.adopting.AdoptError.TheVariants.{NotRegister, Version, Store, NoMemory}
-use Rattle.reg_tables.specs.declared.format.Format.TheVariants.{Second}
+use Rattle.reg_tables.specs.declared.error.AdoptError.{AdoptError}
+use Rattle.reg_tables.specs.declared.error.AdoptError.TheVariants.{NotRegister, Version, Store, NoMemory}
+use Rattle.reg_tables.specs.declared.schema.format.Format.TheVariants.{Second}
 use Rattle.reg_tables.specs.declared.memory.Memory.{Memory}
-use Rattle.reg_tables.specs.declared.repeats.Digests.{Digests}
+use Rattle.reg_tables.specs.declared.memory.digests.Digests.{Digests}
 use Rattle.reg_tables.specs.Adoption.{Adopts, FindsMarks, HoldsMarks}
 use Rattle.reg_tables.specs.Digests.{AreBelow, AreDigested, HoldsDigests}
 use Rattle.reg_tables.specs.Heads.{AreHeads, HoldsHeads, head_of}
@@ -23,7 +23,7 @@ use Rattle.reg_tables.proofs.MarksLaws.{marks_paired, paired, sents_paired}
 use Rattle.reg_tables.specs.Memory.{Agrees, Recalls}
 use Rattle.reg_tables.specs.Register.{HoldsSent, IsRegister, deposit_rows, deposits_in, mark_rows, mark_table, marks_of}
 use Rattle.reg_tables.specs.RegisterLaws.{rows-length}
-use Rattle.reg_tables.specs.Turns.{read_back}
+use Rattle.reg_tables.specs.ReadBack.{read_back}
 use Rattle.reg_tables.specs.Rows.{deposit_table}
 use Rattle.reg_tables.proofs.ExamineLemmas.{one_format_in, register_meta}
 use Rattle.reg_tables.proofs.RepeatsLemmas.{digested_held}

@@ -9,7 +9,7 @@ use Rattle.sqlite.specs.Effect.{Database, IsDatabase}
 use Rattle.ags_dict.specs.Entries.{Entries}
 use Rattle.ags_check.specs.Findings.{CheckedFile}
 use Rattle.reg_store.specs.Sent.{Sent, number_of}
-use Rattle.reg_tables.specs.declared.format.Format.TheVariants.{Second}
+use Rattle.reg_tables.specs.declared.schema.format.Format.TheVariants.{Second}
 use Rattle.reg_tables.specs.Rows.{given_deposit, deposit_table, IsMore, columns_3, rows_under, line_table, step_table}
 use Rattle.reg_tables.specs.Rows.{placed_rows, line_rows, step_pair, step_rows}
 use Rattle.reg_tables.specs.Inserts.{AddsFile}

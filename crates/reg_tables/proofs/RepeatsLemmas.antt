@@ -1,4 +1,4 @@
--- Numbers under digests, as they grow, and the repeats that they tell.
+-- Numbers under digests, as they grow, and the repeats that are found by them.
 use Rattle.std.proofs.Common.{zero, suc, ◌≡◌, ℕ, ◌+◌, ◌-◌, ◌<◌, Bool, true, false, ◌||◌, eqb, cond, List, [], ◌∷◌, ◌++◌, length, take, get_or, Option, Some, None, IfSome, slice_get, Result, Ok, Err, IfOk, refl, sym, ap, subst, ◌∙◌, arith, inl, inr, ◌⊎◌}
 use Rattle.std.proofs.Math.Logic.{∥∥₁_elim}
 use Rattle.std.proofs.Props.{props}
@@ -18,10 +18,10 @@ use Rattle.std.proofs.lemmas.List.{take_more}
 use Rattle.std.proofs.lemmas.List.Folds.{list_any-append}
 use Rattle.std.proofs.lemmas.Slice.Eq.{bytes_eq-Decides}
 use Rattle.sqlite.specs.Effect.{Database}
-use Rattle.sqlite.specs.State.{State, HasCleanDisk}
+use Rattle.sqlite.specs.State.{State}
 use Rattle.ags_dict.specs.Entries.{Entries}
 use Rattle.reg_store.specs.declared.keep.KeepError.{KeepError}
-use Rattle.reg_tables.specs.declared.repeats.Digests.{Digests}
+use Rattle.reg_tables.specs.declared.memory.digests.Digests.{Digests}
 use Rattle.reg_store.specs.Apart.{AreApart}
 use Rattle.reg_store.specs.ApartLaws.{none_at, parts_of}
 use Rattle.reg_store.specs.Sent.{Sent, is_repeat, number_of}
@@ -29,8 +29,6 @@ use Rattle.reg_store.specs.Deposit.{sents}
 use Rattle.reg_tables.specs.Digests.{AddsNumber, AreBelow, AreDigested, HasEqual, HasNoEqual, HoldsDigests, IsRowOf, digest_of, is_among, numbers_under, own_digest}
 use Rattle.reg_tables.specs.Marks.{long_sents}
 use Rattle.reg_tables.proofs.MethodsLaws.{same_deposit, slice_get_in}
-use Rattle.reg_tables.specs.Quiet.{IsStill}
-use Rattle.reg_tables.proofs.QuietLaws.{clean_before}
 use Rattle.reg_tables.specs.Register.{deposit_rows, deposits_in, KeepsRegister}
 use Rattle.reg_tables.specs.Rows.{deposit_table}
 use Rattle.reg_tables.proofs.ShowsLaws.{row_of_number}
@@ -217,21 +215,21 @@ found_none db firm project bytes list digests there are none = sym (not_found 1 
         none (k + 1) (subst (λ (x : List ℕ). is_among (k + 1) (numbers_under digests x) ≡ true) (same_digest firm project bytes d yes) (are k d at)) d row))
 
 -- what is found under the digest is the first repeat
-pub repeat_told : {s : State} {dictionary : Entries} {count : ℕ} (firm project bytes : List ℕ) (digests : Digests) (numbers : List ℕ) (r : Result (Option ℕ) KeepError) → ∥ KeepsRegister s dictionary count ∥₁
+pub repeat_found : {s : State} {dictionary : Entries} {count : ℕ} (firm project bytes : List ℕ) (digests : Digests) (numbers : List ℕ) (r : Result (Option ℕ) KeepError) → ∥ KeepsRegister s dictionary count ∥₁
     → numbers ≡ numbers_under digests (digest_of firm project bytes) → AreBelow digests (count + 1) → AreDigested digests (sents (deposits_in s.committed.trees))
     → IfOk r (λ found. IfSome found (HasEqual s.now firm project bytes)) → IfOk r (λ found. IfSome found (λ n. is_among n numbers ≡ true)) → (r ≡ Ok None → HasNoEqual s.now numbers firm project bytes)
     → IfOk r (λ n. n ≡ number_of firm project bytes (sents (deposits_in s.committed.trees)))
-repeat_told {s} {dictionary} {count} firm project bytes digests numbers (Ok (Some n)) kept own below are equal among none = ∥∥₁_elim kept (Prim.hlevel props) found
+repeat_found {s} {dictionary} {count} firm project bytes digests numbers (Ok (Some n)) kept own below are equal among none = ∥∥₁_elim kept (Prim.hlevel props) found
   where
     found : KeepsRegister s dictionary count → Some n ≡ number_of firm project bytes (sents (deposits_in s.committed.trees))
     found k =
         let it = below (digest_of firm project bytes) n (subst (λ all. is_among n all ≡ true) own among) in
         found_some s.now firm project bytes (sents (deposits_in s.committed.trees)) n k.register.holds.deposits k.register.holds.apart it.0 (omega (arith, it.1, k.counted, long_sents (deposits_in s.committed.trees))) equal
-repeat_told {s} {dictionary} {count} firm project bytes digests numbers (Ok None) kept own below are equal among none = ∥∥₁_elim kept (Prim.hlevel props) found
+repeat_found {s} {dictionary} {count} firm project bytes digests numbers (Ok None) kept own below are equal among none = ∥∥₁_elim kept (Prim.hlevel props) found
   where
     found : KeepsRegister s dictionary count → None ≡ number_of firm project bytes (sents (deposits_in s.committed.trees))
     found k = found_none s.now firm project bytes (sents (deposits_in s.committed.trees)) digests k.register.holds.deposits are (subst (λ all. HasNoEqual s.now all firm project bytes) own (none refl))
-repeat_told firm project bytes digests numbers (Err e) kept own below are equal among none = tt
+repeat_found firm project bytes digests numbers (Err e) kept own below are equal among none = tt
 
 -- one number more of which the deposit is not equal
 no_more : (db : Database) (firm project bytes : List ℕ) (numbers : List ℕ) (i : ℕ) (d : Sent) → i < length numbers → HasNoEqual db (take i numbers) firm project bytes → IsRowOf db (get_or numbers i 0) d → is_repeat firm project bytes d ≡ false

@@ -10,8 +10,8 @@ use Rattle.sqlite.specs.Effect.{Database, IsDatabase}
 use Rattle.ags_dict.specs.Entries.{Entries}
 use Rattle.ags_check.specs.Findings.{CheckedFile}
 use Rattle.reg_store.specs.Sent.{Sent, is_repeat}
-use Rattle.reg_tables.specs.declared.format.Format.{Format}
-use Rattle.reg_tables.specs.Tables.{number_of, schema_of}
+use Rattle.reg_tables.specs.declared.schema.format.Format.{Format}
+use Rattle.reg_tables.specs.Tables.{format_number, schema_of}
 use Rattle.reg_store.specs.Fit.{IsFileOf, IsNamed, kept_rows}
 use Rattle.reg_store.specs.ApartLaws.{apart_all, apart_pair}
 use Rattle.reg_tables.specs.Rows.{deposit_table, given_deposit, line_table, step_table, rows_under, placed_rows}
@@ -112,7 +112,7 @@ of_all P (suc count) each =
     both first rest = ∥∥₁_elim first (Prim.hlevel props) (λ one. ∥∥₁_map rest (λ more. join one more))
 
 pub adopts_whole : (format : Format) (db : Database) (dictionary : Entries) (count : ℕ) → db.schema ≡ schema_of format
-    → IsDatabase db → HasMeta (number_of format) db dictionary → Counts db (Some count) → AreWhole db dictionary count
+    → IsDatabase db → HasMeta (format_number format) db dictionary → Counts db (Some count) → AreWhole db dictionary count
     → (list : List Sent) × HoldsSent format db dictionary list × (length list ≡ count)
 adopts_whole format db dictionary count schema sound meta counts all =
     (list, adopts format db dictionary list read, long)

@@ -10,15 +10,15 @@ use Rattle.sqlite.specs.State.{State, HasCleanDisk}
 use Rattle.ags_rows.specs.declared.TheConstants.{READABLE}
 use Rattle.ags_dict.specs.Entries.{Entries}
 use Rattle.ags_dict.specs.Reading.{IsDictionary}
-use Rattle.reg_tables.specs.declared.adopting.AdoptError.{AdoptError}
-use Rattle.reg_tables.specs.declared.adopting.AdoptError.TheVariants.{NotRegister, Version, Store, NoMemory}
+use Rattle.reg_tables.specs.declared.error.AdoptError.{AdoptError}
+use Rattle.reg_tables.specs.declared.error.AdoptError.TheVariants.{NotRegister, Version, Store, NoMemory}
 use Rattle.reg_store.specs.declared.keep.KeepError.{KeepError}
 use Rattle.reg_store.specs.declared.keep.KeepError.TheVariants as keep
 use Rattle.reg_store.specs.Sent.{Sent}
 use Rattle.reg_store.specs.Deposit.{Deposit}
-use Rattle.reg_tables.specs.declared.format.Format.{Format}
-use Rattle.reg_tables.specs.declared.format.Format.TheVariants.{Second}
-use Rattle.reg_tables.specs.Tables.{number_of, schema_of}
+use Rattle.reg_tables.specs.declared.schema.format.Format.{Format}
+use Rattle.reg_tables.specs.declared.schema.format.Format.TheVariants.{Second}
+use Rattle.reg_tables.specs.Tables.{format_number, schema_of}
 use Rattle.reg_tables.specs.Formats.{HasFormat, IsFormatRow}
 use Rattle.reg_tables.specs.Register.{HoldsSent, IsRegister, IsRegisterOf, deposits_in, mark_rows, mark_table}
 use Rattle.reg_tables.specs.Register.{meta_columns}
@@ -86,13 +86,13 @@ CountsDeposits format db dictionary None = (list : List Sent) → HoldsSent form
 -- This holds of each format whose tables the database has, and whose number with the dictionary meta has.
 abbrev pub InEachFormat : Database → Entries → (Format → Type 0) → Type 0
 InEachFormat db dictionary Holds =
-    (format : Format) → db.schema ≡ schema_of format → HasMeta (number_of format) db dictionary → Holds format
+    (format : Format) → db.schema ≡ schema_of format → HasMeta (format_number format) db dictionary → Holds format
 
 -- What a database is answered in which what was sent is looked for, whatever the marks are.
 abbrev pub Examines : Format → Database → Result (Entries × ℕ) AdoptError → Type 0
 Examines format db (Ok found) = ∥ ((list : List Sent) × HoldsSent format db found.0 list × (length list ≡ found.1)) ∥₁
-Examines format db (Err (Version n)) = (n ≢ pos (number_of format)) × HasFormat db n
-Examines format db (Err NotRegister) = HasNoOtherFormat (number_of format) db
+Examines format db (Err (Version n)) = (n ≢ pos (format_number format)) × HasFormat db n
+Examines format db (Err NotRegister) = HasNoOtherFormat (format_number format) db
     × ((dictionary : Entries) (list : List Sent) → HoldsSent format db dictionary list → ⊥)
 Examines format db (Err Store) = Unit {0}
 Examines format db (Err NoMemory) = Unit {0}
@@ -115,8 +115,8 @@ FindsMarks count db (Err NoMemory) = Unit {0}
 abbrev pub Adopts : Format → Database → Result (Entries × ℕ) AdoptError → Type 0
 Adopts format db (Ok found) =
     ∥ ((list : List Deposit) × IsRegisterOf format db found.0 list × (length list ≡ found.1)) ∥₁
-Adopts format db (Err (Version n)) = (n ≢ pos (number_of format)) × HasFormat db n
-Adopts format db (Err NotRegister) = HasNoOtherFormat (number_of format) db
+Adopts format db (Err (Version n)) = (n ≢ pos (format_number format)) × HasFormat db n
+Adopts format db (Err NotRegister) = HasNoOtherFormat (format_number format) db
     × ((dictionary : Entries) (list : List Deposit) → IsRegisterOf format db dictionary list → ⊥)
 Adopts format db (Err Store) = Unit {0}
 Adopts format db (Err NoMemory) = Unit {0}

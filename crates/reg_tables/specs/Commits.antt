@@ -12,8 +12,8 @@ pub record Makes (Change : Database → Database → Type 0) (old new : Database
   pub sound : IsDatabase new
 
 -- On a clean disk, the change is made if the call was no error.
-abbrev pub Changes : {A E : Type 0} → Result A E → (Database → Database → Type 0) → State → State → Type 0
-Changes result Change old new = HasCleanDisk new → OnOk result (Change old.now new.now)
+abbrev pub MakesIfOk : {A E : Type 0} → Result A E → (Database → Database → Type 0) → State → State → Type 0
+MakesIfOk result Change old new = HasCleanDisk new → OnOk result (Change old.now new.now)
 
 -- On a clean disk, all that is shown is committed if the call was no error.
 abbrev pub CommitsAll : {A E : Type 0} → Result A E → State → Type 0

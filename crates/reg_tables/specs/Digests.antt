@@ -12,7 +12,7 @@ use Rattle.std.specs.declared.vec.Vec.{Vec}
 use Rattle.sha2.specs.Sha256.{sha256}
 use Rattle.sqlite.specs.Effect.{Database}
 use Rattle.ags_text.specs.Bytes.{line_feed}
-use Rattle.reg_tables.specs.declared.repeats.Digests.{Digests}
+use Rattle.reg_tables.specs.declared.memory.digests.Digests.{Digests}
 use Rattle.reg_store.specs.Sent.{Sent, is_repeat}
 use Rattle.reg_tables.specs.Rows.{deposit_table, given_deposit}
 use Rattle.reg_tables.specs.Register.{has_number}

@@ -5,8 +5,8 @@ use Rattle.std.specs.declared.vec.Vec.{Vec}
 use Rattle.std.specs.List.Sorted.{IsPermutation}
 use Rattle.sqlite.specs.Effect.{Database}
 use Rattle.sqlite.specs.State.{State, HasCleanDisk}
-use Rattle.reg_tables.specs.declared.heads.DigestedHead.{DigestedHead}
-use Rattle.reg_tables.specs.declared.repeats.Digests.{Digests}
+use Rattle.reg_tables.specs.declared.open.head.DigestedHead.{DigestedHead}
+use Rattle.reg_tables.specs.declared.memory.digests.Digests.{Digests}
 use Rattle.reg_store.specs.declared.keep.KeptHead.{KeptHead}
 use Rattle.reg_store.specs.Sent.{Sent}
 use Rattle.reg_tables.specs.Digests.{AddsNumber, IsRowOf, own_digest}

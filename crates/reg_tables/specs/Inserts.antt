@@ -10,23 +10,23 @@ use Rattle.reg_tables.specs.Rows.{columns_5, columns_3, line_table, line_rows, s
 use Rattle.reg_tables.specs.Rows.{deposit_table, mark_column, mark_row, IsMore}
 
 -- One table holds more rows, by their columns, and the database is sound; the other tables are as they were.
-pub record Adds (tree : ℕ) (see : Row → Row) (more : List Row) (old new : Database) : Type 0 where
+pub record AddsTo (tree : ℕ) (see : Row → Row) (more : List Row) (old new : Database) : Type 0 where
   pub schema : new.schema ≡ register_schema
   pub sound : IsDatabase new
   pub rows : IsMore (map see (old.trees tree)) more (map see (new.trees tree))
   pub others : AllByRecursion (λ t. t.tree ≢ tree → new.trees t.tree ≡ old.trees t.tree) register_schema.tables
 
 abbrev pub AddsDeposit : ℕ → Sent → Database → Database → Type 0
-AddsDeposit n d = Adds 2 columns_5 (given_deposit n d ∷ [])
+AddsDeposit n d = AddsTo 2 columns_5 (given_deposit n d ∷ [])
 
 abbrev pub AddsLines : List Row → Database → Database → Type 0
-AddsLines = Adds 4 columns_5
+AddsLines = AddsTo 4 columns_5
 
 abbrev pub AddsSteps : List Row → Database → Database → Type 0
-AddsSteps = Adds 6 columns_3
+AddsSteps = AddsTo 6 columns_3
 
 abbrev pub AddsMark : ℕ → Database → Database → Type 0
-AddsMark n = Adds 8 mark_column (mark_row n ∷ [])
+AddsMark n = AddsTo 8 mark_column (mark_row n ∷ [])
 
 -- a deposit with its rows and its steps
 pub record AddsFile (n : ℕ) (d : Sent) (rows : List KeptRow) (graph : List (ℕ × ℕ)) (old new : Database) : Type 0 where

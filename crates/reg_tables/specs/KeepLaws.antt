@@ -17,7 +17,7 @@ use Rattle.reg_tables.specs.Marks.{long_sents}
 use Rattle.reg_store.specs.Fit.{IsFit, IsFileOf}
 use Rattle.reg_store.specs.PlainLaws.{fit_of}
 use Rattle.reg_tables.specs.Register.{deposits_in, LeavesBroken, LeavesList, KeepsRegister, IsRegister, tables}
-use Rattle.reg_tables.specs.Turns.{read_back}
+use Rattle.reg_tables.specs.ReadBack.{read_back}
 
 -- ---- no kept body has a finding
 

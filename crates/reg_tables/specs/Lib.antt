@@ -11,7 +11,7 @@ pub mod Commits
 pub mod Pushes
 pub mod RegisterLaws
 pub mod Marks
-pub mod Turns
+pub mod ReadBack
 pub mod Digests
 pub mod Heads
 pub mod KeepLaws

@@ -4,8 +4,8 @@ use Rattle.sqlite.specs.State.{State, Survives}
 use Rattle.ags_dict.specs.declared.reading.DictError.TheVariants as dict
 use Rattle.ags_dict.specs.Entries.{Entries}
 use Rattle.ags_dict.specs.Reading.{IsDictionary, ReadsDictionary}
-use Rattle.reg_tables.specs.declared.opening.CreateError.{CreateError}
-use Rattle.reg_tables.specs.declared.opening.CreateError.TheVariants.{Dictionary, NotEmpty, Store, NoMemory}
+use Rattle.reg_tables.specs.declared.error.CreateError.{CreateError}
+use Rattle.reg_tables.specs.declared.error.CreateError.TheVariants.{Dictionary, NotEmpty, Store, NoMemory}
 use Rattle.reg_tables.specs.Creates.{LeavesEmpty}
 
 -- The bytes are a dictionary.

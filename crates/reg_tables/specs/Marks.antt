@@ -8,7 +8,7 @@ use Rattle.std.proofs.lemmas.List.Sorted.{list_any-IsPermutation}
 use Rattle.sqlite.specs.Order.{Row}
 use Rattle.sqlite.specs.Tree.{Trees}
 use Rattle.reg_store.specs.Deposit.{Deposit, sents}
-use Rattle.reg_tables.specs.declared.format.Format.TheVariants.{Second}
+use Rattle.reg_tables.specs.declared.schema.format.Format.TheVariants.{Second}
 use Rattle.reg_tables.specs.Rows.{deposit_table, is_of}
 use Rattle.reg_tables.specs.Register.{deposit_rows, deposits_in, mark_rows, mark_table, marks_of, with_marks}
 use Rattle.reg_tables.specs.Pushes.{equal_at, apart_at}

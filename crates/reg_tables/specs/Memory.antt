@@ -5,7 +5,6 @@ use Rattle.std.specs.Option.{ForSome}
 use Rattle.ags_dict.specs.Entries.{Entries}
 use Rattle.ags_check.specs.Findings.{CheckedFile}
 use Rattle.reg_store.specs.declared.keep.KeptHead.{KeptHead}
-use Rattle.reg_store.specs.declared.keep.ProjectRow.{ProjectRow}
 use Rattle.reg_store.specs.Keep.{OfDeposit}
 use Rattle.reg_store.specs.Project.{targets_of}
 use Rattle.reg_store.specs.Reading.{HasGraph, HasKeptRows, HasProjectRow, OfFile}
@@ -14,8 +13,8 @@ use Rattle.reg_store.specs.Deposit.{Deposit, sents}
 use Rattle.reg_tables.specs.declared.memory.Coming.{Coming}
 use Rattle.reg_tables.specs.declared.memory.Known.{Known}
 use Rattle.reg_tables.specs.declared.memory.Memory.{Memory}
-use Rattle.reg_tables.specs.declared.recent.RecentGraph.{RecentGraph}
-use Rattle.reg_tables.specs.declared.recent.RecentRows.{RecentRows}
+use Rattle.reg_tables.specs.declared.memory.recent.RecentGraph.{RecentGraph}
+use Rattle.reg_tables.specs.declared.memory.recent.RecentRows.{RecentRows}
 use Rattle.sqlite.specs.Effect.{Database}
 use Rattle.reg_tables.specs.Register.{IsRegister, deposits_in}
 use Rattle.reg_tables.specs.Digests.{AreBelow, AreDigested, found_at, numbers_under, own_digest}
@@ -78,7 +77,7 @@ pub record Recalls (db : Database) (dictionary : Entries) (memory : Memory) : Ty
 
 -- As many deposits are known, and what agreed with a list still does, if this is so of it and the number is one of its
 -- deposits.
-pub record Notes (old new : Memory) (n : ℕ) (IsRead : Entries → List Sent → Type 0) : Type 0 where
+pub record Remembers (old new : Memory) (n : ℕ) (IsRead : Entries → List Sent → Type 0) : Type 0 where
   pub long : length new.known.items ≡ length old.known.items
   pub agrees : (dictionary : Entries) (list : List Deposit) → IsNumberOf n list → IsRead dictionary (sents list)
       → Agrees old dictionary list → Agrees new dictionary list

@@ -7,9 +7,9 @@ use Rattle.sqlite.specs.State.{State, HasCleanDisk, Survives}
 use Rattle.ags_dict.specs.Entries.{Entries}
 use Rattle.reg_store.specs.Sent.{Sent}
 use Rattle.reg_store.specs.Deposit.{Deposit, unmarked}
-use Rattle.reg_tables.specs.declared.adopting.AdoptError.{AdoptError}
-use Rattle.reg_tables.specs.declared.adopting.AdoptError.TheVariants.{Store}
-use Rattle.reg_tables.specs.declared.format.Format.TheVariants.{First}
+use Rattle.reg_tables.specs.declared.error.AdoptError.{AdoptError}
+use Rattle.reg_tables.specs.declared.error.AdoptError.TheVariants.{Store}
+use Rattle.reg_tables.specs.declared.schema.format.Format.TheVariants.{First}
 use Rattle.reg_tables.specs.declared.memory.Memory.{Memory}
 use Rattle.reg_tables.specs.Tables.{register_schema}
 use Rattle.reg_tables.specs.Memory.{Agrees}

@@ -8,9 +8,9 @@ use Rattle.sqlite.specs.Effect.{Database, IsDatabase}
 use Rattle.sqlite.specs.State.{State, HasCleanDisk}
 use Rattle.sqlite.specs.Files.{AreFoundIn, HoldsDatabase}
 use Rattle.ags_dict.specs.Entries.{Entries}
-use Rattle.reg_tables.specs.declared.adopting.AdoptError.{AdoptError}
+use Rattle.reg_tables.specs.declared.error.AdoptError.{AdoptError}
 use Rattle.reg_store.specs.Deposit.{Deposit}
-use Rattle.reg_tables.specs.declared.format.Format.{Format}
+use Rattle.reg_tables.specs.declared.schema.format.Format.{Format}
 use Rattle.reg_tables.specs.Tables.{no_schema}
 use Rattle.reg_tables.specs.Register.{IsRegister, deposits_in}
 use Rattle.reg_tables.specs.Adoption.{Adopts}

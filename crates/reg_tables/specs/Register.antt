@@ -16,9 +16,9 @@ use Rattle.ags_dict.specs.Reading.{IsDictionary}
 use Rattle.ags_check.specs.Findings.{CheckedFile}
 use Rattle.reg_store.specs.Sent.{Sent}
 use Rattle.reg_store.specs.Deposit.{Deposit, sents}
-use Rattle.reg_tables.specs.declared.format.Format.{Format}
-use Rattle.reg_tables.specs.declared.format.Format.TheVariants.{First, Second}
-use Rattle.reg_tables.specs.Tables.{number_of, register_schema, schema_of}
+use Rattle.reg_tables.specs.declared.schema.format.Format.{Format}
+use Rattle.reg_tables.specs.declared.schema.format.Format.TheVariants.{First, Second}
+use Rattle.reg_tables.specs.Tables.{format_number, register_schema, schema_of}
 use Rattle.reg_tables.specs.Rows.{columns_3, deposit_table, dictionary_row, format_row, is_of, line_table, mark_column}
 use Rattle.reg_tables.specs.Rows.{mark_row, step_table, placed_rows, step_pair, rows_under}
 use Rattle.reg_store.specs.Fit.{IsFileOf, IsNamed, kept_rows}
@@ -112,7 +112,7 @@ pub record HoldsSent (format : Format) (db : Database) (dictionary : Entries) (l
   pub text : List ℕ
   pub short : length text ≤ READABLE
   pub reads : IsDictionary text dictionary
-  pub meta : IsPermutation (meta_columns (number_of format) text) (map columns_3 (db.trees 0))
+  pub meta : IsPermutation (meta_columns (format_number format) text) (map columns_3 (db.trees 0))
   pub deposits : IsPermutation (deposit_rows 1 list) (deposit_table db.trees)
   pub files : List CheckedFile
   pub each : AllZip (IsFileOf dictionary) list files

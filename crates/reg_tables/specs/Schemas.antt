@@ -7,13 +7,13 @@ use Rattle.sqlite_schema.specs.declared.schema.Column.{Column}
 use Rattle.sqlite_schema.specs.declared.schema.Index.{Index}
 use Rattle.sqlite_schema.specs.declared.schema.Reference.{Reference}
 use Rattle.sqlite_value.specs.declared.keys.Order.{Order}
-use Rattle.reg_tables.specs.declared.schema.ExpectedColumn.{ExpectedColumn}
-use Rattle.reg_tables.specs.declared.schema.ExpectedColumn.TheVariants.{Filled, RowNumber}
-use Rattle.reg_tables.specs.declared.schema.ExpectedIndex.{ExpectedIndex}
-use Rattle.reg_tables.specs.declared.schema.ExpectedKey.{ExpectedKey}
-use Rattle.reg_tables.specs.declared.schema.ExpectedKey.TheVariants as keys
-use Rattle.reg_tables.specs.declared.schema.ExpectedKey.TheVariants.{Columns}
-use Rattle.reg_tables.specs.declared.schema.ExpectedTable.{ExpectedTable}
+use Rattle.reg_tables.specs.declared.schema.expected.ExpectedColumn.{ExpectedColumn}
+use Rattle.reg_tables.specs.declared.schema.expected.ExpectedColumn.TheVariants.{Filled, RowNumber}
+use Rattle.reg_tables.specs.declared.schema.expected.ExpectedIndex.{ExpectedIndex}
+use Rattle.reg_tables.specs.declared.schema.expected.ExpectedKey.{ExpectedKey}
+use Rattle.reg_tables.specs.declared.schema.expected.ExpectedKey.TheVariants as keys
+use Rattle.reg_tables.specs.declared.schema.expected.ExpectedKey.TheVariants.{Columns}
+use Rattle.reg_tables.specs.declared.schema.expected.ExpectedTable.{ExpectedTable}
 use Rattle.reg_tables.specs.Tables.{column, simple, of_a_deposit, register_indexes}
 
 abbrev pub column_of : ExpectedColumn → Column

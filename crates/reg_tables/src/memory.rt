@@ -1,6 +1,8 @@
-//! What is known of the deposits without the tables: of each its head and what was read of it, and the rows and steps that were read last.
+//! What is known of the deposits without the tables: of each its head and what was read of it, and the rows and steps
+//! that were read last.
 
-ghost use Rattle.std.specs.Prelude.{◌≡◌, ◌≢◌, ◌↔◌, ◌+◌, ◌++◌, ◌∷◌, ◌-◌, ◌<◌, ◌≤◌, [], ℕ, List, length, map, false, Some, None, Err, slice_get, IsTrue, IfOk, IfErr, IfSome, OnOk};
+ghost use Rattle.std.specs.Prelude.{◌≡◌, ◌≢◌, ◌↔◌, ◌+◌, ◌++◌, ◌∷◌, ◌-◌, ◌<◌, ◌≤◌, [], List, length, false, Some, Err};
+ghost use Rattle.std.specs.Prelude.{slice_get, IsTrue, IfOk, IfErr, IfSome};
 ghost use Rattle.ags_dict.specs.Entries.{Entries};
 ghost use Rattle.reg_store.specs.Fit.{kept_rows};
 ghost use Rattle.reg_store.specs.Keep.{OfDeposit, fails};
@@ -12,37 +14,15 @@ ghost use Rattle.reg_tables.specs.Heads.{AreHeads};
 ghost use Rattle.reg_tables.specs.Register.{marks_of};
 ghost use Rattle.reg_tables.specs.Rows.{deposit_from};
 
-use crate::recent::{RecentGraph, RecentRows, small_graph, small_rows};
-use crate::repeats::{Digests, digest_of};
+pub(crate) mod digests;
+pub(crate) mod recent;
+
+use crate::memory::digests::{Digests, digest_of};
+use crate::memory::recent::{RecentGraph, RecentRows, small_graph, small_rows};
 use ags_links::Graph;
 use reg_policy::{Day, Name};
 use reg_store::{KeepError, KeptHead, KeptRow, ProjectRow, project_row};
 use std::alloc::{AllocError, Global};
-
-/// The most rows of PROJ in memory.
-const MOST_PROJECTS: u32 = 65_536;
-
-/// The most bytes of a row of PROJ in memory, with its HEADING row.
-const MOST_BYTES: usize = 1_024;
-
-/// What is known of a deposit.
-#[derive(Drop)]
-pub(crate) struct Known {
-    pub(crate) head: KeptHead,
-    /// Its row of PROJ, if that was read.
-    pub(crate) project: Option<ProjectRow>,
-    /// The DATA row that was read last to have no step.
-    pub(crate) alone: Option<u32>,
-}
-
-/// A deposit to come, for which there is room.
-#[derive(Drop)]
-pub(crate) struct Coming {
-    known: Known,
-    digest: [u8; 32],
-    /// The numbers of its digest, its own the last of them.
-    numbers: Vec<u32>,
-}
 
 /// What is known of the deposits.
 #[derive(Drop)]
@@ -61,7 +41,7 @@ pub(crate) struct Memory {
 }
 
 impl Memory {
-    ghost use Rattle.reg_tables.specs.Memory.{Agrees, HasNoTarget, HasRoom, IsComing, Notes, bare_of};
+    ghost use Rattle.reg_tables.specs.Memory.{Agrees, HasNoTarget, HasRoom, IsComing, Remembers};
 
     /// No deposit is known.
     pub(crate) fn new(alloc: Global) -> Memory
@@ -228,7 +208,7 @@ impl Memory {
         n: u32,
         read: &Result<Vec<KeptRow>, KeepError>,
     )
-        ensures { Notes self.old self.new n (λ dictionary list. IfOk read.now (λ rows.
+        ensures { Remembers self.old self.new n (λ dictionary list. IfOk read.now (λ rows.
             OfDeposit dictionary list n (HasKeptRows rows))) }
     {
         if let Ok(rows) = read {
@@ -238,7 +218,7 @@ impl Memory {
 
     /// Keeps a copy of the steps that were read of deposit n, if they are few and there is memory for it.
     pub(crate) fn note_graph(&mut self, alloc: Global, n: u32, read: &Result<Graph, KeepError>)
-        ensures { Notes self.old self.new n (λ dictionary list. IfOk read.now (λ graph.
+        ensures { Remembers self.old self.new n (λ dictionary list. IfOk read.now (λ graph.
             OfDeposit dictionary list n (HasGraph graph))) }
     {
         if let Ok(graph) = read {
@@ -253,7 +233,7 @@ impl Memory {
         n: u32,
         read: &Result<Option<ProjectRow>, KeepError>,
     )
-        ensures { Notes self.old self.new n (λ dictionary list. IfOk read.now (λ found.
+        ensures { Remembers self.old self.new n (λ dictionary list. IfOk read.now (λ found.
             OfDeposit dictionary list n (HasProjectRow found))) }
     {
         let Ok(found) = read else {
@@ -273,7 +253,7 @@ impl Memory {
 
     /// Keeps that this row of deposit n has no step, if none was read.
     pub(crate) fn note_targets(&mut self, n: u32, row: u32, read: &Result<Vec<u32>, KeepError>)
-        ensures { Notes self.old self.new n (λ dictionary list. IfOk read.now (λ targets.
+        ensures { Remembers self.old self.new n (λ dictionary list. IfOk read.now (λ targets.
             OfDeposit dictionary list n (HasTargets row targets))) }
     {
         let Ok(targets) = read else {
@@ -348,6 +328,31 @@ impl Memory {
         }
     }
 }
+
+/// What is known of a deposit.
+#[derive(Drop)]
+pub(crate) struct Known {
+    pub(crate) head: KeptHead,
+    /// Its row of PROJ, if that was read.
+    pub(crate) project: Option<ProjectRow>,
+    /// The DATA row that was read last to have no step.
+    pub(crate) alone: Option<u32>,
+}
+
+/// A deposit to come, for which there is room.
+#[derive(Drop)]
+pub(crate) struct Coming {
+    known: Known,
+    digest: [u8; 32],
+    /// The numbers of its digest, its own the last of them.
+    numbers: Vec<u32>,
+}
+
+/// The most rows of PROJ in memory.
+const MOST_PROJECTS: u32 = 65_536;
+
+/// The most bytes of a row of PROJ in memory, with its HEADING row.
+const MOST_BYTES: usize = 1_024;
 
 /// Whether the row is so short that it may be in memory.
 fn is_short(row: &ProjectRow) -> bool {

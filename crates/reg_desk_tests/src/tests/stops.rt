@@ -16,7 +16,7 @@ use reg_desk::Desk;
 use reg_policy::vectors::CALLERS;
 use reg_policy::{Callers, Name, Policy};
 use reg_store::Keep;
-use reg_tables::{AdoptError, CreateError, SqlKeep};
+use reg_tables::{AdoptError, CreateError, NoProgress, SqlKeep};
 use sqlite::{Alter, Connection, FileStore, Files, Options};
 use sqlite_disk::{Crash, Disk, Fuse, Memory};
 use std::alloc::{AllocError, Global};
@@ -299,7 +299,7 @@ fn looked_at<S: Alter + Drop>(
     stage: Stage,
     connection: Connection<S>,
 ) -> (Option<Stage>, Connection<S>) {
-    match SqlKeep::adopt(alloc, connection) {
+    match SqlKeep::adopt(alloc, connection, &mut NoProgress) {
         Ok(keep) => visited_tables(alloc, keep, Visit::LookAt(stage)),
         Err((AdoptError::NotRegister, connection)) => made_anew(alloc, stage, connection),
         Err((_, connection)) => (None, connection),

@@ -7,7 +7,7 @@ use super::files::File;
 use super::{AskMade, Call, Case, SAME, ask_in_memory, ask_tables};
 use ags_rows::vectors::MINI;
 use reg_store::KeepError;
-use reg_tables::{AdoptError, CreateError, MigrateError, SqlKeep};
+use reg_tables::{AdoptError, CreateError, MigrateError, NoProgress, SqlKeep};
 use sqlite::{Alter, Connection};
 use std::alloc::Global;
 use std::test::Fail;
@@ -91,9 +91,13 @@ fn migrated<S: Alter + Drop>(
     alloc: Global,
     connection: Connection<S>,
 ) -> Result<&'static str, KeepError> {
-    match SqlKeep::migrate_in(alloc, connection) {
+    match SqlKeep::migrate_in(alloc, connection, &mut NoProgress) {
         Ok(keep) => held(alloc, keep),
-        Err((MigrateError::NoMemory, connection)) => match SqlKeep::migrate_in(alloc, connection) {
+        Err((MigrateError::NoMemory, connection)) => match SqlKeep::migrate_in(
+            alloc,
+            connection,
+            &mut NoProgress,
+        ) {
             Ok(keep) => held(alloc, keep),
             Err(_) => Ok("migrated after it was out of memory"),
         },
@@ -106,7 +110,11 @@ fn held<S: Alter + Drop>(alloc: Global, keep: SqlKeep<S>) -> Result<&'static str
     requires { keep.has_failed ≡ false }
 {
     let (first, connection) = ask_tables(alloc, keep, Compare(&HELD));
-    match version(alloc, SqlKeep::migrate_in(alloc, connection), 2)? {
+    match version(
+        alloc,
+        SqlKeep::migrate_in(alloc, connection, &mut NoProgress),
+        2,
+    )? {
         Some(_connection) => first,
         None => Ok("version 2"),
     }
@@ -128,7 +136,7 @@ impl AskMade for Migrate {
             return Err(KeepError::NoMemory);
         };
         let connection = made_first(alloc, keep)?;
-        match version(alloc, SqlKeep::adopt(alloc, connection), 1)? {
+        match version(alloc, SqlKeep::adopt(alloc, connection, &mut NoProgress), 1)? {
             Some(connection) => migrated(alloc, connection),
             None => Ok("version 1"),
         }

@@ -70,7 +70,7 @@ impl AskMade for Adopt {
             wanted: 0,
             others: 0,
         };
-        match SqlKeep::adopt_with(alloc, connection, &mut calls) {
+        match SqlKeep::adopt(alloc, connection, &mut calls) {
             Ok(_keep) => Some(calls),
             Err((_, _connection)) => None,
         }

@@ -8,7 +8,7 @@ use super::migrating::{SENT, made_first};
 use super::{Call, Case, SAME, ask_tables};
 use ags_rows::vectors::MINI;
 use reg_store::KeepError;
-use reg_tables::{AdoptError, MigrateError, SqlKeep};
+use reg_tables::{AdoptError, MigrateError, NoProgress, SqlKeep};
 use sqlite::{Alter, Connection, FileStore, Files, Options};
 use sqlite_disk::{Crash, Disk, Fuse, Memory};
 use std::alloc::{AllocError, Global};
@@ -110,7 +110,7 @@ fn migrated<S: Alter + Drop>(
     alloc: Global,
     connection: Connection<S>,
 ) -> (Option<End>, Connection<S>) {
-    match SqlKeep::migrate_in(alloc, connection) {
+    match SqlKeep::migrate_in(alloc, connection, &mut NoProgress) {
         Ok(keep) => (Some(End::Answered), keep.into_connection()),
         Err((MigrateError::Store, connection)) => (Some(End::Stopped), connection),
         Err((_, connection)) => (None, connection),
@@ -122,7 +122,7 @@ fn withdrawn<S: Alter + Drop>(
     alloc: Global,
     connection: Connection<S>,
 ) -> (Option<End>, Connection<S>) {
-    match SqlKeep::adopt(alloc, connection) {
+    match SqlKeep::adopt(alloc, connection, &mut NoProgress) {
         Ok(keep) => {
             let (answered, connection) = ask_tables(alloc, keep, Compare(&WITHDRAW));
             match answered {
@@ -150,10 +150,10 @@ fn is_whole<S: Alter + Drop>(
     connection: Connection<S>,
     end: End,
 ) -> (bool, Connection<S>) {
-    match SqlKeep::adopt(alloc, connection) {
+    match SqlKeep::adopt(alloc, connection, &mut NoProgress) {
         Ok(keep) => holds(alloc, keep),
         Err((AdoptError::Version(1), connection)) => {
-            match SqlKeep::migrate_in(alloc, connection) {
+            match SqlKeep::migrate_in(alloc, connection, &mut NoProgress) {
                 Ok(keep) => {
                     let (held, connection) = holds(alloc, keep);
                     (held && end == End::Stopped, connection)
@@ -171,13 +171,13 @@ fn is_marked<S: Alter + Drop>(
     connection: Connection<S>,
     end: End,
 ) -> (bool, Connection<S>) {
-    match SqlKeep::adopt(alloc, connection) {
+    match SqlKeep::adopt(alloc, connection, &mut NoProgress) {
         Ok(keep) => {
             let (first, connection) = ask_tables(alloc, keep, Compare(&MARKED));
             if first == Ok(SAME) {
                 return (true, connection);
             }
-            match SqlKeep::adopt(alloc, connection) {
+            match SqlKeep::adopt(alloc, connection, &mut NoProgress) {
                 Ok(keep) => {
                     let (held, connection) = holds(alloc, keep);
                     (held && end == End::Stopped, connection)

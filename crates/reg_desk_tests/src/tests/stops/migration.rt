@@ -5,7 +5,7 @@ use crate::tests::bodies::{A, B};
 use crate::tests::examples::UNTIL;
 use crate::tests::{Ask, Step, Want};
 use ags_rows::vectors::MINI;
-use reg_tables::{AdoptError, MigrateError, SqlKeep};
+use reg_tables::{AdoptError, MigrateError, NoProgress, SqlKeep};
 use sqlite::{Alter, Connection};
 use std::alloc::Global;
 
@@ -42,7 +42,7 @@ pub(super) fn migrated<S: Alter + Drop>(
     alloc: Global,
     connection: Connection<S>,
 ) -> (Option<Stage>, Connection<S>) {
-    match SqlKeep::migrate_in(alloc, connection) {
+    match SqlKeep::migrate_in(alloc, connection, &mut NoProgress) {
         Ok(keep) => (Some(Stage::Closing), keep.into_connection()),
         Err((MigrateError::Store, connection)) => (Some(Stage::Making), connection),
         Err((_, connection)) => (None, connection),
@@ -58,7 +58,7 @@ fn migrated_again<S: Alter + Drop>(
     if !matches!(stage, Stage::Making) {
         return (None, connection);
     }
-    match SqlKeep::migrate_in(alloc, connection) {
+    match SqlKeep::migrate_in(alloc, connection, &mut NoProgress) {
         Ok(keep) => visited_tables(alloc, keep, Visit::Play(&AS_BEFORE, stage)),
         Err((_, connection)) => (None, connection),
     }
@@ -71,7 +71,7 @@ pub(super) fn looked_at_migrated<S: Alter + Drop>(
     stage: Stage,
     connection: Connection<S>,
 ) -> (Option<Stage>, Connection<S>) {
-    match SqlKeep::adopt(alloc, connection) {
+    match SqlKeep::adopt(alloc, connection, &mut NoProgress) {
         Ok(keep) => visited_tables(alloc, keep, Visit::Play(&AS_BEFORE, stage)),
         Err((AdoptError::Version(1), connection)) => migrated_again(alloc, stage, connection),
         Err((_, connection)) => (None, connection),

@@ -1,0 +1,46 @@
+use Rattle.std.proofs.Common.{refl, sym, ◌∙◌}
+use Rattle.sqlite.specs.Held.{state}
+use Rattle.reg_tables.proofs.QuietLaws.{clean_before}
+use Rattle.reg_tables.proofs.KeepLaws.{idle_at}
+use Rattle.reg_tables.proofs.MethodsLaws.{rows_at}
+use Rattle.reg_tables.specs.Register.{deposits_in}
+use Rattle.reg_tables.proofs.MemoryLemmas.{agrees_noted, keeps_noted}
+use Rattle.reg_tables.proofs.ReadsLemmas.{reads_still}
+use Rattle.reg_tables.proofs.keep.SqlKeepKeep.rows.Goals as goal
+
+pub read_lines-found-requires : goal.read_lines-found-requires
+read_lines-found-requires g c = record { idle = idle_at (state g.S.Store c.args.self.now.connection) c.args.self.now.idle (c.args.self.now.kept c.requires.working) }
+
+pub invariant_of-self-clause-idle : goal.invariant_of-self-clause-idle
+invariant_of-self-clause-idle g c = c.read_lines-found.ensures.quiet.idle
+
+pub invariant_of-self-clause-kept : goal.invariant_of-self-clause-kept
+invariant_of-self-clause-kept g c works clean =
+    let keep = c.args.self.now in
+    keeps_noted (state g.S.Store keep.connection) (state g.S.Store c.read_lines-found.new.conn) keep.memory c.note_rows.new.self keep.dictionary c.args.n (keep.kept c.requires.working) c.read_lines-found.ensures.quiet c.note_rows.ensures clean (sym c.has_store_error-self.ensures ∙ works)
+
+pub invariant_of-self-clause-agrees : goal.invariant_of-self-clause-agrees
+invariant_of-self-clause-agrees g c works clean =
+    let keep = c.args.self.now in
+    let old = state g.S.Store keep.connection in
+    let new = state g.S.Store c.read_lines-found.new.conn in
+    let first = clean_before old new c.read_lines-found.ensures.quiet.survives clean in
+    let its = c.requires.number first in
+    agrees_noted old new keep.memory c.note_rows.new.self keep.dictionary c.args.n (keep.agrees c.requires.working) c.read_lines-found.ensures.quiet c.note_rows.ensures its (rows_at (λ x. x.items) {s = old} c.args.n c.read_lines-found.result its.0 (keep.kept c.requires.working first) (c.read_lines-found.ensures.found clean)) clean (sym c.has_store_error-self.ensures ∙ works)
+
+pub returns-clause-leaves : goal.returns-clause-leaves
+returns-clause-leaves g c = reads_still (λ k. state g.S.Store k.connection) (λ k. k.dictionary) 999999 (λ k. k.has_failed) _ _ _ c.read_lines-found.ensures.quiet refl c.has_store_error-self.ensures
+
+pub returns-clause-read : goal.returns-clause-read
+returns-clause-read g c clean =
+    let keep = c.args.self.now in
+    let old = state g.S.Store keep.connection in
+    let new = state g.S.Store c.read_lines-found.new.conn in
+    let first = clean_before old new c.read_lines-found.ensures.quiet.survives clean in
+    let its = c.requires.number first in
+    rows_at (λ x. x.items) {s = old} c.args.n c.read_lines-found.result its.0 (keep.kept c.requires.working first) (c.read_lines-found.ensures.found clean)
+
+pub returns-in-Some-clause-read : goal.returns-in-Some-clause-read
+returns-in-Some-clause-read g c clean =
+    let keep = c.args.self.now in
+    λ d file at of. c.in_ok-copied.ensures ∙ c.in-Some.ensures keep.dictionary (deposits_in (state g.S.Store keep.connection).committed.trees) (keep.agrees c.requires.working clean) d file at of

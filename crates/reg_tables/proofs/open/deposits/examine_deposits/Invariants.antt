@@ -1,0 +1,26 @@
+use Rattle.std.proofs.Common.{◌≡◌, ◌+◌, ◌<◌, ◌≤◌, ℕ, List, length, take, false}
+use Rattle.std.specs.List.Sorted.{IsPermutation}
+use Rattle.sqlite.specs.State.{HasCleanDisk}
+use Rattle.sqlite.specs.Held.{state}
+use Rattle.reg_store.specs.Sent.{Sent}
+use Rattle.reg_tables.specs.Rows.{deposit_table}
+use Rattle.reg_tables.specs.Register.{deposit_rows}
+use Rattle.reg_tables.specs.Digests.{AreBelow, HoldsDigests}
+use Rattle.reg_tables.specs.Heads.{AreHeads}
+use Rattle.reg_tables.specs.Quiet.{IsIdle, IsStill}
+use Rattle.reg_tables.specs.Whole.{IsWhole}
+use Rattle.reg_tables.proofs.open.deposits.examine_deposits.Given as goal
+
+abbrev pub invariant-loop-at : goal.invariant-loop-at
+invariant-loop-at g l =
+    let old = state g.S.Store l.fn.conn in
+    let now = state g.S.Store l.conn in
+    record {
+      idle : IsIdle now;
+      still : IsStill old now false;
+      whole : HasCleanDisk now → (k : ℕ) → k < l.at → ∥ IsWhole old.now l.dictionary (k + 1) ∥₁;
+      long : length l.heads.items ≡ l.at;
+      heads : HasCleanDisk now → (list : List Sent) → IsPermutation (deposit_rows 1 list) (deposit_table old.now.trees) → l.at ≤ length list → AreHeads l.heads.items (take l.at list);
+      below : AreBelow l.digests (l.at + 1);
+      digested : HasCleanDisk now → HoldsDigests old.now (l.at + 1) l.digests;
+    }

@@ -1,0 +1,10 @@
+use Rattle.std.proofs.lemmas.Result.{on_ok_weaker}
+use Rattle.reg_tables.proofs.QuietLaws.{clean_before}
+use Rattle.reg_tables.proofs.CreateLemmas.{second_ran}
+use Rattle.reg_tables.proofs.open.new_tables.create_second.Goals as goal
+
+pub returns-clause-made : goal.returns-clause-made
+returns-clause-made g c clean =
+    let late = clean_before _ _ c.run-2.ensures.survives clean in
+    let first = c.requires.first (clean_before _ _ c.run.ensures.survives late) in
+    on_ok_weaker c.run-2.result (second_ran _ _ _ first (c.in_ok-run.ensures.ran late)) (c.run-2.ensures.ran clean)

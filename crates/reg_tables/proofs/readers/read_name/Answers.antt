@@ -1,9 +1,0 @@
-use Rattle.std.proofs.Common.{◌≡◌}
-use Rattle.reg_store.specs.declared.keep.KeepError.TheVariants.{Store}
-use Rattle.reg_tables.proofs.ReadersLemmas.{name_utf8}
-use Rattle.reg_tables.proofs.readers.read_name.Goals as goal
-
-pub returns-in-Err-clause-other : goal.returns-in-Err-clause-other
-returns-in-Err-clause-other c is name named same =
-    let store : c.read_error.result ≡ Store = cc in
-    c.in-Err.ensures.kind (c.read_error.ensures.store store) c.requires (name, same, name_utf8 name named)

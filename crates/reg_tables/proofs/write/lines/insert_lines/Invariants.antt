@@ -1,0 +1,13 @@
+use Rattle.std.proofs.Common.{◌≡◌, ◌*◌, take}
+use Rattle.sqlite.specs.State.{HasCleanDisk, KeepsCommit, Survives}
+use Rattle.sqlite.specs.Held.{state}
+use Rattle.reg_tables.specs.Rows.{line_rows}
+use Rattle.reg_tables.specs.Inserts.{AddsLines}
+use Rattle.reg_tables.specs.Inside.{Inside}
+use Rattle.reg_tables.proofs.write.lines.insert_lines.Given as goal
+
+abbrev pub invariant-loop-part : goal.invariant-loop-part
+invariant-loop-part g l =
+    let old = state g.S.Store l.fn.tx.conn.now in
+    let now = state g.S.Store l.tx.conn.now in
+    (l.tx.conn.ghost_name ≡ l.initial.tx.conn.ghost_name) × Survives old now (λ _. ⊥) × (HasCleanDisk now → KeepsCommit old now) × (HasCleanDisk now → Inside (AddsLines (line_rows l.number 0 (take (l.part * 8) l.rows))) old now)

@@ -1,0 +1,12 @@
+use Rattle.std.proofs.Common.{◌≡◌, length, take}
+use Rattle.std.specs.List.{flat_map}
+use Rattle.sqlite.specs.Values.{bound}
+use Rattle.reg_tables.specs.Rows.{joined, line_rows}
+use Rattle.reg_tables.proofs.write.lines.put_lines.Given as goal
+
+-- the values of the rows so far
+abbrev pub invariant-loop-i : goal.invariant-loop-i
+invariant-loop-i l = record {
+  eight : length l.values ≡ 8;
+  values : bound (flat_map (λ v. v) (take l.i l.values)) ≡ joined (line_rows l.number l.from (take l.i l.rows));
+}

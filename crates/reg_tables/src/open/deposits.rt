@@ -1,0 +1,357 @@
+//! Whether the deposits in the tables are whole, and their heads and digests.
+
+ghost use Rattle.std.specs.Prelude.{◌≡◌, ◌≢◌, ◌≤◌, ◌+◌, ◌∷◌, [], ℕ, List, length, true, Ok, Err, IfOk, IfErr, IfSome};
+ghost use Rattle.sqlite.specs.State.{HasCleanDisk};
+ghost use Rattle.sqlite.specs.Held.{state};
+ghost use Rattle.sqlite.specs.Tree.{IsAscending};
+ghost use Rattle.ags_links.specs.Steps.{IsBefore};
+ghost use Rattle.ags_check.specs.Findings.{IsClean};
+ghost use Rattle.reg_store.specs.Keep.{fails, sent_of};
+ghost use Rattle.reg_tables.specs.Quiet.{IsIdle, IsStill, FindsThat};
+ghost use Rattle.reg_tables.specs.Found.{FindsOneIf, FindsOut, OnYes};
+ghost use Rattle.reg_tables.specs.Rows.{given_deposit};
+ghost use Rattle.reg_tables.specs.Heads.{HoldsHeads, IsDigestedAt, AddsHead, IsDigestedFrom};
+ghost use Rattle.reg_tables.specs.Digests.{AreBelow, HoldsDigests, IsNew, numbers_under, own_digest};
+ghost use Rattle.reg_store.specs.Fit.{IsNamed, kept_rows};
+ghost use Rattle.reg_store.specs.Sent.{Sent};
+ghost use Rattle.reg_tables.specs.Whole.{AreWhole, HoldsBody, IsWhole};
+ghost use Rattle.reg_tables.specs.Methods.{HoldsLines, HoldsSteps};
+
+use crate::memory::digests::{Digests, digest_of};
+use crate::open::compare::{SameLines, SameSteps, are_all};
+use crate::open::head::{DigestedHead, into_head};
+use crate::open::progress::Progress;
+use crate::read::equal::read_equal;
+use crate::read::gather::take_shown;
+use crate::read::read_numbered;
+use crate::read::rows::deposit_in;
+use crate::write::lines::few_rows;
+use ags_check::{CheckError, Checked, check};
+use ags_dict::Dictionary;
+use ags_rows::LIMIT;
+use reg_store::{KeepError, Kept, KeptHead, KeptRow};
+use sqlite::{Alter, Connection, Row, params};
+use std::alloc::Global;
+
+/// Whether the deposits from 1 to the count are whole. Their heads and digests are put into the lists.
+pub(crate) fn examine_deposits<S: Alter, P: Progress>(
+    conn: &mut Connection<S>,
+    alloc: Global,
+    dictionary: &Dictionary,
+    count: u32,
+    heads: &mut Vec<KeptHead>,
+    digests: &mut Digests,
+    progress: &mut P,
+) -> Result<bool, KeepError>
+    requires idle { IsIdle (state S.Store conn.old) }
+    requires none { heads.old.items ≡ [] }
+    requires no_digests { (digest : List ℕ) → numbers_under digests.old digest ≡ [] }
+
+    // Whether the deposits are whole.
+    ensures tested { FindsOut result (λ db. AreWhole db dictionary.now count)
+        (state S.Store conn.old) (state S.Store conn.new) }
+
+    // The heads and digests in the lists, where the deposits are whole.
+    ensures long { result ≡ Ok true → length heads.new.items ≡ count }
+    ensures heads { OnYes result (λ db. HoldsHeads db count heads.new.items)
+        (state S.Store conn.old) (state S.Store conn.new) }
+    ensures below { result ≡ Ok true → AreBelow digests.new (count + 1) }
+    ensures digests { OnYes result (λ db. HoldsDigests db (count + 1) digests.new)
+        (state S.Store conn.old) (state S.Store conn.new) }
+
+    // Which refusal never comes.
+    ensures refused { IfErr result (λ e. e ≢ KeepError.Full) }
+
+    // What is left in either case.
+    ensures quiet { IsStill (state S.Store conn.old) (state S.Store conn.new) (fails result) }
+{
+    progress.checked(0, count);
+    for at in 0..count {
+        match examine_deposit(conn, alloc, dictionary, at + 1, heads, digests) {
+            Ok(true) => progress.checked(at + 1, count),
+            Ok(false) => return Ok(false),
+            Err(error) => return Err(error),
+        }
+    }
+    Ok(true)
+}
+
+/// Whether the deposit of a number is whole. Its head and its digest are then put into the lists, which are those of
+/// the numbers below.
+fn examine_deposit<S: Alter>(
+    conn: &mut Connection<S>,
+    alloc: Global,
+    dictionary: &Dictionary,
+    number: u32,
+    heads: &mut Vec<KeptHead>,
+    digests: &mut Digests,
+) -> Result<bool, KeepError>
+    requires idle { IsIdle (state S.Store conn.old) }
+    requires below { AreBelow digests.old number }
+    requires digested { HasCleanDisk (state S.Store conn.old)
+        → HoldsDigests (state S.Store conn.old).now number digests.old }
+    ensures tested { FindsOut result (λ db. IsWhole db dictionary.now number)
+        (state S.Store conn.old) (state S.Store conn.new) }
+    ensures put { AddsHead result number heads.old heads.new digests.old digests.new
+        (state S.Store conn.old) (state S.Store conn.new) }
+    ensures refused { IfErr result (λ e. e ≢ KeepError.Full) }
+    ensures quiet { IsStill (state S.Store conn.old) (state S.Store conn.new) (fails result) }
+{
+    match whole_head(conn, alloc, dictionary, number, digests) {
+        Ok(Some(one)) => {
+            let DigestedHead { head, digest } = one;
+            heads.push(head)?;
+            digests.add(alloc, digest, number)?;
+            Ok(true)
+        }
+        Ok(None) => Ok(false),
+        Err(error) => Err(error),
+    }
+}
+
+/// The head of a number's deposit with its digest, if that deposit is whole. The digests are those of the numbers
+/// below.
+fn whole_head<S: Alter>(
+    conn: &mut Connection<S>,
+    alloc: Global,
+    dictionary: &Dictionary,
+    number: u32,
+    digests: &Digests,
+) -> Result<Option<DigestedHead>, KeepError>
+    requires idle { IsIdle (state S.Store conn.old) }
+    requires below { AreBelow digests.now number }
+    requires digested { HasCleanDisk (state S.Store conn.old)
+        → HoldsDigests (state S.Store conn.old).now number digests.now }
+    ensures tested { FindsOneIf result (λ db. IsWhole db dictionary.now number)
+        (state S.Store conn.old) (state S.Store conn.new) }
+    ensures head { FindsThat result (λ db found. IfSome found (IsDigestedAt db number))
+        (state S.Store conn.old) (state S.Store conn.new) }
+    ensures refused { IfErr result (λ e. e ≢ KeepError.Full) }
+    ensures quiet { IsStill (state S.Store conn.old) (state S.Store conn.new) (fails result) }
+{
+    let rows = match read_numbered(conn, number) {
+        Ok(rows) => rows,
+        Err(error) => return Err(error),
+    };
+    match take_deposit(alloc, number, rows) {
+        Ok(kept) => kept_head(conn, alloc, dictionary, number, kept, digests),
+        Err(KeepError::Store) => Ok(None),
+        Err(error) => Err(error),
+    }
+}
+
+/// The deposit of a number, which is the one row of the answer. The row goes, so that its body is held once.
+fn take_deposit(alloc: Global, number: u32, rows: Vec<Row>) -> Result<Kept, KeepError>
+    ensures read { IfOk result (λ kept. rows.items ≡ given_deposit number (sent_of kept) ∷ []) }
+    ensures is_named { IfOk result (λ kept. IsNamed (sent_of kept)) }
+    ensures refused { IfErr result (λ e. e ≢ KeepError.Full) }
+    ensures other { result ≡ Err KeepError.Store → (d : Sent) → IsNamed d
+        → rows.items ≡ given_deposit number d ∷ [] → ⊥ }
+{
+    deposit_in(alloc, number, &rows)
+}
+
+/// The head of a deposit with its digest, if the deposit is whole. The digests are those of the numbers below.
+fn kept_head<S: Alter>(
+    conn: &mut Connection<S>,
+    alloc: Global,
+    dictionary: &Dictionary,
+    number: u32,
+    kept: Kept,
+    digests: &Digests,
+) -> Result<Option<DigestedHead>, KeepError>
+    requires idle { IsIdle (state S.Store conn.old) }
+    ensures tested { FindsOneIf result (λ db. HoldsBody db dictionary.now number (sent_of kept)
+        × IsNew db (numbers_under digests.now (own_digest (sent_of kept))) (sent_of kept))
+        (state S.Store conn.old) (state S.Store conn.new) }
+    ensures head { IfOk result (λ found. IfSome found (IsDigestedFrom (sent_of kept))) }
+    ensures refused { IfErr result (λ e. e ≢ KeepError.Full) }
+    ensures quiet { IsStill (state S.Store conn.old) (state S.Store conn.new) (fails result) }
+{
+    let digest = digest_of(&kept.firm, &kept.project, kept.bytes.as_slice());
+    match examine_kept(conn, alloc, dictionary, number, &kept, digests.of(&digest)) {
+        Ok(true) => Ok(Some(DigestedHead {
+            head: into_head(kept),
+            digest,
+        })),
+        Ok(false) => Ok(None),
+        Err(error) => Err(error),
+    }
+}
+
+/// Whether the deposit has no finding, its lines and steps are kept, and none of these numbers is that of an equal one.
+fn examine_kept<S: Alter>(
+    conn: &mut Connection<S>,
+    alloc: Global,
+    dictionary: &Dictionary,
+    number: u32,
+    kept: &Kept,
+    numbers: &[u32],
+) -> Result<bool, KeepError>
+    requires idle { IsIdle (state S.Store conn.old) }
+    ensures tested { FindsOut result (λ db. HoldsBody db dictionary.now number (sent_of kept.now)
+        × IsNew db numbers.now (sent_of kept.now))
+        (state S.Store conn.old) (state S.Store conn.new) }
+    ensures refused { IfErr result (λ e. e ≢ KeepError.Full) }
+    ensures quiet { IsStill (state S.Store conn.old) (state S.Store conn.new) (fails result) }
+{
+    match examine_body(conn, alloc, dictionary, number, kept) {
+        Ok(true) => examine_repeats(conn, alloc, numbers, kept),
+        Ok(false) => Ok(false),
+        Err(error) => Err(error),
+    }
+}
+
+/// Whether no deposit of these numbers is equal to this one.
+fn examine_repeats<S: Alter>(
+    conn: &mut Connection<S>,
+    alloc: Global,
+    numbers: &[u32],
+    kept: &Kept,
+) -> Result<bool, KeepError>
+    requires idle { IsIdle (state S.Store conn.old) }
+    ensures tested { FindsOut result (λ db. IsNew db numbers.now (sent_of kept.now))
+        (state S.Store conn.old) (state S.Store conn.new) }
+    ensures refused { IfErr result (λ e. e ≢ KeepError.Full) }
+    ensures quiet { IsStill (state S.Store conn.old) (state S.Store conn.new) (fails result) }
+{
+    match read_equal(
+        conn,
+        alloc,
+        numbers,
+        &kept.firm,
+        &kept.project,
+        kept.bytes.as_slice(),
+    ) {
+        Ok(Some(_number)) => Ok(false),
+        Ok(None) => Ok(true),
+        Err(error) => Err(error),
+    }
+}
+
+/// Whether the deposit has no finding and is not too long, and the lines and steps of its file are those that are kept
+/// of it.
+fn examine_body<S: Alter>(
+    conn: &mut Connection<S>,
+    alloc: Global,
+    dictionary: &Dictionary,
+    number: u32,
+    kept: &Kept,
+) -> Result<bool, KeepError>
+    requires idle { IsIdle (state S.Store conn.old) }
+    ensures tested { FindsOut result (λ db. HoldsBody db dictionary.now number (sent_of kept.now))
+        (state S.Store conn.old) (state S.Store conn.new) }
+    ensures refused { IfErr result (λ e. e ≢ KeepError.Full) }
+    ensures quiet { IsStill (state S.Store conn.old) (state S.Store conn.new) (fails result) }
+{
+    let bytes = kept.bytes.as_slice();
+    if bytes.len() > LIMIT {
+        return Ok(false);
+    }
+    match check(alloc, dictionary, bytes) {
+        Ok(file) => examine_checked(conn, alloc, number, &file),
+        Err(CheckError::Findings(_found)) => Ok(false),
+        Err(CheckError::NoMemory) => Err(KeepError::NoMemory),
+    }
+}
+
+/// Whether the lines and steps that are kept of a deposit are those of this file.
+fn examine_checked<S: Alter>(
+    conn: &mut Connection<S>,
+    alloc: Global,
+    number: u32,
+    file: &Checked<'_>,
+) -> Result<bool, KeepError>
+    requires idle { IsIdle (state S.Store conn.old) }
+    requires clean { IsClean file.now }
+    ensures tested { FindsOut result (λ db. HoldsLines db number (kept_rows file.now.groups)
+        × HoldsSteps db number file.now.graph.steps)
+        (state S.Store conn.old) (state S.Store conn.new) }
+    ensures refused { IfErr result (λ e. e ≢ KeepError.Full) }
+    ensures quiet { IsStill (state S.Store conn.old) (state S.Store conn.new) (fails result) }
+{
+    match few_rows(alloc, file.scan().groups()) {
+        Ok(lines) => examine_file(conn, number, lines.as_slice(), file.graph().steps()),
+        Err(_) => Err(KeepError::NoMemory),
+    }
+}
+
+/// Whether these are the lines and steps that are kept of a deposit.
+fn examine_file<S: Alter>(
+    conn: &mut Connection<S>,
+    number: u32,
+    lines: &[KeptRow],
+    steps: &[(u32, u32)],
+) -> Result<bool, KeepError>
+    requires idle { IsIdle (state S.Store conn.old) }
+    requires few { length lines.now ≤ 4294967295 }
+    requires rising { IsAscending IsBefore steps.now }
+    ensures tested { FindsOut result (λ db. HoldsLines db number lines.now × HoldsSteps db number steps.now)
+        (state S.Store conn.old) (state S.Store conn.new) }
+    ensures refused { IfErr result (λ e. e ≢ KeepError.Full) }
+    ensures quiet { IsStill (state S.Store conn.old) (state S.Store conn.new) (fails result) }
+{
+    match examine_lines(conn, number, lines) {
+        Ok(true) => examine_steps(conn, number, steps),
+        Ok(false) => Ok(false),
+        Err(error) => Err(error),
+    }
+}
+
+/// Whether these are the lines that are kept of a deposit.
+fn examine_lines<S: Alter>(
+    conn: &mut Connection<S>,
+    number: u32,
+    lines: &[KeptRow],
+) -> Result<bool, KeepError>
+    requires idle { IsIdle (state S.Store conn.old) }
+    requires few { length lines.now ≤ 4294967295 }
+    ensures tested { FindsOut result (λ db. HoldsLines db number lines.now)
+        (state S.Store conn.old) (state S.Store conn.new) }
+    ensures refused { IfErr result (λ e. e ≢ KeepError.Full) }
+    ensures quiet { IsStill (state S.Store conn.old) (state S.Store conn.new) (fails result) }
+{
+    let mut same = SameLines {
+        lines,
+        at: 0,
+        is: true,
+    };
+    match take_shown(
+        conn,
+        "SELECT seq, grp, kind, line FROM lines WHERE deposit = ?1 ORDER BY seq",
+        params![number],
+        &mut same,
+    ) {
+        Ok(()) => Ok(are_all(same.is, same.at, lines.len())),
+        Err(error) => Err(error),
+    }
+}
+
+/// Whether these are the steps that are kept of a deposit.
+fn examine_steps<S: Alter>(
+    conn: &mut Connection<S>,
+    number: u32,
+    steps: &[(u32, u32)],
+) -> Result<bool, KeepError>
+    requires idle { IsIdle (state S.Store conn.old) }
+    requires rising { IsAscending IsBefore steps.now }
+    ensures tested { FindsOut result (λ db. HoldsSteps db number steps.now)
+        (state S.Store conn.old) (state S.Store conn.new) }
+    ensures refused { IfErr result (λ e. e ≢ KeepError.Full) }
+    ensures quiet { IsStill (state S.Store conn.old) (state S.Store conn.new) (fails result) }
+{
+    let mut same = SameSteps {
+        steps,
+        at: 0,
+        is: true,
+    };
+    match take_shown(
+        conn,
+        "SELECT child, target FROM steps WHERE deposit = ?1 ORDER BY child, target",
+        params![number],
+        &mut same,
+    ) {
+        Ok(()) => Ok(are_all(same.is, same.at, steps.len())),
+        Err(error) => Err(error),
+    }
+}

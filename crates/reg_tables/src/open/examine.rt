@@ -1,0 +1,184 @@
+//! Whether the tables are a register, whatever the marks are: meta, the numbers, then deposit by deposit.
+
+ghost use Rattle.std.specs.Prelude.{◌≡◌, ◌≢◌, ◌≤◌, ◌+◌, [], ℕ, List, length, map, false, Some, Err, IsTrue, IfOk};
+ghost use Rattle.std.specs.Prelude.{IfErr, IfSome, None};
+ghost use Rattle.sqlite.specs.State.{HasCleanDisk};
+ghost use Rattle.sqlite.specs.Held.{state};
+ghost use Rattle.reg_store.specs.Keep.{fails};
+ghost use Rattle.reg_tables.specs.Quiet.{IsIdle, IsStill, FindsThat};
+ghost use Rattle.reg_tables.specs.Found.{AreNumbersFromOne, FindsAll};
+ghost use Rattle.reg_tables.specs.Rows.{deposit_table};
+ghost use Rattle.reg_tables.specs.Tables.{format_number, schema_of};
+ghost use Rattle.reg_tables.specs.Heads.{HoldsHeads};
+ghost use Rattle.reg_tables.specs.Digests.{AreBelow, HoldsDigests, numbers_under};
+ghost use Rattle.reg_tables.specs.Adopts.{id_of, number_rows};
+ghost use Rattle.reg_tables.specs.Whole.{Counts};
+ghost use Rattle.reg_tables.specs.Adoption.{CountsDeposits, Examines, InEachFormat, MetaOf, gives_up};
+ghost use Rattle.sqlite.specs.Effect.{IsDatabase};
+
+use crate::error::AdoptError;
+use crate::memory::digests::Digests;
+use crate::open::deposits::examine_deposits;
+use crate::open::meta::{meta_dictionary, read_meta};
+use crate::open::progress::Progress;
+use crate::open::values::is_row;
+use crate::read::queries::query;
+use crate::schema::format::Format;
+use ags_dict::Dictionary;
+use reg_store::{KeepError, KeptHead, MOST};
+use sqlite::types::ToSql;
+use sqlite::{Alter, Connection, Row};
+use std::alloc::Global;
+
+/// The dictionary of the register and how many deposits it has, if the tables are one of the format, whatever the marks
+/// are. Heads and digests are put into the lists.
+pub(crate) fn examine<S: Alter, P: Progress>(
+    conn: &mut Connection<S>,
+    alloc: Global,
+    format: Format,
+    heads: &mut Vec<KeptHead>,
+    digests: &mut Digests,
+    progress: &mut P,
+) -> Result<(Dictionary, u32), AdoptError>
+    requires idle { IsIdle (state S.Store conn.old) }
+    requires schema { HasCleanDisk (state S.Store conn.old) → (state S.Store conn.old).now.schema ≡ schema_of format }
+    requires none { heads.old.items ≡ [] }
+    requires no_digests { (digest : List ℕ) → numbers_under digests.old digest ≡ [] }
+
+    // What is answered, by what the tables are.
+    ensures examines { HasCleanDisk (state S.Store conn.new) → Examines format (state S.Store conn.old).now result }
+
+    // The count at success, and the heads and digests in the lists.
+    ensures few { IfOk result (λ found. found.1 ≤ 999999) }
+    ensures long { IfOk result (λ found. length heads.new.items ≡ found.1) }
+    ensures heads { FindsThat result (λ db found. HoldsHeads db found.1 heads.new.items)
+        (state S.Store conn.old) (state S.Store conn.new) }
+    ensures below { IfOk result (λ found. AreBelow digests.new (found.1 + 1)) }
+    ensures digests { FindsThat result (λ db read. HoldsDigests db (read.1 + 1) digests.new)
+        (state S.Store conn.old) (state S.Store conn.new) }
+
+    // What is left in either case.
+    ensures open { HasCleanDisk (state S.Store conn.new) → gives_up result ≡ false
+        → IsTrue (state S.Store conn.new).is_open }
+    ensures quiet { IsStill (state S.Store conn.old) (state S.Store conn.new) (gives_up result) }
+{
+    let dictionary = match read_dictionary(conn, alloc, format) {
+        Ok(dictionary) => dictionary,
+        Err(error) => return Err(error),
+    };
+    let _schema = conn.schema();
+    match read_register(conn, alloc, &dictionary, heads, digests, progress) {
+        Ok(count) => Ok((dictionary, count)),
+        Err(error) => Err(error),
+    }
+}
+
+/// The dictionary of the register, if meta is that of the format.
+fn read_dictionary<S: Alter>(
+    conn: &mut Connection<S>,
+    alloc: Global,
+    format: Format,
+) -> Result<Dictionary, AdoptError>
+    requires idle { IsIdle (state S.Store conn.old) }
+    ensures read { HasCleanDisk (state S.Store conn.new) → MetaOf (format_number format) (state S.Store conn.old).now result }
+    ensures open { HasCleanDisk (state S.Store conn.new) → gives_up result ≡ false
+        → IsTrue (state S.Store conn.new).is_open }
+    ensures quiet { IsStill (state S.Store conn.old) (state S.Store conn.new) (gives_up result) }
+{
+    match read_meta(conn) {
+        Ok(rows) => meta_dictionary(alloc, &rows, format),
+        Err(error) => Err(AdoptError::from(error)),
+    }
+}
+
+/// How many deposits the register has, if the tables are one, whatever the marks are. Its tables are those of a format,
+/// and the dictionary is that of its meta; heads and digests are put into the lists.
+fn read_register<S: Alter, P: Progress>(
+    conn: &mut Connection<S>,
+    alloc: Global,
+    dictionary: &Dictionary,
+    heads: &mut Vec<KeptHead>,
+    digests: &mut Digests,
+    progress: &mut P,
+) -> Result<u32, AdoptError>
+    requires idle { IsIdle (state S.Store conn.old) }
+    requires sound { HasCleanDisk (state S.Store conn.old) → IsDatabase (state S.Store conn.old).now }
+    requires none { heads.old.items ≡ [] }
+    requires no_digests { (digest : List ℕ) → numbers_under digests.old digest ≡ [] }
+
+    // The count at success.
+    ensures found { FindsThat result (λ db n. InEachFormat db dictionary.now (λ format.
+        CountsDeposits format db dictionary.now (Some n)))
+        (state S.Store conn.old) (state S.Store conn.new) }
+    ensures few { IfOk result (λ count. count ≤ 999999) }
+
+    // The heads and digests in the lists at success.
+    ensures long { IfOk result (λ count. length heads.new.items ≡ count) }
+    ensures heads { FindsThat result (λ db count. HoldsHeads db count heads.new.items)
+        (state S.Store conn.old) (state S.Store conn.new) }
+    ensures below { IfOk result (λ count. AreBelow digests.new (count + 1)) }
+    ensures digests { FindsThat result (λ db count. HoldsDigests db (count + 1) digests.new)
+        (state S.Store conn.old) (state S.Store conn.new) }
+
+    // Each refusal, by what the tables are.
+    ensures refused { HasCleanDisk (state S.Store conn.new)
+        → IfErr result (λ e. InEachFormat (state S.Store conn.old).now dictionary.now (λ format.
+        Examines format (state S.Store conn.old).now (Err e))) }
+
+    // What is left in either case.
+    ensures quiet { IsStill (state S.Store conn.old) (state S.Store conn.new) (gives_up result) }
+{
+    let count = match read_count(conn) {
+        Ok(Some(count)) => count,
+        Ok(None) => return Err(AdoptError::NotRegister),
+        Err(error) => return Err(AdoptError::from(error)),
+    };
+    match examine_deposits(conn, alloc, dictionary, count, heads, digests, progress) {
+        Ok(true) => Ok(count),
+        Ok(false) => Err(AdoptError::NotRegister),
+        Err(error) => Err(AdoptError::from(error)),
+    }
+}
+
+/// How many deposits there are, if their numbers are those from 1 on.
+pub(crate) fn read_count<S: Alter>(conn: &mut Connection<S>) -> Result<Option<u32>, KeepError>
+    requires idle { IsIdle (state S.Store conn.old) }
+    ensures counted { FindsThat result Counts (state S.Store conn.old) (state S.Store conn.new) }
+    ensures few { IfOk result (λ found. IfSome found (λ count. count ≤ 999999)) }
+    ensures refused { IfErr result (λ e. e ≢ KeepError.Full) }
+    ensures quiet { IsStill (state S.Store conn.old) (state S.Store conn.new) (fails result) }
+{
+    match read_numbers(conn) {
+        Ok(rows) => Ok(count_numbers(&rows)),
+        Err(error) => Err(error),
+    }
+}
+
+fn read_numbers<S: Alter>(conn: &mut Connection<S>) -> Result<Vec<Row>, KeepError>
+    requires idle { IsIdle (state S.Store conn.old) }
+    ensures all { FindsAll result (λ db. map id_of (deposit_table db.trees))
+        (state S.Store conn.old) (state S.Store conn.new) }
+    ensures found { FindsThat result (λ db rows. AreNumbersFromOne db rows.items)
+        (state S.Store conn.old) (state S.Store conn.new) }
+    ensures refused { IfErr result (λ e. e ≢ KeepError.Full) }
+    ensures quiet { IsStill (state S.Store conn.old) (state S.Store conn.new) (fails result) }
+{
+    query(conn, "SELECT number FROM deposits ORDER BY number", &[])
+}
+
+/// How many numbers there are, if they are those from 1 on, and at most 999,999.
+pub(crate) fn count_numbers(rows: &[Row]) -> Option<u32>
+    ensures found { IfSome result (λ count. rows.now ≡ number_rows 1 count) }
+    ensures few { IfSome result (λ count. count ≤ 999999) }
+    ensures none { result ≡ None → (count : ℕ) → count ≤ 999999 → rows.now ≡ number_rows 1 count → ⊥ }
+{
+    if rows.len() > MOST as usize {
+        return None;
+    }
+    for (at, row) in rows.iter().enumerate() {
+        if !is_row(row, &[(at as u32 + 1).to_sql()]) {
+            return None;
+        }
+    }
+    Some(rows.len() as u32)
+}

@@ -1,0 +1,103 @@
+//! The dictionary of a register, and what is known of its deposits without the tables.
+
+ghost use Rattle.std.specs.Prelude.{◌≡◌, false, Err, IsTrue, IfErr};
+ghost use Rattle.sqlite.specs.State.{HasCleanDisk};
+ghost use Rattle.sqlite.specs.Held.{state};
+ghost use Rattle.reg_tables.specs.Adoption.{Adopts, gives_up};
+ghost use Rattle.reg_tables.specs.Memory.{Recalls};
+ghost use Rattle.reg_tables.specs.Quiet.{FindsThat, IsIdle, IsStill};
+ghost use Rattle.reg_tables.specs.Tables.{register_schema, first_schema};
+ghost use Rattle.reg_tables.specs.declared.schema.format.Format.TheVariants.{Second, First};
+ghost use Rattle.reg_tables.specs.Migrates.{RecallsFirst};
+
+use crate::error::AdoptError;
+use crate::memory::Memory;
+use crate::memory::digests::Digests;
+use crate::open::examine::examine;
+use crate::open::marks::read_marks;
+use crate::open::progress::Progress;
+use crate::schema::format::Format;
+use ags_dict::Dictionary;
+use sqlite::{Alter, Connection};
+use std::alloc::Global;
+
+/// The dictionary of the register and what is known of its deposits, if the tables are a register.
+pub(crate) fn recall<S: Alter, P: Progress>(
+    conn: &mut Connection<S>,
+    alloc: Global,
+    progress: &mut P,
+) -> Result<(Dictionary, Memory), AdoptError>
+    requires idle { IsIdle (state S.Store conn.old) }
+    requires schema { HasCleanDisk (state S.Store conn.old) → (state S.Store conn.old).now.schema ≡ register_schema }
+
+    // The register and what is known of it at success, and each refusal, by what the tables are.
+    ensures found { FindsThat result (λ db found. Recalls db found.0 found.1)
+        (state S.Store conn.old) (state S.Store conn.new) }
+    ensures refused { HasCleanDisk (state S.Store conn.new)
+        → IfErr result (λ e. Adopts Second (state S.Store conn.old).now (Err e)) }
+
+    // What is left in either case.
+    ensures open { HasCleanDisk (state S.Store conn.new) → gives_up result ≡ false
+        → IsTrue (state S.Store conn.new).is_open }
+    ensures quiet { IsStill (state S.Store conn.old) (state S.Store conn.new) (gives_up result) }
+{
+    let mut heads = Vec::new(alloc);
+    let mut digests = Digests::new(alloc);
+    let (dictionary, count) = match examine(
+        conn,
+        alloc,
+        Format::Second,
+        &mut heads,
+        &mut digests,
+        progress,
+    ) {
+        Ok(found) => found,
+        Err(error) => return Err(error),
+    };
+    let marks = match read_marks(conn, alloc, count) {
+        Ok(marks) => marks,
+        Err(error) => return Err(error),
+    };
+    match Memory::of(alloc, &heads, &marks, digests) {
+        Ok(memory) => Ok((dictionary, memory)),
+        Err(_) => Err(AdoptError::NoMemory),
+    }
+}
+
+/// The dictionary of a register of format 1 and what is known of its deposits, if the tables are one.
+pub(crate) fn recall_first<S: Alter, P: Progress>(
+    conn: &mut Connection<S>,
+    alloc: Global,
+    progress: &mut P,
+) -> Result<(Dictionary, Memory), AdoptError>
+    requires idle { IsIdle (state S.Store conn.old) }
+    requires schema { HasCleanDisk (state S.Store conn.old) → (state S.Store conn.old).now.schema ≡ first_schema }
+    ensures found { FindsThat result (λ db found. RecallsFirst db found.0 found.1)
+        (state S.Store conn.old) (state S.Store conn.new) }
+    ensures refused { HasCleanDisk (state S.Store conn.new)
+        → IfErr result (λ e. Adopts First (state S.Store conn.old).now (Err e)) }
+    ensures open { HasCleanDisk (state S.Store conn.new) → gives_up result ≡ false
+        → IsTrue (state S.Store conn.new).is_open }
+    ensures quiet { IsStill (state S.Store conn.old) (state S.Store conn.new) (gives_up result) }
+{
+    let mut heads = Vec::new(alloc);
+    let mut digests = Digests::new(alloc);
+    let (dictionary, count) = match examine(
+        conn,
+        alloc,
+        Format::First,
+        &mut heads,
+        &mut digests,
+        progress,
+    ) {
+        Ok(found) => found,
+        Err(error) => return Err(error),
+    };
+    let Ok(marks) = Vec::from_elem(alloc, false, count as usize) else {
+        return Err(AdoptError::NoMemory);
+    };
+    match Memory::of(alloc, &heads, &marks, digests) {
+        Ok(memory) => Ok((dictionary, memory)),
+        Err(_) => Err(AdoptError::NoMemory),
+    }
+}

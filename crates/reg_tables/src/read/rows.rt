@@ -1,0 +1,251 @@
+//! What the rows of an answer are.
+
+ghost use Rattle.std.specs.Prelude.{◌≡◌, ◌≢◌, ◌<◌, ◌^◌, ◌∷◌, [], ℕ, ℤ, pos, List, Err, length, map, filter, IsTrue};
+ghost use Rattle.std.specs.Prelude.{IfOk, IfErr};
+ghost use Rattle.sqlite.specs.Order.{Row as Values, column};
+ghost use Rattle.sqlite.specs.declared.types.Value.TheVariants.{Int, Text as Words, Blob};
+ghost use Rattle.reg_policy.specs.Names.{is_name};
+ghost use Rattle.reg_policy.specs.Days.{is_day_number};
+ghost use Rattle.reg_store.specs.Sent.{Sent};
+ghost use Rattle.reg_store.specs.Keep.{sent_of};
+ghost use Rattle.reg_tables.specs.Rows.{given_deposit, placed_row, placed_rows, step_pair};
+ghost use Rattle.reg_tables.specs.DataCount.{is_shown_data};
+ghost use Rattle.reg_store.specs.Fit.{IsNamed};
+ghost use Rattle.reg_tables.specs.ReadsProject.{target_cell};
+
+use crate::read::gather::Gather;
+use crate::read::queries::read_error;
+use ags_text::{Bytes, Sequence};
+use reg_policy::{Day, Name, NameError};
+use reg_store::{KeepError, Kept, KeptRow};
+use sqlite::Row;
+use std::alloc::Global;
+
+/// The deposit of a number, which is the one row of the answer. The mark is not in the row.
+pub(crate) fn deposit_in(alloc: Global, number: u32, rows: &[Row]) -> Result<Kept, KeepError>
+    ensures read { IfOk result (λ kept. rows.now ≡ given_deposit number (sent_of kept) ∷ []) }
+    ensures is_named { IfOk result (λ kept. IsNamed (sent_of kept)) }
+    ensures refused { IfErr result (λ e. e ≢ KeepError.Full) }
+    ensures other { result ≡ Err KeepError.Store → (d : Sent) → IsNamed d
+        → rows.now ≡ given_deposit number d ∷ [] → ⊥ }
+{
+    let row = match only_row(rows, 5) {
+        Ok(row) => row,
+        Err(error) => return Err(error),
+    };
+    if number_column(row, 0)? != number {
+        return Err(KeepError::Store);
+    }
+    Ok(Kept {
+        firm: name_column(alloc, row, 1)?,
+        project: name_column(alloc, row, 2)?,
+        embargo: day_column(row, 3)?,
+        bytes: bytes_column(row, 4)?,
+        withdrawn: false,
+    })
+}
+
+/// The one row of an answer.
+fn only_row<'a>(rows: &'a [Row], width: usize) -> Result<&'a Row, KeepError>
+    ensures only { IfOk result (λ row. rows.now ≡ row.now ∷ []) }
+    ensures wide { IfOk result (λ row. length row.now ≡ width) }
+    ensures refused { IfErr result (λ e. e ≢ KeepError.Full) }
+    ensures other { result ≡ Err KeepError.Store → (row : Values) → rows.now ≡ row ∷ [] → length row ≡ width → ⊥ }
+{
+    if rows.len() != 1 {
+        return Err(KeepError::Store);
+    }
+    let row = &rows[0];
+    if row.column_count() != width {
+        return Err(KeepError::Store);
+    }
+    Ok(row)
+}
+
+/// The rows of a file, from place 0 on.
+#[derive(Drop)]
+pub(crate) struct KeptLines {
+    pub lines: Vec<KeptRow>,
+}
+
+impl Gather for KeptLines {
+    ghost holds = { λ _ it rows. rows ≡ placed_rows 0 it.lines.items };
+
+    fn take(&mut self, row: &Row) -> Result<(), KeepError> {
+        let line = line_in(self.lines.len(), row)?;
+        if self.lines.push(line).is_err() {
+            return Err(KeepError::NoMemory);
+        }
+        Ok(())
+    }
+}
+
+fn line_in(at: usize, row: &Row) -> Result<KeptRow, KeepError>
+    ensures read { IfOk result (λ line. row.now ≡ placed_row at line) }
+    ensures refused { IfErr result (λ e. e ≢ KeepError.Full) }
+{
+    if row.column_count() != 4 {
+        return Err(KeepError::Store);
+    }
+    if number_column(row, 0)? as usize != at {
+        return Err(KeepError::Store);
+    }
+    let kind = number_column(row, 2)?;
+    if kind > 4 {
+        return Err(KeepError::Store);
+    }
+    Ok(KeptRow {
+        group: text_column(row, 1)?,
+        kind: kind as u8,
+        line: bytes_column(row, 3)?,
+    })
+}
+
+/// How many of a file's rows are DATA rows.
+#[derive(Drop)]
+pub(crate) struct DataCount {
+    pub count: u32,
+}
+
+impl Gather for DataCount {
+    ghost holds = { λ _ it rows. it.count ≡ length (filter is_shown_data rows) };
+
+    fn take(&mut self, row: &Row) -> Result<(), KeepError> {
+        if number_column(row, 2)? == 4 {
+            match self.count.checked_add(1) {
+                Some(count) => self.count = count,
+                None => return Err(KeepError::Store),
+            }
+        }
+        Ok(())
+    }
+}
+
+/// The steps of a file.
+#[derive(Drop)]
+pub(crate) struct KeptSteps {
+    pub steps: Vec<(u32, u32)>,
+}
+
+impl Gather for KeptSteps {
+    ghost holds = { λ _ it rows. rows ≡ map step_pair it.steps.items };
+
+    fn take(&mut self, row: &Row) -> Result<(), KeepError> {
+        let step = step_in(row)?;
+        if self.steps.push(step).is_err() {
+            return Err(KeepError::NoMemory);
+        }
+        Ok(())
+    }
+}
+
+fn step_in(row: &Row) -> Result<(u32, u32), KeepError>
+    ensures read { IfOk result (λ step. row.now ≡ step_pair step) }
+    ensures refused { IfErr result (λ e. e ≢ KeepError.Full) }
+{
+    if row.column_count() != 2 {
+        return Err(KeepError::Store);
+    }
+    Ok((number_column(row, 0)?, number_column(row, 1)?))
+}
+
+/// The rows that a row has a step to.
+#[derive(Drop)]
+pub(crate) struct KeptTargets {
+    pub targets: Vec<u32>,
+}
+
+impl Gather for KeptTargets {
+    ghost holds = { λ _ it rows. rows ≡ map target_cell it.targets.items };
+
+    fn take(&mut self, row: &Row) -> Result<(), KeepError> {
+        let target = target_in(row)?;
+        if self.targets.push(target).is_err() {
+            return Err(KeepError::NoMemory);
+        }
+        Ok(())
+    }
+}
+
+fn target_in(row: &Row) -> Result<u32, KeepError>
+    ensures read { IfOk result (λ target. row.now ≡ target_cell target) }
+    ensures refused { IfErr result (λ e. e ≢ KeepError.Full) }
+{
+    if row.column_count() != 1 {
+        return Err(KeepError::Store);
+    }
+    number_column(row, 0)
+}
+
+fn number_column(row: &Row, at: usize) -> Result<u32, KeepError>
+    ensures read { IfOk result (λ n. column row.now at ≡ Int (pos n)) }
+    ensures refused { IfErr result (λ e. e ≢ KeepError.Full) }
+    ensures other { result ≡ Err KeepError.Store → at < length row.now → (n : ℕ) → n < 2 ^ 32
+        → column row.now at ≡ Int (pos n) → ⊥ }
+{
+    match row.get(at) {
+        Ok(number) => Ok(number),
+        Err(error) => Err(read_error(&error)),
+    }
+}
+
+fn bytes_column(row: &Row, at: usize) -> Result<Bytes, KeepError>
+    requires { at < length row.now }
+    ensures read { IfOk result (λ bytes. column row.now at ≡ Blob bytes) }
+    ensures refused { IfErr result (λ e. e ≢ KeepError.Full) }
+    ensures other { result ≡ Err KeepError.Store → (bytes : List ℕ) → column row.now at ≡ Blob bytes → ⊥ }
+{
+    let read: Vec<u8> = match row.get(at) {
+        Ok(read) => read,
+        Err(error) => return Err(read_error(&error)),
+    };
+    Ok(Sequence::from_vec(read))
+}
+
+fn text_column(row: &Row, at: usize) -> Result<Bytes, KeepError>
+    ensures read { IfOk result (λ text. column row.now at ≡ Words text) }
+    ensures refused { IfErr result (λ e. e ≢ KeepError.Full) }
+{
+    let read: String = match row.get(at) {
+        Ok(read) => read,
+        Err(error) => return Err(read_error(&error)),
+    };
+    Ok(Sequence::from_vec(read.into_bytes()))
+}
+
+fn name_column(alloc: Global, row: &Row, at: usize) -> Result<Name, KeepError>
+    requires { at < length row.now }
+    ensures read { IfOk result (λ name. column row.now at ≡ Words name) }
+    ensures is_name { IfOk result (λ name. IsTrue (is_name name)) }
+    ensures refused { IfErr result (λ e. e ≢ KeepError.Full) }
+    ensures other { result ≡ Err KeepError.Store → (name : List ℕ) → IsTrue (is_name name)
+        → column row.now at ≡ Words name → ⊥ }
+{
+    let text: String = match row.get(at) {
+        Ok(text) => text,
+        Err(error) => return Err(read_error(&error)),
+    };
+    match Name::read(alloc, text.as_str()) {
+        Ok(name) => Ok(name),
+        Err(NameError::BadName) => Err(KeepError::Store),
+        Err(NameError::NoMemory) => Err(KeepError::NoMemory),
+    }
+}
+
+fn day_column(row: &Row, at: usize) -> Result<Day, KeepError>
+    requires { at < length row.now }
+    ensures read { IfOk result (λ day. column row.now at ≡ Int day) }
+    ensures is_day { IfOk result (λ day. IsTrue (is_day_number day)) }
+    ensures refused { IfErr result (λ e. e ≢ KeepError.Full) }
+    ensures other { result ≡ Err KeepError.Store → (n : ℤ) → IsTrue (is_day_number n)
+        → column row.now at ≡ Int n → ⊥ }
+{
+    let number: i32 = match row.get(at) {
+        Ok(number) => number,
+        Err(error) => return Err(read_error(&error)),
+    };
+    match Day::new(number) {
+        Some(day) => Ok(day),
+        None => Err(KeepError::Store),
+    }
+}
