@@ -1,7 +1,7 @@
 //! The data types of AGS4, and which entries fit them (Rule 8).
 //!
-//! `CellType::of` reads the code that a TYPE row has, and `fits` says whether an entry fits its type under its unit. Both take no memory
-//! and read each byte a fixed number of times at most, whatever the bytes are.
+//! `CellType::of` reads the code that a TYPE row has, and `fits` says whether an entry fits its type under its unit.
+//! Both take no memory and read each byte a fixed number of times at most, whatever the bytes are.
 #![tactic(auto)]
 
 mod cell_type;

@@ -108,8 +108,8 @@ fn check_indexed(
     }
 }
 
-/// The steps between the rows, if these break nothing of the fifth phase, or all its findings. The index is lent, so that one place drops
-/// it: each would be proved anew, at length.
+/// The steps between the rows, if these break nothing of the fifth phase, or all its findings. The index is lent, so
+/// that one place drops it: each would be proved anew, at length.
 fn check_rows(alloc: Global, dictionary: &Dictionary, scan: &Scan) -> Result<Graph, CheckError>
     ensures graph { IfOk result (IsGraphOf (record { contents = contents_of scan.now; entries = dictionary.now })) }
     ensures clear { OnOk result (IsClear (StandsInEntries dictionary.now scan.now)) }
@@ -119,7 +119,8 @@ fn check_rows(alloc: Global, dictionary: &Dictionary, scan: &Scan) -> Result<Gra
     check_indexed(alloc, dictionary, scan, &index)
 }
 
-/// The steps between the rows, if the groups break nothing of the last two phases, or all findings of the first of them that has any.
+/// The steps between the rows, if the groups break nothing of the last two phases, or all findings of the first of them
+/// that has any.
 fn check_group_phases(
     alloc: Global,
     given: &Dictionary,

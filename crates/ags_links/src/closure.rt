@@ -8,7 +8,8 @@ ghost use Rattle.ags_links.specs.Work.{IsAdjacency, weigh, Looked, swapped};
 use crate::graph::Graph;
 use std::alloc::{AllocError, Global};
 
-/// The rows reached from a marked row, marked rows included, and the turns: one for each of these rows, and one for each step that starts at one.
+/// The rows reached from a marked row, marked rows included, and the turns: one for each of these rows, and one for
+/// each step that starts at one.
 pub fn reached(alloc: Global, graph: &Graph, from: &[bool]) -> Result<(Vec<bool>, u128), AllocError>
     requires { length from.now ≡ graph.now.rows }
     ensures rows { IfOk result (λ out. length out.0.items ≡ graph.now.rows) }
@@ -20,7 +21,8 @@ pub fn reached(alloc: Global, graph: &Graph, from: &[bool]) -> Result<(Vec<bool>
     spread(alloc, graph.steps(), from)
 }
 
-/// The permitted rows from which only permitted rows are reached, and the turns: one for each other row, and one for each step that ends at one.
+/// The permitted rows from which only permitted rows are reached, and the turns: one for each other row, and one for
+/// each step that ends at one.
 pub fn shown(
     alloc: Global,
     graph: &Graph,
@@ -57,7 +59,8 @@ pub(crate) fn negated(alloc: Global, marks: &[bool]) -> Result<Vec<bool>, AllocE
     marks.iter().map(|mark| !*mark).collect(alloc)
 }
 
-/// The rows reached from a marked row, and the turns: one for each of these rows, and one for each step that starts at one.
+/// The rows reached from a marked row, and the turns: one for each of these rows, and one for each step that starts at
+/// one.
 fn spread(
     alloc: Global,
     steps: &[(u32, u32)],

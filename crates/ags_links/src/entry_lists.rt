@@ -1,5 +1,5 @@
-//! The entries of the rows of a parent group under its first link heading, side by side. A look-up that one row uses goes
-//! over all rows of the parent group, and by such a list it passes over most of them without a look at the rows.
+//! The entries of the rows of a parent group under its first link heading, side by side. A look-up that one row uses
+//! goes over all rows of the parent group, and by such a list it passes over most of them without a look at the rows.
 //! Look-ups that go over the same rows and begin with the same heading share a list.
 
 ghost use Rattle.std.specs.Prelude.{◌≡◌, ◌<◌, All, IfOk, OnOk, IfSome, IsTrue, length};

@@ -233,7 +233,8 @@ fn lookup_for<'s>(
     rows_by_entries(alloc, dictionary, rows, families, &links.headings, &numbers)
 }
 
-/// The look-up at this place: by the entries that its users ask for, so that for one row it has no more than that needs.
+/// The look-up at this place: by the entries that its users ask for, so that for one row it has no more than that
+/// needs.
 fn lookup_at<'s>(
     alloc: Global,
     dictionary: &Dictionary,

@@ -7,8 +7,8 @@ use crate::keep::{KeptRow, ProjectRow};
 use ags_text::copy;
 use std::alloc::{AllocError, Global};
 
-/// A row of PROJ with copies of two texts: the HEADING row of PROJ and the row itself. Its number counts the DATA rows of
-/// its file from 0.
+/// A row of PROJ with copies of two texts: the HEADING row of PROJ and the row itself. Its number counts the DATA rows
+/// of its file from 0.
 ///
 /// It is refused only when out of memory.
 pub fn project_row(
@@ -26,8 +26,8 @@ pub fn project_row(
     })
 }
 
-/// The row of PROJ among the rows of a file: its first DATA row of group PROJ, which is the only one where the file has no
-/// finding (Rule 13). It comes with the last HEADING row before it, and its number counts the DATA rows from 0.
+/// The row of PROJ among the rows of a file: its first DATA row of group PROJ, which is the only one where the file has
+/// no finding (Rule 13). It comes with the last HEADING row before it, and its number counts the DATA rows from 0.
 ///
 /// Its one refusal is out of memory. It comes also where there are more DATA rows before the row than a `u32` counts.
 pub fn project_in(alloc: Global, rows: &[KeptRow]) -> Result<Option<ProjectRow>, AllocError>

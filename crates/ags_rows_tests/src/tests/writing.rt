@@ -5,7 +5,8 @@ use ags_text::{Cell, Sequence};
 use std::alloc::{AllocError, Global};
 use std::test::Fail;
 
-/// The dictionary's groups: name, parent, and headings with status (`K` is KEY, `R` REQUIRED, `O` OTHER), each field as a row spells it.
+/// The dictionary's groups: name, parent, and headings with status (`K` is KEY, `R` REQUIRED, `O` OTHER), each field as
+/// a row spells it.
 static DICTIONARY: [(&str, &str, &str); 10] = [
     (
         r#""PROJ""#,

@@ -1,4 +1,5 @@
-//! Requests to a register, and their answers. A deposit is sent on 2024-05-01 under an embargo until 2024-06-01 where nothing else is said.
+//! Requests to a register, and their answers. A deposit is sent on 2024-05-01 under an embargo until 2024-06-01 where
+//! nothing else is said.
 
 use super::bodies::{
     A, A_LONG, A_LONGEST, A_OTHER, A_PLAIN, A_PROJECT_LAST, A_SPACED, A_TOO_LONG, A_UNENDED, B,

@@ -174,7 +174,8 @@ fn extracted(
     Some(answer)
 }
 
-/// Of how many lines of the first file the store fails where they are this text, of 30 places; none where another line changes the answer.
+/// Of how many lines of the first file the store fails where they are this text, of 30 places; none where another line
+/// changes the answer.
 fn failures_of(alloc: Global, requests: &[Request], text: &[u8]) -> Option<usize> {
     let [deposit, extract] = requests else {
         return None;

@@ -14,8 +14,8 @@ use std::process::Abort;
 
 /// Delta deposits the second file, and what Echo got of it; Delta gets that text again.
 ///
-/// `extracts_are_clean`: both answers are texts. `extract_of_an_extract`: the second deposit is the text of an extract of a file
-/// without findings, and every row of it is shown to Delta, whose it is.
+/// `extracts_are_clean`: both answers are texts. `extract_of_an_extract`: the second deposit is the text of an extract
+/// of a file without findings, and every row of it is shown to Delta, whose it is.
 static DRAWN_TWICE: [Step; 5] = [
     Step("t-delta", UNTIL, Ask::Deposit(B, UNTIL), FIRST),
     Step("t-echo", UNTIL, Ask::Extract(1, &[]), Want::Gives(B_SHOWN)),

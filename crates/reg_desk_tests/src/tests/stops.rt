@@ -1,6 +1,6 @@
-//! Stops of the disk, through a desk: a register is made, two deposits are sent and the first is withdrawn, or a register
-//! of format 1 is migrated, over disks of which one refuses every call from some call on. What was not synced is lost then,
-//! the register is opened again, and a desk is asked over it.
+//! Stops of the disk, through a desk: a register is made, two deposits are sent and the first is withdrawn, or a
+//! register of format 1 is migrated, over disks of which one refuses every call from some call on. What was not synced
+//! is lost then, the register is opened again, and a desk is asked over it.
 
 ghost use Rattle.std.specs.Prelude.{◌≡◌, false, IsTrue};
 
@@ -49,7 +49,8 @@ enum Stage {
 /// More calls of one file than a whole task makes.
 const MANY: u64 = 2_000;
 
-/// Few pages stay in memory: with `Options::new` a test would take too long. Where the database file stops, the log is copied into it often.
+/// Few pages stay in memory: with `Options::new` a test would take too long. Where the database file stops, the log is
+/// copied into it often.
 fn options(side: Side) -> Options {
     let checkpoint_frames = match side {
         Side::Log => 1_000,
@@ -107,8 +108,8 @@ const UNWITHDRAWN: Step = Step(
     Want::Lists(&[Line(2, "Delta", UNTIL)]),
 );
 
-/// Sends both deposits and withdraws the first: the stage in which the store failed, or that of closing. None where there
-/// is another answer, and where the store failed and one of four further requests is answered otherwise.
+/// Sends both deposits and withdraws the first: the stage in which the store failed, or that of closing. None where
+/// there is another answer, and where the store failed and one of four further requests is answered otherwise.
 fn fill<K: Keep>(
     alloc: Global,
     desk: &mut Desk<K>,
@@ -128,7 +129,8 @@ fn fill<K: Keep>(
     Ok(if failed { Some(stage) } else { None })
 }
 
-/// Whether a register may hold so many deposits after a stop: what was answered with a receipt, and at most the deposit that stopped.
+/// Whether a register may hold so many deposits after a stop: what was answered with a receipt, and at most the deposit
+/// that stopped.
 fn may_hold(stage: Stage, count: u32) -> bool {
     match stage {
         Stage::Making => count == 0,
@@ -155,7 +157,8 @@ fn may_list<K: Keep>(
     })
 }
 
-/// The stage of a stop, where the register holds what it may after it, and takes both deposits that are sent again under their numbers.
+/// The stage of a stop, where the register holds what it may after it, and takes both deposits that are sent again
+/// under their numbers.
 fn look_at<K: Keep>(
     alloc: Global,
     desk: &mut Desk<K>,
@@ -247,7 +250,8 @@ fn visited_tables<S: Alter + Drop>(
     }
 }
 
-/// The files of a database that is closed, and the stage that a run then stopped in: that before, or none where all went well.
+/// The files of a database that is closed, and the stage that a run then stopped in: that before, or none where all
+/// went well.
 fn closed<D: Disk + Drop>(
     stage: Option<Stage>,
     connection: Connection<FileStore<D>>,
@@ -266,7 +270,8 @@ fn after_closing(stage: Option<Stage>) -> Option<Stage> {
     }
 }
 
-/// A register is made and filled, up to the first call that is refused. Where one is refused otherwise than by the stop, no stage is answered.
+/// A register is made and filled, up to the first call that is refused. Where one is refused otherwise than by the
+/// stop, no stage is answered.
 fn made<S: Alter + Drop>(
     alloc: Global,
     connection: Connection<S>,
@@ -404,7 +409,8 @@ fn files_before(alloc: Global, side: Side, task: Task) -> Option<Files<Memory>> 
     }
 }
 
-/// The stage in which a task stops over such files, of which one refuses each call after so many. Here alone a disk is named.
+/// The stage in which a task stops over such files, of which one refuses each call after so many. Here alone a disk is
+/// named.
 fn stage_of(alloc: Global, side: Side, task: Task, calls: u64) -> Option<Stage> {
     let (log_calls, database_calls) = match side {
         Side::Log => (calls, u64::MAX),

@@ -1,5 +1,5 @@
-//! Stops of the disk while a register of format 1 is migrated, and while a deposit is withdrawn: one of the files refuses every call
-//! from some call on. What was not synced is lost then, and the files are opened again.
+//! Stops of the disk while a register of format 1 is migrated, and while a deposit is withdrawn: one of the files
+//! refuses every call from some call on. What was not synced is lost then, and the files are opened again.
 
 ghost use Rattle.std.specs.Prelude.{◌≡◌, false, IsTrue};
 

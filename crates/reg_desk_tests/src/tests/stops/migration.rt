@@ -37,7 +37,8 @@ pub(super) fn made_first<S: Alter + Drop>(
     }
 }
 
-/// It is migrated, up to the first call that is refused. Where another refusal is answered than a failed store, no stage is.
+/// It is migrated, up to the first call that is refused. Where another refusal is answered than a failed store, no
+/// stage is.
 pub(super) fn migrated<S: Alter + Drop>(
     alloc: Global,
     connection: Connection<S>,
